@@ -1,0 +1,3 @@
+pub mod LeftLen
+pub mod TopInput
+pub mod Words

@@ -1,0 +1,107 @@
+ghost use Rattle.std.specs.Prelude.{◌≡◌, ◌+◌, ◌*◌, ◌<◌, ◌≤◌, length, map};
+ghost use Rattle.std.specs.List.{range_with_len};
+ghost use Rattle.b3tree.specs.Modes.{key_words, mode_flags};
+ghost use Rattle.b3tree.specs.Chunk.{padded, block, block_count, block_words, block_flags, block_input, last_chunk_input, word_at};
+
+use crate::flags::{CHUNK_END, CHUNK_START};
+use crate::mode::Mode;
+use b3word::{Input, cv};
+
+pub(crate) const BLOCK_LEN: usize = 64;
+pub(crate) const CHUNK_LEN: usize = 1024;
+
+fn block_count(len: usize) -> usize
+    requires { len ≤ 1024 }
+    ensures { result ≡ block_count len }
+{
+    ((len + 63) / BLOCK_LEN).max(1)
+}
+
+fn word_at(bytes: &[u8], i: usize) -> u32
+    requires { 4 * i + 4 ≤ length bytes.now }
+    ensures { result ≡ word_at bytes.now i }
+{
+    u32::from_le_bytes([
+        bytes[4 * i],
+        bytes[4 * i + 1],
+        bytes[4 * i + 2],
+        bytes[4 * i + 3],
+    ])
+}
+
+fn words(bytes: &[u8]) -> [u32; 16]
+    requires { length bytes.now ≡ 64 }
+    ensures { result ≡ map (word_at bytes.now) (range_with_len 0 16) }
+{
+    let mut words = [0; 16];
+    'words: for i in 0..16 {
+        words[i] = word_at(bytes, i);
+    }
+    words
+}
+
+fn padded(block: &[u8]) -> [u8; 64]
+    requires { length block.now ≤ 64 }
+    ensures { result ≡ padded block.now }
+{
+    let mut bytes = [0; BLOCK_LEN];
+    bytes[..block.len()].copy_from_slice(block);
+    bytes
+}
+
+#[tactic(auto, unfolding(crate::specs::Chunk::block_words))]
+fn block_words(block: &[u8]) -> [u32; 16]
+    requires { length block.now ≤ 64 }
+    ensures { result ≡ block_words block.now }
+{
+    if block.len() == BLOCK_LEN {
+        return words(block);
+    }
+    words(&padded(block))
+}
+
+fn block(chunk: &[u8], k: usize) -> &[u8]
+    requires len { length chunk.now ≤ 1024 }
+    requires block { k < block_count (length chunk.now) }
+    ensures bytes { result.now ≡ block chunk.now k }
+    ensures len { length result.now ≤ 64 }
+{
+    let start = BLOCK_LEN * k;
+    let end = chunk.len().min(start + BLOCK_LEN);
+    &chunk[start..end]
+}
+
+fn block_flags(mode: &Mode, count: usize, k: usize) -> u32
+    requires { k < count }
+    ensures { result ≡ block_flags mode.now count k }
+{
+    let start = if k == 0 { CHUNK_START } else { 0 };
+    let end = if k + 1 == count { CHUNK_END } else { 0 };
+    mode.flags() | start | end
+}
+
+fn block_input(mode: &Mode, i: u64, chunk: &[u8], k: usize, h: [u32; 8]) -> Input
+    requires len { length chunk.now ≤ 1024 }
+    requires block { k < block_count (length chunk.now) }
+    ensures { result ≡ block_input mode.now i chunk.now k h }
+{
+    let block = block(chunk, k);
+    Input {
+        h,
+        m: block_words(block),
+        t: i,
+        b: block.len() as u32,
+        d: block_flags(mode, block_count(chunk.len()), k),
+    }
+}
+
+pub(crate) fn last_chunk_input(mode: &Mode, i: u64, chunk: &[u8]) -> Input
+    requires { length chunk.now ≤ 1024 }
+    ensures { result ≡ last_chunk_input mode.now i chunk.now }
+{
+    let mut input = block_input(mode, i, chunk, 0, mode.key_words());
+    'later: for k in 1..block_count(chunk.len()) {
+        input = block_input(mode, i, chunk, k, cv(&input));
+    }
+    input
+}

@@ -1,0 +1,61 @@
+ghost use Rattle.std.specs.Prelude.{◌≤◌};
+
+use crate::digits::print_hash;
+use crate::fault::Fault;
+use crate::input::read_file;
+use crate::request::{Request, parse};
+use b3tree::Mode;
+use clap::error::ErrorKind;
+use std::alloc::Global;
+use std::io::Write;
+use std::rt::Files;
+
+/// Runs the program on `words`, its name first, with `out` and `err` as its standard output and error,
+/// and answers the exit status: 0 done, 2 wrong words, 3 a file fault, 4 want of memory.
+pub fn command<R: Files + AllocGlobal, O: Write, E: Write>(
+    rt: &R,
+    words: &[String],
+    out: &mut O,
+    err: &mut E,
+) -> u8
+    ensures { result ≤ 4 }
+{
+    let request = match parse(rt.alloc(), words) {
+        Ok(request) => request,
+        Err(error) => return answer_clap(&error, out, err),
+    };
+    match serve(rt, request, out) {
+        Ok(()) => 0,
+        Err(fault) => fault.report(err),
+    }
+}
+
+fn serve<'a, R: Files + AllocGlobal, O: Write>(
+    rt: &R,
+    request: Request<'a>,
+    out: &mut O,
+) -> Result<(), Fault<'a>> {
+    match request {
+        Request::Hash { file } => {
+            let bytes = read_file(rt, file)?;
+            print_hash(&Mode::hash(), bytes.as_slice(), out).map_err(|_| Fault::Output)
+        }
+    }
+}
+
+// Prints what `clap` has to say: help and the version on `out`, a refusal on `err`.
+fn answer_clap<O: Write, E: Write>(error: &clap::Error, out: &mut O, err: &mut E) -> u8
+    ensures { result ≤ 4 }
+{
+    if error.kind() == ErrorKind::OutOfMemory {
+        return Fault::Memory.report(err);
+    }
+    if error.use_stderr() {
+        let _ = write!(err, "{error}");
+        return 2;
+    }
+    match write!(out, "{error}").and_then(|()| out.flush()) {
+        Ok(()) => 0,
+        Err(_) => Fault::Output.report(err),
+    }
+}
