@@ -1,3 +1,4 @@
+pub mod Examples
 pub mod LeftLen
 pub mod TopInput
 pub mod Words

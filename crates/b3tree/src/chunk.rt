@@ -1,11 +1,12 @@
-ghost use Rattle.std.specs.Prelude.{◌≡◌, ◌+◌, ◌*◌, ◌<◌, ◌≤◌, length, map};
+ghost use Rattle.std.specs.Prelude.{◌≡◌, ◌+◌, ◌-◌, ◌*◌, ◌<◌, ◌≤◌, length, map};
 ghost use Rattle.std.specs.List.{range_with_len};
+ghost use Rattle.b3word.specs.Compression.{cv};
 ghost use Rattle.b3tree.specs.Modes.{key_words, mode_flags};
 ghost use Rattle.b3tree.specs.Chunk.{padded, block, block_count, block_words, block_flags, block_input, last_chunk_input, word_at};
 
 use crate::flags::{CHUNK_END, CHUNK_START};
 use crate::mode::Mode;
-use b3word::{Input, cv};
+use b3word::{Input, compress};
 
 pub(crate) const BLOCK_LEN: usize = 64;
 pub(crate) const CHUNK_LEN: usize = 1024;
@@ -17,6 +18,7 @@ fn block_count(len: usize) -> usize
     ((len + 63) / BLOCK_LEN).max(1)
 }
 
+#[inline(always)]
 fn word_at(bytes: &[u8], i: usize) -> u32
     requires { 4 * i + 4 ≤ length bytes.now }
     ensures { result ≡ word_at bytes.now i }
@@ -29,6 +31,7 @@ fn word_at(bytes: &[u8], i: usize) -> u32
     ])
 }
 
+#[inline(always)]
 fn words(bytes: &[u8]) -> [u32; 16]
     requires { length bytes.now ≡ 64 }
     ensures { result ≡ map (word_at bytes.now) (range_with_len 0 16) }
@@ -40,6 +43,7 @@ fn words(bytes: &[u8]) -> [u32; 16]
     words
 }
 
+#[inline(never)]
 fn padded(block: &[u8]) -> [u8; 64]
     requires { length block.now ≤ 64 }
     ensures { result ≡ padded block.now }
@@ -49,6 +53,7 @@ fn padded(block: &[u8]) -> [u8; 64]
     bytes
 }
 
+#[inline(always)]
 #[tactic(auto, unfolding(crate::specs::Chunk::block_words))]
 fn block_words(block: &[u8]) -> [u32; 16]
     requires { length block.now ≤ 64 }
@@ -60,6 +65,7 @@ fn block_words(block: &[u8]) -> [u32; 16]
     words(&padded(block))
 }
 
+#[inline(always)]
 fn block(chunk: &[u8], k: usize) -> &[u8]
     requires len { length chunk.now ≤ 1024 }
     requires block { k < block_count (length chunk.now) }
@@ -71,6 +77,7 @@ fn block(chunk: &[u8], k: usize) -> &[u8]
     &chunk[start..end]
 }
 
+#[inline(always)]
 fn block_flags(mode: &Mode, count: usize, k: usize) -> u32
     requires { k < count }
     ensures { result ≡ block_flags mode.now count k }
@@ -80,6 +87,7 @@ fn block_flags(mode: &Mode, count: usize, k: usize) -> u32
     mode.flags() | start | end
 }
 
+#[inline(always)]
 fn block_input(mode: &Mode, i: u64, chunk: &[u8], k: usize, h: [u32; 8]) -> Input
     requires len { length chunk.now ≤ 1024 }
     requires block { k < block_count (length chunk.now) }
@@ -95,13 +103,37 @@ fn block_input(mode: &Mode, i: u64, chunk: &[u8], k: usize, h: [u32; 8]) -> Inpu
     }
 }
 
+// As `b3word::cv`, in line.
+#[inline(always)]
+fn chaining_value(input: &Input) -> [u32; 8]
+    ensures { result ≡ cv input.now }
+{
+    let out = compress(input);
+    [
+        out[0], out[1], out[2], out[3], out[4], out[5], out[6], out[7],
+    ]
+}
+
+// What comes before the last of `count` blocks: the key words, or the chaining value of the block
+// before it. The compression is in line, so that the value stays in registers from block to block.
+#[inline(never)]
+fn value_before_last(mode: &Mode, i: u64, chunk: &[u8], count: usize) -> [u32; 8]
+    requires len { length chunk.now ≤ 1024 }
+    requires count { count ≡ block_count (length chunk.now) }
+    ensures { block_input mode.now i chunk.now (count - 1) result ≡ last_chunk_input mode.now i chunk.now }
+{
+    let mut h = mode.key_words();
+    'earlier: for k in 0..count - 1 {
+        h = chaining_value(&block_input(mode, i, chunk, k, h));
+    }
+    h
+}
+
 pub(crate) fn last_chunk_input(mode: &Mode, i: u64, chunk: &[u8]) -> Input
     requires { length chunk.now ≤ 1024 }
     ensures { result ≡ last_chunk_input mode.now i chunk.now }
 {
-    let mut input = block_input(mode, i, chunk, 0, mode.key_words());
-    'later: for k in 1..block_count(chunk.len()) {
-        input = block_input(mode, i, chunk, k, cv(&input));
-    }
-    input
+    let count = block_count(chunk.len());
+    let h = value_before_last(mode, i, chunk, count);
+    block_input(mode, i, chunk, count - 1, h)
 }
