@@ -1,11 +1,11 @@
 -- The compressions of one chunk (BLAKE3 paper, 2.4). A byte is a number below 256, and a chunk a list
 -- of at most 1024 bytes.
-use Rattle.std.specs.Prelude.{ℕ, zero, suc, ◌+◌, ◌-◌, ◌*◌, ◌/◌, ◌==◌, List, [], ◌∷◌, ◌++◌, length, map, max, take, drop, replicate, slice_index, bit_or, if◌then◌else◌}
+use Rattle.std.specs.Prelude.{ℕ, zero, suc, ◌+◌, ◌-◌, ◌*◌, ◌/◌, ◌==◌, List, ◌++◌, length, map, max, take, drop, replicate, bit_or, if◌then◌else◌}
 use Rattle.std.specs.List.{range_with_len}
-use Rattle.std.specs.Int.{w32, from_le_bytes}
 use Rattle.b3word.specs.declared.input.Input.{Input}
 use Rattle.b3word.specs.Compression.{cv}
 use Rattle.b3tree.specs.declared.mode.Mode.{Mode}
+use Rattle.b3tree.specs.Bytes.{words_of}
 use Rattle.b3tree.specs.Flags.{chunk_start, chunk_end}
 use Rattle.b3tree.specs.Modes.{key_words, mode_flags}
 
@@ -21,14 +21,9 @@ block s k = take 64 (drop (64 * k) s)
 abbrev pub padded : List ℕ → List ℕ
 padded bytes = bytes ++ replicate (64 - length bytes) 0
 
--- word i of the bytes, little-endian
-abbrev pub word_at : List ℕ → ℕ → ℕ
-word_at bytes i = from_le_bytes w32
-    (slice_index bytes (4 * i) ∷ slice_index bytes (4 * i + 1) ∷ slice_index bytes (4 * i + 2) ∷ slice_index bytes (4 * i + 3) ∷ [])
-
 -- the 16 words of a block
 unfoldable pub block_words : List ℕ → List ℕ
-block_words bytes = map (word_at (padded bytes)) (range_with_len 0 16)
+block_words bytes = words_of 16 (padded bytes)
 
 -- the flags of block k of n: CHUNK_START on the first, CHUNK_END on the last
 abbrev pub block_flags : Mode → ℕ → ℕ → ℕ

@@ -12,3 +12,12 @@ parent = 4
 
 abbrev pub root : ℕ
 root = 8
+
+abbrev pub keyed_hash : ℕ
+keyed_hash = 16
+
+abbrev pub derive_key_context : ℕ
+derive_key_context = 32
+
+abbrev pub derive_key_material : ℕ
+derive_key_material = 64

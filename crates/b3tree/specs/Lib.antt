@@ -1,6 +1,9 @@
 pub mod Flags
+pub mod Bytes
 pub mod Modes
 pub mod Chunk
 pub mod Tree
 pub mod Hashing
+pub mod Stack
+pub mod Taken
 pub use Rattle.b3word.specs.Compression

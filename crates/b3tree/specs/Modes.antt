@@ -1,6 +1,9 @@
--- what a mode brings to every compression (BLAKE3 paper, 2.3)
+-- What a mode brings to every compression (BLAKE3 paper, 2.3).
 use Rattle.std.specs.Prelude.{ℕ, List}
+use Rattle.b3word.specs.Compression.{iv}
 use Rattle.b3tree.specs.declared.mode.Mode.{Mode}
+use Rattle.b3tree.specs.Bytes.{words_of}
+use Rattle.b3tree.specs.Flags.{keyed_hash, derive_key_context}
 
 -- the eight words of the key
 abbrev pub key_words : Mode → List ℕ
@@ -9,3 +12,19 @@ key_words mode = mode.key
 -- the flags that every compression of the mode carries
 abbrev pub mode_flags : Mode → ℕ
 mode_flags mode = mode.domain
+
+-- the mode with these key words and flags
+abbrev pub mode_with : List ℕ → ℕ → Mode
+mode_with key flags = record { key = key; domain = flags }
+
+-- plain hashing
+abbrev pub plain : Mode
+plain = mode_with iv 0
+
+-- keyed hashing, with the 32 bytes of a key
+abbrev pub keyed : List ℕ → Mode
+keyed key = mode_with (words_of 8 key) keyed_hash
+
+-- the first step of key derivation, which hashes the context
+abbrev pub of_context : Mode
+of_context = mode_with iv derive_key_context

@@ -1,9 +1,9 @@
-ghost use Rattle.std.specs.Prelude.{◌≡◌, ◌+◌, ◌-◌, ◌*◌, ◌<◌, ◌≤◌, length, map};
-ghost use Rattle.std.specs.List.{range_with_len};
+ghost use Rattle.std.specs.Prelude.{◌≡◌, ◌+◌, ◌-◌, ◌*◌, ◌<◌, ◌≤◌, length};
 ghost use Rattle.b3word.specs.Compression.{cv};
 ghost use Rattle.b3tree.specs.Modes.{key_words, mode_flags};
-ghost use Rattle.b3tree.specs.Chunk.{padded, block, block_count, block_words, block_flags, block_input, last_chunk_input, word_at};
+ghost use Rattle.b3tree.specs.Chunk.{padded, block, block_count, block_words, block_flags, block_input, last_chunk_input};
 
+use crate::bytes::words_of;
 use crate::flags::{CHUNK_END, CHUNK_START};
 use crate::mode::Mode;
 use b3word::{Input, compress};
@@ -16,31 +16,6 @@ fn block_count(len: usize) -> usize
     ensures { result ≡ block_count len }
 {
     ((len + 63) / BLOCK_LEN).max(1)
-}
-
-#[inline(always)]
-fn word_at(bytes: &[u8], i: usize) -> u32
-    requires { 4 * i + 4 ≤ length bytes.now }
-    ensures { result ≡ word_at bytes.now i }
-{
-    u32::from_le_bytes([
-        bytes[4 * i],
-        bytes[4 * i + 1],
-        bytes[4 * i + 2],
-        bytes[4 * i + 3],
-    ])
-}
-
-#[inline(always)]
-fn words(bytes: &[u8]) -> [u32; 16]
-    requires { length bytes.now ≡ 64 }
-    ensures { result ≡ map (word_at bytes.now) (range_with_len 0 16) }
-{
-    let mut words = [0; 16];
-    'words: for i in 0..16 {
-        words[i] = word_at(bytes, i);
-    }
-    words
 }
 
 #[inline(never)]
@@ -60,9 +35,9 @@ fn block_words(block: &[u8]) -> [u32; 16]
     ensures { result ≡ block_words block.now }
 {
     if block.len() == BLOCK_LEN {
-        return words(block);
+        return words_of(block);
     }
-    words(&padded(block))
+    words_of(&padded(block))
 }
 
 #[inline(always)]

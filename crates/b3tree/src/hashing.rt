@@ -1,14 +1,17 @@
-ghost use Rattle.std.specs.Prelude.{◌≡◌, ◌+◌, ◌-◌, ◌*◌, ◌^◌, ◌≤◌, length, take};
+ghost use Rattle.std.specs.Prelude.{◌≡◌, ◌+◌, ◌*◌, ◌-◌, ◌^◌, ◌≤◌, length, take};
+ghost use Rattle.b3word.specs.Compression.{out};
+ghost use Rattle.b3tree.specs.Bytes.{bytes_of};
 ghost use Rattle.b3tree.specs.Tree.{subtree_cv};
-ghost use Rattle.b3tree.specs.Hashing.{hash, rooted, word_bytes};
+ghost use Rattle.b3tree.specs.Hashing.{hash, rooted};
 
+use crate::bytes::put_bytes;
 use crate::flags::ROOT;
 use crate::mode::Mode;
 use crate::tree::top_input;
 use crate::values::{Cv, Hash};
 use b3word::{Input, cv};
 
-fn rooted(input: &Input) -> Input
+pub(crate) fn rooted(input: &Input) -> Input
     ensures { result ≡ rooted input.now }
 {
     Input {
@@ -17,21 +20,21 @@ fn rooted(input: &Input) -> Input
     }
 }
 
-fn word_bytes(words: &[u32; 8]) -> [u8; 32]
-    ensures { result ≡ word_bytes words.now }
+// The hash whose root has the input `root`, the flag ROOT in it.
+pub(crate) fn root_hash(root: &Input) -> Hash
+    ensures { result.0 ≡ take 32 (bytes_of (out root.now)) }
 {
     let mut bytes = [0; 32];
-    'words: for i in 0..8 {
-        bytes[4 * i..4 * i + 4].copy_from_slice(&words[i].to_le_bytes());
-    }
-    bytes
+    put_bytes(&cv(root), &mut bytes);
+    Hash(bytes)
 }
 
-/// The hash of `bytes` in `mode` (BLAKE3 paper, 2.6). Takes every input, and no memory.
+/// The hash of `bytes` in `mode` (BLAKE3 paper, 2.6). Takes every input.
+#[tactic(auto, unfolding(crate::specs::Hashing::hash))]
 pub fn hash(mode: &Mode, bytes: &[u8]) -> Hash
     ensures { result.0 ≡ hash mode.now bytes.now }
 {
-    Hash(word_bytes(&cv(&rooted(&top_input(mode, 0, bytes)))))
+    root_hash(&rooted(&top_input(mode, 0, bytes)))
 }
 
 /// The chaining value of the subtree over `bytes` whose first chunk has the number `first`: not that

@@ -1,5 +1,8 @@
 ghost use Rattle.std.specs.Prelude.{◌≡◌};
-ghost use Rattle.b3word.specs.Compression.{iv};
+
+use crate::bytes::words_of;
+use crate::flags::{DERIVE_KEY_CONTEXT, DERIVE_KEY_MATERIAL, KEYED_HASH};
+use crate::hashing::hash;
 
 const IV: [u32; 8] = [
     0x6A09E667, 0xBB67AE85, 0x3C6EF372, 0xA54FF53A, 0x510E527F, 0x9B05688C, 0x1F83D9AB, 0x5BE0CD19,
@@ -13,14 +16,42 @@ pub struct Mode {
 }
 
 impl Mode {
-    ghost use Rattle.b3tree.specs.Modes.{key_words, mode_flags};
+    ghost use Rattle.b3tree.specs.Modes.{key_words, keyed, mode_flags, plain};
+    ghost use Rattle.b3tree.specs.Hashing.{derived};
 
-    /// The mode of plain hashing: the IV as key words, and no flags.
+    /// Plain hashing: the IV as key words, and no flags.
     pub fn hash() -> Mode
-        ensures key { key_words result ≡ iv }
-        ensures flags { mode_flags result ≡ 0 }
+        ensures { result ≡ plain }
     {
         Mode { key: IV, domain: 0 }
+    }
+
+    /// Hashing under a key of 32 bytes, whose words are the key words, with the flag KEYED_HASH.
+    pub fn keyed(key: [u8; 32]) -> Mode
+        ensures { result ≡ keyed key }
+    {
+        Mode {
+            key: words_of(&key),
+            domain: KEYED_HASH,
+        }
+    }
+
+    /// Derivation of keys from material, for one use that `context` names.
+    ///
+    /// The hash of `context` under the IV and the flag DERIVE_KEY_CONTEXT is the key, and the mode has
+    /// the flag DERIVE_KEY_MATERIAL: `hash` and `xof` of the material give the derived key.
+    pub fn derive(context: &str) -> Mode
+        ensures { result ≡ derived context.now }
+    {
+        let of_context = Mode {
+            key: IV,
+            domain: DERIVE_KEY_CONTEXT,
+        };
+        let key = hash(&of_context, context.as_bytes());
+        Mode {
+            key: words_of(&key.0),
+            domain: DERIVE_KEY_MATERIAL,
+        }
     }
 
     // The eight key words.

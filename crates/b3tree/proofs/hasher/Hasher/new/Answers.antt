@@ -1,0 +1,19 @@
+use Rattle.std.proofs.Common.{[], ◌∙◌, refl, sym, arith}
+use Rattle.b3tree.specs.Taken.{Holds, Splits}
+use Rattle.b3tree.proofs.Subtrees.{whole_subtrees-nil}
+use Rattle.b3tree.proofs.hasher.Hasher.new.Goals as goal
+
+pub returns : goal.returns
+returns c = record {
+  earlier = [];
+  last = [];
+  whole = refl;
+  splits = record {
+    same_mode = refl;
+    chunks = refl;
+    stack = c.new.ensures ∙ sym (whole_subtrees-nil 54 c.args.mode.now 0);
+    last_len = refl;
+    buffer = refl;
+  };
+  ends = λ h. absurd (omega arith);
+}

@@ -1,0 +1,35 @@
+ghost use Rattle.std.specs.Prelude.{◌≡◌, ℕ, ◌+◌, ◌*◌, ◌^◌, ◌<◌, List, ◌++◌, length};
+ghost use Rattle.b3tree.specs.Stack.{whole_subtrees};
+ghost use Rattle.b3tree.specs.Tree.{subtree_cv};
+
+use crate::mode::Mode;
+use crate::tree::parent_input;
+use arrayvec::ArrayVec;
+use b3word::cv;
+
+/// A tree has at most 2^54 chunks.
+pub(crate) const STACK_LEN: usize = 54;
+
+// The chaining values of the whole subtrees of the chunks so far, the largest first: one for each
+// binary digit 1 of their number.
+pub(crate) type Stack = ArrayVec<[u32; 8], STACK_LEN>;
+
+// Adds the value of the whole chunk with the number `number`, which is how many chunks the stack has.
+pub(crate) fn push_chunk(stack: &mut Stack, mode: &Mode, number: u64, value: [u32; 8])
+    requires { number + 1 < 2 ^ 64 }
+    ensures { (s chunk : List ℕ) → length s ≡ 1024 * number → length chunk ≡ 1024 → number + 1 < 2 ^ 54
+        → stack.old.items ≡ whole_subtrees 54 mode.now 0 s → value ≡ subtree_cv mode.now number chunk
+        → stack.new.items ≡ whole_subtrees 54 mode.now 0 (s ++ chunk) }
+{
+    let mut value = value;
+    let mut count = number + 1;
+    // Each round the value's subtree is the end of the chunks so far, and takes its left neighbour of
+    // the same size from the stack, where an even count says that there is one.
+    'join: while count % 2 == 0 {
+        if let Some(left) = stack.pop() {
+            value = cv(&parent_input(mode, &left, &value));
+        }
+        count /= 2;
+    }
+    let _ = stack.try_push(value);
+}
