@@ -1,5 +1,5 @@
 -- The definitions give the published digests, by computing.
-use Rattle.std.proofs.Common.{◌≡◌, ℕ, List, [], ◌∷◌, refl, map}
+use Rattle.std.proofs.Common.{◌≡◌, [], ◌∷◌, refl}
 use Rattle.b3word.specs.Compression.{iv, g, round, rounds, round_words, permuted, out}
 use Rattle.b3tree.specs.declared.mode.Mode.{Mode}
 use Rattle.b3tree.specs.Chunk.{chunk_input, block_words}

@@ -1,7 +1,7 @@
 -- How the whole subtrees of an input follow it as it grows, and give its top.
-use Rattle.std.proofs.Common.{◌≡◌, ℕ, zero, suc, ◌+◌, ◌-◌, ◌*◌, ◌/◌, ◌^◌, ◌<◌, ◌≤◌, List, [], ◌∷◌, ◌++◌, length, take, drop, refl, sym, ap, subst, ◌∙◌, arith, inl, inr, pow_pos, length-append, length-drop, pow-add}
+use Rattle.std.proofs.Common.{◌≡◌, ℕ, zero, suc, ◌+◌, ◌-◌, ◌*◌, ◌/◌, ◌^◌, ◌<◌, ◌≤◌, List, [], ◌∷◌, ◌++◌, length, take, drop, refl, sym, ap, ◌∙◌, arith, inl, inr, pow_pos, length-append, length-drop, pow-add}
 use Rattle.std.proofs.lemmas.Bool.{cases_lt, le-leb, lt-leb}
-use Rattle.std.proofs.lemmas.List.{append-nil, append_assoc, drop-append-le, drop_all, length-take-le, nil_from_length, take-append-le, take_all}
+use Rattle.std.proofs.lemmas.List.{drop-append-le, drop_all, nil_from_length, take-append-le, take_all}
 use Rattle.std.proofs.Math.Pow.{pow_mono}
 use Rattle.std.proofs.Math.Nat.{mul-le-mul_left}
 use Rattle.b3word.specs.declared.input.Input.{Input}
@@ -102,8 +102,8 @@ whole_subtrees-append (suc k) j mode first s u y q jk ls ey yk lu =
                 whole_subtrees_taken k mode first (s ++ u) (omega arith)
                 ∙ (λ i. subtree_cv mode first (front i) ∷ whole_subtrees k mode (first + 2 ^ k) (back i))
                 ∙ ap (λ (vs : List (List ℕ)). subtree_cv mode first (take l s) ∷ vs)
-                  (whole_subtrees-append k j mode (first + 2 ^ k) rest u (y - 2 ^ k) (q - r) lower size later (omega arith) lu
-                    ∙ (λ i. whole_subtrees k mode (first + 2 ^ k) rest ++ subtree_cv mode (place i) u ∷ []))
+                (whole_subtrees-append k j mode (first + 2 ^ k) rest u (y - 2 ^ k) (q - r) lower size later (omega arith) lu
+                ∙ (λ i. whole_subtrees k mode (first + 2 ^ k) rest ++ subtree_cv mode (place i) u ∷ []))
                 ∙ ap (λ (vs : List (List ℕ)). vs ++ subtree_cv mode (first + y) u ∷ []) (sym (whole_subtrees_taken k mode first s fits))
           ]
       | inr same ↦
@@ -172,7 +172,7 @@ top_input-joined (suc k) mode first s t y ls yk some one = elim (cases_lt y (2 ^
       let place : first + 2 ^ k + (y - 2 ^ k) ≡ first + y = omega arith in
       top_input_whole k mode first s t y ls more yk some one
       ∙ ap (λ (r : Input). parent_input mode (subtree_cv mode first (take l s)) (cv r))
-        (top_input-joined k mode (first + 2 ^ k) rest t (y - 2 ^ k) size (omega arith) some one
-          ∙ (λ i. joined mode (whole_subtrees k mode (first + 2 ^ k) rest) (last_chunk_input mode (place i) t)))
+      (top_input-joined k mode (first + 2 ^ k) rest t (y - 2 ^ k) size (omega arith) some one
+      ∙ (λ i. joined mode (whole_subtrees k mode (first + 2 ^ k) rest) (last_chunk_input mode (place i) t)))
       ∙ ap (λ (vs : List (List ℕ)). joined mode vs (last_chunk_input mode (first + y) t)) (sym (whole_subtrees_taken k mode first s (omega arith)))
 ]

@@ -1,5 +1,5 @@
 -- The top of what a hasher has taken in.
-use Rattle.std.proofs.Common.{◌≡◌, ℕ, ◌+◌, ◌*◌, ◌^◌, ◌<◌, ◌≤◌, List, [], ◌++◌, length, refl, sym, ap, ◌∙◌, arith, inl, inr, zero-add}
+use Rattle.std.proofs.Common.{◌≡◌, ℕ, ◌*◌, ◌^◌, ◌<◌, ◌≤◌, List, [], ◌++◌, length, sym, ◌∙◌, arith, inl, inr, zero-add}
 use Rattle.std.proofs.lemmas.Bool.{cases_lt}
 use Rattle.std.proofs.lemmas.List.{nil_from_length}
 use Rattle.b3tree.specs.declared.mode.Mode.{Mode}
@@ -26,6 +26,6 @@ top_input-taken mode earlier last chunks size bound one ends = elim (cases_lt 0 
             (λ i. top_input mode 0 (empty i ++ last))
             ∙ top_input-chunk mode 0 last one
             ∙ sym ((λ i. joined mode (whole_subtrees 54 mode 0 (empty i)) (last_chunk_input mode (no_chunks i) last))
-              ∙ (λ i. joined mode (whole_subtrees-nil 54 mode 0 i) (last_chunk_input mode 0 last)))
+            ∙ (λ i. joined mode (whole_subtrees-nil 54 mode 0 i) (last_chunk_input mode 0 last)))
       ]
 ]

@@ -1,8 +1,7 @@
 -- `top_input` is the recursive definition: the levels that `top_within` is given do not matter.
-use Rattle.std.proofs.Common.{◌≡◌, ℕ, zero, suc, ◌+◌, ◌-◌, ◌*◌, ◌/◌, ◌^◌, ◌<◌, ◌≤◌, List, length, take, drop, refl, sym, ap, subst, ◌∙◌, arith, inl, inr, pow_pos, length-drop}
+use Rattle.std.proofs.Common.{◌≡◌, ℕ, zero, suc, ◌+◌, ◌-◌, ◌*◌, ◌/◌, ◌^◌, ◌<◌, ◌≤◌, List, length, take, drop, refl, sym, ◌∙◌, arith, inl, inr, pow_pos, length-drop}
 use Rattle.std.proofs.lemmas.Bool.{cases_lt, le-leb, lt-leb}
 use Rattle.std.proofs.lemmas.List.{length-take-le}
-use Rattle.b3word.specs.declared.input.Input.{Input}
 use Rattle.b3word.specs.Compression.{cv}
 use Rattle.b3tree.specs.declared.mode.Mode.{Mode}
 use Rattle.b3tree.specs.Chunk.{last_chunk_input}
@@ -50,8 +49,8 @@ top_within-levels (suc f) (suc g) mode first s hf hg = elim (cases_lt 1024 (leng
       let right : top_within f mode (first + l / 1024) (drop l s) ≡ top_within g mode (first + l / 1024) (drop l s) =
       top_within-levels f g mode (first + l / 1024) (drop l s) (omega arith) (omega arith) in
       top_within-parent f mode first s more
-          ∙ (λ i. parent_input mode (cv (left i)) (cv (right i)))
-          ∙ sym (top_within-parent g mode first s more)
+      ∙ (λ i. parent_input mode (cv (left i)) (cv (right i)))
+      ∙ sym (top_within-parent g mode first s more)
   | inr one ↦ top_within-chunk (suc f) mode first s one ∙ sym (top_within-chunk (suc g) mode first s one)
 ]
 

@@ -1,5 +1,5 @@
 -- the bytes of words
-use Rattle.std.proofs.Common.{◌≡◌, ℕ, zero, suc, ◌+◌, ◌*◌, List, [], ◌∷◌, ◌++◌, length, take, refl, ap, arith}
+use Rattle.std.proofs.Common.{◌≡◌, ℕ, zero, suc, ◌+◌, ◌*◌, List, [], ◌∷◌, take, refl, arith}
 use Rattle.b3tree.specs.Bytes.{bytes_of}
 
 -- the bytes of the first n words

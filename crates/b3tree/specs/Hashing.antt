@@ -13,9 +13,13 @@ use Rattle.b3tree.specs.Tree.{top_input}
 abbrev pub rooted : Input → Input
 rooted x = record x { d = bit_or x.d root }
 
--- the hash of the bytes s: the first 32 bytes of the root's output
+-- the first 32 bytes of the output of the root x
+abbrev pub root_hash : Input → List ℕ
+root_hash x = take 32 (bytes_of (out x))
+
+-- the hash of the bytes s
 unfoldable pub hash : Mode → List ℕ → List ℕ
-hash mode s = take 32 (bytes_of (out (rooted (top_input mode 0 s))))
+hash mode s = root_hash (rooted (top_input mode 0 s))
 
 -- the material of key derivation: its key is the hash of the context
 abbrev pub derived : List ℕ → Mode

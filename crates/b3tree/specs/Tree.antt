@@ -1,5 +1,5 @@
 -- The tree over the chunks of an input (BLAKE3 paper, 2.1 and 2.5).
-use Rattle.std.specs.Prelude.{◌≡◌, ℕ, zero, suc, ◌+◌, ◌-◌, ◌*◌, ◌/◌, ◌^◌, ◌<◌, ◌≤◌, List, ◌++◌, length, take, drop, nat_le, nat_lt, bit_or, if◌then◌else◌}
+use Rattle.std.specs.Prelude.{◌≡◌, ℕ, zero, suc, ◌+◌, ◌*◌, ◌/◌, ◌^◌, ◌<◌, ◌≤◌, List, ◌++◌, length, take, drop, nat_le, nat_lt, bit_or, if◌then◌else◌}
 use Rattle.b3word.specs.declared.input.Input.{Input}
 use Rattle.b3word.specs.Compression.{cv}
 use Rattle.b3tree.specs.declared.mode.Mode.{Mode}
@@ -40,7 +40,7 @@ top_within (suc levels) mode first s =
     let l = left_len (length s) in
     if nat_le (length s) 1024 then last_chunk_input mode first s
     else parent_input mode (cv (top_within levels mode first (take l s)))
-        (cv (top_within levels mode (first + l / 1024) (drop l s)))
+    (cv (top_within levels mode (first + l / 1024) (drop l s)))
 
 -- the last compression of the tree over the bytes s, whose first chunk has the number `first`, before
 -- it is known whether it is the root: a chunk's, or the parent's of the trees over the left part and

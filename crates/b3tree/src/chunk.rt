@@ -1,15 +1,18 @@
-ghost use Rattle.std.specs.Prelude.{◌≡◌, ◌+◌, ◌-◌, ◌*◌, ◌<◌, ◌≤◌, length};
+ghost use Rattle.std.specs.Prelude.{◌≡◌, ◌+◌, ◌*◌, ◌<◌, ◌≤◌, length};
 ghost use Rattle.b3word.specs.Compression.{cv};
 ghost use Rattle.b3tree.specs.Modes.{key_words, mode_flags};
-ghost use Rattle.b3tree.specs.Chunk.{padded, block, block_count, block_words, block_flags, block_input, last_chunk_input};
+ghost use Rattle.b3tree.specs.Chunk.{padded, block, block_count, block_words, block_flags, block_input, chunk_input, last_chunk_input};
 
 use crate::bytes::words_of;
 use crate::flags::{CHUNK_END, CHUNK_START};
 use crate::mode::Mode;
 use b3word::{Input, compress};
 
-pub(crate) const BLOCK_LEN: usize = 64;
-pub(crate) const CHUNK_LEN: usize = 1024;
+/// The bytes of a block.
+pub const BLOCK_LEN: usize = 64;
+
+/// The bytes of a chunk.
+pub const CHUNK_LEN: usize = 1024;
 
 fn block_count(len: usize) -> usize
     requires { len ≤ 1024 }
@@ -89,26 +92,35 @@ fn chaining_value(input: &Input) -> [u32; 8]
     ]
 }
 
-// What comes before the last of `count` blocks: the key words, or the chaining value of the block
-// before it. The compression is in line, so that the value stays in registers from block to block.
+// What comes before block `k`: the key words, or the chaining value of the block before it. The
+// compression is in line, so that the value stays in registers from block to block.
 #[inline(never)]
-fn value_before_last(mode: &Mode, i: u64, chunk: &[u8], count: usize) -> [u32; 8]
+fn value_before(mode: &Mode, i: u64, chunk: &[u8], k: usize) -> [u32; 8]
     requires len { length chunk.now ≤ 1024 }
-    requires count { count ≡ block_count (length chunk.now) }
-    ensures { block_input mode.now i chunk.now (count - 1) result ≡ last_chunk_input mode.now i chunk.now }
+    requires block { k < block_count (length chunk.now) }
+    ensures { block_input mode.now i chunk.now k result ≡ chunk_input mode.now i chunk.now k }
 {
     let mut h = mode.key_words();
-    'earlier: for k in 0..count - 1 {
-        h = chaining_value(&block_input(mode, i, chunk, k, h));
+    'earlier: for j in 0..k {
+        h = chaining_value(&block_input(mode, i, chunk, j, h));
     }
     h
+}
+
+/// The input of block `k`, from 0, of the chunk with the number `i` and the bytes `chunk`: at most
+/// 1,024, in blocks of 64, of which no bytes have one (BLAKE3 paper, 2.4).
+pub fn chunk_input(mode: &Mode, i: u64, chunk: &[u8], k: usize) -> Input
+    requires len { length chunk.now ≤ 1024 }
+    requires block { k < block_count (length chunk.now) }
+    ensures { result ≡ chunk_input mode.now i chunk.now k }
+{
+    let h = value_before(mode, i, chunk, k);
+    block_input(mode, i, chunk, k, h)
 }
 
 pub(crate) fn last_chunk_input(mode: &Mode, i: u64, chunk: &[u8]) -> Input
     requires { length chunk.now ≤ 1024 }
     ensures { result ≡ last_chunk_input mode.now i chunk.now }
 {
-    let count = block_count(chunk.len());
-    let h = value_before_last(mode, i, chunk, count);
-    block_input(mode, i, chunk, count - 1, h)
+    chunk_input(mode, i, chunk, block_count(chunk.len()) - 1)
 }

@@ -6,7 +6,7 @@ use crate::mode::Mode;
 use crate::output::fill_output;
 use crate::stack::{Stack, push_chunk};
 use crate::tree::parent_input;
-use crate::values::Hash;
+use crate::values::{Cv, Hash};
 use arrayvec::ArrayVec;
 use b3word::{Input, cv};
 use thiserror::Error;
@@ -134,7 +134,7 @@ impl Hasher {
         let values = self.stack.as_slice();
         let mut input = last_chunk_input(&self.mode, self.chunks, &self.buffer[..self.buffered]);
         'joined: for i in (0..values.len()).rev() {
-            input = parent_input(&self.mode, &values[i], &cv(&input));
+            input = parent_input(&self.mode, &Cv(values[i]), &Cv(cv(&input)));
         }
         rooted(&input)
     }

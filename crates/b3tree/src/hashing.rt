@@ -1,8 +1,6 @@
-ghost use Rattle.std.specs.Prelude.{◌≡◌, ◌+◌, ◌*◌, ◌-◌, ◌^◌, ◌≤◌, length, take};
-ghost use Rattle.b3word.specs.Compression.{out};
-ghost use Rattle.b3tree.specs.Bytes.{bytes_of};
+ghost use Rattle.std.specs.Prelude.{◌≡◌, ◌+◌, ◌*◌, ◌-◌, ◌^◌, ◌≤◌, length};
 ghost use Rattle.b3tree.specs.Tree.{subtree_cv};
-ghost use Rattle.b3tree.specs.Hashing.{hash, rooted};
+ghost use Rattle.b3tree.specs.Hashing.{hash, root_hash, rooted};
 
 use crate::bytes::put_bytes;
 use crate::flags::ROOT;
@@ -11,7 +9,8 @@ use crate::tree::top_input;
 use crate::values::{Cv, Hash};
 use b3word::{Input, cv};
 
-pub(crate) fn rooted(input: &Input) -> Input
+/// `input` as the root: with the flag ROOT (BLAKE3 paper, 2.6).
+pub fn rooted(input: &Input) -> Input
     ensures { result ≡ rooted input.now }
 {
     Input {
@@ -20,9 +19,9 @@ pub(crate) fn rooted(input: &Input) -> Input
     }
 }
 
-// The hash whose root has the input `root`, the flag ROOT in it.
-pub(crate) fn root_hash(root: &Input) -> Hash
-    ensures { result.0 ≡ take 32 (bytes_of (out root.now)) }
+/// The hash of an input whose root is `root`, the flag ROOT in it: the first 32 bytes of its output.
+pub fn root_hash(root: &Input) -> Hash
+    ensures { result.0 ≡ root_hash root.now }
 {
     let mut bytes = [0; 32];
     put_bytes(&cv(root), &mut bytes);

@@ -3,10 +3,13 @@
 //! Nothing here takes memory.
 #![tactic(auto)]
 
+pub use b3word::{Input, cv};
+pub use chunk::{BLOCK_LEN, CHUNK_LEN, chunk_input};
 pub use hasher::{Hasher, TooLong};
-pub use hashing::{hash, subtree_cv};
+pub use hashing::{hash, root_hash, rooted, subtree_cv};
 pub use mode::Mode;
 pub use output::{xof, xof_fits};
+pub use tree::{left_len, parent_input, top_input};
 pub use values::{Cv, Hash};
 
 mod bytes;

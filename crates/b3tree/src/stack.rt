@@ -4,6 +4,7 @@ ghost use Rattle.b3tree.specs.Tree.{subtree_cv};
 
 use crate::mode::Mode;
 use crate::tree::parent_input;
+use crate::values::Cv;
 use arrayvec::ArrayVec;
 use b3word::cv;
 
@@ -27,7 +28,7 @@ pub(crate) fn push_chunk(stack: &mut Stack, mode: &Mode, number: u64, value: [u3
     // the same size from the stack, where an even count says that there is one.
     'join: while count % 2 == 0 {
         if let Some(left) = stack.pop() {
-            value = cv(&parent_input(mode, &left, &value));
+            value = cv(&parent_input(mode, &Cv(left), &Cv(value)));
         }
         count /= 2;
     }

@@ -1,26 +1,36 @@
-ghost use Rattle.std.specs.Prelude.{◌≡◌, ℕ, ◌+◌, ◌-◌, ◌*◌, ◌/◌, ◌^◌, ◌<◌, ◌≤◌, length, take, drop};
+ghost use Rattle.std.specs.Prelude.{◌≡◌, ℕ, ◌+◌, ◌-◌, ◌*◌, ◌/◌, ◌^◌, ◌<◌, ◌≤◌, List, length, take, drop};
+ghost use Rattle.b3tree.specs.declared.mode.Mode.{Mode};
 ghost use Rattle.b3tree.specs.Chunk.{last_chunk_input};
 ghost use Rattle.b3tree.specs.Tree.{IsLeftLen, left_len, parent_input, subtree_cv, top_input};
 
 use crate::chunk::{CHUNK_LEN, last_chunk_input};
 use crate::flags::PARENT;
 use crate::mode::Mode;
+use crate::values::Cv;
 use b3word::{Input, cv};
 
-pub(crate) fn left_len(len: usize) -> usize
+/// How many bytes of `len`, more than one chunk, the left subtree has: the largest number of the form
+/// 1,024 * 2^k that is below `len` (BLAKE3 paper, 2.1).
+pub fn left_len(len: u64) -> u64
     requires { 1024 < len }
     ensures value { result ≡ left_len len }
     ensures largest { IsLeftLen len result }
+
+    // Where a tree over so many bytes parts, whatever they are.
+    ensures parts { (mode : Mode) (first : ℕ) (s : List ℕ) → length s ≡ len → top_input mode first s ≡ parent_input mode
+        (subtree_cv mode first (take result s)) (subtree_cv mode (first + result / 1024) (drop result s)) }
 {
-    CHUNK_LEN << ((len - 1) / CHUNK_LEN).ilog2()
+    let chunk_len = CHUNK_LEN as u64;
+    chunk_len << ((len - 1) / chunk_len).ilog2()
 }
 
-pub(crate) fn parent_input(mode: &Mode, left: &[u32; 8], right: &[u32; 8]) -> Input
-    ensures { result ≡ parent_input mode.now left.now right.now }
+/// The input of the parent of two subtrees with these chaining values (BLAKE3 paper, 2.5).
+pub fn parent_input(mode: &Mode, left: &Cv, right: &Cv) -> Input
+    ensures { result ≡ parent_input mode.now left.now.0 right.now.0 }
 {
     let mut m = [0; 16];
-    m[..8].copy_from_slice(left);
-    m[8..].copy_from_slice(right);
+    m[..8].copy_from_slice(&left.0);
+    m[8..].copy_from_slice(&right.0);
     Input {
         h: mode.key_words(),
         m,
@@ -30,7 +40,12 @@ pub(crate) fn parent_input(mode: &Mode, left: &[u32; 8], right: &[u32; 8]) -> In
     }
 }
 
-pub(crate) fn top_input(mode: &Mode, first: u64, bytes: &[u8]) -> Input
+/// The last compression of the tree over `bytes` whose first chunk has the number `first`, before it
+/// is known whether it is the root: that of the only chunk, or the parent of the trees over the left
+/// part and the rest (BLAKE3 paper, 2.5).
+///
+/// `cv` of it is `subtree_cv`. The bytes have to end within an input of at most 2^64 - 1 bytes.
+pub fn top_input(mode: &Mode, first: u64, bytes: &[u8]) -> Input
     requires { 1024 * first + length bytes.now ≤ 2 ^ 64 - 1 }
     ensures value { result ≡ top_input mode.now first bytes.now }
 
@@ -42,10 +57,10 @@ pub(crate) fn top_input(mode: &Mode, first: u64, bytes: &[u8]) -> Input
     if bytes.len() <= CHUNK_LEN {
         return last_chunk_input(mode, first, bytes);
     }
-    let left_len = left_len(bytes.len());
-    let (left, right) = bytes.split_at(left_len);
-    let right_first = first + (left_len / CHUNK_LEN) as u64;
-    let left = cv(&top_input(mode, first, left));
-    let right = cv(&top_input(mode, right_first, right));
+    let left_len = left_len(bytes.len() as u64);
+    let (left, right) = bytes.split_at(left_len as usize);
+    let right_first = first + left_len / CHUNK_LEN as u64;
+    let left = Cv(cv(&top_input(mode, first, left)));
+    let right = Cv(cv(&top_input(mode, right_first, right)));
     parent_input(mode, &left, &right)
 }

@@ -19,6 +19,8 @@ fill-preserved c =
     let size : length (output_block c.args.root.now (p / 64)) ≡ 64 = ap length (sym c.output_block-block.ensures.block) ∙ c.output_block-block.ensures.len in
     let stream : piece ≡ output c.args.root.now p count =
     part ∙ (λ i. take (plain i) (drop start (c.output_block-block.ensures.block i))) ∙ output-block c.args.root.now p count size fits in
-    let len : length piece ≡ count = ap length stream ∙ length-map-range_with_len (output_byte c.args.root.now) p count in
-    (omega arith, take-put_mid c.fill.done (last - c.fill.done) c.fill.out piece last (omega arith) (omega arith)
-    ∙ (λ i. c.fill.invariant.1 i ++ stream i) ∙ output-append c.args.root.now c.args.at c.fill.done count)
+    let len : length piece ≡ count = ap length stream ∙ length-map-range_with_len (output_byte c.args.root.now) p count in (
+      omega arith,
+      take-put_mid c.fill.done (last - c.fill.done) c.fill.out piece last (omega arith) (omega arith)
+          ∙ (λ i. c.fill.invariant.1 i ++ stream i) ∙ output-append c.args.root.now c.args.at c.fill.done count,
+    )

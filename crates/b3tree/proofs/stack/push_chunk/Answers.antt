@@ -1,8 +1,7 @@
-use Rattle.std.proofs.Common.{◌≡◌, ◌+◌, ◌*◌, ◌/◌, ◌%◌, ◌<◌, ℕ, List, ◌++◌, ◌∷◌, [], length, ◌∙◌, sym, ap, subst, arith, None, IsSome, Ok, Err, IsOk, OnOk}
+use Rattle.std.proofs.Common.{◌≡◌, ◌+◌, ◌*◌, ◌/◌, ◌<◌, ℕ, List, ◌++◌, ◌∷◌, [], length, ◌∙◌, subst, arith, None, IsSome, Ok, Err, IsOk, OnOk}
 use Rattle.std.specs.declared.option.Option.{Option}
 use Rattle.std.specs.declared.result.Result.{Result}
-use Rattle.b3word.specs.Compression.{cv}
-use Rattle.b3tree.proofs.Joining.{Joins, Joins_end, Joins_left, Joins_start, Joins_step}
+use Rattle.b3tree.proofs.Joining.{Joins, Joins_end, Joins_left, Joins_step}
 use Rattle.b3tree.proofs.stack.push_chunk.Goals as goal
 use Rattle.b3tree.proofs.stack.push_chunk.Goals.{in-Some, in_default}
 
@@ -16,20 +15,23 @@ on_success (Ok x) P is h = h
 on_success (Err e) P is h = cc
 
 pub join-preserved : goal.join-preserved
-join-preserved c = (omega arith, λ s chunk ls lc fits es ev.
-    let half : ℕ = c.join.count / 2 in
-    let some : 0 < half = omega arith in
-    let even : c.join.count ≡ 2 * half = omega arith in
-    let before : Joins c.args.mode.now (s ++ chunk) c.join.stack.items c.join.value (2 * half) =
-    subst (λ (n : ℕ). Joins c.args.mode.now (s ++ chunk) c.join.stack.items c.join.value n) even (c.join.invariant.1 s chunk ls lc fits es ev) in
-    elim c.match-pop.branch [
-      | in-Some w ↦
-          rw (w.value-is, w.cv-value.ensures, w.parent_input.ensures)
-          (Joins_step c.args.mode.now (s ++ chunk) c.join.stack.items c.pop.new.self.items w.in-Some.left c.join.value half some before w.in-Some.ensures.items)
-      | in_default w ↦
-          absurd (not_missing c.pop.result (length c.join.stack.items) w.in_default.is c.pop.ensures.variant.1
-              (Joins_left c.args.mode.now (s ++ chunk) c.join.stack.items c.join.value half some before))
-    ])
+join-preserved c = (
+  omega arith,
+  λ s chunk ls lc fits es ev.
+      let half : ℕ = c.join.count / 2 in
+      let some : 0 < half = omega arith in
+      let even : c.join.count ≡ 2 * half = omega arith in
+      let before : Joins c.args.mode.now (s ++ chunk) c.join.stack.items c.join.value (2 * half) =
+      subst (λ (n : ℕ). Joins c.args.mode.now (s ++ chunk) c.join.stack.items c.join.value n) even (c.join.invariant.1 s chunk ls lc fits es ev) in
+      elim c.match-pop.branch [
+        | in-Some w ↦
+            rw (w.value-is, w.cv-value.ensures, w.parent_input.ensures)
+            (Joins_step c.args.mode.now (s ++ chunk) c.join.stack.items c.pop.new.self.items w.in-Some.left c.join.value half some before w.in-Some.ensures.items)
+        | in_default w ↦
+            absurd (not_missing c.pop.result (length c.join.stack.items) w.in_default.is c.pop.ensures.variant.1
+            (Joins_left c.args.mode.now (s ++ chunk) c.join.stack.items c.join.value half some before))
+      ],
+)
 
 pub returns : goal.returns
 returns c = λ s chunk ls lc fits es ev.

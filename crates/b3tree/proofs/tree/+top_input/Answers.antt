@@ -9,5 +9,5 @@ returns-then-bytes-le-CHUNK_LEN-clause-value t c =
 pub returns-clause-value : goal.returns-clause-value
 returns-clause-value t c =
     c.parent_input.ensures
-    ∙ rw (c.cv-left.ensures, c.cv-right.ensures, c.top_input.ensures.value, c.top_input-2.ensures.value, c.split_at.ensures.front, c.split_at.ensures.back)
+    ∙ rw (c.cv.ensures, c.cv-2.ensures, c.top_input.ensures.value, c.top_input-2.ensures.value, c.split_at.ensures.front, c.split_at.ensures.back)
     (sym (top_input-parent c.args.mode.now c.args.first c.args.bytes.now c.left_len-left_len.result c.left_len-left_len.ensures.largest (omega arith)))

@@ -1,7 +1,6 @@
-use Rattle.std.proofs.Common.{◌≡◌, ◌∷◌, ◌++◌, [], List, ℕ, length, take, drop, refl, ap, ◌∙◌, arith}
+use Rattle.std.proofs.Common.{◌≡◌, ◌∷◌, ◌++◌, [], List, ℕ, length, take, drop, refl, ◌∙◌, arith}
 use Rattle.std.proofs.lemmas.List.{append-nil, drop_all, drop_at, take_at}
 use borrow.Rule.Slice.PartMut.{put_mid}
-use Rattle.b3tree.specs.Tree.{parent_input}
 use Rattle.b3tree.proofs.tree.parent_input.Goals as goal
 
 -- eight words written, and then eight after them
@@ -14,7 +13,7 @@ joined xs ys zs h k =
 
 pub returns : goal.returns
 returns c =
-    let words : put_mid 8 8 (c.copy_from_slice.new.self ++ 0 ∷ 0 ∷ 0 ∷ 0 ∷ 0 ∷ 0 ∷ 0 ∷ 0 ∷ []) c.copy_from_slice-2.new.self ≡ c.args.left.now ++ c.args.right.now =
+    let words : put_mid 8 8 (c.copy_from_slice.new.self ++ 0 ∷ 0 ∷ 0 ∷ 0 ∷ 0 ∷ 0 ∷ 0 ∷ 0 ∷ []) c.copy_from_slice-2.new.self ≡ c.args.left.now.0 ++ c.args.right.now.0 =
     joined c.copy_from_slice.new.self c.copy_from_slice-2.new.self (0 ∷ 0 ∷ 0 ∷ 0 ∷ 0 ∷ 0 ∷ 0 ∷ 0 ∷ []) c.copy_from_slice.ensures.len refl
     ∙ rw (c.copy_from_slice.ensures.after, c.copy_from_slice-2.ensures.after) refl in
     rw (words, c.key_words.ensures, c.flags.ensures) refl

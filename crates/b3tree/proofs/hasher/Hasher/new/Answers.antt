@@ -1,5 +1,4 @@
 use Rattle.std.proofs.Common.{[], ◌∙◌, refl, sym, arith}
-use Rattle.b3tree.specs.Taken.{Holds, Splits}
 use Rattle.b3tree.proofs.Subtrees.{whole_subtrees-nil}
 use Rattle.b3tree.proofs.hasher.Hasher.new.Goals as goal
 

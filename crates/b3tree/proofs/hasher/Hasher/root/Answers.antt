@@ -1,5 +1,5 @@
-use Rattle.std.proofs.Common.{◌≡◌, ◌+◌, ◌-◌, ◌*◌, ◌^◌, ◌<◌, ◌≤◌, ℕ, List, [], ◌∷◌, ◌++◌, length, take, get_or, ◌∙◌, refl, sym, ap, arith}
-use Rattle.std.proofs.lemmas.List.{take_all, take_more}
+use Rattle.std.proofs.Common.{◌≡◌, ◌+◌, ◌-◌, ◌*◌, ◌^◌, ◌<◌, ◌≤◌, ℕ, List, [], ◌∷◌, ◌++◌, length, take, get_or, ◌∙◌, sym, ap, arith}
+use Rattle.std.proofs.lemmas.List.{take_more}
 use Rattle.b3word.specs.declared.input.Input.{Input}
 use Rattle.b3word.specs.Compression.{cv}
 use Rattle.b3tree.specs.declared.mode.Mode.{Mode}
@@ -7,7 +7,6 @@ use Rattle.b3tree.specs.Chunk.{last_chunk_input}
 use Rattle.b3tree.specs.Hashing.{rooted}
 use Rattle.b3tree.specs.Stack.{whole_subtrees}
 use Rattle.b3tree.specs.Tree.{parent_input, top_input}
-use Rattle.b3tree.specs.Taken.{Holds, Splits}
 use Rattle.b3tree.proofs.Subtrees.{joined, joined-push}
 use Rattle.b3tree.proofs.Taking.{top_input-taken}
 use Rattle.b3tree.proofs.hasher.Hasher.root.Goals as goal

@@ -1,10 +1,9 @@
-use Rattle.std.proofs.Common.{◌≡◌, ◌+◌, ◌*◌, ◌<◌, ℕ, List, ◌++◌, length, take, ◌∙◌, refl, sym, ap, arith, length-append}
+use Rattle.std.proofs.Common.{◌≡◌, ℕ, ◌++◌, length, ◌∙◌, refl, sym, ap, arith, length-append}
 use Rattle.b3word.specs.Compression.{cv}
 use Rattle.b3tree.specs.declared.mode.Mode.{Mode}
 use Rattle.b3tree.specs.Chunk.{last_chunk_input}
 use Rattle.b3tree.specs.Stack.{whole_subtrees}
 use Rattle.b3tree.specs.Tree.{subtree_cv}
-use Rattle.b3tree.specs.Taken.{Splits}
 use Rattle.b3tree.proofs.TopInput.{top_input-chunk}
 use Rattle.b3tree.proofs.hasher.Hasher.stack_chunk.Goals as goal
 

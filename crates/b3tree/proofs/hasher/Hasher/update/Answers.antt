@@ -1,6 +1,6 @@
-use Rattle.std.proofs.Common.{◌≡◌, ℕ, List, ◌++◌, length, take, drop, ◌∙◌, sym, ap, subst, arith, length-drop}
+use Rattle.std.proofs.Common.{◌≡◌, ℕ, List, ◌++◌, take, ◌∙◌, sym, ap, subst, arith}
 use Rattle.std.proofs.lemmas.List.{append_assoc, take-append-drop}
-use Rattle.b3tree.specs.Taken.{Holds, Splits}
+use Rattle.b3tree.specs.Taken.{Holds}
 use Rattle.b3tree.proofs.hasher.Hasher.update.Goals as goal
 
 pub pieces-preserved : goal.pieces-preserved
@@ -15,6 +15,6 @@ pieces-preserved c = (
         before.0 ++ piece,
         before.1 ∙ ap (λ (xs : List ℕ). before.0 ++ xs) cut ∙ sym (append_assoc before.0 piece c.split_at.result.1.now),
         subst (λ (xs : List ℕ). Holds c.take_some-count.new.self mode xs) (append_assoc s before.0 piece)
-        (c.take_some-count.ensures.taken mode (s ++ before.0) before.2),
+            (c.take_some-count.ensures.taken mode (s ++ before.0) before.2),
       ),
 )
