@@ -1,18 +1,22 @@
 ghost use Rattle.std.specs.Prelude.{◌≤◌};
 
-use crate::digits::print_hash;
+use crate::digits::{print_hash, print_output};
 use crate::fault::Fault;
 use crate::input::read_file;
-use crate::request::{Request, parse};
-use b3tree::Mode;
+use crate::mode::mode_of;
+use crate::request::{Request, Task, parse};
+use b3tree::xof_fits;
 use clap::error::ErrorKind;
-use std::alloc::Global;
 use std::io::Write;
 use std::rt::Files;
+use std::thread::Threads;
+
+/// How many bytes of output a hash has.
+const HASH_LEN: u32 = 32;
 
 /// Runs the program on `words`, its name first, with `out` and `err` as its standard output and error,
 /// and answers the exit status: 0 done, 2 wrong words, 3 a file fault, 4 want of memory.
-pub fn command<R: Files + AllocGlobal, O: Write, E: Write>(
+pub fn command<R: Files + AllocGlobal + Threads + Sync, O: Write, E: Write>(
     rt: &R,
     words: &[String],
     out: &mut O,
@@ -24,21 +28,29 @@ pub fn command<R: Files + AllocGlobal, O: Write, E: Write>(
         Ok(request) => request,
         Err(error) => return answer_clap(&error, out, err),
     };
-    match serve(rt, request, out) {
+    match serve(rt, &request, out) {
         Ok(()) => 0,
         Err(fault) => fault.report(err),
     }
 }
 
-fn serve<'a, R: Files + AllocGlobal, O: Write>(
+fn serve<'a, R: Files + AllocGlobal + Threads + Sync, O: Write>(
     rt: &R,
-    request: Request<'a>,
+    request: &Request<'a>,
     out: &mut O,
 ) -> Result<(), Fault<'a>> {
-    match request {
-        Request::Hash { file } => {
+    let mode = mode_of(request.key, request.context)?;
+    match request.task {
+        Task::Hash { at, length, file } => {
+            if !xof_fits(at, u64::from(length)) {
+                return Err(Fault::OutputRange);
+            }
             let bytes = read_file(rt, file)?;
-            print_hash(&Mode::hash(), bytes.as_slice(), out).map_err(|_| Fault::Output)
+            if at == 0 && length == HASH_LEN {
+                print_hash(rt, rt.alloc(), &mode, bytes.as_slice(), out)
+            } else {
+                print_output(rt.alloc(), &mode, bytes.as_slice(), at, length, out)
+            }
         }
     }
 }

@@ -4,9 +4,19 @@ ghost use Rattle.bao_gather.specs.Status.{status_of};
 use std::io::Write;
 use thiserror::Error;
 
-/// Why a command ended without its result. What is printed is `bao_gather: ` and the text below.
+/// Why a command ended without its result. What is printed is `bao_gather: `, the text below and a
+/// line end.
 #[derive(Clone, Copy, Debug, Error)]
 pub enum Fault<'a> {
+    /// `--key` is no text of 64 hexadecimal digits. Status 2.
+    #[error("usage: key is not 64 hexadecimal digits")]
+    Key,
+    /// Both `--key` and `--context` are given. Status 2.
+    #[error("usage: key and context exclude each other")]
+    KeyAndContext,
+    /// The bytes of output that are asked for end after 2^64 - 1. Status 2.
+    #[error("usage: output range too large")]
+    OutputRange,
     /// An input file can't be opened or read. Status 3.
     #[error("cannot read {0}")]
     Read(&'a str),
@@ -24,6 +34,7 @@ impl Fault<'_> {
         ensures { result ≡ status_of self.entry }
     {
         match self {
+            Fault::Key | Fault::KeyAndContext | Fault::OutputRange => 2,
             Fault::Read(_) | Fault::Output => 3,
             Fault::Memory => 4,
         }

@@ -1,10 +1,9 @@
 use crate::fault::Fault;
 use std::alloc::Global;
-use std::fs;
-use std::io;
-use std::io::{ErrorKind, Read};
 use std::fs::OpenFile;
+use std::io::{ErrorKind, Read};
 use std::rt::Files;
+use std::{fs, io};
 
 /// All bytes of the file at `path`.
 ///

@@ -1,6 +1,7 @@
-//! The program `bao_gather`.
+//! The program `bao_gather`: BLAKE3 hashes of files.
 #![tactic(auto)]
 
+use fault::Fault;
 use std::env;
 use std::process::ExitCode;
 
@@ -8,23 +9,23 @@ mod command;
 mod digits;
 mod fault;
 mod input;
+mod mode;
 mod request;
+#[cfg(test)]
+mod tests;
 
 fn main(rt: HostRuntime) -> ExitCode {
-    ExitCode::from(run(&rt))
-}
-
-// The exit status of the process's own words, on its own streams.
-fn run(rt: &HostRuntime) -> u8 {
     let mut out = rt.stdout();
     let mut err = rt.stderr();
-    match own_words(rt) {
-        Ok(words) => command::command(rt, words.as_slice(), &mut out, &mut err),
+    let status = match own_words(&rt) {
+        Ok(words) => command::command(&rt, words.as_slice(), &mut out, &mut err),
         Err(fault) => fault.report(&mut err),
-    }
+    };
+    ExitCode::from(status)
 }
 
-fn own_words(rt: &HostRuntime) -> Result<Vec<String>, fault::Fault<'static>> {
-    let words = env::args(rt).map_err(|_| fault::Fault::Memory)?;
-    words.collect(rt.alloc()).map_err(|_| fault::Fault::Memory)
+// The words that the process was given, its name first.
+fn own_words(rt: &HostRuntime) -> Result<Vec<String>, Fault<'static>> {
+    let words = env::args(rt).map_err(|_| Fault::Memory)?;
+    words.collect(rt.alloc()).map_err(|_| Fault::Memory)
 }

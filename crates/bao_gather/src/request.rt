@@ -1,26 +1,80 @@
 use clap::error::ErrorKind;
-use clap::{Arg, ArgMatches, Command, Error};
+use clap::{Arg, ArgAction, ArgMatches, Command, Error, value_parser};
 use std::alloc::{AllocError, Global};
 
 /// What the words ask for.
 #[derive(Clone, Copy, Debug)]
-pub enum Request<'a> {
-    /// The hash of a file.
-    Hash { file: &'a str },
+pub struct Request<'a> {
+    /// The text of `--key`.
+    pub key: Option<&'a str>,
+    /// The text of `--context`.
+    pub context: Option<&'a str>,
+    pub task: Task<'a>,
 }
 
-fn program<'a>(alloc: Global) -> Result<Command<'a>, AllocError> {
+/// A command with its words.
+#[derive(Clone, Copy, Debug)]
+pub enum Task<'a> {
+    /// `length` bytes, 1 to 65,536, of a file's extended output, from byte `at` on.
+    Hash { at: u64, length: u32, file: &'a str },
+}
+
+fn with_mode<'a>(alloc: Global, command: Command<'a>) -> Result<Command<'a>, AllocError> {
+    let key = Arg::new(alloc, "key")
+        .long("key")
+        .value_name("HEX")
+        .help("Hashes under this key, 64 hexadecimal digits");
+    let context = Arg::new(alloc, "context")
+        .long("context")
+        .value_name("TEXT")
+        .help("Derives keys for this context");
+    command.arg(key)?.arg(context)
+}
+
+fn hash_command<'a>(alloc: Global) -> Result<Command<'a>, AllocError> {
+    let at = Arg::new(alloc, "at")
+        .long("at")
+        .value_name("N")
+        .value_parser(value_parser!(u64))
+        .default_value("0")
+        .help("The first byte of output to print");
+    let length = Arg::new(alloc, "length")
+        .long("length")
+        .value_name("N")
+        .value_parser(value_parser!(u32).range(1..65_537))
+        .default_value("32")
+        .help("How many bytes of output to print, 1 to 65536");
     let file = Arg::new(alloc, "FILE")
         .required(true)
         .help("The file to hash");
-    let hash = Command::new(alloc, "hash")
-        .about("Prints the BLAKE3 hash of a file: 64 hexadecimal digits and a line end")
+    let command = Command::new(alloc, "hash")
+        .about(
+            "Prints the BLAKE3 hash of a file, or other bytes of its extended output, as hexadecimal digits",
+        )
+        .arg(at)?
+        .arg(length)?
         .arg(file)?;
+    with_mode(alloc, command)
+}
+
+fn program<'a>(alloc: Global) -> Result<Command<'a>, AllocError> {
     Command::new(alloc, "bao_gather")
         .version("0.1.0")
         .about("Hashes files with BLAKE3")
         .subcommand_required(true)
-        .subcommand(hash)
+        .subcommand(hash_command(alloc)?)
+}
+
+// The task of a subcommand's words, where they are all there.
+fn task_of<'a>(name: &str, words: &ArgMatches<'a>) -> Option<Task<'a>> {
+    match name {
+        "hash" => Some(Task::Hash {
+            at: words.get_one("at")?,
+            length: words.get_one("length")?,
+            file: words.get_str("FILE")?,
+        }),
+        _ => None,
+    }
 }
 
 /// Reads the words, the program's name first. What `clap` refuses comes back as its error, as do
@@ -28,10 +82,14 @@ fn program<'a>(alloc: Global) -> Result<Command<'a>, AllocError> {
 pub fn parse<'a>(alloc: Global, words: &'a [String]) -> Result<Request<'a>, Error> {
     let mut program = program(alloc)?;
     let matches = program.try_get_matches_from_mut(words)?;
-    if let Some(("hash", hash)) = matches.subcommand() {
-        if let Some(file) = hash.get_str("FILE") {
-            return Ok(Request::Hash { file });
+    if let Some((name, words)) = matches.subcommand() {
+        if let Some(task) = task_of(name, words) {
+            return Ok(Request {
+                key: words.get_str("key"),
+                context: words.get_str("context"),
+                task,
+            });
         }
     }
-    Err(program.error(ErrorKind::MissingSubcommand, "no command")?)
+    Err(program.error(ErrorKind::MissingSubcommand, "a command is missing")?)
 }
