@@ -2,7 +2,6 @@ ghost use Rattle.std.specs.Prelude.{◌≡◌, ◌+◌, ◌*◌, ◌-◌, ◌^�
 ghost use Rattle.b3tree.specs.Tree.{subtree_cv};
 ghost use Rattle.b3tree.specs.Hashing.{hash, root_hash, rooted};
 
-use crate::bytes::put_bytes;
 use crate::flags::ROOT;
 use crate::mode::Mode;
 use crate::tree::top_input;
@@ -23,9 +22,7 @@ pub fn rooted(input: &Input) -> Input
 pub fn root_hash(root: &Input) -> Hash
     ensures { result.0 ≡ root_hash root.now }
 {
-    let mut bytes = [0; 32];
-    put_bytes(&cv(root), &mut bytes);
-    Hash(bytes)
+    Hash(Cv(cv(root)).to_bytes())
 }
 
 /// The hash of `bytes` in `mode` (BLAKE3 paper, 2.6). Takes every input.

@@ -4,4 +4,4 @@ use Rattle.b3tree.proofs.Words.{bytes_of-take}
 use Rattle.b3tree.proofs.hashing.root_hash.Goals as goal
 
 pub returns : goal.returns
-returns c = c.put_bytes.ensures ∙ rw c.cv.ensures (sym (bytes_of-take 8 (out c.args.root.now)))
+returns c = c.to_bytes.ensures ∙ rw c.cv.ensures (sym (bytes_of-take 8 (out c.args.root.now)))

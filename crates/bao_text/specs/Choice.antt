@@ -1,0 +1,31 @@
+-- Which parts of a blob a text is of (Bao specification, on encodings and slices).
+use Rattle.std.specs.Prelude.{ℕ, ◌+◌, ◌-◌, ◌*◌, ◌/◌, max, min, nat_lt, Bool, true, false, ◌&&◌}
+use Rattle.bao_text.specs.declared.choice.Choice.{Choice}
+
+-- how many chunks n bytes have: no bytes are one empty chunk
+abbrev pub chunk_count : ℕ → ℕ
+chunk_count n = max 1 ((n + 1023) / 1024)
+
+-- A slice (start, len) of a blob of `total` bytes wants the positions from `slice_start` on, up to and
+-- without `slice_end`. A length of 0 counts as 1, and a start at or past the end is the last position.
+abbrev pub slice_start : ℕ → ℕ → ℕ
+slice_start total start = min start (max total 1 - 1)
+
+abbrev pub slice_end : ℕ → ℕ → ℕ → ℕ
+slice_end total start len = max (slice_start total start + 1) (min (start + max len 1) total)
+
+-- what a slice is of: its positions, with the chunks
+abbrev pub of_slice : ℕ → ℕ → ℕ → Choice
+of_slice total start len = record { start = slice_start total start; end = slice_end total start len; chunks = true }
+
+-- what a combined encoding is of: everything
+abbrev pub of_combined : ℕ → Choice
+of_combined total = record { start = 0; end = max total 1; chunks = true }
+
+-- what an outboard encoding is of: everything but the chunks
+abbrev pub of_outboard : ℕ → Choice
+of_outboard total = record { start = 0; end = max total 1; chunks = false }
+
+-- whether the n bytes from position `at` on meet the positions of the choice; no bytes count as one
+abbrev pub wants : Choice → ℕ → ℕ → Bool
+wants choice at n = nat_lt at choice.end && nat_lt choice.start (at + max n 1)

@@ -1,0 +1,7 @@
+pub mod Choice
+pub mod Nodes
+pub mod Texts
+pub mod Cut
+pub mod Faults
+pub use Rattle.b3tree.specs.Hashing
+pub use Rattle.b3tree.specs.Tree

@@ -1,0 +1,55 @@
+ghost use Rattle.std.specs.Prelude.{◌≡◌};
+
+/// The positions of a blob that a text is of, and whether it has the chunks.
+#[derive(Clone, Copy, Debug)]
+pub(crate) struct Choice {
+    pub(crate) start: u64,
+    pub(crate) end: u64,
+    pub(crate) chunks: bool,
+}
+
+impl Choice {
+    ghost use Rattle.bao_text.specs.Choice.{of_combined, of_outboard, of_slice, wants};
+
+    // What a combined encoding of a blob of `total` bytes is of.
+    pub(crate) fn of_combined(total: u64) -> Choice
+        ensures { result ≡ of_combined total }
+    {
+        Choice {
+            start: 0,
+            end: total.max(1),
+            chunks: true,
+        }
+    }
+
+    // What an outboard encoding of a blob of `total` bytes is of.
+    pub(crate) fn of_outboard(total: u64) -> Choice
+        ensures { result ≡ of_outboard total }
+    {
+        Choice {
+            start: 0,
+            end: total.max(1),
+            chunks: false,
+        }
+    }
+
+    // What the slice (`start`, `len`) of a blob of `total` bytes is of. The sum of the two never wraps.
+    pub(crate) fn of_slice(total: u64, start: u64, len: u64) -> Choice
+        ensures { result ≡ of_slice total start len }
+    {
+        let first = start.min(total.max(1) - 1);
+        let last = start.saturating_add(len.max(1)).min(total);
+        Choice {
+            start: first,
+            end: last.max(first + 1),
+            chunks: true,
+        }
+    }
+
+    // Whether the `n` bytes from position `at` on are wanted.
+    pub(crate) fn wants(&self, at: u64, n: u64) -> bool
+        ensures { result ≡ wants self.now at n }
+    {
+        at < self.end && (self.start < at || self.start - at < n.max(1))
+    }
+}

@@ -1,0 +1,42 @@
+ghost use Rattle.std.specs.Prelude.{◌≡◌};
+
+use thiserror::Error;
+
+/// There was no memory for a text. Number 401.
+#[derive(Clone, Copy, Debug, PartialEq, Eq, Error)]
+#[error("401 memory")]
+pub struct Memory;
+
+impl Memory {
+    /// The fault's number: 401.
+    pub fn code(&self) -> u16
+        ensures { result ≡ 401 }
+    {
+        401
+    }
+}
+
+/// Why an encoding was not written whole.
+#[derive(Clone, Copy, Debug, PartialEq, Eq, Error)]
+pub enum WriteFault {
+    /// There was no memory for the text; nothing was written. Number 401.
+    #[error("401 memory")]
+    Memory,
+    /// A write answered a fault, or took no byte; the first `written` bytes of the text went out. Number 402.
+    #[error("402 writer failed after {written} bytes")]
+    Writer { written: u128 },
+}
+
+impl WriteFault {
+    ghost use Rattle.bao_text.specs.Faults.{number_of};
+
+    /// The fault's number: 401 or 402.
+    pub fn code(&self) -> u16
+        ensures { result ≡ number_of self.now }
+    {
+        match self {
+            WriteFault::Memory => 401,
+            WriteFault::Writer { .. } => 402,
+        }
+    }
+}

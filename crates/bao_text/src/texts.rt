@@ -1,0 +1,148 @@
+ghost use Rattle.std.specs.Prelude.{◌≡◌, ◌+◌, ◌-◌, ◌*◌, ◌^◌, ◌≤◌, ◌++◌, length, take, drop, vec_len, IfOk, OnErr, OnOk};
+ghost use Rattle.b3tree.specs.Bytes.{bytes_of};
+ghost use Rattle.b3tree.specs.Tree.{top_input};
+ghost use Rattle.b3tree.specs.Hashing.{hash};
+ghost use Rattle.bao_text.specs.Texts.{chosen_text, combined_text, outboard_text, slice_text, subtree_text};
+
+use crate::choice::Choice;
+use crate::fault::Memory;
+use crate::sizes::{encoded_len, outboard_len};
+use b3tree::{
+    CHUNK_LEN, Cv, Hash, Input, Mode, cv, left_len, parent_input, root_hash, rooted, top_input,
+};
+use std::alloc::Global;
+
+const CV_LEN: usize = 32;
+
+const PARENT_LEN: usize = 64;
+
+// Appends `bytes`; where the growth is refused the text is unchanged.
+pub(crate) fn extend(text: &mut Vec<u8>, bytes: &[u8]) -> Result<(), Memory>
+    ensures ok { OnOk result (text.new.items ≡ text.old.items ++ bytes.now) }
+    ensures err { OnErr result (text.new.items ≡ text.old.items) }
+{
+    text.extend_from_slice(bytes).map_err(|_| Memory)
+}
+
+// The 64 bytes of the parent of two subtrees with these chaining values.
+fn parent_bytes(left: &Cv, right: &Cv) -> [u8; 64]
+    ensures { result ≡ bytes_of left.now.0 ++ bytes_of right.now.0 }
+{
+    let mut bytes = [0; PARENT_LEN];
+    bytes[..CV_LEN].copy_from_slice(&left.to_bytes());
+    bytes[CV_LEN..].copy_from_slice(&right.to_bytes());
+    bytes
+}
+
+// Writes a parent's bytes over those from `at` on.
+fn put_parent(text: &mut Vec<u8>, at: usize, parent: &[u8; 64])
+    requires { at + 64 ≤ vec_len text.old }
+    ensures { text.new.items ≡ take at text.old.items ++ (parent.now ++ drop (at + 64) text.old.items) }
+{
+    text.as_mut_slice()[at..at + PARENT_LEN].copy_from_slice(parent);
+}
+
+// Appends the text of the subtree over `bytes` from chunk `first` on, and answers the subtree's last
+// compression. A parent's place is kept free until the values of its parts are there.
+fn append(
+    choice: &Choice,
+    mode: &Mode,
+    first: u64,
+    bytes: &[u8],
+    text: &mut Vec<u8>,
+) -> Result<Input, Memory>
+    requires { 1024 * first + length bytes.now ≤ 2 ^ 64 - 1 }
+    ensures top { IfOk result (λ x. x ≡ top_input mode.now first bytes.now) }
+    ensures text { OnOk result (text.new.items ≡ text.old.items ++ subtree_text choice.now mode.now first bytes.now) }
+{
+    let len = bytes.len() as u64;
+    if !choice.wants(CHUNK_LEN as u64 * first, len) {
+        return Ok(top_input(mode, first, bytes));
+    }
+    if bytes.len() <= CHUNK_LEN {
+        if choice.chunks {
+            extend(text, bytes)?;
+        }
+        return Ok(top_input(mode, first, bytes));
+    }
+    let at = text.len();
+    extend(text, &[0; PARENT_LEN])?;
+    let left_len = left_len(len);
+    let (left, right) = bytes.split_at(left_len as usize);
+    let right_first = first + left_len / CHUNK_LEN as u64;
+    let left = Cv(cv(&append(choice, mode, first, left, text)?));
+    let right = Cv(cv(&append(choice, mode, right_first, right, text)?));
+    put_parent(text, at, &parent_bytes(&left, &right));
+    Ok(parent_input(mode, &left, &right))
+}
+
+// The text of `bytes` for a choice, with room for `room` bytes from the start, and the hash.
+#[tactic(auto, unfolding(b3tree::specs::Hashing::hash))]
+fn chosen(
+    alloc: Global,
+    choice: &Choice,
+    mode: &Mode,
+    bytes: &[u8],
+    room: u128,
+) -> Result<(Hash, Vec<u8>), Memory>
+    ensures hash { IfOk result (λ r. r.0.0 ≡ hash mode.now bytes.now) }
+    ensures text { IfOk result (λ r. r.1.items ≡ chosen_text choice.now mode.now bytes.now) }
+{
+    let room = usize::try_from(room).map_err(|_| Memory)?;
+    let mut text = Vec::with_capacity(alloc, room).map_err(|_| Memory)?;
+    extend(&mut text, &(bytes.len() as u64).to_le_bytes())?;
+    let top = append(choice, mode, 0, bytes, &mut text)?;
+    Ok((root_hash(&rooted(&top)), text))
+}
+
+/// The combined encoding of `bytes` in `mode`, and their hash.
+///
+/// Answers `Memory` (401) where a growth was refused.
+pub fn combined(alloc: Global, mode: &Mode, bytes: &[u8]) -> Result<(Hash, Vec<u8>), Memory>
+    ensures hash { IfOk result (λ r. r.0.0 ≡ hash mode.now bytes.now) }
+    ensures text { IfOk result (λ r. r.1.items ≡ combined_text mode.now bytes.now) }
+{
+    let len = bytes.len() as u64;
+    chosen(
+        alloc,
+        &Choice::of_combined(len),
+        mode,
+        bytes,
+        encoded_len(len),
+    )
+}
+
+/// The outboard encoding of `bytes` in `mode`, and their hash.
+///
+/// Answers `Memory` (401) where a growth was refused.
+pub fn outboard(alloc: Global, mode: &Mode, bytes: &[u8]) -> Result<(Hash, Vec<u8>), Memory>
+    ensures hash { IfOk result (λ r. r.0.0 ≡ hash mode.now bytes.now) }
+    ensures text { IfOk result (λ r. r.1.items ≡ outboard_text mode.now bytes.now) }
+{
+    let len = bytes.len() as u64;
+    chosen(
+        alloc,
+        &Choice::of_outboard(len),
+        mode,
+        bytes,
+        outboard_len(len),
+    )
+}
+
+/// The slice of `bytes` in `mode` for `len` bytes from `start` on, and the hash of all bytes.
+///
+/// `start + len` never wraps, a length of 0 counts as 1, and a start at or past the end wants the last
+/// chunk. Answers `Memory` (401) where a growth was refused.
+pub fn slice(
+    alloc: Global,
+    mode: &Mode,
+    bytes: &[u8],
+    start: u64,
+    len: u64,
+) -> Result<(Hash, Vec<u8>), Memory>
+    ensures hash { IfOk result (λ r. r.0.0 ≡ hash mode.now bytes.now) }
+    ensures text { IfOk result (λ r. r.1.items ≡ slice_text mode.now bytes.now start len) }
+{
+    let total = bytes.len() as u64;
+    chosen(alloc, &Choice::of_slice(total, start, len), mode, bytes, 8)
+}
