@@ -1,11 +1,13 @@
 //! Bao encodings written: combined, outboard and slices (Bao specification).
 #![tactic(auto)]
 
+pub use cut::cut_slice;
 pub use fault::{Memory, WriteFault};
 pub use sizes::{encoded_len, outboard_len};
 pub use texts::{combined, outboard, slice};
 
 mod choice;
+mod cut;
 mod fault;
 mod sizes;
 mod texts;
