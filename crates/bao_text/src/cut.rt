@@ -1,5 +1,7 @@
-ghost use Rattle.std.specs.Prelude.{◌≡◌, List, ◌+◌, ◌-◌, ◌*◌, ◌^◌, ◌<◌, ◌≤◌, ◌++◌, length, take, drop, nat_le, if◌then◌else◌, IfOk, OnOk};
+ghost use Rattle.std.specs.Prelude.{◌≡◌, ℕ, List, ◌+◌, ◌-◌, ◌*◌, ◌^◌, ◌<◌, ◌≤◌, ◌++◌, length, take, drop, nat_le, if◌then◌else◌, IfOk, OnOk};
 ghost use Rattle.bao_text.specs.Cut.{claimed, cut_nodes, cut_text, has_all};
+ghost use Rattle.b3tree.specs.declared.mode.Mode.{Mode};
+ghost use Rattle.bao_text.specs.Texts.{combined_text, slice_text};
 ghost use Rattle.bao_text.specs.Nodes.{Side, subtree_nodes, subtree_size};
 
 use crate::choice::Choice;
@@ -93,7 +95,9 @@ fn cut_subtree(
 /// bytes of it that are there. No growth is sized by the claimed length. Of the combined encoding of a
 /// blob it is the blob's slice. Answers `Memory` (401) where a growth was refused.
 pub fn cut_slice(alloc: Global, text: &[u8], start: u64, len: u64) -> Result<Vec<u8>, Memory>
-    ensures { IfOk result (λ v. v.items ≡ cut_text text.now start len) }
+    ensures cut { IfOk result (λ v. v.items ≡ cut_text text.now start len) }
+    ensures slice { (mode : Mode) (blob : List ℕ) → length blob < 2 ^ 64 → text.now ≡ combined_text mode blob
+        → IfOk result (λ v. v.items ≡ slice_text mode blob start len) }
 {
     let mut out = Vec::new(alloc);
     if text.len() < LENGTH_LEN {

@@ -1,6 +1,8 @@
-ghost use Rattle.std.specs.Prelude.{◌≡◌, ◌+◌, ◌-◌, ◌*◌};
+ghost use Rattle.std.specs.Prelude.{◌≡◌, ℕ, ◌+◌, ◌-◌, ◌*◌, List, length};
+ghost use Rattle.b3tree.specs.declared.mode.Mode.{Mode};
 ghost use Rattle.bao_text.specs.Choice.{chunk_count};
 ghost use Rattle.bao_text.specs.Nodes.{subtree_size};
+ghost use Rattle.bao_text.specs.Texts.{combined_text, outboard_text};
 
 const LENGTH_LEN: u128 = 8;
 
@@ -22,7 +24,8 @@ pub(crate) fn subtree_size(n: u64) -> u128
 /// How many bytes the combined encoding of a blob of `len` bytes has: 8 for the length, 64 for each
 /// parent, one fewer than there are chunks, and the blob's.
 pub fn encoded_len(len: u64) -> u128
-    ensures { result ≡ 8 + 64 * (chunk_count len - 1) + len }
+    ensures value { result ≡ 8 + 64 * (chunk_count len - 1) + len }
+    ensures text { (mode : Mode) (blob : List ℕ) → length blob ≡ len → length (combined_text mode blob) ≡ result }
 {
     outboard_len(len) + u128::from(len)
 }
@@ -30,7 +33,8 @@ pub fn encoded_len(len: u64) -> u128
 /// How many bytes the outboard encoding of a blob of `len` bytes has: 8 for the length and 64 for each
 /// parent, one fewer than there are chunks.
 pub fn outboard_len(len: u64) -> u128
-    ensures { result ≡ 8 + 64 * (chunk_count len - 1) }
+    ensures value { result ≡ 8 + 64 * (chunk_count len - 1) }
+    ensures text { (mode : Mode) (blob : List ℕ) → length blob ≡ len → length (outboard_text mode blob) ≡ result }
 {
     LENGTH_LEN + PARENT_LEN * u128::from(chunk_count(len) - 1)
 }

@@ -1,8 +1,11 @@
-ghost use Rattle.std.specs.Prelude.{◌≡◌, ◌+◌, ◌-◌, ◌*◌, ◌^◌, ◌≤◌, ◌++◌, length, take, drop, vec_len, IfOk, OnErr, OnOk};
+ghost use Rattle.std.specs.Prelude.{◌≡◌, ◌+◌, ◌-◌, ◌*◌, ◌^◌, ◌≤◌, ◌++◌, length, max, take, drop, vec_len, IfOk, OnErr, OnOk};
 ghost use Rattle.b3tree.specs.Bytes.{bytes_of};
 ghost use Rattle.b3tree.specs.Tree.{top_input};
 ghost use Rattle.b3tree.specs.Hashing.{hash};
-ghost use Rattle.bao_text.specs.Texts.{chosen_text, combined_text, outboard_text, slice_text, subtree_text};
+ghost use Rattle.std.specs.List.{flat_map};
+ghost use Rattle.bao_text.specs.Choice.{of_combined, of_outboard};
+ghost use Rattle.bao_text.specs.Nodes.{chosen_nodes, nodes};
+ghost use Rattle.bao_text.specs.Texts.{chosen_text, combined_text, length_text, node_text, outboard_text, slice_text, subtree_text};
 
 use crate::choice::Choice;
 use crate::fault::Memory;
@@ -87,6 +90,8 @@ fn chosen(
 ) -> Result<(Hash, Vec<u8>), Memory>
     ensures hash { IfOk result (λ r. r.0.0 ≡ hash mode.now bytes.now) }
     ensures text { IfOk result (λ r. r.1.items ≡ chosen_text choice.now mode.now bytes.now) }
+    ensures nodes { IfOk result (λ r. r.1.items ≡ length_text (length bytes.now)
+        ++ flat_map (node_text mode.now bytes.now) (chosen_nodes choice.now (length bytes.now))) }
 {
     let room = usize::try_from(room).map_err(|_| Memory)?;
     let mut text = Vec::with_capacity(alloc, room).map_err(|_| Memory)?;
@@ -101,6 +106,8 @@ fn chosen(
 pub fn combined(alloc: Global, mode: &Mode, bytes: &[u8]) -> Result<(Hash, Vec<u8>), Memory>
     ensures hash { IfOk result (λ r. r.0.0 ≡ hash mode.now bytes.now) }
     ensures text { IfOk result (λ r. r.1.items ≡ combined_text mode.now bytes.now) }
+    ensures nodes { IfOk result (λ r. r.1.items ≡ length_text (length bytes.now)
+        ++ flat_map (node_text mode.now bytes.now) (chosen_nodes (of_combined (length bytes.now)) (length bytes.now))) }
 {
     let len = bytes.len() as u64;
     chosen(
@@ -118,6 +125,8 @@ pub fn combined(alloc: Global, mode: &Mode, bytes: &[u8]) -> Result<(Hash, Vec<u
 pub fn outboard(alloc: Global, mode: &Mode, bytes: &[u8]) -> Result<(Hash, Vec<u8>), Memory>
     ensures hash { IfOk result (λ r. r.0.0 ≡ hash mode.now bytes.now) }
     ensures text { IfOk result (λ r. r.1.items ≡ outboard_text mode.now bytes.now) }
+    ensures nodes { IfOk result (λ r. r.1.items ≡ length_text (length bytes.now)
+        ++ flat_map (node_text mode.now bytes.now) (chosen_nodes (of_outboard (length bytes.now)) (length bytes.now))) }
 {
     let len = bytes.len() as u64;
     chosen(
@@ -142,6 +151,14 @@ pub fn slice(
 ) -> Result<(Hash, Vec<u8>), Memory>
     ensures hash { IfOk result (λ r. r.0.0 ≡ hash mode.now bytes.now) }
     ensures text { IfOk result (λ r. r.1.items ≡ slice_text mode.now bytes.now start len) }
+    ensures nodes { IfOk result (λ r. r.1.items ≡ length_text (length bytes.now)
+        ++ flat_map (node_text mode.now bytes.now) (nodes (length bytes.now) start len)) }
+
+    // A slice of everything is the combined encoding, a length of 0 counts as 1, and a start at or past
+    // the end is the last position.
+    ensures everything { start ≡ 0 → length bytes.now ≤ len → IfOk result (λ r. r.1.items ≡ combined_text mode.now bytes.now) }
+    ensures empty { len ≡ 0 → IfOk result (λ r. r.1.items ≡ slice_text mode.now bytes.now start 1) }
+    ensures late { length bytes.now ≤ start → IfOk result (λ r. r.1.items ≡ slice_text mode.now bytes.now (max (length bytes.now) 1 - 1) 1) }
 {
     let total = bytes.len() as u64;
     chosen(alloc, &Choice::of_slice(total, start, len), mode, bytes, 8)
