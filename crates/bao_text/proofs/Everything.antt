@@ -177,7 +177,7 @@ AtAll-small all choice mode blob text number n sides source one fits start chunk
           subtree_text-leaf all mode number s (wants_all all (1024 * number) (length s) start below) (omega arith) ∙ rw chunks refl in
           let here : At text source s = subst (At text source) leaf h in
           subst P (sym (subtree_nodes-leaf choice number n sides source wanted one))
-              (elim (cases_Bool choice.chunks) [ inl there ↦ rw there (e, here, tt) | inr gone ↦ rw gone tt ])
+          (elim (cases_Bool choice.chunks) [ inl there ↦ rw there (e, here, tt) | inr gone ↦ rw gone tt ])
     ]
 
 AtAll-levels : (levels : ℕ) (all choice : Choice) (mode : Mode) (blob text : List ℕ) (number n : ℕ) (sides : List Side) (source : ℕ)
@@ -208,8 +208,8 @@ AtAll-levels (suc levels) all choice mode blob text number n sides source hn fit
             let far_end : 1024 * (number + l / 1024) + (n - l) ≤ all.end = omega (arith, parts.whole, parts.below) in
             let text_is : subtree_text all mode number s ≡ parent ++ (a ++ b) =
             subtree_text-parent all mode number s (wants_all all (1024 * number) (length s) start below) (omega arith)
-                ∙ (λ i. parent ++ (subtree_text all mode number (take (left_len (e i)) s) ++ subtree_text all mode (number + left_len (e i) / 1024) (drop (left_len (e i)) s)))
-                ∙ (λ i. parent ++ (subtree_text all mode number (span-left blob number n l le i) ++ subtree_text all mode (number + l / 1024) (span-right blob number n l le parts.whole i))) in
+            ∙ (λ i. parent ++ (subtree_text all mode number (take (left_len (e i)) s) ++ subtree_text all mode (number + left_len (e i) / 1024) (drop (left_len (e i)) s)))
+            ∙ (λ i. parent ++ (subtree_text all mode number (span-left blob number n l le i) ++ subtree_text all mode (number + l / 1024) (span-right blob number n l le parts.whole i))) in
             let here : At text source (parent ++ (a ++ b)) = subst (At text source) text_is h in
             let parent_len : length parent ≡ 64 = length-parent_text mode number s in
             let kids : At text (source + 64) (a ++ b) = At_rest text source 64 parent (a ++ b) parent_len here in
@@ -218,12 +218,12 @@ AtAll-levels (suc levels) all choice mode blob text number n sides source hn fit
             sized all mode number (span blob number l) start chunks below (rw span_len near_end) ∙ ap subtree_size span_len in
             let near : P (subtree_nodes choice number l (sides ++ left ∷ []) (source + 64)) =
             AtAll-levels levels all choice mode blob text number l (sides ++ left ∷ []) (source + 64) (omega (arith, parts.whole, parts.below)) near_fits start chunks below near_end
-                (At_first text (source + 64) a b kids) in
+            (At_first text (source + 64) a b kids) in
             let far : P (subtree_nodes choice (number + l / 1024) (n - l) (sides ++ right ∷ []) (source + 64 + subtree_size l)) =
             AtAll-levels levels all choice mode blob text (number + l / 1024) (n - l) (sides ++ right ∷ []) (source + 64 + subtree_size l) (omega (arith, parts.some)) far_fits start chunks far_below far_end
-                (At_rest text (source + 64) (subtree_size l) a b near_len kids) in
+            (At_rest text (source + 64) (subtree_size l) a b near_len kids) in
             subst P (sym (subtree_nodes-parent choice number n sides source wanted more))
-                (parent_len, At_first text source parent (a ++ b) here, AtAll-append text mode blob _ _ near far)
+            (parent_len, At_first text source parent (a ++ b) here, AtAll-append text mode blob _ _ near far)
       ]
 ]
 

@@ -69,7 +69,7 @@ text-nodes-levels (suc levels) choice mode blob number n sides source hn fits = 
       elim (cases_Bool (wants choice (1024 * number) n)) [
         | inr skipped ↦
             subtree_text-unwanted choice mode number s (ap (wants choice (1024 * number)) e ∙ skipped)
-                ∙ ap (flat_map (node_text mode blob)) (sym (subtree_nodes-unwanted choice number n sides source skipped))
+            ∙ ap (flat_map (node_text mode blob)) (sym (subtree_nodes-unwanted choice number n sides source skipped))
         | inl wanted ↦
             let l : ℕ = left_len n in
             let parts : Parts n l = left_len-Parts n more in
@@ -79,15 +79,15 @@ text-nodes-levels (suc levels) choice mode blob number n sides source hn fits = 
             let far : List Node = subtree_nodes choice (number + l / 1024) (n - l) (sides ++ right ∷ []) (source + 64 + subtree_size l) in
             let near_text : subtree_text choice mode number (take l s) ≡ f near =
             ap (subtree_text choice mode number) (span-left blob number n l below)
-                ∙ text-nodes-levels levels choice mode blob number l (sides ++ left ∷ []) (source + 64) (omega (arith, parts.whole, parts.below)) (omega (arith, parts.below)) in
+            ∙ text-nodes-levels levels choice mode blob number l (sides ++ left ∷ []) (source + 64) (omega (arith, parts.whole, parts.below)) (omega (arith, parts.below)) in
             let far_text : subtree_text choice mode (number + l / 1024) (drop l s) ≡ f far =
             ap (subtree_text choice mode (number + l / 1024)) (span-right blob number n l below parts.whole)
-                ∙ text-nodes-levels levels choice mode blob (number + l / 1024) (n - l) (sides ++ right ∷ []) (source + 64 + subtree_size l) (omega (arith, parts.some)) (omega (arith, parts.whole, parts.below)) in
+            ∙ text-nodes-levels levels choice mode blob (number + l / 1024) (n - l) (sides ++ right ∷ []) (source + 64 + subtree_size l) (omega (arith, parts.some)) (omega (arith, parts.whole, parts.below)) in
             subtree_text-parent choice mode number s (ap (wants choice (1024 * number)) e ∙ wanted) (omega arith)
-                ∙ (λ i. parent_text mode number s ++ (subtree_text choice mode number (take (left_len (e i)) s) ++ subtree_text choice mode (number + left_len (e i) / 1024) (drop (left_len (e i)) s)))
-                ∙ (λ i. parent_text mode number s ++ (near_text i ++ far_text i))
-                ∙ ap (λ (xs : List ℕ). parent_text mode number s ++ xs) (sym (flat_map-append (node_text mode blob) near far))
-                ∙ ap f (sym (subtree_nodes-parent choice number n sides source wanted more))
+            ∙ (λ i. parent_text mode number s ++ (subtree_text choice mode number (take (left_len (e i)) s) ++ subtree_text choice mode (number + left_len (e i) / 1024) (drop (left_len (e i)) s)))
+            ∙ (λ i. parent_text mode number s ++ (near_text i ++ far_text i))
+            ∙ ap (λ (xs : List ℕ). parent_text mode number s ++ xs) (sym (flat_map-append (node_text mode blob) near far))
+            ∙ ap f (sym (subtree_nodes-parent choice number n sides source wanted more))
       ]
 ]
 

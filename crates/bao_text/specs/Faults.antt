@@ -1,8 +1,16 @@
--- the number of each fault
-use Rattle.std.specs.Prelude.{ℕ}
+-- what each fault says
+use Rattle.std.specs.Prelude.{ℕ, ◌<◌, List, Option, length, take}
+use Rattle.std.specs.Io.KnownBytes.{Appends, Keeps}
 use Rattle.bao_text.specs.declared.fault.WriteFault.{WriteFault}
 use Rattle.bao_text.specs.declared.fault.WriteFault.TheVariants.{Memory, Writer}
 
+-- its number
 abbrev pub number_of : WriteFault → ℕ
 number_of Memory = 401
 number_of (Writer written) = 402
+
+-- what a writer that held the bytes `old` holds after it: for want of memory nothing of the text went
+-- out, else exactly its first bytes, and not all
+abbrev pub WroteOnly : Option (List ℕ) → Option (List ℕ) → List ℕ → WriteFault → Type 0
+WroteOnly old new text Memory = Keeps old new
+WroteOnly old new text (Writer written) = (written < length text) × Appends old new (take written text)

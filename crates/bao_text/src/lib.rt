@@ -5,9 +5,11 @@ pub use cut::cut_slice;
 pub use fault::{Memory, WriteFault};
 pub use sizes::{encoded_len, outboard_len};
 pub use texts::{combined, outboard, slice};
+pub use writer::write_combined;
 
 mod choice;
 mod cut;
 mod fault;
 mod sizes;
 mod texts;
+mod writer;

@@ -161,7 +161,7 @@ returns-clause-copied t c = λ sides.
     let parent : List ℕ = take 64 (drop c.args.source text) in
     on_ok_weaker c.cut_subtree-2.result
     (λ h. h
-        ∙ (λ i. left_text i ++ cut_nodes text (subtree_nodes choice (c.args.number + parted i / 1024) (c.args.n - parted i) (sides ++ right ∷ []) (at i)))
-        ∙ append_assoc old (parent ++ cut_nodes text near) (cut_nodes text far)
-        ∙ ap (λ (xs : List ℕ). old ++ xs) (append_assoc parent (cut_nodes text near) (cut_nodes text far) ∙ sym (ap (cut_nodes text) tree ∙ both_cut text node near far there all)))
+    ∙ (λ i. left_text i ++ cut_nodes text (subtree_nodes choice (c.args.number + parted i / 1024) (c.args.n - parted i) (sides ++ right ∷ []) (at i)))
+    ∙ append_assoc old (parent ++ cut_nodes text near) (cut_nodes text far)
+    ∙ ap (λ (xs : List ℕ). old ++ xs) (append_assoc parent (cut_nodes text near) (cut_nodes text far) ∙ sym (ap (cut_nodes text) tree ∙ both_cut text node near far there all)))
     (c.cut_subtree-2.ensures.copied (sides ++ right ∷ []))
