@@ -1,11 +1,13 @@
 ghost use Rattle.std.specs.Prelude.{◌≤◌};
 
-use crate::digits::{print_hash, print_output};
+use crate::digits::{print_digits, print_hash, print_output};
 use crate::fault::Fault;
 use crate::input::read_file;
 use crate::mode::mode_of;
+use crate::output::{encode_file, write_file};
 use crate::request::{Request, Task, parse};
 use b3tree::xof_fits;
+use bao_text::{outboard, slice};
 use clap::error::ErrorKind;
 use std::io::Write;
 use std::rt::Files;
@@ -51,6 +53,32 @@ fn serve<'a, R: Files + AllocGlobal + Threads + Sync, O: Write>(
             } else {
                 print_output(rt.alloc(), &mode, bytes.as_slice(), at, length, out)
             }
+        }
+        Task::Encode { file, out: path } => {
+            let bytes = read_file(rt, file)?;
+            let hash = encode_file(rt, &mode, bytes.as_slice(), path)?;
+            print_digits(rt.alloc(), &hash.0, out)
+        }
+        Task::Outboard { file, out: path } => {
+            let bytes = read_file(rt, file)?;
+            let (hash, text) = outboard(rt.alloc(), &mode, bytes.as_slice()).map_err(
+                |_| Fault::Encoding,
+            )?;
+            write_file(rt, path, text.as_slice())?;
+            print_digits(rt.alloc(), &hash.0, out)
+        }
+        Task::Slice {
+            start,
+            len,
+            file,
+            out: path,
+        } => {
+            let bytes = read_file(rt, file)?;
+            let (hash, text) = slice(rt.alloc(), &mode, bytes.as_slice(), start, len).map_err(
+                |_| Fault::Encoding,
+            )?;
+            write_file(rt, path, text.as_slice())?;
+            print_digits(rt.alloc(), &hash.0, out)
         }
     }
 }

@@ -17,8 +17,10 @@ const LEAST_GRAIN: u64 = 64;
 // A joined hash has about eight parts.
 const PARTS: u64 = 8;
 
-// Writes the lower-case hexadecimal digits of `bytes` and a line end, in one piece.
-fn print_digits<'a, W: Write>(alloc: Global, bytes: &[u8], out: &mut W) -> Result<(), Fault<'a>>
+/// Writes the lower-case hexadecimal digits of `bytes` and a line end to `out`, in one piece.
+///
+/// After `Memory` nothing is written. After `Output` the writer may hold a beginning of the line.
+pub fn print_digits<'a, W: Write>(alloc: Global, bytes: &[u8], out: &mut W) -> Result<(), Fault<'a>>
     ensures ok { OnOk result (Appends (W.contents out.old) (W.contents out.new) (encode_lower bytes.now ++ 10 ∷ [])) }
     ensures memory { IsErrOf result Memory → Keeps (W.contents out.old) (W.contents out.new) }
 {

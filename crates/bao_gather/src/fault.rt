@@ -20,9 +20,15 @@ pub enum Fault<'a> {
     /// An input file can't be opened or read. Status 3.
     #[error("cannot read {0}")]
     Read(&'a str),
+    /// An output file can't be created or written. Status 3.
+    #[error("cannot write {0}")]
+    Write(&'a str),
     /// Standard output can't be written. Status 3.
     #[error("cannot write output")]
     Output,
+    /// There was no memory for an encoding. Status 4.
+    #[error("401 memory")]
+    Encoding,
     /// The program found no memory. Status 4.
     #[error("memory")]
     Memory,
@@ -35,8 +41,8 @@ impl Fault<'_> {
     {
         match self {
             Fault::Key | Fault::KeyAndContext | Fault::OutputRange => 2,
-            Fault::Read(_) | Fault::Output => 3,
-            Fault::Memory => 4,
+            Fault::Read(_) | Fault::Write(_) | Fault::Output => 3,
+            Fault::Encoding | Fault::Memory => 4,
         }
     }
 

@@ -1,4 +1,4 @@
-//! The program `bao_gather`: BLAKE3 hashes of files.
+//! The program `bao_gather`: BLAKE3 hashes of files and their Bao encodings.
 #![tactic(auto)]
 
 use fault::Fault;
@@ -10,6 +10,7 @@ mod digits;
 mod fault;
 mod input;
 mod mode;
+mod output;
 mod request;
 #[cfg(test)]
 mod tests;

@@ -16,7 +16,28 @@ pub struct Request<'a> {
 #[derive(Clone, Copy, Debug)]
 pub enum Task<'a> {
     /// `length` bytes, 1 to 65,536, of a file's extended output, from byte `at` on.
-    Hash { at: u64, length: u32, file: &'a str },
+    Hash {
+        at: u64,
+        length: u32,
+        file: &'a str,
+    },
+    /// The combined encoding of a file, to the file `out`.
+    Encode {
+        file: &'a str,
+        out: &'a str,
+    },
+    /// The outboard encoding of a file, to the file `out`.
+    Outboard {
+        file: &'a str,
+        out: &'a str,
+    },
+    /// The slice of a file for `len` bytes from `start` on, to the file `out`.
+    Slice {
+        start: u64,
+        len: u64,
+        file: &'a str,
+        out: &'a str,
+    },
 }
 
 fn with_mode<'a>(alloc: Global, command: Command<'a>) -> Result<Command<'a>, AllocError> {
@@ -57,12 +78,52 @@ fn hash_command<'a>(alloc: Global) -> Result<Command<'a>, AllocError> {
     with_mode(alloc, command)
 }
 
+// The command with the words FILE and OUT, and those of the mode.
+fn with_files<'a>(alloc: Global, command: Command<'a>) -> Result<Command<'a>, AllocError> {
+    let file = Arg::new(alloc, "FILE")
+        .required(true)
+        .help("The file to encode");
+    let out = Arg::new(alloc, "OUT")
+        .required(true)
+        .help("The file to write");
+    with_mode(alloc, command.arg(file)?.arg(out)?)
+}
+
+fn encode_command<'a>(alloc: Global) -> Result<Command<'a>, AllocError> {
+    let about = "Writes the combined Bao encoding of a file, and prints the hash";
+    with_files(alloc, Command::new(alloc, "encode").about(about))
+}
+
+fn outboard_command<'a>(alloc: Global) -> Result<Command<'a>, AllocError> {
+    let about = "Writes the outboard Bao encoding of a file, and prints the hash";
+    with_files(alloc, Command::new(alloc, "outboard").about(about))
+}
+
+fn slice_command<'a>(alloc: Global) -> Result<Command<'a>, AllocError> {
+    let start = Arg::new(alloc, "START")
+        .required(true)
+        .value_parser(value_parser!(u64))
+        .help("The first byte of the range");
+    let len = Arg::new(alloc, "LEN")
+        .required(true)
+        .value_parser(value_parser!(u64))
+        .help("How many bytes the range has; 0 counts as 1");
+    let command = Command::new(alloc, "slice")
+        .about("Writes the Bao slice of a range of a file, and prints the hash of the file")
+        .arg(start)?
+        .arg(len)?;
+    with_files(alloc, command)
+}
+
 fn program<'a>(alloc: Global) -> Result<Command<'a>, AllocError> {
     Command::new(alloc, "bao_gather")
         .version("0.1.0")
-        .about("Hashes files with BLAKE3")
+        .about("Hashes files with BLAKE3 and writes their Bao encodings")
         .subcommand_required(true)
-        .subcommand(hash_command(alloc)?)
+        .subcommand(hash_command(alloc)?)?
+        .subcommand(encode_command(alloc)?)?
+        .subcommand(outboard_command(alloc)?)?
+        .subcommand(slice_command(alloc)?)
 }
 
 // The task of a subcommand's words, where they are all there.
@@ -72,6 +133,20 @@ fn task_of<'a>(name: &str, words: &ArgMatches<'a>) -> Option<Task<'a>> {
             at: words.get_one("at")?,
             length: words.get_one("length")?,
             file: words.get_str("FILE")?,
+        }),
+        "encode" => Some(Task::Encode {
+            file: words.get_str("FILE")?,
+            out: words.get_str("OUT")?,
+        }),
+        "outboard" => Some(Task::Outboard {
+            file: words.get_str("FILE")?,
+            out: words.get_str("OUT")?,
+        }),
+        "slice" => Some(Task::Slice {
+            start: words.get_one("START")?,
+            len: words.get_one("LEN")?,
+            file: words.get_str("FILE")?,
+            out: words.get_str("OUT")?,
         }),
         _ => None,
     }
