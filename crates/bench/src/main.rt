@@ -23,8 +23,8 @@ fn main(rt: HostRuntime) -> ExitCode {
     }
 }
 
-fn run<R: Runtime + Threads + Sync>(rt: &R) -> Result<ExitCode> {
-    let words = env::args(rt)?.collect(rt.alloc())?;
+fn run<R: Runtime + AllocGlobal + Threads + Sync>(rt: &R) -> Result<ExitCode> {
+    let words: Vec<String> = env::args(rt)?.collect(rt.alloc())?;
     let [_, path] = words.as_slice() else {
         eprintln!(rt; "usage: bench FILE")?;
         return Ok(ExitCode::from(USAGE));

@@ -2,7 +2,7 @@ use crate::way::Way;
 use anyhow::{Result, ensure};
 use b3tree::Hash;
 use std::io;
-use std::rt::{Clock, Print};
+use std::rt::Clock;
 use std::thread::Threads;
 use std::time::{Duration, Instant};
 
