@@ -59,7 +59,8 @@ define built
 @install -m 755 crates/$1/out/$1 out/$1
 endef
 
-out/bao_gather: out/cpu $(SOURCES)
+# Nothing of the program comes from crates/bench.
+out/bao_gather: out/cpu $(filter-out crates/bench/%,$(SOURCES))
 	$(call built,bao_gather,--version)
 
 out/bench: out/cpu $(SOURCES)
