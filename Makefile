@@ -1,0 +1,67 @@
+# Needs rt (Rattle's command) on the PATH, make and bash; bench also needs python3.
+
+SHELL := bash
+.SHELLFLAGS := -eu -o pipefail -c
+.DEFAULT_GOAL := help
+.DELETE_ON_ERROR:
+.PHONY: help build run install test bench fmt FORCE
+
+PREFIX ?= /usr/local
+
+# The processor level that programs are built for: x86-64-v3 where this machine has what the level
+# needs, AVX2 and BMI2 among it.
+ifeq ($(origin CPU),undefined)
+V3_NEEDS := abm avx2 bmi1 bmi2 f16c fma movbe
+CPU := $(if $(filter-out $(sort $(shell cat /proc/cpuinfo 2>/dev/null)),$(V3_NEEDS)),x86-64,x86-64-v3)
+endif
+
+# The files and folders whose change asks for a new proof. With the folders, a file that was taken
+# away is seen too.
+SOURCES := crates.txt HANDLES $(shell shopt -s globstar nullglob; echo crates/*/{src,specs,proofs}/**)
+
+help:
+	@echo 'make build                proves the program bao_gather and builds it, as out/bao_gather'
+	@echo 'make run ARGS="WORD .."   builds where something changed, and runs bao_gather on the words'
+	@echo 'make install PREFIX=DIR   copies bao_gather to DIR/bin (PREFIX is /usr/local if left out; DESTDIR goes before it)'
+	@echo 'make test                 the gate, rt ci: every proof from nothing, the must-fail edits, the tests and the programs'
+	@echo 'make bench                measures times and prints them with their ratios, beside b3sum where it is installed'
+	@echo 'make fmt                  lays out the files of each crate'
+	@echo 'CPU=x86-64 or CPU=x86-64-v3 picks the processor level, which is $(CPU) if left out; JOBS=N is the number of jobs of a proof'
+
+build: out/bao_gather
+
+run: out/bao_gather
+	@out/bao_gather $(ARGS)
+
+install: out/bao_gather
+	install -D -m 755 out/bao_gather '$(DESTDIR)$(PREFIX)/bin/bao_gather'
+
+test:
+	rt ci
+
+bench: out/bao_gather out/bench
+	@python3 scripts/bench.py
+
+fmt:
+	@for crate in crates/*/; do (cd "$$crate" && rt fmt); done
+
+# The level that the programs in out/ were built for. The file changes only where the level does.
+out/cpu: FORCE
+	@mkdir -p out
+	@[[ -f $@ && "$$(< $@)" == '$(CPU)' ]] || echo '$(CPU)' > $@
+
+# $(call built,CRATE,WORDS) proves the program CRATE and all that it stands on, builds it as out/CRATE
+# and runs it once on WORDS, in the crate's folder. What rt prints goes to out/CRATE.log.
+define built
+@echo 'Proving and building $1 for $(CPU). The first time takes minutes (out/$1.log tells more).' >&2
+@(cd crates/$1 && rt run --cpu=$(CPU) $(if $(JOBS),--jobs $(JOBS)) -- $2) > out/$1.log 2>&1 \
+    || { cat out/$1.log >&2; echo '$1 was not proved and built.' >&2; exit 1; }
+@install -m 755 crates/$1/out/$1 out/$1
+endef
+
+# Nothing of the program comes from crates/bench.
+out/bao_gather: out/cpu $(filter-out crates/bench/%,$(SOURCES))
+	$(call built,bao_gather,--version)
+
+out/bench: out/cpu $(SOURCES)
+	$(call built,bench,src/main.rt)

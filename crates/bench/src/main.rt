@@ -1,0 +1,36 @@
+//! The program `bench FILE`: how long the libraries take to hash the file's bytes inside one process.
+#![tactic(auto)]
+
+use anyhow::{Context, Result};
+use std::process::ExitCode;
+use std::rt::Runtime;
+use std::thread::Threads;
+use std::{env, fs};
+
+mod measure;
+mod way;
+
+/// The exit status where the words are not one file's name.
+const USAGE: u8 = 2;
+
+fn main(rt: HostRuntime) -> ExitCode {
+    match run(&rt) {
+        Ok(status) => status,
+        Err(error) => {
+            let _ = eprintln!(rt; "bench: {error:#}");
+            ExitCode::FAILURE
+        }
+    }
+}
+
+fn run<R: Runtime + AllocGlobal + Threads + Sync>(rt: &R) -> Result<ExitCode> {
+    let words: Vec<String> = env::args(rt)?.collect(rt.alloc())?;
+    let [_, path] = words.as_slice() else {
+        eprintln!(rt; "usage: bench FILE")?;
+        return Ok(ExitCode::from(USAGE));
+    };
+    let bytes = fs::read(rt, path).context("reading the file")?;
+    let times = measure::least_times(rt, bytes.as_slice())?;
+    measure::print(rt, &times)?;
+    Ok(ExitCode::SUCCESS)
+}

@@ -1,0 +1,164 @@
+#!/usr/bin/env python3
+"""Times the programs of this repository, as `make bench` built them, beside b3sum, and prints a table.
+
+Every command is run several times, in turns, and its least time counts. No time is judged: this fails only where a
+program fails, or where two of them print different hashes."""
+import argparse
+import os
+import shutil
+import subprocess
+import sys
+import tempfile
+import time
+
+ROOT = os.path.dirname(os.path.dirname(os.path.abspath(__file__)))
+PROGRAM = f"{ROOT}/out/bao_gather"
+IN_PROCESS = f"{ROOT}/out/bench"
+MIB = 1 << 20
+
+# Output past 32 bytes is made on one thread.
+ONE_THREAD = ["--length", "33"]
+
+
+def fail(why):
+    sys.exit(f"bench: {why}")
+
+
+def output(words):
+    """What the command prints, where it ends well."""
+    ran = subprocess.run(words, stdin=subprocess.DEVNULL, stdout=subprocess.PIPE, stderr=subprocess.PIPE)
+    if ran.returncode:
+        complaint = ran.stderr.decode(errors="replace").strip()
+        fail(f"{' '.join(words)} ended with status {ran.returncode}: {complaint}")
+    return ran.stdout.decode()
+
+
+def processor():
+    with open("/proc/cpuinfo", encoding="utf-8", errors="replace") as it:
+        for line in it:
+            if line.startswith("model name"):
+                return line.partition(":")[2].strip()
+    return "unknown"
+
+
+def knows(command):
+    ran = subprocess.run([PROGRAM, command, "--help"], stdout=subprocess.DEVNULL, stderr=subprocess.DEVNULL)
+    return ran.returncode == 0
+
+
+class Times:
+    """The least time of each thing that was measured, by its name."""
+
+    def __init__(self):
+        self.least = {}
+
+    def note(self, name, seconds):
+        self.least[name] = min(seconds, self.least.get(name, seconds))
+
+    def run(self, name, words, made=None):
+        """Times the command. The file that it makes is not there before."""
+        if made and os.path.exists(made):
+            os.remove(made)
+        start = time.perf_counter()
+        printed = output(words)
+        self.note(name, time.perf_counter() - start)
+        return printed
+
+    def run_in_process(self, path):
+        """Notes what the program bench measures within itself: lines such as `hash: 12.3 ms, 1.00 of hash`."""
+        for line in output([IN_PROCESS, path]).splitlines():
+            name, _, rest = line.partition(": ")
+            self.note(name, float(rest.split()[0]) / 1000)
+
+
+# The whole programs: a name, the words, and whether they make a file. FILE and OUT stand for paths.
+HASH = "bao_gather hash"
+HASH_ONE = "bao_gather hash --length 33"
+B3SUM_ONE = "b3sum --num-threads 1"
+B3SUM_FOUR = "b3sum --num-threads 4"
+OUTBOARD = "bao_gather outboard"
+ENCODE = "bao_gather encode"
+
+# The table: a name of what was timed, and how it worked. Lines of the program bench have their names from there;
+# a further way that it prints needs a line here, and one below where it has a ratio.
+ROWS = [
+    (HASH, "whole program, several threads"),
+    (B3SUM_FOUR, "whole program, several threads"),
+    (HASH_ONE, "whole program, one thread"),
+    (B3SUM_ONE, "whole program, one thread"),
+    (OUTBOARD, "whole program, one thread, writes a file"),
+    (ENCODE, "whole program, one thread, writes a file"),
+    ("hash", "b3tree::hash in one process, one thread"),
+    ("hash_join", "b3par::hash_join in one process, several threads"),
+    ("Hasher", "b3tree::Hasher in one process, one thread, pieces of 64 KiB"),
+]
+
+# The ratios of two of those times: the first over the second, and what is wanted of it.
+RATIOS = [
+    ("several threads", B3SUM_ONE, HASH, ""),
+    ("several threads", B3SUM_FOUR, HASH, ""),
+    ("one thread", B3SUM_ONE, HASH_ONE, ""),
+    ("one thread", B3SUM_ONE, "hash", ""),
+    ("several threads", "hash_join", "hash", "at most 0.4 on four processors"),
+    ("one thread", "Hasher", "hash", "at most 1.1"),
+    ("one thread", OUTBOARD, HASH_ONE, "at most 1.3"),
+    ("one thread", ENCODE, HASH_ONE, "at most 2.0"),
+]
+
+
+def measure(room, mib, runs):
+    path, made = f"{room}/input", f"{room}/made"
+    with open(path, "wb") as it:
+        for _ in range(mib):
+            it.write(os.urandom(MIB))
+    commands = [(HASH, [PROGRAM, "hash", path]), (HASH_ONE, [PROGRAM, "hash", *ONE_THREAD, path])]
+    b3sum = shutil.which("b3sum")
+    if b3sum:
+        commands += [
+            (B3SUM_ONE, [b3sum, "--no-names", "--num-threads", "1", path]),
+            (B3SUM_FOUR, [b3sum, "--no-names", "--num-threads", "4", path]),
+        ]
+    else:
+        print("b3sum is not installed, so there are no times of it (Debian: apt-get install b3sum).")
+    for name, command in ((OUTBOARD, "outboard"), (ENCODE, "encode")):
+        if knows(command):
+            commands.append((name, [PROGRAM, command, path, made]))
+        else:
+            print(f"The program knows no command {command}, so there is no time of it.")
+    times, hashes = Times(), set()
+    for _ in range(runs):
+        for name, words in commands:
+            printed = times.run(name, words, made)
+            if made not in words:
+                hashes.add(printed[:64])
+        times.run_in_process(path)
+    if len(hashes) > 1:
+        fail(f"the programs print different hashes of one file: {', '.join(sorted(hashes))}")
+    return times.least
+
+
+def main():
+    parser = argparse.ArgumentParser(description=__doc__)
+    parser.add_argument("--mib", type=int, default=256, help="the size of the file, in MiB")
+    parser.add_argument("--runs", type=int, default=7, help="how often each command is run")
+    words = parser.parse_args()
+    print(f"processor: {processor()}; processors: {os.cpu_count()}")
+    print(f"rt version: {output(['rt', 'version']).strip()}")
+    with open(f"{ROOT}/out/cpu", encoding="utf-8") as it:
+        print(f"built for: {it.read().strip()}")
+    print(f"file: {words.mib} MiB of random bytes; runs: {words.runs}, in turns, of which the least counts", flush=True)
+    with tempfile.TemporaryDirectory(prefix="bench-") as room:
+        least = measure(room, words.mib, words.runs)
+    print(f"\n{'seconds':>8}  {'MiB/s':>6}  what")
+    for name, how in ROWS:
+        if name in least:
+            print(f"{least[name]:8.3f}  {words.mib / least[name]:6.0f}  {name} ({how})")
+    print(f"\n{'ratio':>8}  of which times")
+    for how, first, second, wanted in RATIOS:
+        if first in least and second in least:
+            ratio = least[first] / least[second]
+            print(f"{ratio:8.2f}  {how}: {first} / {second}{f' (wanted: {wanted})' if wanted else ''}")
+
+
+if __name__ == "__main__":
+    main()
