@@ -56,6 +56,7 @@ fn parsed(line: &str) -> Result<Row, Fail> {
 
 #[test]
 fn rows_at_once(rt: HostRuntime) -> Result<(), Fail> {
+    assert_eq!(rt; ROWS.lines().count(), 105);
     for line in ROWS.lines() {
         let row = parsed(line)?;
         let bytes = input(rt.alloc(), row.len)?;
