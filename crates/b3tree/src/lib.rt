@@ -20,5 +20,7 @@ mod hashing;
 mod mode;
 mod output;
 mod stack;
+#[cfg(test)]
+mod tests;
 mod tree;
 mod values;

@@ -1,0 +1,205 @@
+use crate::{
+    Hasher, Mode, TooLong, chunk_input, hash, left_len, parent_input, root_hash, rooted,
+    subtree_cv, top_input, xof, xof_fits,
+};
+use std::alloc::Global;
+use std::test::Fail;
+use vectors::{CONTEXT, KEY, ROWS};
+
+mod vectors;
+
+// The digest of `abc`, published.
+const ABC: &str = "6437b3ac38465133ffb63b75273a8db548c558465d79db03fd359c6cd5bd9d85";
+
+// The 40 bytes from 2^24 - 10 on of the output of `abc`, computed by b3sum 1.2.0.
+const ABC_FAR: &str =
+    "9c974a6ddb455793981f82d259b80de7117c986762d59f65576cf32731a42c09aad1cd70612d29b3";
+
+// The bytes that `digits` writes, two hexadecimal digits each.
+fn decoded<const N: usize>(digits: &str) -> Result<[u8; N], Fail> {
+    let mut bytes = [0; N];
+    for (byte, pair) in bytes.iter_mut().zip(digits.as_bytes().chunks(2)) {
+        *byte = u8::from_str_radix(std::str::from_utf8(pair)?, 16)?;
+    }
+    Ok(bytes)
+}
+
+// An input of `len` bytes: byte `i` is `i` mod 251.
+fn input(alloc: Global, len: usize) -> Result<Vec<u8>, Fail> {
+    let mut bytes = Vec::new(alloc);
+    for i in 0..len {
+        bytes.push((i % 251) as u8)?;
+    }
+    Ok(bytes)
+}
+
+// What the hash of an input of `len` bytes in `mode` has to give.
+#[derive(Drop)]
+struct Row {
+    mode: Mode,
+    len: usize,
+    output: [u8; 131],
+}
+
+fn parsed(line: &str) -> Result<Row, Fail> {
+    let mut words = line.split(' ');
+    let mode = match words.next().ok_or("no mode")? {
+        "hash" => Mode::hash(),
+        "keyed" => Mode::keyed(KEY),
+        "derive" => Mode::derive(CONTEXT),
+        _ => return Err("no such mode".into()),
+    };
+    let len = words.next().ok_or("no length")?.parse()?;
+    let output = decoded(words.next().ok_or("no output")?)?;
+    Ok(Row { mode, len, output })
+}
+
+#[test]
+fn rows_at_once(rt: HostRuntime) -> Result<(), Fail> {
+    assert_eq!(rt; ROWS.lines().count(), 105);
+    for line in ROWS.lines() {
+        let row = parsed(line)?;
+        let bytes = input(rt.alloc(), row.len)?;
+        let mut output = [0; 131];
+        xof(&row.mode, &bytes, 0, &mut output);
+        assert_eq!(rt; output, row.output, "at {line}");
+        assert_eq!(rt;
+            hash(&row.mode, &bytes).0[..],
+            row.output[..32],
+            "at {line}"
+        );
+    }
+    Ok(())
+}
+
+#[test]
+fn rows_in_pieces(rt: HostRuntime) -> Result<(), Fail> {
+    for line in ROWS.lines() {
+        let row = parsed(line)?;
+        let bytes = input(rt.alloc(), row.len)?;
+        for size in [1, 7, 64, 1000, 1024] {
+            let mut hasher = Hasher::new(&row.mode);
+            for piece in bytes.chunks(size) {
+                hasher.update(piece)?;
+            }
+            let mut output = [0; 131];
+            hasher.finalize_xof(0, &mut output);
+            assert_eq!(rt; output, row.output, "by {size} at {line}");
+            assert_eq!(rt;
+                hasher.finalize().0[..],
+                row.output[..32],
+                "by {size} at {line}"
+            );
+        }
+    }
+    Ok(())
+}
+
+// Each row's input begins with that of the mode's row before, so one hasher meets them all on its way.
+#[test]
+fn goes_on_after_each_row(rt: HostRuntime) -> Result<(), Fail> {
+    let bytes = input(rt.alloc(), 102_400)?;
+    let mut hasher = Hasher::new(&Mode::hash());
+    let mut taken = 0;
+    for line in ROWS.lines() {
+        let row = parsed(line)?;
+        if row.mode == Mode::hash() {
+            hasher.update(bytes.get(taken..row.len).ok_or("rows out of order")?)?;
+            taken = row.len;
+            assert_eq!(rt; hasher.finalize().0[..], row.output[..32], "at {line}");
+            let mut output = [0; 131];
+            hasher.finalize_xof(0, &mut output);
+            assert_eq!(rt; output, row.output, "at {line}");
+        }
+    }
+    assert_eq!(rt; taken, 102_400);
+    Ok(())
+}
+
+#[test]
+fn output_from_a_later_place(rt: HostRuntime) -> Result<(), Fail> {
+    for line in ROWS.lines() {
+        let row = parsed(line)?;
+        let bytes = input(rt.alloc(), row.len)?;
+        let mut output = [0; 71];
+        xof(&row.mode, &bytes, 60, &mut output);
+        assert_eq!(rt; output[..], row.output[60..], "at {line}");
+    }
+    let digest: [u8; 32] = decoded(ABC)?;
+    let mut output = [0; 24];
+    xof(&Mode::hash(), b"abc", 8, &mut output);
+    assert_eq!(rt; output[..], digest[8..]);
+    let mut output = [0; 40];
+    xof(&Mode::hash(), b"abc", (1 << 24) - 10, &mut output);
+    assert_eq!(rt; output, decoded(ABC_FAR)?);
+    Ok(())
+}
+
+#[test]
+fn pieces_of_abc(rt: HostRuntime) -> Result<(), Fail> {
+    let digest: [u8; 32] = decoded(ABC)?;
+    let mut hasher = Hasher::new(&Mode::hash());
+    for piece in ["a", "", "bc"] {
+        hasher.update(piece.as_bytes())?;
+    }
+    assert_eq!(rt; hasher.finalize().0, digest);
+    let mut out = [0; 24];
+    hasher.finalize_xof(8, &mut out);
+    assert_eq!(rt; out[..], digest[8..]);
+    Ok(())
+}
+
+// The root of a tree of one chunk is the chunk's last block, and that of another the parent of its two
+// parts.
+#[test]
+fn roots_by_hand(rt: HostRuntime) -> Result<(), Fail> {
+    for line in ROWS.lines() {
+        let row = parsed(line)?;
+        let bytes = input(rt.alloc(), row.len)?;
+        let top = if bytes.len() <= 1024 {
+            let block = bytes.len().div_ceil(64).max(1) - 1;
+            chunk_input(&row.mode, 0, &bytes, block)
+        } else {
+            let left_len = left_len(bytes.len() as u64);
+            let (left, right) = bytes.split_at(left_len as usize);
+            let left = subtree_cv(&row.mode, 0, left);
+            let right = subtree_cv(&row.mode, left_len / 1024, right);
+            parent_input(&row.mode, &left, &right)
+        };
+        assert_eq!(rt;
+            root_hash(&rooted(&top)).0[..],
+            row.output[..32],
+            "at {line}"
+        );
+        assert_eq!(rt; top_input(&row.mode, 0, &bytes), top, "at {line}");
+    }
+    Ok(())
+}
+
+#[test]
+fn left_lens(rt: HostRuntime) {
+    for (len, left) in [
+        (1025, 1024),
+        (2048, 1024),
+        (2049, 2048),
+        (4096, 2048),
+        (4097, 4096),
+        (102_400, 65_536),
+        (u64::MAX, 1 << 63),
+    ] {
+        assert_eq!(rt; left_len(len), left, "{len} bytes");
+    }
+}
+
+#[test]
+fn limits(rt: HostRuntime) -> Result<(), Fail> {
+    assert!(rt; xof_fits(u64::MAX, 0));
+    assert!(rt; xof_fits(u64::MAX - 1, 1));
+    assert!(rt; !xof_fits(u64::MAX, 1));
+    assert_eq!(rt; TooLong.code(), 201);
+    assert_eq!(rt;
+        format!(in rt.alloc(); "{TooLong}")?.as_str(),
+        "201 too long"
+    );
+    Ok(())
+}
