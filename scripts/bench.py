@@ -65,7 +65,7 @@ class Times:
         return printed
 
     def run_in_process(self, path):
-        """Notes what the program bench measures within itself: lines such as `hash: 12.3 ms, 1.00 of hash`."""
+        """Notes what the program bench measures within itself: lines such as `hash: 12.345 ms`."""
         for line in output([IN_PROCESS, path]).splitlines():
             name, _, rest = line.partition(": ")
             self.note(name, float(rest.split()[0]) / 1000)
@@ -78,6 +78,9 @@ B3SUM_ONE = "b3sum --num-threads 1"
 B3SUM_FOUR = "b3sum --num-threads 4"
 OUTBOARD = "bao_gather outboard"
 ENCODE = "bao_gather encode"
+SLICE = "cut_slice of 1 MiB"
+SLICE_OF_SIXTEENTH = "cut_slice of 1 MiB, a sixteenth of the file"
+LARGER_SLICE = "cut_slice of 8 MiB"
 
 # The table: a name of what was timed, and how it worked. Lines of the program bench have their names from there;
 # a further way that it prints needs a line here, and one below where it has a ratio.
@@ -91,6 +94,9 @@ ROWS = [
     ("hash", "b3tree::hash in one process, one thread"),
     ("hash_join", "b3par::hash_join in one process, several threads"),
     ("Hasher", "b3tree::Hasher in one process, one thread, pieces of 64 KiB"),
+    (SLICE, "bao_text::cut_slice in one process, one thread, from the file's combined encoding"),
+    (SLICE_OF_SIXTEENTH, "as before, from a combined encoding a sixteenth as long"),
+    (LARGER_SLICE, "as before, from the file's combined encoding"),
 ]
 
 # The ratios of two of those times: the first over the second, and what is wanted of it.
@@ -103,6 +109,8 @@ RATIOS = [
     ("one thread", "Hasher", "hash", "at most 1.1"),
     ("one thread", OUTBOARD, HASH_ONE, "at most 1.3"),
     ("one thread", ENCODE, HASH_ONE, "at most 2.0"),
+    ("one thread", SLICE, SLICE_OF_SIXTEENTH, "about 1: not with the encoding"),
+    ("one thread", LARGER_SLICE, SLICE, "about 8: with the slice"),
 ]
 
 
@@ -149,10 +157,10 @@ def main():
     print(f"file: {words.mib} MiB of random bytes; runs: {words.runs}, in turns, of which the least counts", flush=True)
     with tempfile.TemporaryDirectory(prefix="bench-") as room:
         least = measure(room, words.mib, words.runs)
-    print(f"\n{'seconds':>8}  {'MiB/s':>6}  what")
+    print(f"\n{'seconds':>8}  what")
     for name, how in ROWS:
         if name in least:
-            print(f"{least[name]:8.3f}  {words.mib / least[name]:6.0f}  {name} ({how})")
+            print(f"{least[name]:8.4f}  {name} ({how})")
     print(f"\n{'ratio':>8}  of which times")
     for how, first, second, wanted in RATIOS:
         if first in least and second in least:

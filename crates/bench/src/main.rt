@@ -1,4 +1,4 @@
-//! The program `bench FILE`: how long the libraries take to hash the file's bytes inside one process.
+//! The program `bench FILE`: how long the libraries take on the file's bytes inside one process.
 #![tactic(auto)]
 
 use anyhow::{Context, Result};
@@ -8,6 +8,7 @@ use std::thread::Threads;
 use std::{env, fs};
 
 mod measure;
+mod slices;
 mod way;
 
 /// The exit status where the words are not one file's name.
@@ -32,5 +33,7 @@ fn run<R: Runtime + AllocGlobal + Threads + Sync>(rt: &R) -> Result<ExitCode> {
     let bytes = fs::read(rt, path).context("reading the file")?;
     let times = measure::least_times(rt, bytes.as_slice())?;
     measure::print(rt, &times)?;
+    let slices = slices::least_times(rt, bytes.as_slice())?;
+    slices::print(rt, &slices)?;
     Ok(ExitCode::SUCCESS)
 }

@@ -46,15 +46,15 @@ fn timed<R: Clock + Threads + Sync>(rt: &R, way: Way, bytes: &[u8]) -> Result<(H
     Ok((hash, start.elapsed(rt)?))
 }
 
-/// Prints a line for each way: its name, its time in milliseconds, and the ratio to the first.
+/// Prints a line for each way: its name and its time in milliseconds.
 pub fn print(rt: &impl Print, times: &Times) -> io::Result<()> {
-    print_row(rt, "hash", times.whole, times.whole)?;
-    print_row(rt, "hash_join", times.joined, times.whole)?;
-    print_row(rt, "Hasher", times.pieces, times.whole)
+    print_row(rt, "hash", times.whole)?;
+    print_row(rt, "hash_join", times.joined)?;
+    print_row(rt, "Hasher", times.pieces)
 }
 
-fn print_row(rt: &impl Print, name: &str, time: Duration, whole: Duration) -> io::Result<()> {
+/// Prints the line of one time.
+pub fn print_row(rt: &impl Print, name: &str, time: Duration) -> io::Result<()> {
     let milliseconds = time.as_secs_f64() * 1000.0;
-    let ratio = time.div_duration_f64(whole);
-    println!(rt; "{name}: {milliseconds:.1} ms, {ratio:.2} of hash")
+    println!(rt; "{name}: {milliseconds:.3} ms")
 }
