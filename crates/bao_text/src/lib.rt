@@ -11,5 +11,7 @@ mod choice;
 mod cut;
 mod fault;
 mod sizes;
+#[cfg(test)]
+mod tests;
 mod texts;
 mod writer;

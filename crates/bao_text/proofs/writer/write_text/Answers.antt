@@ -29,6 +29,6 @@ writes-preserved g c =
     subst (λ (s : List ℕ). Appends (g.W.Write.contents c.writes.out) (g.W.Write.contents c.write.new.self) (take count s)) rest c.in-Ok.ensures.bytes in (
       omega arith,
       subst (Appends (g.W.Write.contents c.args.out.now) (g.W.Write.contents c.write.new.self)) (take-add at count text)
-      (Appends_on (g.W.Write.contents c.args.out.now) (g.W.Write.contents c.writes.out) (g.W.Write.contents c.write.new.self) (take at text) (take count (drop at text))
-        c.writes.invariant.1 more),
+          (Appends_on (g.W.Write.contents c.args.out.now) (g.W.Write.contents c.writes.out) (g.W.Write.contents c.write.new.self) (take at text) (take count (drop at text))
+          c.writes.invariant.1 more),
     )
