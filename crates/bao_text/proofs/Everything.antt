@@ -1,5 +1,5 @@
 -- A choice of everything: the sizes of its texts, and where a combined text has the bytes of each node.
-use Rattle.std.proofs.Common.{◌≡◌, ℕ, zero, suc, ◌+◌, ◌-◌, ◌*◌, ◌/◌, ◌<◌, ◌≤◌, max, List, [], ◌∷◌, ◌++◌, length, take, drop, nat_le, true, false, if◌then◌else◌, refl, sym, ap, subst, ◌∙◌, arith, inl, inr, length-append, length-drop}
+use Rattle.std.proofs.Common.{◌≡◌, ℕ, zero, suc, ◌+◌, ◌-◌, ◌*◌, ◌/◌, ◌<◌, ◌≤◌, max, List, [], ◌∷◌, ◌++◌, length, take, drop, true, if◌then◌else◌, refl, sym, ap, subst, ◌∙◌, arith, inl, inr, length-append, length-drop}
 use Rattle.std.specs.List.{flat_map}
 use Rattle.std.proofs.lemmas.Bool.{and_from, cases_Bool, cases_lt, le-leb, lt-ltb}
 use Rattle.std.proofs.lemmas.List.{append-nil, append_assoc, drop_at, length-take-le, take_all, take_at}
@@ -10,11 +10,11 @@ use Rattle.b3tree.specs.Compression.{cv, out}
 use Rattle.b3tree.specs.Tree.{left_len, subtree_cv, top_input}
 use Rattle.bao_text.specs.declared.choice.Choice.{Choice}
 use Rattle.bao_text.specs.Choice.{chunk_count, wants}
-use Rattle.bao_text.specs.Cut.{cut_nodes, has, has_all}
-use Rattle.bao_text.specs.Nodes.{Node, Side, chunk_nodes, left, right, size, subtree_nodes, subtree_size}
-use Rattle.bao_text.specs.Texts.{chunk_text, node_span, node_text, parent_text, subtree_text}
-use Rattle.bao_text.proofs.SubtreeNodes.{parent_node, subtree_nodes-leaf, subtree_nodes-parent, subtree_nodes-unwanted, subtree_size-parts}
-use Rattle.bao_text.proofs.SubtreeText.{Parts, left_len-Parts, subtree_text-leaf, subtree_text-parent, subtree_text-unwanted}
+use Rattle.bao_text.specs.Cut.{cut_nodes, has}
+use Rattle.bao_text.specs.Nodes.{Node, Side, left, right, size, subtree_nodes, subtree_size}
+use Rattle.bao_text.specs.Texts.{chunk_text, node_text, parent_text, subtree_text}
+use Rattle.bao_text.proofs.SubtreeNodes.{subtree_nodes-leaf, subtree_nodes-parent, subtree_nodes-unwanted}
+use Rattle.bao_text.proofs.SubtreeText.{Parts, left_len-Parts, subtree_text-leaf, subtree_text-parent}
 use Rattle.bao_text.proofs.TextNodes.{length-span, span, span-left, span-right, subtree_text-nodes}
 
 -- output words are sixteen

@@ -1,5 +1,5 @@
 -- The laws between the texts of a blob.
-use Rattle.std.proofs.Common.{◌≡◌, ℕ, ◌+◌, ◌-◌, ◌*◌, ◌^◌, ◌<◌, ◌≤◌, max, min, List, ◌++◌, length, take, drop, true, false, nat_lt, refl, sym, ap, ◌∙◌, arith, length-append}
+use Rattle.std.proofs.Common.{◌≡◌, ℕ, ◌+◌, ◌-◌, ◌*◌, ◌^◌, ◌<◌, ◌≤◌, max, List, ◌++◌, length, take, true, refl, ap, ◌∙◌, arith, length-append}
 use Rattle.std.specs.List.{flat_map}
 use Rattle.std.specs.Int.{w64, from_le_bytes}
 use Rattle.std.proofs.lemmas.Bool.{le-ltb}
@@ -9,7 +9,7 @@ use Rattle.b3tree.specs.declared.mode.Mode.{Mode}
 use Rattle.bao_text.specs.declared.choice.Choice.{Choice}
 use Rattle.bao_text.specs.Choice.{chunk_count, of_combined, of_outboard, of_slice, slice_end, slice_start}
 use Rattle.bao_text.specs.Cut.{claimed, cut_nodes, cut_text}
-use Rattle.bao_text.specs.Nodes.{chosen_nodes, nodes, subtree_nodes}
+use Rattle.bao_text.specs.Nodes.{chosen_nodes, nodes}
 use Rattle.bao_text.specs.Texts.{chosen_text, combined_text, length_text, node_text, outboard_text, slice_text, subtree_text}
 use Rattle.bao_text.proofs.Everything.{cut_nodes-everything, length-everything}
 use Rattle.bao_text.proofs.TextNodes.{subtree_text-nodes}

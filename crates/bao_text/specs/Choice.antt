@@ -1,5 +1,5 @@
 -- Which parts of a blob a text is of (Bao specification, on encodings and slices).
-use Rattle.std.specs.Prelude.{ℕ, ◌+◌, ◌-◌, ◌*◌, ◌/◌, max, min, nat_lt, Bool, true, false, ◌&&◌}
+use Rattle.std.specs.Prelude.{ℕ, ◌+◌, ◌-◌, ◌/◌, max, min, nat_lt, Bool, true, false, ◌&&◌}
 use Rattle.bao_text.specs.declared.choice.Choice.{Choice}
 
 -- how many chunks n bytes have: no bytes are one empty chunk

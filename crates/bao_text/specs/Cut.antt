@@ -1,5 +1,5 @@
 -- A slice's text cut out of the bytes of a combined encoding, unchecked.
-use Rattle.std.specs.Prelude.{ℕ, ◌+◌, List, [], ◌∷◌, ◌++◌, length, take, drop, nat_le, nat_lt, if◌then◌else◌, Bool, true, false, ◌&&◌}
+use Rattle.std.specs.Prelude.{ℕ, ◌+◌, List, [], ◌∷◌, ◌++◌, length, take, drop, nat_le, nat_lt, if◌then◌else◌, Bool, true, ◌&&◌}
 use Rattle.std.specs.Int.{w64, from_le_bytes}
 use Rattle.bao_text.specs.Nodes.{Node, nodes, size}
 

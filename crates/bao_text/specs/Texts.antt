@@ -1,13 +1,12 @@
 -- The texts of a blob: combined encoding, outboard encoding and slices (Bao specification).
-use Rattle.std.specs.Prelude.{ℕ, zero, suc, ◌+◌, ◌-◌, ◌*◌, ◌/◌, List, [], ◌++◌, length, take, drop, nat_le, if◌then◌else◌}
-use Rattle.std.specs.List.{flat_map}
+use Rattle.std.specs.Prelude.{ℕ, zero, suc, ◌+◌, ◌*◌, ◌/◌, List, [], ◌++◌, length, take, drop, nat_le, if◌then◌else◌}
 use Rattle.std.specs.Int.{w64, to_le_bytes}
 use Rattle.b3tree.specs.declared.mode.Mode.{Mode}
 use Rattle.b3tree.specs.Bytes.{bytes_of}
 use Rattle.b3tree.specs.Tree.{left_len, subtree_cv}
 use Rattle.bao_text.specs.declared.choice.Choice.{Choice}
 use Rattle.bao_text.specs.Choice.{of_combined, of_outboard, of_slice, wants}
-use Rattle.bao_text.specs.Nodes.{Node, chosen_nodes}
+use Rattle.bao_text.specs.Nodes.{Node}
 
 -- a chunk's bytes, where the choice has chunks
 abbrev pub chunk_text : Choice → List ℕ → List ℕ

@@ -41,8 +41,12 @@ pub fn least_times<R: Clock + AllocGlobal>(rt: &R, bytes: &[u8]) -> Result<Slice
     };
     for _ in 0..ROUNDS {
         least.of_all = least.of_all.min(timed(rt, all.as_slice(), SLICE_LEN)?);
-        least.of_sixteenth = least.of_sixteenth.min(timed(rt, sixteenth.as_slice(), SLICE_LEN)?);
-        least.larger = least.larger.min(timed(rt, all.as_slice(), SLICE_LEN * LARGER)?);
+        least.of_sixteenth = least
+            .of_sixteenth
+            .min(timed(rt, sixteenth.as_slice(), SLICE_LEN)?);
+        least.larger = least
+            .larger
+            .min(timed(rt, all.as_slice(), SLICE_LEN * LARGER)?);
     }
     Ok(least)
 }
@@ -59,6 +63,10 @@ fn timed<R: Clock + AllocGlobal>(rt: &R, encoding: &[u8], len: u64) -> Result<Du
 /// Prints a line for each slice: what it is of and its time in milliseconds.
 pub fn print(rt: &impl Print, times: &SliceTimes) -> io::Result<()> {
     print_row(rt, "cut_slice of 1 MiB", times.of_all)?;
-    print_row(rt, "cut_slice of 1 MiB, a sixteenth of the file", times.of_sixteenth)?;
+    print_row(
+        rt,
+        "cut_slice of 1 MiB, a sixteenth of the file",
+        times.of_sixteenth,
+    )?;
     print_row(rt, "cut_slice of 8 MiB", times.larger)
 }

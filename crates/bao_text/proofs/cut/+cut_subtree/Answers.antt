@@ -1,10 +1,9 @@
-use Rattle.std.proofs.Common.{◌≡◌, ◌+◌, ◌-◌, ◌*◌, ◌/◌, ◌<◌, List, ℕ, [], ◌∷◌, ◌++◌, Bool, length, take, drop, true, false, nat_le, if◌then◌else◌, ◌∙◌, refl, sym, ap, arith}
+use Rattle.std.proofs.Common.{◌≡◌, ◌+◌, ◌-◌, ◌/◌, List, ℕ, [], ◌∷◌, ◌++◌, take, drop, true, false, if◌then◌else◌, ◌∙◌, refl, sym, ap, arith}
 use Rattle.std.proofs.lemmas.List.{append-nil, append_assoc}
 use Rattle.std.proofs.lemmas.Result.{IfOk-weaker, on_ok_weaker}
 use Rattle.b3tree.specs.Tree.{left_len}
-use Rattle.bao_text.specs.Choice.{wants}
 use Rattle.bao_text.specs.Cut.{cut_nodes, has, has_all}
-use Rattle.bao_text.specs.Nodes.{Node, Side, chunk_nodes, left, right, size, subtree_nodes, subtree_size}
+use Rattle.bao_text.specs.Nodes.{Node, left, right, subtree_nodes, subtree_size}
 use Rattle.bao_text.proofs.Cutting.{both_cut, both_whole, cut_nodes-one, has_all-one, left_cut, left_whole, none_cut, none_whole}
 use Rattle.bao_text.proofs.SubtreeNodes.{parent_node, subtree_nodes-leaf, subtree_nodes-parent, subtree_nodes-unwanted}
 use Rattle.bao_text.proofs.cut.+cut_subtree.Goals as goal
