@@ -1,4 +1,6 @@
-ghost use Rattle.std.specs.Prelude.{◌≤◌};
+ghost use Rattle.std.specs.Prelude.{◌≡◌, ◌≢◌, ◌≤◌, IfErr};
+ghost use Rattle.std.specs.Io.KnownBytes.{Keeps};
+ghost use Rattle.bao_gather.specs.declared.fault.Fault.TheVariants.{Output};
 
 use crate::digits::{print_digits, print_hash, print_output};
 use crate::fault::Fault;
@@ -18,13 +20,17 @@ const HASH_LEN: u32 = 32;
 
 /// Runs the program on `words`, its name first, with `out` and `err` as its standard output and error,
 /// and answers the exit status: 0 done, 2 wrong words, 3 a file fault, 4 want of memory.
+///
+/// After a fault nothing is printed on `out`, but where the fault is that of `out`: then it may hold a
+/// beginning.
 pub fn command<R: Files + AllocGlobal + Threads + Sync, O: Write, E: Write>(
     rt: &R,
     words: &[String],
     out: &mut O,
     err: &mut E,
 ) -> u8
-    ensures { result ≤ 4 }
+    ensures status { result ≤ 4 }
+    ensures fault { result ≢ 0 → result ≢ 3 → Keeps (O.contents out.old) (O.contents out.new) }
 {
     let request = match parse(rt.alloc(), words) {
         Ok(request) => request,
@@ -40,7 +46,9 @@ fn serve<'a, R: Files + AllocGlobal + Threads + Sync, O: Write>(
     rt: &R,
     request: &Request<'a>,
     out: &mut O,
-) -> Result<(), Fault<'a>> {
+) -> Result<(), Fault<'a>>
+    ensures { IfErr result (λ fault. fault ≢ Output → Keeps (O.contents out.old) (O.contents out.new)) }
+{
     let mode = mode_of(request.key, request.context)?;
     match request.task {
         Task::Hash { at, length, file } => {
@@ -85,7 +93,8 @@ fn serve<'a, R: Files + AllocGlobal + Threads + Sync, O: Write>(
 
 // Prints what `clap` has to say: help and the version on `out`, a refusal on `err`.
 fn answer_clap<O: Write, E: Write>(error: &clap::Error, out: &mut O, err: &mut E) -> u8
-    ensures { result ≤ 4 }
+    ensures status { result ≤ 4 }
+    ensures fault { result ≢ 0 → result ≢ 3 → Keeps (O.contents out.old) (O.contents out.new) }
 {
     if error.kind() == ErrorKind::OutOfMemory {
         return Fault::Memory.report(err);

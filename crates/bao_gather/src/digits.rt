@@ -1,8 +1,8 @@
-ghost use Rattle.std.specs.Prelude.{◌≡◌, ◌+◌, ◌-◌, ◌^◌, ◌≤◌, ◌∷◌, ◌++◌, [], OnOk, IsErrOf};
+ghost use Rattle.std.specs.Prelude.{◌≡◌, ◌≢◌, ◌+◌, ◌-◌, ◌^◌, ◌≤◌, ◌∷◌, ◌++◌, [], IfErr, OnOk};
 ghost use Rattle.std.specs.Io.KnownBytes.{Appends, Keeps};
 ghost use Rattle.hex.specs.Hex.{encode_lower};
 ghost use Rattle.b3tree.specs.Hashing.{hash, stream};
-ghost use Rattle.bao_gather.specs.declared.fault.Fault.TheVariants.{Memory, Output};
+ghost use Rattle.bao_gather.specs.declared.fault.Fault.TheVariants.{Output};
 
 use crate::fault::Fault;
 use b3par::hash_join;
@@ -22,7 +22,7 @@ const PARTS: u64 = 8;
 /// After `Memory` nothing is written. After `Output` the writer may hold a beginning of the line.
 pub fn print_digits<'a, W: Write>(alloc: Global, bytes: &[u8], out: &mut W) -> Result<(), Fault<'a>>
     ensures ok { OnOk result (Appends (W.contents out.old) (W.contents out.new) (encode_lower bytes.now ++ 10 ∷ [])) }
-    ensures memory { IsErrOf result Memory → Keeps (W.contents out.old) (W.contents out.new) }
+    ensures fault { IfErr result (λ fault. fault ≢ Output → Keeps (W.contents out.old) (W.contents out.new)) }
 {
     let mut line = hex::encode(alloc, bytes).map_err(|_| Fault::Memory)?;
     line.push('\n').map_err(|_| Fault::Memory)?;
@@ -50,7 +50,7 @@ pub fn print_hash<'a, R: Threads + Sync, W: Write>(
     out: &mut W,
 ) -> Result<(), Fault<'a>>
     ensures ok { OnOk result (Appends (W.contents out.old) (W.contents out.new) (encode_lower (hash mode.now bytes.now) ++ 10 ∷ [])) }
-    ensures memory { IsErrOf result Memory → Keeps (W.contents out.old) (W.contents out.new) }
+    ensures fault { IfErr result (λ fault. fault ≢ Output → Keeps (W.contents out.old) (W.contents out.new)) }
 {
     let hash = hash_join(rt, mode, bytes, grain_of(bytes.len()));
     print_digits(alloc, &hash.0, out)
@@ -70,7 +70,7 @@ pub fn print_output<'a, W: Write>(
 ) -> Result<(), Fault<'a>>
     requires { at + len ≤ 2 ^ 64 - 1 }
     ensures ok { OnOk result (Appends (W.contents out.old) (W.contents out.new) (encode_lower (stream mode.now bytes.now at len) ++ 10 ∷ [])) }
-    ensures memory { IsErrOf result Memory → Keeps (W.contents out.old) (W.contents out.new) }
+    ensures fault { IfErr result (λ fault. fault ≢ Output → Keeps (W.contents out.old) (W.contents out.new)) }
 {
     let mut output = vec![in alloc; 0u8; len as usize].map_err(|_| Fault::Memory)?;
     xof(mode, bytes, at, output.as_mut_slice());
