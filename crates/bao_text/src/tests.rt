@@ -106,11 +106,10 @@ fn counts_bytes(rt: HostRuntime) {
 #[test]
 fn small_blobs_have_no_parents(rt: HostRuntime) -> Result<(), Fail> {
     let mode = Mode::hash();
-    for text in [
+    for (hash, text) in [
         combined(rt.alloc(), &mode, &[])?,
         outboard(rt.alloc(), &mode, &[])?,
     ] {
-        let (hash, text) = text;
         assert_eq!(rt; hash.0, EMPTY_HASH);
         assert_eq!(rt; text.as_slice(), [0; 8].as_slice());
     }
