@@ -6,14 +6,10 @@ ghost use Rattle.bao_text.specs.Nodes.{Side, subtree_nodes, subtree_size};
 
 use crate::choice::Choice;
 use crate::fault::Memory;
-use crate::sizes::subtree_size;
+use crate::sizes::{LENGTH_LEN, PARENT_LEN, subtree_size};
 use crate::texts::extend;
 use b3tree::{CHUNK_LEN, left_len};
 use std::alloc::Global;
-
-const LENGTH_LEN: usize = 8;
-
-const PARENT_LEN: u64 = 64;
 
 // Copies the `size` bytes of a node from `source` on, or those of them that are there, and answers
 // whether all were.
@@ -69,7 +65,7 @@ fn cut_subtree(
             Ok(true)
         };
     }
-    if !copy_node(text, source, PARENT_LEN, out)? {
+    if !copy_node(text, source, PARENT_LEN as u64, out)? {
         return Ok(false);
     }
     let left_len = left_len(n);

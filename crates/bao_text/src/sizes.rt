@@ -4,21 +4,25 @@ ghost use Rattle.bao_text.specs.Choice.{chunk_count};
 ghost use Rattle.bao_text.specs.Nodes.{subtree_size};
 ghost use Rattle.bao_text.specs.Texts.{combined_text, outboard_text};
 
-const LENGTH_LEN: u128 = 8;
+use b3tree::CHUNK_LEN;
 
-const PARENT_LEN: u128 = 64;
+/// The bytes of the length at a text's start.
+pub(crate) const LENGTH_LEN: usize = 8;
+
+/// The bytes of a parent: two chaining values.
+pub(crate) const PARENT_LEN: usize = 64;
 
 fn chunk_count(len: u64) -> u64
     ensures { result ≡ chunk_count len }
 {
-    len.div_ceil(1024).max(1)
+    len.div_ceil(CHUNK_LEN as u64).max(1)
 }
 
 // How many bytes of a combined encoding the subtree over `n` bytes is.
 pub(crate) fn subtree_size(n: u64) -> u128
     ensures { result ≡ subtree_size n }
 {
-    u128::from(n) + PARENT_LEN * u128::from(chunk_count(n) - 1)
+    u128::from(n) + PARENT_LEN as u128 * u128::from(chunk_count(n) - 1)
 }
 
 /// How many bytes the combined encoding of a blob of `len` bytes has: 8 for the length, 64 for each
@@ -36,5 +40,5 @@ pub fn outboard_len(len: u64) -> u128
     ensures value { result ≡ 8 + 64 * (chunk_count len - 1) }
     ensures text { (mode : Mode) (blob : List ℕ) → length blob ≡ len → length (outboard_text mode blob) ≡ result }
 {
-    LENGTH_LEN + PARENT_LEN * u128::from(chunk_count(len) - 1)
+    LENGTH_LEN as u128 + PARENT_LEN as u128 * u128::from(chunk_count(len) - 1)
 }

@@ -9,15 +9,13 @@ ghost use Rattle.bao_text.specs.Texts.{chosen_text, combined_text, length_text, 
 
 use crate::choice::Choice;
 use crate::fault::Memory;
-use crate::sizes::{encoded_len, outboard_len};
+use crate::sizes::{LENGTH_LEN, PARENT_LEN, encoded_len, outboard_len};
 use b3tree::{
     CHUNK_LEN, Cv, Hash, Input, Mode, cv, left_len, parent_input, root_hash, rooted, top_input,
 };
 use std::alloc::Global;
 
 const CV_LEN: usize = 32;
-
-const PARENT_LEN: usize = 64;
 
 // Appends `bytes`; where the growth is refused the text is unchanged.
 pub(crate) fn extend(text: &mut Vec<u8>, bytes: &[u8]) -> Result<(), Memory>
@@ -161,5 +159,11 @@ pub fn slice(
     ensures late { length bytes.now ≤ start → IfOk result (λ r. r.1.items ≡ slice_text mode.now bytes.now (max (length bytes.now) 1 - 1) 1) }
 {
     let total = bytes.len() as u64;
-    chosen(alloc, &Choice::of_slice(total, start, len), mode, bytes, 8)
+    chosen(
+        alloc,
+        &Choice::of_slice(total, start, len),
+        mode,
+        bytes,
+        LENGTH_LEN as u128,
+    )
 }
