@@ -6,3 +6,4 @@ pub mod OutputBlocks
 pub mod Subtrees
 pub mod Joining
 pub mod Taking
+pub mod SameMode
