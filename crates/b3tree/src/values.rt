@@ -1,4 +1,4 @@
-ghost use Rattle.std.specs.Prelude.{◌≡◌};
+ghost use Rattle.std.specs.Prelude.{◌≡◌, length};
 ghost use Rattle.b3tree.specs.Bytes.{bytes_of, words_of};
 
 use crate::bytes::{put_bytes, words_of};
@@ -14,7 +14,8 @@ pub struct Cv(pub [u32; 8]);
 impl Cv {
     /// The chaining value whose words, each little-endian, are these 32 bytes: what a parent's text has of
     /// one of its parts, or the words of a hash.
-    pub fn from_bytes(bytes: &[u8; 32]) -> Cv
+    pub fn from_bytes(bytes: &[u8]) -> Cv
+        requires { length bytes.now ≡ 32 }
         ensures { result.0 ≡ words_of 8 bytes.now }
     {
         Cv(words_of(bytes))

@@ -1,0 +1,10 @@
+pub mod Accepted
+pub mod Certificate
+pub mod Inputs
+pub mod Faults
+pub mod Pieces
+pub mod Walk
+pub use Rattle.bao_text.specs.Choice
+pub use Rattle.bao_text.specs.Nodes
+pub use Rattle.bao_text.specs.Texts
+pub use Rattle.bao_text.specs.Cut

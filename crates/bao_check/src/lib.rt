@@ -1,0 +1,9 @@
+//! Bao encodings checked: combined, outboard and slices, from bytes and from a reader (Bao specification).
+#![tactic(auto)]
+
+pub use fault::CheckFault;
+
+mod asked;
+mod fault;
+mod source;
+mod walk;
