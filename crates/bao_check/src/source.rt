@@ -1,6 +1,6 @@
 ghost use Rattle.std.specs.Prelude.{◌≡◌, ℕ, List, Option, IfErr, IfOk};
 ghost use Rattle.bao_check.specs.declared.fault.CheckFault.{CheckFault};
-ghost use Rattle.bao_check.specs.Walk.{TakenWhole, Takes};
+ghost use Rattle.bao_check.specs.Walk.{IsSourceFault, TakenWhole, Takes};
 
 use crate::fault::CheckFault;
 
@@ -18,7 +18,7 @@ pub(crate) trait Source {
     fn take(&mut self, size: usize) -> Result<bool, CheckFault>
         ensures takes { Takes size (taken self.old) (taken self.new) (ahead self.old) (ahead self.new) }
         ensures whole { IfOk result (λ whole. TakenWhole size (taken self.old) (taken self.new) (ahead self.new) whole) }
-        ensures fault { IfErr result (λ fault. fails fault) };
+        ensures fault { IfErr result (λ fault. IsSourceFault fault × fails fault) };
 
     // The bytes taken so far.
     fn taken(&self) -> &[u8]
