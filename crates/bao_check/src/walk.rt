@@ -15,6 +15,7 @@ const CV_LEN: usize = 32;
 
 // Takes the `size` bytes of the node that comes next.
 fn take_node<S: Source>(source: &mut S, size: usize) -> Result<(), CheckFault>
+    ensures same_reference { S.name source.new ≡ S.name source.old }
     ensures takes { Takes size (S.taken source.old) (S.taken source.new) (S.ahead source.old) (S.ahead source.new) }
     ensures ok { OnOk result (length (S.taken source.new) ≡ length (S.taken source.old) + size) }
     ensures err { IfErr result (λ fault. IsCutShort S.fails size (S.taken source.old) (S.taken source.new) (S.ahead source.new) fault) }
@@ -37,6 +38,7 @@ fn check_chunk<S: Source>(
 ) -> Result<(), CheckFault>
     requires chunk { size ≤ 1024 }
     requires range { 1024 * number + size ≤ 2 ^ 64 - 1 }
+    ensures same_reference { S.name source.new ≡ S.name source.old }
     ensures takes { Takes size (S.taken source.old) (S.taken source.new) (S.ahead source.old) (S.ahead source.new) }
     ensures ok { OnOk result (length (S.taken source.new) ≡ length (S.taken source.old) + size) }
     ensures meets { OnOk result (Meets asked.now (chunk_taken mode.now number (S.taken source.old) (S.taken source.new))) }
@@ -70,6 +72,7 @@ fn check_parent<S: Source>(
     mode: &Mode,
     asked: &Asked,
 ) -> Result<(Cv, Cv), CheckFault>
+    ensures same_reference { S.name source.new ≡ S.name source.old }
     ensures takes { Takes 64 (S.taken source.old) (S.taken source.new) (S.ahead source.old) (S.ahead source.new) }
     ensures ok { OnOk result (length (S.taken source.new) ≡ length (S.taken source.old) + 64) }
     ensures meets { OnOk result (Meets asked.now (parent_taken mode.now (S.taken source.old) (S.taken source.new))) }
@@ -99,6 +102,7 @@ pub(crate) fn check_subtree<S: Source>(
     n: u64,
 ) -> Result<(), CheckFault>
     requires { 1024 * number + n ≤ 2 ^ 64 - 1 }
+    ensures same_reference { S.name source.new ≡ S.name source.old }
     ensures grows { Grows (S.taken source.old) (S.taken source.new) (S.ahead source.old) (S.ahead source.new) }
     ensures ok { (sides : List Side) (from : ℕ) → OnOk result (Passes asked.now sides mode.now (S.taken source.new) (length (S.taken source.old))
         (subtree_nodes choice.now number n sides from)) }
