@@ -4,6 +4,7 @@ pub mod Inputs
 pub mod Faults
 pub mod Pieces
 pub mod Walk
+pub mod Forms
 pub mod Sources
 pub use Rattle.bao_text.specs.Choice
 pub use Rattle.bao_text.specs.Nodes

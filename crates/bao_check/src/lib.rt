@@ -4,6 +4,8 @@
 pub use fault::CheckFault;
 
 mod asked;
+mod checks;
 mod fault;
+mod form;
 mod source;
 mod walk;
