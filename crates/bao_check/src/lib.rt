@@ -8,4 +8,5 @@ mod checks;
 mod fault;
 mod form;
 mod source;
+mod stream;
 mod walk;

@@ -21,6 +21,7 @@ const CV_LEN: usize = 32;
 
 // Takes the `size` bytes of the node that comes next.
 fn take_node<S: Source>(source: &mut S, size: usize) -> Result<(), CheckFault>
+    requires { size ≤ 1024 }
     ensures same_reference { S.name source.new ≡ S.name source.old }
     ensures takes { Takes size (S.taken source.old) (S.taken source.new) (S.ahead source.old) (S.ahead source.new) }
     ensures ok { OnOk result (length (S.taken source.new) ≡ length (S.taken source.old) + size) }
