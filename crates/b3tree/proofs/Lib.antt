@@ -7,3 +7,4 @@ pub mod Subtrees
 pub mod Joining
 pub mod Taking
 pub mod SameMode
+pub mod Ranges
