@@ -3,7 +3,6 @@ use Rattle.std.proofs.Common.{◌≡◌, ℕ, zero, suc, ◌+◌, ◌-◌, ◌*�
 use Rattle.std.specs.Int.{w64, from_le_bytes}
 use Rattle.std.proofs.lemmas.Bool.{cases_Bool, cases_lt}
 use Rattle.std.proofs.lemmas.List.{append-nil, drop_at, length_push, length-take-le, take_all, take_at}
-use Rattle.std.proofs.lemmas.List.Sums.{sum_by-append}
 use Rattle.std.proofs.lemmas.Nat.{from_le_bytes-to_le_bytes_8}
 use Rattle.b3word.specs.declared.input.Input.{Input}
 use Rattle.b3word.specs.Compression.{cv}
@@ -19,17 +18,18 @@ use Rattle.b3tree.proofs.TopInput.{top_input-chunk, top_input-parent}
 use Rattle.bao_text.specs.declared.choice.Choice.{Choice}
 use Rattle.bao_text.specs.Choice.{of_combined, of_outboard, of_slice, slice_end, slice_start, wants}
 use Rattle.bao_text.specs.Cut.{claimed}
-use Rattle.bao_text.specs.Nodes.{Node, Side, chosen_nodes, chunk_nodes, left, nodes, right, size, subtree_nodes, subtree_size}
+use Rattle.bao_text.specs.Nodes.{Node, Side, chosen_nodes, chunk_nodes, left, nodes, right, subtree_nodes, subtree_size}
 use Rattle.bao_text.specs.Texts.{chosen_text, chunk_text, combined_text, length_text, outboard_text, parent_text, slice_text, subtree_text}
 use Rattle.bao_text.proofs.Everything.{At, At_first, At_rest, length-bytes_of, length-parent_text}
-use Rattle.bao_text.proofs.SubtreeNodes.{parent_node, subtree_nodes-leaf, subtree_nodes-parent, subtree_nodes-unwanted}
+use Rattle.bao_text.proofs.SubtreeNodes.{subtree_nodes-leaf, subtree_nodes-parent, subtree_nodes-unwanted}
 use Rattle.bao_text.proofs.SubtreeText.{Parts, left_len-Parts, subtree_text-leaf, subtree_text-parent, subtree_text-unwanted}
 use Rattle.bao_text.proofs.TextNodes.{length-span, span, span-left, span-right}
 use Rattle.bao_check.specs.declared.asked.Asked.{Asked}
 use Rattle.bao_check.specs.Accepted.{IsAccepted, outboard_nodes, part_value, slice_nodes}
 use Rattle.bao_check.specs.Walk.{AreGood, Meets}
 use Rattle.bao_check.proofs.Keyed.{IsKeyed}
-use Rattle.bao_check.proofs.Lists.{Contains-cons_cases, nodes_size, nodes_size-cons}
+use Rattle.bao_check.proofs.Lists.{Contains-cons_cases, nodes_size}
+use Rattle.bao_check.proofs.Sizes.{nodes_size-parent}
 use Rattle.bao_check.proofs.Parts.{AreGood-join, below}
 
 -- the text is there, and is what is taken from its place
@@ -84,11 +84,6 @@ text_parts choice mode blob number n fits wanted more =
     subtree_text-parent choice mode number s (ap (wants choice (1024 * number)) e ∙ wanted) (omega arith)
     ∙ (λ i. parent ++ (subtree_text choice mode number (take (left_len (e i)) s) ++ subtree_text choice mode (number + left_len (e i) / 1024) (drop (left_len (e i)) s)))
     ∙ (λ i. parent ++ (subtree_text choice mode number (span-left blob number n l le i) ++ subtree_text choice mode (number + l / 1024) (span-right blob number n l le parts.whole i)))
-
-nodes_size-parent : (number n : ℕ) (sides : List Side) (source : ℕ) (near far : List Node)
-    → nodes_size (parent_node number n sides source ∷ (near ++ far)) ≡ 64 + (nodes_size near + nodes_size far)
-nodes_size-parent number n sides source near far =
-    nodes_size-cons (parent_node number n sides source) (near ++ far) ∙ ap (λ (k : ℕ). 64 + k) (sum_by-append size near far)
 
 text_size-levels : (levels : ℕ) (choice : Choice) (mode : Mode) (blob : List ℕ) (number n : ℕ) (sides : List Side) (source : ℕ)
     → n ≤ 1024 * levels + 1024 → 1024 * number + n ≤ length blob
