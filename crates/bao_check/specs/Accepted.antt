@@ -21,7 +21,7 @@ abbrev pub bytes_at : List ℕ → ℕ × Node → List ℕ
 bytes_at text place = take (size place.1) (drop place.0 text)
 
 -- the chaining value that a parent's 64 bytes have for the part on a side
-abbrev pub part_value : Side → List ℕ → List ℕ
+unfoldable pub part_value : Side → List ℕ → List ℕ
 part_value left bytes = words_of 8 (take 32 bytes)
 part_value right bytes = words_of 8 (drop 32 bytes)
 

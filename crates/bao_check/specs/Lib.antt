@@ -4,6 +4,7 @@ pub mod Inputs
 pub mod Faults
 pub mod Pieces
 pub mod Walk
+pub mod Sources
 pub use Rattle.bao_text.specs.Choice
 pub use Rattle.bao_text.specs.Nodes
 pub use Rattle.bao_text.specs.Texts

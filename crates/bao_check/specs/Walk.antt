@@ -1,11 +1,13 @@
 -- What is known while a text is walked through, node by node.
-use Rattle.std.specs.Prelude.{◌≡◌, ℕ, ◌+◌, ◌<◌, ◌≤◌, List, [], ◌∷◌, ◌++◌, length, sum_by, Option, Bool, true, false, Contains}
+use Rattle.std.specs.Prelude.{◌≡◌, ℕ, ◌+◌, ◌<◌, ◌≤◌, List, [], ◌∷◌, ◌++◌, length, drop, sum_by, Option, Bool, true, false, Contains}
 use Rattle.std.specs.List.{AllByRecursion}
 use Rattle.std.specs.Io.KnownBytes.{Consumes, IsAtEnd}
 use Rattle.b3word.specs.declared.input.Input.{Input}
 use Rattle.b3word.specs.Compression.{cv}
 use Rattle.b3tree.specs.declared.mode.Mode.{Mode}
-use Rattle.bao_text.specs.Nodes.{Node, Side, placed, size}
+use Rattle.b3tree.specs.Chunk.{last_chunk_input}
+use Rattle.b3tree.specs.Tree.{parent_input}
+use Rattle.bao_text.specs.Nodes.{Node, Side, left, placed, right, size}
 use Rattle.bao_check.specs.declared.asked.Asked.{Asked}
 use Rattle.bao_check.specs.declared.fault.CheckFault.{CheckFault}
 use Rattle.bao_check.specs.declared.fault.CheckFault.TheVariants.{Short, Mismatch, Trailing, Memory, Reader}
@@ -24,9 +26,47 @@ abbrev pub TakenWhole : ℕ → List ℕ → List ℕ → Option (List ℕ) → 
 TakenWhole size old new after true = length new ≡ length old + size
 TakenWhole size old new after false = (length new < length old + size) × IsAtEnd after
 
+-- what only a source answers
+abbrev pub IsSourceFault : CheckFault → Type 0
+IsSourceFault (Short at) = ⊥
+IsSourceFault (Mismatch at) = ⊥
+IsSourceFault (Trailing at) = ⊥
+IsSourceFault Memory = Unit {0}
+IsSourceFault Reader = Unit {0}
+
+-- bytes went over from those ahead to those taken
+pub record Grows (old new : List ℕ) (before after : Option (List ℕ)) : Type 0 where
+  pub bytes : List ℕ
+  pub grown : new ≡ old ++ bytes
+  pub consumed : Consumes before after bytes
+
+-- The `size` bytes of a node weren't all taken: the source has no more, or failed.
+abbrev pub IsCutShort : (CheckFault → Type 0) → ℕ → List ℕ → List ℕ → Option (List ℕ) → CheckFault → Type 0
+IsCutShort fails size old new after (Short at) = (at ≡ length old) × (length new < length old + size) × IsAtEnd after
+IsCutShort fails size old new after (Mismatch at) = ⊥
+IsCutShort fails size old new after (Trailing at) = ⊥
+IsCutShort fails size old new after Memory = fails Memory × (length new ≤ length old + size)
+IsCutShort fails size old new after Reader = fails Reader × (length new ≤ length old + size)
+
 -- the input has the value that is asked for
 abbrev pub Meets : Asked → Input → Type 0
 Meets asked x = cv (marked asked.top x) ≡ asked.value.0
+
+-- They weren't all taken, or they make an input that hasn't the value asked for.
+abbrev pub IsRefused : (CheckFault → Type 0) → Asked → Input → ℕ → List ℕ → List ℕ → Option (List ℕ) → CheckFault → Type 0
+IsRefused fails asked x size old new after (Short at) = IsCutShort fails size old new after (Short at)
+IsRefused fails asked x size old new after (Mismatch at) = (at ≡ length old) × (length new ≡ length old + size) × ¬ Meets asked x
+IsRefused fails asked x size old new after (Trailing at) = ⊥
+IsRefused fails asked x size old new after Memory = IsCutShort fails size old new after Memory
+IsRefused fails asked x size old new after Reader = IsCutShort fails size old new after Reader
+
+-- the input that the bytes taken last make as a parent
+abbrev pub parent_taken : Mode → List ℕ → List ℕ → Input
+parent_taken mode old new = parent_input mode (part_value left (drop (length old) new)) (part_value right (drop (length old) new))
+
+-- the one that they make as a chunk
+abbrev pub chunk_taken : Mode → ℕ → List ℕ → List ℕ → Input
+chunk_taken mode number old new = last_chunk_input mode number (drop (length old) new)
 
 -- The node at a place of a subtree has the value that its place asks for: `asked` at the subtree's top,
 -- which has these sides, and below a parent the half of it that the node's last side names.
