@@ -1,4 +1,5 @@
 pub mod Accepted
+pub mod AcceptedProp
 pub mod Certificate
 pub mod Inputs
 pub mod Faults
