@@ -215,6 +215,7 @@ way-near : (asked : Asked) (mode : Mode) (text : List ℕ) (at number n : ℕ) (
     → Meets asked (parent_input mode (part_value left (take 64 (drop at text))) (part_value right (take 64 (drop at text))))
     → Way (below left (take 64 (drop at text))) mode text near number (left_len n) k bytes
     → Way asked mode text ((at, parent_node number n sides source) ∷ (near ++ far)) number n k bytes
+unfolding part_value
 way-near asked mode text at number n sides source k bytes near far top more meets way =
     let l : ℕ = left_len n in
     let parts : Parts n l = left_len-Parts n more in
@@ -244,6 +245,7 @@ way-far : (asked : Asked) (mode : Mode) (text : List ℕ) (at number n : ℕ) (s
     → Meets asked (parent_input mode (part_value left (take 64 (drop at text))) (part_value right (take 64 (drop at text))))
     → Way (below right (take 64 (drop at text))) mode text far (number + left_len n / 1024) (n - left_len n) k bytes
     → Way asked mode text ((at, parent_node number n sides source) ∷ (near ++ far)) number n k bytes
+unfolding part_value
 way-far asked mode text at number n sides source k bytes near far top more meets way =
     let l : ℕ = left_len n in
     let parts : Parts n l = left_len-Parts n more in

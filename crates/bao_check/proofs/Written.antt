@@ -146,6 +146,7 @@ one_good asked mode text at number n sides source there meets = (
 -- the values in a parent's text
 near_value : (mode : Mode) (first : ℕ) (s : List ℕ) → IsKeyed mode → 1024 < length s → 1024 * first + length s < 2 ^ 64
     → part_value left (parent_text mode first s) ≡ subtree_cv mode first (take (left_len (length s)) s)
+unfolding part_value
 near_value mode first s keyed more fits =
     let l : ℕ = left_len (length s) in
     let parts : Parts (length s) l = left_len-Parts (length s) more in
@@ -158,6 +159,7 @@ near_value mode first s keyed more fits =
 
 far_value : (mode : Mode) (first : ℕ) (s : List ℕ) → IsKeyed mode → 1024 < length s → 1024 * first + length s < 2 ^ 64
     → part_value right (parent_text mode first s) ≡ subtree_cv mode (first + left_len (length s) / 1024) (drop (left_len (length s)) s)
+unfolding part_value
 far_value mode first s keyed more fits =
     let l : ℕ = left_len (length s) in
     let parts : Parts (length s) l = left_len-Parts (length s) more in
