@@ -1,30 +1,34 @@
 -- A certificate binds its chunk: another chunk than the blob's names a pair of inputs.
-use Rattle.std.proofs.Common.{◌≡◌, ◌⊎◌, ℕ, zero, suc, ◌+◌, ◌-◌, ◌*◌, ◌/◌, ◌<◌, ◌≤◌, List, [], ◌∷◌, ◌++◌, length, take, drop, false, true, refl, sym, ap, ◌∙◌, arith, inl, inr, length-drop, zero-add}
+use Rattle.std.proofs.Common.{◌≡◌, ◌⊎◌, ℕ, ◌+◌, ◌-◌, ◌*◌, ◌/◌, ◌<◌, ◌≤◌, List, [], ◌∷◌, ◌++◌, length, take, drop, false, true, refl, sym, ap, ◌∙◌, arith, inl, inr, length-drop}
 use Rattle.std.specs.Prelude.{Bool, Contains, Some}
 use Rattle.std.specs.List.{AllByRecursion}
 use Rattle.std.proofs.lemmas.Bool.{cases_lt, lt-ltb, true≢false}
 use Rattle.std.proofs.lemmas.List.{drop-drop, drop-take, drop_at, length-take-le, take-take, take_all, take_at}
 use Rattle.std.proofs.lemmas.List.Elements.{Contains-append_left, Contains-append_right}
+use Rattle.std.proofs.lemmas.List.FromFn.{length-map-range_with_len}
 use Rattle.b3word.specs.declared.input.Input.{Input}
 use Rattle.b3word.specs.Compression.{cv}
 use Rattle.b3word.proofs.Ranges.{length-cv}
 use Rattle.b3tree.specs.declared.mode.Mode.{Mode}
-use Rattle.b3tree.specs.Bytes.{words_of}
+use Rattle.b3tree.specs.Bytes.{word_at, words_of}
 use Rattle.b3tree.specs.Chunk.{block_count, last_chunk_input}
 use Rattle.b3tree.specs.Hashing.{hash, rooted}
 use Rattle.b3tree.specs.Tree.{left_len, parent_input, subtree_cv, top_input}
+use Rattle.b3tree.proofs.BlockWords.{AreBytes, AreBytes-drop, AreBytes-take, root_hash_words}
+use Rattle.b3tree.proofs.InputFlags.{chunk_input_low, not_parent, parent_low}
+use Rattle.b3tree.proofs.InputWords.{IsKeyed, root_words}
 use Rattle.b3tree.proofs.LeftLen.{left_len-IsLeftLen}
 use Rattle.b3tree.proofs.TopInput.{top_input-chunk, top_input-parent}
 use Rattle.bao_text.specs.Choice.{chunk_count}
 use Rattle.bao_text.specs.Nodes.{Side, left, right}
 use Rattle.bao_text.proofs.SubtreeText.{Parts, left_len-Parts}
+use Rattle.bao_check.specs.Accepted.{part_value}
 use Rattle.bao_check.specs.Certificate.{Begins, Certificate, Follows, IsLast, Step, half, step_input}
 use Rattle.bao_check.specs.Inputs.{Names, blob_inputs, marked, whole_chunk}
 use Rattle.bao_check.specs.Pieces.{chunk_of}
-use Rattle.bao_check.proofs.BlockWords.{AreBytes, AreBytes-drop, AreBytes-take, root_hash_words}
 use Rattle.bao_check.proofs.ChunkBinding.{chunk_binds}
-use Rattle.bao_check.proofs.Marks.{IsKeyed, SameParts, chunk_input_low, not_parent, parent_low, root_words, same_parts}
-use Rattle.bao_check.proofs.Naming.{Contains-head, Contains-tail, Named, Named-within, last_there, same_or_named}
+use Rattle.bao_check.proofs.Marked.{SameParts, same_parts}
+use Rattle.bao_check.proofs.Naming.{Contains-head, Contains-tail, Named, Named-by, Named-within, last_there, same_or_named}
 use Rattle.bao_check.proofs.SubtreeInputs.{blob_inputs-subtree, subtree_inputs, subtree_inputs-chunk, subtree_inputs-parent, subtree_parent}
 
 -- the inputs of a way down to a chunk: the parents of its steps, the first marked, and the chunk's
@@ -37,16 +41,22 @@ way_inputs top mode (step ∷ steps) number bytes = marked top (step_input mode 
 abbrev pub certificate_inputs : {mode : Mode} {root : List ℕ} {number : ℕ} {bytes : List ℕ} → Certificate mode root number bytes → List Input
 certificate_inputs {mode = mode} {number = number} {bytes = bytes} certificate = way_inputs true mode certificate.steps number bytes
 
--- the steps' first chaining values are of eight words, as those read from a text are
+-- The first chaining value of each step has eight words, as it has where it is read from a text: so a
+-- parent's sixteen words part into its two values in one way.
 abbrev pub HaveEight : List Step → Type 0
 HaveEight steps = AllByRecursion (λ step. length step.near ≡ 8) steps
 
--- the first input of a way
+-- it has where it is a half of a parent's bytes
+pub length-part_value : (side : Side) (bytes : List ℕ) → length (part_value side bytes) ≡ 8
+length-part_value left bytes = length-map-range_with_len (word_at (take 32 bytes)) 0 8
+length-part_value right bytes = length-map-range_with_len (word_at (drop 32 bytes)) 0 8
+
+-- the first input of a way, before it is marked
 abbrev first_input : Mode → List Step → ℕ → List ℕ → Input
 first_input mode [] number bytes = last_chunk_input mode number bytes
 first_input mode (step ∷ steps) number bytes = step_input mode step
 
--- the others have their values
+-- each later input has the value that the half before it says
 abbrev GoesOn : Mode → List Step → ℕ → List ℕ → Type 0
 GoesOn mode [] number bytes = Unit {0}
 GoesOn mode (step ∷ steps) number bytes = Follows mode (half step.side step) steps (last_chunk_input mode number bytes)
@@ -124,7 +134,7 @@ parent_not_chunk top mode near far i s e =
     let same : SameParts (parent_input mode near far) (last_chunk_input mode i s) = same_parts top (parent_input mode near far) (last_chunk_input mode i s) e in
     not_parent (block_count (length s)) k (sym (chunk_input_low mode i s k) ∙ sym same.low ∙ parent_low mode near far)
 
--- inputs of a parent's subtree
+-- the parent over s, and the inputs below it on either side
 parent_there : (top : Bool) (mode : Mode) (first : ℕ) (s : List ℕ) → 1024 < length s → Contains (subtree_inputs top mode first s) (marked top (subtree_parent mode first s))
 parent_there top mode first s more = rw (subtree_inputs-parent top mode first s more) (Contains-head (marked top (subtree_parent mode first s))
     (subtree_inputs false mode first (take (left_len (length s)) s)
@@ -145,10 +155,6 @@ right_there top mode first s more x there =
     let far : List Input = subtree_inputs false mode (first + left_len (length s) / 1024) (drop (left_len (length s)) s) in
     rw (subtree_inputs-parent top mode first s more)
     (Contains-tail (marked top (subtree_parent mode first s)) x (near ++ far) (Contains-append_right near far x there))
-
--- a way's first input against a tree's
-never_same : (ours theirs : List Input) (x y : Input) → Contains ours x → Contains theirs y → cv x ≡ cv y → (x ≡ y → ⊥) → Named ours theirs
-never_same ours theirs x y our their same differ = (x, (y, record { our = our; their = their; differ = differ; same = same }))
 
 -- the top of more than a chunk
 top_parent : (mode : Mode) (first : ℕ) (s : List ℕ) → 1024 < length s → top_input mode first s ≡ subtree_parent mode first s
@@ -171,7 +177,7 @@ way_binds top mode first s [] number bytes hs hb eight same on = elim (cases_lt 
       let near : List ℕ = subtree_cv mode first (take (left_len (length s)) s) in
       let far : List ℕ = subtree_cv mode (first + left_len (length s) / 1024) (drop (left_len (length s)) s) in
       let parent : cv (marked top (subtree_parent mode first s)) ≡ cv (marked top (top_input mode first s)) = ap (λ (x : Input). cv (marked top x)) (sym (top_parent mode first s more)) in
-      inr (never_same (subtree_inputs top mode first s) (whole_chunk top mode number bytes) (marked top (subtree_parent mode first s)) (marked top (last_chunk_input mode number bytes))
+      inr (Named-by (subtree_inputs top mode first s) (whole_chunk top mode number bytes) (marked top (subtree_parent mode first s)) (marked top (last_chunk_input mode number bytes))
       (parent_there top mode first s more) (last_there top mode number bytes) (parent ∙ same) (λ e. parent_not_chunk top mode near far number bytes e))
 ]
 way_binds top mode first s (step ∷ steps) number bytes hs hb eight same on =
@@ -182,7 +188,7 @@ way_binds top mode first s (step ∷ steps) number bytes hs hb eight same on =
       | inr one ↦
           let chunk : cv (marked top (last_chunk_input mode first s)) ≡ cv (marked top (top_input mode first s)) = ap (λ (x : Input). cv (marked top x)) (sym (top_input-chunk mode first s one)) in
           inr (rw (subtree_inputs-chunk top mode first s one)
-          (never_same (whole_chunk top mode first s) theirs (marked top (last_chunk_input mode first s)) (marked top y)
+          (Named-by (whole_chunk top mode first s) theirs (marked top (last_chunk_input mode first s)) (marked top y)
           (last_there top mode first s) (Contains-head (marked top y) others) (chunk ∙ same) (λ e. parent_not_chunk top mode step.near step.far first s (sym e))))
       | inl more ↦
           let l : ℕ = left_len (length s) in

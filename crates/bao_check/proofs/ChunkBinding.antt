@@ -1,48 +1,23 @@
 -- A chaining value binds its chunk: other bytes, or another number, name a pair of inputs.
-use Rattle.std.proofs.Common.{◌≡◌, ◌⊎◌, ℕ, zero, suc, ◌+◌, ◌-◌, ◌*◌, ◌<◌, ◌≤◌, List, [], ◌∷◌, ◌++◌, length, take, drop, false, refl, sym, ap, ◌∙◌, arith, inl, inr}
-use Rattle.std.specs.Prelude.{Bool, Contains}
-use Rattle.std.proofs.lemmas.List.{length-take, take_all}
-use Rattle.std.proofs.Math.Seq.{take-add}
+use Rattle.std.proofs.Common.{◌≡◌, ◌⊎◌, ℕ, zero, suc, ◌-◌, ◌*◌, ◌<◌, List, ◌++◌, length, take, drop, false, sym, ◌∙◌, arith, inl, inr}
+use Rattle.std.specs.Prelude.{Bool}
 use Rattle.b3word.specs.declared.input.Input.{Input}
 use Rattle.b3word.specs.Compression.{cv}
 use Rattle.b3tree.specs.declared.mode.Mode.{Mode}
-use Rattle.b3tree.specs.Chunk.{block, block_count, block_words, chunk_input, last_chunk_input}
+use Rattle.b3tree.specs.Chunk.{block, block_count, chunk_input, last_chunk_input}
 use Rattle.bao_check.specs.Inputs.{marked, whole_chunk}
-use Rattle.bao_check.proofs.BlockWords.{AreBytes, AreBytes-drop, AreBytes-take, block_words_same}
-use Rattle.bao_check.proofs.Marks.{SameParts, chunk_input_low, first_alone, same_parts}
+use Rattle.b3tree.proofs.BlockWords.{AreBytes, AreBytes-drop, AreBytes-take, block_words_same}
+use Rattle.b3tree.proofs.ChunkInputs.{chunk_input_b, chunk_input_h, chunk_input_m, chunk_input_t, length-block, take_blocks, take_whole}
+use Rattle.b3tree.proofs.InputFlags.{chunk_input_low, first_alone}
+use Rattle.bao_check.proofs.Marked.{SameParts, same_parts}
 use Rattle.bao_check.proofs.Naming.{Named, earlier_there, last_there, same_or_named}
-
--- the parts of a chunk's input
-chunk_input_m : (mode : Mode) (i : ℕ) (s : List ℕ) (k : ℕ) → (chunk_input mode i s k).m ≡ block_words (block s k)
-unfolding chunk_input
-chunk_input_m mode i s zero = refl
-chunk_input_m mode i s (suc k) = refl
-
-chunk_input_t : (mode : Mode) (i : ℕ) (s : List ℕ) (k : ℕ) → (chunk_input mode i s k).t ≡ i
-unfolding chunk_input
-chunk_input_t mode i s zero = refl
-chunk_input_t mode i s (suc k) = refl
-
-chunk_input_b : (mode : Mode) (i : ℕ) (s : List ℕ) (k : ℕ) → (chunk_input mode i s k).b ≡ length (block s k)
-unfolding chunk_input
-chunk_input_b mode i s zero = refl
-chunk_input_b mode i s (suc k) = refl
-
-chunk_input_h : (mode : Mode) (i : ℕ) (s : List ℕ) (k : ℕ) → (chunk_input mode i s (suc k)).h ≡ cv (chunk_input mode i s k)
-unfolding chunk_input
-chunk_input_h mode i s k = refl
-
--- one block more
-take_blocks : (s : List ℕ) (k : ℕ) → take (64 * suc k) s ≡ take (64 * k) s ++ block s k
-take_blocks s k = let e : 64 * suc k ≡ 64 * k + 64 = omega arith in ap (λ (n : ℕ). take n s) e ∙ take-add (64 * k) 64 s
 
 -- blocks of inputs that are equal but for ROOT
 same_block : (mode : Mode) (i j : ℕ) (s t : List ℕ) (k l : ℕ) → AreBytes s → AreBytes t → SameParts (chunk_input mode i s k) (chunk_input mode j t l) → block s k ≡ block t l
 same_block mode i j s t k l hs ht same =
-    let short : length (block s k) ≤ 64 = omega (arith, length-take 64 (drop (64 * k) s)) in
     block_words_same (block s k) (block t l)
     (sym (chunk_input_b mode i s k) ∙ same.b ∙ chunk_input_b mode j t l)
-    short
+    (length-block s k)
     (AreBytes-take 64 (drop (64 * k) s) (AreBytes-drop (64 * k) s hs))
     (AreBytes-take 64 (drop (64 * l) t) (AreBytes-drop (64 * l) t ht))
     (sym (chunk_input_m mode i s k) ∙ same.m ∙ chunk_input_m mode j t l)
@@ -72,10 +47,6 @@ blocks_bind top mode i j s t (suc k) (suc l) hs ht ks lt same =
                 inl (take_blocks s (suc k) ∙ (λ n. before n ++ here n) ∙ sym (take_blocks t (suc l)))
           ]
     ]
-
--- all blocks are the chunk
-take_whole : (s : List ℕ) → take (64 * suc (block_count (length s) - 1)) s ≡ s
-take_whole s = take_all (64 * suc (block_count (length s) - 1)) s (omega arith)
 
 -- two chunks with one chaining value
 pub chunk_binds : (top : Bool) (mode : Mode) (i j : ℕ) (s t : List ℕ) → AreBytes s → AreBytes t

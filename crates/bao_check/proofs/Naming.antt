@@ -1,25 +1,29 @@
 -- Pairs of inputs that are named, and where inputs stand in a chunk's list.
-use Rattle.std.proofs.Common.{◌≡◌, ◌≢◌, ◌⊎◌, ℕ, suc, ◌+◌, ◌-◌, ◌<◌, List, [], ◌∷◌, ◌++◌, length, map, refl, arith, inl, inr, zero-add}
+use Rattle.std.proofs.Common.{◌≡◌, ◌≢◌, ◌⊎◌, ℕ, suc, ◌-◌, ◌<◌, List, [], ◌∷◌, length, map, refl, arith, inl, inr, zero-add}
 use Rattle.std.specs.Prelude.{Contains, Bool}
 use Rattle.std.specs.List.{range_with_len}
 use Rattle.std.proofs.lemmas.List.Elements.{Contains-append_left, Contains-push}
 use Rattle.std.proofs.lemmas.List.FromFn.{get_or-map-range_with_len, length-map-range_with_len}
 use Rattle.b3word.specs.declared.input.Input.{Input}
 use Rattle.b3word.specs.Compression.{cv}
+use Rattle.b3word.proofs.SameInput.{same_input}
 use Rattle.b3tree.specs.declared.mode.Mode.{Mode}
 use Rattle.b3tree.specs.Chunk.{block_count, chunk_input, last_chunk_input}
 use Rattle.bao_check.specs.Inputs.{Names, marked, whole_chunk}
-use Rattle.bao_check.proofs.Deciding.{same_input}
 
 -- two inputs are named, one of each list
 abbrev pub Named : List Input → List Input → Type 0
 Named ours theirs = (x : Input) × ((y : Input) × Names ours theirs x y)
 
--- inputs with one chaining value are equal, or they are named
+-- inputs that differ and have one chaining value are named
+pub Named-by : (ours theirs : List Input) (x y : Input) → Contains ours x → Contains theirs y → cv x ≡ cv y → x ≢ y → Named ours theirs
+Named-by ours theirs x y our their same differ = (x, (y, record { our = our; their = their; differ = differ; same = same }))
+
+-- those with one chaining value are equal or named
 pub same_or_named : (ours theirs : List Input) (x y : Input) → Contains ours x → Contains theirs y → cv x ≡ cv y → (x ≡ y) ⊎ Named ours theirs
 same_or_named ours theirs x y our their same = elim (same_input x y) [
   | inl equal ↦ inl equal
-  | inr differ ↦ inr (x, (y, record { our = our; their = their; differ = differ; same = same }))
+  | inr differ ↦ inr (Named-by ours theirs x y our their same differ)
 ]
 
 -- those that are named in lists are named in larger ones
