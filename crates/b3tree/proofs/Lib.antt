@@ -8,3 +8,7 @@ pub mod Joining
 pub mod Taking
 pub mod SameMode
 pub mod Ranges
+pub mod BlockWords
+pub mod ChunkInputs
+pub mod InputWords
+pub mod InputFlags
