@@ -1,22 +1,13 @@
--- Words from bytes and back: equal words come from equal bytes.
+-- Equal words come from equal bytes.
 use Rattle.std.proofs.Common.{◌≡◌, ℕ, zero, suc, ◌+◌, ◌-◌, ◌*◌, ◌/◌, ◌%◌, ◌<◌, ◌≤◌, List, [], ◌∷◌, ◌++◌, length, take, drop, get_or, refl, sym, ap, ◌∙◌, arith, inl, inr, zero-add, length-append}
 use Rattle.std.specs.Prelude.{replicate}
-use Rattle.std.specs.Int.{w32, from_le_bytes}
 use Rattle.std.proofs.lemmas.Bool.{cases_lt}
 use Rattle.std.proofs.lemmas.List.{ext_get_or, get_or-drop, length-replicate, take_at}
-use Rattle.std.proofs.lemmas.List.FromFn.{fill_by_all, get_or-map-range_with_len}
-use Rattle.std.proofs.lemmas.Nat.{from_le_bytes-to_le_bytes_4, le_bytes_4}
-use Rattle.b3word.specs.declared.input.Input.{Input}
-use Rattle.b3word.specs.Compression.{cv, out}
-use Rattle.b3word.proofs.Ranges.{AreWords, IsInput, cv_words, length-cv}
-use Rattle.b3tree.specs.Bytes.{bytes_of, word_at, words_of}
+use Rattle.std.proofs.lemmas.List.FromFn.{get_or-map-range_with_len}
+use Rattle.std.proofs.lemmas.Nat.{le_bytes_4}
+use Rattle.b3tree.specs.Bytes.{word_at, words_of}
 use Rattle.b3tree.specs.Chunk.{block_words, padded}
-use Rattle.b3tree.specs.Hashing.{root_hash}
-use Rattle.b3tree.proofs.Words.{bytes_of-take}
-
--- each element is below 256
-pub record AreBytes (xs : List ℕ) : Type 0 where
-  pub at : (k : ℕ) → get_or xs k 0 < 256
+use Rattle.b3tree.specs.Valid.{AreBytes}
 
 AreBytes-nil : AreBytes []
 AreBytes-nil = record { at = λ k. omega arith }
@@ -98,26 +89,3 @@ block_words_same a b len one ha hb e =
     let pb : AreBytes (padded b) = AreBytes-append b (replicate (64 - length b) 0) hb (AreBytes-zeros (64 - length b)) in
     let same : padded a ≡ padded b = words_same 16 (padded a) (padded b) (length-padded a one) (length-padded b (omega arith)) pa pb e in
     sym (take_at a (replicate (64 - length a) 0) (length a) refl) ∙ ap (take (length a)) same ∙ take_at b (replicate (64 - length b) 0) (length a) (sym len)
-
--- word k of the bytes of words
-word_at-next : (w : ℕ) (ws : List ℕ) (k : ℕ) → word_at (bytes_of (w ∷ ws)) (suc k) ≡ word_at (bytes_of ws) k
-word_at-next w ws k =
-    let e0 : 4 * suc k ≡ suc (suc (suc (suc (4 * k)))) = omega arith in
-    let e1 : 4 * suc k + 1 ≡ suc (suc (suc (suc (4 * k + 1)))) = omega arith in
-    let e2 : 4 * suc k + 2 ≡ suc (suc (suc (suc (4 * k + 2)))) = omega arith in
-    let e3 : 4 * suc k + 3 ≡ suc (suc (suc (suc (4 * k + 3)))) = omega arith in
-    let all : List ℕ = bytes_of (w ∷ ws) in
-    λ i. from_le_bytes w32 (get_or all (e0 i) 0 ∷ get_or all (e1 i) 0 ∷ get_or all (e2 i) 0 ∷ get_or all (e3 i) 0 ∷ [])
-
-word_at-bytes_of : (ws : List ℕ) (k : ℕ) → AreWords ws → k < length ws → word_at (bytes_of ws) k ≡ get_or ws k 0
-word_at-bytes_of [] k words below = absurd (omega arith)
-word_at-bytes_of (w ∷ ws) zero words below = from_le_bytes-to_le_bytes_4 w (words.at 0)
-word_at-bytes_of (w ∷ ws) (suc k) words below = word_at-next w ws k ∙ word_at-bytes_of ws k (record { at = λ j. words.at (suc j) }) (omega arith)
-
-words_of-bytes_of : (n : ℕ) (ws : List ℕ) → length ws ≡ n → AreWords ws → words_of n (bytes_of ws) ≡ ws
-words_of-bytes_of n ws len words =
-    sym (fill_by_all (word_at (bytes_of ws)) ws n 0 len (λ k below. sym (word_at-bytes_of ws k words (omega arith))))
-
--- the words of a root's hash are its chaining value
-pub root_hash_words : (x : Input) → IsInput x → words_of 8 (root_hash x) ≡ cv x
-root_hash_words x is = ap (words_of 8) (bytes_of-take 8 (out x)) ∙ words_of-bytes_of 8 (cv x) (length-cv x) (cv_words x is)

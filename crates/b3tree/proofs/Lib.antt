@@ -10,5 +10,4 @@ pub mod SameMode
 pub mod Ranges
 pub mod BlockWords
 pub mod ChunkInputs
-pub mod InputWords
 pub mod InputFlags

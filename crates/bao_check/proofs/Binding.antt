@@ -2,7 +2,7 @@
 use Rattle.std.proofs.Common.{◌≡◌, ◌⊎◌, ℕ, ◌+◌, ◌-◌, ◌*◌, ◌/◌, ◌<◌, ◌≤◌, List, [], ◌∷◌, ◌++◌, length, take, drop, false, true, refl, sym, ap, ◌∙◌, arith, inl, inr, length-drop}
 use Rattle.std.specs.Prelude.{Bool, Contains, Some}
 use Rattle.std.specs.List.{AllByRecursion}
-use Rattle.std.proofs.lemmas.Bool.{cases_lt, lt-ltb, true≢false}
+use Rattle.std.proofs.lemmas.Bool.{cases_lt, lt-ltb}
 use Rattle.std.proofs.lemmas.List.{drop-drop, drop-take, drop_at, length-take-le, take-take, take_all, take_at}
 use Rattle.std.proofs.lemmas.List.Elements.{Contains-append_left, Contains-append_right}
 use Rattle.std.proofs.lemmas.List.FromFn.{length-map-range_with_len}
@@ -14,9 +14,10 @@ use Rattle.b3tree.specs.Bytes.{word_at, words_of}
 use Rattle.b3tree.specs.Chunk.{block_count, last_chunk_input}
 use Rattle.b3tree.specs.Hashing.{hash, rooted}
 use Rattle.b3tree.specs.Tree.{left_len, parent_input, subtree_cv, top_input}
-use Rattle.b3tree.proofs.BlockWords.{AreBytes, AreBytes-drop, AreBytes-take, root_hash_words}
+use Rattle.b3tree.specs.Valid.{AreBytes, IsKeyed}
+use Rattle.b3tree.proofs.BlockWords.{AreBytes-drop, AreBytes-take}
 use Rattle.b3tree.proofs.InputFlags.{chunk_input_low, not_parent, parent_low}
-use Rattle.b3tree.proofs.InputWords.{IsKeyed, root_words}
+use Rattle.b3tree.proofs.Ranges.{words_of-hash}
 use Rattle.b3tree.proofs.LeftLen.{left_len-IsLeftLen}
 use Rattle.b3tree.proofs.TopInput.{top_input-chunk, top_input-parent}
 use Rattle.bao_text.specs.Choice.{chunk_count}
@@ -24,22 +25,14 @@ use Rattle.bao_text.specs.Nodes.{Side, left, right}
 use Rattle.bao_text.proofs.SubtreeText.{Parts, left_len-Parts}
 use Rattle.bao_check.specs.Accepted.{part_value}
 use Rattle.bao_check.specs.Certificate.{Begins, Certificate, Follows, IsLast, Step, half, step_input}
-use Rattle.bao_check.specs.Inputs.{Names, blob_inputs, marked, whole_chunk}
+use Rattle.bao_check.specs.Inputs.{Names, blob_inputs, certificate_inputs, marked, way_inputs, whole_chunk}
 use Rattle.bao_check.specs.Pieces.{chunk_of}
 use Rattle.bao_check.proofs.ChunkBinding.{chunk_binds}
+use Rattle.bao_check.proofs.Lists.{Contains-head, Contains-tail}
 use Rattle.bao_check.proofs.Marked.{SameParts, same_parts}
-use Rattle.bao_check.proofs.Naming.{Contains-head, Contains-tail, Named, Named-by, Named-within, last_there, same_or_named}
+use Rattle.bao_check.proofs.Naming.{Named, Named-by, Named-within, last_there, same_or_named}
+use Rattle.bao_check.proofs.Parts.{left_right}
 use Rattle.bao_check.proofs.SubtreeInputs.{blob_inputs-subtree, subtree_inputs, subtree_inputs-chunk, subtree_inputs-parent, subtree_parent}
-
--- the inputs of a way down to a chunk: the parents of its steps, the first marked, and the chunk's
--- whole list, whose last is marked where there is no step
-abbrev pub way_inputs : Bool → Mode → List Step → ℕ → List ℕ → List Input
-way_inputs top mode [] number bytes = whole_chunk top mode number bytes
-way_inputs top mode (step ∷ steps) number bytes = marked top (step_input mode step) ∷ way_inputs false mode steps number bytes
-
--- the inputs that a certificate is made of
-abbrev pub certificate_inputs : {mode : Mode} {root : List ℕ} {number : ℕ} {bytes : List ℕ} → Certificate mode root number bytes → List Input
-certificate_inputs {mode = mode} {number = number} {bytes = bytes} certificate = way_inputs true mode certificate.steps number bytes
 
 -- The first chaining value of each step has eight words, as it has where it is read from a text: so a
 -- parent's sixteen words part into its two values in one way.
@@ -48,6 +41,7 @@ HaveEight steps = AllByRecursion (λ step. length step.near ≡ 8) steps
 
 -- it has where it is a half of a parent's bytes
 pub length-part_value : (side : Side) (bytes : List ℕ) → length (part_value side bytes) ≡ 8
+unfolding part_value
 length-part_value left bytes = length-map-range_with_len (word_at (take 32 bytes)) 0 8
 length-part_value right bytes = length-map-range_with_len (word_at (drop 32 bytes)) 0 8
 
@@ -83,14 +77,6 @@ side_cases : (side : Side) → (side ≡ left) ⊎ (side ≡ right)
 side_cases left = inl refl
 side_cases right = inr refl
 
-is_left : Side → Bool
-is_left left = true
-is_left right = false
-
-left≢right : left ≡ right → ⊥
-unfolding is_left
-left≢right e = true≢false (ap is_left e)
-
 -- on the left side of a parent
 reached_left : (first : ℕ) (s : List ℕ) (l : ℕ) (step : Step) (steps : List Step) (number : ℕ) (bytes : List ℕ) → Parts (length s) l → step.side ≡ left
     → Reached first (take l s) steps number bytes → Reached first s (step ∷ steps) number bytes
@@ -108,7 +94,7 @@ reached_left first s l step steps number bytes parts side h =
       number_is = h.number_is;
       there = omega (arith, parts.below);
       bytes_are = sym cut ∙ h.bytes_are;
-      last = λ rights. absurd (left≢right (sym side ∙ rights.0));
+      last = λ rights. absurd (left_right (sym side ∙ rights.0));
     }
 
 -- and on the right
@@ -136,9 +122,10 @@ parent_not_chunk top mode near far i s e =
 
 -- the parent over s, and the inputs below it on either side
 parent_there : (top : Bool) (mode : Mode) (first : ℕ) (s : List ℕ) → 1024 < length s → Contains (subtree_inputs top mode first s) (marked top (subtree_parent mode first s))
-parent_there top mode first s more = rw (subtree_inputs-parent top mode first s more) (Contains-head (marked top (subtree_parent mode first s))
+parent_there top mode first s more = rw (subtree_inputs-parent top mode first s more) (Contains-head
     (subtree_inputs false mode first (take (left_len (length s)) s)
-    ++ subtree_inputs false mode (first + left_len (length s) / 1024) (drop (left_len (length s)) s)))
+    ++ subtree_inputs false mode (first + left_len (length s) / 1024) (drop (left_len (length s)) s))
+    (marked top (subtree_parent mode first s)))
 
 left_there : (top : Bool) (mode : Mode) (first : ℕ) (s : List ℕ) → 1024 < length s → (x : Input)
     → Contains (subtree_inputs false mode first (take (left_len (length s)) s)) x → Contains (subtree_inputs top mode first s) x
@@ -146,7 +133,7 @@ left_there top mode first s more x there =
     let near : List Input = subtree_inputs false mode first (take (left_len (length s)) s) in
     let far : List Input = subtree_inputs false mode (first + left_len (length s) / 1024) (drop (left_len (length s)) s) in
     rw (subtree_inputs-parent top mode first s more)
-    (Contains-tail (marked top (subtree_parent mode first s)) x (near ++ far) (Contains-append_left near far x there))
+    (Contains-tail (near ++ far) (marked top (subtree_parent mode first s)) x (Contains-append_left near far x there))
 
 right_there : (top : Bool) (mode : Mode) (first : ℕ) (s : List ℕ) → 1024 < length s → (x : Input)
     → Contains (subtree_inputs false mode (first + left_len (length s) / 1024) (drop (left_len (length s)) s)) x → Contains (subtree_inputs top mode first s) x
@@ -154,7 +141,7 @@ right_there top mode first s more x there =
     let near : List Input = subtree_inputs false mode first (take (left_len (length s)) s) in
     let far : List Input = subtree_inputs false mode (first + left_len (length s) / 1024) (drop (left_len (length s)) s) in
     rw (subtree_inputs-parent top mode first s more)
-    (Contains-tail (marked top (subtree_parent mode first s)) x (near ++ far) (Contains-append_right near far x there))
+    (Contains-tail (near ++ far) (marked top (subtree_parent mode first s)) x (Contains-append_right near far x there))
 
 -- the top of more than a chunk
 top_parent : (mode : Mode) (first : ℕ) (s : List ℕ) → 1024 < length s → top_input mode first s ≡ subtree_parent mode first s
@@ -189,7 +176,7 @@ way_binds top mode first s (step ∷ steps) number bytes hs hb eight same on =
           let chunk : cv (marked top (last_chunk_input mode first s)) ≡ cv (marked top (top_input mode first s)) = ap (λ (x : Input). cv (marked top x)) (sym (top_input-chunk mode first s one)) in
           inr (rw (subtree_inputs-chunk top mode first s one)
           (Named-by (whole_chunk top mode first s) theirs (marked top (last_chunk_input mode first s)) (marked top y)
-          (last_there top mode first s) (Contains-head (marked top y) others) (chunk ∙ same) (λ e. parent_not_chunk top mode step.near step.far first s (sym e))))
+          (last_there top mode first s) (Contains-head others (marked top y)) (chunk ∙ same) (λ e. parent_not_chunk top mode step.near step.far first s (sym e))))
       | inl more ↦
           let l : ℕ = left_len (length s) in
           let parts : Parts (length s) l = left_len-Parts (length s) more in
@@ -198,7 +185,7 @@ way_binds top mode first s (step ∷ steps) number bytes hs hb eight same on =
           let near : List ℕ = subtree_cv mode first (take l s) in
           let far : List ℕ = subtree_cv mode (first + l / 1024) (drop l s) in
           let parent : cv (marked top x) ≡ cv (marked top (top_input mode first s)) = ap (λ (z : Input). cv (marked top z)) (sym (top_parent mode first s more)) in
-          elim (same_or_named ours theirs (marked top x) (marked top y) (parent_there top mode first s more) (Contains-head (marked top y) others) (parent ∙ same)) [
+          elim (same_or_named ours theirs (marked top x) (marked top y) (parent_there top mode first s more) (Contains-head others (marked top y)) (parent ∙ same)) [
             | inr named ↦ inr named
             | inl equal ↦
                 let parts_same : SameParts x y = same_parts top x y equal in
@@ -213,7 +200,7 @@ way_binds top mode first s (step ∷ steps) number bytes hs hb eight same on =
                         | inl reached ↦ inl (reached_left first s l step steps number bytes parts is reached)
                         | inr named ↦
                             inr (Named-within (subtree_inputs false mode first (take l s)) others ours theirs
-                            (left_there top mode first s more) (λ z there. Contains-tail (marked top y) z others there) named)
+                            (left_there top mode first s more) (λ z there. Contains-tail others (marked top y) z there) named)
                       ]
                   | inr is ↦
                       let value : far ≡ cv (first_input mode steps number bytes) = far_same ∙ sym (next.0 ∙ ap (λ (side : Side). half side step) is) in
@@ -221,7 +208,7 @@ way_binds top mode first s (step ∷ steps) number bytes hs hb eight same on =
                         | inl reached ↦ inl (reached_right first s l step steps number bytes parts reached)
                         | inr named ↦
                             inr (Named-within (subtree_inputs false mode (first + l / 1024) (drop l s)) others ours theirs
-                            (right_there top mode first s more) (λ z there. Contains-tail (marked top y) z others there) named)
+                            (right_there top mode first s more) (λ z there. Contains-tail others (marked top y) z there) named)
                       ]
                 ]
           ]
@@ -235,11 +222,10 @@ pub certificate_binds : (mode : Mode) (root blob : List ℕ) (number : ℕ) (byt
     → IsKeyed mode → AreBytes blob → AreBytes bytes → HaveEight c.steps → hash mode blob ≡ root
     → ((chunk_of blob number ≡ Some bytes) × (IsLast c → 1024 * number + length bytes ≡ length blob))
     ⊎ ((x : Input) × ((y : Input) × Names (blob_inputs mode blob) (certificate_inputs c) x y))
-unfolding hash
 certificate_binds mode root blob number bytes c keyed hblob hbytes eight is =
     let x : Input = top_input mode 0 blob in
     let begins : (cv (rooted (first_input mode c.steps number bytes)) ≡ words_of 8 root) × GoesOn mode c.steps number bytes = begins_first mode root c.steps number bytes c.holds in
-    let words : cv (rooted x) ≡ words_of 8 root = sym (root_hash_words (rooted x) (root_words mode blob keyed)) ∙ ap (words_of 8) is in
+    let words : cv (rooted x) ≡ words_of 8 root = sym (words_of-hash mode blob keyed) ∙ ap (words_of 8) is in
     elim (way_binds true mode 0 blob c.steps number bytes hblob hbytes eight (words ∙ sym begins.0) begins.1) [
       | inl reached ↦
           let number_is : reached.at ≡ number = omega (arith, reached.number_is) in

@@ -19,16 +19,13 @@ use Rattle.bao_text.proofs.SubtreeText.{Parts, left_len-Parts}
 use Rattle.bao_check.specs.declared.asked.Asked.{Asked}
 use Rattle.bao_check.specs.Accepted.{IsAccepted, part_value, places_of, slice_nodes}
 use Rattle.bao_check.specs.Certificate.{Begins, Certificate, Follows, IsLast, Step, half, step_input}
-use Rattle.bao_check.specs.Inputs.{is_top, marked, place_inputs, text_inputs, whole_chunk}
+use Rattle.bao_check.specs.Inputs.{certificate_inputs, is_top, marked, place_inputs, text_inputs, way_inputs, whole_chunk}
 use Rattle.bao_check.specs.Pieces.{chunk_in}
 use Rattle.bao_check.specs.Walk.{AreGood, Meets}
-use Rattle.bao_check.proofs.CertificateInputs.{certificate_inputs, inputs_from}
+use Rattle.bao_check.proofs.Binding.{HaveEight, length-part_value}
 use Rattle.bao_check.proofs.Lists.{Contains-cons_cases, Contains-head, Contains-tail, nodes_size}
 use Rattle.bao_check.proofs.Parts.{AreGood-split, PartsGood, below, placed-parent}
-
--- both values of a step are eight words
-abbrev pub IsWhole : Step → Type 0
-IsWhole step = (length step.near ≡ 8) × (length step.far ≡ 8)
+use Rattle.bao_check.proofs.Walking.{chunk_node}
 
 -- the way goes to the right there
 abbrev pub GoesRight : Step → Type 0
@@ -56,8 +53,8 @@ Begins-root mode root (step ∷ steps) last h = h
 record Way (asked : Asked) (mode : Mode) (text : List ℕ) (places : List (ℕ × Node)) (number n k : ℕ) (bytes : List ℕ) : Type 0 where
   steps : List Step
   holds : Starts asked mode steps (last_chunk_input mode k bytes)
-  inputs : (x : Input) → Contains (inputs_from asked.top mode steps k bytes) x → Contains (text_inputs mode text places) x
-  halves : AllByRecursion IsWhole steps
+  inputs : (x : Input) → Contains (way_inputs asked.top mode steps k bytes) x → Contains (text_inputs mode text places) x
+  eight : HaveEight steps
   within : k + 1 ≤ number + chunk_count n
   size : length bytes ≤ 1024
   full : k + 1 < number + chunk_count n → length bytes ≡ 1024
@@ -82,10 +79,6 @@ is_top-below : (sides : List Side) (side : Side) → false ≡ is_top (sides ++ 
 is_top-below [] side = refl
 is_top-below (d ∷ sides) side = refl
 
--- the node of a chunk
-abbrev chunk_node : ℕ → ℕ → List Side → ℕ → Node
-chunk_node number n sides source = record { is_chunk = true; number = number; len = n; sides = sides; source = source }
-
 -- that chunk is what the text has there
 same_chunk : (text : List ℕ) (at number n : ℕ) (sides : List Side) (source k : ℕ) (bytes : List ℕ)
     → chunk_in text ((at, chunk_node number n sides source) ∷ []) k ≡ Some bytes → (number ≡ k) × (take n (drop at text) ≡ bytes)
@@ -105,7 +98,7 @@ way-here asked mode text at number n sides source top one fits meets =
       holds = meets;
       inputs = λ x h. Contains-append_left (whole_chunk (is_top sides) mode number (take n (drop at text))) [] x
           (subst (λ (t : Bool). Contains (whole_chunk t mode number (take n (drop at text))) x) top h);
-      halves = tt;
+      eight = tt;
       within = omega arith;
       size = omega arith;
       full = λ less. omega arith;
@@ -168,11 +161,11 @@ way-small asked choice mode text at number n sides source k bytes top one good t
 inputs-step : (asked : Asked) (mode : Mode) (text : List ℕ) (q : ℕ × Node) (near far own : List (ℕ × Node)) (step : Step) (steps : List Step) (k : ℕ) (bytes : List ℕ)
     → ((x : Input) → Contains (text_inputs mode text own) x → Contains (text_inputs mode text (near ++ far)) x)
     → place_inputs mode text q ≡ marked asked.top (step_input mode step) ∷ []
-    → ((x : Input) → Contains (inputs_from false mode steps k bytes) x → Contains (text_inputs mode text own) x)
-    → (x : Input) → Contains (inputs_from asked.top mode (step ∷ steps) k bytes) x → Contains (text_inputs mode text (q ∷ (near ++ far))) x
+    → ((x : Input) → Contains (way_inputs false mode steps k bytes) x → Contains (text_inputs mode text own) x)
+    → (x : Input) → Contains (way_inputs asked.top mode (step ∷ steps) k bytes) x → Contains (text_inputs mode text (q ∷ (near ++ far))) x
 inputs-step asked mode text q near far own step steps k bytes further first rest x h =
     subst (λ (xs : List Input). Contains (xs ++ text_inputs mode text (near ++ far)) x) (sym first)
-    (elim (Contains-cons_cases (inputs_from false mode steps k bytes) (marked asked.top (step_input mode step)) x h) [
+    (elim (Contains-cons_cases (way_inputs false mode steps k bytes) (marked asked.top (step_input mode step)) x h) [
       | inl same ↦ subst (Contains (marked asked.top (step_input mode step) ∷ text_inputs mode text (near ++ far))) (sym same)
           (Contains-head (text_inputs mode text (near ++ far)) (marked asked.top (step_input mode step)))
       | inr later ↦ Contains-tail (text_inputs mode text (near ++ far)) (marked asked.top (step_input mode step)) x (further x (rest x later))
@@ -215,7 +208,6 @@ way-near : (asked : Asked) (mode : Mode) (text : List ℕ) (at number n : ℕ) (
     → Meets asked (parent_input mode (part_value left (take 64 (drop at text))) (part_value right (take 64 (drop at text))))
     → Way (below left (take 64 (drop at text))) mode text near number (left_len n) k bytes
     → Way asked mode text ((at, parent_node number n sides source) ∷ (near ++ far)) number n k bytes
-unfolding part_value
 way-near asked mode text at number n sides source k bytes near far top more meets way =
     let l : ℕ = left_len n in
     let parts : Parts n l = left_len-Parts n more in
@@ -232,7 +224,7 @@ way-near asked mode text at number n sides source k bytes near far top more meet
       steps = step ∷ way.steps;
       holds = (meets, Follows-below left bs mode way.steps (last_chunk_input mode k bytes) way.holds);
       inputs = inputs-step asked mode text q near far near step way.steps k bytes (text_inputs-near mode text near far) first way.inputs;
-      halves = ((refl, refl), way.halves);
+      eight = (length-part_value left bs, way.eight);
       within = omega arith;
       size = way.size;
       full = λ _. near_full number l k bytes near_count parts.whole way.full way.ends inner;
@@ -245,7 +237,6 @@ way-far : (asked : Asked) (mode : Mode) (text : List ℕ) (at number n : ℕ) (s
     → Meets asked (parent_input mode (part_value left (take 64 (drop at text))) (part_value right (take 64 (drop at text))))
     → Way (below right (take 64 (drop at text))) mode text far (number + left_len n / 1024) (n - left_len n) k bytes
     → Way asked mode text ((at, parent_node number n sides source) ∷ (near ++ far)) number n k bytes
-unfolding part_value
 way-far asked mode text at number n sides source k bytes near far top more meets way =
     let l : ℕ = left_len n in
     let parts : Parts n l = left_len-Parts n more in
@@ -261,7 +252,7 @@ way-far asked mode text at number n sides source k bytes near far top more meets
       steps = step ∷ way.steps;
       holds = (meets, Follows-below right bs mode way.steps (last_chunk_input mode k bytes) way.holds);
       inputs = inputs-step asked mode text q near far far step way.steps k bytes (text_inputs-far mode text near far) first way.inputs;
-      halves = ((refl, refl), way.halves);
+      eight = (length-part_value left bs, way.eight);
       within = omega (arith, way.within);
       size = way.size;
       full = λ less. way.full (omega arith);
@@ -314,7 +305,7 @@ way-levels (suc levels) asked choice mode text at number n sides source k bytes 
 pub record IsCertified (mode : Mode) (root text : List ℕ) (places : List (ℕ × Node)) (total number : ℕ) (bytes : List ℕ) : Type 0 where
   pub certificate : Certificate mode root number bytes
   pub inputs : (x : Input) → Contains (certificate_inputs certificate) x → Contains (text_inputs mode text places) x
-  pub halves : AllByRecursion (λ step. (length step.near ≡ 8) × (length step.far ≡ 8)) certificate.steps
+  pub eight : HaveEight certificate.steps
   pub within : number < chunk_count total
   pub size : length bytes ≤ 1024
   pub full : number + 1 < chunk_count total → length bytes ≡ 1024
@@ -332,7 +323,7 @@ chosen_certified choice mode root text total accepted number bytes there =
     record {
       certificate = record { steps = way.steps; holds = Begins-root mode root way.steps (last_chunk_input mode number bytes) way.holds };
       inputs = way.inputs;
-      halves = way.halves;
+      eight = way.eight;
       within = omega (arith, way.within);
       size = way.size;
       full = λ less. way.full (omega arith);

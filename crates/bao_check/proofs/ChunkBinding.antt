@@ -5,7 +5,8 @@ use Rattle.b3word.specs.declared.input.Input.{Input}
 use Rattle.b3word.specs.Compression.{cv}
 use Rattle.b3tree.specs.declared.mode.Mode.{Mode}
 use Rattle.b3tree.specs.Chunk.{block, block_count, chunk_input, last_chunk_input}
-use Rattle.b3tree.proofs.BlockWords.{AreBytes, AreBytes-drop, AreBytes-take, block_words_same}
+use Rattle.b3tree.specs.Valid.{AreBytes}
+use Rattle.b3tree.proofs.BlockWords.{AreBytes-drop, AreBytes-take, block_words_same}
 use Rattle.b3tree.proofs.ChunkInputs.{chunk_input_b, chunk_input_h, chunk_input_m, chunk_input_t, length-block, take_blocks, take_whole}
 use Rattle.b3tree.proofs.InputFlags.{chunk_input_low, first_alone}
 use Rattle.bao_check.specs.Inputs.{marked, whole_chunk}

@@ -33,12 +33,6 @@ Named-within ours theirs more others left right named =
     let names : Names ours theirs named.0 named.1.0 = named.1.1 in
     (named.0, (named.1.0, record { our = left named.0 names.our; their = right named.1.0 names.their; differ = names.differ; same = names.same }))
 
-pub Contains-head : (x : Input) (xs : List Input) → Contains (x ∷ xs) x
-Contains-head x xs = (0, omega arith, refl)
-
-pub Contains-tail : (x y : Input) (xs : List Input) → Contains xs y → Contains (x ∷ xs) y
-Contains-tail x y xs there = (suc there.0, omega (arith, there.1), there.2)
-
 -- the inputs before the last of a chunk
 pub earlier_there : (top : Bool) (mode : Mode) (i : ℕ) (s : List ℕ) (k : ℕ) → suc k < block_count (length s) → Contains (whole_chunk top mode i s) (chunk_input mode i s k)
 earlier_there top mode i s k below =

@@ -12,6 +12,7 @@ use Rattle.b3tree.specs.Bytes.{bytes_of, words_of}
 use Rattle.b3tree.specs.Chunk.{last_chunk_input}
 use Rattle.b3tree.specs.Hashing.{hash, rooted}
 use Rattle.b3tree.specs.Tree.{left_len, parent_input, subtree_cv, top_input}
+use Rattle.b3tree.specs.Valid.{IsKeyed}
 use Rattle.b3tree.proofs.LeftLen.{left_len-IsLeftLen}
 use Rattle.b3tree.proofs.Ranges.{top_input-IsInput, words_of-cv, words_of-hash}
 use Rattle.b3tree.proofs.TopInput.{top_input-chunk, top_input-parent}
@@ -27,7 +28,6 @@ use Rattle.bao_text.proofs.TextNodes.{length-span, span, span-left, span-right}
 use Rattle.bao_check.specs.declared.asked.Asked.{Asked}
 use Rattle.bao_check.specs.Accepted.{IsAccepted, outboard_nodes, part_value, slice_nodes}
 use Rattle.bao_check.specs.Walk.{AreGood, Meets}
-use Rattle.bao_check.proofs.Keyed.{IsKeyed}
 use Rattle.bao_check.proofs.Lists.{Contains-cons_cases, nodes_size}
 use Rattle.bao_check.proofs.Sizes.{nodes_size-parent}
 use Rattle.bao_check.proofs.Parts.{AreGood-join, below}
@@ -155,7 +155,7 @@ near_value mode first s keyed more fits =
     let near_len : length (take l s) ≡ l = length-take-le l s (omega (arith, parts.below)) in
     let size : length (bytes_of (cv near)) ≡ 32 = length-bytes_of (cv near) ∙ ap (λ (k : ℕ). 4 * k) (length-cv near) in
     ap (words_of 8) (take_at (bytes_of (cv near)) (bytes_of (cv far)) 32 size)
-    ∙ words_of-cv near (top_input-IsInput mode first (take l s) keyed.words keyed.flags (omega (arith, parts.below)))
+    ∙ words_of-cv near (top_input-IsInput mode first (take l s) keyed (omega (arith, parts.below)))
 
 far_value : (mode : Mode) (first : ℕ) (s : List ℕ) → IsKeyed mode → 1024 < length s → 1024 * first + length s < 2 ^ 64
     → part_value right (parent_text mode first s) ≡ subtree_cv mode (first + left_len (length s) / 1024) (drop (left_len (length s)) s)
@@ -168,7 +168,7 @@ far_value mode first s keyed more fits =
     let far_len : length (drop l s) ≡ length s - l = length-drop l s in
     let size : length (bytes_of (cv near)) ≡ 32 = length-bytes_of (cv near) ∙ ap (λ (k : ℕ). 4 * k) (length-cv near) in
     ap (words_of 8) (drop_at (bytes_of (cv near)) (bytes_of (cv far)) 32 size)
-    ∙ words_of-cv far (top_input-IsInput mode (first + l / 1024) (drop l s) keyed.words keyed.flags (omega (arith, parts.whole, parts.below)))
+    ∙ words_of-cv far (top_input-IsInput mode (first + l / 1024) (drop l s) keyed (omega (arith, parts.whole, parts.below)))
 
 -- a chunk's node, where it has one
 chunk_good : (asked : Asked) (choice : Choice) (mode : Mode) (text : List ℕ) (at number n : ℕ) (s : List ℕ) (sides : List Side) (source : ℕ) → length s ≡ n
@@ -281,7 +281,7 @@ written_accepted choice mode blob keyed bound =
     let asked : Asked = record { top = true; value = record { 0 = words_of 8 root } } in
     let whole : span blob 0 n ≡ blob = take_all n blob (omega arith) in
     let meets : Meets asked (top_input mode 0 (span blob 0 n)) =
-    (λ i. cv (rooted (top_input mode 0 (whole i)))) ∙ sym (words_of-hash mode blob keyed.words keyed.flags bound) in
+    (λ i. cv (rooted (top_input mode 0 (whole i)))) ∙ sym (words_of-hash mode blob keyed) in
     let here : At text 8 (subtree_text choice mode 0 (span blob 0 n)) = record {
       before = first;
       after = [];

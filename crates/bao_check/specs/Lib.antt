@@ -6,6 +6,7 @@ pub mod Faults
 pub mod Pieces
 pub mod Walk
 pub mod Sources
+pub mod Laws
 pub use Rattle.bao_text.specs.Choice
 pub use Rattle.bao_text.specs.Nodes
 pub use Rattle.bao_text.specs.Texts
