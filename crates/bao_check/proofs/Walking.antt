@@ -20,7 +20,7 @@ use Rattle.bao_check.specs.Walk.{AreGood, AreGoodUpTo, Grows, IsAskedIn, IsGoodI
 use Rattle.bao_check.proofs.Lists.{All-append, All-from_members, All-member, nodes_size, nodes_size-cons}
 use Rattle.bao_check.proofs.Parts.{Tree, below, far_bad, far_good, near_bad, near_good, placed-parent, subtree_Tree, top_bad, top_good, whole_good}
 
-Consumes-then : (a b c : Option (List ℕ)) (xs ys : List ℕ) → Consumes a b xs → Consumes b c ys → Consumes a c (xs ++ ys)
+pub Consumes-then : (a b c : Option (List ℕ)) (xs ys : List ℕ) → Consumes a b xs → Consumes b c ys → Consumes a c (xs ++ ys)
 Consumes-then None b c xs ys h k = tt
 Consumes-then (Some a) None c xs ys h k = absurd h
 Consumes-then (Some a) (Some b) None xs ys h k = absurd k

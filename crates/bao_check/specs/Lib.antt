@@ -5,6 +5,7 @@ pub mod Inputs
 pub mod Faults
 pub mod Pieces
 pub mod Walk
+pub mod Forms
 pub mod Sources
 pub mod Laws
 pub use Rattle.bao_text.specs.Choice

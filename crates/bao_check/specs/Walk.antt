@@ -1,10 +1,11 @@
 -- What is known while a text is walked through, node by node.
-use Rattle.std.specs.Prelude.{◌≡◌, ℕ, ◌+◌, ◌<◌, ◌≤◌, List, [], ◌∷◌, ◌++◌, length, drop, sum_by, Option, Bool, true, false, Contains}
+use Rattle.std.specs.Prelude.{◌≡◌, ◌⊎◌, ℕ, ◌+◌, ◌<◌, ◌≤◌, List, [], ◌∷◌, ◌++◌, length, drop, sum_by, Option, Bool, true, false, Contains}
 use Rattle.std.specs.List.{AllByRecursion}
 use Rattle.std.specs.Io.KnownBytes.{Consumes, IsAtEnd}
 use Rattle.b3word.specs.declared.input.Input.{Input}
 use Rattle.b3word.specs.Compression.{cv}
 use Rattle.b3tree.specs.declared.mode.Mode.{Mode}
+use Rattle.b3tree.specs.Bytes.{words_of}
 use Rattle.b3tree.specs.Chunk.{last_chunk_input}
 use Rattle.b3tree.specs.Tree.{parent_input}
 use Rattle.bao_text.specs.Nodes.{Node, Side, left, placed, right, size}
@@ -112,3 +113,17 @@ StopsAt fails asked sides mode new after places Reader place =
 
 abbrev pub Stops : (CheckFault → Type 0) → Asked → List Side → Mode → List ℕ → Option (List ℕ) → ℕ → List Node → CheckFault → Type 0
 Stops fails asked sides mode new after at nodes fault = (place : ℕ × Node) × StopsAt fails asked sides mode new after (placed at nodes) fault place
+
+-- what the top of a whole text asks for: the words of the root
+abbrev pub asked_root : List ℕ → Asked
+asked_root root = record { top = true; value = record { 0 = words_of 8 root } }
+
+-- The bytes taken are the length and all nodes, which are good, whatever follows.
+pub record PassesText (mode : Mode) (root new : List ℕ) (nodes : List Node) : Type 0 where
+  pub long : 8 ≤ length new
+  pub passes : Passes (asked_root root) [] mode new 8 nodes
+
+-- The check ended within the length, or at a node.
+abbrev pub StopsText : (CheckFault → Type 0) → Mode → List ℕ → List ℕ → Option (List ℕ) → List Node → CheckFault → Type 0
+StopsText fails mode root new after nodes fault =
+    IsCutShort fails 8 [] new after fault ⊎ ((8 ≤ length new) × Stops fails (asked_root root) [] mode new after 8 nodes fault)

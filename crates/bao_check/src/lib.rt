@@ -4,6 +4,9 @@
 pub use fault::CheckFault;
 
 mod asked;
+mod checks;
 mod fault;
+mod form;
 mod source;
+mod stream;
 mod walk;

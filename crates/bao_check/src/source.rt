@@ -19,6 +19,7 @@ pub(crate) trait Source {
     // Takes the next `size` bytes, and answers whether there were so many: else it has taken all that were
     // left. After a fault it has taken what it got.
     fn take(&mut self, size: usize) -> Result<bool, CheckFault>
+        requires { size ≤ 1024 }
         ensures same_reference { name self.new ≡ name self.old }
         ensures takes { Takes size (taken self.old) (taken self.new) (ahead self.old) (ahead self.new) }
         ensures whole { IfOk result (λ whole. TakenWhole size (taken self.old) (taken self.new) (ahead self.new) whole) }

@@ -1,13 +1,19 @@
-ghost use Rattle.std.specs.Prelude.{◌≡◌, ℕ, List, ◌+◌, ◌-◌, ◌*◌, ◌^◌, ◌≤◌, length, drop, IfErr, IfOk, OnOk};
+ghost use Rattle.std.specs.Prelude.{◌≡◌, ℕ, List, [], ◌+◌, ◌-◌, ◌*◌, ◌^◌, ◌≤◌, length, drop, IfErr, IfOk, OnOk};
 ghost use Rattle.bao_text.specs.Nodes.{Side, left, right, subtree_nodes};
 ghost use Rattle.bao_check.specs.Accepted.{part_value};
-ghost use Rattle.bao_check.specs.Walk.{Grows, IsCutShort, IsRefused, Meets, Passes, Stops, Takes, chunk_taken, parent_taken};
+ghost use Rattle.bao_check.specs.Walk.{Grows, IsCutShort, IsRefused, Meets, Passes, PassesText, Stops, StopsText, Takes, chunk_taken, parent_taken};
+ghost use Rattle.bao_check.specs.Forms.{form_nodes};
+ghost use Rattle.bao_text.specs.Cut.{claimed};
 
 use crate::asked::{Asked, meets};
 use crate::fault::CheckFault;
+use crate::form::Form;
 use crate::source::Source;
-use b3tree::{CHUNK_LEN, Cv, Mode, left_len, parent_input, top_input};
+use b3tree::{CHUNK_LEN, Cv, Hash, Mode, left_len, parent_input, top_input};
 use bao_text::Choice;
+
+// The bytes of the length at a text's start.
+const LENGTH_LEN: usize = 8;
 
 const PARENT_LEN: usize = 64;
 
@@ -15,6 +21,7 @@ const CV_LEN: usize = 32;
 
 // Takes the `size` bytes of the node that comes next.
 fn take_node<S: Source>(source: &mut S, size: usize) -> Result<(), CheckFault>
+    requires { size ≤ 1024 }
     ensures same_reference { S.name source.new ≡ S.name source.old }
     ensures takes { Takes size (S.taken source.old) (S.taken source.new) (S.ahead source.old) (S.ahead source.new) }
     ensures ok { OnOk result (length (S.taken source.new) ≡ length (S.taken source.old) + size) }
@@ -138,4 +145,38 @@ pub(crate) fn check_subtree<S: Source>(
         number + left_len / CHUNK_LEN as u64,
         n - left_len,
     )
+}
+
+// The length that the first 8 bytes of a text claim.
+pub(crate) fn claimed(text: &[u8]) -> u64
+    requires { 8 ≤ length text.now }
+    ensures { result ≡ claimed text.now }
+{
+    u64::from_le_bytes([
+        text[0], text[1], text[2], text[3], text[4], text[5], text[6], text[7],
+    ])
+}
+
+// Takes a text of the form from its start, and verifies each node before the next is taken.
+pub(crate) fn check_text<S: Source>(
+    source: &mut S,
+    mode: &Mode,
+    root: &Hash,
+    form: &Form,
+) -> Result<(), CheckFault>
+    requires { S.taken source.old ≡ [] }
+    ensures same_reference { S.name source.new ≡ S.name source.old }
+    ensures grows { Grows (S.taken source.old) (S.taken source.new) (S.ahead source.old) (S.ahead source.new) }
+    ensures ok { OnOk result (PassesText mode.now root.now.0 (S.taken source.new) (form_nodes form.now (S.taken source.new))) }
+    ensures err { IfErr result (λ fault. StopsText S.fails mode.now root.now.0 (S.taken source.new) (S.ahead source.new)
+        (form_nodes form.now (S.taken source.new)) fault) }
+{
+    take_node(source, LENGTH_LEN)?;
+    let total = claimed(source.taken());
+    let choice = form.choice(total);
+    let asked = Asked {
+        top: true,
+        value: Cv::from_bytes(&root.0),
+    };
+    check_subtree(source, &choice, mode, &asked, 0, total)
 }
