@@ -5,10 +5,7 @@ use Rattle.std.proofs.Math.Nat.{div-le_self}
 use Rattle.std.proofs.lemmas.Nat.{or_of_32, xor_of_32}
 use Rattle.b3word.specs.declared.input.Input.{Input}
 use Rattle.b3word.specs.Compression.{add32, cv, g, initial_state, iv, out, placed, quarter_round, round, round_words, rounds, xor_rotated}
-
--- each element is below 2 ^ 32
-pub record AreWords (ws : List ℕ) : Type 0 where
-  pub at : (k : ℕ) → get_or ws k 0 < 2 ^ 32
+use Rattle.b3word.specs.Words.{AreWords}
 
 pub AreWords-nil : AreWords []
 AreWords-nil = record { at = λ k. omega arith }

@@ -156,7 +156,7 @@ pub record Tree (sides : List Side) (q : ℕ × Node) (near far : List (ℕ × N
   pub near_on : AllByRecursion (λ place. Extends (sides ++ left ∷ []) place.1.sides) near
   pub far_on : AllByRecursion (λ place. Extends (sides ++ right ∷ []) place.1.sides) far
 
-left_right : left ≢ right
+pub left_right : left ≢ right
 left_right e = cc
 
 near_part : (sides : List Side) (q : ℕ × Node) (near far : List (ℕ × Node)) → Tree sides q near far → IsPart sides left (q ∷ (near ++ far)) q near

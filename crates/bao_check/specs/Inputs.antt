@@ -1,5 +1,5 @@
--- The compressions that a blob and a text are made of, and what it is to name two of them with one
--- chaining value.
+-- The compressions that a blob, a text and a certificate are made of, and what it is to name two of them
+-- with one chaining value.
 use Rattle.std.specs.Prelude.{◌≡◌, ◌≢◌, ℕ, zero, suc, ◌+◌, ◌-◌, ◌/◌, List, [], ◌∷◌, ◌++◌, length, map, take, drop, nat_le, Contains, Bool, true, false, if◌then◌else◌}
 use Rattle.std.specs.List.{flat_map, range_with_len}
 use Rattle.b3word.specs.declared.input.Input.{Input}
@@ -10,6 +10,7 @@ use Rattle.b3tree.specs.Tree.{left_len, parent_input, subtree_cv}
 use Rattle.b3tree.specs.Hashing.{rooted}
 use Rattle.bao_text.specs.Nodes.{Node, Side, left, right}
 use Rattle.bao_check.specs.Accepted.{bytes_at, part_value}
+use Rattle.bao_check.specs.Certificate.{Certificate, Step, step_input}
 
 -- the input, with ROOT at the top
 abbrev pub marked : Bool → Input → Input
@@ -48,6 +49,15 @@ place_inputs mode text place =
 -- the inputs of a text: each chunk's whole list and each parent's, the first node's with ROOT
 abbrev pub text_inputs : Mode → List ℕ → List (ℕ × Node) → List Input
 text_inputs mode text places = flat_map (place_inputs mode text) places
+
+-- the inputs of a way down to a chunk: each parent's, and then the chunk's whole list, the top one marked
+abbrev pub way_inputs : Bool → Mode → List Step → ℕ → List ℕ → List Input
+way_inputs top mode [] number bytes = whole_chunk top mode number bytes
+way_inputs top mode (step ∷ steps) number bytes = marked top (step_input mode step) ∷ way_inputs false mode steps number bytes
+
+-- the inputs of a certificate, the top one with ROOT
+abbrev pub certificate_inputs : {mode : Mode} {root : List ℕ} {number : ℕ} {bytes : List ℕ} → Certificate mode root number bytes → List Input
+certificate_inputs {mode = mode} {number = number} {bytes = bytes} certificate = way_inputs true mode certificate.steps number bytes
 
 -- x of the one list and y of the other differ, and have one chaining value
 pub record Names (ours theirs : List Input) (x y : Input) : Type 0 where

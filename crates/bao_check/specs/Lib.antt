@@ -8,6 +8,7 @@ pub mod Walk
 pub mod Forms
 pub mod Checked
 pub mod Sources
+pub mod Laws
 pub use Rattle.bao_text.specs.Choice
 pub use Rattle.bao_text.specs.Nodes
 pub use Rattle.bao_text.specs.Texts
