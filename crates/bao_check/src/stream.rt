@@ -1,4 +1,6 @@
-ghost use Rattle.std.specs.Prelude.{◌≡◌, ◌+◌, ◌-◌, ◌<◌, ◌≤◌, length, take, vec_len};
+ghost use Rattle.std.specs.Prelude.{◌≡◌, ◌+◌, ◌-◌, ◌<◌, ◌≤◌, length, take, IfErr, IfOk};
+ghost use Rattle.bao_check.specs.declared.fault.CheckFault.TheVariants.{Memory};
+ghost use Rattle.bao_check.specs.Walk.{Takes};
 ghost use Rattle.std.specs.Io.KnownBytes.{Consumes, IsAtEnd};
 ghost use Rattle.bao_check.specs.declared.stream.Filled.TheVariants.{AtEnd, Whole};
 
@@ -37,6 +39,30 @@ fn fill<R: Read>(reader: &mut R, buffer: &mut [u8]) -> (usize, Filled)
     (filled, Filled::Whole)
 }
 
+// Reads `size` bytes, at most 1,024, to the end of the vector. Room for them is made first, so that none
+// that came is lost: where it is refused, none was read.
+fn read_more<R: Read>(
+    reader: &mut R,
+    bytes: &mut Vec<u8>,
+    size: usize,
+) -> Result<Filled, CheckFault>
+    requires { size ≤ 1024 }
+    ensures takes { Takes size bytes.old.items bytes.new.items (R.remaining reader.old) (R.remaining reader.new) }
+    ensures whole { IfOk result (λ filled. filled ≡ Whole → length bytes.new.items ≡ length bytes.old.items + size) }
+    ensures at_end { IfOk result (λ filled. filled ≡ AtEnd → (length bytes.new.items < length bytes.old.items + size) × IsAtEnd (R.remaining reader.new)) }
+    ensures memory { IfErr result (λ fault. fault ≡ Memory) }
+{
+    if bytes.reserve(size).is_err() {
+        return Err(CheckFault::Memory);
+    }
+    let mut buffer = [0; CHUNK_LEN];
+    let (filled, end) = fill(reader, &mut buffer[..size]);
+    match bytes.extend_from_slice(&buffer[..filled]) {
+        Ok(()) => Ok(end),
+        Err(_) => unreachable!(),
+    }
+}
+
 /// A reader, whose bytes go to the end of a vector.
 pub(crate) struct Stream<'a, R> {
     reader: &'a mut R,
@@ -70,15 +96,7 @@ impl<R: Read> Source for Stream<'_, R> {
     ghost name = { λ s. s.reader.ghost_name };
 
     fn take(&mut self, size: usize) -> Result<bool, CheckFault> {
-        let start = self.bytes.len();
-        let room = [0; CHUNK_LEN];
-        self.bytes.extend_from_slice(&room[..size]).map_err(|_| CheckFault::Memory)?;
-        let (filled, end) = fill(
-            &mut *self.reader,
-            &mut self.bytes.as_mut_slice()[start..],
-        );
-        self.bytes.truncate(start + filled);
-        match end {
+        match read_more(&mut *self.reader, &mut self.bytes, size)? {
             Filled::Whole => Ok(true),
             Filled::AtEnd => Ok(false),
             Filled::Failed => Err(CheckFault::Reader),
