@@ -80,7 +80,7 @@ nodes-Extends_levels (suc levels) choice number n sides source hn = elim (cases_
 nodes-Extends : (choice : Choice) (number n : ℕ) (sides : List Side) (source : ℕ) → AllByRecursion (λ node. Extends sides node.sides) (subtree_nodes choice number n sides source)
 nodes-Extends choice number n sides source = nodes-Extends_levels n choice number n sides source (omega arith)
 
-placed-All : (P : Node → Type 0) (at : ℕ) (nodes : List Node) → AllByRecursion P nodes → AllByRecursion (λ place. P place.1) (placed at nodes)
+pub placed-All : (P : Node → Type 0) (at : ℕ) (nodes : List Node) → AllByRecursion P nodes → AllByRecursion (λ place. P place.1) (placed at nodes)
 placed-All P at [] all = tt
 placed-All P at (node ∷ nodes) all = (all.0, placed-All P (at + size node) nodes all.1)
 

@@ -6,6 +6,7 @@ pub mod Faults
 pub mod Pieces
 pub mod Walk
 pub mod Forms
+pub mod Spans
 pub mod Checked
 pub mod Sources
 pub mod Laws

@@ -10,6 +10,7 @@ mod checked;
 mod checks;
 mod fault;
 mod form;
+mod locate;
 mod source;
 mod stream;
 mod walk;

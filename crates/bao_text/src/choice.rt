@@ -1,4 +1,4 @@
-ghost use Rattle.std.specs.Prelude.{◌≡◌};
+ghost use Rattle.std.specs.Prelude.{◌≡◌, ◌+◌, ◌≤◌, ◌↔◌, max, IsTrue};
 
 /// The positions of a blob that a text is of, and whether it has the chunks.
 #[derive(Clone, Copy, Debug)]
@@ -54,6 +54,27 @@ impl Choice {
         ensures { result ≡ wants self.now at n }
     {
         at < self.end && (self.start < at || self.start - at < n.max(1))
+    }
+
+    /// Whether all of the `n` bytes from position `at` on are wanted; no bytes count as one.
+    pub fn covers(&self, at: u64, n: u64) -> bool
+        ensures { IsTrue result ↔ ((self.now.start ≤ at) × (at + max n 1 ≤ self.now.end)) }
+    {
+        self.start <= at && at < self.end && n.max(1) <= self.end - at
+    }
+
+    /// The first wanted position.
+    pub fn start(&self) -> u64
+        ensures { result ≡ self.now.start }
+    {
+        self.start
+    }
+
+    /// The position after the last wanted one.
+    pub fn end(&self) -> u64
+        ensures { result ≡ self.now.end }
+    {
+        self.end
     }
 
     /// Whether the text has the chunks.
