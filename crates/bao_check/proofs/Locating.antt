@@ -1,5 +1,5 @@
 -- Where the nodes of a subtree have a chunk, and how many bytes they are.
-use Rattle.std.proofs.Common.{◌≡◌, ◌≢◌, ℕ, zero, suc, ◌+◌, ◌-◌, ◌*◌, ◌/◌, ◌<◌, ◌≤◌, List, [], ◌∷◌, ◌++◌, length, take, drop, Bool, true, false, None, Some, Option, refl, sym, ap, subst, ◌∙◌, arith, inl, inr, ◌⊎◌}
+use Rattle.std.proofs.Common.{◌≡◌, ◌≢◌, ℕ, zero, suc, ◌+◌, ◌-◌, ◌*◌, ◌/◌, ◌<◌, ◌≤◌, List, [], ◌∷◌, ◌++◌, length, take, drop, Bool, true, false, None, Some, Option, IfSome, refl, sym, ap, subst, ◌∙◌, arith, inl, inr, ◌⊎◌}
 use Rattle.std.specs.List.{AllByRecursion}
 use Rattle.std.specs.Option.{option_map}
 use Rattle.std.specs.Prelude.{◌&&◌, ◌==◌}
@@ -12,7 +12,7 @@ use Rattle.bao_text.specs.Nodes.{Node, Side, left, placed, right, size, subtree_
 use Rattle.bao_text.proofs.SubtreeNodes.{parent_node, subtree_nodes-leaf, subtree_nodes-parent, subtree_nodes-unwanted}
 use Rattle.bao_text.proofs.SubtreeText.{Parts, left_len-Parts}
 use Rattle.bao_check.specs.declared.locate.Span.{Span}
-use Rattle.bao_check.specs.Accepted.{bytes_at}
+use Rattle.bao_check.specs.Accepted.{bytes_at, end_of}
 use Rattle.bao_check.specs.Pieces.{chunk_in}
 use Rattle.bao_check.specs.Spans.{chunk_place}
 use Rattle.bao_check.proofs.Lists.{All-append, All-from_members, All-member, nodes_size}
@@ -40,7 +40,7 @@ numbers_small choice number n sides source one =
 count_left : (n : ℕ) → 1024 < n → chunk_count (left_len n) ≡ left_len n / 1024
 count_left n more = let parts : Parts n (left_len n) = left_len-Parts n more in omega (arith, parts.whole, parts.some)
 
-count_parts : (n : ℕ) → 1024 < n → chunk_count n ≡ left_len n / 1024 + chunk_count (n - left_len n)
+pub count_parts : (n : ℕ) → 1024 < n → chunk_count n ≡ left_len n / 1024 + chunk_count (n - left_len n)
 count_parts n more = let parts : Parts n (left_len n) = left_len-Parts n more in omega (arith, parts.whole, parts.some, parts.below)
 
 numbers_levels : (levels : ℕ) (choice : Choice) (number n : ℕ) (sides : List Side) (source : ℕ) → n ≤ 1024 * levels + 1024
@@ -189,5 +189,20 @@ chunk_in-place text (place ∷ places) i = elim (cases_Bool place.1.is_chunk) [
       elim (cases_Bool (place.1.number == i)) [
         | inl here ↦ rw (chunk, here) refl
         | inr differ ↦ rw (chunk, differ) (chunk_in-place text places i)
+      ]
+]
+
+-- a chunk of an accepted text lies within it
+pub chunk_place-within : (size : ℕ) (places : List (ℕ × Node)) (i : ℕ) → AllByRecursion (λ place. end_of place ≤ size) places
+    → IfSome (chunk_place places i) (λ span. span.at + span.len ≤ size)
+chunk_place-within size [] i all = tt
+chunk_place-within size (place ∷ places) i all = elim (cases_Bool place.1.is_chunk) [
+  | inr other ↦ rw other (chunk_place-within size places i all.1)
+  | inl chunk ↦
+      elim (cases_Bool (place.1.number == i)) [
+        | inl here ↦
+            let fits : place.0 + place.1.len ≤ size = rw chunk at all.0 in
+            rw (chunk, here) fits
+        | inr differ ↦ rw (chunk, differ) (chunk_place-within size places i all.1)
       ]
 ]

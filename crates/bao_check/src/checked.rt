@@ -1,9 +1,15 @@
-ghost use Rattle.std.specs.Prelude.{◌≡◌, ℕ, ◌≤◌, ◌<◌, ◌↔◌, IsSome};
+ghost use Rattle.std.specs.Prelude.{◌≡◌, ℕ, ◌≤◌, ◌<◌, ◌+◌, ◌↔◌, length, IfSome, IsSome};
+ghost use Rattle.std.specs.Option.{option_copied};
+ghost use Rattle.bao_text.specs.Choice.{of_slice};
+ghost use Rattle.bao_check.specs.Pieces.{chunk_in};
+ghost use Rattle.bao_check.specs.Spans.{chunk_place};
 ghost use Rattle.bao_check.specs.Accepted.{IsAccepted, slice_nodes};
 ghost use Rattle.bao_check.specs.AcceptedProp.{IsAccepted-prop};
 
+use crate::locate::{LENGTH_LEN, Span, find_chunk};
 use crate::walk::claimed;
-use b3tree::{Hash, Mode};
+use b3tree::{CHUNK_LEN, Hash, Mode};
+use bao_text::Choice;
 
 /// A text that was accepted as a slice under a root: it carries that it was, so whoever holds one needs
 /// no premise. All calls on it take no memory, and cost at most the height of the tree.
@@ -19,7 +25,7 @@ pub struct Checked<'a> {
 }
 
 impl<'a> Checked<'a> {
-    ghost use Rattle.bao_check.specs.Checked.{IsPiece, piece_claimed, piece_mode, piece_root};
+    ghost use Rattle.bao_check.specs.Checked.{IsPiece, piece_claimed, piece_mode, piece_places, piece_root, piece_text};
 
     // The piece that an accepted text is.
     pub(crate) fn new(
@@ -61,5 +67,43 @@ impl<'a> Checked<'a> {
         ensures { result ≡ piece_claimed self.now }
     {
         claimed(self.text)
+    }
+
+    // The part of the blob that the text is of.
+    fn choice(&self) -> Choice
+        ensures { result ≡ of_slice (piece_claimed self.now) self.now.start self.now.len }
+    {
+        Choice::of_slice(self.claimed(), self.start, self.len)
+    }
+
+    /// The number of the first chunk that the piece holds, and the number after the last. It holds those
+    /// between, and at least one.
+    pub fn chunks(&self) -> (u64, u64)
+        ensures spans { (i : ℕ) → IsSome (chunk_in (piece_text self.now) (piece_places self.now) i) ↔ ((result.0 ≤ i) × (i < result.1)) }
+    {
+        let choice = self.choice();
+        let chunk_len = CHUNK_LEN as u64;
+        (choice.start() / chunk_len, choice.end().div_ceil(chunk_len))
+    }
+
+    // Where the text has chunk `i`.
+    fn span(&self, i: u64) -> Option<Span>
+        ensures value { result ≡ chunk_place (piece_places self.now) i }
+        ensures within { IfSome result (λ span. span.at + span.len ≤ length (piece_text self.now)) }
+    {
+        find_chunk(&self.choice(), 0, self.claimed(), LENGTH_LEN, i)
+    }
+
+    /// The bytes of chunk `i`, in the text itself: there exactly where the piece holds that chunk.
+    pub fn chunk(&self, i: u64) -> Option<&'a [u8]>
+        ensures { option_copied result ≡ chunk_in (piece_text self.now) (piece_places self.now) i }
+    {
+        match self.span(i) {
+            Some(span) => {
+                let at = span.at as usize;
+                Some(&self.text[at..at + span.len as usize])
+            }
+            None => None,
+        }
     }
 }

@@ -5,7 +5,7 @@ ghost use Rattle.bao_check.specs.Spans.{chunk_place};
 use b3tree::{CHUNK_LEN, left_len};
 use bao_text::{Choice, encoded_len, outboard_len};
 
-const LENGTH_LEN: u128 = 8;
+pub(crate) const LENGTH_LEN: u128 = 8;
 
 const PARENT_LEN: u128 = 64;
 
