@@ -8,6 +8,7 @@ pub mod Walk
 pub mod Forms
 pub mod Spans
 pub mod Checked
+pub mod Tail
 pub mod Sources
 pub mod Laws
 pub use Rattle.bao_text.specs.Choice

@@ -4,6 +4,7 @@
 pub use checked::Checked;
 pub use checks::{check_combined, check_slice};
 pub use fault::CheckFault;
+pub use tail::Tail;
 
 mod asked;
 mod checked;
@@ -13,4 +14,5 @@ mod form;
 mod locate;
 mod source;
 mod stream;
+mod tail;
 mod walk;

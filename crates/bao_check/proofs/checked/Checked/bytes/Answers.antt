@@ -3,7 +3,7 @@ use Rattle.std.specs.Option.{option_map}
 use Rattle.bao_check.specs.declared.locate.Span.{Span}
 use Rattle.bao_check.specs.Checked.{piece_places, piece_text}
 use Rattle.bao_check.proofs.Locating.{chunk_in-place}
-use Rattle.bao_check.proofs.checked.Checked.chunk.Goals as goal
+use Rattle.bao_check.proofs.checked.Checked.bytes.Goals as goal
 
 pub returns-in-Some : goal.returns-in-Some
 returns-in-Some c =
