@@ -4,6 +4,7 @@
 pub use checked::Checked;
 pub use checks::{check_combined, check_slice};
 pub use fault::CheckFault;
+pub use law::{accepted_binds, written_accepted};
 pub use tail::Tail;
 
 mod asked;
@@ -11,6 +12,7 @@ mod checked;
 mod checks;
 mod fault;
 mod form;
+mod law;
 mod locate;
 mod source;
 mod stream;
