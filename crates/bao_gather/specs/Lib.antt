@@ -1,2 +1,5 @@
 pub mod Status
 pub mod ModeWords
+pub mod Printed
+pub mod Reading
+pub mod Tasks

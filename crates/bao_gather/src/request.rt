@@ -21,23 +21,23 @@ pub enum Task<'a> {
         length: u32,
         file: &'a str,
     },
-    /// The combined encoding of a file, to the file `out`.
+    /// An encoding of a file, to the file `out`.
     Encode {
+        encoding: Encoding,
         file: &'a str,
         out: &'a str,
     },
-    /// The outboard encoding of a file, to the file `out`.
-    Outboard {
-        file: &'a str,
-        out: &'a str,
-    },
-    /// The slice of a file for `len` bytes from `start` on, to the file `out`.
-    Slice {
-        start: u64,
-        len: u64,
-        file: &'a str,
-        out: &'a str,
-    },
+}
+
+/// Which text of a blob is written.
+#[derive(Clone, Copy, Debug)]
+pub enum Encoding {
+    /// The combined encoding.
+    Combined,
+    /// The outboard encoding.
+    Outboard,
+    /// The slice for `len` bytes from `start` on.
+    Slice { start: u64, len: u64 },
 }
 
 fn with_mode<'a>(alloc: Global, command: Command<'a>) -> Result<Command<'a>, AllocError> {
@@ -126,6 +126,15 @@ fn program<'a>(alloc: Global) -> Result<Command<'a>, AllocError> {
         .subcommand(slice_command(alloc)?)
 }
 
+// The encoding with the words FILE and OUT.
+fn encode_task<'a>(encoding: Encoding, words: &ArgMatches<'a>) -> Option<Task<'a>> {
+    Some(Task::Encode {
+        encoding,
+        file: words.get_str("FILE")?,
+        out: words.get_str("OUT")?,
+    })
+}
+
 // The task of a subcommand's words, where they are all there.
 fn task_of<'a>(name: &str, words: &ArgMatches<'a>) -> Option<Task<'a>> {
     match name {
@@ -134,20 +143,15 @@ fn task_of<'a>(name: &str, words: &ArgMatches<'a>) -> Option<Task<'a>> {
             length: words.get_one("length")?,
             file: words.get_str("FILE")?,
         }),
-        "encode" => Some(Task::Encode {
-            file: words.get_str("FILE")?,
-            out: words.get_str("OUT")?,
-        }),
-        "outboard" => Some(Task::Outboard {
-            file: words.get_str("FILE")?,
-            out: words.get_str("OUT")?,
-        }),
-        "slice" => Some(Task::Slice {
-            start: words.get_one("START")?,
-            len: words.get_one("LEN")?,
-            file: words.get_str("FILE")?,
-            out: words.get_str("OUT")?,
-        }),
+        "encode" => encode_task(Encoding::Combined, words),
+        "outboard" => encode_task(Encoding::Outboard, words),
+        "slice" => {
+            let slice = Encoding::Slice {
+                start: words.get_one("START")?,
+                len: words.get_one("LEN")?,
+            };
+            encode_task(slice, words)
+        }
         _ => None,
     }
 }
