@@ -2,4 +2,5 @@ pub mod Status
 pub mod ModeWords
 pub mod Printed
 pub mod Reading
+pub mod Requests
 pub mod Tasks

@@ -1,3 +1,9 @@
+ghost use Rattle.std.specs.Prelude.{◌≡◌, IfOk, IfSome};
+ghost use Rattle.std.specs.Option.{option_copied};
+ghost use Rattle.clap.specs.Words.{first_of, found_of, rows_of, subcommand_rows_of};
+ghost use Rattle.clap.specs.declared.parser.matches.ArgMatches.{ArgMatches};
+ghost use Rattle.bao_gather.specs.Requests.{GivesEncoding, GivesNumber, GivesRequest, GivesTask, GivesText};
+
 use clap::error::ErrorKind;
 use clap::{Arg, ArgAction, ArgMatches, Command, Error, value_parser};
 use std::alloc::{AllocError, Global};
@@ -126,49 +132,75 @@ fn program<'a>(alloc: Global) -> Result<Command<'a>, AllocError> {
         .subcommand(slice_command(alloc)?)
 }
 
-// The encoding with the words FILE and OUT.
-fn encode_task<'a>(encoding: Encoding, words: &ArgMatches<'a>) -> Option<Task<'a>> {
-    Some(Task::Encode {
-        encoding,
-        file: words.get_str("FILE")?,
-        out: words.get_str("OUT")?,
-    })
+// The text of the word `id`.
+fn text<'a>(words: &ArgMatches<'a>, id: &str) -> Option<&'a str>
+    ensures value { option_copied result ≡ first_of id.now (rows_of (found_of words.now)) }
+    ensures some { IfSome result (λ text. GivesText (rows_of (found_of words.now)) id.now text.now) }
+{
+    words.get_str(id)
 }
 
-// The task of a subcommand's words, where they are all there.
-fn task_of<'a>(name: &str, words: &ArgMatches<'a>) -> Option<Task<'a>> {
+// The number of the word `id`.
+fn number(words: &ArgMatches<'_>, id: &str) -> Option<u64>
+    ensures { IfSome result (GivesNumber (rows_of (found_of words.now)) id.now) }
+{
+    words.get_one(id)
+}
+
+// The encoding that the subcommand `name` asks for.
+fn encoding_of(name: &str, words: &ArgMatches<'_>) -> Option<Encoding>
+    ensures { IfSome result (GivesEncoding name.now (rows_of (found_of words.now))) }
+{
     match name {
-        "hash" => Some(Task::Hash {
-            at: words.get_one("at")?,
-            length: words.get_one("length")?,
-            file: words.get_str("FILE")?,
+        "encode" => Some(Encoding::Combined),
+        "outboard" => Some(Encoding::Outboard),
+        "slice" => Some(Encoding::Slice {
+            start: number(words, "START")?,
+            len: number(words, "LEN")?,
         }),
-        "encode" => encode_task(Encoding::Combined, words),
-        "outboard" => encode_task(Encoding::Outboard, words),
-        "slice" => {
-            let slice = Encoding::Slice {
-                start: words.get_one("START")?,
-                len: words.get_one("LEN")?,
-            };
-            encode_task(slice, words)
-        }
         _ => None,
     }
 }
 
+// The task of a subcommand's words, where they are all there.
+fn task_of<'a>(name: &str, words: &ArgMatches<'a>) -> Option<Task<'a>>
+    ensures { IfSome result (GivesTask name.now (rows_of (found_of words.now))) }
+{
+    if name == "hash" {
+        return Some(Task::Hash {
+            at: number(words, "at")?,
+            length: u32::try_from(number(words, "length")?).ok()?,
+            file: text(words, "FILE")?,
+        });
+    }
+    Some(Task::Encode {
+        encoding: encoding_of(name, words)?,
+        file: text(words, "FILE")?,
+        out: text(words, "OUT")?,
+    })
+}
+
+// What the words of a subcommand ask for, where they are all there.
+fn request_of<'a>(matches: &ArgMatches<'a>) -> Option<Request<'a>>
+    ensures { IfSome result (GivesRequest (subcommand_rows_of matches.now)) }
+{
+    let (name, words) = matches.subcommand()?;
+    Some(Request {
+        key: text(words, "key"),
+        context: text(words, "context"),
+        task: task_of(name, words)?,
+    })
+}
+
 /// Reads the words, the program's name first. What `clap` refuses comes back as its error, as do
 /// asked-for help and version.
-pub fn parse<'a>(alloc: Global, words: &'a [String]) -> Result<Request<'a>, Error> {
+pub fn parse<'a>(alloc: Global, words: &'a [String]) -> Result<Request<'a>, Error>
+    ensures { IfOk result (λ request. (matches : ArgMatches) × GivesRequest (subcommand_rows_of matches) request) }
+{
     let mut program = program(alloc)?;
     let matches = program.try_get_matches_from_mut(words)?;
-    if let Some((name, words)) = matches.subcommand() {
-        if let Some(task) = task_of(name, words) {
-            return Ok(Request {
-                key: words.get_str("key"),
-                context: words.get_str("context"),
-                task,
-            });
-        }
+    match request_of(&matches) {
+        Some(request) => Ok(request),
+        None => Err(program.error(ErrorKind::MissingSubcommand, "a command is missing")?),
     }
-    Err(program.error(ErrorKind::MissingSubcommand, "a command is missing")?)
 }
