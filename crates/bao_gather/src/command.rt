@@ -1,6 +1,9 @@
-ghost use Rattle.std.specs.Prelude.{◌≡◌, ◌≢◌, ◌+◌, ◌-◌, ◌^◌, ◌≤◌, ℕ, List};
+ghost use Rattle.std.specs.Prelude.{◌≡◌, ◌≢◌, ◌+◌, ◌-◌, ◌^◌, ◌≤◌, ℕ, List, map, string_bytes};
 ghost use Rattle.std.specs.Io.KnownBytes.{Keeps};
 ghost use Rattle.b3tree.specs.Hashing.{stream};
+ghost use Rattle.clap.specs.Words.{kind_of};
+ghost use Rattle.bao_gather.specs.CommandLine.{IsHelp};
+ghost use Rattle.bao_gather.specs.Outcome.{Begun, Done};
 ghost use Rattle.bao_gather.specs.Printed.{Prints, digits_line};
 ghost use Rattle.bao_gather.specs.Tasks.{Answers, line_of};
 
@@ -23,8 +26,8 @@ const HASH_LEN: u32 = 32;
 /// Runs the program on `words`, its name first, with `out` and `err` as its standard output and error,
 /// and answers the exit status: 0 done, 2 wrong words, 3 a file fault, 4 want of memory.
 ///
-/// After a fault nothing is printed on `out`, but where the fault is that of `out`: then it may hold a
-/// beginning.
+/// At status 0 `out` has the line of the request that the words make, on the file's bytes, or where they ask
+/// for it help or the version. At 3 it has a beginning at most, and after other faults nothing.
 pub fn command<R: Files + AllocGlobal + Threads + Sync, O: Write, E: Write>(
     rt: &R,
     words: &[String],
@@ -32,15 +35,16 @@ pub fn command<R: Files + AllocGlobal + Threads + Sync, O: Write, E: Write>(
     err: &mut E,
 ) -> u8
     ensures status { result ≤ 4 }
+    ensures done { result ≡ 0 → Done (map string_bytes words.now) (O.contents out.old) (O.contents out.new) }
+    ensures file_fault { result ≡ 3 → Begun (map string_bytes words.now) (O.contents out.old) (O.contents out.new) }
     ensures fault { result ≢ 0 → result ≢ 3 → Keeps (O.contents out.old) (O.contents out.new) }
 {
-    let request = match parse(rt.alloc(), words) {
-        Ok(request) => request,
-        Err(error) => return answer_clap(&error, out, err),
-    };
-    match serve(rt, &request, out) {
-        Ok(()) => 0,
-        Err(fault) => fault.report(err),
+    match parse(rt.alloc(), words) {
+        Ok(request) => match serve(rt, &request, out) {
+            Ok(()) => 0,
+            Err(fault) => fault.report(err),
+        },
+        Err(error) => answer_clap(&error, out, err),
     }
 }
 
@@ -107,6 +111,8 @@ fn print_range<'a, R: AllocGlobal + Threads + Sync, O: Write>(
 // Prints what `clap` has to say: help and the version on `out`, a refusal on `err`.
 fn answer_clap<O: Write, E: Write>(error: &clap::Error, out: &mut O, err: &mut E) -> u8
     ensures status { result ≤ 4 }
+    ensures done { result ≡ 0 → IsHelp (kind_of error.now) }
+    ensures file_fault { result ≡ 3 → IsHelp (kind_of error.now) }
     ensures fault { result ≢ 0 → result ≢ 3 → Keeps (O.contents out.old) (O.contents out.new) }
 {
     if error.kind() == ErrorKind::OutOfMemory {
