@@ -1,4 +1,4 @@
-use crate::{Gate, Open, hash_join};
+use crate::hash_join;
 use b3tree::{Mode, hash};
 use std::test::Fail;
 
@@ -27,9 +27,4 @@ fn joined_hash_is_the_hash(rt: HostRuntime) -> Result<(), Fail> {
         }
     }
     Ok(())
-}
-
-#[test]
-fn open_gate_lets_pass() {
-    Open.pass(0);
 }
