@@ -122,7 +122,7 @@ impl Write for Broken {
 }
 
 // A writer that fails after `room` bytes by a fault of this kind.
-fn broken(alloc: Global, room: usize, kind: ErrorKind) -> Broken {
+fn failing(alloc: Global, room: usize, kind: ErrorKind) -> Broken {
     Broken {
         held: Vec::new(alloc),
         room,
@@ -474,7 +474,7 @@ fn faults_of_streams(rt: HostRuntime) -> Result<(), Fail> {
         for room in [0, 10] {
             let words = words(rt.alloc(), &["hash", file])?;
             let mut faults = Vec::new(rt.alloc());
-            let mut out = broken(rt.alloc(), room, kind);
+            let mut out = failing(rt.alloc(), room, kind);
             let status = command(&rt, words.as_slice(), &mut out, &mut faults);
             assert_eq!(rt; status, 3);
             assert_eq!(rt; faults.as_slice(), output.as_bytes());
@@ -482,7 +482,7 @@ fn faults_of_streams(rt: HostRuntime) -> Result<(), Fail> {
         }
         let words = words(rt.alloc(), &["help", "hash"])?;
         let mut faults = Vec::new(rt.alloc());
-        let mut out = broken(rt.alloc(), 10, kind);
+        let mut out = failing(rt.alloc(), 10, kind);
         assert_eq!(rt; command(&rt, words.as_slice(), &mut out, &mut faults), 3);
         assert_eq!(rt; faults.as_slice(), output.as_bytes());
         assert_eq!(rt; out.held.as_slice(), b"Prints the".as_slice());
@@ -490,7 +490,7 @@ fn faults_of_streams(rt: HostRuntime) -> Result<(), Fail> {
     for given in [["hash", file], ["help", "hash"]] {
         let words = words(rt.alloc(), given.as_slice())?;
         let mut faults = Vec::new(rt.alloc());
-        let mut out = broken(rt.alloc(), usize::MAX, ErrorKind::Other);
+        let mut out = failing(rt.alloc(), usize::MAX, ErrorKind::Other);
         out.stuck = true;
         assert_eq!(rt; command(&rt, words.as_slice(), &mut out, &mut faults), 3);
         assert_eq!(rt; faults.as_slice(), output.as_bytes());
@@ -506,7 +506,7 @@ fn faults_of_standard_error(rt: HostRuntime) -> Result<(), Fail> {
         for (given, status) in [(["hash", "/tmp/missing/file"], 3), (["hash", "--no"], 2)] {
             let words = words(rt.alloc(), given.as_slice())?;
             let mut printed = Vec::new(rt.alloc());
-            let mut err = broken(rt.alloc(), 5, kind);
+            let mut err = failing(rt.alloc(), 5, kind);
             let got = command(&rt, words.as_slice(), &mut printed, &mut err);
             assert_eq!(rt; got, status);
             assert!(rt; printed.is_empty());
