@@ -2,7 +2,7 @@ use crate::hash_join;
 use b3tree::{Mode, hash};
 use std::test::Fail;
 
-// The bytes i mod 251, as in the published test vectors.
+// The bytes i mod 251, as in BLAKE3's test vectors.
 fn blob(rt: &HostRuntime, len: usize) -> Result<Vec<u8>, Fail> {
     let mut bytes = Vec::with_capacity(rt.alloc(), len)?;
     for i in 0..len {

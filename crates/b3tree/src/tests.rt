@@ -8,7 +8,7 @@ use vectors::{CONTEXT, KEY, ROWS};
 
 mod vectors;
 
-// The digest of `abc`, published.
+// The digest of `abc`, by b3sum 1.2.0.
 const ABC: &str = "6437b3ac38465133ffb63b75273a8db548c558465d79db03fd359c6cd5bd9d85";
 
 // The 40 bytes from 2^24 - 10 on of the output of `abc`, computed by b3sum 1.2.0.
@@ -16,7 +16,7 @@ const ABC_FAR: &str =
     "9c974a6ddb455793981f82d259b80de7117c986762d59f65576cf32731a42c09aad1cd70612d29b3";
 
 // The 40 bytes from 2^63 on of the output of `abc`, and those from 2^63 - 5 on under `KEY`, by a program that was
-// written in Python from the paper alone, and that gives all published vectors.
+// written in Python from BLAKE3's definition alone, and that gives all rows below.
 const ABC_FARTHEST: &str =
     "dedbe30e3192edf00767b54585848debf9e13bf4c788ee630029ba5f116bbc23d67120407c5ab723";
 

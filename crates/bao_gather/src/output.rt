@@ -32,7 +32,9 @@ impl<R: Files> Drop for LateFile<'_, R> {
 
 impl<'a, R: Files> LateFile<'a, R> {
     /// The file at `path`, which is not made yet.
-    pub fn new(rt: &'a R, path: &'a str) -> LateFile<'a, R> {
+    pub fn new(rt: &'a R, path: &'a str) -> LateFile<'a, R>
+        ensures { result.path ≡ path.entry }
+    {
         LateFile {
             rt,
             path,

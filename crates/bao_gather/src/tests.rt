@@ -25,7 +25,7 @@ const CONTEXT: &str = "BLAKE3 2019-12-27 16:29:52 test vectors context";
 
 // What another program has of the bytes i mod 251, 2,049 of them, in the mode of these words: the digits of the
 // hash, which `b3sum` 1.2.0 gives too, and the 64 bytes of the root and of the parent on its left. The program was
-// written in Python from the papers alone, and gives all published vectors.
+// written in Python from the two definitions alone, and gives the 105 rows of `b3tree`'s tests.
 #[derive(Clone, Copy)]
 struct Figures {
     mode: &'static [&'static str],
@@ -218,7 +218,7 @@ fn path(alloc: Global, process: u32, name: &str) -> Result<String, Fail> {
     Ok(format!(in alloc; "/tmp/bao_gather-{process}-{name}")?)
 }
 
-// The bytes i mod 251, as in the published test vectors.
+// The bytes i mod 251, as in BLAKE3's test vectors.
 fn blob(alloc: Global, len: usize) -> Result<Vec<u8>, Fail> {
     let mut bytes = Vec::with_capacity(alloc, len)?;
     for i in 0..len {
@@ -313,7 +313,7 @@ fn files_are_read_whole(rt: HostRuntime) -> Result<(), Fail> {
     Ok(())
 }
 
-// The figures of the published test vectors for 1 byte.
+// The figures of `b3sum` 1.2.0 for one byte 0.
 #[test]
 fn hash_in_each_mode(rt: HostRuntime) -> Result<(), Fail> {
     let file = path(rt.alloc(), process::id(rt.process()), "modes")?;
