@@ -9,6 +9,7 @@ pub mod Forms
 pub mod Checked
 pub mod Sources
 pub mod Laws
+pub mod Streams
 pub use Rattle.bao_text.specs.Choice
 pub use Rattle.bao_text.specs.Nodes
 pub use Rattle.bao_text.specs.Texts

@@ -4,12 +4,14 @@
 pub use checked::Checked;
 pub use checks::{check_combined, check_slice};
 pub use fault::CheckFault;
+pub use read::{check_stream, read_checked};
 
 mod asked;
 mod checked;
 mod checks;
 mod fault;
 mod form;
+mod read;
 mod source;
 mod stream;
 mod walk;
