@@ -11,6 +11,7 @@ pub mod Checked
 pub mod Tail
 pub mod Sources
 pub mod Laws
+pub mod Streams
 pub use Rattle.bao_text.specs.Choice
 pub use Rattle.bao_text.specs.Nodes
 pub use Rattle.bao_text.specs.Texts

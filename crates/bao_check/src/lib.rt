@@ -6,6 +6,7 @@ pub use checks::{check_combined, check_slice};
 pub use fault::CheckFault;
 pub use law::{accepted_binds, written_accepted};
 pub use tail::Tail;
+pub use read::{check_stream, read_checked};
 
 mod asked;
 mod checked;
@@ -14,6 +15,7 @@ mod fault;
 mod form;
 mod law;
 mod locate;
+mod read;
 mod source;
 mod stream;
 mod tail;
