@@ -8,6 +8,7 @@ use crate::fault::CheckFault;
 pub(crate) trait Source {
     // The bytes taken so far, and those that are ahead, where they are known.
     ghost taken: { Self → List ℕ };
+
     ghost ahead: { Self → Option (List ℕ) };
 
     // The faults that the source itself may answer.
@@ -55,8 +56,11 @@ impl<'a> Source for Bytes<'a> {
     ghost use Rattle.bao_check.specs.Sources.{bytes_ahead, bytes_taken};
 
     ghost taken = { λ s. bytes_taken s };
+
     ghost ahead = { λ s. Some (bytes_ahead s) };
+
     ghost fails = { λ _. ⊥ };
+
     ghost name = { λ _. 0 };
 
     fn take(&mut self, size: usize) -> Result<bool, CheckFault> {

@@ -91,8 +91,11 @@ impl<R: Read> Source for Stream<'_, R> {
     ghost use Rattle.bao_check.specs.Walk.{IsSourceFault};
 
     ghost taken = { λ s. s.bytes.items };
+
     ghost ahead = { λ s. R.remaining s.reader.now };
+
     ghost fails = { IsSourceFault };
+
     ghost name = { λ s. s.reader.ghost_name };
 
     fn take(&mut self, size: usize) -> Result<bool, CheckFault> {
