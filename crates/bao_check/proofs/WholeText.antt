@@ -1,11 +1,11 @@
 -- A text's nodes are those by the length that its first 8 bytes claim.
-use Rattle.std.proofs.Common.{◌≡◌, ◌⊎◌, ℕ, ◌+◌, ◌≤◌, List, [], ◌++◌, length, Option, true, sym, ap, subst, ◌∙◌, arith, inl, inr, length-append, ◌<◌, Some}
+use Rattle.std.proofs.Common.{◌≡◌, ℕ, ◌+◌, ◌≤◌, List, [], ◌++◌, length, Option, sym, ap, subst, ◌∙◌, arith, inl, inr, length-append, ◌<◌, Some}
 use Rattle.std.proofs.lemmas.List.{append-nil, take-append-le}
 use Rattle.std.specs.Int.{w64, from_le_bytes}
 use Rattle.b3tree.specs.declared.mode.Mode.{Mode}
 use Rattle.bao_text.specs.declared.choice.Choice.{Choice}
 use Rattle.bao_text.specs.Cut.{claimed}
-use Rattle.bao_text.specs.Nodes.{Node, Side, chosen_nodes, placed, subtree_nodes}
+use Rattle.bao_text.specs.Nodes.{Node, chosen_nodes, placed, subtree_nodes}
 use Rattle.bao_check.specs.declared.asked.Asked.{Asked}
 use Rattle.bao_check.specs.declared.fault.CheckFault.{CheckFault}
 use Rattle.bao_check.specs.declared.form.Form.{Form}

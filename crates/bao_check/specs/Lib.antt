@@ -9,6 +9,8 @@ pub mod Forms
 pub mod Spans
 pub mod Checked
 pub mod Tail
+pub mod Leaves
+pub mod Outline
 pub mod Sources
 pub mod Laws
 pub mod Streams

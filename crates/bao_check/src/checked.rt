@@ -25,8 +25,7 @@ pub struct Checked<'a> {
     start: u64,
     len: u64,
     text: &'a [u8],
-    ghost accepted: { IsAccepted mode root.0 text.now (slice_nodes text.now start len) }
-        by { IsAccepted-prop mode root.0 text.now (slice_nodes text.now start len) },
+    ghost accepted: { IsAccepted mode root.0 text.now (slice_nodes text.now start len) } by { IsAccepted-prop mode root.0 text.now (slice_nodes text.now start len) },
 }
 
 impl<'a> Checked<'a> {
@@ -34,13 +33,7 @@ impl<'a> Checked<'a> {
     ghost use Rattle.bao_check.specs.Tail.{tail_piece};
 
     // The piece that an accepted text is.
-    pub(crate) fn new(
-        mode: &Mode,
-        root: &Hash,
-        start: u64,
-        len: u64,
-        text: &'a [u8],
-    ) -> Checked<'a>
+    pub(crate) fn new(mode: &Mode, root: &Hash, start: u64, len: u64, text: &'a [u8]) -> Checked<'a>
         requires { IsAccepted mode.now root.now.0 text.now (slice_nodes text.now start len) }
         ensures { IsPiece result mode.now root.now.0 start len text.now }
     {
