@@ -4,7 +4,7 @@ SHELL := bash
 .SHELLFLAGS := -eu -o pipefail -c
 .DEFAULT_GOAL := help
 .DELETE_ON_ERROR:
-.PHONY: help build run install test bench fmt FORCE
+.PHONY: help build run install test bench refuse fmt FORCE
 
 PREFIX ?= /usr/local
 
@@ -25,6 +25,7 @@ help:
 	@echo 'make install PREFIX=DIR   copies bao_gather to DIR/bin (PREFIX is /usr/local if left out; DESTDIR goes before it)'
 	@echo 'make test                 the gate, rt ci: every proof from nothing, the must-fail edits, the tests and the programs'
 	@echo 'make bench                measures times and prints them with their ratios, beside b3sum where it is installed'
+	@echo 'make refuse               runs the program with one allocation refused after another (needs cc)'
 	@echo 'make fmt                  lays out the files of each crate'
 	@echo 'CPU=x86-64 or CPU=x86-64-v3 picks the processor level, which is $(CPU) if left out; JOBS=N is the number of jobs of a proof'
 
@@ -41,6 +42,9 @@ test:
 
 bench: out/bao_gather out/bench
 	@python3 scripts/bench.py
+
+refuse: out/bao_gather
+	@python3 scripts/refuse.py
 
 fmt:
 	@for crate in crates/*/; do (cd "$$crate" && rt fmt); done

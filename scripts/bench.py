@@ -108,7 +108,7 @@ RATIOS = [
     ("several threads", "hash_join", "hash", "at most 0.4 on four processors"),
     ("one thread", "Hasher", "hash", "at most 1.1"),
     ("one thread", OUTBOARD, HASH_ONE, "at most 1.3"),
-    ("one thread", ENCODE, HASH_ONE, "at most 2.0"),
+    ("one thread", ENCODE, HASH_ONE, "at most 1.6"),
     ("one thread", SLICE, SLICE_OF_SIXTEENTH, "about 1: not with the encoding"),
     ("one thread", LARGER_SLICE, SLICE, "about 8: with the slice"),
 ]
