@@ -68,6 +68,13 @@ impl<'a> Checked<'a> {
         claimed(self.text)
     }
 
+    /// The accepted text, whole.
+    pub fn text(&self) -> &'a [u8]
+        ensures { result.now ≡ piece_text self.now }
+    {
+        self.text
+    }
+
     // The part of the blob that the text is of.
     fn choice(&self) -> Choice
         ensures { result ≡ of_slice (piece_claimed self.now) self.now.start self.now.len }
