@@ -7,6 +7,8 @@ pub mod Pieces
 pub mod Walk
 pub mod Forms
 pub mod Checked
+pub mod Leaves
+pub mod Outline
 pub mod Sources
 pub mod Laws
 pub use Rattle.bao_text.specs.Choice

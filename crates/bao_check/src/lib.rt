@@ -2,14 +2,17 @@
 #![tactic(auto)]
 
 pub use checked::Checked;
-pub use checks::{check_combined, check_slice};
+pub use checks::{check_combined, check_outboard, check_slice};
 pub use fault::CheckFault;
+pub use outline::Outline;
 
 mod asked;
 mod checked;
 mod checks;
 mod fault;
 mod form;
+mod leaves;
+mod outline;
 mod source;
 mod stream;
 mod walk;
