@@ -15,4 +15,6 @@ mod leaves;
 mod outline;
 mod source;
 mod stream;
+#[cfg(test)]
+mod tests_outline;
 mod walk;
