@@ -22,4 +22,6 @@ mod outline;
 mod source;
 mod stream;
 mod tail;
+#[cfg(test)]
+mod tests_outline;
 mod walk;
