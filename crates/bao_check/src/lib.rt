@@ -14,4 +14,6 @@ mod form;
 mod read;
 mod source;
 mod stream;
+#[cfg(test)]
+mod tests_stream;
 mod walk;
