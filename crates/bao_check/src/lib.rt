@@ -24,4 +24,6 @@ mod stream;
 mod tail;
 #[cfg(test)]
 mod tests_outline;
+#[cfg(test)]
+mod tests_stream;
 mod walk;
