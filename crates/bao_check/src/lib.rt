@@ -13,4 +13,6 @@ mod form;
 mod locate;
 mod source;
 mod stream;
+#[cfg(test)]
+mod tests;
 mod walk;
