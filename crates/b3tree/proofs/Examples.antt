@@ -1,4 +1,4 @@
--- The definitions give the published digests, by computing.
+-- The definitions give the digests that b3sum 1.2.0 gives, by computing.
 use Rattle.std.proofs.Common.{◌≡◌, [], ◌∷◌, refl}
 use Rattle.b3word.specs.Compression.{iv, g, round, rounds, round_words, permuted, out}
 use Rattle.b3tree.specs.declared.mode.Mode.{Mode}

@@ -1,4 +1,5 @@
 pub mod Examples
+pub mod HashOutput
 pub mod LeftLen
 pub mod TopInput
 pub mod Words

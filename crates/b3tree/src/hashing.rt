@@ -1,6 +1,6 @@
 ghost use Rattle.std.specs.Prelude.{◌≡◌, ◌+◌, ◌*◌, ◌-◌, ◌^◌, ◌≤◌, length};
 ghost use Rattle.b3tree.specs.Tree.{subtree_cv};
-ghost use Rattle.b3tree.specs.Hashing.{hash, root_hash, rooted};
+ghost use Rattle.b3tree.specs.Hashing.{hash, root_hash, rooted, stream};
 
 use crate::flags::ROOT;
 use crate::mode::Mode;
@@ -28,7 +28,10 @@ pub fn root_hash(root: &Input) -> Hash
 /// The hash of `bytes` in `mode` (BLAKE3 paper, 2.6). Takes every input.
 #[tactic(auto, unfolding(crate::specs::Hashing::hash))]
 pub fn hash(mode: &Mode, bytes: &[u8]) -> Hash
-    ensures { result.0 ≡ hash mode.now bytes.now }
+    ensures value { result.0 ≡ hash mode.now bytes.now }
+
+    // The first 32 bytes of the output stream.
+    ensures stream { result.0 ≡ stream mode.now bytes.now 0 32 }
 {
     root_hash(&rooted(&top_input(mode, 0, bytes)))
 }

@@ -1,4 +1,5 @@
-ghost use Rattle.std.specs.Prelude.{◌≡◌, ◌%◌};
+ghost use Rattle.std.specs.Prelude.{◌≡◌, ◌%◌, ◌^◌, ◌<◌};
+ghost use Rattle.b3tree.specs.Words.{AreWords};
 
 use crate::bytes::words_of;
 use crate::flags::{DERIVE_KEY_CONTEXT, DERIVE_KEY_MATERIAL, KEYED_HASH};
@@ -21,6 +22,7 @@ pub struct Mode {
 impl Mode {
     ghost use Rattle.b3tree.specs.Modes.{key_words, keyed, mode_flags, of_context, plain};
     ghost use Rattle.b3tree.specs.Hashing.{derived};
+    ghost use Rattle.b3tree.specs.Valid.{IsKeyed};
 
     /// Plain hashing: the IV as key words, and no flags.
     pub fn hash() -> Mode
@@ -53,6 +55,14 @@ impl Mode {
         }
     }
 
+    /// The key words and flags of a mode are words: a law, for proofs over modes. Nothing runs.
+    pub fn is_keyed(&self)
+        ensures { IsKeyed self.now }
+    {
+        words_are(&self.key);
+        word_is(self.domain);
+    }
+
     // The first step of key derivation.
     fn of_context() -> Mode
         ensures { result ≡ of_context }
@@ -76,4 +86,17 @@ impl Mode {
     {
         self.domain
     }
+}
+
+// The elements of a slice of words are words.
+fn words_are(words: &[u32])
+    ensures { AreWords words.now }
+{
+    let _count = words.len();
+}
+
+fn word_is(word: u32)
+    ensures { word < 2 ^ 32 }
+{
+    let _word = word;
 }

@@ -1,6 +1,6 @@
 use crate::{
-    Hasher, Mode, TooLong, chunk_input, hash, left_len, parent_input, root_hash, rooted,
-    subtree_cv, top_input, xof, xof_fits,
+    Cv, Hash, Hasher, Input, Mode, TooLong, chunk_input, hash, left_len, parent_input, root_hash,
+    rooted, subtree_cv, top_input, xof, xof_fits,
 };
 use std::alloc::Global;
 use std::test::Fail;
@@ -8,12 +8,20 @@ use vectors::{CONTEXT, KEY, ROWS};
 
 mod vectors;
 
-// The digest of `abc`, published.
+// The digest of `abc`, by b3sum 1.2.0.
 const ABC: &str = "6437b3ac38465133ffb63b75273a8db548c558465d79db03fd359c6cd5bd9d85";
 
 // The 40 bytes from 2^24 - 10 on of the output of `abc`, computed by b3sum 1.2.0.
 const ABC_FAR: &str =
     "9c974a6ddb455793981f82d259b80de7117c986762d59f65576cf32731a42c09aad1cd70612d29b3";
+
+// The 40 bytes from 2^63 on of the output of `abc`, and those from 2^63 - 5 on under `KEY`, by a program that was
+// written in Python from BLAKE3's definition alone, and that gives all rows below.
+const ABC_FARTHEST: &str =
+    "dedbe30e3192edf00767b54585848debf9e13bf4c788ee630029ba5f116bbc23d67120407c5ab723";
+
+const ABC_KEYED: &str =
+    "511b1ed22d56f76b5784f8787551883f9d4e125388ca2638557d180f46cd054a8259bcb2949daa8d";
 
 // The bytes that `digits` writes, two hexadecimal digits each.
 fn decoded<const N: usize>(digits: &str) -> Result<[u8; N], Fail> {
@@ -133,6 +141,49 @@ fn output_from_a_later_place(rt: HostRuntime) -> Result<(), Fail> {
     xof(&Mode::hash(), b"abc", (1 << 24) - 10, &mut output);
     assert_eq!(rt; output, decoded(ABC_FAR)?);
     Ok(())
+}
+
+// Only the blocks that are asked for are computed, so this ends at once.
+#[test]
+fn output_from_far_away(rt: HostRuntime) -> Result<(), Fail> {
+    let mut output = [0; 40];
+    xof(&Mode::hash(), b"abc", 1 << 63, &mut output);
+    assert_eq!(rt; output, decoded(ABC_FARTHEST)?);
+    let mut hasher = Hasher::new(&Mode::keyed(KEY));
+    hasher.update(b"abc")?;
+    hasher.finalize_xof((1 << 63) - 5, &mut output);
+    assert_eq!(rt; output, decoded(ABC_KEYED)?);
+    Ok(())
+}
+
+// `==` tells values apart in every part of them.
+#[test]
+fn equal_only_to_the_same(rt: HostRuntime) {
+    assert_eq!(rt; Hash([1; 32]), Hash([1; 32]));
+    let mut last = [1; 32];
+    last[31] = 2;
+    assert_ne!(rt; Hash([1; 32]), Hash(last));
+    assert_eq!(rt; Cv([1; 8]), Cv([1; 8]));
+    let mut last = [1; 8];
+    last[7] = 2;
+    assert_ne!(rt; Cv([1; 8]), Cv(last));
+    assert_eq!(rt; Mode::keyed(KEY), Mode::keyed(KEY));
+    assert_ne!(rt; Mode::keyed(KEY), Mode::keyed([0; 32]));
+    assert_ne!(rt; Mode::hash(), Mode::derive(CONTEXT));
+    let input = chunk_input(&Mode::hash(), 7, b"abc", 0);
+    assert_eq!(rt; input, input);
+    assert_ne!(rt; input, Input { t: 8, ..input });
+    assert_ne!(rt; input, Input { b: 4, ..input });
+    assert_ne!(rt; input, Input { d: 0, ..input });
+    assert_ne!(rt; input, Input { h: [0; 8], ..input });
+    assert_ne!(rt;
+        input,
+        Input {
+            m: [0; 16],
+            ..input
+        }
+    );
+    assert_eq!(rt; TooLong, TooLong);
 }
 
 #[test]

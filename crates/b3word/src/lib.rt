@@ -11,7 +11,7 @@ mod input;
 mod tests {
     use super::{Input, compress, cv};
 
-    // The empty input is one block, the root: its first output words are the published digest
+    // The empty input is one block, the root: its first output words are the digest
     // af1349b9..e41f3262 read as little-endian words.
     #[test]
     fn digest_of_the_empty_input(rt: HostRuntime) {

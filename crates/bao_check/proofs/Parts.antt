@@ -5,7 +5,6 @@ use Rattle.std.proofs.lemmas.List.Elements.{Contains-append_cases, Contains-appe
 use Rattle.std.proofs.lemmas.Bool.{cases_Bool, cases_lt}
 use Rattle.std.proofs.Common.{length-append, subst, inl, inr, ◌⊎◌, ◌≢◌, ◌≡◌, ℕ, zero, suc, ◌+◌, ◌-◌, ◌*◌, ◌/◌, ◌<◌, ◌≤◌, List, [], ◌∷◌, ◌++◌, length, take, drop, true, false, refl, sym, ap, ◌∙◌, arith}
 use Rattle.b3tree.specs.declared.mode.Mode.{Mode}
-use Rattle.b3tree.specs.declared.values.Cv.{Cv}
 use Rattle.b3tree.specs.Tree.{left_len, parent_input}
 use Rattle.bao_text.specs.declared.choice.Choice.{Choice}
 use Rattle.bao_text.specs.Choice.{wants}
@@ -150,6 +149,7 @@ top_up asked sides mode text ps q is on h = (
       let above_is : length above.1.sides ≡ length sides + length k.tail = ap length k.is ∙ length-append sides k.tail in
       absurd (omega (arith, ap length is)),
 )
+
 -- the places of a subtree: its parent's, and those of its two parts
 pub record Tree (sides : List Side) (q : ℕ × Node) (near far : List (ℕ × Node)) : Type 0 where
   pub top : q.1.sides ≡ sides
@@ -204,15 +204,19 @@ all_on sides q near far tree a h = elim (Contains-cons_cases (near ++ far) q a h
 -- a good place of a part is one of the whole
 pub near_good : (asked : Asked) (sides : List Side) (mode : Mode) (text : List ℕ) (q : ℕ × Node) (near far : List (ℕ × Node)) → Tree sides q near far
     → (p : ℕ × Node) → Contains near p → IsGoodIn (below left (bytes_at text q)) (sides ++ left ∷ []) mode text near p → IsGoodIn asked sides mode text (q ∷ (near ++ far)) p
-near_good asked sides mode text q near far tree p there h =
-    (h.0, up asked sides left mode text (q ∷ (near ++ far)) near q p (near_part sides q near far tree)
-        (All-member (λ place. Extends (sides ++ left ∷ []) place.1.sides) near tree.near_on p there) h.1)
+near_good asked sides mode text q near far tree p there h = (
+  h.0,
+  up asked sides left mode text (q ∷ (near ++ far)) near q p (near_part sides q near far tree)
+      (All-member (λ place. Extends (sides ++ left ∷ []) place.1.sides) near tree.near_on p there) h.1,
+)
 
 pub far_good : (asked : Asked) (sides : List Side) (mode : Mode) (text : List ℕ) (q : ℕ × Node) (near far : List (ℕ × Node)) → Tree sides q near far
     → (p : ℕ × Node) → Contains far p → IsGoodIn (below right (bytes_at text q)) (sides ++ right ∷ []) mode text far p → IsGoodIn asked sides mode text (q ∷ (near ++ far)) p
-far_good asked sides mode text q near far tree p there h =
-    (h.0, up asked sides right mode text (q ∷ (near ++ far)) far q p (far_part sides q near far tree)
-        (All-member (λ place. Extends (sides ++ right ∷ []) place.1.sides) far tree.far_on p there) h.1)
+far_good asked sides mode text q near far tree p there h = (
+  h.0,
+  up asked sides right mode text (q ∷ (near ++ far)) far q p (far_part sides q near far tree)
+      (All-member (λ place. Extends (sides ++ right ∷ []) place.1.sides) far tree.far_on p there) h.1,
+)
 
 -- and one that isn't, isn't
 pub near_bad : (asked : Asked) (sides : List Side) (mode : Mode) (text : List ℕ) (q : ℕ × Node) (near far : List (ℕ × Node)) → Tree sides q near far
@@ -255,8 +259,8 @@ near_from_whole : (asked : Asked) (sides : List Side) (mode : Mode) (text : List
 near_from_whole asked sides mode text q near far tree all =
     All-from_members (IsGoodIn (below left (bytes_at text q)) (sides ++ left ∷ []) mode text near) near
     (λ p h.
-        let whole = All-member (IsGoodIn asked sides mode text (q ∷ (near ++ far))) (q ∷ (near ++ far)) all p (Contains-tail (near ++ far) q p (Contains-append_left near far p h)) in
-        (whole.0, down asked sides left mode text (q ∷ (near ++ far)) near q p (near_part sides q near far tree) whole.1))
+    let whole = All-member (IsGoodIn asked sides mode text (q ∷ (near ++ far))) (q ∷ (near ++ far)) all p (Contains-tail (near ++ far) q p (Contains-append_left near far p h)) in
+    (whole.0, down asked sides left mode text (q ∷ (near ++ far)) near q p (near_part sides q near far tree) whole.1))
 
 far_from_whole : (asked : Asked) (sides : List Side) (mode : Mode) (text : List ℕ) (q : ℕ × Node) (near far : List (ℕ × Node)) → Tree sides q near far
     → AllByRecursion (IsGoodIn asked sides mode text (q ∷ (near ++ far))) (q ∷ (near ++ far))
@@ -264,8 +268,8 @@ far_from_whole : (asked : Asked) (sides : List Side) (mode : Mode) (text : List 
 far_from_whole asked sides mode text q near far tree all =
     All-from_members (IsGoodIn (below right (bytes_at text q)) (sides ++ right ∷ []) mode text far) far
     (λ p h.
-        let whole = All-member (IsGoodIn asked sides mode text (q ∷ (near ++ far))) (q ∷ (near ++ far)) all p (Contains-tail (near ++ far) q p (Contains-append_right near far p h)) in
-        (whole.0, down asked sides right mode text (q ∷ (near ++ far)) far q p (far_part sides q near far tree) whole.1))
+    let whole = All-member (IsGoodIn asked sides mode text (q ∷ (near ++ far))) (q ∷ (near ++ far)) all p (Contains-tail (near ++ far) q p (Contains-append_right near far p h)) in
+    (whole.0, down asked sides right mode text (q ∷ (near ++ far)) far q p (far_part sides q near far tree) whole.1))
 
 -- the places of a wanted subtree of more than one chunk
 pub placed-parent : (choice : Choice) (number n : ℕ) (sides : List Side) (source at : ℕ) → wants choice (1024 * number) n ≡ true → 1024 < n

@@ -1,5 +1,5 @@
 -- A walk through a subtree's nodes: its parent, its left part, its right part.
-use Rattle.std.proofs.Common.{◌≡◌, ℕ, ◌+◌, ◌-◌, ◌*◌, ◌/◌, ◌<◌, ◌≤◌, List, [], ◌∷◌, ◌++◌, length, take, drop, Option, None, Some, true, false, refl, sym, ap, subst, ◌∙◌, arith, length-append, length-drop}
+use Rattle.std.proofs.Common.{◌≡◌, ℕ, ◌+◌, ◌-◌, ◌*◌, ◌/◌, ◌<◌, ◌≤◌, List, [], ◌∷◌, ◌++◌, length, take, drop, Option, None, Some, true, false, refl, sym, ap, subst, ◌∙◌, arith, length-append}
 use Rattle.std.specs.Io.KnownBytes.{Consumes}
 use Rattle.std.specs.List.{AllByRecursion, Contains}
 use Rattle.std.proofs.lemmas.List.Elements.{Contains-append_left}
@@ -7,7 +7,7 @@ use Rattle.std.proofs.lemmas.List.{append-nil, append_assoc, drop_at, take_at}
 use Rattle.std.proofs.lemmas.List.Sums.{sum_by-append}
 use Rattle.b3word.specs.declared.input.Input.{Input}
 use Rattle.b3tree.specs.declared.mode.Mode.{Mode}
-use Rattle.b3tree.specs.Tree.{left_len, parent_input}
+use Rattle.b3tree.specs.Tree.{left_len}
 use Rattle.bao_text.specs.declared.choice.Choice.{Choice}
 use Rattle.bao_text.specs.Choice.{wants}
 use Rattle.bao_text.specs.Nodes.{Node, Side, left, placed, right, size, subtree_nodes, subtree_size}
@@ -15,8 +15,8 @@ use Rattle.bao_text.proofs.SubtreeNodes.{parent_node, subtree_nodes-leaf, subtre
 use Rattle.bao_check.specs.declared.asked.Asked.{Asked}
 use Rattle.bao_check.specs.declared.fault.CheckFault.{CheckFault}
 use Rattle.bao_check.specs.declared.fault.CheckFault.TheVariants.{Short, Mismatch, Trailing, Memory, Reader}
-use Rattle.bao_check.specs.Accepted.{bytes_at, end_of, input_at, part_value}
-use Rattle.bao_check.specs.Walk.{AreGood, AreGoodUpTo, Grows, IsAskedIn, IsGoodIn, IsRefused, Meets, Passes, Stops, StopsAt, Takes, chunk_taken, parent_taken}
+use Rattle.bao_check.specs.Accepted.{bytes_at, end_of, input_at}
+use Rattle.bao_check.specs.Walk.{AreGoodUpTo, Grows, IsAskedIn, IsGoodIn, IsRefused, Meets, Passes, Stops, StopsAt, Takes, chunk_taken, parent_taken}
 use Rattle.bao_check.proofs.Lists.{All-append, All-from_members, All-member, nodes_size, nodes_size-cons}
 use Rattle.bao_check.proofs.Parts.{Tree, below, far_bad, far_good, near_bad, near_good, placed-parent, subtree_Tree, top_bad, top_good, whole_good}
 
@@ -92,10 +92,11 @@ chunk_passes asked sides mode old new bytes number n source grown len meets = re
 pub chunk_stops : (fails : CheckFault → Type 0) (asked : Asked) (sides : List Side) (mode : Mode) (old new bytes : List ℕ) (after : Option (List ℕ)) (number n source : ℕ) → new ≡ old ++ bytes
     → (fault : CheckFault) → IsRefused fails asked (chunk_taken mode number old new) n old new after fault
     → Stops fails asked sides mode new after (length old) (chunk_node number n sides source ∷ []) fault
-chunk_stops fails asked sides mode old new bytes after number n source grown fault h =
-    ((length old, chunk_node number n sides source),
-        stop_top fails asked sides mode old new after (chunk_node number n sides source) [] (chunk_taken mode number old new) refl
-            (λ rest len. chunk_is mode old new bytes number n sides source rest grown len) fault h)
+chunk_stops fails asked sides mode old new bytes after number n source grown fault h = (
+  (length old, chunk_node number n sides source),
+  stop_top fails asked sides mode old new after (chunk_node number n sides source) [] (chunk_taken mode number old new) refl
+      (λ rest len. chunk_is mode old new bytes number n sides source rest grown len) fault h,
+)
 
 -- the parent is there, and has its value
 record TopIs (asked : Asked) (mode : Mode) (text : List ℕ) (q : ℕ × Node) (parent : List ℕ) : Type 0 where
@@ -118,9 +119,9 @@ near_up_to asked asked_near sides mode text q p near far parent tree top is h =
         top_good asked sides mode text q near far tree top.there top.meets,
         All-from_members (IsGoodIn asked sides mode text (q ∷ (near ++ far))) h.earlier
             (λ x member.
-                near_good asked sides mode text q near far tree x
-                (subst (λ (ps : List (ℕ × Node)). Contains ps x) (sym h.split) (Contains-append_left h.earlier (p ∷ h.later) x member))
-                (subst (λ (a : Asked). whole a x) same (All-member (whole asked_near) h.earlier h.good x member))),
+            near_good asked sides mode text q near far tree x
+            (subst (λ (ps : List (ℕ × Node)). Contains ps x) (sym h.split) (Contains-append_left h.earlier (p ∷ h.later) x member))
+            (subst (λ (a : Asked). whole a x) same (All-member (whole asked_near) h.earlier h.good x member))),
       );
     }
 
@@ -144,13 +145,13 @@ far_up_to asked asked_near asked_far sides mode text q p near far parent tree to
         All-append (IsGoodIn asked sides mode text (q ∷ (near ++ far))) near h.earlier
             (All-from_members (IsGoodIn asked sides mode text (q ∷ (near ++ far))) near
             (λ x member.
-                near_good asked sides mode text q near far tree x member
-                (subst (λ (a : Asked). in_near a x) same_near (All-member (in_near asked_near) near near_all x member))))
+            near_good asked sides mode text q near far tree x member
+            (subst (λ (a : Asked). in_near a x) same_near (All-member (in_near asked_near) near near_all x member))))
             (All-from_members (IsGoodIn asked sides mode text (q ∷ (near ++ far))) h.earlier
             (λ x member.
-                far_good asked sides mode text q near far tree x
-                (subst (λ (ps : List (ℕ × Node)). Contains ps x) (sym h.split) (Contains-append_left h.earlier (p ∷ h.later) x member))
-                (subst (λ (a : Asked). in_far a x) same_far (All-member (in_far asked_far) h.earlier h.good x member)))),
+            far_good asked sides mode text q near far tree x
+            (subst (λ (ps : List (ℕ × Node)). Contains ps x) (sym h.split) (Contains-append_left h.earlier (p ∷ h.later) x member))
+            (subst (λ (a : Asked). in_far a x) same_far (All-member (in_far asked_far) h.earlier h.good x member)))),
       );
     }
 
@@ -179,9 +180,13 @@ far_stop : (fails : CheckFault → Type 0) (asked asked_near asked_far : Asked) 
     → Tree sides q near far → ((rest : List ℕ) → TopIs asked mode (new ++ rest) q parent) → asked_near ≡ below left parent → asked_far ≡ below right parent
     → ((rest : List ℕ) → AllByRecursion (IsGoodIn asked_near (sides ++ left ∷ []) mode (new ++ rest) near) near)
     → (fault : CheckFault) → StopsAt fails asked_far (sides ++ right ∷ []) mode new after far fault p → StopsAt fails asked sides mode new after (q ∷ (near ++ far)) fault p
-far_stop fails asked asked_near asked_far sides mode new after q p near far parent tree top is_near is_far near_all (Short at) h =
-    (h.0, h.1, h.2, far_up_to asked asked_near asked_far sides mode new q p near far parent tree (subst (λ (s : List ℕ). TopIs asked mode s q parent) (append-nil new) (top [])) is_near is_far
-        (subst (λ (s : List ℕ). AllByRecursion (IsGoodIn asked_near (sides ++ left ∷ []) mode s near) near) (append-nil new) (near_all [])) h.3)
+far_stop fails asked asked_near asked_far sides mode new after q p near far parent tree top is_near is_far near_all (Short at) h = (
+  h.0,
+  h.1,
+  h.2,
+  far_up_to asked asked_near asked_far sides mode new q p near far parent tree (subst (λ (s : List ℕ). TopIs asked mode s q parent) (append-nil new) (top [])) is_near is_far
+      (subst (λ (s : List ℕ). AllByRecursion (IsGoodIn asked_near (sides ++ left ∷ []) mode s near) near) (append-nil new) (near_all [])) h.3,
+)
 far_stop fails asked asked_near asked_far sides mode new after q p near far parent tree top is_near is_far near_all (Mismatch at) h = (
   h.0,
   h.1,
@@ -193,12 +198,18 @@ far_stop fails asked asked_near asked_far sides mode new after q p near far pare
       ),
 )
 far_stop fails asked asked_near asked_far sides mode new after q p near far parent tree top is_near is_far near_all (Trailing at) h = absurd h
-far_stop fails asked asked_near asked_far sides mode new after q p near far parent tree top is_near is_far near_all Memory h =
-    (h.0, h.1, far_up_to asked asked_near asked_far sides mode new q p near far parent tree (subst (λ (s : List ℕ). TopIs asked mode s q parent) (append-nil new) (top [])) is_near is_far
-        (subst (λ (s : List ℕ). AllByRecursion (IsGoodIn asked_near (sides ++ left ∷ []) mode s near) near) (append-nil new) (near_all [])) h.2)
-far_stop fails asked asked_near asked_far sides mode new after q p near far parent tree top is_near is_far near_all Reader h =
-    (h.0, h.1, far_up_to asked asked_near asked_far sides mode new q p near far parent tree (subst (λ (s : List ℕ). TopIs asked mode s q parent) (append-nil new) (top [])) is_near is_far
-        (subst (λ (s : List ℕ). AllByRecursion (IsGoodIn asked_near (sides ++ left ∷ []) mode s near) near) (append-nil new) (near_all [])) h.2)
+far_stop fails asked asked_near asked_far sides mode new after q p near far parent tree top is_near is_far near_all Memory h = (
+  h.0,
+  h.1,
+  far_up_to asked asked_near asked_far sides mode new q p near far parent tree (subst (λ (s : List ℕ). TopIs asked mode s q parent) (append-nil new) (top [])) is_near is_far
+      (subst (λ (s : List ℕ). AllByRecursion (IsGoodIn asked_near (sides ++ left ∷ []) mode s near) near) (append-nil new) (near_all [])) h.2,
+)
+far_stop fails asked asked_near asked_far sides mode new after q p near far parent tree top is_near is_far near_all Reader h = (
+  h.0,
+  h.1,
+  far_up_to asked asked_near asked_far sides mode new q p near far parent tree (subst (λ (s : List ℕ). TopIs asked mode s q parent) (append-nil new) (top [])) is_near is_far
+      (subst (λ (s : List ℕ). AllByRecursion (IsGoodIn asked_near (sides ++ left ∷ []) mode s near) near) (append-nil new) (near_all [])) h.2,
+)
 
 -- a parent's 64 bytes were taken, and have the value asked for
 pub record TookParent (asked : Asked) (mode : Mode) (old new : List ℕ) : Type 0 where
@@ -231,11 +242,13 @@ module _ (asked : Asked) (choice : Choice) (mode : Mode) (number n : ℕ) (sides
       → Stops fails asked sides mode new after (length old) (subtree_nodes choice number n sides source) fault
   parent_stops fails old new bytes after grown fault h =
       let q : ℕ × Node = (length old, parent_node number n sides source) in
-      let all = placed-parent choice number n sides source (length old) wanted more in
-      (q, subst (λ (ps : List (ℕ × Node)). StopsAt fails asked sides mode new after ps fault q) (sym all)
-      (stop_top fails asked sides mode old new after (parent_node number n sides source)
-      (placed (length old + 64) near_nodes ++ placed (length old + 64 + nodes_size near_nodes) far_nodes) (parent_taken mode old new) refl
-      (λ rest len. ap (λ (s : List ℕ). parent_taken mode [] s) (taken_at old new rest 64 bytes grown len)) fault h))
+      let all = placed-parent choice number n sides source (length old) wanted more in (
+        q,
+        subst (λ (ps : List (ℕ × Node)). StopsAt fails asked sides mode new after ps fault q) (sym all)
+            (stop_top fails asked sides mode old new after (parent_node number n sides source)
+            (placed (length old + 64) near_nodes ++ placed (length old + 64 + nodes_size near_nodes) far_nodes) (parent_taken mode old new) refl
+            (λ rest len. ap (λ (s : List ℕ). parent_taken mode [] s) (taken_at old new rest 64 bytes grown len)) fault h),
+      )
 
   pub near_stops : (fails : CheckFault → Type 0) (asked_near : Asked) (old new new_near bytes : List ℕ) (after : Option (List ℕ)) → TookParent asked mode old new
       → asked_near ≡ below left (drop (length old) new) → new_near ≡ new ++ bytes
@@ -244,12 +257,14 @@ module _ (asked : Asked) (choice : Choice) (mode : Mode) (number n : ℕ) (sides
   near_stops fails asked_near old new new_near bytes after took is grown fault h =
       let at_far : ℕ = length old + 64 + nodes_size near_nodes in
       let q : ℕ × Node = (length old, parent_node number n sides source) in
-      let all = placed-parent choice number n sides source (length old) wanted more in
-      (h.0, subst (λ (ps : List (ℕ × Node)). StopsAt fails asked sides mode new_near after ps fault h.0) (sym all)
-      (near_stop fails asked asked_near sides mode new_near after q h.0 (placed (length old + 64) near_nodes) (placed at_far far_nodes) (drop (length old) new)
-      (subtree_Tree choice number n sides source (length old) at_far)
-      (λ rest. parent_tops asked mode old new (new_near ++ rest) (bytes ++ rest) number n sides source took (ap (λ (s : List ℕ). s ++ rest) grown ∙ append_assoc new bytes rest))
-      is fault (subst (λ (k : ℕ). StopsAt fails asked_near (sides ++ left ∷ []) mode new_near after (placed k near_nodes) fault h.0) took.len h.1)))
+      let all = placed-parent choice number n sides source (length old) wanted more in (
+        h.0,
+        subst (λ (ps : List (ℕ × Node)). StopsAt fails asked sides mode new_near after ps fault h.0) (sym all)
+            (near_stop fails asked asked_near sides mode new_near after q h.0 (placed (length old + 64) near_nodes) (placed at_far far_nodes) (drop (length old) new)
+            (subtree_Tree choice number n sides source (length old) at_far)
+            (λ rest. parent_tops asked mode old new (new_near ++ rest) (bytes ++ rest) number n sides source took (ap (λ (s : List ℕ). s ++ rest) grown ∙ append_assoc new bytes rest))
+            is fault (subst (λ (k : ℕ). StopsAt fails asked_near (sides ++ left ∷ []) mode new_near after (placed k near_nodes) fault h.0) took.len h.1)),
+      )
 
   -- where the left part passed, from the text after it
   near_all : (asked_near : Asked) (old new new_near bytes text : List ℕ) → TookParent asked mode old new → text ≡ new_near ++ bytes
@@ -272,14 +287,16 @@ module _ (asked : Asked) (choice : Choice) (mode : Mode) (number n : ℕ) (sides
       let at_far : ℕ = length old + 64 + nodes_size near_nodes in
       let q : ℕ × Node = (length old, parent_node number n sides source) in
       let all = placed-parent choice number n sides source (length old) wanted more in
-      let far_on = λ (rest : List ℕ). ap (λ (s : List ℕ). s ++ rest) grown_far ∙ append_assoc new_near bytes_far rest in
-      (h.0, subst (λ (ps : List (ℕ × Node)). StopsAt fails asked sides mode new_far after ps fault h.0) (sym all)
-      (far_stop fails asked asked_near asked_far sides mode new_far after q h.0 (placed (length old + 64) near_nodes) (placed at_far far_nodes) (drop (length old) new)
-      (subtree_Tree choice number n sides source (length old) at_far)
-      (λ rest. parent_tops asked mode old new (new_far ++ rest) (bytes ++ (bytes_far ++ rest)) number n sides source took
-      (far_on rest ∙ ap (λ (s : List ℕ). s ++ (bytes_far ++ rest)) grown ∙ append_assoc new bytes (bytes_far ++ rest)))
-      is_near is_far (λ rest. near_all asked_near old new new_near (bytes_far ++ rest) (new_far ++ rest) took (far_on rest) passes)
-      fault (subst (λ (k : ℕ). StopsAt fails asked_far (sides ++ right ∷ []) mode new_far after (placed k far_nodes) fault h.0) (far_at old new new_near asked_near took passes) h.1)))
+      let far_on = λ (rest : List ℕ). ap (λ (s : List ℕ). s ++ rest) grown_far ∙ append_assoc new_near bytes_far rest in (
+        h.0,
+        subst (λ (ps : List (ℕ × Node)). StopsAt fails asked sides mode new_far after ps fault h.0) (sym all)
+            (far_stop fails asked asked_near asked_far sides mode new_far after q h.0 (placed (length old + 64) near_nodes) (placed at_far far_nodes) (drop (length old) new)
+            (subtree_Tree choice number n sides source (length old) at_far)
+            (λ rest. parent_tops asked mode old new (new_far ++ rest) (bytes ++ (bytes_far ++ rest)) number n sides source took
+            (far_on rest ∙ ap (λ (s : List ℕ). s ++ (bytes_far ++ rest)) grown ∙ append_assoc new bytes (bytes_far ++ rest)))
+            is_near is_far (λ rest. near_all asked_near old new new_near (bytes_far ++ rest) (new_far ++ rest) took (far_on rest) passes)
+            fault (subst (λ (k : ℕ). StopsAt fails asked_far (sides ++ right ∷ []) mode new_far after (placed k far_nodes) fault h.0) (far_at old new new_near asked_near took passes) h.1)),
+      )
 
   pub whole_passes : (asked_near asked_far : Asked) (old new new_near new_far bytes bytes_far : List ℕ) → TookParent asked mode old new
       → asked_near ≡ below left (drop (length old) new) → asked_far ≡ below right (drop (length old) new) → new_near ≡ new ++ bytes → new_far ≡ new_near ++ bytes_far

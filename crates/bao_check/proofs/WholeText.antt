@@ -1,11 +1,11 @@
 -- A text's nodes are those by the length that its first 8 bytes claim.
-use Rattle.std.proofs.Common.{◌≡◌, ◌⊎◌, ℕ, ◌+◌, ◌≤◌, List, [], ◌++◌, length, Option, true, sym, ap, subst, ◌∙◌, arith, inl, inr, length-append, ◌<◌, Some}
+use Rattle.std.proofs.Common.{◌≡◌, ℕ, ◌+◌, ◌≤◌, List, [], ◌++◌, length, Option, sym, ap, subst, ◌∙◌, arith, inl, inr, length-append, ◌<◌, Some}
 use Rattle.std.proofs.lemmas.List.{append-nil, take-append-le}
 use Rattle.std.specs.Int.{w64, from_le_bytes}
 use Rattle.b3tree.specs.declared.mode.Mode.{Mode}
 use Rattle.bao_text.specs.declared.choice.Choice.{Choice}
 use Rattle.bao_text.specs.Cut.{claimed}
-use Rattle.bao_text.specs.Nodes.{Node, Side, chosen_nodes, placed, subtree_nodes}
+use Rattle.bao_text.specs.Nodes.{Node, chosen_nodes, placed, subtree_nodes}
 use Rattle.bao_check.specs.declared.asked.Asked.{Asked}
 use Rattle.bao_check.specs.declared.fault.CheckFault.{CheckFault}
 use Rattle.bao_check.specs.declared.form.Form.{Form}
@@ -76,7 +76,7 @@ short_place : (mode : Mode) (root text : List ℕ) (nodes : List Node) (place : 
 short_place mode root text nodes place short h =
     record { earlier = h.earlier; later = h.later; split = h.split; good = h.good; bad = λ good. let there : end_of place ≤ length text = good.0 in absurd (omega arith) }
 
-bad_place : (mode : Mode) (root text : List ℕ) (nodes : List Node) (place : ℕ × Node) → ¬ IsAskedIn (asked_root root) [] mode text (placed 8 nodes) place
+pub bad_place : (mode : Mode) (root text : List ℕ) (nodes : List Node) (place : ℕ × Node) → ¬ IsAskedIn (asked_root root) [] mode text (placed 8 nodes) place
     → AreGoodUpTo (asked_root root) [] mode text (placed 8 nodes) place → IsFirstBad mode root text (places_of nodes) place
 bad_place mode root text nodes place bad h =
     record { earlier = h.earlier; later = h.later; split = h.split; good = h.good; bad = λ good. bad good.1 }
@@ -85,13 +85,13 @@ bad_place mode root text nodes place bad h =
 none_left : (new rest text : List ℕ) → text ≡ new ++ rest → rest ≡ [] → new ≡ text
 none_left new rest text is none = sym (append-nil new) ∙ ap (λ (s : List ℕ). new ++ s) (sym none) ∙ sym is
 
-short_at : (mode : Mode) (root new text : List ℕ) (form : Form) (at : ℕ) (place : ℕ × Node) → new ≡ text → 8 ≤ length new → at ≡ place.0 → length new < end_of place
+pub short_at : (mode : Mode) (root new text : List ℕ) (form : Form) (at : ℕ) (place : ℕ × Node) → new ≡ text → 8 ≤ length new → at ≡ place.0 → length new < end_of place
     → AreGoodUpTo (asked_root root) [] mode new (placed 8 (form_nodes form new)) place → IsShortAt mode root text (form_nodes form text) at
 short_at mode root new text form at place same long is short good =
     subst (λ (s : List ℕ). IsShortAt mode root s (form_nodes form s) at) same
     (inr (long, (place, short_place mode root new (form_nodes form new) place short good, is, short)))
 
-mismatch_at : (mode : Mode) (root new rest text : List ℕ) (form : Form) (at : ℕ) (place : ℕ × Node) → text ≡ new ++ rest → 8 ≤ length new → at ≡ place.0 → length new ≡ end_of place
+pub mismatch_at : (mode : Mode) (root new rest text : List ℕ) (form : Form) (at : ℕ) (place : ℕ × Node) → text ≡ new ++ rest → 8 ≤ length new → at ≡ place.0 → length new ≡ end_of place
     → AreGoodUpTo (asked_root root) [] mode (new ++ rest) (placed 8 (form_nodes form new)) place
     → ¬ IsAskedIn (asked_root root) [] mode (new ++ rest) (placed 8 (form_nodes form new)) place → IsMismatchAt mode root text (form_nodes form text) at
 mismatch_at mode root new rest text form at place is long at_is len good bad =

@@ -21,7 +21,8 @@ use Rattle.bao_text.specs.Choice.{of_combined, of_outboard, of_slice, slice_end,
 use Rattle.bao_text.specs.Cut.{claimed}
 use Rattle.bao_text.specs.Nodes.{Node, Side, chosen_nodes, chunk_nodes, left, nodes, right, subtree_nodes, subtree_size}
 use Rattle.bao_text.specs.Texts.{chosen_text, chunk_text, combined_text, length_text, outboard_text, parent_text, slice_text, subtree_text}
-use Rattle.bao_text.proofs.Everything.{At, At_first, At_rest, length-bytes_of, length-parent_text}
+use Rattle.bao_text.proofs.Everything.{At, At_first, At_rest, length-parent_text}
+use Rattle.b3tree.proofs.HashOutput.{length-bytes_of}
 use Rattle.bao_text.proofs.SubtreeNodes.{subtree_nodes-leaf, subtree_nodes-parent, subtree_nodes-unwanted}
 use Rattle.bao_text.proofs.SubtreeText.{Parts, left_len-Parts, subtree_text-leaf, subtree_text-parent, subtree_text-unwanted}
 use Rattle.bao_text.proofs.TextNodes.{length-span, span, span-left, span-right}

@@ -1,5 +1,5 @@
 -- What shows that bytes are a certain chunk of the blob with a root: a way down the tree.
-use Rattle.std.specs.Prelude.{◌≡◌, ℕ, List, [], ◌∷◌, ◌++◌, take, drop}
+use Rattle.std.specs.Prelude.{◌≡◌, ℕ, List, [], ◌∷◌}
 use Rattle.std.specs.List.{AllByRecursion}
 use Rattle.b3word.specs.declared.input.Input.{Input}
 use Rattle.b3word.specs.Compression.{cv}

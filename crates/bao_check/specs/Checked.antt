@@ -1,9 +1,12 @@
 -- What a checked piece is of.
-use Rattle.std.specs.Prelude.{◌≡◌, ℕ, List}
+use Rattle.std.specs.Prelude.{◌≡◌, ℕ, ◌-◌, List, is_some, true}
+use Rattle.std.proofs.Math.Bool.{Bool-set}
 use Rattle.b3tree.specs.declared.mode.Mode.{Mode}
+use Rattle.bao_text.specs.Choice.{chunk_count}
 use Rattle.bao_text.specs.Cut.{claimed}
 use Rattle.bao_text.specs.Nodes.{Node}
 use Rattle.bao_check.specs.declared.checked.Checked.{Checked}
+use Rattle.bao_check.specs.Pieces.{chunk_in}
 use Rattle.bao_check.specs.Accepted.{places_of, slice_nodes}
 
 abbrev pub piece_mode : Checked → Mode
@@ -27,6 +30,13 @@ piece_places piece = places_of (piece_nodes piece)
 -- the length that it claims
 abbrev pub piece_claimed : Checked → ℕ
 piece_claimed piece = claimed piece.text.now
+
+-- the piece has the last chunk of the length that it claims
+abbrev pub HoldsLast : Checked → Type 0
+HoldsLast piece = is_some (chunk_in (piece_text piece) (piece_places piece) (chunk_count (piece_claimed piece) - 1)) ≡ true
+
+pub HoldsLast-prop : (piece : Checked) → IsProp (HoldsLast piece)
+HoldsLast-prop piece = Bool-set _ _
 
 -- the piece is this text, accepted as the slice (start, len) under the root in the mode
 pub record IsPiece (piece : Checked) (mode : Mode) (root : List ℕ) (start len : ℕ) (text : List ℕ) : Type 0 where

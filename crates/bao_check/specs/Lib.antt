@@ -8,8 +8,12 @@ pub mod Walk
 pub mod Forms
 pub mod Spans
 pub mod Checked
+pub mod Tail
+pub mod Leaves
+pub mod Outline
 pub mod Sources
 pub mod Laws
+pub mod Streams
 pub use Rattle.bao_text.specs.Choice
 pub use Rattle.bao_text.specs.Nodes
 pub use Rattle.bao_text.specs.Texts

@@ -1,5 +1,5 @@
 -- What an accepted text holds.
-use Rattle.std.specs.Prelude.{◌≡◌, ℕ, ◌+◌, ◌-◌, ◌*◌, ◌/◌, ◌≤◌, ◌==◌, nat_lt, List, [], ◌∷◌, ◌++◌, length, take, drop, Option, None, Some, Bool, true, false, not, ◌&&◌, if◌then◌else◌, Contains}
+use Rattle.std.specs.Prelude.{◌≡◌, ℕ, ◌+◌, ◌*◌, ◌/◌, ◌≤◌, ◌==◌, nat_lt, List, [], ◌∷◌, length, take, drop, Option, None, Some, ◌&&◌, if◌then◌else◌, Contains}
 use Rattle.b3tree.specs.Tree.{left_len}
 use Rattle.bao_text.specs.Choice.{chunk_count}
 use Rattle.bao_text.specs.Nodes.{Node, Side, left, right}

@@ -1,12 +1,17 @@
-ghost use Rattle.std.specs.Prelude.{◌≡◌, ℕ, ◌≤◌, ◌<◌, ◌+◌, ◌↔◌, length, IfSome, IsSome};
+ghost use Rattle.std.specs.Prelude.{◌≡◌, ℕ, List, ◌≤◌, ◌<◌, ◌+◌, ◌↔◌, length, IfSome, IsSome};
 ghost use Rattle.std.specs.Option.{option_copied};
 ghost use Rattle.bao_text.specs.Choice.{of_slice};
+ghost use Rattle.b3tree.specs.Hashing.{hash};
+ghost use Rattle.b3tree.specs.Valid.{AreBytes};
+ghost use Rattle.bao_check.specs.Certificate.{Certificate};
+ghost use Rattle.bao_check.specs.Laws.{Binds};
 ghost use Rattle.bao_check.specs.Pieces.{chunk_in};
 ghost use Rattle.bao_check.specs.Spans.{chunk_place};
 ghost use Rattle.bao_check.specs.Accepted.{IsAccepted, slice_nodes};
 ghost use Rattle.bao_check.specs.AcceptedProp.{IsAccepted-prop};
 
 use crate::locate::{LENGTH_LEN, Span, find_chunk};
+use crate::tail::Tail;
 use crate::walk::claimed;
 use b3tree::{CHUNK_LEN, Hash, Mode};
 use bao_text::Choice;
@@ -20,21 +25,15 @@ pub struct Checked<'a> {
     start: u64,
     len: u64,
     text: &'a [u8],
-    ghost accepted: { IsAccepted mode root.0 text.now (slice_nodes text.now start len) }
-        by { IsAccepted-prop mode root.0 text.now (slice_nodes text.now start len) },
+    ghost accepted: { IsAccepted mode root.0 text.now (slice_nodes text.now start len) } by { IsAccepted-prop mode root.0 text.now (slice_nodes text.now start len) },
 }
 
 impl<'a> Checked<'a> {
-    ghost use Rattle.bao_check.specs.Checked.{IsPiece, piece_claimed, piece_mode, piece_places, piece_root, piece_text};
+    ghost use Rattle.bao_check.specs.Checked.{IsPiece, piece_claimed, piece_mode, piece_places, piece_root, piece_text, HoldsLast};
+    ghost use Rattle.bao_check.specs.Tail.{tail_piece};
 
     // The piece that an accepted text is.
-    pub(crate) fn new(
-        mode: &Mode,
-        root: &Hash,
-        start: u64,
-        len: u64,
-        text: &'a [u8],
-    ) -> Checked<'a>
+    pub(crate) fn new(mode: &Mode, root: &Hash, start: u64, len: u64, text: &'a [u8]) -> Checked<'a>
         requires { IsAccepted mode.now root.now.0 text.now (slice_nodes text.now start len) }
         ensures { IsPiece result mode.now root.now.0 start len text.now }
     {
@@ -94,8 +93,8 @@ impl<'a> Checked<'a> {
         find_chunk(&self.choice(), 0, self.claimed(), LENGTH_LEN, i)
     }
 
-    /// The bytes of chunk `i`, in the text itself: there exactly where the piece holds that chunk.
-    pub fn chunk(&self, i: u64) -> Option<&'a [u8]>
+    // The bytes of chunk `i`, in the text itself.
+    fn bytes(&self, i: u64) -> Option<&'a [u8]>
         ensures { option_copied result ≡ chunk_in (piece_text self.now) (piece_places self.now) i }
     {
         match self.span(i) {
@@ -106,4 +105,42 @@ impl<'a> Checked<'a> {
             None => None,
         }
     }
+
+    /// The bytes of chunk `i`, in the text itself: there exactly where the piece holds that chunk.
+    ///
+    /// The root, the parents on the way and these bytes are its certificate. So for each blob with the
+    /// root they are the blob's chunk `i`, or two different inputs with one chaining value are named,
+    /// one of the blob's and one of the text's.
+    pub fn chunk(&self, i: u64) -> Option<&'a [u8]>
+        ensures value { option_copied result ≡ chunk_in (piece_text self.now) (piece_places self.now) i }
+        ensures certificate { IfSome result (λ bytes. Certificate (piece_mode self.now) (piece_root self.now) i bytes.now) }
+        ensures binds { (blob : List ℕ) → AreBytes blob → hash (piece_mode self.now) blob ≡ piece_root self.now
+            → IfSome result (λ bytes. Binds (piece_mode self.now) (piece_text self.now) self.now.start self.now.len blob i bytes.now) }
+    {
+        self.mode.is_keyed();
+        bytes_are(self.text);
+        self.bytes(i)
+    }
+
+    /// That the piece holds the last chunk of its claimed length, where it does: then that length is
+    /// certified.
+    pub fn tail(&self) -> Option<Tail<'a>>
+        ensures there { IsSome result ↔ HoldsLast self.now }
+        ensures piece { IfSome result (λ tail. tail_piece tail ≡ self.now) }
+    {
+        let last = self.claimed().div_ceil(CHUNK_LEN as u64).max(1) - 1;
+        let (first, after) = self.chunks();
+        if first <= last && last < after {
+            Some(Tail::new(self))
+        } else {
+            None
+        }
+    }
+}
+
+// The elements of a slice of bytes are bytes.
+pub(crate) fn bytes_are(bytes: &[u8])
+    ensures { AreBytes bytes.now }
+{
+    let _count = bytes.len();
 }

@@ -1,12 +1,14 @@
 ghost use Rattle.std.specs.Prelude.{◌↔◌, ◌-◌, ◌^◌, IfErr, IfOk, IsOk, MatchResult};
-ghost use Rattle.bao_check.specs.Accepted.{IsAccepted, slice_nodes};
+ghost use Rattle.bao_check.specs.Accepted.{IsAccepted, outboard_nodes, slice_nodes};
 ghost use Rattle.bao_check.specs.Faults.{IsFirstFault};
 ghost use Rattle.bao_check.specs.Forms.{form_nodes};
 ghost use Rattle.bao_check.specs.Checked.{IsPiece};
+ghost use Rattle.bao_check.specs.Outline.{IsOutline};
 
 use crate::checked::Checked;
 use crate::fault::CheckFault;
 use crate::form::Form;
+use crate::outline::Outline;
 use crate::source::{Bytes, Source};
 use crate::walk::check_text;
 use b3tree::{Hash, Mode};
@@ -62,4 +64,26 @@ pub fn check_combined<'a>(
     ensures fault { IfErr result (λ fault. IsFirstFault mode.now root.now.0 text.now (slice_nodes text.now 0 (2 ^ 64 - 1)) fault) }
 {
     check_slice(alloc, mode, root, 0, u64::MAX, text)
+}
+
+/// Checks `text` as the outboard encoding of the blob with the hash `root` in `mode`: every parent is
+/// verified, and there is no chunk.
+///
+/// It is accepted exactly where it is the claimed length and the parents by that length, each with the
+/// value that its place asks for, and nothing else. A length of at most one chunk has no parent, so its
+/// eight bytes alone are accepted under every root. Otherwise the first fault is answered, as by
+/// `check_slice`. No memory is taken, so 504 never comes, and no byte is copied. (Bao specification, on
+/// outboard encodings.)
+pub fn check_outboard<'a>(
+    _alloc: Global,
+    mode: &Mode,
+    root: &Hash,
+    text: &'a [u8],
+) -> Result<Outline<'a>, CheckFault>
+    ensures accepted { IsOk result ↔ IsAccepted mode.now root.now.0 text.now (outboard_nodes text.now) }
+    ensures outline { IfOk result (λ outline. IsOutline outline mode.now root.now.0 text.now) }
+    ensures fault { IfErr result (λ fault. IsFirstFault mode.now root.now.0 text.now (outboard_nodes text.now) fault) }
+{
+    check_bytes(mode, root, &Form::Outboard, text)?;
+    Ok(Outline::new(mode, root, text))
 }

@@ -2,17 +2,26 @@
 #![tactic(auto)]
 
 pub use checked::Checked;
-pub use checks::{check_combined, check_slice};
+pub use checks::{check_combined, check_outboard, check_slice};
 pub use fault::CheckFault;
+pub use law::{accepted_binds, written_accepted};
+pub use tail::Tail;
+pub use read::{check_stream, read_checked};
+pub use outline::Outline;
 
 mod asked;
 mod checked;
 mod checks;
 mod fault;
 mod form;
+mod law;
 mod locate;
+mod read;
+mod leaves;
+mod outline;
 mod source;
 mod stream;
+mod tail;
 #[cfg(test)]
 mod tests;
 mod walk;

@@ -8,13 +8,14 @@ use crate::fault::CheckFault;
 pub(crate) trait Source {
     // The bytes taken so far, and those that are ahead, where they are known.
     ghost taken: { Self → List ℕ };
+
     ghost ahead: { Self → Option (List ℕ) };
 
     // The faults that the source itself may answer.
     ghost fails: { CheckFault → Type 0 };
 
-    // What the source borrows.
-    ghost name: { Self → ℕ };
+    // The references that the source holds.
+    ghost name: { Self → ℕ × ℕ };
 
     // Takes the next `size` bytes, and answers whether there were so many: else it has taken all that were
     // left. After a fault it has taken what it got.
@@ -55,9 +56,12 @@ impl<'a> Source for Bytes<'a> {
     ghost use Rattle.bao_check.specs.Sources.{bytes_ahead, bytes_taken};
 
     ghost taken = { λ s. bytes_taken s };
+
     ghost ahead = { λ s. Some (bytes_ahead s) };
+
     ghost fails = { λ _. ⊥ };
-    ghost name = { λ _. 0 };
+
+    ghost name = { λ _. (0, 0) };
 
     fn take(&mut self, size: usize) -> Result<bool, CheckFault> {
         if self.text.len() - self.at < size {

@@ -64,39 +64,36 @@ fn read_more<R: Read>(
 }
 
 /// A reader, whose bytes go to the end of a vector.
+#[derive(Drop)]
 pub(crate) struct Stream<'a, R> {
     reader: &'a mut R,
-    bytes: Vec<u8>,
+    bytes: &'a mut Vec<u8>,
 }
 
 impl<'a, R: Read> Stream<'a, R> {
-    pub(crate) fn new(reader: &'a mut R, bytes: Vec<u8>) -> Stream<'a, R>
-        ensures same_reference { result.reader.ghost_name ≡ reader.entry.ghost_name }
+    pub(crate) fn new(reader: &'a mut R, bytes: &'a mut Vec<u8>) -> Stream<'a, R>
+        ensures same_reader { result.reader.ghost_name ≡ reader.entry.ghost_name }
+        ensures same_bytes { result.bytes.ghost_name ≡ bytes.entry.ghost_name }
         ensures reader { result.reader.now ≡ reader.old }
-        ensures bytes { result.bytes.items ≡ bytes.items }
+        ensures bytes { result.bytes.now ≡ bytes.old }
     {
         Stream { reader, bytes }
-    }
-
-    // The vector, with all bytes that were read.
-    pub(crate) fn into_bytes(self) -> Vec<u8>
-        ensures { result.items ≡ self.entry.bytes.items }
-    {
-        let Stream { reader: _, bytes } = self;
-        bytes
     }
 }
 
 impl<R: Read> Source for Stream<'_, R> {
     ghost use Rattle.bao_check.specs.Walk.{IsSourceFault};
 
-    ghost taken = { λ s. s.bytes.items };
+    ghost taken = { λ s. s.bytes.now.items };
+
     ghost ahead = { λ s. R.remaining s.reader.now };
+
     ghost fails = { IsSourceFault };
-    ghost name = { λ s. s.reader.ghost_name };
+
+    ghost name = { λ s. (s.reader.ghost_name, s.bytes.ghost_name) };
 
     fn take(&mut self, size: usize) -> Result<bool, CheckFault> {
-        match read_more(&mut *self.reader, &mut self.bytes, size)? {
+        match read_more(&mut *self.reader, &mut *self.bytes, size)? {
             Filled::Whole => Ok(true),
             Filled::AtEnd => Ok(false),
             Filled::Failed => Err(CheckFault::Reader),

@@ -13,9 +13,9 @@ use b3tree::{CHUNK_LEN, Cv, Hash, Mode, left_len, parent_input, top_input};
 use bao_text::Choice;
 
 // The bytes of the length at a text's start.
-const LENGTH_LEN: usize = 8;
+pub(crate) const LENGTH_LEN: usize = 8;
 
-const PARENT_LEN: usize = 64;
+pub(crate) const PARENT_LEN: usize = 64;
 
 const CV_LEN: usize = 32;
 

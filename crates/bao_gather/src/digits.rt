@@ -1,12 +1,11 @@
-ghost use Rattle.std.specs.Prelude.{◌≡◌, ◌≢◌, ◌+◌, ◌-◌, ◌^◌, ◌≤◌, ◌∷◌, ◌++◌, [], IfErr, OnOk};
-ghost use Rattle.std.specs.Io.KnownBytes.{Appends, Keeps};
-ghost use Rattle.hex.specs.Hex.{encode_lower};
+ghost use Rattle.std.specs.Prelude.{◌+◌, ◌-◌, ◌^◌, ◌≤◌};
 ghost use Rattle.b3tree.specs.Hashing.{hash, stream};
-ghost use Rattle.bao_gather.specs.declared.fault.Fault.TheVariants.{Output};
+ghost use Rattle.bao_gather.specs.Printed.{Prints, digits_line};
 
 use crate::fault::Fault;
 use b3par::hash_join;
 use b3tree::{CHUNK_LEN, Mode, xof};
+use bao_text::write_text;
 use std::alloc::Global;
 use std::io::Write;
 use std::thread::Threads;
@@ -17,17 +16,30 @@ const LEAST_GRAIN: u64 = 64;
 // A joined hash has about eight parts.
 const PARTS: u64 = 8;
 
-/// Writes the lower-case hexadecimal digits of `bytes` and a line end to `out`, in one piece.
+/// Writes `text` to `out`, and has it flushed.
+///
+/// After `Output`, the only fault, the writer may hold a beginning of the text.
+pub fn print_text<'a, W: Write>(text: &[u8], out: &mut W) -> Result<(), Fault<'a>>
+    ensures { Prints text.now (W.contents out.old) (W.contents out.new) result }
+{
+    if write_text(text, out).is_err() {
+        return Err(Fault::Output);
+    }
+    match out.flush() {
+        Ok(()) => Ok(()),
+        Err(_) => Err(Fault::Output),
+    }
+}
+
+/// Writes the lower-case hexadecimal digits of `bytes` and a line end to `out`.
 ///
 /// After `Memory` nothing is written. After `Output` the writer may hold a beginning of the line.
 pub fn print_digits<'a, W: Write>(alloc: Global, bytes: &[u8], out: &mut W) -> Result<(), Fault<'a>>
-    ensures ok { OnOk result (Appends (W.contents out.old) (W.contents out.new) (encode_lower bytes.now ++ 10 ∷ [])) }
-    ensures fault { IfErr result (λ fault. fault ≢ Output → Keeps (W.contents out.old) (W.contents out.new)) }
+    ensures { Prints (digits_line bytes.now) (W.contents out.old) (W.contents out.new) result }
 {
     let mut line = hex::encode(alloc, bytes).map_err(|_| Fault::Memory)?;
     line.push('\n').map_err(|_| Fault::Memory)?;
-    out.write_all(line.as_bytes()).map_err(|_| Fault::Output)?;
-    out.flush().map_err(|_| Fault::Output)
+    print_text(line.as_bytes(), out)
 }
 
 // The size of the subtrees that one thread hashes, of an input of `len` bytes.
@@ -49,8 +61,7 @@ pub fn print_hash<'a, R: Threads + Sync, W: Write>(
     bytes: &[u8],
     out: &mut W,
 ) -> Result<(), Fault<'a>>
-    ensures ok { OnOk result (Appends (W.contents out.old) (W.contents out.new) (encode_lower (hash mode.now bytes.now) ++ 10 ∷ [])) }
-    ensures fault { IfErr result (λ fault. fault ≢ Output → Keeps (W.contents out.old) (W.contents out.new)) }
+    ensures { Prints (digits_line (hash mode.now bytes.now)) (W.contents out.old) (W.contents out.new) result }
 {
     let hash = hash_join(rt, mode, bytes, grain_of(bytes.len()));
     print_digits(alloc, &hash.0, out)
@@ -69,8 +80,7 @@ pub fn print_output<'a, W: Write>(
     out: &mut W,
 ) -> Result<(), Fault<'a>>
     requires { at + len ≤ 2 ^ 64 - 1 }
-    ensures ok { OnOk result (Appends (W.contents out.old) (W.contents out.new) (encode_lower (stream mode.now bytes.now at len) ++ 10 ∷ [])) }
-    ensures fault { IfErr result (λ fault. fault ≢ Output → Keeps (W.contents out.old) (W.contents out.new)) }
+    ensures { Prints (digits_line (stream mode.now bytes.now at len)) (W.contents out.old) (W.contents out.new) result }
 {
     let mut output = vec![in alloc; 0u8; len as usize].map_err(|_| Fault::Memory)?;
     xof(mode, bytes, at, output.as_mut_slice());

@@ -1,6 +1,7 @@
 ghost use Rattle.std.specs.Prelude.{◌≡◌};
 ghost use Rattle.bao_gather.specs.Status.{status_of};
 
+use crate::once::Once;
 use std::io::Write;
 use thiserror::Error;
 
@@ -8,6 +9,9 @@ use thiserror::Error;
 /// line end.
 #[derive(Clone, Copy, Debug, Error)]
 pub enum Fault<'a> {
+    /// A word is not UTF-8. Status 2.
+    #[error("usage: a word is not UTF-8")]
+    Word,
     /// `--key` is no text of 64 hexadecimal digits. Status 2.
     #[error("usage: key is not 64 hexadecimal digits")]
     Key,
@@ -40,7 +44,7 @@ impl Fault<'_> {
         ensures { result ≡ status_of self.entry }
     {
         match self {
-            Fault::Key | Fault::KeyAndContext | Fault::OutputRange => 2,
+            Fault::Word | Fault::Key | Fault::KeyAndContext | Fault::OutputRange => 2,
             Fault::Read(_) | Fault::Write(_) | Fault::Output => 3,
             Fault::Encoding | Fault::Memory => 4,
         }
@@ -50,7 +54,7 @@ impl Fault<'_> {
     pub fn report<E: Write>(self, err: &mut E) -> u8
         ensures { result ≡ status_of self.entry }
     {
-        let _ = writeln!(err, "bao_gather: {self}");
+        let _ = writeln!(Once(err), "bao_gather: {self}");
         self.status()
     }
 }

@@ -1,31 +1,188 @@
 use crate::command::command;
-use crate::fault::Fault;
+use crate::input::{ReadFault, read_whole};
+use crate::words::own_words;
 use std::alloc::Global;
-use std::io::{ErrorKind, Write};
+use std::env::FillError;
+use std::io::{ErrorKind, Read, Write};
 use std::process::Abort;
-use std::rt::Files;
+use std::rt::{Env, Files};
 use std::test::Fail;
 use std::thread::Threads;
-use std::{fs, io, process};
+use std::{fs, io, process, str};
 
 const EMPTY: &str = "af1349b9f5f9a1a6a0404dea36dcc9499bcb25c9adc112b7cc9a93cae41f3262\n";
 
 const ABC: &str = "6437b3ac38465133ffb63b75273a8db548c558465d79db03fd359c6cd5bd9d85\n";
 
-// The hash of 2,049 bytes i mod 251, of the published test vectors.
-const B2049: &str = "5f4d72f40d7a5f82b15ca2b2e44b1de3c2ef86c426c95c1af0b6879522563030\n";
+// The hashes of the bytes i mod 251, 2^20 + 1 of them, and of `abc` and a line end, by `b3sum` 1.2.0.
+const LARGE: &str = "2f053cd7472cf0cd2f9adaf45c1180255b91b9a865404a63671a0ee5f792ed33\n";
 
-// A writer that takes nothing.
+const LINE: &str = "aa95faeede7041e63c6056bdcf10e6fbf709a355e539259da51a067e5dd27802\n";
+
+const KEY: &str = "77686174732074686520456c7669736820776f726420666f7220667269656E64";
+
+const CONTEXT: &str = "BLAKE3 2019-12-27 16:29:52 test vectors context";
+
+// What another program has of the bytes i mod 251, 2,049 of them, in the mode of these words: the digits of the
+// hash, which `b3sum` 1.2.0 gives too, and the 64 bytes of the root and of the parent on its left. The program was
+// written in Python from the two definitions alone, and gives the 105 rows of `b3tree`'s tests.
+#[derive(Clone, Copy)]
+struct Figures {
+    mode: &'static [&'static str],
+    hash: &'static str,
+    root: [u8; 64],
+    left: [u8; 64],
+}
+
+const PLAIN: Figures = Figures {
+    mode: &[],
+    hash: "5f4d72f40d7a5f82b15ca2b2e44b1de3c2ef86c426c95c1af0b6879522563030\n",
+    root: [
+        0x81, 0x1f, 0x7d, 0x4f, 0x17, 0x35, 0x25, 0x8e, 0x27, 0xc6, 0x8b, 0x92, 0x14, 0xff, 0x7c,
+        0x4a, 0xac, 0x86, 0x6d, 0x47, 0xf7, 0x3d, 0xee, 0xf1, 0xfd, 0x89, 0x08, 0xb5, 0xe3, 0x8f,
+        0x80, 0x4f, 0x1a, 0xd5, 0xf7, 0x80, 0xa5, 0xe3, 0x1e, 0x5a, 0xe4, 0x58, 0x4c, 0x8e, 0xa2,
+        0x3e, 0x6e, 0x25, 0x6e, 0xda, 0x8d, 0x14, 0xd4, 0xab, 0xa6, 0x9c, 0x53, 0x50, 0xc4, 0xec,
+        0x54, 0xbe, 0x7f, 0x0a,
+    ],
+    left: [
+        0x5c, 0x9e, 0x65, 0x44, 0x11, 0xe3, 0x93, 0xd1, 0xf4, 0xbe, 0xc7, 0x10, 0xcc, 0xd5, 0xbc,
+        0x56, 0x69, 0xab, 0x17, 0x7d, 0x61, 0x0a, 0x0e, 0xb6, 0x91, 0xfc, 0xfe, 0xe9, 0x2f, 0xb4,
+        0xe8, 0xb1, 0x5b, 0x1f, 0x23, 0xb8, 0x39, 0x03, 0x68, 0xa2, 0xc1, 0x50, 0x95, 0x91, 0x03,
+        0x89, 0xd1, 0xb7, 0x16, 0xeb, 0x52, 0xa6, 0xdf, 0xd3, 0x4d, 0x0a, 0xa6, 0x6a, 0x22, 0xa2,
+        0x1b, 0x76, 0x1c, 0xa7,
+    ],
+};
+
+const KEYED: Figures = Figures {
+    mode: &["--key", KEY],
+    hash: "9f29700902f7c86e514ddc4df1e3049f258b2472b6dd5267f61bf13983b78dd5\n",
+    root: [
+        0xe5, 0x3e, 0xa5, 0x9e, 0x14, 0xe0, 0x0c, 0xd7, 0x6a, 0x23, 0x26, 0x37, 0xcf, 0x41, 0x94,
+        0xa9, 0x2c, 0x59, 0x2c, 0xa7, 0x95, 0xf9, 0x81, 0x56, 0x57, 0x81, 0xf5, 0xc0, 0x0f, 0xf2,
+        0x2e, 0x8f, 0xca, 0xb1, 0xe2, 0x79, 0xa4, 0x9c, 0xe2, 0x85, 0xe1, 0x63, 0x49, 0x06, 0x0a,
+        0x93, 0x7d, 0xbc, 0xb4, 0x5f, 0xca, 0x35, 0x60, 0x79, 0x4a, 0x0c, 0xf2, 0xd6, 0x93, 0xcc,
+        0x80, 0x7a, 0x2d, 0xfe,
+    ],
+    left: [
+        0x73, 0x25, 0x68, 0x56, 0x1d, 0xf8, 0x71, 0x83, 0x95, 0xb6, 0x1f, 0x10, 0xf3, 0x4b, 0x3c,
+        0xe6, 0xe2, 0x38, 0x84, 0xdf, 0xf8, 0x95, 0xf0, 0xe7, 0x3a, 0x55, 0x85, 0xd4, 0xf0, 0x6d,
+        0xe5, 0xdc, 0x14, 0xc0, 0x1d, 0x46, 0xf5, 0x5c, 0x2b, 0x42, 0x3f, 0xa7, 0x33, 0xdc, 0x41,
+        0xf3, 0x2f, 0x5c, 0x1c, 0xdc, 0xf3, 0xdb, 0x0d, 0xe2, 0x33, 0x50, 0xbd, 0x81, 0x60, 0x82,
+        0xc9, 0x7d, 0xdb, 0xeb,
+    ],
+};
+
+const DERIVED: Figures = Figures {
+    mode: &["--context", CONTEXT],
+    hash: "2ea477c5515cc3dd606512ee72bb3e0e758cfae7232826f35fb98ca1bcbdf273\n",
+    root: [
+        0x3f, 0xbc, 0x79, 0xef, 0x36, 0xc2, 0x16, 0x90, 0xee, 0x4a, 0x83, 0xcb, 0xc7, 0xf9, 0x76,
+        0xa5, 0xa1, 0x99, 0xcb, 0xc1, 0xb9, 0xfd, 0x0b, 0xe2, 0x87, 0xa0, 0xae, 0x48, 0x1a, 0x78,
+        0x9b, 0x31, 0x6d, 0xaa, 0x49, 0xec, 0x41, 0x96, 0xf4, 0x96, 0xe4, 0x10, 0x37, 0xb1, 0x6a,
+        0x11, 0x66, 0x79, 0xc1, 0x53, 0x81, 0x23, 0xa5, 0x86, 0xc9, 0xe2, 0xe9, 0xd7, 0x07, 0x16,
+        0x07, 0x77, 0x4b, 0xe3,
+    ],
+    left: [
+        0xe2, 0x4d, 0xf7, 0x2d, 0x49, 0x50, 0xeb, 0xe5, 0xe0, 0x71, 0x7c, 0x5e, 0xa3, 0x50, 0x85,
+        0xf6, 0x2b, 0x18, 0x8f, 0x58, 0xc4, 0x4e, 0xcc, 0xb8, 0x6c, 0x80, 0x89, 0x89, 0x00, 0x1f,
+        0x26, 0xb3, 0x9b, 0xdd, 0xba, 0xe4, 0xe2, 0x67, 0x5c, 0x50, 0x19, 0x02, 0x84, 0xd8, 0xe2,
+        0x6b, 0x79, 0x04, 0xc3, 0xd8, 0x2c, 0xde, 0x20, 0x0c, 0x69, 0x34, 0x91, 0x57, 0xd3, 0x53,
+        0x40, 0x88, 0x14, 0x48,
+    ],
+};
+
+// Takes at most `room` bytes, then answers one write by a fault of this kind and takes all after it, so that a
+// write too many shows. It can't be flushed where `stuck`.
 #[derive(Drop)]
-struct Broken;
+struct Broken {
+    held: Vec<u8>,
+    room: usize,
+    kind: ErrorKind,
+    stuck: bool,
+}
 
 impl Write for Broken {
-    fn write(&mut self, _buf: &[u8]) -> io::Result<usize> {
-        Err(io::Error::from(ErrorKind::BrokenPipe))
+    fn write(&mut self, buf: &[u8]) -> io::Result<usize> {
+        if self.room == 0 {
+            self.room = usize::MAX;
+            return Err(io::Error::from(self.kind));
+        }
+        let count = buf.len().min(self.room);
+        self.room -= count;
+        self.held.extend_from_slice(&buf[..count])?;
+        Ok(count)
     }
 
     fn flush(&mut self) -> io::Result<()> {
+        if self.stuck {
+            return Err(io::Error::from(ErrorKind::Other));
+        }
         Ok(())
+    }
+}
+
+// A writer that fails after `room` bytes by a fault of this kind.
+fn failing(alloc: Global, room: usize, kind: ErrorKind) -> Broken {
+    Broken {
+        held: Vec::new(alloc),
+        room,
+        kind,
+        stuck: false,
+    }
+}
+
+// Gives `left` bytes 7, at most 1,000 a call, and answers one read by a fault of this kind after `before` calls.
+#[derive(Drop)]
+struct Dripping {
+    left: usize,
+    before: u32,
+    kind: Option<ErrorKind>,
+}
+
+impl Read for Dripping {
+    fn read(&mut self, buf: &mut [u8]) -> io::Result<usize> {
+        if self.before == 0 {
+            if let Some(kind) = self.kind.take() {
+                return Err(io::Error::from(kind));
+            }
+        }
+        self.before = self.before.saturating_sub(1);
+        let count = buf.len().min(self.left).min(1000);
+        for byte in buf[..count].iter_mut() {
+            *byte = 7;
+        }
+        self.left -= count;
+        Ok(count)
+    }
+}
+
+// The words of a process: its name, and then the byte FF.
+#[derive(Drop)]
+struct OddWords(Global);
+
+impl Alloc for OddWords {
+    type A = Global;
+
+    fn alloc(&self) -> Global {
+        self.0
+    }
+}
+
+impl Env for OddWords {
+    fn arg(&self, i: usize, buf: &mut [u8]) -> Result<usize, FillError> {
+        if i > 1 || buf.is_empty() {
+            return Err(FillError::NotPresent);
+        }
+        buf[0] = if i == 0 { b'b' } else { 0xff };
+        Ok(1)
+    }
+
+    fn var(&self, _name: &str, _buf: &mut [u8]) -> Result<usize, FillError> {
+        Err(FillError::NotPresent)
+    }
+
+    fn var_at(&self, _i: usize, _buf: &mut [u8]) -> Result<usize, FillError> {
+        Err(FillError::NotPresent)
     }
 }
 
@@ -61,7 +218,7 @@ fn path(alloc: Global, process: u32, name: &str) -> Result<String, Fail> {
     Ok(format!(in alloc; "/tmp/bao_gather-{process}-{name}")?)
 }
 
-// The bytes i mod 251, as in the published test vectors.
+// The bytes i mod 251, as in BLAKE3's test vectors.
 fn blob(alloc: Global, len: usize) -> Result<Vec<u8>, Fail> {
     let mut bytes = Vec::with_capacity(alloc, len)?;
     for i in 0..len {
@@ -97,18 +254,79 @@ fn hash_prints_digests(rt: HostRuntime) -> Result<(), Fail> {
     Ok(())
 }
 
-// The figures of the published test vectors for 1 byte.
+// Ranges of the output that `b3sum` 1.2.0 gives of 2,049 bytes.
+#[test]
+fn hash_prints_ranges(rt: HostRuntime) -> Result<(), Fail> {
+    let file = path(rt.alloc(), process::id(rt.process()), "ranges")?;
+    let file = file.as_str();
+    fs::write(&rt, file, blob(rt.alloc(), 2049)?.as_slice())?;
+    let output =
+        "5f4d72f40d7a5f82b15ca2b2e44b1de3c2ef86c426c95c1af0b687952256303096de31d71d74103403822a2e0bc1eb193e7aecc9643a76b7bbc0c9f9c52e8783aae98764ca468962b5c2ec92f0c74eb5448d519713e09413719431c802f948dd5d90425a4ecdadece9eb178d80f26efccae630734dff63340285adec2aed3b51073ad3";
+    let ranges = [
+        ("0", "131", 0, 262),
+        ("0", "31", 0, 62),
+        ("1", "32", 2, 66),
+        ("64", "32", 128, 192),
+        ("60", "8", 120, 136),
+    ];
+    for (at, length, first, end) in ranges {
+        let digits = output.get(first..end).ok_or("range")?;
+        let line = format!(in rt.alloc(); "{digits}\n")?;
+        expect(
+            &rt,
+            &["hash", "--at", at, "--length", length, file],
+            0,
+            line.as_str(),
+            "",
+        )?;
+    }
+    fs::remove_file(&rt, file)?;
+    Ok(())
+}
+
+// A file above 1 MiB, one that ends with a line end, and one whose size the metadata doesn't tell.
+#[test]
+fn files_are_read_whole(rt: HostRuntime) -> Result<(), Fail> {
+    let file = path(rt.alloc(), process::id(rt.process()), "whole")?;
+    let file = file.as_str();
+    fs::write(&rt, file, blob(rt.alloc(), 1_048_577)?.as_slice())?;
+    expect(&rt, &["hash", file], 0, LARGE, "")?;
+    fs::write(&rt, file, "abc\n")?;
+    expect(&rt, &["hash", file], 0, LINE, "")?;
+    let told = fs::metadata(&rt, "/proc/version")?.len();
+    assert_eq!(rt; told, 0);
+    let version = fs::read(&rt, "/proc/version")?;
+    assert!(rt; !version.is_empty());
+    fs::write(&rt, file, version.as_slice())?;
+    let words = words(rt.alloc(), &["hash", file])?;
+    let mut line = Vec::new(rt.alloc());
+    let mut faults = Vec::new(rt.alloc());
+    assert_eq!(rt; command(&rt, words.as_slice(), &mut line, &mut faults), 0);
+    expect(
+        &rt,
+        &["hash", "/proc/version"],
+        0,
+        str::from_utf8(line.as_slice())?,
+        "",
+    )?;
+    fs::remove_file(&rt, file)?;
+    Ok(())
+}
+
+// The figures of `b3sum` 1.2.0 for one byte 0.
 #[test]
 fn hash_in_each_mode(rt: HostRuntime) -> Result<(), Fail> {
     let file = path(rt.alloc(), process::id(rt.process()), "modes")?;
     let file = file.as_str();
     fs::write(&rt, file, "\0")?;
-    let key = "77686174732074686520456c7669736820776f726420666f7220667269656E64";
     let keyed = "6d7878dfff2f485635d39013278ae14f1454b8c0a3a2d34bc1ab38228a80c95b\n";
-    expect(&rt, &["hash", "--key", key, file], 0, keyed, "")?;
-    let context = "BLAKE3 2019-12-27 16:29:52 test vectors context";
+    expect(&rt, &["hash", "--key", KEY, file], 0, keyed, "")?;
     let derived = "b3e2e340a117a499c6cf2398a19ee0d29cca2bb7404c73063382693bf66cb06c\n";
-    expect(&rt, &["hash", "--context", context, file], 0, derived, "")?;
+    expect(&rt, &["hash", "--context", CONTEXT, file], 0, derived, "")?;
+
+    // An empty context is a context: by `b3sum` 1.2.0.
+    let empty = "5a616fb3134f492cb9e14e635feda824ab636a0ccfec4dd7c4dbbf15370cdf0b\n";
+    expect(&rt, &["hash", "--context", "", file], 0, empty, "")?;
     fs::remove_file(&rt, file)?;
     Ok(())
 }
@@ -239,6 +457,10 @@ fn faults_of_writing(rt: HostRuntime) -> Result<(), Fail> {
     expect(&rt, &["encode", file, at], 3, "", closed)?;
     expect(&rt, &["outboard", file, at], 3, "", closed)?;
     expect(&rt, &["slice", "0", "1", file, at], 3, "", closed)?;
+    let full = "bao_gather: cannot write /dev/full\n";
+    expect(&rt, &["encode", file, "/dev/full"], 3, "", full)?;
+    expect(&rt, &["outboard", file, "/dev/full"], 3, "", full)?;
+    expect(&rt, &["slice", "0", "1", file, "/dev/full"], 3, "", full)?;
     Ok(())
 }
 
@@ -248,38 +470,108 @@ fn faults_of_streams(rt: HostRuntime) -> Result<(), Fail> {
     let file = file.as_str();
     fs::write(&rt, file, "abc")?;
     let output = "bao_gather: cannot write output\n";
+    for kind in [ErrorKind::BrokenPipe, ErrorKind::Interrupted] {
+        for room in [0, 10] {
+            let words = words(rt.alloc(), &["hash", file])?;
+            let mut faults = Vec::new(rt.alloc());
+            let mut out = failing(rt.alloc(), room, kind);
+            let status = command(&rt, words.as_slice(), &mut out, &mut faults);
+            assert_eq!(rt; status, 3);
+            assert_eq!(rt; faults.as_slice(), output.as_bytes());
+            assert_eq!(rt; Some(out.held.as_slice()), ABC.as_bytes().get(..room));
+        }
+        let words = words(rt.alloc(), &["help", "hash"])?;
+        let mut faults = Vec::new(rt.alloc());
+        let mut out = failing(rt.alloc(), 10, kind);
+        assert_eq!(rt; command(&rt, words.as_slice(), &mut out, &mut faults), 3);
+        assert_eq!(rt; faults.as_slice(), output.as_bytes());
+        assert_eq!(rt; out.held.as_slice(), b"Prints the".as_slice());
+    }
     for given in [["hash", file], ["help", "hash"]] {
         let words = words(rt.alloc(), given.as_slice())?;
         let mut faults = Vec::new(rt.alloc());
-        let status = command(&rt, words.as_slice(), &mut Broken, &mut faults);
-        assert_eq!(rt; status, 3);
+        let mut out = failing(rt.alloc(), usize::MAX, ErrorKind::Other);
+        out.stuck = true;
+        assert_eq!(rt; command(&rt, words.as_slice(), &mut out, &mut faults), 3);
         assert_eq!(rt; faults.as_slice(), output.as_bytes());
     }
-    let words = words(rt.alloc(), ["hash", "/tmp/missing/file"].as_slice())?;
-    let mut printed = Vec::new(rt.alloc());
-    assert_eq!(rt;
-        command(&rt, words.as_slice(), &mut printed, &mut Broken),
-        3
-    );
-    assert!(rt; printed.is_empty());
     fs::remove_file(&rt, file)?;
     Ok(())
 }
 
+// A fault of standard error changes no status, and nothing is written after it.
 #[test]
-fn wants_of_memory(rt: HostRuntime) -> Result<(), Fail> {
-    let faults = [
-        (Fault::Memory, "bao_gather: memory\n"),
-        (Fault::Encoding, "bao_gather: 401 memory\n"),
-    ];
-    for (fault, text) in faults {
-        let mut printed = Vec::new(rt.alloc());
-        assert_eq!(rt; fault.report(&mut printed), 4);
-        assert_eq!(rt; printed.as_slice(), text.as_bytes());
+fn faults_of_standard_error(rt: HostRuntime) -> Result<(), Fail> {
+    for kind in [ErrorKind::BrokenPipe, ErrorKind::Interrupted] {
+        for (given, status) in [(["hash", "/tmp/missing/file"], 3), (["hash", "--no"], 2)] {
+            let words = words(rt.alloc(), given.as_slice())?;
+            let mut printed = Vec::new(rt.alloc());
+            let mut err = failing(rt.alloc(), 5, kind);
+            let got = command(&rt, words.as_slice(), &mut printed, &mut err);
+            assert_eq!(rt; got, status);
+            assert!(rt; printed.is_empty());
+            assert_eq!(rt; err.held.len(), 5);
+        }
     }
     Ok(())
 }
 
+#[test]
+fn reads_to_the_end_or_a_fault(rt: HostRuntime) -> Result<(), Fail> {
+    let mut bytes = Vec::new(rt.alloc());
+    let mut reader = Dripping {
+        left: 700_000,
+        before: 0,
+        kind: None,
+    };
+    assert_eq!(rt; read_whole(&mut reader, &mut bytes), Ok(()));
+    assert_eq!(rt; bytes.len(), 700_000);
+    for kind in [ErrorKind::Other, ErrorKind::Interrupted] {
+        let mut bytes = Vec::new(rt.alloc());
+        let mut reader = Dripping {
+            left: 700_000,
+            before: 3,
+            kind: Some(kind),
+        };
+        assert_eq!(rt; read_whole(&mut reader, &mut bytes), Err(ReadFault::Reader));
+        assert_eq!(rt; bytes.len(), 3000);
+    }
+    assert_ne!(rt; ReadFault::Memory, ReadFault::Reader);
+    Ok(())
+}
+
+#[test]
+fn words_are_text(rt: HostRuntime) -> Result<(), Fail> {
+    let words = own_words(&rt)?;
+    assert!(rt; !words.is_empty());
+    let Err(fault) = own_words(&OddWords(rt.alloc())) else {
+        return Err("a word that is no text".into());
+    };
+    let mut printed = Vec::new(rt.alloc());
+    assert_eq!(rt; fault.report(&mut printed), 2);
+    let word = "bao_gather: usage: a word is not UTF-8\n";
+    assert_eq!(rt; printed.as_slice(), word.as_bytes());
+    Ok(())
+}
+
+// The whole file that a task makes of `file`, with the words of a mode.
+fn made<R: Files + AllocGlobal + Threads + Sync + Abort>(
+    rt: &R,
+    task: &[&str],
+    figures: &Figures,
+    file: &str,
+    out: &str,
+) -> Result<Vec<u8>, Fail> {
+    let mut given = Vec::new(rt.alloc());
+    given.extend_from_slice(task)?;
+    given.extend_from_slice(figures.mode)?;
+    given.push(file)?;
+    given.push(out)?;
+    expect(rt, given.as_slice(), 0, figures.hash, "")?;
+    Ok(fs::read(rt, out)?)
+}
+
+// The whole files, with the parents of each mode.
 #[test]
 fn encodings_to_files(rt: HostRuntime) -> Result<(), Fail> {
     let process = process::id(rt.process());
@@ -288,21 +580,35 @@ fn encodings_to_files(rt: HostRuntime) -> Result<(), Fail> {
     let (file, out) = (file.as_str(), out.as_str());
     let bytes = blob(rt.alloc(), 2049)?;
     fs::write(&rt, file, bytes.as_slice())?;
-    expect(&rt, &["encode", file, out], 0, B2049, "")?;
-    let combined = fs::read(&rt, out)?;
-    assert_eq!(rt; combined.len(), 2185);
-    let all = "18446744073709551615";
-    expect(&rt, &["slice", "0", all, file, out], 0, B2049, "")?;
-    assert_eq!(rt; fs::read(&rt, out)?.as_slice(), combined.as_slice());
-    // Both are beginnings of the combined encoding, where the chunks come last.
-    expect(&rt, &["slice", "1000", "100", file, out], 0, B2049, "")?;
-    let text = fs::read(&rt, out)?;
-    assert_eq!(rt; text.len(), 2184);
-    assert!(rt; combined.as_slice().starts_with(text.as_slice()));
-    expect(&rt, &["outboard", file, out], 0, B2049, "")?;
-    let text = fs::read(&rt, out)?;
-    assert_eq!(rt; text.len(), 136);
-    assert!(rt; combined.as_slice().starts_with(text.as_slice()));
+    for figures in [PLAIN, KEYED, DERIVED] {
+        let mut whole = Vec::new(rt.alloc());
+        whole.extend_from_slice(&[1, 8, 0, 0, 0, 0, 0, 0])?;
+        whole.extend_from_slice(&figures.root)?;
+        whole.extend_from_slice(&figures.left)?;
+        whole.extend_from_slice(bytes.as_slice())?;
+        let text = made(&rt, &["encode"], &figures, file, out)?;
+        assert_eq!(rt; text.as_slice(), whole.as_slice());
+        let text = made(&rt, &["outboard"], &figures, file, out)?;
+        assert_eq!(rt; Some(text.as_slice()), whole.get(..136));
+        let text = made(
+            &rt,
+            &["slice", "0", "18446744073709551615"],
+            &figures,
+            file,
+            out,
+        )?;
+        assert_eq!(rt; text.as_slice(), whole.as_slice());
+        let text = made(&rt, &["slice", "1000", "100"], &figures, file, out)?;
+        assert_eq!(rt; Some(text.as_slice()), whole.get(..2184));
+        let text = made(&rt, &["slice", "2048", "1"], &figures, file, out)?;
+        assert_eq!(rt; text.get(..72), whole.get(..72));
+        assert_eq!(rt; text.get(72..), whole.get(2184..));
+    }
+
+    // Where OUT is FILE, it is read before it is made anew.
+    let text = made(&rt, &["encode"], &PLAIN, file, file)?;
+    assert_eq!(rt; text.len(), 2185);
+    assert_eq!(rt; text.get(136..), Some(bytes.as_slice()));
     fs::remove_file(&rt, file)?;
     fs::remove_file(&rt, out)?;
     Ok(())
@@ -316,6 +622,14 @@ fn faults_leave_out_alone(rt: HostRuntime) -> Result<(), Fail> {
     fs::write(&rt, out, "kept")?;
     let missing = "bao_gather: cannot read /tmp/missing/file\n";
     expect(&rt, &["encode", "/tmp/missing/file", out], 3, "", missing)?;
+    expect(&rt, &["outboard", "/tmp/missing/file", out], 3, "", missing)?;
+    expect(
+        &rt,
+        &["slice", "0", "1", "/tmp/missing/file", out],
+        3,
+        "",
+        missing,
+    )?;
     let key = "bao_gather: usage: key is not 64 hexadecimal digits\n";
     expect(&rt, &["outboard", "--key", "x", out, out], 2, "", key)?;
     assert_eq!(rt; fs::read(&rt, out)?.as_slice(), b"kept".as_slice());

@@ -8,6 +8,7 @@ use Rattle.b3tree.specs.declared.mode.Mode.{Mode}
 use Rattle.b3tree.specs.Bytes.{bytes_of}
 use Rattle.b3tree.specs.Compression.{cv, out}
 use Rattle.b3tree.specs.Tree.{left_len, subtree_cv, top_input}
+use Rattle.b3tree.proofs.HashOutput.{length-bytes_of, length-out}
 use Rattle.bao_text.specs.declared.choice.Choice.{Choice}
 use Rattle.bao_text.specs.Choice.{chunk_count, wants}
 use Rattle.bao_text.specs.Cut.{cut_nodes, has}
@@ -16,15 +17,6 @@ use Rattle.bao_text.specs.Texts.{chunk_text, node_text, parent_text, subtree_tex
 use Rattle.bao_text.proofs.SubtreeNodes.{subtree_nodes-leaf, subtree_nodes-parent, subtree_nodes-unwanted}
 use Rattle.bao_text.proofs.SubtreeText.{Parts, left_len-Parts, subtree_text-leaf, subtree_text-parent}
 use Rattle.bao_text.proofs.TextNodes.{length-span, span, span-left, span-right, subtree_text-nodes}
-
--- output words are sixteen
-length-out : (x : Input) → length (out x) ≡ 16
-unfolding out
-length-out x = refl
-
-pub length-bytes_of : (ws : List ℕ) → length (bytes_of ws) ≡ 4 * length ws
-length-bytes_of [] = refl
-length-bytes_of (w ∷ ws) = let before : length (bytes_of ws) ≡ 4 * length ws = length-bytes_of ws in omega arith
 
 length-cv : (x : Input) → length (cv x) ≡ 8
 length-cv x = length-take-le 8 (out x) (omega (arith, length-out x))
@@ -42,7 +34,7 @@ length-parent_text mode first s =
     omega (arith, length-append (bytes_of near) (bytes_of far))
 
 -- all positions from 0 on are wanted
-wants_all : (choice : Choice) (at n : ℕ) → choice.start ≡ 0 → at < choice.end → wants choice at n ≡ true
+pub wants_all : (choice : Choice) (at n : ℕ) → choice.start ≡ 0 → at < choice.end → wants choice at n ≡ true
 wants_all choice at n start below =
     and_from _ _ (lt-ltb at choice.end below) (lt-ltb choice.start (at + max n 1) (omega arith))
 
@@ -69,11 +61,11 @@ size-small choice mode first s one start below =
     let none : part ≡ part + 64 * (chunk_count (length s) - 1) = omega arith in
     ap length (subtree_text-leaf choice mode first s (wants_all choice (1024 * first) (length s) start below) one) ∙ length-chunk_text choice s ∙ none
 
-size-levels : (levels : ℕ) (choice : Choice) (mode : Mode) (first : ℕ) (s : List ℕ) → length s ≤ 1024 * levels + 1024
+pub length-subtree_text : (levels : ℕ) (choice : Choice) (mode : Mode) (first : ℕ) (s : List ℕ) → length s ≤ 1024 * levels + 1024
     → choice.start ≡ 0 → 1024 * first < choice.end → 1024 * first + length s ≤ choice.end
     → length (subtree_text choice mode first s) ≡ chunk_part choice (length s) + 64 * (chunk_count (length s) - 1)
-size-levels zero choice mode first s hs start below fits = size-small choice mode first s (omega arith) start below
-size-levels (suc levels) choice mode first s hs start below fits = elim (cases_lt 1024 (length s)) [
+length-subtree_text zero choice mode first s hs start below fits = size-small choice mode first s (omega arith) start below
+length-subtree_text (suc levels) choice mode first s hs start below fits = elim (cases_lt 1024 (length s)) [
   | inr one ↦ size-small choice mode first s one start below
   | inl more ↦
       let n : ℕ = length s in
@@ -86,10 +78,10 @@ size-levels (suc levels) choice mode first s hs start below fits = elim (cases_l
       let a : List ℕ = subtree_text choice mode first near in
       let b : List ℕ = subtree_text choice mode (first + l / 1024) far in
       let near_size : length a ≡ chunk_part choice l + 64 * (chunk_count l - 1) =
-      size-levels levels choice mode first near (omega (arith, parts.whole, parts.below)) start below (omega (arith, parts.below))
+      length-subtree_text levels choice mode first near (omega (arith, parts.whole, parts.below)) start below (omega (arith, parts.below))
       ∙ (λ i. chunk_part choice (near_len i) + 64 * (chunk_count (near_len i) - 1)) in
       let far_size : length b ≡ chunk_part choice (n - l) + 64 * (chunk_count (n - l) - 1) =
-      size-levels levels choice mode (first + l / 1024) far (omega (arith, parts.some)) start (omega (arith, parts.whole, parts.below)) (omega (arith, parts.whole, parts.below))
+      length-subtree_text levels choice mode (first + l / 1024) far (omega (arith, parts.some)) start (omega (arith, parts.whole, parts.below)) (omega (arith, parts.whole, parts.below))
       ∙ (λ i. chunk_part choice (far_len i) + 64 * (chunk_count (far_len i) - 1)) in
       let back : l + (n - l) ≡ n = omega (arith, parts.below) in
       let chunks : chunk_part choice l + chunk_part choice (n - l) ≡ chunk_part choice n = chunk_part-add choice l (n - l) ∙ ap (chunk_part choice) back in
@@ -103,7 +95,7 @@ size-levels (suc levels) choice mode first s hs start below fits = elim (cases_l
 -- how long the text of a whole blob is, for a choice of all positions
 pub length-everything : (choice : Choice) (mode : Mode) (blob : List ℕ) → choice.start ≡ 0 → choice.end ≡ max (length blob) 1
     → length (subtree_text choice mode 0 blob) ≡ chunk_part choice (length blob) + 64 * (chunk_count (length blob) - 1)
-length-everything choice mode blob start end = size-levels (length blob) choice mode 0 blob (omega arith) start (omega arith) (omega arith)
+length-everything choice mode blob start end = length-subtree_text (length blob) choice mode 0 blob (omega arith) start (omega arith) (omega arith)
 
 -- the text has the bytes x from place `at` on
 pub record At (text : List ℕ) (at : ℕ) (x : List ℕ) : Type 0 where
@@ -161,7 +153,7 @@ sized : (all : Choice) (mode : Mode) (first : ℕ) (s : List ℕ) → all.start 
     → length (subtree_text all mode first s) ≡ subtree_size (length s)
 sized all mode first s start chunks below fits =
     let there : chunk_part all (length s) ≡ length s = rw chunks refl in
-    size-levels (length s) all mode first s (omega arith) start below fits ∙ ap (λ (n : ℕ). n + 64 * (chunk_count (length s) - 1)) there
+    length-subtree_text (length s) all mode first s (omega arith) start below fits ∙ ap (λ (n : ℕ). n + 64 * (chunk_count (length s) - 1)) there
 
 AtAll-small : (all choice : Choice) (mode : Mode) (blob text : List ℕ) (number n : ℕ) (sides : List Side) (source : ℕ) → n ≤ 1024 → 1024 * number + n ≤ length blob
     → all.start ≡ 0 → all.chunks ≡ true → 1024 * number < all.end → At text source (subtree_text all mode number (span blob number n))

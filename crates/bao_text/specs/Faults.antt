@@ -1,5 +1,5 @@
 -- what each fault says
-use Rattle.std.specs.Prelude.{ℕ, ◌<◌, List, Option, length, take}
+use Rattle.std.specs.Prelude.{ℕ, ◌-◌, ◌<◌, ◌≤◌, List, Option, Result, Ok, Err, length, take}
 use Rattle.std.specs.Io.KnownBytes.{Appends, Keeps}
 use Rattle.bao_text.specs.declared.fault.WriteFault.{WriteFault}
 use Rattle.bao_text.specs.declared.fault.WriteFault.TheVariants.{Memory, Writer}
@@ -14,3 +14,11 @@ number_of (Writer written) = 402
 abbrev pub WroteOnly : Option (List ℕ) → Option (List ℕ) → List ℕ → WriteFault → Type 0
 WroteOnly old new text Memory = Keeps old new
 WroteOnly old new text (Writer written) = (written < length text) × Appends old new (take written text)
+
+-- what a writer that held the bytes `old` holds after the text was given to it, `before` bytes of a
+-- larger text having gone out before: the text, or exactly its first bytes, and not all
+abbrev pub Writes : ℕ → Option (List ℕ) → Option (List ℕ) → List ℕ → Result Unit WriteFault → Type 0
+Writes before old new text (Ok done) = Appends old new text
+Writes before old new text (Err Memory) = ⊥
+Writes before old new text (Err (Writer written)) =
+    (before ≤ written) × (written - before < length text) × Appends old new (take (written - before) text)

@@ -27,6 +27,16 @@ pub enum WriteFault {
     Writer { written: u128 },
 }
 
+impl From<Memory> for WriteFault {
+    ghost use Rattle.bao_text.specs.declared.fault.WriteFault.{WriteFault};
+
+    ghost from_gives = { λ _ fault. fault ≡ WriteFault.Memory };
+
+    fn from(_memory: Memory) -> WriteFault {
+        WriteFault::Memory
+    }
+}
+
 impl WriteFault {
     ghost use Rattle.bao_text.specs.Faults.{number_of};
 

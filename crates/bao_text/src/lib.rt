@@ -6,11 +6,12 @@ pub use cut::cut_slice;
 pub use fault::{Memory, WriteFault};
 pub use sizes::{encoded_len, outboard_len};
 pub use texts::{combined, outboard, slice};
-pub use writer::write_combined;
+pub use writer::{write_combined, write_text};
 
 mod choice;
 mod cut;
 mod fault;
+mod pieces;
 mod sizes;
 #[cfg(test)]
 mod tests;

@@ -1,27 +1,35 @@
-ghost use Rattle.std.specs.Prelude.{◌≡◌, IfErr, IfOk, OnOk};
+ghost use Rattle.std.specs.Prelude.{◌≡◌, ◌≢◌, ◌+◌, ◌-◌, ◌*◌, ◌^◌, ◌<◌, length, IfErr, IfOk, OnOk};
 ghost use Rattle.std.specs.Io.KnownBytes.{Appends};
+ghost use Rattle.b3tree.specs.declared.mode.Mode.{Mode};
 ghost use Rattle.b3tree.specs.Hashing.{hash};
-ghost use Rattle.bao_text.specs.Faults.{WroteOnly};
-ghost use Rattle.bao_text.specs.Texts.{combined_text};
+ghost use Rattle.bao_text.specs.Choice.{chunk_count};
+ghost use Rattle.bao_text.specs.Faults.{Writes, WroteOnly};
+ghost use Rattle.bao_text.specs.Texts.{combined_text, outboard_text};
 
 use crate::fault::WriteFault;
-use crate::texts::combined;
+use crate::pieces::{LEVELS, ROOM_LEN, Subtree, write_subtree};
+use crate::sizes::LENGTH_LEN;
+use crate::texts::outboard;
 use b3tree::{Hash, Mode};
 use std::alloc::Global;
 use std::io::Write;
 
-// Writes all of `text`, by as many writes as it takes. The first that answers a fault, of whatever kind,
-// or takes no byte is the last.
-fn write_text<W: Write>(text: &[u8], out: &mut W) -> Result<(), WriteFault>
-    ensures ok { OnOk result (Appends (W.contents out.old) (W.contents out.new) text.now) }
-    ensures err { IfErr result (WroteOnly (W.contents out.old) (W.contents out.new) text.now) }
+// Writes all of `text`, after `before` bytes of a larger text, by as many writes as it takes. The first
+// that answers a fault, of whatever kind, or takes no byte is the last.
+pub(crate) fn write_after<W: Write>(
+    before: u128,
+    text: &[u8],
+    out: &mut W,
+) -> Result<(), WriteFault>
+    requires { before + length text.now < 2 ^ 128 }
+    ensures { Writes before (W.contents out.old) (W.contents out.new) text.now result }
 {
     let mut written = 0;
     'writes: while written < text.len() {
         match out.write(&text[written..]) {
             Ok(0) | Err(_) => {
                 return Err(WriteFault::Writer {
-                    written: written as u128,
+                    written: before + written as u128,
                 });
             }
             Ok(count) => written += count,
@@ -30,7 +38,42 @@ fn write_text<W: Write>(text: &[u8], out: &mut W) -> Result<(), WriteFault>
     Ok(())
 }
 
+/// Writes all of `text` to `out`, by as many writes as it takes.
+///
+/// Answers `Writer` (402) only where a write answered a fault, one of the kind `Interrupted` too, or took
+/// no byte: then exactly the first `written` bytes of the text went out, and not all. The writer is not
+/// flushed. `Memory` is never answered.
+pub fn write_text<W: Write>(text: &[u8], out: &mut W) -> Result<(), WriteFault>
+    ensures text { OnOk result (Appends (W.contents out.old) (W.contents out.new) text.now) }
+    ensures err { IfErr result (WroteOnly (W.contents out.old) (W.contents out.new) text.now) }
+    ensures no_memory { IfErr result (λ fault. fault ≢ WriteFault.Memory) }
+{
+    write_after(0, text, out)
+}
+
+// Writes the combined encoding of `bytes` beside their outboard encoding, in pieces that are put together in
+// `room`.
+fn write_beside<W: Write>(
+    outboard: &[u8],
+    bytes: &[u8],
+    room: &mut [u8],
+    out: &mut W,
+) -> Result<(), WriteFault>
+    requires outboard { length outboard.now ≡ 8 + 64 * (chunk_count (length bytes.now) - 1) }
+    requires room { length room.old ≡ 72648 }
+    ensures { (mode : Mode) → outboard.now ≡ outboard_text mode bytes.now
+        → Writes 0 (W.contents out.old) (W.contents out.new) (combined_text mode bytes.now) result }
+{
+    let (length, parents) = outboard.split_at(LENGTH_LEN);
+    room[..LENGTH_LEN].copy_from_slice(length);
+    let whole = Subtree { parents, bytes };
+    write_subtree(whole, LEVELS, room, LENGTH_LEN, 0, out)
+}
+
 /// Writes the combined encoding of `bytes` in `mode` to `out`, and answers their hash.
+///
+/// The memory that it takes is that of the parents, a sixteenth of the bytes, and less than 72 KiB. It is
+/// had before the first write.
 ///
 /// Answers `Memory` (401) where a growth was refused, with nothing written, and `Writer` (402) only where
 /// a write answered a fault, one of the kind `Interrupted` too, or took no byte: then exactly the first
@@ -45,7 +88,8 @@ pub fn write_combined<W: Write>(
     ensures text { OnOk result (Appends (W.contents out.old) (W.contents out.new) (combined_text mode.now bytes.now)) }
     ensures err { IfErr result (WroteOnly (W.contents out.old) (W.contents out.new) (combined_text mode.now bytes.now)) }
 {
-    let (hash, text) = combined(alloc, mode, bytes).map_err(|_| WriteFault::Memory)?;
-    write_text(text.as_slice(), out)?;
+    let (hash, outboard) = outboard(alloc, mode, bytes)?;
+    let mut room = vec![in alloc; 0u8; ROOM_LEN].map_err(|_| WriteFault::Memory)?;
+    write_beside(outboard.as_slice(), bytes, room.as_mut_slice(), out)?;
     Ok(hash)
 }

@@ -1,15 +1,13 @@
-use Rattle.std.proofs.Common.{◌≡◌, ℕ, ◌+◌, ◌-◌, ◌*◌, ◌/◌, ◌<◌, ◌≤◌, List, [], ◌∷◌, ◌++◌, length, drop, Option, true, false, refl, sym, ap, subst, ◌∙◌, arith}
+use Rattle.std.proofs.Common.{◌≡◌, ℕ, ◌+◌, ◌-◌, ◌/◌, List, [], ◌∷◌, ◌++◌, length, drop, false, sym, subst, ◌∙◌, arith}
 use Rattle.std.proofs.lemmas.Result.{IfErr-weaker, err_from_is_err_and, on_ok_weaker}
 use Rattle.std.specs.Prelude.{Ok, Err, OnOk}
 use Rattle.std.specs.declared.result.Result.{Result}
 use Rattle.b3tree.specs.declared.mode.Mode.{Mode}
 use Rattle.b3tree.specs.Tree.{left_len}
 use Rattle.bao_text.specs.declared.choice.Choice.{Choice}
-use Rattle.bao_text.specs.Choice.{wants}
-use Rattle.bao_text.specs.Nodes.{Node, Side, left, right, subtree_nodes, subtree_size}
+use Rattle.bao_text.specs.Nodes.{Node, left, right, subtree_nodes, subtree_size}
 use Rattle.bao_text.proofs.SubtreeNodes.{subtree_nodes-unwanted}
 use Rattle.bao_check.specs.declared.asked.Asked.{Asked}
-use Rattle.bao_check.specs.declared.fault.CheckFault.{CheckFault}
 use Rattle.bao_check.specs.Walk.{Meets, Passes, Stops, chunk_taken}
 use Rattle.bao_check.proofs.Parts.{below}
 use Rattle.bao_check.proofs.Walking.{Grows-from_Takes, Grows-then, TookParent, chunk_passes, chunk_stops, far_stops, leaf_nodes, leaf_without, near_stops, none_passes, parent_stops, whole_passes}
@@ -34,8 +32,8 @@ returns-then-has_chunks-clause-ok g t c = λ sides from.
     IfOk-both c.check_chunk.result (length new ≡ length old + c.args.n) (Meets asked (chunk_taken c.args.mode.now c.args.number old new))
     (Passes asked sides c.args.mode.now new (length old) (subtree_nodes c.args.choice.now c.args.number c.args.n sides from))
     (λ len meets.
-        subst (λ (xs : List Node). Passes asked sides c.args.mode.now new (length old) xs) (sym nodes)
-        (chunk_passes asked sides c.args.mode.now old new c.check_chunk.ensures.takes.bytes c.args.number c.args.n from c.check_chunk.ensures.takes.grown len meets))
+    subst (λ (xs : List Node). Passes asked sides c.args.mode.now new (length old) xs) (sym nodes)
+    (chunk_passes asked sides c.args.mode.now old new c.check_chunk.ensures.takes.bytes c.args.number c.args.n from c.check_chunk.ensures.takes.grown len meets))
     c.check_chunk.ensures.ok c.check_chunk.ensures.meets
 
 pub returns-then-has_chunks-clause-err : goal.returns-then-has_chunks-clause-err
@@ -43,10 +41,10 @@ returns-then-has_chunks-clause-err g t c = λ sides from.
     let nodes = leaf_nodes c.args.choice.now c.args.number c.args.n sides from (sym c.wants.ensures ∙ c.if-not-wants.false) c.if-n.true (sym c.has_chunks.ensures ∙ c.if-has_chunks.true) in
     IfErr-weaker c.check_chunk.result _ _
     (λ fault h.
-        subst (λ (xs : List Node). Stops g.S.Source.fails c.args.asked.now sides c.args.mode.now (g.S.Source.taken c.check_chunk.new.source) (g.S.Source.ahead c.check_chunk.new.source)
-        (length (g.S.Source.taken c.args.source.now)) xs fault) (sym nodes)
-        (chunk_stops g.S.Source.fails c.args.asked.now sides c.args.mode.now (g.S.Source.taken c.args.source.now) (g.S.Source.taken c.check_chunk.new.source)
-        c.check_chunk.ensures.takes.bytes (g.S.Source.ahead c.check_chunk.new.source) c.args.number c.args.n from c.check_chunk.ensures.takes.grown fault h))
+    subst (λ (xs : List Node). Stops g.S.Source.fails c.args.asked.now sides c.args.mode.now (g.S.Source.taken c.check_chunk.new.source) (g.S.Source.ahead c.check_chunk.new.source)
+    (length (g.S.Source.taken c.args.source.now)) xs fault) (sym nodes)
+    (chunk_stops g.S.Source.fails c.args.asked.now sides c.args.mode.now (g.S.Source.taken c.args.source.now) (g.S.Source.taken c.check_chunk.new.source)
+    c.check_chunk.ensures.takes.bytes (g.S.Source.ahead c.check_chunk.new.source) c.args.number c.args.n from c.check_chunk.ensures.takes.grown fault h))
     c.check_chunk.ensures.err
 
 pub returns-else-has_chunks-clause-ok : goal.returns-else-has_chunks-clause-ok
@@ -58,9 +56,9 @@ pub returns-in_err-left-clause-err : goal.returns-in_err-left-clause-err
 returns-in_err-left-clause-err g t c = λ sides from.
     let p = err_from_is_err_and c.from_residual.result c.from_residual.ensures.1 in
     rw (p.1, p.2) (
-      parent_stops c.args.asked.now c.args.choice.now c.args.mode.now c.args.number c.args.n sides from (sym c.wants.ensures ∙ c.if-not-wants.false) (omega arith)
-      g.S.Source.fails (g.S.Source.taken c.args.source.now) (g.S.Source.taken c.check_parent.new.source) c.check_parent.ensures.takes.bytes (g.S.Source.ahead c.check_parent.new.source)
-      c.check_parent.ensures.takes.grown c.in_err-left.field-0.0 c.in_err-left.ensures.err
+    parent_stops c.args.asked.now c.args.choice.now c.args.mode.now c.args.number c.args.n sides from (sym c.wants.ensures ∙ c.if-not-wants.false) (omega arith)
+    g.S.Source.fails (g.S.Source.taken c.args.source.now) (g.S.Source.taken c.check_parent.new.source) c.check_parent.ensures.takes.bytes (g.S.Source.ahead c.check_parent.new.source)
+    c.check_parent.ensures.takes.grown c.in_err-left.field-0.0 c.in_err-left.ensures.err
     )
 
 pub returns-in_err-check_subtree-clause-grows : goal.returns-in_err-check_subtree-clause-grows
@@ -87,13 +85,13 @@ returns-in_err-check_subtree-clause-err g t c = λ sides from.
     } in
     let is_near : asked_near ≡ below left (drop (length old) new) = (λ i. record { top = false; value = record { 0 = c.in_ok-left.ensures.left i } }) in
     let stops : Stops g.S.Source.fails asked_near (sides ++ left ∷ []) c.args.mode.now near after (length new)
-        (subtree_nodes choice c.args.number c.left_len-left_len.result (sides ++ left ∷ []) (from + 64)) c.in_err-check_subtree.field-0.0 =
+    (subtree_nodes choice c.args.number c.left_len-left_len.result (sides ++ left ∷ []) (from + 64)) c.in_err-check_subtree.field-0.0 =
     c.in_err-check_subtree.ensures.err (sides ++ left ∷ []) (from + 64) in
     rw (p.1, p.2) (
-      near_stops c.args.asked.now choice c.args.mode.now c.args.number c.args.n sides from (sym c.wants.ensures ∙ c.if-not-wants.false) (omega arith)
-      g.S.Source.fails asked_near old new near c.check_subtree.ensures.grows.bytes after took is_near c.check_subtree.ensures.grows.grown c.in_err-check_subtree.field-0.0
-      (subst (λ (l : ℕ). Stops g.S.Source.fails asked_near (sides ++ left ∷ []) c.args.mode.now near after (length new)
-          (subtree_nodes choice c.args.number l (sides ++ left ∷ []) (from + 64)) c.in_err-check_subtree.field-0.0) c.left_len-left_len.ensures.value stops)
+    near_stops c.args.asked.now choice c.args.mode.now c.args.number c.args.n sides from (sym c.wants.ensures ∙ c.if-not-wants.false) (omega arith)
+    g.S.Source.fails asked_near old new near c.check_subtree.ensures.grows.bytes after took is_near c.check_subtree.ensures.grows.grown c.in_err-check_subtree.field-0.0
+    (subst (λ (l : ℕ). Stops g.S.Source.fails asked_near (sides ++ left ∷ []) c.args.mode.now near after (length new)
+    (subtree_nodes choice c.args.number l (sides ++ left ∷ []) (from + 64)) c.in_err-check_subtree.field-0.0) c.left_len-left_len.ensures.value stops)
     )
 
 pub returns-clause-grows : goal.returns-clause-grows
@@ -134,10 +132,10 @@ returns-clause-ok g t c = λ sides from.
     let from_far : ℕ = from + 64 + subtree_size (left_len c.args.n) in
     on_ok_weaker c.check_subtree-2.result
     (λ passes.
-        whole_passes c.args.asked.now choice mode c.args.number c.args.n sides from (sym c.wants.ensures ∙ c.if-not-wants.false) (omega arith)
-        asked_near asked_far old new near far c.check_subtree.ensures.grows.bytes c.check_subtree-2.ensures.grows.bytes took is_near is_far
-        c.check_subtree.ensures.grows.grown c.check_subtree-2.ensures.grows.grown near_passes
-        (subst (λ (l : ℕ). Passes asked_far (sides ++ right ∷ []) mode far (length near) (subtree_nodes choice (c.args.number + l / 1024) (c.args.n - l) (sides ++ right ∷ []) from_far)) parted passes))
+    whole_passes c.args.asked.now choice mode c.args.number c.args.n sides from (sym c.wants.ensures ∙ c.if-not-wants.false) (omega arith)
+    asked_near asked_far old new near far c.check_subtree.ensures.grows.bytes c.check_subtree-2.ensures.grows.bytes took is_near is_far
+    c.check_subtree.ensures.grows.grown c.check_subtree-2.ensures.grows.grown near_passes
+    (subst (λ (l : ℕ). Passes asked_far (sides ++ right ∷ []) mode far (length near) (subtree_nodes choice (c.args.number + l / 1024) (c.args.n - l) (sides ++ right ∷ []) from_far)) parted passes))
     (c.check_subtree-2.ensures.ok (sides ++ right ∷ []) from_far)
 
 pub returns-clause-err : goal.returns-clause-err
@@ -166,9 +164,9 @@ returns-clause-err g t c = λ sides from.
     let from_far : ℕ = from + 64 + subtree_size (left_len c.args.n) in
     IfErr-weaker c.check_subtree-2.result _ _
     (λ fault stops.
-        far_stops c.args.asked.now choice mode c.args.number c.args.n sides from (sym c.wants.ensures ∙ c.if-not-wants.false) (omega arith)
-        g.S.Source.fails asked_near asked_far old new near far c.check_subtree.ensures.grows.bytes c.check_subtree-2.ensures.grows.bytes after took is_near is_far
-        c.check_subtree.ensures.grows.grown c.check_subtree-2.ensures.grows.grown near_passes fault
-        (subst (λ (l : ℕ). Stops g.S.Source.fails asked_far (sides ++ right ∷ []) mode far after (length near)
-        (subtree_nodes choice (c.args.number + l / 1024) (c.args.n - l) (sides ++ right ∷ []) from_far) fault) parted stops))
+    far_stops c.args.asked.now choice mode c.args.number c.args.n sides from (sym c.wants.ensures ∙ c.if-not-wants.false) (omega arith)
+    g.S.Source.fails asked_near asked_far old new near far c.check_subtree.ensures.grows.bytes c.check_subtree-2.ensures.grows.bytes after took is_near is_far
+    c.check_subtree.ensures.grows.grown c.check_subtree-2.ensures.grows.grown near_passes fault
+    (subst (λ (l : ℕ). Stops g.S.Source.fails asked_far (sides ++ right ∷ []) mode far after (length near)
+    (subtree_nodes choice (c.args.number + l / 1024) (c.args.n - l) (sides ++ right ∷ []) from_far) fault) parted stops))
     (c.check_subtree-2.ensures.err (sides ++ right ∷ []) from_far)

@@ -29,6 +29,6 @@ returns-clause-err g c =
     let len : length first ≡ 8 = c.in_ok-take_node.ensures.ok ∙ ap (λ (s : List ℕ). length s + 8) c.requires in
     IfErr-weaker c.check_subtree.result _ _
     (λ fault.
-        text_stops g.S.Source.fails c.args.mode.now c.args.root.now.0 c.args.form.now c.choice-choice.result asked c.claimed-total.result first new c.check_subtree.ensures.grows.bytes
-        (g.S.Source.ahead c.check_subtree.new.source) fault len c.check_subtree.ensures.grows.grown total c.choice-choice.ensures asks)
+    text_stops g.S.Source.fails c.args.mode.now c.args.root.now.0 c.args.form.now c.choice-choice.result asked c.claimed-total.result first new c.check_subtree.ensures.grows.bytes
+    (g.S.Source.ahead c.check_subtree.new.source) fault len c.check_subtree.ensures.grows.grown total c.choice-choice.ensures asks)
     (c.check_subtree.ensures.err [] 8)

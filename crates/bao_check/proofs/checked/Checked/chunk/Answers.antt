@@ -1,20 +1,30 @@
-use Rattle.std.proofs.Common.{◌≡◌, ◌+◌, ◌-◌, ℕ, List, take, drop, None, Some, Option, sym, ap, ◌∙◌, arith}
-use Rattle.std.specs.Option.{option_map}
-use Rattle.bao_check.specs.declared.locate.Span.{Span}
-use Rattle.bao_check.specs.Checked.{piece_places, piece_text}
-use Rattle.bao_check.proofs.Locating.{chunk_in-place}
+use Rattle.std.proofs.Common.{◌≡◌, ℕ, List, Option, None, Some, IfSome, refl, sym, subst, ◌∙◌}
+use Rattle.std.specs.Option.{option_copied}
+use Rattle.b3tree.specs.Valid.{AreBytes, IsKeyed}
+use Rattle.bao_check.specs.Certificate.{Certificate}
+use Rattle.bao_check.specs.Checked.{piece_mode, piece_places, piece_root, piece_text}
+use Rattle.bao_check.specs.Laws.{Binds}
+use Rattle.bao_check.proofs.Laws.{accepted_binds, chunk_certificate}
+use Rattle.std.specs.Borrow.{Bor}
 use Rattle.bao_check.proofs.checked.Checked.chunk.Goals as goal
 
-pub returns-in-Some : goal.returns-in-Some
-returns-in-Some c =
-    let text : List ℕ = piece_text c.args.self.now in
-    let len : c.in-Some.span.at + c.in-Some.span.len - c.in-Some.span.at ≡ c.in-Some.span.len = omega arith in
-    ap (λ (n : ℕ). Some (take n (drop c.in-Some.span.at text))) len
-    ∙ ap (option_map (λ span. take span.len (drop span.at text))) c.in-Some.ensures.value
-    ∙ sym (chunk_in-place text (piece_places c.args.self.now) c.args.i)
+-- what holds of what is copied out of an option
+IfSome-copied : (r : Option (Bor (List ℕ))) (o : Option (List ℕ)) (P : List ℕ → Type 0) → option_copied r ≡ o → ((bytes : List ℕ) → o ≡ Some bytes → P bytes) → IfSome r (λ b. P b.now)
+IfSome-copied None o P same each = tt
+IfSome-copied (Some b) o P same each = each b.now (sym same)
 
-pub returns-in-None : goal.returns-in-None
-returns-in-None c =
-    let text : List ℕ = piece_text c.args.self.now in
-    ap (option_map (λ span. take span.len (drop span.at text))) c.in-None.ensures.value
-    ∙ sym (chunk_in-place text (piece_places c.args.self.now) c.args.i)
+pub returns-clause-certificate : goal.returns-clause-certificate
+returns-clause-certificate c =
+    IfSome-copied c.bytes.result _ (λ bytes. Certificate (piece_mode c.args.self.now) (piece_root c.args.self.now) c.args.i bytes) c.bytes.ensures
+    (λ bytes there.
+        chunk_certificate (piece_mode c.args.self.now) (piece_root c.args.self.now) (piece_text c.args.self.now) c.args.self.now.start c.args.self.now.len c.args.i bytes
+        c.args.self.now.accepted there)
+
+pub returns-clause-binds : goal.returns-clause-binds
+returns-clause-binds c = λ blob valid is.
+    let keyed : IsKeyed (piece_mode c.args.self.now) = c.is_keyed.ensures in
+    let bytes_are : AreBytes (piece_text c.args.self.now) = c.bytes_are.ensures in
+    IfSome-copied c.bytes.result _ (λ bytes. Binds (piece_mode c.args.self.now) (piece_text c.args.self.now) c.args.self.now.start c.args.self.now.len blob c.args.i bytes) c.bytes.ensures
+    (λ bytes there.
+        accepted_binds (piece_mode c.args.self.now) (piece_root c.args.self.now) (piece_text c.args.self.now) blob c.args.self.now.start c.args.self.now.len c.args.i bytes
+        keyed valid bytes_are is c.args.self.now.accepted there)

@@ -1,6 +1,6 @@
 use Rattle.std.proofs.Common.{◌-◌, ◌≤◌, length, take}
 use Rattle.std.specs.Io.KnownBytes.{Appends}
-use Rattle.bao_text.proofs.writer.write_text.Given as goal
+use Rattle.bao_text.proofs.writer.write_after.Given as goal
 
 abbrev pub invariant-writes : goal.invariant-writes
 invariant-writes g l = (l.written ≤ length l.text) × Appends (g.W.Write.contents l.initial.out) (g.W.Write.contents l.out) (take l.written l.text)

@@ -1,7 +1,7 @@
 use Rattle.std.proofs.Common.{◌≡◌, ◌+◌, ◌-◌, ◌≤◌, ℕ, List, ◌++◌, length, take, drop, Option, Some, None, ◌∙◌, sym, ap, subst, arith, length-drop}
 use Rattle.std.proofs.lemmas.List.{append_assoc, drop-take, take-append-drop, take-take, take_rest}
 use Rattle.std.specs.Io.KnownBytes.{Appends}
-use Rattle.bao_text.proofs.writer.write_text.Goals as goal
+use Rattle.bao_text.proofs.writer.write_after.Goals as goal
 
 -- one write after another
 Appends_on : (a b c : Option (List ℕ)) (xs ys : List ℕ) → Appends a b xs → Appends b c ys → Appends a c (xs ++ ys)

@@ -1,0 +1,30 @@
+use Rattle.std.proofs.Common.{◌≡◌, ◌≤◌, ◌<◌, ◌-◌, ◌+◌, ◌/◌, ◌%◌, min, max, ℕ, IsSome, false, true, sym, subst, ◌∙◌, arith}
+use Rattle.bao_text.specs.Choice.{chunk_count}
+use Rattle.bao_check.specs.Checked.{piece_claimed, piece_places, piece_text}
+use Rattle.bao_check.specs.Pieces.{chunk_in}
+use Rattle.bao_check.proofs.checked.Checked.tail.Goals as goal
+use Rattle.bao_check.proofs.checked.Checked.tail.Goals.{else-first-last-via-then-first-last+else-last-after, else-first-last-via-else-first-last}
+
+-- the last chunk's number
+last_is : (total claimed quotient last : ℕ) → claimed ≡ total → quotient ≡ claimed / 1024 + min 1 (claimed % 1024) → last ≡ max quotient 1 → last - 1 ≡ chunk_count total - 1
+last_is total claimed quotient last e q m = omega arith
+
+pub new-requires : goal.new-requires
+new-requires c =
+    let total : ℕ = piece_claimed c.args.self.now in
+    let last : c.max-last.result - 1 ≡ chunk_count total - 1 = last_is total c.claimed.result c.div_ceil.result c.max-last.result c.claimed.ensures c.div_ceil.ensures c.max-last.ensures in
+    subst (λ (i : ℕ). IsSome (chunk_in (piece_text c.args.self.now) (piece_places c.args.self.now) i)) last
+    ((c.chunks-first.ensures.spans (c.max-last.result - 1)).1 (c.if-first-last.true, c.if-last-after.true))
+
+pub returns-else-first-last-clause-there : goal.returns-else-first-last-clause-there
+returns-else-first-last-clause-there c =
+    let total : ℕ = piece_claimed c.args.self.now in
+    let last : c.max-last.result - 1 ≡ chunk_count total - 1 = last_is total c.claimed.result c.div_ceil.result c.max-last.result c.claimed.ensures c.div_ceil.ensures c.max-last.ensures in (
+      λ h. cc,
+      λ there.
+          let within = (c.chunks-first.ensures.spans (c.max-last.result - 1)).0 (subst (λ (i : ℕ). IsSome (chunk_in (piece_text c.args.self.now) (piece_places c.args.self.now) i)) (sym last) there) in
+          elim c.else-first-last.branch [
+            | else-first-last-via-then-first-last+else-last-after w ↦ absurd (omega (arith, within.1, w.if-last-after.false))
+            | else-first-last-via-else-first-last w ↦ absurd (omega (arith, within.0, w.if-first-last.false))
+          ],
+    )

@@ -1,0 +1,61 @@
+-- Texts that are read from a reader: what it has left may go on after the text, and that is no fault.
+use Rattle.std.specs.Prelude.{◌≡◌, ◌⊎◌, ℕ, ◌≤◌, List, ◌∷◌, ◌++◌, length, Option}
+use Rattle.std.specs.List.{AllByRecursion}
+use Rattle.std.specs.Io.KnownBytes.{IsAtEnd}
+use Rattle.b3tree.specs.declared.mode.Mode.{Mode}
+use Rattle.bao_text.specs.Nodes.{Node}
+use Rattle.bao_check.specs.declared.fault.CheckFault.{CheckFault}
+use Rattle.bao_check.specs.declared.fault.CheckFault.TheVariants.{Short, Mismatch, Trailing, Memory, Reader}
+use Rattle.bao_check.specs.Accepted.{IsAccepted, IsGood, end_of, places_of, slice_nodes}
+use Rattle.bao_check.specs.Faults.{IsFirstBad, IsMismatchAt, IsShortAt}
+
+-- the bytes begin with a text that is accepted as the slice (start, len)
+pub record BeginsAccepted (mode : Mode) (root : List ℕ) (start len : ℕ) (all : List ℕ) : Type 0 where
+  pub text : List ℕ
+  pub rest : List ℕ
+  pub split : all ≡ text ++ rest
+  pub accepted : IsAccepted mode root text (slice_nodes text start len)
+
+-- The first fault of all that a reader has left, by the nodes of the slice (start, len) in it: `Short` and
+-- `Mismatch` as of a whole text, and never `Trailing`. Want of memory and a failed read are no faults of it.
+abbrev pub IsStreamFault : Mode → List ℕ → ℕ → ℕ → List ℕ → CheckFault → Type 0
+IsStreamFault mode root start len all (Short at) = IsShortAt mode root all (slice_nodes all start len) at
+IsStreamFault mode root start len all (Mismatch at) = IsMismatchAt mode root all (slice_nodes all start len) at
+IsStreamFault mode root start len all (Trailing at) = ⊥
+IsStreamFault mode root start len all Memory = Unit {0}
+IsStreamFault mode root start len all Reader = Unit {0}
+
+-- the fault is the bytes' own, and neither want of memory nor a failed read
+abbrev pub IsOfBytes : CheckFault → Type 0
+IsOfBytes (Short at) = Unit {0}
+IsOfBytes (Mismatch at) = Unit {0}
+IsOfBytes (Trailing at) = Unit {0}
+IsOfBytes Memory = ⊥
+IsOfBytes Reader = ⊥
+
+-- the bytes read end no later than the node at a place, and all nodes before it are good
+pub record ReachesNode (mode : Mode) (root read : List ℕ) (places : List (ℕ × Node)) (place : ℕ × Node) : Type 0 where
+  pub earlier : List (ℕ × Node)
+  pub later : List (ℕ × Node)
+  pub split : places ≡ earlier ++ place ∷ later
+  pub good : AllByRecursion (IsGood mode root read places) earlier
+  pub within : length read ≤ end_of place
+
+-- they end no later than the length that a text begins with, or than such a node
+abbrev pub EndsWithin : Mode → List ℕ → List ℕ → List Node → Type 0
+EndsWithin mode root read nodes =
+    (length read ≤ 8) ⊎ ((8 ≤ length read) × ((place : ℕ × Node) × ReachesNode mode root read (places_of nodes) place))
+
+-- The bytes read end with the first node that isn't good, which is at `at`.
+abbrev pub EndsMismatched : Mode → List ℕ → List ℕ → List Node → ℕ → Type 0
+EndsMismatched mode root read nodes at =
+    (8 ≤ length read) × ((place : ℕ × Node) × IsFirstBad mode root read (places_of nodes) place × (at ≡ place.0) × (length read ≡ end_of place))
+
+-- What was read when a check ended with a fault, and what the reader has then: nothing where the bytes are
+-- too few, and never a byte after the node at which it ended.
+abbrev pub ReadFault : Mode → List ℕ → ℕ → ℕ → List ℕ → Option (List ℕ) → CheckFault → Type 0
+ReadFault mode root start len read after (Short at) = IsShortAt mode root read (slice_nodes read start len) at × IsAtEnd after
+ReadFault mode root start len read after (Mismatch at) = EndsMismatched mode root read (slice_nodes read start len) at
+ReadFault mode root start len read after (Trailing at) = ⊥
+ReadFault mode root start len read after Memory = EndsWithin mode root read (slice_nodes read start len)
+ReadFault mode root start len read after Reader = EndsWithin mode root read (slice_nodes read start len)

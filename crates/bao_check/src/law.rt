@@ -1,0 +1,17 @@
+ghost use Rattle.bao_check.specs.Laws.{AcceptedBinds, WrittenAccepted};
+
+/// For each text that is accepted as a slice under a root, and each blob with that root: each chunk that
+/// the text has is the blob's chunk of that number, and where it is the last of the length that the text
+/// claims, that length is the blob's; or a pair of inputs is named, one of the blob's and one of the
+/// text's, that differ and have one chaining value. A law: nothing runs.
+pub fn accepted_binds()
+    ensures { AcceptedBinds }
+{
+}
+
+/// Each slice of a blob of less than 2^64 bytes is accepted under its hash, and so are its combined and its
+/// outboard encoding. A law: nothing runs.
+pub fn written_accepted()
+    ensures { WrittenAccepted }
+{
+}

@@ -1,0 +1,43 @@
+ghost use Rattle.std.specs.Prelude.{ℕ, ◌+◌, ◌-◌, ◌*◌, ◌^◌, ◌≤◌, ◌<◌, List, length};
+ghost use Rattle.bao_text.specs.Choice.{chunk_count};
+ghost use Rattle.bao_text.specs.declared.choice.Choice.{Choice};
+ghost use Rattle.bao_text.specs.Nodes.{Side, placed, subtree_nodes};
+ghost use Rattle.bao_check.specs.Leaves.{HasParents};
+ghost use Rattle.bao_check.specs.Pieces.{IsLeafValue};
+
+use crate::walk::{PARENT_LEN, part_values};
+use b3tree::{CHUNK_LEN, Cv, left_len};
+
+// The value of chunk `i` in the parents of the subtree over `n` bytes from chunk `number` on, the first of
+// which begins at `at`.
+pub(crate) fn leaf_below(text: &[u8], i: u64, number: u64, n: u64, at: usize) -> Cv
+    requires parent { 1024 < n }
+    requires range { 1024 * number + n ≤ 2 ^ 64 - 1 }
+    requires first { number ≤ i }
+    requires last { i < number + chunk_count n }
+    requires fits { at + 64 * (chunk_count n - 1) ≤ length text.now }
+    ensures { (choice : Choice) (sides : List Side) (source : ℕ) → HasParents choice number n
+        → IsLeafValue text.now (placed at (subtree_nodes choice number n sides source)) i result.0 }
+{
+    let parent = &text[at..at + PARENT_LEN];
+    let left_len = left_len(n);
+    let left_chunks = left_len / CHUNK_LEN as u64;
+    if i < number + left_chunks {
+        if left_chunks == 1 {
+            part_values(parent).0
+        } else {
+            leaf_below(text, i, number, left_len, at + PARENT_LEN)
+        }
+    } else if n - left_len <= CHUNK_LEN as u64 {
+        part_values(parent).1
+    } else {
+        // After this parent come those of the left part, one fewer than it has chunks.
+        leaf_below(
+            text,
+            i,
+            number + left_chunks,
+            n - left_len,
+            at + PARENT_LEN * left_chunks as usize,
+        )
+    }
+}

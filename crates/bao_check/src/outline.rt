@@ -1,0 +1,75 @@
+ghost use Rattle.std.specs.Prelude.{◌≡◌, ℕ, ◌≤◌, ◌<◌, ◌↔◌, List, IfSome, IsSome};
+ghost use Rattle.bao_text.specs.Choice.{chunk_count};
+ghost use Rattle.bao_check.specs.Accepted.{IsAccepted, outboard_nodes, places_of};
+ghost use Rattle.bao_check.specs.AcceptedProp.{IsAccepted-prop};
+ghost use Rattle.bao_check.specs.Pieces.{IsLeafValue};
+
+use crate::leaves::leaf_below;
+use crate::walk::{LENGTH_LEN, claimed};
+use b3tree::{CHUNK_LEN, Cv, Hash, Mode};
+
+/// A text that was accepted as an outboard encoding under a root: it carries that it was, so whoever holds
+/// one needs no premise. All calls on it take no memory, and cost at most the height of the tree.
+#[derive(Clone, Copy, Debug)]
+pub struct Outline<'a> {
+    mode: Mode,
+    root: Hash,
+    text: &'a [u8],
+    ghost accepted: { IsAccepted mode root.0 text.now (outboard_nodes text.now) } by { IsAccepted-prop mode root.0 text.now (outboard_nodes text.now) },
+}
+
+impl<'a> Outline<'a> {
+    ghost use Rattle.bao_check.specs.Outline.{IsOutline, outline_claimed, outline_mode, outline_root, outline_text};
+
+    // The outline that an accepted text is.
+    pub(crate) fn new(mode: &Mode, root: &Hash, text: &'a [u8]) -> Outline<'a>
+        requires { IsAccepted mode.now root.now.0 text.now (outboard_nodes text.now) }
+        ensures { IsOutline result mode.now root.now.0 text.now }
+    {
+        Outline {
+            mode: *mode,
+            root: *root,
+            text,
+        }
+    }
+
+    /// The root under which the text was accepted.
+    pub fn root(&self) -> Hash
+        ensures { result.0 ≡ outline_root self.now }
+    {
+        self.root
+    }
+
+    /// The mode in which it was.
+    pub fn mode(&self) -> Mode
+        ensures { result ≡ outline_mode self.now }
+    {
+        self.mode
+    }
+
+    /// The length in bytes that the text claims for the blob. No outboard encoding certifies it: that takes
+    /// the last chunk.
+    pub fn claimed(&self) -> u64
+        ensures { result ≡ outline_claimed self.now }
+    {
+        claimed(self.text)
+    }
+
+    /// The chaining value that the text has for chunk `i`: the half of a parent that stands for it.
+    ///
+    /// There is one exactly where the claimed length is of more than one chunk and `i` is below their
+    /// number: a single chunk has no parent, and no value but the root.
+    pub fn leaf(&self, i: u64) -> Option<Cv>
+        ensures there { IsSome result ↔ ((1 < chunk_count (outline_claimed self.now)) × (i < chunk_count (outline_claimed self.now))) }
+        ensures value { IfSome result (λ v. IsLeafValue (outline_text self.now) (places_of (outboard_nodes (outline_text self.now))) i v.0) }
+
+        // It is the only one that the text has for that chunk.
+        ensures only { IfSome result (λ v. (w : List ℕ) → IsLeafValue (outline_text self.now) (places_of (outboard_nodes (outline_text self.now))) i w → w ≡ v.0) }
+    {
+        let total = self.claimed();
+        if total <= CHUNK_LEN as u64 || i > (total - 1) / CHUNK_LEN as u64 {
+            return None;
+        }
+        Some(leaf_below(self.text, i, 0, total, LENGTH_LEN))
+    }
+}

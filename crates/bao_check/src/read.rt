@@ -1,0 +1,70 @@
+ghost use Rattle.std.specs.Prelude.{◌≡◌, [], List, ℕ, IfErr, IfOk, IfSome, MatchResult, OnOk};
+ghost use Rattle.std.specs.Io.KnownBytes.{Consumes};
+ghost use Rattle.bao_check.specs.Accepted.{IsAccepted, slice_nodes};
+ghost use Rattle.bao_check.specs.Checked.{IsPiece, piece_text};
+ghost use Rattle.bao_check.specs.Streams.{BeginsAccepted, IsOfBytes, IsStreamFault, ReadFault};
+
+use crate::checked::Checked;
+use crate::fault::CheckFault;
+use crate::form::Form;
+use crate::stream::Stream;
+use crate::walk::check_text;
+use b3tree::{Hash, Mode};
+use std::alloc::Global;
+use std::io::Read;
+
+/// Reads a text into `text`, which is empty, and checks it as the slice of `len` bytes from byte `start` on
+/// of the blob with the hash `root` in `mode`, as `check_slice` does.
+///
+/// A node's bytes are read to the vector's end and verified before the next is read, and no byte after the
+/// text is read. It is accepted exactly where what the reader has left begins with an accepted text: the
+/// vector then holds that text, and the reader has the rest. Otherwise the first fault of what the reader
+/// had is answered, but that what follows a text is none, so 503 never comes: 501 `Short`, where a read
+/// gave no byte before a node's end, or 502 `Mismatch`. 504 `Memory` comes where there is no room for a
+/// node, and 505 `Reader` where a read answers a fault, of the kind `Interrupted` too. After each fault
+/// the vector holds what was read, at most up to the end of the node at which the check ended. No room is
+/// taken by the claimed length, but by the node that is read next.
+pub fn read_checked<R: Read>(
+    mode: &Mode,
+    root: &Hash,
+    start: u64,
+    len: u64,
+    reader: &mut R,
+    text: &mut Vec<u8>,
+) -> Result<(), CheckFault>
+    requires { text.old.items ≡ [] }
+    ensures reader { Consumes (R.remaining reader.old) (R.remaining reader.new) text.new.items }
+    ensures ok { OnOk result (IsAccepted mode.now root.now.0 text.new.items (slice_nodes text.new.items start len)) }
+    ensures fault { IfErr result (λ fault. ReadFault mode.now root.now.0 start len text.new.items (R.remaining reader.new) fault) }
+    ensures exact { IfSome (R.remaining reader.old) (λ all.
+        MatchResult result (λ _. BeginsAccepted mode.now root.now.0 start len all) (IsStreamFault mode.now root.now.0 start len all)) }
+    ensures refused { IfSome (R.remaining reader.old) (λ all. IfErr result (λ fault. IsOfBytes fault → ¬ BeginsAccepted mode.now root.now.0 start len all)) }
+{
+    let mut source = Stream::new(reader, text);
+    check_text(&mut source, mode, root, &Form::Slice { start, len })
+}
+
+/// Reads and checks as `read_checked` does, and answers the accepted text as a piece, which borrows the
+/// vector. The vector's bytes after a fault are a promise of `read_checked` alone. Memory is taken by the
+/// vector's own allocator.
+pub fn check_stream<'a, R: Read>(
+    _alloc: Global,
+    mode: &Mode,
+    root: &Hash,
+    start: u64,
+    len: u64,
+    reader: &mut R,
+    text: &'a mut Vec<u8>,
+) -> Result<Checked<'a>, CheckFault>
+    requires { text.old.items ≡ [] }
+    ensures piece { IfOk result (λ piece. IsPiece piece mode.now root.now.0 start len (piece_text piece)) }
+    ensures reader { IfOk result (λ piece. Consumes (R.remaining reader.old) (R.remaining reader.new) (piece_text piece)) }
+    ensures fault { IfErr result (λ fault.
+        (read : List ℕ) × Consumes (R.remaining reader.old) (R.remaining reader.new) read × ReadFault mode.now root.now.0 start len read (R.remaining reader.new) fault) }
+    ensures exact { IfSome (R.remaining reader.old) (λ all.
+        MatchResult result (λ _. BeginsAccepted mode.now root.now.0 start len all) (IsStreamFault mode.now root.now.0 start len all)) }
+    ensures refused { IfSome (R.remaining reader.old) (λ all. IfErr result (λ fault. IsOfBytes fault → ¬ BeginsAccepted mode.now root.now.0 start len all)) }
+{
+    read_checked(mode, root, start, len, reader, text)?;
+    Ok(Checked::new(mode, root, start, len, text.as_slice()))
+}
