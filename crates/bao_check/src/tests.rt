@@ -1,4 +1,4 @@
-use crate::{CheckFault, Checked, check_combined, check_slice};
+use crate::{CheckFault, check_combined, check_slice};
 use b3tree::{Hash, Mode};
 use std::test::Fail;
 
@@ -10,8 +10,8 @@ const CONTEXT: &str = "BLAKE3 2019-12-27 16:29:52 test vectors context";
 // and two chunks.
 const NODES: [usize; 4] = [8, 72, 136, 1160];
 
-// The published hashes of no bytes, of `abc`, and of the bytes i mod 251: 2049 of them plainly, under `KEY`
-// and for `CONTEXT`, and 3072.
+// The hashes of no bytes, of `abc`, and of the bytes i mod 251: 2049 of them plainly, under `KEY` and for
+// `CONTEXT`, and 3072 of them plainly; by `b3sum` 1.2.0.
 const EMPTY_HASH: [u8; 32] = [
     0xaf, 0x13, 0x49, 0xb9, 0xf5, 0xf9, 0xa1, 0xa6, 0xa0, 0x40, 0x4d, 0xea, 0x36, 0xdc, 0xc9, 0x49,
     0x9b, 0xcb, 0x25, 0xc9, 0xad, 0xc1, 0x12, 0xb7, 0xcc, 0x9a, 0x93, 0xca, 0xe4, 0x1f, 0x32, 0x62,
@@ -42,9 +42,9 @@ const HASH_3072: [u8; 32] = [
     0x18, 0x51, 0x3e, 0x64, 0xf1, 0xee, 0x2e, 0xdd, 0x25, 0x25, 0xc7, 0xad, 0x1e, 0x5c, 0xff, 0xd2,
 ];
 
-// The parents of these blobs, the root and its left part: computed by an independent implementation of the
-// BLAKE3 paper and the Bao specification, checked against the published vectors. The left part of the
-// 3072 bytes is that of the 2049.
+// The 64 bytes of the root and of the parent on its left, for the same blobs: by a second implementation, in
+// Python, of the BLAKE3 paper and the Bao specification alone, which gives the hashes above and the 105
+// rows of `b3tree`'s tests. 2049 and 3072 bytes have the same parent on the left.
 const ROOT: [u8; 64] = [
     0x81, 0x1f, 0x7d, 0x4f, 0x17, 0x35, 0x25, 0x8e, 0x27, 0xc6, 0x8b, 0x92, 0x14, 0xff, 0x7c, 0x4a,
     0xac, 0x86, 0x6d, 0x47, 0xf7, 0x3d, 0xee, 0xf1, 0xfd, 0x89, 0x08, 0xb5, 0xe3, 0x8f, 0x80, 0x4f,
@@ -94,7 +94,7 @@ const ROOT_3072: [u8; 64] = [
     0xa2, 0x01, 0x19, 0x16, 0xb9, 0xd3, 0x43, 0x58, 0x2c, 0x74, 0xd0, 0x6f, 0x07, 0x15, 0x3c, 0xa8,
 ];
 
-// The bytes i mod 251, as in the published test vectors.
+// The bytes i mod 251, as in BLAKE3's test vectors.
 fn blob(rt: &HostRuntime, len: usize) -> Result<Vec<u8>, Fail> {
     let mut bytes = Vec::with_capacity(rt.alloc(), len)?;
     for i in 0..len {
@@ -138,6 +138,9 @@ fn no_bytes_are_one_empty_chunk(rt: HostRuntime) -> Result<(), Fail> {
     assert_eq!(rt; piece.chunks(), (0, 1));
     assert_eq!(rt; piece.chunk(0), Some([].as_slice()));
     assert_eq!(rt; piece.chunk(1), None);
+    let tail = piece.tail().ok_or("tail")?;
+    assert_eq!(rt; tail.length(), 0);
+    assert_eq!(rt; tail.root().0, EMPTY_HASH);
     let trailing = check_combined(rt.alloc(), &mode, &Hash(EMPTY_HASH), &[0; 9]);
     assert_eq!(rt; trailing.err(), Some(CheckFault::Trailing { at: 8 }));
     let other = check_combined(rt.alloc(), &mode, &Hash(ABC_HASH), &[0; 8]);
@@ -185,6 +188,12 @@ fn a_piece_has_the_chunks_of_its_range(rt: HostRuntime) -> Result<(), Fail> {
             i += 1;
         }
         assert_eq!(rt; piece.chunk(3), None, "({start}, {len})");
+        let length = match piece.tail() {
+            Some(tail) => Some(tail.length()),
+            None => None,
+        };
+        let held = if to == 3 { Some(2049) } else { None };
+        assert_eq!(rt; length, held, "({start}, {len})");
         assert_eq!(rt; piece.chunk(u64::MAX), None, "({start}, {len})");
     }
     let piece = check_combined(rt.alloc(), &mode, &Hash(HASH), whole.as_slice())?;
@@ -234,12 +243,14 @@ fn only_the_last_chunk_tells_the_length(rt: HostRuntime) -> Result<(), Fail> {
     assert_eq!(rt; piece.claimed(), 4096);
     assert_eq!(rt; piece.chunks(), (0, 1));
     assert_eq!(rt; piece.chunk(0), Some(first));
+    assert!(rt; piece.tail().is_none());
 
     // With one byte more the right part has two chunks, and the last one's place asks for a parent.
     let last = bytes.get(2048..).ok_or("last")?;
     let text = text_of(&rt, 3072, &[&ROOT_3072, last])?;
     let piece = check_slice(rt.alloc(), &mode, &root, 2048, 1, text.as_slice())?;
     assert_eq!(rt; piece.chunk(2), Some(last));
+    assert_eq!(rt; piece.tail().ok_or("tail")?.length(), 3072);
     let text = text_of(&rt, 3073, &[&ROOT_3072, last])?;
     let result = check_slice(rt.alloc(), &mode, &root, 2048, 1, text.as_slice());
     assert_eq!(rt; result.err(), Some(CheckFault::Mismatch { at: 72 }));
@@ -272,6 +283,7 @@ fn every_changed_bit_is_found(rt: HostRuntime) -> Result<(), Fail> {
             let piece = result?;
             assert_eq!(rt; piece.claimed(), 2305);
             assert_eq!(rt; piece.chunks(), (0, 2));
+            assert!(rt; piece.tail().is_none());
         } else {
             let at = match j {
                 // 2048 bytes have one parent only, and longer blobs have more of them.
@@ -320,6 +332,10 @@ fn each_mode_has_values_of_its_own(rt: HostRuntime) -> Result<(), Fail> {
                 let piece = result?;
                 assert!(rt; piece.mode() == mode);
                 assert_eq!(rt; piece.root().0, hash);
+                let tail = piece.tail().ok_or("tail")?;
+                assert!(rt; tail.mode() == mode);
+                assert_eq!(rt; tail.root().0, hash);
+                assert_eq!(rt; tail.length(), 2049);
             } else {
                 assert_eq!(rt; result.err(), Some(CheckFault::Mismatch { at: 8 }));
             }
