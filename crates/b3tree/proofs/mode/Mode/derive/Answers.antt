@@ -9,6 +9,6 @@ use Rattle.b3tree.proofs.mode.Mode.derive.Goals as goal
 pub returns : goal.returns
 returns c =
     let key : c.hash-key.result.0 ≡ hash of_context c.args.context.now =
-    c.hash-key.ensures ∙ (λ i. hash (c.of_context.ensures i) (c.as_bytes.ensures.value i)) in
+    c.hash-key.ensures.value ∙ (λ i. hash (c.of_context.ensures i) (c.as_bytes.ensures.value i)) in
     let words : c.words_of.result ≡ words_of 8 (hash of_context c.args.context.now) = c.words_of.ensures ∙ ap (words_of 8) key in
     same_mode c.words_of.result derive_key_material _ refl ∙ (λ i. mode_with (words i) derive_key_material refl)
