@@ -154,13 +154,13 @@ fn a_piece_has_the_chunks_of_its_range(rt: HostRuntime) -> Result<(), Fail> {
     let bytes = blob(&rt, 2049)?;
     let bytes = bytes.as_slice();
     let chunks = [
-        bytes.get(..1024).ok_or("first")?,
-        bytes.get(1024..2048).ok_or("second")?,
-        bytes.get(2048..).ok_or("third")?,
+        (0, bytes.get(..1024).ok_or("first")?),
+        (1, bytes.get(1024..2048).ok_or("second")?),
+        (2, bytes.get(2048..).ok_or("third")?),
     ];
-    let first = text_of(&rt, 2049, &[&ROOT, &LEFT, chunks[0]])?;
+    let first = text_of(&rt, 2049, &[&ROOT, &LEFT, chunks[0].1])?;
     let middle = middle_slice(&rt)?;
-    let last = text_of(&rt, 2049, &[&ROOT, chunks[2]])?;
+    let last = text_of(&rt, 2049, &[&ROOT, chunks[2].1])?;
     let whole = text_of(&rt, 2049, &[&ROOT, &LEFT, bytes])?;
     let cases = [
         (0, 1, &first, 0, 1),
@@ -177,15 +177,13 @@ fn a_piece_has_the_chunks_of_its_range(rt: HostRuntime) -> Result<(), Fail> {
         assert!(rt; piece.mode() == mode, "({start}, {len})");
         assert_eq!(rt; piece.claimed(), 2049, "({start}, {len})");
         assert_eq!(rt; piece.chunks(), (from, to), "({start}, {len})");
-        let mut i = 0;
-        for chunk in chunks {
+        for (i, chunk) in chunks {
             let held = if from <= i && i < to {
                 Some(chunk)
             } else {
                 None
             };
             assert_eq!(rt; piece.chunk(i), held, "chunk {i} of ({start}, {len})");
-            i += 1;
         }
         assert_eq!(rt; piece.chunk(3), None, "({start}, {len})");
         let length = match piece.tail() {
