@@ -23,6 +23,8 @@ mod source;
 mod stream;
 mod tail;
 #[cfg(test)]
+mod tests;
+#[cfg(test)]
 mod tests_outline;
 #[cfg(test)]
 mod tests_stream;
