@@ -61,7 +61,7 @@ doubled j q =
     ap (λ (n : ℕ). n * q) twice ∙ out
 
 -- two subtrees of one size side by side
-pair_cv : (mode : Mode) (j before : ℕ) (a b : List ℕ) → length a ≡ 1024 * 2 ^ j → length b ≡ 1024 * 2 ^ j
+pub pair_cv : (mode : Mode) (j before : ℕ) (a b : List ℕ) → length a ≡ 1024 * 2 ^ j → length b ≡ 1024 * 2 ^ j
     → subtree_cv mode before (a ++ b) ≡ cv (parent_input mode (subtree_cv mode before a) (subtree_cv mode (before + 2 ^ j) b))
 pair_cv mode j before a b la lb =
     let l : ℕ = 1024 * 2 ^ j in

@@ -2,6 +2,7 @@ pub mod Examples
 pub mod LeftLen
 pub mod TopInput
 pub mod Words
+pub mod Pieces
 pub mod OutputBlocks
 pub mod Subtrees
 pub mod Joining
