@@ -1,5 +1,5 @@
 -- Pieces of an input: their words, their blocks, and the subtrees over them.
-use Rattle.std.proofs.Common.{◌≡◌, ℕ, zero, suc, ◌+◌, ◌-◌, ◌*◌, ◌/◌, ◌^◌, ◌<◌, ◌≤◌, List, [], ◌∷◌, ◌++◌, length, take, drop, replicate, get_or, slice_index, slice_index_or, refl, sym, ap, ◌∙◌, arith, length-drop}
+use Rattle.std.proofs.Common.{◌≡◌, ℕ, zero, suc, ◌+◌, ◌-◌, ◌*◌, ◌/◌, ◌^◌, ◌<◌, ◌≤◌, List, [], ◌∷◌, ◌++◌, length, take, drop, replicate, slice_index, slice_index_or, refl, sym, ap, ◌∙◌, arith, length-drop}
 use Rattle.std.specs.Int.{w32, from_le_bytes, IsPowerOfTwo}
 use Rattle.std.proofs.lemmas.List.{append-nil, drop-drop, drop-take, get_or-drop, get_or-take, length-take-le, take-take, take_all}
 use Rattle.std.proofs.Math.Seq.{take-add}

@@ -1,5 +1,4 @@
 use Rattle.std.proofs.Common.{◌≡◌, ◌<◌, ℕ, ◌+◌, ◌*◌, [], ◌∷◌, slice_index_or, refl, arith}
-use Rattle.b3tree.specs.declared.values.Cv.{Cv}
 use Rattle.b3tree.specs.Pieces.{piece}
 use Rattle.b3tree.specs.Tree.{subtree_cv}
 use Rattle.b3tree.proofs.lanes.chunk_cvs8.Goals as goal

@@ -1,10 +1,9 @@
 use Rattle.std.proofs.Common.{◌≡◌, ◌≤◌, ℕ, ◌+◌, ◌-◌, ◌*◌, List, length, refl, sym, ap, ◌∙◌, arith, add-one}
 use Rattle.std.proofs.Math.Nat.{mul-le-mul_left}
-use Rattle.b3word.specs.declared.input.Input.{Input}
 use Rattle.b3word.specs.Compression.{cv}
 use Rattle.b3word.proofs.EightLanes.{splat-at}
 use Rattle.b3tree.specs.declared.mode.Mode.{Mode}
-use Rattle.b3tree.specs.Chunk.{block, block_count, block_flags, block_input, chunk_input, last_chunk_input}
+use Rattle.b3tree.specs.Chunk.{block, block_count, block_flags, chunk_input}
 use Rattle.b3tree.specs.Pieces.{before_block, piece}
 use Rattle.b3tree.proofs.Pieces.{block-piece, chunk_input-before, length-piece}
 use Rattle.b3tree.proofs.lanes.chunk_lanes.Goals as goal

@@ -1,4 +1,4 @@
-use Rattle.std.proofs.Common.{◌≡◌, ℕ, ◌∙◌, ◌++◌, bit_or, ap}
+use Rattle.std.proofs.Common.{ℕ, ◌∙◌, ◌++◌, bit_or, ap}
 use Rattle.b3word.specs.Compression.{cv}
 use Rattle.b3word.specs.Lanes.{lane8}
 use Rattle.b3word.proofs.EightLanes.{splat-at}
