@@ -15,6 +15,6 @@ doubled-preserved c = record {
   whole = (suc c.doubled.invariant.whole.0, omega (arith, c.doubled.invariant.whole.1));
   eighths = omega (arith, c.doubled.invariant.eighths);
   some = omega (arith, c.doubled.invariant.some);
-  place = omega (arith, c.if-before-twice-ne0.false);
-  within = omega (arith, c.if-twice-len.false);
+  place = omega arith;
+  within = omega arith;
 }
