@@ -14,35 +14,55 @@ const ROUNDS: u32 = 3;
 pub struct Times {
     pub whole: Duration,
     pub joined: Duration,
-    pub pieces: Duration,
+    pub pooled: Duration,
+    pub small_pieces: Duration,
+    pub large_pieces: Duration,
 }
 
 /// Hashes `bytes` in each way, several times. Fails where the hashes differ.
-pub fn least_times<R: Clock + Threads + Sync>(rt: &R, bytes: &[u8]) -> Result<Times> {
+pub fn least_times<R: Clock + AllocGlobal + Threads + Sync>(rt: &R, bytes: &[u8]) -> Result<Times> {
     let mut least = Times {
         whole: Duration::MAX,
         joined: Duration::MAX,
-        pieces: Duration::MAX,
+        pooled: Duration::MAX,
+        small_pieces: Duration::MAX,
+        large_pieces: Duration::MAX,
     };
     for _ in 0..ROUNDS {
         let (hash, whole) = timed(rt, Way::Whole, bytes)?;
-        let (of_joined, joined) = timed(rt, Way::Joined, bytes)?;
-        let (of_pieces, pieces) = timed(rt, Way::Pieces, bytes)?;
-        ensure!(
-            of_joined == hash && of_pieces == hash,
-            "the hashes of one input differ"
-        );
         least.whole = least.whole.min(whole);
-        least.joined = least.joined.min(joined);
-        least.pieces = least.pieces.min(pieces);
+        least.joined = least.joined.min(timed_as(rt, Way::Joined, bytes, hash)?);
+        least.pooled = least.pooled.min(timed_as(rt, Way::Pooled, bytes, hash)?);
+        least.small_pieces = least
+            .small_pieces
+            .min(timed_as(rt, Way::SmallPieces, bytes, hash)?);
+        least.large_pieces = least
+            .large_pieces
+            .min(timed_as(rt, Way::LargePieces, bytes, hash)?);
     }
     Ok(least)
 }
 
+// How long this way took. Fails where it gives another hash.
+fn timed_as<R: Clock + AllocGlobal + Threads + Sync>(
+    rt: &R,
+    way: Way,
+    bytes: &[u8],
+    hash: Hash,
+) -> Result<Duration> {
+    let (of_way, time) = timed(rt, way, bytes)?;
+    ensure!(of_way == hash, "the hashes of one input differ");
+    Ok(time)
+}
+
 // The hash of `bytes` in this way, and how long it took.
-fn timed<R: Clock + Threads + Sync>(rt: &R, way: Way, bytes: &[u8]) -> Result<(Hash, Duration)> {
+fn timed<R: Clock + AllocGlobal + Threads + Sync>(
+    rt: &R,
+    way: Way,
+    bytes: &[u8],
+) -> Result<(Hash, Duration)> {
     let start = Instant::now(rt)?;
-    let hash = way.hash(rt, bytes)?;
+    let hash = way.hash(rt, rt.alloc(), bytes)?;
     Ok((hash, start.elapsed(rt)?))
 }
 
@@ -50,7 +70,9 @@ fn timed<R: Clock + Threads + Sync>(rt: &R, way: Way, bytes: &[u8]) -> Result<(H
 pub fn print(rt: &impl Print, times: &Times) -> io::Result<()> {
     print_row(rt, "hash", times.whole)?;
     print_row(rt, "hash_join", times.joined)?;
-    print_row(rt, "Hasher", times.pieces)
+    print_row(rt, "hash_pool", times.pooled)?;
+    print_row(rt, "Hasher", times.small_pieces)?;
+    print_row(rt, "Hasher by 1 MiB", times.large_pieces)
 }
 
 /// Prints the line of one time.
