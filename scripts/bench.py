@@ -104,15 +104,15 @@ ROWS = [
 # The ratios of two of those times: the first over the second, and what is wanted of it.
 RATIOS = [
     ("several threads", B3SUM_ONE, HASH, ""),
-    ("several threads", B3SUM_FOUR, HASH, ""),
-    ("one thread", B3SUM_ONE, HASH_ONE, ""),
+    ("several threads", B3SUM_FOUR, HASH, "at least 0.45"),
+    ("one thread", B3SUM_ONE, HASH_ONE, "at least 0.42"),
     ("one thread", B3SUM_ONE, "hash", "at least 0.55"),
     ("several threads", "hash_join", "hash", "at most 0.4 on four processors"),
     ("several threads", "hash", "hash_pool", "at least 3.0 on four processors"),
     ("one thread", "Hasher", "hash", "at most 1.3"),
     ("one thread", "Hasher by 1 MiB", "hash", "at most 1.1"),
-    ("one thread", OUTBOARD, HASH_ONE, "at most 1.3"),
-    ("one thread", ENCODE, HASH_ONE, "at most 2.0"),
+    ("one thread", OUTBOARD, HASH_ONE, "at most 1.5"),
+    ("one thread", ENCODE, HASH_ONE, "at most 2.2"),
     ("one thread", SLICE, SLICE_OF_SIXTEENTH, "about 1: not with the encoding"),
     ("one thread", LARGER_SLICE, SLICE, "about 8: with the slice"),
 ]

@@ -8,7 +8,7 @@ use Rattle.b3tree.specs.Hashing.{hash}
 
 -- plain hashing
 abbrev pub plain : Mode
-plain = record { key = iv; domain = 0 }
+plain = record { key = iv; domain = 0; apart = refl }
 
 -- the empty input
 pub hash_of_nothing : hash plain []

@@ -7,3 +7,8 @@ pub mod OutputBlocks
 pub mod Subtrees
 pub mod Joining
 pub mod Taking
+pub mod SameMode
+pub mod Ranges
+pub mod BlockWords
+pub mod ChunkInputs
+pub mod InputFlags

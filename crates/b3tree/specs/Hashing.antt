@@ -1,5 +1,5 @@
 -- The root of the tree and what comes out of it (BLAKE3 paper, 2.3 and 2.6).
-use Rattle.std.specs.Prelude.{ℕ, ◌/◌, ◌%◌, List, map, take, slice_index, bit_or}
+use Rattle.std.specs.Prelude.{ℕ, refl, ◌/◌, ◌%◌, List, map, take, slice_index, bit_or}
 use Rattle.std.specs.List.{range_with_len}
 use Rattle.b3word.specs.declared.input.Input.{Input}
 use Rattle.b3word.specs.Compression.{out}
@@ -23,7 +23,7 @@ hash mode s = root_hash (rooted (top_input mode 0 s))
 
 -- the material of key derivation: its key is the hash of the context
 abbrev pub derived : List ℕ → Mode
-derived context = mode_with (words_of 8 (hash of_context context)) derive_key_material
+derived context = mode_with (words_of 8 (hash of_context context)) derive_key_material refl
 
 -- block n of the output of the root x: the 64 bytes of its output with the counter n
 abbrev pub output_block : Input → ℕ → List ℕ

@@ -7,5 +7,7 @@ pub mod Tree
 pub mod Hashing
 pub mod Stack
 pub mod Taken
+pub mod Valid
 pub use Rattle.b3word.specs.Compression
 pub use Rattle.b3word.specs.Lanes
+pub use Rattle.b3word.specs.Words

@@ -1,5 +1,5 @@
 -- What a mode brings to every compression (BLAKE3 paper, 2.3).
-use Rattle.std.specs.Prelude.{ℕ, List}
+use Rattle.std.specs.Prelude.{◌≡◌, ℕ, ◌%◌, List, refl}
 use Rattle.b3word.specs.Compression.{iv}
 use Rattle.b3tree.specs.declared.mode.Mode.{Mode}
 use Rattle.b3tree.specs.Bytes.{words_of}
@@ -13,18 +13,18 @@ key_words mode = mode.key
 abbrev pub mode_flags : Mode → ℕ
 mode_flags mode = mode.domain
 
--- the mode with these key words and flags
-abbrev pub mode_with : List ℕ → ℕ → Mode
-mode_with key flags = record { key = key; domain = flags }
+-- the mode with these key words and flags, none of which is one of the tree
+abbrev pub mode_with : List ℕ → (flags : ℕ) → flags % 16 ≡ 0 → Mode
+mode_with key flags apart = record { key = key; domain = flags; apart = apart }
 
 -- plain hashing
 abbrev pub plain : Mode
-plain = mode_with iv 0
+plain = mode_with iv 0 refl
 
 -- keyed hashing, with the 32 bytes of a key
 abbrev pub keyed : List ℕ → Mode
-keyed key = mode_with (words_of 8 key) keyed_hash
+keyed key = mode_with (words_of 8 key) keyed_hash refl
 
 -- the first step of key derivation, which hashes the context
 abbrev pub of_context : Mode
-of_context = mode_with iv derive_key_context
+of_context = mode_with iv derive_key_context refl

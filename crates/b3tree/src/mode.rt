@@ -1,4 +1,4 @@
-ghost use Rattle.std.specs.Prelude.{◌≡◌};
+ghost use Rattle.std.specs.Prelude.{◌≡◌, ◌%◌};
 
 use crate::bytes::words_of;
 use crate::flags::{DERIVE_KEY_CONTEXT, DERIVE_KEY_MATERIAL, KEYED_HASH};
@@ -13,10 +13,13 @@ const IV: [u32; 8] = [
 pub struct Mode {
     key: [u32; 8],
     domain: u32,
+
+    // None of the four flags of the tree.
+    ghost apart: { domain % 16 ≡ 0 },
 }
 
 impl Mode {
-    ghost use Rattle.b3tree.specs.Modes.{key_words, keyed, mode_flags, plain};
+    ghost use Rattle.b3tree.specs.Modes.{key_words, keyed, mode_flags, of_context, plain};
     ghost use Rattle.b3tree.specs.Hashing.{derived};
 
     /// Plain hashing: the IV as key words, and no flags.
@@ -43,14 +46,20 @@ impl Mode {
     pub fn derive(context: &str) -> Mode
         ensures { result ≡ derived context.now }
     {
-        let of_context = Mode {
-            key: IV,
-            domain: DERIVE_KEY_CONTEXT,
-        };
-        let key = hash(&of_context, context.as_bytes());
+        let key = hash(&Mode::of_context(), context.as_bytes());
         Mode {
             key: words_of(&key.0),
             domain: DERIVE_KEY_MATERIAL,
+        }
+    }
+
+    // The first step of key derivation.
+    fn of_context() -> Mode
+        ensures { result ≡ of_context }
+    {
+        Mode {
+            key: IV,
+            domain: DERIVE_KEY_CONTEXT,
         }
     }
 

@@ -1,7 +1,7 @@
-ghost use Rattle.std.specs.Prelude.{◌≡◌};
-ghost use Rattle.b3tree.specs.Bytes.{bytes_of};
+ghost use Rattle.std.specs.Prelude.{◌≡◌, length};
+ghost use Rattle.b3tree.specs.Bytes.{bytes_of, words_of};
 
-use crate::bytes::put_bytes;
+use crate::bytes::{put_bytes, words_of};
 
 /// The hash of an input: 32 bytes.
 #[derive(Clone, Copy, Debug, PartialEq, Eq)]
@@ -12,6 +12,15 @@ pub struct Hash(pub [u8; 32]);
 pub struct Cv(pub [u32; 8]);
 
 impl Cv {
+    /// The chaining value whose words, each little-endian, are these 32 bytes: what a parent's text has of
+    /// one of its parts, or the words of a hash.
+    pub fn from_bytes(bytes: &[u8]) -> Cv
+        requires { length bytes.now ≡ 32 }
+        ensures { result.0 ≡ words_of 8 bytes.now }
+    {
+        Cv(words_of(bytes))
+    }
+
     /// The words as 32 bytes, each little-endian, as a parent's text has them.
     pub fn to_bytes(&self) -> [u8; 32]
         ensures { result ≡ bytes_of self.now.0 }

@@ -22,7 +22,7 @@ length-out : (x : Input) → length (out x) ≡ 16
 unfolding out
 length-out x = refl
 
-length-bytes_of : (ws : List ℕ) → length (bytes_of ws) ≡ 4 * length ws
+pub length-bytes_of : (ws : List ℕ) → length (bytes_of ws) ≡ 4 * length ws
 length-bytes_of [] = refl
 length-bytes_of (w ∷ ws) = let before : length (bytes_of ws) ≡ 4 * length ws = length-bytes_of ws in omega arith
 
@@ -112,7 +112,7 @@ pub record At (text : List ℕ) (at : ℕ) (x : List ℕ) : Type 0 where
   pub whole : text ≡ before ++ (x ++ after)
   pub place : length before ≡ at
 
-At_first : (text : List ℕ) (at : ℕ) (x y : List ℕ) → At text at (x ++ y) → At text at x
+pub At_first : (text : List ℕ) (at : ℕ) (x y : List ℕ) → At text at (x ++ y) → At text at x
 At_first text at x y h = record {
   before = h.before;
   after = y ++ h.after;
@@ -120,7 +120,7 @@ At_first text at x y h = record {
   place = h.place;
 }
 
-At_rest : (text : List ℕ) (at n : ℕ) (x y : List ℕ) → length x ≡ n → At text at (x ++ y) → At text (at + n) y
+pub At_rest : (text : List ℕ) (at n : ℕ) (x y : List ℕ) → length x ≡ n → At text at (x ++ y) → At text (at + n) y
 At_rest text at n x y size h = record {
   before = h.before ++ x;
   after = h.after;

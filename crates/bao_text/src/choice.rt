@@ -1,8 +1,8 @@
-ghost use Rattle.std.specs.Prelude.{◌≡◌};
+ghost use Rattle.std.specs.Prelude.{◌≡◌, ◌+◌, ◌≤◌, ◌↔◌, max, IsTrue};
 
 /// The positions of a blob that a text is of, and whether it has the chunks.
 #[derive(Clone, Copy, Debug)]
-pub(crate) struct Choice {
+pub struct Choice {
     pub(crate) start: u64,
     pub(crate) end: u64,
     pub(crate) chunks: bool,
@@ -11,8 +11,8 @@ pub(crate) struct Choice {
 impl Choice {
     ghost use Rattle.bao_text.specs.Choice.{of_combined, of_outboard, of_slice, wants};
 
-    // What a combined encoding of a blob of `total` bytes is of.
-    pub(crate) fn of_combined(total: u64) -> Choice
+    /// What a combined encoding of a blob of `total` bytes is of: everything.
+    pub fn of_combined(total: u64) -> Choice
         ensures { result ≡ of_combined total }
     {
         Choice {
@@ -22,8 +22,8 @@ impl Choice {
         }
     }
 
-    // What an outboard encoding of a blob of `total` bytes is of.
-    pub(crate) fn of_outboard(total: u64) -> Choice
+    /// What an outboard encoding of a blob of `total` bytes is of: everything but the chunks.
+    pub fn of_outboard(total: u64) -> Choice
         ensures { result ≡ of_outboard total }
     {
         Choice {
@@ -33,8 +33,11 @@ impl Choice {
         }
     }
 
-    // What the slice (`start`, `len`) of a blob of `total` bytes is of. The sum of the two never wraps.
-    pub(crate) fn of_slice(total: u64, start: u64, len: u64) -> Choice
+    /// What the slice of `len` bytes from byte `start` on of a blob of `total` bytes is of.
+    ///
+    /// A length of 0 counts as 1, a start at or past the end is the last position, and the sum of the two
+    /// never wraps.
+    pub fn of_slice(total: u64, start: u64, len: u64) -> Choice
         ensures { result ≡ of_slice total start len }
     {
         let first = start.min(total.max(1) - 1);
@@ -46,10 +49,38 @@ impl Choice {
         }
     }
 
-    // Whether the `n` bytes from position `at` on are wanted.
-    pub(crate) fn wants(&self, at: u64, n: u64) -> bool
+    /// Whether the `n` bytes from position `at` on are wanted; no bytes count as one.
+    pub fn wants(&self, at: u64, n: u64) -> bool
         ensures { result ≡ wants self.now at n }
     {
         at < self.end && (self.start < at || self.start - at < n.max(1))
+    }
+
+    /// Whether all of the `n` bytes from position `at` on are wanted; no bytes count as one.
+    pub fn covers(&self, at: u64, n: u64) -> bool
+        ensures { IsTrue result ↔ ((self.now.start ≤ at) × (at + max n 1 ≤ self.now.end)) }
+    {
+        self.start <= at && at < self.end && n.max(1) <= self.end - at
+    }
+
+    /// The first wanted position.
+    pub fn start(&self) -> u64
+        ensures { result ≡ self.now.start }
+    {
+        self.start
+    }
+
+    /// The position after the last wanted one.
+    pub fn end(&self) -> u64
+        ensures { result ≡ self.now.end }
+    {
+        self.end
+    }
+
+    /// Whether the text has the chunks.
+    pub fn has_chunks(&self) -> bool
+        ensures { result ≡ self.now.chunks }
+    {
+        self.chunks
     }
 }

@@ -1,6 +1,7 @@
 //! Bao encodings written: combined, outboard and slices (Bao specification).
 #![tactic(auto)]
 
+pub use choice::Choice;
 pub use cut::cut_slice;
 pub use fault::{Memory, WriteFault};
 pub use sizes::{encoded_len, outboard_len};

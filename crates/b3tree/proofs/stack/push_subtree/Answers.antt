@@ -1,7 +1,7 @@
 use Rattle.std.proofs.Common.{◌≡◌, ◌+◌, ◌*◌, ◌/◌, ◌<◌, ℕ, List, ◌++◌, ◌∷◌, [], length, ◌∙◌, subst, arith, None, IsSome, Ok, Err, IsOk, OnOk}
 use Rattle.std.specs.declared.option.Option.{Option}
 use Rattle.std.specs.declared.result.Result.{Result}
-use Rattle.b3tree.proofs.Joining.{Joins, Joins_end, Joins_left, Joins_step}
+use Rattle.b3tree.proofs.Joining.{Joins, Joins_end, Joins_start, Joins_left, Joins_step}
 use Rattle.b3tree.proofs.stack.push_subtree.Goals as goal
 use Rattle.b3tree.proofs.stack.push_subtree.Goals.{in-Some, in_default}
 
@@ -13,6 +13,12 @@ not_missing r n none is some = let P : Option (List ℕ) → Type 0 = λ o. IsSo
 on_success : {T E : Type 0} (r : Result T E) (P : Type 0) → IsOk r → OnOk r P → P
 on_success (Ok x) P is h = h
 on_success (Err e) P is h = cc
+
+pub join-init : goal.join-init
+join-init c = (
+  omega arith,
+  λ k s piece ls lp fits es ev. Joins_start c.args.mode.now k s piece c.args.stack.now.items c.args.value c.args.before ls lp fits es ev,
+)
 
 pub join-preserved : goal.join-preserved
 join-preserved c = (

@@ -1,0 +1,339 @@
+-- What an accepted text has as a chunk, it certifies.
+use Rattle.std.proofs.Common.{◌≡◌, ◌⊎◌, ℕ, zero, suc, ◌+◌, ◌-◌, ◌*◌, ◌/◌, ◌<◌, ◌≤◌, ◌==◌, ◌&&◌, None, Some, Bool, List, [], ◌∷◌, ◌++◌, length, take, drop, true, false, refl, sym, ap, subst, ◌∙◌, arith, inl, inr, length-drop}
+use Rattle.std.specs.List.{AllByRecursion, Contains}
+use Rattle.std.proofs.lemmas.Bool.{cases_Bool, cases_lt, eqb-true}
+use Rattle.std.proofs.lemmas.List.{length-take-le}
+use Rattle.std.proofs.lemmas.List.Concat.{flat_map-append}
+use Rattle.std.proofs.lemmas.List.Elements.{Contains-append_left, Contains-append_right}
+use Rattle.b3word.specs.declared.input.Input.{Input}
+use Rattle.b3tree.specs.declared.mode.Mode.{Mode}
+use Rattle.b3tree.specs.Bytes.{words_of}
+use Rattle.b3tree.specs.Chunk.{last_chunk_input}
+use Rattle.b3tree.specs.Tree.{left_len, parent_input}
+use Rattle.bao_text.specs.declared.choice.Choice.{Choice}
+use Rattle.bao_text.specs.Choice.{chunk_count, of_slice, wants}
+use Rattle.bao_text.specs.Cut.{claimed}
+use Rattle.bao_text.specs.Nodes.{Node, Side, chosen_nodes, chunk_nodes, left, placed, right, subtree_nodes, subtree_size}
+use Rattle.bao_text.proofs.SubtreeNodes.{parent_node, subtree_nodes-leaf, subtree_nodes-unwanted}
+use Rattle.bao_text.proofs.SubtreeText.{Parts, left_len-Parts}
+use Rattle.bao_check.specs.declared.asked.Asked.{Asked}
+use Rattle.bao_check.specs.Accepted.{IsAccepted, part_value, places_of, slice_nodes}
+use Rattle.bao_check.specs.Certificate.{Begins, Certificate, Follows, IsLast, Step, half, step_input}
+use Rattle.bao_check.specs.Inputs.{certificate_inputs, is_top, marked, place_inputs, text_inputs, way_inputs, whole_chunk}
+use Rattle.bao_check.specs.Pieces.{chunk_in}
+use Rattle.bao_check.specs.Walk.{AreGood, Meets}
+use Rattle.bao_check.proofs.Binding.{HaveEight, length-part_value}
+use Rattle.bao_check.proofs.Lists.{Contains-cons_cases, Contains-head, Contains-tail, nodes_size}
+use Rattle.bao_check.proofs.Parts.{AreGood-split, PartsGood, below, placed-parent}
+use Rattle.bao_check.proofs.Walking.{chunk_node}
+
+-- the way goes to the right there
+abbrev pub GoesRight : Step → Type 0
+GoesRight step = step.side ≡ right
+
+-- the first input on the way has the value that is asked for, and the others follow
+abbrev pub Starts : Asked → Mode → List Step → Input → Type 0
+Starts asked mode [] last = Meets asked last
+Starts asked mode (step ∷ steps) last = Meets asked (step_input mode step) × Follows mode (half step.side step) steps last
+
+-- below a parent that is the value of its half
+Follows-below : (side : Side) (bytes : List ℕ) (mode : Mode) (steps : List Step) (last : Input) → Starts (below side bytes) mode steps last
+    → Follows mode (part_value side bytes) steps last
+Follows-below side bytes mode [] last h = h
+Follows-below side bytes mode (step ∷ steps) last h = h
+
+-- under a root it is the root's
+Begins-root : (mode : Mode) (root : List ℕ) (steps : List Step) (last : Input) → Starts (record { top = true; value = record { 0 = words_of 8 root } }) mode steps last
+    → Begins mode root steps last
+Begins-root mode root [] last h = h
+Begins-root mode root (step ∷ steps) last h = h
+
+-- The way down to chunk k, which is `bytes`, in the subtree of n bytes from chunk `number` on that has
+-- these places.
+record Way (asked : Asked) (mode : Mode) (text : List ℕ) (places : List (ℕ × Node)) (number n k : ℕ) (bytes : List ℕ) : Type 0 where
+  steps : List Step
+  holds : Starts asked mode steps (last_chunk_input mode k bytes)
+  inputs : (x : Input) → Contains (way_inputs asked.top mode steps k bytes) x → Contains (text_inputs mode text places) x
+  eight : HaveEight steps
+  within : k + 1 ≤ number + chunk_count n
+  size : length bytes ≤ 1024
+  full : k + 1 < number + chunk_count n → length bytes ≡ 1024
+  last : k + 1 ≡ number + chunk_count n → AllByRecursion GoesRight steps
+  ends : k + 1 ≡ number + chunk_count n → 1024 * k + length bytes ≡ 1024 * number + n
+
+-- a chunk among places after one another is among the first or the second
+chunk_in-append : (text : List ℕ) (xs ys : List (ℕ × Node)) (k : ℕ) (bytes : List ℕ) → chunk_in text (xs ++ ys) k ≡ Some bytes
+    → (chunk_in text xs k ≡ Some bytes) ⊎ (chunk_in text ys k ≡ Some bytes)
+chunk_in-append text [] ys k bytes h = inr h
+chunk_in-append text (x ∷ xs) ys k bytes h = elim (cases_Bool (x.1.is_chunk && (x.1.number == k))) [
+  | inl hit ↦ inl (rw hit (rw hit at h))
+  | inr miss ↦
+      elim (chunk_in-append text xs ys k bytes (rw miss at h)) [
+        | inl first ↦ inl (rw miss first)
+        | inr second ↦ inr second
+      ]
+]
+
+-- no way begins below the top
+is_top-below : (sides : List Side) (side : Side) → false ≡ is_top (sides ++ side ∷ [])
+is_top-below [] side = refl
+is_top-below (d ∷ sides) side = refl
+
+-- that chunk is what the text has there
+same_chunk : (text : List ℕ) (at number n : ℕ) (sides : List Side) (source k : ℕ) (bytes : List ℕ)
+    → chunk_in text ((at, chunk_node number n sides source) ∷ []) k ≡ Some bytes → (number ≡ k) × (take n (drop at text) ≡ bytes)
+same_chunk text at number n sides source k bytes there = elim (cases_Bool (number == k)) [
+  | inl hit ↦ let found : Some (take n (drop at text)) ≡ Some bytes = rw hit at there in (eqb-true number k hit, cc)
+  | inr miss ↦ let none : None ≡ Some bytes = rw miss at there in cc
+]
+
+way-here : (asked : Asked) (mode : Mode) (text : List ℕ) (at number n : ℕ) (sides : List Side) (source : ℕ)
+    → asked.top ≡ is_top sides → n ≤ 1024 → at + n ≤ length text → Meets asked (last_chunk_input mode number (take n (drop at text)))
+    → Way asked mode text ((at, chunk_node number n sides source) ∷ []) number n number (take n (drop at text))
+way-here asked mode text at number n sides source top one fits meets =
+    let rest : length (drop at text) ≡ length text - at = length-drop at text in
+    let len : length (take n (drop at text)) ≡ n = length-take-le n (drop at text) (omega arith) in
+    record {
+      steps = [];
+      holds = meets;
+      inputs = λ x h. Contains-append_left (whole_chunk (is_top sides) mode number (take n (drop at text))) [] x
+          (subst (λ (t : Bool). Contains (whole_chunk t mode number (take n (drop at text))) x) top h);
+      eight = tt;
+      within = omega arith;
+      size = omega arith;
+      full = λ less. omega arith;
+      last = λ _. tt;
+      ends = λ _. omega arith;
+    }
+
+way-one : (asked : Asked) (mode : Mode) (text : List ℕ) (at number n : ℕ) (sides : List Side) (source k : ℕ) (bytes : List ℕ)
+    → asked.top ≡ is_top sides → n ≤ 1024
+    → AreGood asked sides mode text at (chunk_node number n sides source ∷ [])
+    → chunk_in text ((at, chunk_node number n sides source) ∷ []) k ≡ Some bytes
+    → Way asked mode text ((at, chunk_node number n sides source) ∷ []) number n k bytes
+way-one asked mode text at number n sides source k bytes top one good there =
+    let same : (number ≡ k) × (take n (drop at text) ≡ bytes) = same_chunk text at number n sides source k bytes there in
+    let places : List (ℕ × Node) = (at, chunk_node number n sides source) ∷ [] in
+    subst (λ (j : ℕ). Way asked mode text places number n j bytes) same.0
+    (subst (Way asked mode text places number n number) same.1
+    (way-here asked mode text at number n sides source top one good.0.0 (good.0.1.0 refl)))
+
+-- no nodes have no chunk
+no_way : (asked : Asked) (sides : List Side) (mode : Mode) (text : List ℕ) (at number n k : ℕ) (bytes : List ℕ) (nodes : List Node) → nodes ≡ []
+    → chunk_in text (placed at nodes) k ≡ Some bytes → Way asked mode text (placed at nodes) number n k bytes
+no_way asked sides mode text at number n k bytes nodes none there =
+    let bad : None ≡ Some bytes = ap (λ (xs : List Node). chunk_in text (placed at xs) k) (sym none) ∙ there in cc
+
+way-chunk : (asked : Asked) (choice : Choice) (mode : Mode) (text : List ℕ) (at number n : ℕ) (sides : List Side) (source k : ℕ) (bytes : List ℕ)
+    → asked.top ≡ is_top sides → n ≤ 1024
+    → AreGood asked sides mode text at (chunk_nodes choice number n sides source)
+    → chunk_in text (placed at (chunk_nodes choice number n sides source)) k ≡ Some bytes
+    → Way asked mode text (placed at (chunk_nodes choice number n sides source)) number n k bytes
+way-chunk asked choice mode text at number n sides source k bytes top one good there =
+    let P : List Node → Type 0 = λ nodes. AreGood asked sides mode text at nodes → chunk_in text (placed at nodes) k ≡ Some bytes
+    → Way asked mode text (placed at nodes) number n k bytes in
+    elim (cases_Bool choice.chunks) [
+      | inl with_chunks ↦
+          let node : chunk_nodes choice number n sides source ≡ chunk_node number n sides source ∷ [] = rw with_chunks refl in
+          subst P (sym node) (way-one asked mode text at number n sides source k bytes top one) good there
+      | inr without ↦
+          let none : chunk_nodes choice number n sides source ≡ [] = rw without refl in
+          no_way asked sides mode text at number n k bytes (chunk_nodes choice number n sides source) none there
+    ]
+
+way-small : (asked : Asked) (choice : Choice) (mode : Mode) (text : List ℕ) (at number n : ℕ) (sides : List Side) (source k : ℕ) (bytes : List ℕ)
+    → asked.top ≡ is_top sides → n ≤ 1024
+    → AreGood asked sides mode text at (subtree_nodes choice number n sides source)
+    → chunk_in text (placed at (subtree_nodes choice number n sides source)) k ≡ Some bytes
+    → Way asked mode text (placed at (subtree_nodes choice number n sides source)) number n k bytes
+way-small asked choice mode text at number n sides source k bytes top one good there =
+    let P : List Node → Type 0 = λ nodes. AreGood asked sides mode text at nodes → chunk_in text (placed at nodes) k ≡ Some bytes
+    → Way asked mode text (placed at nodes) number n k bytes in
+    elim (cases_Bool (wants choice (1024 * number) n)) [
+      | inr skipped ↦
+          no_way asked sides mode text at number n k bytes (subtree_nodes choice number n sides source) (subtree_nodes-unwanted choice number n sides source skipped) there
+      | inl wanted ↦
+          subst P (sym (subtree_nodes-leaf choice number n sides source wanted one))
+          (way-chunk asked choice mode text at number n sides source k bytes top one) good there
+    ]
+
+-- the compressions of a way from a parent on
+inputs-step : (asked : Asked) (mode : Mode) (text : List ℕ) (q : ℕ × Node) (near far own : List (ℕ × Node)) (step : Step) (steps : List Step) (k : ℕ) (bytes : List ℕ)
+    → ((x : Input) → Contains (text_inputs mode text own) x → Contains (text_inputs mode text (near ++ far)) x)
+    → place_inputs mode text q ≡ marked asked.top (step_input mode step) ∷ []
+    → ((x : Input) → Contains (way_inputs false mode steps k bytes) x → Contains (text_inputs mode text own) x)
+    → (x : Input) → Contains (way_inputs asked.top mode (step ∷ steps) k bytes) x → Contains (text_inputs mode text (q ∷ (near ++ far))) x
+inputs-step asked mode text q near far own step steps k bytes further first rest x h =
+    subst (λ (xs : List Input). Contains (xs ++ text_inputs mode text (near ++ far)) x) (sym first)
+    (elim (Contains-cons_cases (way_inputs false mode steps k bytes) (marked asked.top (step_input mode step)) x h) [
+      | inl same ↦ subst (Contains (marked asked.top (step_input mode step) ∷ text_inputs mode text (near ++ far))) (sym same)
+          (Contains-head (text_inputs mode text (near ++ far)) (marked asked.top (step_input mode step)))
+      | inr later ↦ Contains-tail (text_inputs mode text (near ++ far)) (marked asked.top (step_input mode step)) x (further x (rest x later))
+    ])
+
+-- the parts' compressions are among the whole's
+text_inputs-near : (mode : Mode) (text : List ℕ) (near far : List (ℕ × Node)) (x : Input) → Contains (text_inputs mode text near) x
+    → Contains (text_inputs mode text (near ++ far)) x
+text_inputs-near mode text near far x h =
+    subst (λ (xs : List Input). Contains xs x) (sym (flat_map-append (place_inputs mode text) near far))
+    (Contains-append_left (text_inputs mode text near) (text_inputs mode text far) x h)
+
+text_inputs-far : (mode : Mode) (text : List ℕ) (near far : List (ℕ × Node)) (x : Input) → Contains (text_inputs mode text far) x
+    → Contains (text_inputs mode text (near ++ far)) x
+text_inputs-far mode text near far x h =
+    subst (λ (xs : List Input). Contains xs x) (sym (flat_map-append (place_inputs mode text) near far))
+    (Contains-append_right (text_inputs mode text near) (text_inputs mode text far) x h)
+
+-- the chunks of the parts
+chunk_count-left : (n : ℕ) → 1024 < n → chunk_count (left_len n) ≡ left_len n / 1024
+chunk_count-left n more = let parts : Parts n (left_len n) = left_len-Parts n more in omega (arith, parts.whole, parts.some)
+
+chunk_count-parts : (n : ℕ) → 1024 < n → chunk_count n ≡ left_len n / 1024 + chunk_count (n - left_len n)
+chunk_count-parts n more =
+    let parts : Parts n (left_len n) = left_len-Parts n more in
+    omega (arith, parts.whole, parts.some, parts.below)
+
+-- each chunk of the left part is whole
+near_full : (number l k : ℕ) (bytes : List ℕ) → chunk_count l ≡ l / 1024 → 1024 * (l / 1024) ≡ l
+    → (k + 1 < number + chunk_count l → length bytes ≡ 1024) → (k + 1 ≡ number + chunk_count l → 1024 * k + length bytes ≡ 1024 * number + l)
+    → k + 1 ≤ number + l / 1024 → length bytes ≡ 1024
+near_full number l k bytes count whole full ends inner = elim (cases_lt (k + 1) (number + chunk_count l)) [
+  | inl less ↦ full less
+  | inr least ↦ let end : 1024 * k + length bytes ≡ 1024 * number + l = ends (omega arith) in omega arith
+]
+
+-- from a part of a parent to the whole
+way-near : (asked : Asked) (mode : Mode) (text : List ℕ) (at number n : ℕ) (sides : List Side) (source k : ℕ) (bytes : List ℕ) (near far : List (ℕ × Node))
+    → asked.top ≡ is_top sides → 1024 < n
+    → Meets asked (parent_input mode (part_value left (take 64 (drop at text))) (part_value right (take 64 (drop at text))))
+    → Way (below left (take 64 (drop at text))) mode text near number (left_len n) k bytes
+    → Way asked mode text ((at, parent_node number n sides source) ∷ (near ++ far)) number n k bytes
+way-near asked mode text at number n sides source k bytes near far top more meets way =
+    let l : ℕ = left_len n in
+    let parts : Parts n l = left_len-Parts n more in
+    let bs : List ℕ = take 64 (drop at text) in
+    let q : ℕ × Node = (at, parent_node number n sides source) in
+    let step : Step = record { near = part_value left bs; far = part_value right bs; side = left } in
+    let first : place_inputs mode text q ≡ marked asked.top (step_input mode step) ∷ [] =
+    ap (λ (t : Bool). marked t (step_input mode step) ∷ []) (sym top) in
+    let near_count : chunk_count l ≡ l / 1024 = chunk_count-left n more in
+    let count : chunk_count n ≡ l / 1024 + chunk_count (n - l) = chunk_count-parts n more in
+    let some : 1 ≤ chunk_count (n - l) = omega arith in
+    let inner : k + 1 ≤ number + l / 1024 = omega (arith, way.within) in
+    record {
+      steps = step ∷ way.steps;
+      holds = (meets, Follows-below left bs mode way.steps (last_chunk_input mode k bytes) way.holds);
+      inputs = inputs-step asked mode text q near far near step way.steps k bytes (text_inputs-near mode text near far) first way.inputs;
+      eight = (length-part_value left bs, way.eight);
+      within = omega arith;
+      size = way.size;
+      full = λ _. near_full number l k bytes near_count parts.whole way.full way.ends inner;
+      last = λ same. absurd (omega arith);
+      ends = λ same. absurd (omega arith);
+    }
+
+way-far : (asked : Asked) (mode : Mode) (text : List ℕ) (at number n : ℕ) (sides : List Side) (source k : ℕ) (bytes : List ℕ) (near far : List (ℕ × Node))
+    → asked.top ≡ is_top sides → 1024 < n
+    → Meets asked (parent_input mode (part_value left (take 64 (drop at text))) (part_value right (take 64 (drop at text))))
+    → Way (below right (take 64 (drop at text))) mode text far (number + left_len n / 1024) (n - left_len n) k bytes
+    → Way asked mode text ((at, parent_node number n sides source) ∷ (near ++ far)) number n k bytes
+way-far asked mode text at number n sides source k bytes near far top more meets way =
+    let l : ℕ = left_len n in
+    let parts : Parts n l = left_len-Parts n more in
+    let bs : List ℕ = take 64 (drop at text) in
+    let q : ℕ × Node = (at, parent_node number n sides source) in
+    let step : Step = record { near = part_value left bs; far = part_value right bs; side = right } in
+    let first : place_inputs mode text q ≡ marked asked.top (step_input mode step) ∷ [] =
+    ap (λ (t : Bool). marked t (step_input mode step) ∷ []) (sym top) in
+    let near_count : chunk_count l ≡ l / 1024 = chunk_count-left n more in
+    let count : chunk_count n ≡ l / 1024 + chunk_count (n - l) = chunk_count-parts n more in
+    let some : 1 ≤ chunk_count (n - l) = omega arith in
+    record {
+      steps = step ∷ way.steps;
+      holds = (meets, Follows-below right bs mode way.steps (last_chunk_input mode k bytes) way.holds);
+      inputs = inputs-step asked mode text q near far far step way.steps k bytes (text_inputs-far mode text near far) first way.inputs;
+      eight = (length-part_value left bs, way.eight);
+      within = omega (arith, way.within);
+      size = way.size;
+      full = λ less. way.full (omega arith);
+      last = λ same. (refl, way.last (omega arith));
+      ends = λ same. let end : 1024 * k + length bytes ≡ 1024 * (number + l / 1024) + (n - l) = way.ends (omega arith) in omega (arith, parts.whole, parts.below);
+    }
+
+-- by the number of levels
+way-levels : (levels : ℕ) (asked : Asked) (choice : Choice) (mode : Mode) (text : List ℕ) (at number n : ℕ) (sides : List Side) (source k : ℕ) (bytes : List ℕ)
+    → n ≤ 1024 * levels + 1024 → asked.top ≡ is_top sides
+    → AreGood asked sides mode text at (subtree_nodes choice number n sides source)
+    → chunk_in text (placed at (subtree_nodes choice number n sides source)) k ≡ Some bytes
+    → Way asked mode text (placed at (subtree_nodes choice number n sides source)) number n k bytes
+way-levels zero asked choice mode text at number n sides source k bytes hn top good there =
+    way-small asked choice mode text at number n sides source k bytes top (omega arith) good there
+way-levels (suc levels) asked choice mode text at number n sides source k bytes hn top good there = elim (cases_lt 1024 n) [
+  | inr one ↦ way-small asked choice mode text at number n sides source k bytes top one good there
+  | inl more ↦
+      elim (cases_Bool (wants choice (1024 * number) n)) [
+        | inr skipped ↦
+            no_way asked sides mode text at number n k bytes (subtree_nodes choice number n sides source) (subtree_nodes-unwanted choice number n sides source skipped) there
+        | inl wanted ↦
+            let l : ℕ = left_len n in
+            let parts : Parts n l = left_len-Parts n more in
+            let bs : List ℕ = take 64 (drop at text) in
+            let q : ℕ × Node = (at, parent_node number n sides source) in
+            let near_nodes : List Node = subtree_nodes choice number l (sides ++ left ∷ []) (source + 64) in
+            let far_nodes : List Node = subtree_nodes choice (number + l / 1024) (n - l) (sides ++ right ∷ []) (source + 64 + subtree_size l) in
+            let near : List (ℕ × Node) = placed (at + 64) near_nodes in
+            let far : List (ℕ × Node) = placed (at + 64 + nodes_size near_nodes) far_nodes in
+            let places_are : placed at (subtree_nodes choice number n sides source) ≡ q ∷ (near ++ far) = placed-parent choice number n sides source at wanted more in
+            let both : PartsGood asked sides mode text at near_nodes far_nodes = AreGood-split asked choice mode text at number n sides source wanted more good in
+            let among : chunk_in text (near ++ far) k ≡ Some bytes = ap (λ (ps : List (ℕ × Node)). chunk_in text ps k) (sym places_are) ∙ there in
+            subst (λ (ps : List (ℕ × Node)). Way asked mode text ps number n k bytes) (sym places_are)
+            (elim (chunk_in-append text near far k bytes among) [
+              | inl here ↦
+                  way-near asked mode text at number n sides source k bytes near far top more both.meets
+                  (way-levels levels (below left bs) choice mode text (at + 64) number l (sides ++ left ∷ []) (source + 64) k bytes
+                  (omega (arith, parts.whole, parts.below)) (is_top-below sides left) both.near_good here)
+              | inr here ↦
+                  way-far asked mode text at number n sides source k bytes near far top more both.meets
+                  (way-levels levels (below right bs) choice mode text (at + 64 + nodes_size near_nodes) (number + l / 1024) (n - l) (sides ++ right ∷ []) (source + 64 + subtree_size l) k bytes
+                  (omega (arith, parts.some)) (is_top-below sides right) both.far_good here)
+            ])
+      ]
+]
+
+-- A certificate of the chunk that the text has there, made of the text's own compressions. By the length
+-- `total` of the blob the last chunk ends it, and each other is whole.
+pub record IsCertified (mode : Mode) (root text : List ℕ) (places : List (ℕ × Node)) (total number : ℕ) (bytes : List ℕ) : Type 0 where
+  pub certificate : Certificate mode root number bytes
+  pub inputs : (x : Input) → Contains (certificate_inputs certificate) x → Contains (text_inputs mode text places) x
+  pub eight : HaveEight certificate.steps
+  pub within : number < chunk_count total
+  pub size : length bytes ≤ 1024
+  pub full : number + 1 < chunk_count total → length bytes ≡ 1024
+  pub last : number + 1 ≡ chunk_count total → IsLast certificate
+  pub ends : number + 1 ≡ chunk_count total → 1024 * number + length bytes ≡ total
+
+-- for any choice of a blob of `total` bytes
+pub chosen_certified : (choice : Choice) (mode : Mode) (root text : List ℕ) (total : ℕ) → IsAccepted mode root text (chosen_nodes choice total)
+    → (number : ℕ) (bytes : List ℕ) → chunk_in text (places_of (chosen_nodes choice total)) number ≡ Some bytes
+    → IsCertified mode root text (places_of (chosen_nodes choice total)) total number bytes
+chosen_certified choice mode root text total accepted number bytes there =
+    let asked : Asked = record { top = true; value = record { 0 = words_of 8 root } } in
+    let way : Way asked mode text (placed 8 (chosen_nodes choice total)) 0 total number bytes =
+    way-levels total asked choice mode text 8 0 total [] 8 number bytes (omega arith) refl accepted.good there in
+    record {
+      certificate = record { steps = way.steps; holds = Begins-root mode root way.steps (last_chunk_input mode number bytes) way.holds };
+      inputs = way.inputs;
+      eight = way.eight;
+      within = omega (arith, way.within);
+      size = way.size;
+      full = λ less. way.full (omega arith);
+      last = λ same. way.last (omega arith);
+      ends = λ same. let whole : 1024 * number + length bytes ≡ 1024 * 0 + total = way.ends (omega arith) in omega arith;
+    }
+
+-- for a slice
+pub certified : (mode : Mode) (root text : List ℕ) (start len : ℕ) → IsAccepted mode root text (slice_nodes text start len)
+    → (number : ℕ) (bytes : List ℕ) → chunk_in text (places_of (slice_nodes text start len)) number ≡ Some bytes
+    → IsCertified mode root text (places_of (slice_nodes text start len)) (claimed text) number bytes
+certified mode root text start len accepted number bytes there =
+    chosen_certified (of_slice (claimed text) start len) mode root text (claimed text) accepted number bytes there

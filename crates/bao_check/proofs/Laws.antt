@@ -1,0 +1,71 @@
+-- The laws of accepted texts, from what they certify and what a certificate binds.
+use Rattle.std.proofs.Common.{◌≡◌, ℕ, ◌+◌, ◌*◌, ◌==◌, ◌&&◌, None, Some, List, [], ◌∷◌, ◌++◌, length, take, drop, sym, ap, subst, ◌∙◌, arith, inl, inr}
+use Rattle.std.specs.List.{AllByRecursion}
+use Rattle.std.proofs.lemmas.Bool.{cases_Bool}
+use Rattle.b3tree.specs.declared.mode.Mode.{Mode}
+use Rattle.b3tree.specs.Valid.{AreBytes}
+use Rattle.b3tree.proofs.BlockWords.{AreBytes-drop, AreBytes-take}
+use Rattle.bao_text.specs.Cut.{claimed}
+use Rattle.bao_text.specs.Nodes.{Node, size}
+use Rattle.bao_check.specs.declared.fault.CheckFault.{CheckFault}
+use Rattle.bao_check.specs.declared.fault.CheckFault.TheVariants.{Short, Mismatch, Trailing, Memory, Reader}
+use Rattle.bao_check.specs.Accepted.{IsAccepted, IsGood, bytes_at, places_of, slice_nodes}
+use Rattle.bao_check.specs.Certificate.{Certificate}
+use Rattle.bao_check.specs.Faults.{IsFirstBad, IsFirstFault}
+use Rattle.bao_check.specs.Inputs.{blob_inputs, certificate_inputs, text_inputs}
+use Rattle.bao_check.specs.Laws.{AcceptedBinds, WrittenAccepted}
+use Rattle.bao_check.specs.Pieces.{chunk_in}
+use Rattle.bao_check.proofs.Binding.{certificate_binds}
+use Rattle.bao_check.proofs.Certified.{IsCertified, certified}
+use Rattle.bao_check.proofs.Lists.{All-second}
+use Rattle.bao_check.proofs.Naming.{Named-within}
+use Rattle.bao_check.proofs.Written.{combined_accepted, outboard_accepted, slice_accepted}
+
+-- what an accepted text has as a chunk, it certifies
+pub chunk_certificate : (mode : Mode) (root text : List ℕ) (start len number : ℕ) (bytes : List ℕ) → IsAccepted mode root text (slice_nodes text start len)
+    → chunk_in text (places_of (slice_nodes text start len)) number ≡ Some bytes → Certificate mode root number bytes
+chunk_certificate mode root text start len number bytes accepted there = (certified mode root text start len accepted number bytes there).certificate
+
+-- a chunk of a text of bytes is of bytes
+chunk_in-AreBytes : (text : List ℕ) (places : List (ℕ × Node)) (number : ℕ) (bytes : List ℕ) → AreBytes text → chunk_in text places number ≡ Some bytes → AreBytes bytes
+chunk_in-AreBytes text [] number bytes valid there = let none : None ≡ Some bytes = there in cc
+chunk_in-AreBytes text (place ∷ places) number bytes valid there = elim (cases_Bool (place.1.is_chunk && (place.1.number == number))) [
+  | inl hit ↦
+      let found : Some (bytes_at text place) ≡ Some bytes = rw hit at there in
+      let same : bytes_at text place ≡ bytes = cc in
+      subst AreBytes same (AreBytes-take (size place.1) (drop place.0 text) (AreBytes-drop place.0 text valid))
+  | inr miss ↦ chunk_in-AreBytes text places number bytes valid (rw miss at there)
+]
+
+pub accepted_binds : AcceptedBinds
+accepted_binds mode root text blob start len number bytes keyed valid_blob valid_text is accepted there =
+    let places : List (ℕ × Node) = places_of (slice_nodes text start len) in
+    let c : IsCertified mode root text places (claimed text) number bytes = certified mode root text start len accepted number bytes there in
+    elim (certificate_binds mode root blob number bytes c.certificate keyed valid_blob (chunk_in-AreBytes text places number bytes valid_text there) c.eight is) [
+      | inl same ↦ inl (same.0, λ end. sym (c.ends end) ∙ same.1 (c.last end))
+      | inr named ↦ inr (Named-within (blob_inputs mode blob) (certificate_inputs c.certificate) (blob_inputs mode blob) (text_inputs mode text places) (λ x h. h) c.inputs named)
+    ]
+
+pub written_accepted : WrittenAccepted
+written_accepted mode blob keyed bound = (
+  (λ start len. slice_accepted mode blob start len keyed bound),
+  combined_accepted mode blob keyed bound,
+  outboard_accepted mode blob keyed bound,
+)
+
+-- an accepted text has no node that isn't good
+no_first_bad : (mode : Mode) (root text : List ℕ) (nodes : List Node) (place : ℕ × Node) → IsFirstBad mode root text (places_of nodes) place → IsAccepted mode root text nodes → ⊥
+no_first_bad mode root text nodes place bad accepted =
+    let P : ℕ × Node → Type 0 = IsGood mode root text (places_of nodes) in
+    let all : AllByRecursion P (bad.earlier ++ place ∷ bad.later) = subst (AllByRecursion P) bad.split accepted.good in
+    bad.bad (All-second P bad.earlier (place ∷ bad.later) all).0
+
+-- nor a first fault
+pub first_fault-not_accepted : (mode : Mode) (root text : List ℕ) (nodes : List Node) (fault : CheckFault) → IsFirstFault mode root text nodes fault
+    → IsAccepted mode root text nodes → ⊥
+first_fault-not_accepted mode root text nodes (Short at) (inl short) accepted = omega (arith, short.0, accepted.long)
+first_fault-not_accepted mode root text nodes (Short at) (inr bad) accepted = no_first_bad mode root text nodes bad.1.0 bad.1.1 accepted
+first_fault-not_accepted mode root text nodes (Mismatch at) bad accepted = no_first_bad mode root text nodes bad.1.0 bad.1.1 accepted
+first_fault-not_accepted mode root text nodes (Trailing at) trailing accepted = omega (arith, trailing.2, trailing.3, accepted.ends)
+first_fault-not_accepted mode root text nodes Memory none accepted = none
+first_fault-not_accepted mode root text nodes Reader none accepted = none

@@ -1,0 +1,193 @@
+-- Where the nodes of a subtree have a chunk, and how many bytes they are.
+use Rattle.std.proofs.Common.{◌≡◌, ◌≢◌, ℕ, zero, suc, ◌+◌, ◌-◌, ◌*◌, ◌/◌, ◌<◌, ◌≤◌, List, [], ◌∷◌, ◌++◌, length, take, drop, Bool, true, false, None, Some, Option, refl, sym, ap, subst, ◌∙◌, arith, inl, inr, ◌⊎◌}
+use Rattle.std.specs.List.{AllByRecursion}
+use Rattle.std.specs.Option.{option_map}
+use Rattle.std.specs.Prelude.{◌&&◌, ◌==◌}
+use Rattle.std.proofs.lemmas.Bool.{cases_Bool, cases_lt}
+use Rattle.std.proofs.lemmas.Bool.Decides.{eqb_tells}
+use Rattle.b3tree.specs.Tree.{left_len}
+use Rattle.bao_text.specs.declared.choice.Choice.{Choice}
+use Rattle.bao_text.specs.Choice.{chunk_count, wants}
+use Rattle.bao_text.specs.Nodes.{Node, Side, left, placed, right, size, subtree_nodes, subtree_size}
+use Rattle.bao_text.proofs.SubtreeNodes.{parent_node, subtree_nodes-leaf, subtree_nodes-parent, subtree_nodes-unwanted}
+use Rattle.bao_text.proofs.SubtreeText.{Parts, left_len-Parts}
+use Rattle.bao_check.specs.declared.locate.Span.{Span}
+use Rattle.bao_check.specs.Accepted.{bytes_at}
+use Rattle.bao_check.specs.Pieces.{chunk_in}
+use Rattle.bao_check.specs.Spans.{chunk_place}
+use Rattle.bao_check.proofs.Lists.{All-append, All-from_members, All-member, nodes_size}
+use Rattle.bao_check.proofs.Parts.{placed-All, placed-parent}
+use Rattle.bao_check.proofs.Walking.{chunk_node, leaf_nodes, leaf_without}
+
+-- the nodes' chunk numbers lie in the subtree
+abbrev pub IsWithin : ℕ → ℕ → Node → Type 0
+IsWithin number count node = (number ≤ node.number) × (node.number < number + count)
+
+numbers_small : (choice : Choice) (number n : ℕ) (sides : List Side) (source : ℕ) → n ≤ 1024
+    → AllByRecursion (IsWithin number (chunk_count n)) (subtree_nodes choice number n sides source)
+numbers_small choice number n sides source one =
+    let P : List Node → Type 0 = AllByRecursion (IsWithin number (chunk_count n)) in
+    elim (cases_Bool (wants choice (1024 * number) n)) [
+      | inr skipped ↦ subst P (sym (subtree_nodes-unwanted choice number n sides source skipped)) tt
+      | inl wanted ↦
+          elim (cases_Bool choice.chunks) [
+            | inl there ↦ subst P (sym (leaf_nodes choice number n sides source wanted one there)) ((omega arith, omega arith), tt)
+            | inr gone ↦ subst P (sym (leaf_without choice number n sides source wanted one gone)) tt
+          ]
+    ]
+
+-- the chunks of the two parts
+count_left : (n : ℕ) → 1024 < n → chunk_count (left_len n) ≡ left_len n / 1024
+count_left n more = let parts : Parts n (left_len n) = left_len-Parts n more in omega (arith, parts.whole, parts.some)
+
+count_parts : (n : ℕ) → 1024 < n → chunk_count n ≡ left_len n / 1024 + chunk_count (n - left_len n)
+count_parts n more = let parts : Parts n (left_len n) = left_len-Parts n more in omega (arith, parts.whole, parts.some, parts.below)
+
+numbers_levels : (levels : ℕ) (choice : Choice) (number n : ℕ) (sides : List Side) (source : ℕ) → n ≤ 1024 * levels + 1024
+    → AllByRecursion (IsWithin number (chunk_count n)) (subtree_nodes choice number n sides source)
+numbers_levels zero choice number n sides source hn = numbers_small choice number n sides source (omega arith)
+numbers_levels (suc levels) choice number n sides source hn = elim (cases_lt 1024 n) [
+  | inr one ↦ numbers_small choice number n sides source one
+  | inl more ↦
+      let P : List Node → Type 0 = AllByRecursion (IsWithin number (chunk_count n)) in
+      elim (cases_Bool (wants choice (1024 * number) n)) [
+        | inr skipped ↦ subst P (sym (subtree_nodes-unwanted choice number n sides source skipped)) tt
+        | inl wanted ↦
+            let l : ℕ = left_len n in
+            let parts : Parts n l = left_len-Parts n more in
+            let near : List Node = subtree_nodes choice number l (sides ++ left ∷ []) (source + 64) in
+            let far : List Node = subtree_nodes choice (number + l / 1024) (n - l) (sides ++ right ∷ []) (source + 64 + subtree_size l) in
+            let in_near = numbers_levels levels choice number l (sides ++ left ∷ []) (source + 64) (omega (arith, parts.whole, parts.below)) in
+            let in_far = numbers_levels levels choice (number + l / 1024) (n - l) (sides ++ right ∷ []) (source + 64 + subtree_size l) (omega (arith, parts.some)) in
+            let near_count : chunk_count l ≡ l / 1024 = count_left n more in
+            let all : chunk_count n ≡ l / 1024 + chunk_count (n - l) = count_parts n more in
+            let some : 0 < chunk_count n = omega arith in
+            let far_some : 0 < chunk_count (n - l) = omega arith in
+            let near_all = All-from_members (IsWithin number (chunk_count n)) near
+            (λ x h. let w : IsWithin number (chunk_count l) x = All-member (IsWithin number (chunk_count l)) near in_near x h in
+                let low : number ≤ x.number = w.0 in let high : x.number < number + chunk_count l = w.1 in (low, omega arith)) in
+            let far_all = All-from_members (IsWithin number (chunk_count n)) far
+            (λ x h. let w : IsWithin (number + l / 1024) (chunk_count (n - l)) x = All-member (IsWithin (number + l / 1024) (chunk_count (n - l))) far in_far x h in
+                let low : number + l / 1024 ≤ x.number = w.0 in let high : x.number < number + l / 1024 + chunk_count (n - l) = w.1 in (omega arith, omega arith)) in
+            subst P (sym (subtree_nodes-parent choice number n sides source wanted more))
+            ((omega arith, omega arith), All-append (IsWithin number (chunk_count n)) near far near_all far_all)
+      ]
+]
+
+pub numbers_within : (choice : Choice) (number n : ℕ) (sides : List Side) (source : ℕ) → AllByRecursion (IsWithin number (chunk_count n)) (subtree_nodes choice number n sides source)
+numbers_within choice number n sides source = numbers_levels n choice number n sides source (omega arith)
+
+-- a chunk that isn't among the places
+not_same : (a b : ℕ) → a ≢ b → (a == b) ≡ false
+not_same a b differ = elim (eqb_tells a b) [
+  | inl same ↦ absurd (differ same.1)
+  | inr other ↦ other.0
+]
+
+same_is : (a : ℕ) → (a == a) ≡ true
+same_is a = elim (eqb_tells a a) [
+  | inl same ↦ same.0
+  | inr other ↦ absurd (other.1 refl)
+]
+
+and_false : (b : Bool) → (b && false) ≡ false
+and_false true = refl
+and_false false = refl
+
+skip_place : (place : ℕ × Node) (places : List (ℕ × Node)) (i : ℕ) → place.1.number ≢ i → chunk_place (place ∷ places) i ≡ chunk_place places i
+skip_place place places i differ = rw (not_same place.1.number i differ, and_false place.1.is_chunk) refl
+
+pub chunk_place-none : (places : List (ℕ × Node)) (i : ℕ) → AllByRecursion (λ place. place.1.number ≢ i) places → chunk_place places i ≡ None
+chunk_place-none [] i all = refl
+chunk_place-none (place ∷ places) i all = skip_place place places i all.0 ∙ chunk_place-none places i all.1
+
+pub chunk_place-first : (xs ys : List (ℕ × Node)) (i : ℕ) → AllByRecursion (λ place. place.1.number ≢ i) ys → chunk_place (xs ++ ys) i ≡ chunk_place xs i
+chunk_place-first [] ys i all = chunk_place-none ys i all
+chunk_place-first (x ∷ xs) ys i all = elim (cases_Bool (x.1.is_chunk && (x.1.number == i))) [
+  | inl here ↦ rw here refl
+  | inr other ↦ rw other (chunk_place-first xs ys i all)
+]
+
+pub chunk_place-second : (xs ys : List (ℕ × Node)) (i : ℕ) → AllByRecursion (λ place. place.1.number ≢ i) xs → chunk_place (xs ++ ys) i ≡ chunk_place ys i
+chunk_place-second [] ys i all = refl
+chunk_place-second (x ∷ xs) ys i all = skip_place x (xs ++ ys) i all.0 ∙ chunk_place-second xs ys i all.1
+
+-- chunk i in a subtree of more than one chunk: in its left part, or in its right part
+others_left : (choice : Choice) (number n i at source : ℕ) (sides : List Side) → number + chunk_count n ≤ i
+    → AllByRecursion (λ place. place.1.number ≢ i) (placed at (subtree_nodes choice number n sides source))
+others_left choice number n i at source sides beyond =
+    placed-All (λ node. node.number ≢ i) at (subtree_nodes choice number n sides source)
+    (All-from_members (λ node. node.number ≢ i) (subtree_nodes choice number n sides source)
+    (λ x h same.
+        let w : IsWithin number (chunk_count n) x = All-member (IsWithin number (chunk_count n)) (subtree_nodes choice number n sides source) (numbers_within choice number n sides source) x h in
+        let high : x.number < number + chunk_count n = w.1 in absurd (omega arith)))
+
+others_right : (choice : Choice) (number n i at source : ℕ) (sides : List Side) → i < number
+    → AllByRecursion (λ place. place.1.number ≢ i) (placed at (subtree_nodes choice number n sides source))
+others_right choice number n i at source sides before =
+    placed-All (λ node. node.number ≢ i) at (subtree_nodes choice number n sides source)
+    (All-from_members (λ node. node.number ≢ i) (subtree_nodes choice number n sides source)
+    (λ x h same.
+        let w : IsWithin number (chunk_count n) x = All-member (IsWithin number (chunk_count n)) (subtree_nodes choice number n sides source) (numbers_within choice number n sides source) x h in
+        let low : number ≤ x.number = w.0 in absurd (omega arith)))
+
+module _ (choice : Choice) (number n : ℕ) (sides : List Side) (source at i : ℕ) (wanted : wants choice (1024 * number) n ≡ true) (more : 1024 < n) where
+  abbrev near_nodes : List Node
+  near_nodes = subtree_nodes choice number (left_len n) (sides ++ left ∷ []) (source + 64)
+
+  abbrev far_nodes : List Node
+  far_nodes = subtree_nodes choice (number + left_len n / 1024) (n - left_len n) (sides ++ right ∷ []) (source + 64 + subtree_size (left_len n))
+
+  pub chunk_place-near : i < number + left_len n / 1024 → chunk_place (placed at (subtree_nodes choice number n sides source)) i ≡ chunk_place (placed (at + 64) near_nodes) i
+  chunk_place-near before =
+      let far_at : ℕ = at + 64 + nodes_size near_nodes in
+      ap (λ (ps : List (ℕ × Node)). chunk_place ps i) (placed-parent choice number n sides source at wanted more)
+      ∙ chunk_place-first (placed (at + 64) near_nodes) (placed far_at far_nodes) i
+      (others_right choice (number + left_len n / 1024) (n - left_len n) i far_at (source + 64 + subtree_size (left_len n)) (sides ++ right ∷ []) before)
+
+  pub chunk_place-far : number + left_len n / 1024 ≤ i
+      → chunk_place (placed at (subtree_nodes choice number n sides source)) i ≡ chunk_place (placed (at + 64 + nodes_size near_nodes) far_nodes) i
+  chunk_place-far after =
+      let far_at : ℕ = at + 64 + nodes_size near_nodes in
+      let count : chunk_count (left_len n) ≡ left_len n / 1024 = count_left n more in
+      ap (λ (ps : List (ℕ × Node)). chunk_place ps i) (placed-parent choice number n sides source at wanted more)
+      ∙ chunk_place-second (placed (at + 64) near_nodes) (placed far_at far_nodes) i
+      (others_left choice number (left_len n) i (at + 64) (source + 64) (sides ++ left ∷ []) (omega arith))
+
+pub chunk_place-unwanted : (choice : Choice) (number n : ℕ) (sides : List Side) (source at i : ℕ) → wants choice (1024 * number) n ≡ false
+    → chunk_place (placed at (subtree_nodes choice number n sides source)) i ≡ None
+chunk_place-unwanted choice number n sides source at i skipped =
+    ap (λ (nodes : List Node). chunk_place (placed at nodes) i) (subtree_nodes-unwanted choice number n sides source skipped)
+
+pub chunk_place-leaf : (choice : Choice) (number n : ℕ) (sides : List Side) (source at : ℕ) → wants choice (1024 * number) n ≡ true → n ≤ 1024 → choice.chunks ≡ true
+    → chunk_place (placed at (subtree_nodes choice number n sides source)) number ≡ Some (record { at = at; len = n })
+chunk_place-leaf choice number n sides source at wanted one there =
+    ap (λ (nodes : List Node). chunk_place (placed at nodes) number) (leaf_nodes choice number n sides source wanted one there) ∙ rw (same_is number) refl
+
+pub chunk_place-other : (choice : Choice) (number n : ℕ) (sides : List Side) (source at i : ℕ) → n ≤ 1024 → number ≢ i
+    → chunk_place (placed at (subtree_nodes choice number n sides source)) i ≡ None
+chunk_place-other choice number n sides source at i one differ =
+    chunk_place-none (placed at (subtree_nodes choice number n sides source)) i
+    (placed-All (λ node. node.number ≢ i) at (subtree_nodes choice number n sides source)
+    (All-from_members (λ node. node.number ≢ i) (subtree_nodes choice number n sides source)
+    (λ x h same.
+        let w : IsWithin number (chunk_count n) x = All-member (IsWithin number (chunk_count n)) (subtree_nodes choice number n sides source) (numbers_within choice number n sides source) x h in
+        let low : number ≤ x.number = w.0 in let high : x.number < number + chunk_count n = w.1 in
+        differ (omega arith))))
+
+pub chunk_place-without : (choice : Choice) (number n : ℕ) (sides : List Side) (source at i : ℕ) → wants choice (1024 * number) n ≡ true → n ≤ 1024 → choice.chunks ≡ false
+    → chunk_place (placed at (subtree_nodes choice number n sides source)) i ≡ None
+chunk_place-without choice number n sides source at i wanted one gone =
+    ap (λ (nodes : List Node). chunk_place (placed at nodes) i) (leaf_without choice number n sides source wanted one gone)
+
+-- the bytes of a chunk are those at its place
+pub chunk_in-place : (text : List ℕ) (places : List (ℕ × Node)) (i : ℕ) → chunk_in text places i ≡ option_map (λ span. take span.len (drop span.at text)) (chunk_place places i)
+chunk_in-place text [] i = refl
+chunk_in-place text (place ∷ places) i = elim (cases_Bool place.1.is_chunk) [
+  | inr other ↦ rw other (chunk_in-place text places i)
+  | inl chunk ↦
+      elim (cases_Bool (place.1.number == i)) [
+        | inl here ↦ rw (chunk, here) refl
+        | inr differ ↦ rw (chunk, differ) (chunk_in-place text places i)
+      ]
+]

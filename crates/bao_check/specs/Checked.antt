@@ -1,0 +1,37 @@
+-- What a checked piece is of.
+use Rattle.std.specs.Prelude.{◌≡◌, ℕ, List}
+use Rattle.b3tree.specs.declared.mode.Mode.{Mode}
+use Rattle.bao_text.specs.Cut.{claimed}
+use Rattle.bao_text.specs.Nodes.{Node}
+use Rattle.bao_check.specs.declared.checked.Checked.{Checked}
+use Rattle.bao_check.specs.Accepted.{places_of, slice_nodes}
+
+abbrev pub piece_mode : Checked → Mode
+piece_mode piece = piece.mode
+
+-- the root under which its text was accepted, 32 bytes
+abbrev pub piece_root : Checked → List ℕ
+piece_root piece = piece.root.0
+
+abbrev pub piece_text : Checked → List ℕ
+piece_text piece = piece.text.now
+
+-- the nodes of its text, by the slice that was asked for and the length that it claims
+abbrev pub piece_nodes : Checked → List Node
+piece_nodes piece = slice_nodes piece.text.now piece.start piece.len
+
+-- with their offsets
+abbrev pub piece_places : Checked → List (ℕ × Node)
+piece_places piece = places_of (piece_nodes piece)
+
+-- the length that it claims
+abbrev pub piece_claimed : Checked → ℕ
+piece_claimed piece = claimed piece.text.now
+
+-- the piece is this text, accepted as the slice (start, len) under the root in the mode
+pub record IsPiece (piece : Checked) (mode : Mode) (root : List ℕ) (start len : ℕ) (text : List ℕ) : Type 0 where
+  pub mode_is : piece.mode ≡ mode
+  pub root_is : piece.root.0 ≡ root
+  pub start_is : piece.start ≡ start
+  pub len_is : piece.len ≡ len
+  pub text_is : piece.text.now ≡ text

@@ -1,0 +1,71 @@
+-- The compressions that a blob, a text and a certificate are made of, and what it is to name two of them
+-- with one chaining value.
+use Rattle.std.specs.Prelude.{◌≡◌, ◌≢◌, ℕ, zero, suc, ◌+◌, ◌-◌, ◌/◌, List, [], ◌∷◌, ◌++◌, length, map, take, drop, nat_le, Contains, Bool, true, false, if◌then◌else◌}
+use Rattle.std.specs.List.{flat_map, range_with_len}
+use Rattle.b3word.specs.declared.input.Input.{Input}
+use Rattle.b3word.specs.Compression.{cv}
+use Rattle.b3tree.specs.declared.mode.Mode.{Mode}
+use Rattle.b3tree.specs.Chunk.{block_count, chunk_input, last_chunk_input}
+use Rattle.b3tree.specs.Tree.{left_len, parent_input, subtree_cv}
+use Rattle.b3tree.specs.Hashing.{rooted}
+use Rattle.bao_text.specs.Nodes.{Node, Side, left, right}
+use Rattle.bao_check.specs.Accepted.{bytes_at, part_value}
+use Rattle.bao_check.specs.Certificate.{Certificate, Step, step_input}
+
+-- the input, with ROOT at the top
+abbrev pub marked : Bool → Input → Input
+marked top x = if top then rooted x else x
+
+-- all inputs of a chunk, the last of them marked
+abbrev pub whole_chunk : Bool → Mode → ℕ → List ℕ → List Input
+whole_chunk top mode number s =
+    map (chunk_input mode number s) (range_with_len 0 (block_count (length s) - 1)) ++ marked top (last_chunk_input mode number s) ∷ []
+
+-- those of the chunks and parents of the tree over s, whose first chunk has the number `first`, in a
+-- tree of at most so many levels of parents
+unfoldable pub inputs_within : ℕ → Bool → Mode → ℕ → List ℕ → List Input
+inputs_within zero top mode first s = whole_chunk top mode first s
+inputs_within (suc levels) top mode first s =
+    let l = left_len (length s) in
+    if nat_le (length s) 1024 then whole_chunk top mode first s
+    else marked top (parent_input mode (subtree_cv mode first (take l s)) (subtree_cv mode (first + l / 1024) (drop l s)))
+    ∷ (inputs_within levels false mode first (take l s) ++ inputs_within levels false mode (first + l / 1024) (drop l s))
+
+-- the inputs of a blob: each chunk's whole list and each parent's, with ROOT on the one at the top
+unfoldable pub blob_inputs : Mode → List ℕ → List Input
+blob_inputs mode blob = inputs_within (length blob / 1024) true mode 0 blob
+
+-- whether a node is the top one
+abbrev pub is_top : List Side → Bool
+is_top [] = true
+is_top (side ∷ sides) = false
+
+-- the inputs of the node at a place of a text
+abbrev pub place_inputs : Mode → List ℕ → ℕ × Node → List Input
+place_inputs mode text place =
+    if place.1.is_chunk then whole_chunk (is_top place.1.sides) mode place.1.number (bytes_at text place)
+    else marked (is_top place.1.sides) (parent_input mode (part_value left (bytes_at text place)) (part_value right (bytes_at text place))) ∷ []
+
+-- the inputs of a text: each chunk's whole list and each parent's, the first node's with ROOT
+abbrev pub text_inputs : Mode → List ℕ → List (ℕ × Node) → List Input
+text_inputs mode text places = flat_map (place_inputs mode text) places
+
+-- the inputs of a way down to a chunk: each parent's, and then the chunk's whole list, the top one marked
+abbrev pub way_inputs : Bool → Mode → List Step → ℕ → List ℕ → List Input
+way_inputs top mode [] number bytes = whole_chunk top mode number bytes
+way_inputs top mode (step ∷ steps) number bytes = marked top (step_input mode step) ∷ way_inputs false mode steps number bytes
+
+-- the inputs of a certificate, the top one with ROOT
+abbrev pub certificate_inputs : {mode : Mode} {root : List ℕ} {number : ℕ} {bytes : List ℕ} → Certificate mode root number bytes → List Input
+certificate_inputs {mode = mode} {number = number} {bytes = bytes} certificate = way_inputs true mode certificate.steps number bytes
+
+-- x of the one list and y of the other differ, and have one chaining value
+pub record Names (ours theirs : List Input) (x y : Input) : Type 0 where
+  pub our : Contains ours x
+  pub their : Contains theirs y
+  pub differ : x ≢ y
+  pub same : cv x ≡ cv y
+
+-- a pair is named from a blob and a text with these nodes
+abbrev pub NamesPair : Mode → List ℕ → List ℕ → List (ℕ × Node) → Type 0
+NamesPair mode blob text places = (x : Input) × ((y : Input) × Names (blob_inputs mode blob) (text_inputs mode text places) x y)

@@ -1,0 +1,35 @@
+-- The laws of accepted texts.
+use Rattle.std.specs.Prelude.{◌≡◌, ℕ, ◌+◌, ◌-◌, ◌^◌, ◌<◌, ◌⊎◌, List, length, Some}
+use Rattle.b3tree.specs.declared.mode.Mode.{Mode}
+use Rattle.b3tree.specs.Hashing.{hash}
+use Rattle.b3tree.specs.Valid.{AreBytes, IsKeyed}
+use Rattle.bao_text.specs.Choice.{chunk_count}
+use Rattle.bao_text.specs.Cut.{claimed}
+use Rattle.bao_text.specs.Texts.{combined_text, outboard_text, slice_text}
+use Rattle.bao_check.specs.Accepted.{IsAccepted, outboard_nodes, places_of, slice_nodes}
+use Rattle.bao_check.specs.Inputs.{NamesPair}
+use Rattle.bao_check.specs.Pieces.{chunk_in, chunk_of}
+
+-- The bytes are the blob's chunk of that number, and where it is the last of the length that the text
+-- claims, that length is the blob's: or a pair of inputs is named, one of the blob's and one of the
+-- text's, that differ and have one chaining value.
+abbrev pub Binds : Mode → List ℕ → ℕ → ℕ → List ℕ → ℕ → List ℕ → Type 0
+Binds mode text start len blob number bytes =
+    ((chunk_of blob number ≡ Some bytes) × (number + 1 ≡ chunk_count (claimed text) → claimed text ≡ length blob))
+    ⊎ NamesPair mode blob text (places_of (slice_nodes text start len))
+
+-- For each text that is accepted as a slice under a root, and each blob with that root: each chunk that
+-- the text has is the blob's, or a pair of inputs is named.
+abbrev pub AcceptedBinds : Type 0
+AcceptedBinds = (mode : Mode) (root text blob : List ℕ) (start len number : ℕ) (bytes : List ℕ)
+    → IsKeyed mode → AreBytes blob → AreBytes text → hash mode blob ≡ root
+    → IsAccepted mode root text (slice_nodes text start len) → chunk_in text (places_of (slice_nodes text start len)) number ≡ Some bytes
+    → Binds mode text start len blob number bytes
+
+-- For each blob of less than 2 ^ 64 bytes: each slice of it is accepted under its hash, so is its combined
+-- encoding, as the slice of everything, and so is its outboard encoding.
+abbrev pub WrittenAccepted : Type 0
+WrittenAccepted = (mode : Mode) (blob : List ℕ) → IsKeyed mode → length blob < 2 ^ 64
+    → ((start len : ℕ) → IsAccepted mode (hash mode blob) (slice_text mode blob start len) (slice_nodes (slice_text mode blob start len) start len))
+    × IsAccepted mode (hash mode blob) (combined_text mode blob) (slice_nodes (combined_text mode blob) 0 (2 ^ 64 - 1))
+    × IsAccepted mode (hash mode blob) (outboard_text mode blob) (outboard_nodes (outboard_text mode blob))

@@ -1,0 +1,16 @@
+pub mod Accepted
+pub mod AcceptedProp
+pub mod Certificate
+pub mod Inputs
+pub mod Faults
+pub mod Pieces
+pub mod Walk
+pub mod Forms
+pub mod Spans
+pub mod Checked
+pub mod Sources
+pub mod Laws
+pub use Rattle.bao_text.specs.Choice
+pub use Rattle.bao_text.specs.Nodes
+pub use Rattle.bao_text.specs.Texts
+pub use Rattle.bao_text.specs.Cut

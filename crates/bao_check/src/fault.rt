@@ -1,0 +1,40 @@
+ghost use Rattle.std.specs.Prelude.{◌≡◌};
+
+use thiserror::Error;
+
+/// Why a text was not accepted: its first fault, in the order of the text. `at` is a number of bytes.
+#[derive(Clone, Copy, Debug, PartialEq, Eq, Error)]
+pub enum CheckFault {
+    /// The text ends within the node that begins at `at`, or at 0 within its length. Number 501.
+    #[error("501 short at {at}")]
+    Short { at: u64 },
+    /// The node that begins at `at` hasn't the value that its place asks for. Number 502.
+    #[error("502 mismatch at {at}")]
+    Mismatch { at: u64 },
+    /// All nodes are good, and something follows the last, which ends at `at`. Number 503.
+    #[error("503 trailing at {at}")]
+    Trailing { at: u64 },
+    /// There was no memory for a text that is read. Number 504.
+    #[error("504 memory")]
+    Memory,
+    /// A read answered a fault. Number 505.
+    #[error("505 reader")]
+    Reader,
+}
+
+impl CheckFault {
+    ghost use Rattle.bao_check.specs.Faults.{number_of};
+
+    /// The fault's number: 501 to 505.
+    pub fn code(&self) -> u16
+        ensures { result ≡ number_of self.now }
+    {
+        match self {
+            CheckFault::Short { .. } => 501,
+            CheckFault::Mismatch { .. } => 502,
+            CheckFault::Trailing { .. } => 503,
+            CheckFault::Memory => 504,
+            CheckFault::Reader => 505,
+        }
+    }
+}

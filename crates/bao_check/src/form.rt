@@ -1,0 +1,26 @@
+ghost use Rattle.std.specs.Prelude.{◌≡◌};
+
+use bao_text::Choice;
+
+/// Which text is checked.
+#[derive(Clone, Copy, Debug)]
+pub(crate) enum Form {
+    /// The slice of `len` bytes from byte `start` on.
+    Slice { start: u64, len: u64 },
+    /// The outboard encoding.
+    Outboard,
+}
+
+impl Form {
+    ghost use Rattle.bao_check.specs.Forms.{choice_of};
+
+    // What a text of this form is of, over a blob of `total` bytes.
+    pub(crate) fn choice(&self, total: u64) -> Choice
+        ensures { result ≡ choice_of self.now total }
+    {
+        match self {
+            Form::Slice { start, len } => Choice::of_slice(total, *start, *len),
+            Form::Outboard => Choice::of_outboard(total),
+        }
+    }
+}

@@ -1,0 +1,182 @@
+ghost use Rattle.std.specs.Prelude.{◌≡◌, ℕ, List, [], ◌+◌, ◌-◌, ◌*◌, ◌^◌, ◌≤◌, length, drop, IfErr, IfOk, OnOk};
+ghost use Rattle.bao_text.specs.Nodes.{Side, left, right, subtree_nodes};
+ghost use Rattle.bao_check.specs.Accepted.{part_value};
+ghost use Rattle.bao_check.specs.Walk.{Grows, IsCutShort, IsRefused, Meets, Passes, PassesText, Stops, StopsText, Takes, chunk_taken, parent_taken};
+ghost use Rattle.bao_check.specs.Forms.{form_nodes};
+ghost use Rattle.bao_text.specs.Cut.{claimed};
+
+use crate::asked::{Asked, meets};
+use crate::fault::CheckFault;
+use crate::form::Form;
+use crate::source::Source;
+use b3tree::{CHUNK_LEN, Cv, Hash, Mode, left_len, parent_input, top_input};
+use bao_text::Choice;
+
+// The bytes of the length at a text's start.
+const LENGTH_LEN: usize = 8;
+
+const PARENT_LEN: usize = 64;
+
+const CV_LEN: usize = 32;
+
+// Takes the `size` bytes of the node that comes next.
+fn take_node<S: Source>(source: &mut S, size: usize) -> Result<(), CheckFault>
+    requires { size ≤ 1024 }
+    ensures same_reference { S.name source.new ≡ S.name source.old }
+    ensures takes { Takes size (S.taken source.old) (S.taken source.new) (S.ahead source.old) (S.ahead source.new) }
+    ensures ok { OnOk result (length (S.taken source.new) ≡ length (S.taken source.old) + size) }
+    ensures err { IfErr result (λ fault. IsCutShort S.fails size (S.taken source.old) (S.taken source.new) (S.ahead source.new) fault) }
+{
+    let at = source.taken().len() as u64;
+    if source.take(size)? {
+        Ok(())
+    } else {
+        Err(CheckFault::Short { at })
+    }
+}
+
+// Takes the chunk that comes next, with the number `number` and `size` bytes, and verifies it.
+fn check_chunk<S: Source>(
+    source: &mut S,
+    mode: &Mode,
+    asked: &Asked,
+    number: u64,
+    size: usize,
+) -> Result<(), CheckFault>
+    requires chunk { size ≤ 1024 }
+    requires range { 1024 * number + size ≤ 2 ^ 64 - 1 }
+    ensures same_reference { S.name source.new ≡ S.name source.old }
+    ensures takes { Takes size (S.taken source.old) (S.taken source.new) (S.ahead source.old) (S.ahead source.new) }
+    ensures ok { OnOk result (length (S.taken source.new) ≡ length (S.taken source.old) + size) }
+    ensures meets { OnOk result (Meets asked.now (chunk_taken mode.now number (S.taken source.old) (S.taken source.new))) }
+    ensures err { IfErr result (λ fault. IsRefused S.fails asked.now (chunk_taken mode.now number (S.taken source.old) (S.taken source.new)) size
+        (S.taken source.old) (S.taken source.new) (S.ahead source.new) fault) }
+{
+    let at = source.taken().len();
+    take_node(source, size)?;
+    let input = top_input(mode, number, &source.taken()[at..]);
+    if meets(asked, &input) {
+        Ok(())
+    } else {
+        Err(CheckFault::Mismatch { at: at as u64 })
+    }
+}
+
+// The chaining values that a parent's 64 bytes have for its left and its right part.
+#[tactic(auto, unfolding(crate::specs::Accepted::part_value))]
+pub(crate) fn part_values(parent: &[u8]) -> (Cv, Cv)
+    requires { length parent.now ≡ 64 }
+    ensures left { result.0.0 ≡ part_value left parent.now }
+    ensures right { result.1.0 ≡ part_value right parent.now }
+{
+    let (left, right) = parent.split_at(CV_LEN);
+    (Cv::from_bytes(left), Cv::from_bytes(right))
+}
+
+// Takes the parent that comes next and verifies it, and answers the values of its left and right part.
+fn check_parent<S: Source>(
+    source: &mut S,
+    mode: &Mode,
+    asked: &Asked,
+) -> Result<(Cv, Cv), CheckFault>
+    ensures same_reference { S.name source.new ≡ S.name source.old }
+    ensures takes { Takes 64 (S.taken source.old) (S.taken source.new) (S.ahead source.old) (S.ahead source.new) }
+    ensures ok { OnOk result (length (S.taken source.new) ≡ length (S.taken source.old) + 64) }
+    ensures meets { OnOk result (Meets asked.now (parent_taken mode.now (S.taken source.old) (S.taken source.new))) }
+    ensures left { IfOk result (λ r. r.0.0 ≡ part_value left (drop (length (S.taken source.old)) (S.taken source.new))) }
+    ensures right { IfOk result (λ r. r.1.0 ≡ part_value right (drop (length (S.taken source.old)) (S.taken source.new))) }
+    ensures err { IfErr result (λ fault. IsRefused S.fails asked.now (parent_taken mode.now (S.taken source.old) (S.taken source.new)) 64
+        (S.taken source.old) (S.taken source.new) (S.ahead source.new) fault) }
+{
+    let at = source.taken().len();
+    take_node(source, PARENT_LEN)?;
+    let (left, right) = part_values(&source.taken()[at..]);
+    if meets(asked, &parent_input(mode, &left, &right)) {
+        Ok((left, right))
+    } else {
+        Err(CheckFault::Mismatch { at: at as u64 })
+    }
+}
+
+// Takes the wanted nodes of the subtree over `n` bytes from chunk `number` on, and verifies each before
+// the next is taken.
+pub(crate) fn check_subtree<S: Source>(
+    source: &mut S,
+    choice: &Choice,
+    mode: &Mode,
+    asked: &Asked,
+    number: u64,
+    n: u64,
+) -> Result<(), CheckFault>
+    requires { 1024 * number + n ≤ 2 ^ 64 - 1 }
+    ensures same_reference { S.name source.new ≡ S.name source.old }
+    ensures grows { Grows (S.taken source.old) (S.taken source.new) (S.ahead source.old) (S.ahead source.new) }
+    ensures ok { (sides : List Side) (from : ℕ) → OnOk result (Passes asked.now sides mode.now (S.taken source.new) (length (S.taken source.old))
+        (subtree_nodes choice.now number n sides from)) }
+    ensures err { (sides : List Side) (from : ℕ) → IfErr result (λ fault. Stops S.fails asked.now sides mode.now (S.taken source.new) (S.ahead source.new)
+        (length (S.taken source.old)) (subtree_nodes choice.now number n sides from) fault) }
+{
+    if !choice.wants(CHUNK_LEN as u64 * number, n) {
+        return Ok(());
+    }
+    if n <= CHUNK_LEN as u64 {
+        return if choice.has_chunks() {
+            check_chunk(source, mode, asked, number, n as usize)
+        } else {
+            Ok(())
+        };
+    }
+    let (left, right) = check_parent(source, mode, asked)?;
+    let left_len = left_len(n);
+    let left_asked = Asked {
+        top: false,
+        value: left,
+    };
+    check_subtree(source, choice, mode, &left_asked, number, left_len)?;
+    let right_asked = Asked {
+        top: false,
+        value: right,
+    };
+    check_subtree(
+        source,
+        choice,
+        mode,
+        &right_asked,
+        number + left_len / CHUNK_LEN as u64,
+        n - left_len,
+    )
+}
+
+// The length that the first 8 bytes of a text claim.
+pub(crate) fn claimed(text: &[u8]) -> u64
+    requires { 8 ≤ length text.now }
+    ensures { result ≡ claimed text.now }
+{
+    u64::from_le_bytes([
+        text[0], text[1], text[2], text[3], text[4], text[5], text[6], text[7],
+    ])
+}
+
+// Takes a text of the form from its start, and verifies each node before the next is taken.
+pub(crate) fn check_text<S: Source>(
+    source: &mut S,
+    mode: &Mode,
+    root: &Hash,
+    form: &Form,
+) -> Result<(), CheckFault>
+    requires { S.taken source.old ≡ [] }
+    ensures same_reference { S.name source.new ≡ S.name source.old }
+    ensures grows { Grows (S.taken source.old) (S.taken source.new) (S.ahead source.old) (S.ahead source.new) }
+    ensures ok { OnOk result (PassesText mode.now root.now.0 (S.taken source.new) (form_nodes form.now (S.taken source.new))) }
+    ensures err { IfErr result (λ fault. StopsText S.fails mode.now root.now.0 (S.taken source.new) (S.ahead source.new)
+        (form_nodes form.now (S.taken source.new)) fault) }
+{
+    take_node(source, LENGTH_LEN)?;
+    let total = claimed(source.taken());
+    let choice = form.choice(total);
+    let asked = Asked {
+        top: true,
+        value: Cv::from_bytes(&root.0),
+    };
+    check_subtree(source, &choice, mode, &asked, 0, total)
+}
