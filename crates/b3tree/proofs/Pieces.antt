@@ -1,5 +1,5 @@
 -- Pieces of an input: their words, their blocks, and the subtrees over them.
-use Rattle.std.proofs.Common.{◌≡◌, ℕ, zero, suc, ◌+◌, ◌-◌, ◌*◌, ◌/◌, ◌^◌, ◌<◌, ◌≤◌, List, [], ◌∷◌, ◌++◌, length, take, drop, replicate, slice_index, slice_index_or, refl, sym, ap, ◌∙◌, arith, length-drop}
+use Rattle.std.proofs.Common.{◌≡◌, ℕ, zero, suc, ◌+◌, ◌-◌, ◌*◌, ◌/◌, ◌^◌, ◌<◌, ◌≤◌, List, [], ◌∷◌, ◌++◌, length, take, drop, replicate, slice_index, refl, sym, ap, ◌∙◌, arith, length-drop}
 use Rattle.std.specs.Int.{w32, from_le_bytes, IsPowerOfTwo}
 use Rattle.std.proofs.lemmas.List.{append-nil, drop-drop, drop-take, get_or-drop, get_or-take, length-take-le, take-take, take_all}
 use Rattle.std.proofs.Math.Seq.{take-add}
@@ -113,25 +113,25 @@ paired mode first s l r m a b n power fits place twice el er =
     ∙ valued_parent mode (first + a) s (1024 * a) m power (omega arith)
     ∙ ap (λ (k : ℕ). value_at mode first s k a) (sym twice)
 
--- eight subtrees of n chunks side by side
-pub joined_eight : (mode : Mode) (first : ℕ) (s : List ℕ) (n : ℕ) (c : List (List ℕ)) → IsPowerOfTwo n → length s ≡ 8192 * n
-    → ((j : ℕ) → IsPowerOfTwo n → j < 8 → slice_index_or c j [] ≡ value_at mode first s n (n * j))
-    → cv (parent_input mode
-    (cv (parent_input mode (cv (parent_input mode (slice_index_or c 0 []) (slice_index_or c 1 []))) (cv (parent_input mode (slice_index_or c 2 []) (slice_index_or c 3 [])))))
-    (cv (parent_input mode (cv (parent_input mode (slice_index_or c 4 []) (slice_index_or c 5 []))) (cv (parent_input mode (slice_index_or c 6 []) (slice_index_or c 7 []))))))
-    ≡ subtree_cv mode first s
-joined_eight mode first s n c power size each =
+-- eight subtrees of n chunks side by side, joined in three steps: of each step the values of its subtrees
+pub joined_eight : (mode : Mode) (first : ℕ) (s : List ℕ) (n : ℕ) (c p q r : ℕ → List ℕ) → IsPowerOfTwo n → length s ≡ 8192 * n
+    → ((j : ℕ) → j < 8 → c j ≡ value_at mode first s n (n * j))
+    → ((j : ℕ) → j < 4 → p j ≡ cv (parent_input mode (c (2 * j)) (c (2 * j + 1))))
+    → ((j : ℕ) → j < 4 → q j ≡ cv (parent_input mode (p (2 * j)) (p (2 * j + 1))))
+    → ((j : ℕ) → j < 4 → r j ≡ cv (parent_input mode (q (2 * j)) (q (2 * j + 1))))
+    → r 0 ≡ subtree_cv mode first s
+joined_eight mode first s n c p q r power size each to_p to_q to_r =
     let two : IsPowerOfTwo (n + n) = IsPowerOfTwo_double n power in
     let four : IsPowerOfTwo (n + n + (n + n)) = IsPowerOfTwo_double (n + n) two in
-    let v : (j : ℕ) → j < 8 → slice_index_or c j [] ≡ value_at mode first s n (n * j) = λ j h. each j power h in
-    let p0 = paired mode first s (slice_index_or c 0 []) (slice_index_or c 1 []) n (n * 0) (n * 1) (n + n) power (omega arith) (omega arith) refl (v 0 (omega arith)) (v 1 (omega arith)) in
-    let p1 = paired mode first s (slice_index_or c 2 []) (slice_index_or c 3 []) n (n * 2) (n * 3) (n + n) power (omega arith) (omega arith) refl (v 2 (omega arith)) (v 3 (omega arith)) in
-    let p2 = paired mode first s (slice_index_or c 4 []) (slice_index_or c 5 []) n (n * 4) (n * 5) (n + n) power (omega arith) (omega arith) refl (v 4 (omega arith)) (v 5 (omega arith)) in
-    let p3 = paired mode first s (slice_index_or c 6 []) (slice_index_or c 7 []) n (n * 6) (n * 7) (n + n) power (omega arith) (omega arith) refl (v 6 (omega arith)) (v 7 (omega arith)) in
-    let q0 = paired mode first s _ _ (n + n) (n * 0) (n * 2) (n + n + (n + n)) two (omega arith) (omega arith) refl p0 p1 in
-    let q1 = paired mode first s _ _ (n + n) (n * 4) (n * 6) (n + n + (n + n)) two (omega arith) (omega arith) refl p2 p3 in
+    let p0 = to_p 0 (omega arith) ∙ paired mode first s (c 0) (c 1) n (n * 0) (n * 1) (n + n) power (omega arith) (omega arith) refl (each 0 (omega arith)) (each 1 (omega arith)) in
+    let p1 = to_p 1 (omega arith) ∙ paired mode first s (c 2) (c 3) n (n * 2) (n * 3) (n + n) power (omega arith) (omega arith) refl (each 2 (omega arith)) (each 3 (omega arith)) in
+    let p2 = to_p 2 (omega arith) ∙ paired mode first s (c 4) (c 5) n (n * 4) (n * 5) (n + n) power (omega arith) (omega arith) refl (each 4 (omega arith)) (each 5 (omega arith)) in
+    let p3 = to_p 3 (omega arith) ∙ paired mode first s (c 6) (c 7) n (n * 6) (n * 7) (n + n) power (omega arith) (omega arith) refl (each 6 (omega arith)) (each 7 (omega arith)) in
+    let q0 = to_q 0 (omega arith) ∙ paired mode first s (p 0) (p 1) (n + n) (n * 0) (n * 2) (n + n + (n + n)) two (omega arith) (omega arith) refl p0 p1 in
+    let q1 = to_q 1 (omega arith) ∙ paired mode first s (p 2) (p 3) (n + n) (n * 4) (n * 6) (n + n + (n + n)) two (omega arith) (omega arith) refl p2 p3 in
     let number : first + n * 0 ≡ first = omega arith in
     let start : 1024 * (n * 0) ≡ 0 = omega arith in
-    paired mode first s _ _ (n + n + (n + n)) (n * 0) (n * 4) (8 * n) four (omega arith) (omega arith) (omega arith) q0 q1
+    to_r 0 (omega arith)
+    ∙ paired mode first s (q 0) (q 1) (n + n + (n + n)) (n * 0) (n * 4) (8 * n) four (omega arith) (omega arith) (omega arith) q0 q1
     ∙ (λ i. subtree_cv mode (number i) (take (1024 * (8 * n)) (drop (start i) s)))
     ∙ ap (subtree_cv mode first) (take_all (1024 * (8 * n)) s (omega arith))

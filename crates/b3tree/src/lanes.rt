@@ -1,7 +1,7 @@
 // Whole subtrees in eight lanes: each lane hashes its own, all in lock step, so that a parent is one
 // compression of all lanes and nothing moves between them on the way up.
 
-ghost use Rattle.std.specs.Prelude.{◌≡◌, ℕ, ◌+◌, ◌-◌, ◌*◌, ◌/◌, ◌%◌, ◌^◌, ◌<◌, ◌≤◌, [], length, map, slice_index, slice_index_or, IfSome};
+ghost use Rattle.std.specs.Prelude.{◌≡◌, ℕ, ◌+◌, ◌-◌, ◌*◌, ◌/◌, ◌%◌, ◌^◌, ◌<◌, ◌≤◌, [], ◌∷◌, length, map, slice_index, slice_index_or, IfSome};
 ghost use Rattle.std.specs.Int.{IsPowerOfTwo};
 ghost use Rattle.std.specs.List.{range_with_len};
 ghost use Rattle.b3word.specs.Compression.{cv};
@@ -16,7 +16,6 @@ use crate::bytes::words_of;
 use crate::chunk::{BLOCK_LEN, CHUNK_LEN, block_flags};
 use crate::flags::PARENT;
 use crate::mode::Mode;
-use crate::tree::parent_cv;
 use crate::values::Cv;
 use b3word::{cv_lanes, transposed};
 use std::simd::u32x8;
@@ -226,6 +225,49 @@ fn subtree_cvs(mode: &Mode, first: u64, bytes: &[u8], chunks: usize) -> [[u32; 8
     ]
 }
 
+// The even lanes, and the odd ones, each twice.
+const EVEN: [usize; 8] = [0, 2, 4, 6, 0, 2, 4, 6];
+
+const ODD: [usize; 8] = [1, 3, 5, 7, 1, 3, 5, 7];
+
+// The parents of neighbouring lanes, two and two: lane `j` has that of lanes `2 * j` and `2 * j + 1`.
+fn neighbour_lanes(
+    mode: &Mode,
+    v0: u32x8,
+    v1: u32x8,
+    v2: u32x8,
+    v3: u32x8,
+    v4: u32x8,
+    v5: u32x8,
+    v6: u32x8,
+    v7: u32x8,
+) -> [u32x8; 8]
+    ensures { (j : ℕ) → j < 4 → lane8 j result
+        ≡ cv (parent_input mode.now (lane8 (2 * j) (v0 ∷ v1 ∷ v2 ∷ v3 ∷ v4 ∷ v5 ∷ v6 ∷ v7 ∷ [])) (lane8 (2 * j + 1) (v0 ∷ v1 ∷ v2 ∷ v3 ∷ v4 ∷ v5 ∷ v6 ∷ v7 ∷ []))) }
+{
+    let left = [
+        v0.swizzle(EVEN),
+        v1.swizzle(EVEN),
+        v2.swizzle(EVEN),
+        v3.swizzle(EVEN),
+        v4.swizzle(EVEN),
+        v5.swizzle(EVEN),
+        v6.swizzle(EVEN),
+        v7.swizzle(EVEN),
+    ];
+    let right = [
+        v0.swizzle(ODD),
+        v1.swizzle(ODD),
+        v2.swizzle(ODD),
+        v3.swizzle(ODD),
+        v4.swizzle(ODD),
+        v5.swizzle(ODD),
+        v6.swizzle(ODD),
+        v7.swizzle(ODD),
+    ];
+    parent_lanes(mode, &left, &right)
+}
+
 // The value of a whole subtree of `8 * chunks` chunks.
 pub(crate) fn whole_cv(mode: &Mode, first: u64, bytes: &[u8], chunks: usize) -> [u32; 8]
     requires some { 0 < chunks }
@@ -233,10 +275,12 @@ pub(crate) fn whole_cv(mode: &Mode, first: u64, bytes: &[u8], chunks: usize) -> 
     requires number { first + 8 * chunks < 2 ^ 64 }
     ensures { IsPowerOfTwo chunks → result ≡ subtree_cv mode.now first bytes.now }
 {
-    let [c0, c1, c2, c3, c4, c5, c6, c7] = subtree_cvs(mode, first, bytes, chunks);
-    let first_half = parent_cv(mode, parent_cv(mode, c0, c1), parent_cv(mode, c2, c3));
-    let second_half = parent_cv(mode, parent_cv(mode, c4, c5), parent_cv(mode, c6, c7));
-    parent_cv(mode, first_half, second_half)
+    let [v0, v1, v2, v3, v4, v5, v6, v7] = subtree_lanes(mode, first, bytes, 0, chunks, chunks);
+    let [v0, v1, v2, v3, v4, v5, v6, v7] = neighbour_lanes(mode, v0, v1, v2, v3, v4, v5, v6, v7);
+    let [v0, v1, v2, v3, v4, v5, v6, v7] = neighbour_lanes(mode, v0, v1, v2, v3, v4, v5, v6, v7);
+    let [v0, v1, v2, v3, v4, v5, v6, v7] = neighbour_lanes(mode, v0, v1, v2, v3, v4, v5, v6, v7);
+    let [row, ..] = transposed(v0, v1, v2, v3, v4, v5, v6, v7);
+    row.to_array()
 }
 
 // How many chunks each lane has, where `len` bytes are a whole subtree of at most 512 chunks and at
