@@ -1,5 +1,5 @@
 -- Where the nodes of a subtree have a chunk, and how many bytes they are.
-use Rattle.std.proofs.Common.{◌≡◌, ◌≢◌, ℕ, zero, suc, ◌+◌, ◌-◌, ◌*◌, ◌/◌, ◌<◌, ◌≤◌, List, [], ◌∷◌, ◌++◌, length, take, drop, Bool, true, false, None, Some, Option, IfSome, refl, sym, ap, subst, ◌∙◌, arith, inl, inr, ◌⊎◌}
+use Rattle.std.proofs.Common.{◌≡◌, ◌≢◌, ℕ, zero, suc, ◌+◌, ◌-◌, ◌*◌, ◌/◌, ◌<◌, ◌≤◌, List, [], ◌∷◌, ◌++◌, take, drop, Bool, true, false, None, Some, IfSome, refl, sym, ap, subst, ◌∙◌, arith, inl, inr}
 use Rattle.std.specs.List.{AllByRecursion}
 use Rattle.std.specs.Option.{option_map}
 use Rattle.std.specs.Prelude.{◌&&◌, ◌==◌}
@@ -9,15 +9,14 @@ use Rattle.b3tree.specs.Tree.{left_len}
 use Rattle.bao_text.specs.declared.choice.Choice.{Choice}
 use Rattle.bao_text.specs.Choice.{chunk_count, wants}
 use Rattle.bao_text.specs.Nodes.{Node, Side, left, placed, right, size, subtree_nodes, subtree_size}
-use Rattle.bao_text.proofs.SubtreeNodes.{parent_node, subtree_nodes-leaf, subtree_nodes-parent, subtree_nodes-unwanted}
+use Rattle.bao_text.proofs.SubtreeNodes.{subtree_nodes-parent, subtree_nodes-unwanted}
 use Rattle.bao_text.proofs.SubtreeText.{Parts, left_len-Parts}
-use Rattle.bao_check.specs.declared.locate.Span.{Span}
-use Rattle.bao_check.specs.Accepted.{bytes_at, end_of}
+use Rattle.bao_check.specs.Accepted.{end_of}
 use Rattle.bao_check.specs.Pieces.{chunk_in}
 use Rattle.bao_check.specs.Spans.{chunk_place}
 use Rattle.bao_check.proofs.Lists.{All-append, All-from_members, All-member, nodes_size}
 use Rattle.bao_check.proofs.Parts.{placed-All, placed-parent}
-use Rattle.bao_check.proofs.Walking.{chunk_node, leaf_nodes, leaf_without}
+use Rattle.bao_check.proofs.Walking.{leaf_nodes, leaf_without}
 
 -- the nodes' chunk numbers lie in the subtree
 abbrev pub IsWithin : ℕ → ℕ → Node → Type 0
@@ -65,10 +64,10 @@ numbers_levels (suc levels) choice number n sides source hn = elim (cases_lt 102
             let far_some : 0 < chunk_count (n - l) = omega arith in
             let near_all = All-from_members (IsWithin number (chunk_count n)) near
             (λ x h. let w : IsWithin number (chunk_count l) x = All-member (IsWithin number (chunk_count l)) near in_near x h in
-                let low : number ≤ x.number = w.0 in let high : x.number < number + chunk_count l = w.1 in (low, omega arith)) in
+            let low : number ≤ x.number = w.0 in let high : x.number < number + chunk_count l = w.1 in (low, omega arith)) in
             let far_all = All-from_members (IsWithin number (chunk_count n)) far
             (λ x h. let w : IsWithin (number + l / 1024) (chunk_count (n - l)) x = All-member (IsWithin (number + l / 1024) (chunk_count (n - l))) far in_far x h in
-                let low : number + l / 1024 ≤ x.number = w.0 in let high : x.number < number + l / 1024 + chunk_count (n - l) = w.1 in (omega arith, omega arith)) in
+            let low : number + l / 1024 ≤ x.number = w.0 in let high : x.number < number + l / 1024 + chunk_count (n - l) = w.1 in (omega arith, omega arith)) in
             subst P (sym (subtree_nodes-parent choice number n sides source wanted more))
             ((omega arith, omega arith), All-append (IsWithin number (chunk_count n)) near far near_all far_all)
       ]
@@ -119,8 +118,8 @@ others_left choice number n i at source sides beyond =
     placed-All (λ node. node.number ≢ i) at (subtree_nodes choice number n sides source)
     (All-from_members (λ node. node.number ≢ i) (subtree_nodes choice number n sides source)
     (λ x h same.
-        let w : IsWithin number (chunk_count n) x = All-member (IsWithin number (chunk_count n)) (subtree_nodes choice number n sides source) (numbers_within choice number n sides source) x h in
-        let high : x.number < number + chunk_count n = w.1 in absurd (omega arith)))
+    let w : IsWithin number (chunk_count n) x = All-member (IsWithin number (chunk_count n)) (subtree_nodes choice number n sides source) (numbers_within choice number n sides source) x h in
+    let high : x.number < number + chunk_count n = w.1 in absurd (omega arith)))
 
 others_right : (choice : Choice) (number n i at source : ℕ) (sides : List Side) → i < number
     → AllByRecursion (λ place. place.1.number ≢ i) (placed at (subtree_nodes choice number n sides source))
@@ -128,8 +127,8 @@ others_right choice number n i at source sides before =
     placed-All (λ node. node.number ≢ i) at (subtree_nodes choice number n sides source)
     (All-from_members (λ node. node.number ≢ i) (subtree_nodes choice number n sides source)
     (λ x h same.
-        let w : IsWithin number (chunk_count n) x = All-member (IsWithin number (chunk_count n)) (subtree_nodes choice number n sides source) (numbers_within choice number n sides source) x h in
-        let low : number ≤ x.number = w.0 in absurd (omega arith)))
+    let w : IsWithin number (chunk_count n) x = All-member (IsWithin number (chunk_count n)) (subtree_nodes choice number n sides source) (numbers_within choice number n sides source) x h in
+    let low : number ≤ x.number = w.0 in absurd (omega arith)))
 
 module _ (choice : Choice) (number n : ℕ) (sides : List Side) (source at i : ℕ) (wanted : wants choice (1024 * number) n ≡ true) (more : 1024 < n) where
   abbrev near_nodes : List Node
@@ -171,9 +170,9 @@ chunk_place-other choice number n sides source at i one differ =
     (placed-All (λ node. node.number ≢ i) at (subtree_nodes choice number n sides source)
     (All-from_members (λ node. node.number ≢ i) (subtree_nodes choice number n sides source)
     (λ x h same.
-        let w : IsWithin number (chunk_count n) x = All-member (IsWithin number (chunk_count n)) (subtree_nodes choice number n sides source) (numbers_within choice number n sides source) x h in
-        let low : number ≤ x.number = w.0 in let high : x.number < number + chunk_count n = w.1 in
-        differ (omega arith))))
+    let w : IsWithin number (chunk_count n) x = All-member (IsWithin number (chunk_count n)) (subtree_nodes choice number n sides source) (numbers_within choice number n sides source) x h in
+    let low : number ≤ x.number = w.0 in let high : x.number < number + chunk_count n = w.1 in
+    differ (omega arith))))
 
 pub chunk_place-without : (choice : Choice) (number n : ℕ) (sides : List Side) (source at i : ℕ) → wants choice (1024 * number) n ≡ true → n ≤ 1024 → choice.chunks ≡ false
     → chunk_place (placed at (subtree_nodes choice number n sides source)) i ≡ None

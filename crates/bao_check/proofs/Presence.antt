@@ -1,5 +1,5 @@
 -- Which chunks a text has.
-use Rattle.std.proofs.Common.{ltb, ◌&&◌, ◌≡◌, ◌≢◌, ℕ, zero, suc, ◌+◌, ◌-◌, ◌*◌, ◌/◌, ◌<◌, ◌≤◌, ◌↔◌, min, max, List, [], ◌∷◌, ◌++◌, length, Bool, true, false, None, Some, Option, IsSome, refl, sym, ap, subst, ◌∙◌, arith, inl, inr}
+use Rattle.std.proofs.Common.{ltb, ◌&&◌, ◌≡◌, ℕ, zero, suc, ◌+◌, ◌-◌, ◌*◌, ◌/◌, ◌<◌, ◌≤◌, ◌↔◌, min, max, List, [], ◌∷◌, ◌++◌, Bool, true, false, None, Some, Option, IsSome, refl, sym, ap, subst, ◌∙◌, arith, inl, inr}
 use Rattle.std.proofs.lemmas.Bool.{and_from, cases_Bool, cases_lt, lt-ltb, ltb-true}
 use Rattle.std.proofs.lemmas.Bool.Decides.{eqb_tells}
 use Rattle.b3tree.specs.Tree.{left_len}
@@ -83,8 +83,8 @@ present_small choice number n sides source at i chunks one = elim (cases_Bool (w
               λ _. some_is _ _ (ap (chunk_place (placed at (subtree_nodes choice number n sides source))) (sym is) ∙ chunk_place-leaf choice number n sides source at wanted one chunks),
             )
         | inr differ ↦ (
-            λ some. absurd (not_some _ (chunk_place-other choice number n sides source at i one differ.1) some),
-            λ there. let low : number ≤ i = there.first in let high : i < number + chunk_count n = there.last in absurd (differ.1 (omega arith)),
+          λ some. absurd (not_some _ (chunk_place-other choice number n sides source at i one differ.1) some),
+          λ there. let low : number ≤ i = there.first in let high : i < number + chunk_count n = there.last in absurd (differ.1 (omega arith)),
         )
       ]
 ]

@@ -83,7 +83,7 @@ impl<'a> Checked<'a> {
     }
 
     /// The number of the first chunk that the piece holds, and the number after the last. It holds those
-    /// between, and at least one.
+    /// between.
     pub fn chunks(&self) -> (u64, u64)
         ensures spans { (i : ℕ) → IsSome (chunk_in (piece_text self.now) (piece_places self.now) i) ↔ ((result.0 ≤ i) × (i < result.1)) }
     {

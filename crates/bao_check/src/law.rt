@@ -6,12 +6,10 @@ ghost use Rattle.bao_check.specs.Laws.{AcceptedBinds, WrittenAccepted};
 /// text's, that differ and have one chaining value. A law: nothing runs.
 pub fn accepted_binds()
     ensures { AcceptedBinds }
-{
-}
+{}
 
 /// Each slice of a blob of less than 2^64 bytes is accepted under its hash, and so are its combined and its
 /// outboard encoding. A law: nothing runs.
 pub fn written_accepted()
     ensures { WrittenAccepted }
-{
-}
+{}

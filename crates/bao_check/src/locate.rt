@@ -35,7 +35,11 @@ fn nodes_size(choice: &Choice, number: u64, n: u64) -> u128
         };
     }
     if n <= CHUNK_LEN as u64 {
-        return if choice.has_chunks() { u128::from(n) } else { 0 };
+        return if choice.has_chunks() {
+            u128::from(n)
+        } else {
+            0
+        };
     }
     let left_len = left_len(n);
     let left = nodes_size(choice, number, left_len);

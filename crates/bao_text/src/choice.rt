@@ -27,9 +27,8 @@ impl Choice {
         ensures { result ≡ of_outboard total }
     {
         Choice {
-            start: 0,
-            end: total.max(1),
             chunks: false,
+            ..Choice::of_combined(total)
         }
     }
 
@@ -60,7 +59,7 @@ impl Choice {
     pub fn covers(&self, at: u64, n: u64) -> bool
         ensures { IsTrue result ↔ ((self.now.start ≤ at) × (at + max n 1 ≤ self.now.end)) }
     {
-        self.start <= at && at < self.end && n.max(1) <= self.end - at
+        at >= self.start && at < self.end && n.max(1) <= self.end - at
     }
 
     /// The first wanted position.

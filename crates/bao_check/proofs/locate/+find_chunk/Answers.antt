@@ -1,8 +1,6 @@
-use Rattle.std.proofs.Common.{◌≡◌, ◌≢◌, ℕ, ◌+◌, ◌-◌, ◌*◌, ◌/◌, ◌<◌, ◌≤◌, List, [], ◌∷◌, ◌++◌, true, false, None, Some, Option, refl, sym, ap, ◌∙◌, arith, ◌⊎◌, inl, inr}
+use Rattle.std.proofs.Common.{◌≡◌, ℕ, ◌+◌, ◌-◌, ◌/◌, ◌<◌, ◌≤◌, List, [], ◌∷◌, ◌++◌, Some, sym, ap, ◌∙◌, arith}
 use Rattle.b3tree.specs.Tree.{left_len}
-use Rattle.bao_text.specs.Choice.{wants}
-use Rattle.bao_text.specs.Nodes.{Node, Side, left, placed, right, subtree_nodes, subtree_size}
-use Rattle.bao_check.specs.declared.locate.Span.{Span}
+use Rattle.bao_text.specs.Nodes.{Node, left, placed, right, subtree_nodes, subtree_size}
 use Rattle.bao_check.specs.Spans.{chunk_place}
 use Rattle.bao_check.proofs.Lists.{nodes_size}
 use Rattle.bao_check.proofs.Locating.{chunk_place-far, chunk_place-leaf, chunk_place-near, chunk_place-other, chunk_place-unwanted, chunk_place-without}

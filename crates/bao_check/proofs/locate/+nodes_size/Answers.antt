@@ -1,8 +1,7 @@
-use Rattle.std.proofs.Common.{◌≡◌, ℕ, ◌+◌, ◌-◌, ◌*◌, ◌/◌, ◌<◌, ◌≤◌, List, [], ◌∷◌, ◌++◌, true, false, refl, sym, ap, ◌∙◌, arith}
+use Rattle.std.proofs.Common.{◌≡◌, ℕ, ◌+◌, ◌-◌, ◌/◌, List, [], ◌∷◌, ◌++◌, refl, sym, ap, ◌∙◌, arith}
 use Rattle.b3tree.specs.Tree.{left_len}
-use Rattle.bao_text.specs.Choice.{wants}
-use Rattle.bao_text.specs.Nodes.{Node, Side, left, right, size, subtree_nodes, subtree_size}
-use Rattle.bao_text.proofs.SubtreeNodes.{parent_node, subtree_nodes-parent, subtree_nodes-unwanted}
+use Rattle.bao_text.specs.Nodes.{Node, left, right, subtree_nodes, subtree_size}
+use Rattle.bao_text.proofs.SubtreeNodes.{subtree_nodes-parent, subtree_nodes-unwanted}
 use Rattle.bao_check.proofs.Lists.{nodes_size, nodes_size-cons}
 use Rattle.bao_check.proofs.Sizes.{nodes_size-parent, nodes_size-with_chunks, nodes_size-without_chunks}
 use Rattle.bao_check.proofs.Walking.{chunk_node, leaf_nodes, leaf_without}

@@ -1,4 +1,4 @@
-use Rattle.std.proofs.Common.{◌≡◌, ◌∙◌, sym, subst, ap, List, ℕ}
+use Rattle.std.proofs.Common.{◌≡◌, ◌∙◌, sym, subst, List, ℕ}
 use Rattle.b3tree.proofs.HashOutput.{hash-stream}
 use Rattle.b3tree.specs.Hashing.{hash, stream}
 use Rattle.bao_gather.specs.Printed.{Prints, digits_line}

@@ -1,4 +1,4 @@
-use Rattle.std.proofs.Common.{◌≡◌, ◌⊎◌, List, Result, Ok, Err, IfErr, true, refl, map, string_bytes, ap, ◌∙◌, sym, subst, inl, inr, Global}
+use Rattle.std.proofs.Common.{◌≡◌, List, Result, Ok, Err, IfErr, true, refl, map, string_bytes, ap, ◌∙◌, sym, subst, inl, inr}
 use Rattle.std.proofs.lemmas.Result.{IfOk-weaker}
 use Rattle.clap.specs.Words.{App, FailsBy, IsAmong, Kinds, Text, app_of, fault_of, kind_of, is_simple, is_simple_and_free, subcommand_of}
 use Rattle.clap.specs.declared.error.Error.{Error}

@@ -1,4 +1,4 @@
-use Rattle.std.proofs.Common.{◌≡◌, ℕ, List, Option, Some, None, IfSome, Bor, ◌∙◌, sym}
+use Rattle.std.proofs.Common.{◌≡◌, Option, Some, None, IfSome, Bor, ◌∙◌, sym}
 use Rattle.std.specs.Option.{option_copied}
 use Rattle.clap.specs.Words.{Text, found_of}
 use Rattle.clap.proofs.WalkLemmas.{first_value-rows}

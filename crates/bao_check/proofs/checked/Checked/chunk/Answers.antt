@@ -1,8 +1,8 @@
-use Rattle.std.proofs.Common.{◌≡◌, ℕ, List, Option, None, Some, IfSome, refl, sym, subst, ◌∙◌}
+use Rattle.std.proofs.Common.{◌≡◌, ℕ, List, Option, None, Some, IfSome, sym}
 use Rattle.std.specs.Option.{option_copied}
 use Rattle.b3tree.specs.Valid.{AreBytes, IsKeyed}
 use Rattle.bao_check.specs.Certificate.{Certificate}
-use Rattle.bao_check.specs.Checked.{piece_mode, piece_places, piece_root, piece_text}
+use Rattle.bao_check.specs.Checked.{piece_mode, piece_root, piece_text}
 use Rattle.bao_check.specs.Laws.{Binds}
 use Rattle.bao_check.proofs.Laws.{accepted_binds, chunk_certificate}
 use Rattle.std.specs.Borrow.{Bor}
@@ -17,8 +17,8 @@ pub returns-clause-certificate : goal.returns-clause-certificate
 returns-clause-certificate c =
     IfSome-copied c.bytes.result _ (λ bytes. Certificate (piece_mode c.args.self.now) (piece_root c.args.self.now) c.args.i bytes) c.bytes.ensures
     (λ bytes there.
-        chunk_certificate (piece_mode c.args.self.now) (piece_root c.args.self.now) (piece_text c.args.self.now) c.args.self.now.start c.args.self.now.len c.args.i bytes
-        c.args.self.now.accepted there)
+    chunk_certificate (piece_mode c.args.self.now) (piece_root c.args.self.now) (piece_text c.args.self.now) c.args.self.now.start c.args.self.now.len c.args.i bytes
+    c.args.self.now.accepted there)
 
 pub returns-clause-binds : goal.returns-clause-binds
 returns-clause-binds c = λ blob valid is.
@@ -26,5 +26,5 @@ returns-clause-binds c = λ blob valid is.
     let bytes_are : AreBytes (piece_text c.args.self.now) = c.bytes_are.ensures in
     IfSome-copied c.bytes.result _ (λ bytes. Binds (piece_mode c.args.self.now) (piece_text c.args.self.now) c.args.self.now.start c.args.self.now.len blob c.args.i bytes) c.bytes.ensures
     (λ bytes there.
-        accepted_binds (piece_mode c.args.self.now) (piece_root c.args.self.now) (piece_text c.args.self.now) blob c.args.self.now.start c.args.self.now.len c.args.i bytes
-        keyed valid bytes_are is c.args.self.now.accepted there)
+    accepted_binds (piece_mode c.args.self.now) (piece_root c.args.self.now) (piece_text c.args.self.now) blob c.args.self.now.start c.args.self.now.len c.args.i bytes
+    keyed valid bytes_are is c.args.self.now.accepted there)

@@ -1,4 +1,4 @@
-use Rattle.std.proofs.Common.{◌≡◌, ◌≤◌, ◌<◌, ◌-◌, ◌+◌, ◌/◌, ◌%◌, min, max, ℕ, IsSome, false, true, sym, subst, ◌∙◌, arith}
+use Rattle.std.proofs.Common.{◌≡◌, ◌-◌, ◌+◌, ◌/◌, ◌%◌, min, max, ℕ, IsSome, sym, subst, arith}
 use Rattle.bao_text.specs.Choice.{chunk_count}
 use Rattle.bao_check.specs.Checked.{piece_claimed, piece_places, piece_text}
 use Rattle.bao_check.specs.Pieces.{chunk_in}

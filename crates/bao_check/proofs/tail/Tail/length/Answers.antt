@@ -1,8 +1,7 @@
-use Rattle.std.proofs.Common.{◌≡◌, ◌+◌, ◌-◌, ◌*◌, ℕ, List, length, Some, sym, ap, ◌∙◌, arith}
+use Rattle.std.proofs.Common.{◌≡◌, ◌+◌, ◌-◌, ℕ, sym, ap, ◌∙◌, arith}
 use Rattle.bao_text.specs.Choice.{chunk_count}
 use Rattle.bao_text.specs.Cut.{claimed}
-use Rattle.bao_check.specs.Pieces.{chunk_in}
-use Rattle.bao_check.specs.Checked.{piece_mode, piece_places, piece_root, piece_text}
+use Rattle.bao_check.specs.Checked.{piece_mode, piece_root, piece_text}
 use Rattle.bao_check.specs.Tail.{tail_piece}
 use Rattle.bao_check.proofs.Certified.{certified}
 use Rattle.bao_check.proofs.tail.Tail.length.Goals as goal
