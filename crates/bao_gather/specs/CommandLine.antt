@@ -64,11 +64,35 @@ outboard_app = with_file_rules (new_app (codes "outboard"))
 abbrev pub slice_app : App
 slice_app = with_file_rules (with_rule (with_rule (new_app (codes "slice")) start_rule) len_rule)
 
+abbrev pub root_rule : Rule
+root_rule = place_rule (codes "ROOT")
+
+abbrev pub enc_rule : Rule
+enc_rule = place_rule (codes "ENC")
+
+abbrev pub slice_rule : Rule
+slice_rule = place_rule (codes "SLICE")
+
+abbrev pub decode_app : App
+decode_app = with_mode_rules (with_rule (with_rule (with_rule (new_app (codes "decode")) root_rule) enc_rule) out_rule)
+
+abbrev pub with_range_rules : App → App
+with_range_rules app = with_rule (with_rule (with_rule app root_rule) start_rule) len_rule
+
+abbrev pub with_slice_rules : App → App
+with_slice_rules app = with_mode_rules (with_rule (with_rule app slice_rule) out_rule)
+
+abbrev pub decode_slice_app : App
+decode_slice_app = with_slice_rules (with_range_rules (new_app (codes "decode-slice")))
+
 abbrev pub bare_app : App
 bare_app = let app = new_app (codes "bao_gather") in record app { top = record app.top { has_version = true; subcommand_required = true } }
 
+abbrev pub writers_app : App
+writers_app = with_subcommand (with_subcommand (with_subcommand (with_subcommand bare_app hash_app.top) encode_app.top) outboard_app.top) slice_app.top
+
 abbrev pub program_app : App
-program_app = with_subcommand (with_subcommand (with_subcommand (with_subcommand bare_app hash_app.top) encode_app.top) outboard_app.top) slice_app.top
+program_app = with_subcommand (with_subcommand writers_app decode_app.top) decode_slice_app.top
 
 -- the command is that of the description, and has no global option
 pub record IsApp (app : App) (command : Command) : Type 0 where

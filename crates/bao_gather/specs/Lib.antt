@@ -6,3 +6,4 @@ pub mod Requests
 pub mod CommandLine
 pub mod Outcome
 pub mod Tasks
+pub mod Ranges

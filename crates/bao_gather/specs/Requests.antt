@@ -6,9 +6,11 @@ use Rattle.std.specs.Str.Parse.{digits_value, without_leading_plus}
 use Rattle.clap.specs.Words.{Row, Text, first_of, one_of}
 use Rattle.bao_gather.specs.declared.request.Encoding.{Encoding}
 use Rattle.bao_gather.specs.declared.request.Encoding.TheVariants.{Combined, Outboard, Slice}
+use Rattle.bao_gather.specs.declared.request.Part.{Part}
+use Rattle.bao_gather.specs.declared.request.Part.TheVariants as part
 use Rattle.bao_gather.specs.declared.request.Request.{Request}
 use Rattle.bao_gather.specs.declared.request.Task.{Task}
-use Rattle.bao_gather.specs.declared.request.Task.TheVariants.{Hash, Encode}
+use Rattle.bao_gather.specs.declared.request.Task.TheVariants.{Hash, Encode, Decode}
 
 -- the row of this name has this text
 abbrev pub GivesText : List Row → Text → Text → Type 0
@@ -25,12 +27,20 @@ GivesEncoding name rows Outboard = name ≡ codes "outboard"
 GivesEncoding name rows (Slice start len) =
     (name ≡ codes "slice") × GivesNumber rows (codes "START") start × GivesNumber rows (codes "LEN") len
 
+-- the subcommand of this name asks for the check of this part, in the file of this name
+abbrev pub GivesPart : Text → List Row → Part → Text → Type 0
+GivesPart name rows part.Whole file = (name ≡ codes "decode") × GivesText rows (codes "ENC") file
+GivesPart name rows (part.Slice start len) file =
+    (name ≡ codes "decode-slice") × GivesNumber rows (codes "START") start × GivesNumber rows (codes "LEN") len × GivesText rows (codes "SLICE") file
+
 -- the subcommand of this name asks for this task
 abbrev pub GivesTask : Text → List Row → Task → Type 0
 GivesTask name rows (Hash at length file) =
     (name ≡ codes "hash") × GivesNumber rows (codes "at") at × GivesNumber rows (codes "length") length × GivesText rows (codes "FILE") file.now
 GivesTask name rows (Encode encoding file out) =
     GivesEncoding name rows encoding × GivesText rows (codes "FILE") file.now × GivesText rows (codes "OUT") out.now
+GivesTask name rows (Decode root part file out) =
+    GivesPart name rows part file.now × GivesText rows (codes "ROOT") root.now × GivesText rows (codes "OUT") out.now
 
 -- the subcommand's name and rows ask for this request
 abbrev pub GivesRequest : Option (Text × List Row) → Request → Type 0

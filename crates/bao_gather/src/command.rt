@@ -1,16 +1,18 @@
-ghost use Rattle.std.specs.Prelude.{◌≡◌, ◌≢◌, ◌+◌, ◌-◌, ◌^◌, ◌≤◌, ℕ, List, map, string_bytes};
+ghost use Rattle.std.specs.Prelude.{◌≡◌, ◌≢◌, ◌+◌, ◌-◌, ◌^◌, ◌≤◌, ℕ, List, map, string_bytes, IfErr, OnOk};
+ghost use Rattle.bao_gather.specs.declared.fault.Fault.TheVariants as Fault;
 ghost use Rattle.std.specs.Io.KnownBytes.{Keeps};
 ghost use Rattle.b3tree.specs.Hashing.{stream};
 ghost use Rattle.clap.specs.Words.{kind_of};
 ghost use Rattle.bao_gather.specs.CommandLine.{IsHelp};
 ghost use Rattle.bao_gather.specs.Outcome.{Begun, Done};
 ghost use Rattle.bao_gather.specs.Printed.{Prints, digits_line};
-ghost use Rattle.bao_gather.specs.Tasks.{Answers, line_of};
+ghost use Rattle.bao_gather.specs.Tasks.{Answers, IsRight, line_of};
 
+use crate::decode::decode_file;
 use crate::digits::{print_digits, print_hash, print_output};
 use crate::fault::Fault;
 use crate::input::read_file;
-use crate::mode::mode_of;
+use crate::mode::{bytes_of_digits, mode_of};
 use crate::once::Once;
 use crate::output::encode_file;
 use crate::request::{Request, Task, parse};
@@ -24,7 +26,8 @@ use std::thread::Threads;
 const HASH_LEN: u32 = 32;
 
 /// Runs the program on `words`, its name first, with `out` and `err` as its standard output and error,
-/// and answers the exit status: 0 done, 2 wrong words, 3 a file fault, 4 want of memory.
+/// and answers the exit status: 0 done, 1 a text that is refused, 2 wrong words, 3 a file fault, 4 want of
+/// memory.
 ///
 /// At status 0 `out` has the line of the request that the words make, on the file's bytes, or where they ask
 /// for it help or the version. At 3 it has a beginning at most, and after other faults nothing.
@@ -56,6 +59,7 @@ fn serve<'a, R: Files + AllocGlobal + Threads + Sync, O: Write>(
 ) -> Result<(), Fault<'a>>
     ensures { Answers request.now (O.contents out.old) (O.contents out.new) result }
 {
+    check_root(&request.task)?;
     let mode = mode_of(request.key, request.context)?;
     serve_task(rt, &mode, &request.task, out)
 }
@@ -67,7 +71,8 @@ fn serve_task<'a, R: Files + AllocGlobal + Threads + Sync, O: Write>(
     task: &Task<'a>,
     out: &mut O,
 ) -> Result<(), Fault<'a>>
-    ensures { (bytes : List ℕ) × Prints (line_of mode.now task.now bytes) (O.contents out.old) (O.contents out.new) result }
+    ensures { (bytes : List ℕ) × OnOk result (IsRight mode.now task.now bytes)
+        × Prints (line_of mode.now task.now bytes) (O.contents out.old) (O.contents out.new) result }
 {
     match *task {
         Task::Hash { at, length, file } => {
@@ -86,6 +91,22 @@ fn serve_task<'a, R: Files + AllocGlobal + Threads + Sync, O: Write>(
             let hash = encode_file(rt, mode, encoding, bytes.as_slice(), path)?;
             print_digits(rt.alloc(), &hash.0, out)
         }
+        Task::Decode {
+            root,
+            part,
+            file,
+            out: path,
+        } => decode_file(rt, mode, root, &part, file, path, out),
+    }
+}
+
+// A root that is no text of 64 hexadecimal digits is the first fault.
+fn check_root<'a>(task: &Task<'a>) -> Result<(), Fault<'a>>
+    ensures { IfErr result (λ fault. fault ≡ Fault.Root) }
+{
+    match *task {
+        Task::Decode { root, .. } if bytes_of_digits(root).is_none() => Err(Fault::Root),
+        _ => Ok(()),
     }
 }
 

@@ -1,7 +1,8 @@
 ghost use Rattle.std.specs.Prelude.{◌≡◌};
-ghost use Rattle.bao_gather.specs.Status.{status_of};
+ghost use Rattle.bao_gather.specs.Status.{check_status_of, status_of};
 
 use crate::once::Once;
+use bao_check::CheckFault;
 use std::io::Write;
 use thiserror::Error;
 
@@ -12,6 +13,9 @@ pub enum Fault<'a> {
     /// A word is not UTF-8. Status 2.
     #[error("usage: a word is not UTF-8")]
     Word,
+    /// ROOT is no text of 64 hexadecimal digits. Status 2.
+    #[error("usage: root is not 64 hexadecimal digits")]
+    Root,
     /// `--key` is no text of 64 hexadecimal digits. Status 2.
     #[error("usage: key is not 64 hexadecimal digits")]
     Key,
@@ -33,9 +37,23 @@ pub enum Fault<'a> {
     /// There was no memory for an encoding. Status 4.
     #[error("401 memory")]
     Encoding,
+    /// A text was not accepted: its first fault. Status 1, and 4 for want of memory.
+    #[error("{0}")]
+    Check(CheckFault),
     /// The program found no memory. Status 4.
     #[error("memory")]
     Memory,
+}
+
+// The exit status of a text's fault.
+fn check_status(fault: CheckFault) -> u8
+    ensures { result ≡ check_status_of fault }
+{
+    match fault {
+        CheckFault::Short { .. } | CheckFault::Mismatch { .. } | CheckFault::Trailing { .. } => 1,
+        CheckFault::Reader => 3,
+        CheckFault::Memory => 4,
+    }
 }
 
 impl Fault<'_> {
@@ -44,7 +62,8 @@ impl Fault<'_> {
         ensures { result ≡ status_of self.entry }
     {
         match self {
-            Fault::Word | Fault::Key | Fault::KeyAndContext | Fault::OutputRange => 2,
+            Fault::Word | Fault::Root | Fault::Key | Fault::KeyAndContext | Fault::OutputRange => 2,
+            Fault::Check(fault) => check_status(fault),
             Fault::Read(_) | Fault::Write(_) | Fault::Output => 3,
             Fault::Encoding | Fault::Memory => 4,
         }

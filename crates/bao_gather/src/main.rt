@@ -4,6 +4,7 @@
 use std::process::ExitCode;
 
 mod command;
+mod decode;
 mod digits;
 mod fault;
 mod input;

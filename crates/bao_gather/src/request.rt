@@ -2,7 +2,7 @@ ghost use Rattle.std.specs.Prelude.{◌≡◌, IfErr, IfOk, IfSome, Some, false,
 ghost use Rattle.std.specs.Option.{option_copied};
 ghost use Rattle.clap.specs.Words.{app_of, first_of, found_of, kind_of, rows_of, rule_of, subcommand_of, subcommand_rows_of};
 ghost use Rattle.clap.specs.declared.builder.command.Command.TheViews.{out-Command};
-ghost use Rattle.bao_gather.specs.CommandLine.{AsksFor, AsksForHelp, IsApp, IsHelp, any_number, at_rule, encode_app, hash_app, length_rule, option_rule, outboard_app, place_rule, program_app, slice_app, with_file_rules, with_mode_rules};
+ghost use Rattle.bao_gather.specs.CommandLine.{AsksFor, AsksForHelp, IsApp, IsHelp, any_number, at_rule, decode_app, decode_slice_app, encode_app, hash_app, length_rule, option_rule, outboard_app, place_rule, program_app, slice_app, with_file_rules, with_mode_rules, with_range_rules, with_slice_rules, writers_app};
 ghost use Rattle.bao_gather.specs.Requests.{GivesEncoding, GivesNumber, GivesRequest, GivesTask, GivesText};
 
 use clap::error::ErrorKind;
@@ -34,6 +34,22 @@ pub enum Task<'a> {
         file: &'a str,
         out: &'a str,
     },
+    /// The bytes that a text certifies under a root, to the file `out`.
+    Decode {
+        root: &'a str,
+        part: Part,
+        file: &'a str,
+        out: &'a str,
+    },
+}
+
+/// Which part of a blob a text that is checked is of.
+#[derive(Clone, Copy, Debug)]
+pub enum Part {
+    /// All of it: a combined encoding.
+    Whole,
+    /// A slice: `len` bytes from byte `start` on.
+    Slice { start: u64, len: u64 },
 }
 
 /// Which text of a blob is written.
@@ -151,17 +167,66 @@ fn slice_command<'a>(alloc: Global) -> Result<Command<'a>, AllocError>
     with_files(alloc, command)
 }
 
-fn program<'a>(alloc: Global) -> Result<Command<'a>, AllocError>
-    ensures { IfOk result (IsApp program_app) }
+fn decode_command<'a>(alloc: Global) -> Result<Command<'a>, AllocError>
+    ensures { IfOk result (IsApp decode_app) }
+{
+    let command = Command::new(alloc, "decode")
+        .about("Checks a combined Bao encoding under a root, and writes the blob")
+        .arg(place(alloc, "ROOT", "The hash of the blob, 64 hexadecimal digits"))?
+        .arg(place(alloc, "ENC", "The encoding to check"))?
+        .arg(place(alloc, "OUT", "The file to write"))?;
+    with_mode(alloc, command)
+}
+
+// The command with the words ROOT, START and LEN.
+fn with_range<'a>(alloc: Global, command: Command<'a>) -> Result<Command<'a>, AllocError>
+    requires { (out-Command command).has_globals ≡ false }
+    ensures { IfOk result (IsApp (with_range_rules (app_of command.entry))) }
+{
+    let root = place(alloc, "ROOT", "The hash of the blob, 64 hexadecimal digits");
+    let start = number_place(alloc, "START", "The first byte of the range");
+    let len = number_place(alloc, "LEN", "How many bytes the range has");
+    command.arg(root)?.arg(start)?.arg(len)
+}
+
+// The command with the words SLICE and OUT, and those of the mode.
+fn with_slice<'a>(alloc: Global, command: Command<'a>) -> Result<Command<'a>, AllocError>
+    requires { (out-Command command).has_globals ≡ false }
+    ensures { IfOk result (IsApp (with_slice_rules (app_of command.entry))) }
+{
+    let slice = place(alloc, "SLICE", "The slice to check");
+    let out = place(alloc, "OUT", "The file to write");
+    let command = command.arg(slice)?.arg(out)?;
+    with_mode(alloc, command)
+}
+
+fn decode_slice_command<'a>(alloc: Global) -> Result<Command<'a>, AllocError>
+    ensures { IfOk result (IsApp decode_slice_app) }
+{
+    let about = "Checks a Bao slice under a root, and writes its bytes";
+    let command = with_range(alloc, Command::new(alloc, "decode-slice").about(about))?;
+    with_slice(alloc, command)
+}
+
+// The program with the commands that hash and write.
+fn writers<'a>(alloc: Global) -> Result<Command<'a>, AllocError>
+    ensures { IfOk result (IsApp writers_app) }
 {
     Command::new(alloc, "bao_gather")
         .version("0.1.0")
-        .about("Hashes files with BLAKE3 and writes their Bao encodings")
+        .about("Hashes files with BLAKE3, and writes and checks their Bao encodings")
         .subcommand_required(true)
         .subcommand(hash_command(alloc)?)?
         .subcommand(encode_command(alloc)?)?
         .subcommand(outboard_command(alloc)?)?
         .subcommand(slice_command(alloc)?)
+}
+
+fn program<'a>(alloc: Global) -> Result<Command<'a>, AllocError>
+    ensures { IfOk result (IsApp program_app) }
+{
+    let program = writers(alloc)?;
+    program.subcommand(decode_command(alloc)?)?.subcommand(decode_slice_command(alloc)?)
 }
 
 // The text of the word `id`.
@@ -194,6 +259,30 @@ fn encoding_of(name: &str, words: &ArgMatches<'_>) -> Option<Encoding>
     }
 }
 
+// The check that the subcommand `name` asks for.
+fn decode_of<'a>(name: &str, words: &ArgMatches<'a>) -> Option<Task<'a>>
+    ensures { IfSome result (GivesTask name.now (rows_of (found_of words.now))) }
+{
+    match name {
+        "decode" => Some(Task::Decode {
+            root: text(words, "ROOT")?,
+            part: Part::Whole,
+            file: text(words, "ENC")?,
+            out: text(words, "OUT")?,
+        }),
+        "decode-slice" => Some(Task::Decode {
+            root: text(words, "ROOT")?,
+            part: Part::Slice {
+                start: number(words, "START")?,
+                len: number(words, "LEN")?,
+            },
+            file: text(words, "SLICE")?,
+            out: text(words, "OUT")?,
+        }),
+        _ => None,
+    }
+}
+
 // The task of a subcommand's words, where they are all there.
 fn task_of<'a>(name: &str, words: &ArgMatches<'a>) -> Option<Task<'a>>
     ensures { IfSome result (GivesTask name.now (rows_of (found_of words.now))) }
@@ -205,11 +294,14 @@ fn task_of<'a>(name: &str, words: &ArgMatches<'a>) -> Option<Task<'a>>
             file: text(words, "FILE")?,
         });
     }
-    Some(Task::Encode {
-        encoding: encoding_of(name, words)?,
-        file: text(words, "FILE")?,
-        out: text(words, "OUT")?,
-    })
+    match encoding_of(name, words) {
+        Some(encoding) => Some(Task::Encode {
+            encoding,
+            file: text(words, "FILE")?,
+            out: text(words, "OUT")?,
+        }),
+        None => decode_of(name, words),
+    }
 }
 
 // What the words of a subcommand ask for, where they are all there.
