@@ -1,0 +1,21 @@
+-- what standard output holds when the program ends, by the words
+use Rattle.std.specs.Prelude.{◌≡◌, ◌≢◌, ◌⊎◌, ℕ, List, Option}
+use Rattle.std.specs.Io.KnownBytes.{Keeps}
+use Rattle.clap.specs.Words.{Text}
+use Rattle.bao_request.specs.declared.tasks.Request.{Request}
+use Rattle.bao_request.specs.CommandLine.{AsksFor, AsksForHelp}
+use Rattle.bao_command.specs.Tasks.{PrintsBeginning, PrintsLine}
+
+-- at status 0: the line of what the words ask for, or they ask for help or the version
+abbrev pub Done : List Text → Option (List ℕ) → Option (List ℕ) → Type 0
+Done words old new = AsksForHelp words ⊎ ((request : Request) × AsksFor words request × PrintsLine request old new)
+
+-- at status 3: nothing, or a beginning of it
+abbrev pub Begun : List Text → Option (List ℕ) → Option (List ℕ) → Type 0
+Begun words old new = Keeps old new ⊎ AsksForHelp words ⊎ ((request : Request) × AsksFor words request × PrintsBeginning request old new)
+
+-- what standard output holds by the exit status: after a fault other than a file's, what it held before
+pub record Ends (words : List Text) (old new : Option (List ℕ)) (status : ℕ) : Type 0 where
+  pub done : status ≡ 0 → Done words old new
+  pub file_fault : status ≡ 3 → Begun words old new
+  pub fault : status ≢ 0 → status ≢ 3 → Keeps old new

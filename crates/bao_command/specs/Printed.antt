@@ -1,0 +1,48 @@
+-- what a command prints on standard output, and what it leaves there where it fails
+use Rattle.std.specs.Prelude.{ℕ, List, [], ◌∷◌, ◌++◌, take, Option, Result, Ok, Err}
+use Rattle.std.specs.Io.KnownBytes.{Appends, Keeps}
+use Rattle.hex.specs.Hex.{encode_lower}
+use Rattle.bao_command.specs.declared.fault.Fault.{Fault}
+use Rattle.bao_command.specs.declared.fault.Fault.TheVariants.{Word, Root, Key, KeyAndContext, OutputRange, Read, Write, Output, Encoding, Check, Memory}
+
+-- the lower-case digits of bytes, and a line end
+abbrev pub digits_line : List ℕ → List ℕ
+digits_line bytes = encode_lower bytes ++ 10 ∷ []
+
+-- a beginning of the text was written, if anything
+abbrev pub AppendsBeginning : Option (List ℕ) → Option (List ℕ) → List ℕ → Type 0
+AppendsBeginning old new text = (n : ℕ) × Appends old new (take n text)
+
+-- what a fault leaves of the line that was to be printed: a beginning where it is that of standard
+-- output, and nothing else
+abbrev pub Leaves : List ℕ → Option (List ℕ) → Option (List ℕ) → Fault → Type 0
+Leaves line old new Word = Keeps old new
+Leaves line old new Root = Keeps old new
+Leaves line old new Key = Keeps old new
+Leaves line old new KeyAndContext = Keeps old new
+Leaves line old new OutputRange = Keeps old new
+Leaves line old new (Read path) = Keeps old new
+Leaves line old new (Write path) = Keeps old new
+Leaves line old new Output = AppendsBeginning old new line
+Leaves line old new Encoding = Keeps old new
+Leaves line old new (Check fault) = Keeps old new
+Leaves line old new Memory = Keeps old new
+
+-- a fault that comes before anything is printed
+abbrev pub IsQuiet : Fault → Type 0
+IsQuiet Word = Unit {0}
+IsQuiet Root = Unit {0}
+IsQuiet Key = Unit {0}
+IsQuiet KeyAndContext = Unit {0}
+IsQuiet OutputRange = Unit {0}
+IsQuiet (Read path) = Unit {0}
+IsQuiet (Write path) = Unit {0}
+IsQuiet Output = ⊥
+IsQuiet Encoding = Unit {0}
+IsQuiet (Check fault) = Unit {0}
+IsQuiet Memory = Unit {0}
+
+-- the line was printed, or the fault leaves what it leaves
+abbrev pub Prints : List ℕ → Option (List ℕ) → Option (List ℕ) → Result Unit Fault → Type 0
+Prints line old new (Ok done) = Appends old new line
+Prints line old new (Err fault) = Leaves line old new fault

@@ -1,0 +1,86 @@
+-- what a task prints, and what it writes to its file OUT
+use Rattle.std.specs.Prelude.{◌≡◌, ℕ, ◌-◌, List, [], ◌∷◌, ◌++◌, Option, Result, Ok, Err, codes}
+use Rattle.std.specs.Fmt.{decimal}
+use Rattle.std.specs.Io.KnownBytes.{Appends, Keeps}
+use Rattle.std.specs.Option.{option_copied}
+use Rattle.b3tree.specs.declared.mode.Mode.{Mode}
+use Rattle.b3tree.specs.Hashing.{hash, stream}
+use Rattle.bao_text.specs.Texts.{combined_text, outboard_text, slice_text}
+use Rattle.bao_command.specs.declared.fault.Fault.{Fault}
+use Rattle.bao_command.specs.declared.fault.Fault.TheVariants.{Word, Root, Key, KeyAndContext, OutputRange, Read, Write, Output, Encoding, Check, Memory}
+use Rattle.bao_request.specs.declared.tasks.Request.{Request}
+use Rattle.bao_request.specs.declared.tasks.Encoding.{Encoding as Kind}
+use Rattle.bao_request.specs.declared.tasks.Encoding.TheVariants.{Combined, Outboard, Slice}
+use Rattle.bao_request.specs.declared.tasks.Part.{Part}
+use Rattle.bao_request.specs.declared.tasks.Task.{Task}
+use Rattle.bao_request.specs.declared.tasks.Task.TheVariants.{Hash, Encode, Decode}
+use Rattle.bao_command.specs.Ranges.{first_written, last_written, part_len, part_start}
+use Rattle.bao_text.specs.Cut.{claimed}
+use Rattle.bao_check.specs.Accepted.{IsAccepted, slice_nodes}
+use Rattle.hex.specs.Hex.{decode_of}
+use Rattle.bao_command.specs.ModeWords.{GivesMode}
+use Rattle.bao_command.specs.Printed.{AppendsBeginning, digits_line}
+
+-- the line of a text that was decoded to n bytes
+abbrev pub ok_line : ℕ → List ℕ
+ok_line n = codes "ok " ++ decimal n ++ 10 ∷ []
+
+-- that of a part of a text
+abbrev pub part_line : Part → List ℕ → List ℕ
+part_line part bytes = ok_line (last_written part (claimed bytes) - first_written part (claimed bytes))
+
+-- the line of a task on a file of these bytes: the digits of the output asked for, or of the hash, or
+-- how many bytes were written
+abbrev pub line_of : Mode → Task → List ℕ → List ℕ
+line_of mode (Hash at length file) bytes = digits_line (stream mode bytes at length)
+line_of mode (Encode encoding file out) bytes = digits_line (hash mode bytes)
+line_of mode (Decode root part file out) bytes = part_line part bytes
+
+-- the text of a part of the blob with this root, in hexadecimal digits, is accepted
+abbrev pub IsRightPart : Mode → List ℕ → Part → List ℕ → Type 0
+IsRightPart mode root part bytes =
+    (key : List ℕ) × ((decode_of root ≡ Ok key) × IsAccepted mode key bytes (slice_nodes bytes (part_start part) (part_len part)))
+
+-- what the file's bytes have to be: a text that is decoded is accepted under the root that the words give
+abbrev pub IsRight : Mode → Task → List ℕ → Type 0
+IsRight mode (Hash at length file) bytes = Unit {0}
+IsRight mode (Encode encoding file out) bytes = Unit {0}
+IsRight mode (Decode root part file out) bytes = IsRightPart mode root.now part bytes
+
+-- the text that goes to OUT
+abbrev pub encoding_text : Mode → Kind → List ℕ → List ℕ
+encoding_text mode Combined bytes = combined_text mode bytes
+encoding_text mode Outboard bytes = outboard_text mode bytes
+encoding_text mode (Slice start len) bytes = slice_text mode bytes start len
+
+-- the mode that the request's key and context give
+abbrev pub HasMode : Request → Mode → Type 0
+HasMode request mode = GivesMode (option_copied request.key) (option_copied request.context) (Ok mode)
+
+-- the line of the request on some bytes, in the request's mode, was printed
+abbrev pub PrintsLine : Request → Option (List ℕ) → Option (List ℕ) → Type 0
+PrintsLine request old new =
+    (mode : Mode) × (bytes : List ℕ) × HasMode request mode × IsRight mode request.task bytes × Appends old new (line_of mode request.task bytes)
+
+-- a beginning of it, if anything
+abbrev pub PrintsBeginning : Request → Option (List ℕ) → Option (List ℕ) → Type 0
+PrintsBeginning request old new = (mode : Mode) × (bytes : List ℕ) × HasMode request mode × AppendsBeginning old new (line_of mode request.task bytes)
+
+-- what standard output holds after a fault of the request
+abbrev pub LeavesOf : Request → Option (List ℕ) → Option (List ℕ) → Fault → Type 0
+LeavesOf request old new Word = Keeps old new
+LeavesOf request old new Root = Keeps old new
+LeavesOf request old new Key = Keeps old new
+LeavesOf request old new KeyAndContext = Keeps old new
+LeavesOf request old new OutputRange = Keeps old new
+LeavesOf request old new (Read path) = Keeps old new
+LeavesOf request old new (Write path) = Keeps old new
+LeavesOf request old new Output = PrintsBeginning request old new
+LeavesOf request old new Encoding = Keeps old new
+LeavesOf request old new (Check fault) = Keeps old new
+LeavesOf request old new Memory = Keeps old new
+
+-- the answer to the request
+abbrev pub Answers : Request → Option (List ℕ) → Option (List ℕ) → Result Unit Fault → Type 0
+Answers request old new (Ok done) = PrintsLine request old new
+Answers request old new (Err fault) = LeavesOf request old new fault

@@ -1,0 +1,151 @@
+ghost use Rattle.std.specs.Prelude.{◌≡◌, ◌≢◌, ◌+◌, ◌-◌, ◌^◌, ◌≤◌, ℕ, List, map, string_bytes, IfErr, OnOk};
+ghost use Rattle.bao_command.specs.declared.fault.Fault.TheVariants as Fault;
+ghost use Rattle.std.specs.Io.KnownBytes.{Keeps};
+ghost use Rattle.b3tree.specs.Hashing.{stream};
+ghost use Rattle.clap.specs.Words.{kind_of};
+ghost use Rattle.bao_request.specs.CommandLine.{IsHelp};
+ghost use Rattle.bao_command.specs.Outcome.{Begun, Done};
+ghost use Rattle.bao_command.specs.Printed.{Prints, digits_line};
+ghost use Rattle.bao_command.specs.Tasks.{Answers, IsRight, line_of};
+
+use crate::decode::decode_file;
+use crate::digits::{print_digits, print_hash, print_output};
+use crate::fault::Fault;
+use crate::input::read_file;
+use crate::mode::{bytes_of_digits, mode_of};
+use crate::once::Once;
+use crate::output::encode_file;
+use bao_request::{Request, Task, parse};
+use b3tree::{Mode, xof_fits};
+use clap::error::ErrorKind;
+use std::io::Write;
+use std::rt::Files;
+use std::thread::Threads;
+
+/// How many bytes of output a hash has.
+const HASH_LEN: u32 = 32;
+
+/// Runs the program on `words`, its name first, with `out` and `err` as its standard output and error,
+/// and answers the exit status: 0 done, 1 a text that is refused, 2 wrong words, 3 a file fault, 4 want of
+/// memory.
+///
+/// At status 0 `out` has the line of the request that the words make, on the file's bytes, or where they ask
+/// for it help or the version. At 3 it has a beginning at most, and after other faults nothing.
+pub fn command<R: Files + AllocGlobal + Threads + Sync, O: Write, E: Write>(
+    rt: &R,
+    words: &[String],
+    out: &mut O,
+    err: &mut E,
+) -> u8
+    ensures status { result ≤ 4 }
+    ensures done { result ≡ 0 → Done (map string_bytes words.now) (O.contents out.old) (O.contents out.new) }
+    ensures file_fault { result ≡ 3 → Begun (map string_bytes words.now) (O.contents out.old) (O.contents out.new) }
+    ensures fault { result ≢ 0 → result ≢ 3 → Keeps (O.contents out.old) (O.contents out.new) }
+{
+    match parse(rt.alloc(), words) {
+        Ok(request) => match serve(rt, &request, out) {
+            Ok(()) => 0,
+            Err(fault) => fault.report(err),
+        },
+        Err(error) => answer_clap(&error, out, err),
+    }
+}
+
+// Does what the request asks for.
+fn serve<'a, R: Files + AllocGlobal + Threads + Sync, O: Write>(
+    rt: &R,
+    request: &Request<'a>,
+    out: &mut O,
+) -> Result<(), Fault<'a>>
+    ensures { Answers request.now (O.contents out.old) (O.contents out.new) result }
+{
+    check_root(&request.task)?;
+    let mode = mode_of(request.key, request.context)?;
+    serve_task(rt, &mode, &request.task, out)
+}
+
+// Does the task on the file's bytes, whatever these are.
+fn serve_task<'a, R: Files + AllocGlobal + Threads + Sync, O: Write>(
+    rt: &R,
+    mode: &Mode,
+    task: &Task<'a>,
+    out: &mut O,
+) -> Result<(), Fault<'a>>
+    ensures { (bytes : List ℕ) × OnOk result (IsRight mode.now task.now bytes)
+        × Prints (line_of mode.now task.now bytes) (O.contents out.old) (O.contents out.new) result }
+{
+    match *task {
+        Task::Hash { at, length, file } => {
+            if !xof_fits(at, u64::from(length)) {
+                return Err(Fault::OutputRange);
+            }
+            let bytes = read_file(rt, file)?;
+            print_range(rt, mode, bytes.as_slice(), at, length, out)
+        }
+        Task::Encode {
+            encoding,
+            file,
+            out: path,
+        } => {
+            let bytes = read_file(rt, file)?;
+            let hash = encode_file(rt, mode, encoding, bytes.as_slice(), path)?;
+            print_digits(rt.alloc(), &hash.0, out)
+        }
+        Task::Decode {
+            root,
+            part,
+            file,
+            out: path,
+        } => decode_file(rt, mode, root, &part, file, path, out),
+    }
+}
+
+// A root that is no text of 64 hexadecimal digits is the first fault.
+fn check_root<'a>(task: &Task<'a>) -> Result<(), Fault<'a>>
+    ensures { IfErr result (λ fault. fault ≡ Fault.Root) }
+{
+    match *task {
+        Task::Decode { root, .. } if bytes_of_digits(root).is_none() => Err(Fault::Root),
+        _ => Ok(()),
+    }
+}
+
+// Prints `length` bytes of output from byte `at` on: the hash on several threads, and else on one.
+fn print_range<'a, R: AllocGlobal + Threads + Sync, O: Write>(
+    rt: &R,
+    mode: &Mode,
+    bytes: &[u8],
+    at: u64,
+    length: u32,
+    out: &mut O,
+) -> Result<(), Fault<'a>>
+    requires { at + length ≤ 2 ^ 64 - 1 }
+    ensures { Prints (digits_line (stream mode.now bytes.now at length)) (O.contents out.old) (O.contents out.new) result }
+{
+    if at == 0 && length == HASH_LEN {
+        print_hash(rt, rt.alloc(), mode, bytes, out)
+    } else {
+        print_output(rt.alloc(), mode, bytes, at, length, out)
+    }
+}
+
+// Prints what `clap` has to say: help and the version on `out`, a refusal on `err`.
+fn answer_clap<O: Write, E: Write>(error: &clap::Error, out: &mut O, err: &mut E) -> u8
+    ensures status { result ≤ 4 }
+    ensures done { result ≡ 0 → IsHelp (kind_of error.now) }
+    ensures file_fault { result ≡ 3 → IsHelp (kind_of error.now) }
+    ensures fault { result ≢ 0 → result ≢ 3 → Keeps (O.contents out.old) (O.contents out.new) }
+{
+    if error.kind() == ErrorKind::OutOfMemory {
+        return Fault::Memory.report(err);
+    }
+    if error.use_stderr() {
+        let _ = write!(Once(err), "{error}");
+        return 2;
+    }
+    let shown = write!(Once(out), "{error}");
+    if shown.is_err() || out.flush().is_err() {
+        return Fault::Output.report(err);
+    }
+    0
+}

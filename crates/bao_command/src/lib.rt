@@ -1,0 +1,17 @@
+//! The program `bao_gather` as a function of its words, its files and its standard output and error.
+#![tactic(auto)]
+
+mod command;
+mod decode;
+mod digits;
+mod fault;
+mod input;
+mod mode;
+mod once;
+mod output;
+mod program;
+#[cfg(test)]
+mod tests;
+mod words;
+
+pub use program::run;

@@ -1,0 +1,35 @@
+ghost use Rattle.std.specs.Prelude.{◌≡◌, ◌↔◌, IsSome, IfSome};
+ghost use Rattle.std.specs.Option.{option_copied};
+ghost use Rattle.hex.specs.Hex.{decode_of};
+ghost use Rattle.bao_command.specs.ModeWords.{GivesMode, IsDigits};
+
+use crate::fault::Fault;
+use b3tree::Mode;
+use hex::FromHex;
+
+/// The 32 bytes that `text` gives as 64 hexadecimal digits of either case.
+pub fn bytes_of_digits(text: &str) -> Option<[u8; 32]>
+    ensures value { IfSome result (λ bytes. decode_of text.now ≡ Ok bytes) }
+    ensures found { IsSome result ↔ IsDigits text.now }
+{
+    <[u8; 32] as FromHex>::from_hex(text).ok()
+}
+
+/// The mode that `--key` and `--context` ask for: hash mode where neither is there.
+///
+/// A key that is no text of 64 hexadecimal digits is `Key`, and that comes before `KeyAndContext`, which
+/// answers both words.
+pub fn mode_of<'a>(key: Option<&str>, context: Option<&str>) -> Result<Mode, Fault<'a>>
+    ensures { GivesMode (option_copied key.entry) (option_copied context.entry) result }
+{
+    let key = match key {
+        Some(text) => Some(bytes_of_digits(text).ok_or(Fault::Key)?),
+        None => None,
+    };
+    match (key, context) {
+        (Some(_), Some(_)) => Err(Fault::KeyAndContext),
+        (Some(key), None) => Ok(Mode::keyed(key)),
+        (None, Some(context)) => Ok(Mode::derive(context)),
+        (None, None) => Ok(Mode::hash()),
+    }
+}

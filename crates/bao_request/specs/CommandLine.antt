@@ -1,0 +1,112 @@
+-- the command line: its subcommands, with their options and places, as clap's rules
+use Rattle.std.specs.Prelude.{◌≡◌, ◌⊎◌, List, [], ◌∷◌, Some, pos, codes, true, false}
+use Rattle.clap.specs.Words.{App, IsAmong, Rule, Text, app_of, fault_of, new_app, new_rule, subcommand_of, with_rule, with_subcommand}
+use Rattle.clap.specs.declared.builder.command.Command.{Command}
+use Rattle.clap.specs.declared.builder.command.Command.TheViews.{out-Command}
+use Rattle.clap.specs.declared.builder.value_parser.ValueParser.{ValueParser}
+use Rattle.clap.specs.declared.builder.value_parser.ValueParser.TheVariants.{Signed, Unsigned}
+use Rattle.clap.specs.declared.error.kind.ErrorKind.{ErrorKind}
+use Rattle.clap.specs.declared.error.kind.ErrorKind.TheVariants.{DisplayHelp, DisplayVersion}
+use Rattle.bao_request.specs.declared.tasks.Request.{Request}
+use Rattle.bao_request.specs.Requests.{GivesRequest}
+
+-- an option `--id VALUE`, and a place that has to be given
+abbrev pub option_rule : Text → Rule
+option_rule id = record (new_rule id) { long = Some id; value_names = 1 }
+
+abbrev pub place_rule : Text → Rule
+place_rule id = record (new_rule id) { required = true }
+
+-- a number of 64 bits
+abbrev pub any_number : ValueParser
+any_number = Unsigned 0 18446744073709551615
+
+abbrev pub key_rule : Rule
+key_rule = option_rule (codes "key")
+
+abbrev pub context_rule : Rule
+context_rule = option_rule (codes "context")
+
+abbrev pub at_rule : Rule
+at_rule = record (option_rule (codes "at")) { parser = Some any_number; defaults = codes "0" ∷ [] }
+
+abbrev pub length_rule : Rule
+length_rule = record (option_rule (codes "length")) { parser = Some (Signed (pos 1) (pos 65536)); defaults = codes "32" ∷ [] }
+
+abbrev pub file_rule : Rule
+file_rule = place_rule (codes "FILE")
+
+abbrev pub out_rule : Rule
+out_rule = place_rule (codes "OUT")
+
+abbrev pub start_rule : Rule
+start_rule = record (place_rule (codes "START")) { parser = Some any_number }
+
+abbrev pub len_rule : Rule
+len_rule = record (place_rule (codes "LEN")) { parser = Some any_number }
+
+-- the subcommands; each has the options of the mode last
+abbrev pub with_mode_rules : App → App
+with_mode_rules app = with_rule (with_rule app key_rule) context_rule
+
+abbrev pub with_file_rules : App → App
+with_file_rules app = with_mode_rules (with_rule (with_rule app file_rule) out_rule)
+
+abbrev pub hash_app : App
+hash_app = with_mode_rules (with_rule (with_rule (with_rule (new_app (codes "hash")) at_rule) length_rule) file_rule)
+
+abbrev pub encode_app : App
+encode_app = with_file_rules (new_app (codes "encode"))
+
+abbrev pub outboard_app : App
+outboard_app = with_file_rules (new_app (codes "outboard"))
+
+abbrev pub slice_app : App
+slice_app = with_file_rules (with_rule (with_rule (new_app (codes "slice")) start_rule) len_rule)
+
+abbrev pub root_rule : Rule
+root_rule = place_rule (codes "ROOT")
+
+abbrev pub enc_rule : Rule
+enc_rule = place_rule (codes "ENC")
+
+abbrev pub slice_rule : Rule
+slice_rule = place_rule (codes "SLICE")
+
+abbrev pub decode_app : App
+decode_app = with_mode_rules (with_rule (with_rule (with_rule (new_app (codes "decode")) root_rule) enc_rule) out_rule)
+
+abbrev pub with_range_rules : App → App
+with_range_rules app = with_rule (with_rule (with_rule app root_rule) start_rule) len_rule
+
+abbrev pub with_slice_rules : App → App
+with_slice_rules app = with_mode_rules (with_rule (with_rule app slice_rule) out_rule)
+
+abbrev pub decode_slice_app : App
+decode_slice_app = with_slice_rules (with_range_rules (new_app (codes "decode-slice")))
+
+abbrev pub bare_app : App
+bare_app = let app = new_app (codes "bao_gather") in record app { top = record app.top { has_version = true; subcommand_required = true } }
+
+abbrev pub writers_app : App
+writers_app = with_subcommand (with_subcommand (with_subcommand (with_subcommand bare_app hash_app.top) encode_app.top) outboard_app.top) slice_app.top
+
+abbrev pub program_app : App
+program_app = with_subcommand (with_subcommand writers_app decode_app.top) decode_slice_app.top
+
+-- the command is that of the description, and has no global option
+pub record IsApp (app : App) (command : Command) : Type 0 where
+  pub app_is : app_of command ≡ app
+  pub globals : (out-Command command).has_globals ≡ false
+
+-- the words, the program's name first, ask for this request
+abbrev pub AsksFor : List Text → Request → Type 0
+AsksFor words request = GivesRequest (subcommand_of program_app words) request
+
+-- clap's answer is help or the version, and not a refusal
+abbrev pub IsHelp : ErrorKind → Type 0
+IsHelp kind = (kind ≡ DisplayHelp) ⊎ (kind ≡ DisplayVersion)
+
+-- the words ask for help or the version
+abbrev pub AsksForHelp : List Text → Type 0
+AsksForHelp words = (kind : ErrorKind) × IsHelp kind × IsAmong kind (fault_of program_app words)

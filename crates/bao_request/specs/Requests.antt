@@ -1,0 +1,49 @@
+-- what the words ask for: a request, from the rows that clap has of a subcommand's words (an
+-- option's or a place's name, with its text)
+use Rattle.std.specs.Prelude.{◌≡◌, ℕ, List, Option, Some, None, codes}
+use Rattle.std.specs.Option.{option_copied}
+use Rattle.std.specs.Str.Parse.{digits_value, without_leading_plus}
+use Rattle.clap.specs.Words.{Row, Text, first_of, one_of}
+use Rattle.bao_request.specs.declared.tasks.Encoding.{Encoding}
+use Rattle.bao_request.specs.declared.tasks.Encoding.TheVariants.{Combined, Outboard, Slice}
+use Rattle.bao_request.specs.declared.tasks.Part.{Part}
+use Rattle.bao_request.specs.declared.tasks.Part.TheVariants as part
+use Rattle.bao_request.specs.declared.tasks.Request.{Request}
+use Rattle.bao_request.specs.declared.tasks.Task.{Task}
+use Rattle.bao_request.specs.declared.tasks.Task.TheVariants.{Hash, Encode, Decode}
+
+-- the row of this name has this text
+abbrev pub GivesText : List Row → Text → Text → Type 0
+GivesText rows id text = first_of id rows ≡ Some text
+
+-- the row of this name has decimal digits of this value
+abbrev pub GivesNumber : List Row → Text → ℕ → Type 0
+GivesNumber rows id n = (text : Text) × (one_of id rows ≡ Some text) × (n ≡ digits_value 10 (without_leading_plus text))
+
+-- the subcommand of this name asks for this encoding
+abbrev pub GivesEncoding : Text → List Row → Encoding → Type 0
+GivesEncoding name rows Combined = name ≡ codes "encode"
+GivesEncoding name rows Outboard = name ≡ codes "outboard"
+GivesEncoding name rows (Slice start len) =
+    (name ≡ codes "slice") × GivesNumber rows (codes "START") start × GivesNumber rows (codes "LEN") len
+
+-- the subcommand of this name asks for the check of this part, in the file of this name
+abbrev pub GivesPart : Text → List Row → Part → Text → Type 0
+GivesPart name rows part.Whole file = (name ≡ codes "decode") × GivesText rows (codes "ENC") file
+GivesPart name rows (part.Slice start len) file =
+    (name ≡ codes "decode-slice") × GivesNumber rows (codes "START") start × GivesNumber rows (codes "LEN") len × GivesText rows (codes "SLICE") file
+
+-- the subcommand of this name asks for this task
+abbrev pub GivesTask : Text → List Row → Task → Type 0
+GivesTask name rows (Hash at length file) =
+    (name ≡ codes "hash") × GivesNumber rows (codes "at") at × GivesNumber rows (codes "length") length × GivesText rows (codes "FILE") file.now
+GivesTask name rows (Encode encoding file out) =
+    GivesEncoding name rows encoding × GivesText rows (codes "FILE") file.now × GivesText rows (codes "OUT") out.now
+GivesTask name rows (Decode root part file out) =
+    GivesPart name rows part file.now × GivesText rows (codes "ROOT") root.now × GivesText rows (codes "OUT") out.now
+
+-- the subcommand's name and rows ask for this request
+abbrev pub GivesRequest : Option (Text × List Row) → Request → Type 0
+GivesRequest None request = ⊥
+GivesRequest (Some (name, rows)) request =
+    GivesTask name rows request.task × (option_copied request.key ≡ first_of (codes "key") rows) × (option_copied request.context ≡ first_of (codes "context") rows)

@@ -1,0 +1,174 @@
+ghost use Rattle.std.specs.Prelude.{◌≡◌, IfOk, Some, false};
+ghost use Rattle.clap.specs.Words.{app_of, rule_of};
+ghost use Rattle.clap.specs.declared.builder.command.Command.TheViews.{out-Command};
+ghost use Rattle.bao_request.specs.CommandLine.{IsApp, any_number, at_rule, decode_app, decode_slice_app, encode_app, hash_app, length_rule, option_rule, outboard_app, place_rule, program_app, slice_app, with_file_rules, with_mode_rules, with_range_rules, with_slice_rules, writers_app};
+
+use clap::{Arg, ArgAction, Command, value_parser};
+use std::alloc::{AllocError, Global};
+
+// The option `--id NAME`.
+fn option<'a>(alloc: Global, id: &'a str, name: &'a str) -> Arg<'a>
+    ensures rule { rule_of result ≡ option_rule id.entry.now }
+    ensures global { result.global ≡ false }
+{
+    Arg::new(alloc, id).long(id).value_name(name)
+}
+
+// The place `id`, which has to be given.
+fn place<'a>(alloc: Global, id: &'a str, help: &'a str) -> Arg<'a>
+    ensures rule { rule_of result ≡ place_rule id.entry.now }
+    ensures global { result.global ≡ false }
+{
+    Arg::new(alloc, id).required(true).help(help)
+}
+
+fn at_option<'a>(alloc: Global) -> Arg<'a>
+    ensures rule { rule_of result ≡ at_rule }
+    ensures global { result.global ≡ false }
+{
+    option(alloc, "at", "N")
+        .value_parser(value_parser!(u64))
+        .default_value("0")
+        .help("The first byte of output to print")
+}
+
+fn length_option<'a>(alloc: Global) -> Arg<'a>
+    ensures rule { rule_of result ≡ length_rule }
+    ensures global { result.global ≡ false }
+{
+    option(alloc, "length", "N")
+        .value_parser(value_parser!(u32).range(1..65_537))
+        .default_value("32")
+        .help("How many bytes of output to print, 1 to 65536")
+}
+
+// The place `id` of a number of 64 bits.
+fn number_place<'a>(alloc: Global, id: &'a str, help: &'a str) -> Arg<'a>
+    ensures rule { rule_of result ≡ record (place_rule id.entry.now) { parser = Some any_number } }
+    ensures global { result.global ≡ false }
+{
+    place(alloc, id, help).value_parser(value_parser!(u64))
+}
+
+fn with_mode<'a>(alloc: Global, command: Command<'a>) -> Result<Command<'a>, AllocError>
+    requires { (out-Command command).has_globals ≡ false }
+    ensures { IfOk result (IsApp (with_mode_rules (app_of command.entry))) }
+{
+    let key = option(alloc, "key", "HEX").help("Hashes under this key, 64 hexadecimal digits");
+    let context = option(alloc, "context", "TEXT").help("Derives keys for this context");
+    command.arg(key)?.arg(context)
+}
+
+fn hash_command<'a>(alloc: Global) -> Result<Command<'a>, AllocError>
+    ensures { IfOk result (IsApp hash_app) }
+{
+    let file = place(alloc, "FILE", "The file to hash");
+    let command = Command::new(alloc, "hash")
+        .about(
+            "Prints the BLAKE3 hash of a file, or other bytes of its extended output, as hexadecimal digits",
+        )
+        .arg(at_option(alloc))?
+        .arg(length_option(alloc))?
+        .arg(file)?;
+    with_mode(alloc, command)
+}
+
+// The command with the words FILE and OUT, and those of the mode.
+fn with_files<'a>(alloc: Global, command: Command<'a>) -> Result<Command<'a>, AllocError>
+    requires { (out-Command command).has_globals ≡ false }
+    ensures { IfOk result (IsApp (with_file_rules (app_of command.entry))) }
+{
+    let file = place(alloc, "FILE", "The file to encode");
+    let out = place(alloc, "OUT", "The file to write");
+    let command = command.arg(file)?.arg(out)?;
+    with_mode(alloc, command)
+}
+
+fn encode_command<'a>(alloc: Global) -> Result<Command<'a>, AllocError>
+    ensures { IfOk result (IsApp encode_app) }
+{
+    let about = "Writes the combined Bao encoding of a file, and prints the hash";
+    with_files(alloc, Command::new(alloc, "encode").about(about))
+}
+
+fn outboard_command<'a>(alloc: Global) -> Result<Command<'a>, AllocError>
+    ensures { IfOk result (IsApp outboard_app) }
+{
+    let about = "Writes the outboard Bao encoding of a file, and prints the hash";
+    with_files(alloc, Command::new(alloc, "outboard").about(about))
+}
+
+fn slice_command<'a>(alloc: Global) -> Result<Command<'a>, AllocError>
+    ensures { IfOk result (IsApp slice_app) }
+{
+    let start = number_place(alloc, "START", "The first byte of the range");
+    let len = number_place(alloc, "LEN", "How many bytes the range has; 0 counts as 1");
+    let command = Command::new(alloc, "slice")
+        .about("Writes the Bao slice of a range of a file, and prints the hash of the file")
+        .arg(start)?
+        .arg(len)?;
+    with_files(alloc, command)
+}
+
+fn decode_command<'a>(alloc: Global) -> Result<Command<'a>, AllocError>
+    ensures { IfOk result (IsApp decode_app) }
+{
+    let command = Command::new(alloc, "decode")
+        .about("Checks a combined Bao encoding under a root, and writes the blob")
+        .arg(place(alloc, "ROOT", "The hash of the blob, 64 hexadecimal digits"))?
+        .arg(place(alloc, "ENC", "The encoding to check"))?
+        .arg(place(alloc, "OUT", "The file to write"))?;
+    with_mode(alloc, command)
+}
+
+// The command with the words ROOT, START and LEN.
+fn with_range<'a>(alloc: Global, command: Command<'a>) -> Result<Command<'a>, AllocError>
+    requires { (out-Command command).has_globals ≡ false }
+    ensures { IfOk result (IsApp (with_range_rules (app_of command.entry))) }
+{
+    let root = place(alloc, "ROOT", "The hash of the blob, 64 hexadecimal digits");
+    let start = number_place(alloc, "START", "The first byte of the range");
+    let len = number_place(alloc, "LEN", "How many bytes the range has");
+    command.arg(root)?.arg(start)?.arg(len)
+}
+
+// The command with the words SLICE and OUT, and those of the mode.
+fn with_slice<'a>(alloc: Global, command: Command<'a>) -> Result<Command<'a>, AllocError>
+    requires { (out-Command command).has_globals ≡ false }
+    ensures { IfOk result (IsApp (with_slice_rules (app_of command.entry))) }
+{
+    let slice = place(alloc, "SLICE", "The slice to check");
+    let out = place(alloc, "OUT", "The file to write");
+    let command = command.arg(slice)?.arg(out)?;
+    with_mode(alloc, command)
+}
+
+fn decode_slice_command<'a>(alloc: Global) -> Result<Command<'a>, AllocError>
+    ensures { IfOk result (IsApp decode_slice_app) }
+{
+    let about = "Checks a Bao slice under a root, and writes its bytes";
+    let command = with_range(alloc, Command::new(alloc, "decode-slice").about(about))?;
+    with_slice(alloc, command)
+}
+
+// The program with the commands that hash and write.
+fn writers<'a>(alloc: Global) -> Result<Command<'a>, AllocError>
+    ensures { IfOk result (IsApp writers_app) }
+{
+    Command::new(alloc, "bao_gather")
+        .version("0.1.0")
+        .about("Hashes files with BLAKE3, and writes and checks their Bao encodings")
+        .subcommand_required(true)
+        .subcommand(hash_command(alloc)?)?
+        .subcommand(encode_command(alloc)?)?
+        .subcommand(outboard_command(alloc)?)?
+        .subcommand(slice_command(alloc)?)
+}
+
+/// The program's command line: `hash`, `encode`, `outboard`, `slice`, `decode`, `decode-slice`.
+pub fn program<'a>(alloc: Global) -> Result<Command<'a>, AllocError>
+    ensures { IfOk result (IsApp program_app) }
+{
+    let program = writers(alloc)?;
+    program.subcommand(decode_command(alloc)?)?.subcommand(decode_slice_command(alloc)?)
+}

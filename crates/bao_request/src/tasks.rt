@@ -1,0 +1,53 @@
+/// What the words ask for.
+#[derive(Clone, Copy, Debug)]
+pub struct Request<'a> {
+    /// The text of `--key`.
+    pub key: Option<&'a str>,
+    /// The text of `--context`.
+    pub context: Option<&'a str>,
+    pub task: Task<'a>,
+}
+
+/// A command with its words.
+#[derive(Clone, Copy, Debug)]
+pub enum Task<'a> {
+    /// `length` bytes, 1 to 65,536, of a file's extended output, from byte `at` on.
+    Hash {
+        at: u64,
+        length: u32,
+        file: &'a str,
+    },
+    /// An encoding of a file, to the file `out`.
+    Encode {
+        encoding: Encoding,
+        file: &'a str,
+        out: &'a str,
+    },
+    /// The bytes that a text certifies under a root, to the file `out`.
+    Decode {
+        root: &'a str,
+        part: Part,
+        file: &'a str,
+        out: &'a str,
+    },
+}
+
+/// Which part of a blob a text that is checked is of.
+#[derive(Clone, Copy, Debug)]
+pub enum Part {
+    /// All of it: a combined encoding.
+    Whole,
+    /// A slice: `len` bytes from byte `start` on.
+    Slice { start: u64, len: u64 },
+}
+
+/// Which text of a blob is written.
+#[derive(Clone, Copy, Debug)]
+pub enum Encoding {
+    /// The combined encoding.
+    Combined,
+    /// The outboard encoding.
+    Outboard,
+    /// The slice for `len` bytes from `start` on.
+    Slice { start: u64, len: u64 },
+}
