@@ -18,7 +18,7 @@ use Rattle.bao_command.specs.Ranges.{first_written, last_written, part_len, part
 use Rattle.bao_text.specs.Cut.{claimed}
 use Rattle.bao_check.specs.Accepted.{IsAccepted, slice_nodes}
 use Rattle.hex.specs.Hex.{decode_of}
-use Rattle.bao_command.specs.ModeWords.{GivesMode}
+use Rattle.bao_command.specs.ModeWords.{GivesMode, IsDigits}
 use Rattle.bao_command.specs.Printed.{AppendsBeginning, digits_line}
 
 -- the line of a text that was decoded to n bytes
@@ -35,6 +35,12 @@ abbrev pub line_of : Mode → Task → List ℕ → List ℕ
 line_of mode (Hash at length file) bytes = digits_line (stream mode bytes at length)
 line_of mode (Encode encoding file out) bytes = digits_line (hash mode bytes)
 line_of mode (Decode root part file out) bytes = part_line part bytes
+
+-- the task's root, where it has one, is 64 hexadecimal digits
+abbrev pub HasRoot : Task → Type 0
+HasRoot (Hash at length file) = Unit {0}
+HasRoot (Encode encoding file out) = Unit {0}
+HasRoot (Decode root part file out) = IsDigits root.now
 
 -- the text of a part of the blob with this root, in hexadecimal digits, is accepted
 abbrev pub IsRightPart : Mode → List ℕ → Part → List ℕ → Type 0

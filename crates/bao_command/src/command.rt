@@ -1,4 +1,4 @@
-ghost use Rattle.std.specs.Prelude.{◌≡◌, ◌≢◌, ◌+◌, ◌-◌, ◌^◌, ◌≤◌, ℕ, List, map, string_bytes, IfErr, OnOk};
+ghost use Rattle.std.specs.Prelude.{◌≡◌, ◌≢◌, ◌+◌, ◌-◌, ◌^◌, ◌≤◌, ℕ, List, map, string_bytes, IfErr, IsErrAnd, OnOk};
 ghost use Rattle.bao_command.specs.declared.fault.Fault.TheVariants as Fault;
 ghost use Rattle.std.specs.Io.KnownBytes.{Keeps};
 ghost use Rattle.b3tree.specs.Hashing.{stream};
@@ -6,7 +6,7 @@ ghost use Rattle.clap.specs.Words.{kind_of};
 ghost use Rattle.bao_request.specs.CommandLine.{IsHelp};
 ghost use Rattle.bao_command.specs.Outcome.{Begun, Done};
 ghost use Rattle.bao_command.specs.Printed.{Prints, digits_line};
-ghost use Rattle.bao_command.specs.Tasks.{Answers, IsRight, line_of};
+ghost use Rattle.bao_command.specs.Tasks.{Answers, HasRoot, IsRight, line_of};
 
 use crate::decode::decode_file;
 use crate::digits::{print_digits, print_hash, print_output};
@@ -57,7 +57,8 @@ fn serve<'a, R: Files + AllocGlobal + Threads + Sync, O: Write>(
     request: &Request<'a>,
     out: &mut O,
 ) -> Result<(), Fault<'a>>
-    ensures { Answers request.now (O.contents out.old) (O.contents out.new) result }
+    ensures answer { Answers request.now (O.contents out.old) (O.contents out.new) result }
+    ensures root { ¬ HasRoot request.now.task → IsErrAnd result (λ fault. fault ≡ Fault.Root) }
 {
     check_root(&request.task)?;
     let mode = mode_of(request.key, request.context)?;
@@ -102,7 +103,8 @@ fn serve_task<'a, R: Files + AllocGlobal + Threads + Sync, O: Write>(
 
 // A root that is no text of 64 hexadecimal digits is the first fault.
 fn check_root<'a>(task: &Task<'a>) -> Result<(), Fault<'a>>
-    ensures { IfErr result (λ fault. fault ≡ Fault.Root) }
+    ensures ok { OnOk result (HasRoot task.now) }
+    ensures err { IfErr result (λ fault. (fault ≡ Fault.Root) × ¬ HasRoot task.now) }
 {
     match *task {
         Task::Decode { root, .. } if bytes_of_digits(root).is_none() => Err(Fault::Root),

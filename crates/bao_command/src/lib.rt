@@ -12,6 +12,8 @@ mod output;
 mod program;
 #[cfg(test)]
 mod tests;
+#[cfg(test)]
+mod tests_decode;
 mod words;
 
 pub use program::run;

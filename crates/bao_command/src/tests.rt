@@ -10,7 +10,7 @@ use std::test::Fail;
 use std::thread::Threads;
 use std::{fs, io, process, str};
 
-const EMPTY: &str = "af1349b9f5f9a1a6a0404dea36dcc9499bcb25c9adc112b7cc9a93cae41f3262\n";
+pub(crate) const EMPTY: &str = "af1349b9f5f9a1a6a0404dea36dcc9499bcb25c9adc112b7cc9a93cae41f3262\n";
 
 const ABC: &str = "6437b3ac38465133ffb63b75273a8db548c558465d79db03fd359c6cd5bd9d85\n";
 
@@ -27,14 +27,14 @@ const CONTEXT: &str = "BLAKE3 2019-12-27 16:29:52 test vectors context";
 // hash, which `b3sum` 1.2.0 gives too, and the 64 bytes of the root and of the parent on its left. The program was
 // written in Python from the two definitions alone, and gives the 105 rows of `b3tree`'s tests.
 #[derive(Clone, Copy)]
-struct Figures {
-    mode: &'static [&'static str],
-    hash: &'static str,
-    root: [u8; 64],
-    left: [u8; 64],
+pub(crate) struct Figures {
+    pub(crate) mode: &'static [&'static str],
+    pub(crate) hash: &'static str,
+    pub(crate) root: [u8; 64],
+    pub(crate) left: [u8; 64],
 }
 
-const PLAIN: Figures = Figures {
+pub(crate) const PLAIN: Figures = Figures {
     mode: &[],
     hash: "5f4d72f40d7a5f82b15ca2b2e44b1de3c2ef86c426c95c1af0b6879522563030\n",
     root: [
@@ -53,7 +53,7 @@ const PLAIN: Figures = Figures {
     ],
 };
 
-const KEYED: Figures = Figures {
+pub(crate) const KEYED: Figures = Figures {
     mode: &["--key", KEY],
     hash: "9f29700902f7c86e514ddc4df1e3049f258b2472b6dd5267f61bf13983b78dd5\n",
     root: [
@@ -72,7 +72,7 @@ const KEYED: Figures = Figures {
     ],
 };
 
-const DERIVED: Figures = Figures {
+pub(crate) const DERIVED: Figures = Figures {
     mode: &["--context", CONTEXT],
     hash: "2ea477c5515cc3dd606512ee72bb3e0e758cfae7232826f35fb98ca1bcbdf273\n",
     root: [
@@ -94,8 +94,8 @@ const DERIVED: Figures = Figures {
 // Takes at most `room` bytes, then answers one write by a fault of this kind and takes all after it, so that a
 // write too many shows. It can't be flushed where `stuck`.
 #[derive(Drop)]
-struct Broken {
-    held: Vec<u8>,
+pub(crate) struct Broken {
+    pub(crate) held: Vec<u8>,
     room: usize,
     kind: ErrorKind,
     stuck: bool,
@@ -122,7 +122,7 @@ impl Write for Broken {
 }
 
 // A writer that fails after `room` bytes by a fault of this kind.
-fn failing(alloc: Global, room: usize, kind: ErrorKind) -> Broken {
+pub(crate) fn failing(alloc: Global, room: usize, kind: ErrorKind) -> Broken {
     Broken {
         held: Vec::new(alloc),
         room,
@@ -196,7 +196,7 @@ fn words(alloc: Global, given: &[&str]) -> Result<Vec<String>, Fail> {
 }
 
 // Runs the program, and asserts its status and what it prints on its two streams.
-fn expect<R: Files + AllocGlobal + Threads + Sync + Abort>(
+pub(crate) fn expect<R: Files + AllocGlobal + Threads + Sync + Abort>(
     rt: &R,
     given: &[&str],
     status: u8,
@@ -214,12 +214,12 @@ fn expect<R: Files + AllocGlobal + Threads + Sync + Abort>(
 }
 
 // A path of the test's own process.
-fn path(alloc: Global, process: u32, name: &str) -> Result<String, Fail> {
+pub(crate) fn path(alloc: Global, process: u32, name: &str) -> Result<String, Fail> {
     Ok(format!(in alloc; "/tmp/bao_gather-{process}-{name}")?)
 }
 
 // The bytes i mod 251, as in BLAKE3's test vectors.
-fn blob(alloc: Global, len: usize) -> Result<Vec<u8>, Fail> {
+pub(crate) fn blob(alloc: Global, len: usize) -> Result<Vec<u8>, Fail> {
     let mut bytes = Vec::with_capacity(alloc, len)?;
     for i in 0..len {
         bytes.push((i % 251) as u8)?;
@@ -366,7 +366,7 @@ fn faults_of_usage(rt: HostRuntime) -> Result<(), Fail> {
 #[test]
 fn faults_of_words(rt: HostRuntime) -> Result<(), Fail> {
     let none = "error: 'bao_gather' requires a subcommand but one was not provided
-  [subcommands: hash, encode, outboard, slice, help]
+  [subcommands: hash, encode, outboard, slice, decode, decode-slice, help]
 
 Usage: bao_gather <COMMAND>
 
@@ -432,6 +432,38 @@ Options:
   -h, --help            Print help
 ";
     expect(&rt, &["outboard", "--help"], 0, help, "")?;
+    let help = "Checks a combined Bao encoding under a root, and writes the blob
+
+Usage: bao_gather decode [OPTIONS] <ROOT> <ENC> <OUT>
+
+Arguments:
+  <ROOT>  The hash of the blob, 64 hexadecimal digits
+  <ENC>   The encoding to check
+  <OUT>   The file to write
+
+Options:
+      --key <HEX>       Hashes under this key, 64 hexadecimal digits
+      --context <TEXT>  Derives keys for this context
+  -h, --help            Print help
+";
+    expect(&rt, &["decode", "--help"], 0, help, "")?;
+    let help = "Checks a Bao slice under a root, and writes its bytes
+
+Usage: bao_gather decode-slice [OPTIONS] <ROOT> <START> <LEN> <SLICE> <OUT>
+
+Arguments:
+  <ROOT>   The hash of the blob, 64 hexadecimal digits
+  <START>  The first byte of the range
+  <LEN>    How many bytes the range has
+  <SLICE>  The slice to check
+  <OUT>    The file to write
+
+Options:
+      --key <HEX>       Hashes under this key, 64 hexadecimal digits
+      --context <TEXT>  Derives keys for this context
+  -h, --help            Print help
+";
+    expect(&rt, &["decode-slice", "--help"], 0, help, "")?;
     Ok(())
 }
 

@@ -20,18 +20,21 @@ GivesText rows id text = first_of id rows ≡ Some text
 abbrev pub GivesNumber : List Row → Text → ℕ → Type 0
 GivesNumber rows id n = (text : Text) × (one_of id rows ≡ Some text) × (n ≡ digits_value 10 (without_leading_plus text))
 
+-- the rows START and LEN have these numbers
+abbrev pub GivesRange : List Row → ℕ → ℕ → Type 0
+GivesRange rows start len = GivesNumber rows (codes "START") start × GivesNumber rows (codes "LEN") len
+
 -- the subcommand of this name asks for this encoding
 abbrev pub GivesEncoding : Text → List Row → Encoding → Type 0
 GivesEncoding name rows Combined = name ≡ codes "encode"
 GivesEncoding name rows Outboard = name ≡ codes "outboard"
-GivesEncoding name rows (Slice start len) =
-    (name ≡ codes "slice") × GivesNumber rows (codes "START") start × GivesNumber rows (codes "LEN") len
+GivesEncoding name rows (Slice start len) = (name ≡ codes "slice") × GivesRange rows start len
 
 -- the subcommand of this name asks for the check of this part, in the file of this name
 abbrev pub GivesPart : Text → List Row → Part → Text → Type 0
 GivesPart name rows part.Whole file = (name ≡ codes "decode") × GivesText rows (codes "ENC") file
 GivesPart name rows (part.Slice start len) file =
-    (name ≡ codes "decode-slice") × GivesNumber rows (codes "START") start × GivesNumber rows (codes "LEN") len × GivesText rows (codes "SLICE") file
+    (name ≡ codes "decode-slice") × GivesRange rows start len × GivesText rows (codes "SLICE") file
 
 -- the subcommand of this name asks for this task
 abbrev pub GivesTask : Text → List Row → Task → Type 0

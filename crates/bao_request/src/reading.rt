@@ -2,7 +2,7 @@ ghost use Rattle.std.specs.Prelude.{◌≡◌, IfErr, IfOk, IfSome, Some, map, s
 ghost use Rattle.std.specs.Option.{option_copied};
 ghost use Rattle.clap.specs.Words.{first_of, found_of, kind_of, rows_of, subcommand_of, subcommand_rows_of};
 ghost use Rattle.bao_request.specs.CommandLine.{AsksFor, AsksForHelp, IsHelp, program_app};
-ghost use Rattle.bao_request.specs.Requests.{GivesEncoding, GivesNumber, GivesRequest, GivesTask, GivesText};
+ghost use Rattle.bao_request.specs.Requests.{GivesEncoding, GivesNumber, GivesRange, GivesRequest, GivesTask, GivesText};
 
 use crate::rules::program;
 use crate::tasks::{Encoding, Part, Request, Task};
@@ -25,6 +25,13 @@ fn number(words: &ArgMatches<'_>, id: &str) -> Option<u64>
     words.get_one(id)
 }
 
+// The range that the words START and LEN give.
+fn range(words: &ArgMatches<'_>) -> Option<(u64, u64)>
+    ensures { IfSome result (λ range. GivesRange (rows_of (found_of words.now)) range.0 range.1) }
+{
+    Some((number(words, "START")?, number(words, "LEN")?))
+}
+
 // The encoding that the subcommand `name` asks for.
 fn encoding_of(name: &str, words: &ArgMatches<'_>) -> Option<Encoding>
     ensures { IfSome result (GivesEncoding name.now (rows_of (found_of words.now))) }
@@ -32,10 +39,10 @@ fn encoding_of(name: &str, words: &ArgMatches<'_>) -> Option<Encoding>
     match name {
         "encode" => Some(Encoding::Combined),
         "outboard" => Some(Encoding::Outboard),
-        "slice" => Some(Encoding::Slice {
-            start: number(words, "START")?,
-            len: number(words, "LEN")?,
-        }),
+        "slice" => {
+            let (start, len) = range(words)?;
+            Some(Encoding::Slice { start, len })
+        }
         _ => None,
     }
 }
@@ -51,15 +58,15 @@ fn decode_of<'a>(name: &str, words: &ArgMatches<'a>) -> Option<Task<'a>>
             file: text(words, "ENC")?,
             out: text(words, "OUT")?,
         }),
-        "decode-slice" => Some(Task::Decode {
-            root: text(words, "ROOT")?,
-            part: Part::Slice {
-                start: number(words, "START")?,
-                len: number(words, "LEN")?,
-            },
-            file: text(words, "SLICE")?,
-            out: text(words, "OUT")?,
-        }),
+        "decode-slice" => {
+            let (start, len) = range(words)?;
+            Some(Task::Decode {
+                root: text(words, "ROOT")?,
+                part: Part::Slice { start, len },
+                file: text(words, "SLICE")?,
+                out: text(words, "OUT")?,
+            })
+        }
         _ => None,
     }
 }

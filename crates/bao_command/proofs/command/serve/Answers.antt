@@ -26,8 +26,8 @@ answers request mode bytes old new (Err (Check fault)) has right prints = prints
 answers request mode bytes old new (Err Memory) has right prints = prints
 
 -- src/command.rt:52:1
-pub returns : goal.returns
-returns g c =
+pub returns-clause-answer : goal.returns-clause-answer
+returns-clause-answer g c =
     let request = c.args.request.now in
     let has = subst (GivesMode (option_copied request.key) (option_copied request.context)) c.in_ok-mode.was c.mode_of.ensures in
     answers request c.in_ok-mode.mode c.serve_task.ensures.0 (g.O.Write.contents c.args.out.now) (g.O.Write.contents c.serve_task.new.out) c.serve_task.result has c.serve_task.ensures.1 c.serve_task.ensures.2
