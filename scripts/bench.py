@@ -78,6 +78,7 @@ B3SUM_ONE = "b3sum --num-threads 1"
 B3SUM_FOUR = "b3sum --num-threads 4"
 OUTBOARD = "bao_gather outboard"
 ENCODE = "bao_gather encode"
+DECODE = "bao_gather decode"
 SLICE = "cut_slice of 1 MiB"
 SLICE_OF_SIXTEENTH = "cut_slice of 1 MiB, a sixteenth of the file"
 LARGER_SLICE = "cut_slice of 8 MiB"
@@ -91,6 +92,7 @@ ROWS = [
     (B3SUM_ONE, "whole program, one thread"),
     (OUTBOARD, "whole program, one thread, writes a file"),
     (ENCODE, "whole program, one thread, writes a file"),
+    (DECODE, "whole program, one thread, checks the file's combined encoding, writes the file"),
     ("hash", "b3tree::hash in one process, one thread"),
     ("hash_join", "b3par::hash_join in one process, several threads"),
     ("Hasher", "b3tree::Hasher in one process, one thread, pieces of 64 KiB"),
@@ -109,6 +111,7 @@ RATIOS = [
     ("one thread", "Hasher", "hash", "at most 1.1"),
     ("one thread", OUTBOARD, HASH_ONE, "at most 1.3"),
     ("one thread", ENCODE, HASH_ONE, "at most 1.6"),
+    ("one thread", DECODE, HASH_ONE, ""),
     ("one thread", SLICE, SLICE_OF_SIXTEENTH, "about 1: not with the encoding"),
     ("one thread", LARGER_SLICE, SLICE, "about 8: with the slice"),
 ]
@@ -133,6 +136,9 @@ def measure(room, mib, runs):
             commands.append((name, [PROGRAM, command, path, made]))
         else:
             print(f"The program knows no command {command}, so there is no time of it.")
+    encoding = f"{room}/encoding"
+    root = output([PROGRAM, "encode", path, encoding]).strip()
+    commands.append((DECODE, [PROGRAM, "decode", root, encoding, made]))
     times, hashes = Times(), set()
     for _ in range(runs):
         for name, words in commands:

@@ -42,7 +42,7 @@ void *realloc(void *old, size_t size) {
 }
 """
 
-MEMORY = [b"bao_gather: memory\n", b"bao_gather: 401 memory\n"]
+MEMORY = [b"bao_gather: memory\n", b"bao_gather: 401 memory\n", b"bao_gather: 504 memory\n"]
 
 
 def run(shim, number, words):
@@ -85,7 +85,12 @@ def main():
         subprocess.run(["cc", "-shared", "-fPIC", "-o", shim, f"{room}/shim.c", "-ldl"], check=True)
         with open(blob, "wb") as it:
             it.write(bytes(i % 251 for i in range(200_000)))
-        for words in (["hash", blob], ["hash", "--length", "99", blob], ["encode", blob, out], ["outboard", blob, out], ["slice", "5", "9999", blob, out]):
+        encoding, piece = f"{room}/encoding", f"{room}/piece"
+        root = run(shim, 0, ["encode", blob, encoding])[1].decode().strip()
+        run(shim, 0, ["slice", "5", "9999", blob, piece])
+        writers = (["encode", blob, out], ["outboard", blob, out], ["slice", "5", "9999", blob, out])
+        decoders = (["decode", root, encoding, out], ["decode-slice", root, "5", "9999", piece, out])
+        for words in (["hash", blob], ["hash", "--length", "99", blob], *writers, *decoders):
             with open(out, "wb"):
                 pass
             print(f"{words[0]}: {look(shim, words, out)} runs ended with a fault of memory, and the others as they should")
