@@ -10,9 +10,9 @@ use crate::digits::print_text;
 use crate::fault::Fault;
 use crate::input::open_file;
 use crate::mode::bytes_of_digits;
-use bao_request::Part;
 use b3tree::{CHUNK_LEN, Hash, Mode};
 use bao_check::{CheckFault, Checked, check_stream};
+use bao_request::Part;
 use bao_text::{WriteFault, write_text};
 use std::alloc::Global;
 use std::fs;
@@ -38,10 +38,7 @@ fn written_of(part: &Part, total: u64) -> (u64, u64)
 {
     match part {
         Part::Whole => (0, total),
-        Part::Slice { start, len } => (
-            (*start).min(total),
-            start.saturating_add(*len).min(total),
-        ),
+        Part::Slice { start, len } => ((*start).min(total), start.saturating_add(*len).min(total)),
     }
 }
 

@@ -5,8 +5,8 @@ ghost use Rattle.bao_text.specs.Faults.{WroteOnly};
 ghost use Rattle.bao_command.specs.Tasks.{encoding_text};
 
 use crate::fault::Fault;
-use bao_request::Encoding;
 use b3tree::{Hash, Mode};
+use bao_request::Encoding;
 use bao_text::{WriteFault, outboard, slice, write_combined, write_text};
 use std::alloc::Global;
 use std::io::Write;

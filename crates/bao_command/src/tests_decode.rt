@@ -151,16 +151,34 @@ fn refused_texts_leave_no_file(rt: HostRuntime) -> Result<(), Fail> {
     let cut = text.get(..2183).ok_or("range")?;
     refused(&rt, &slice, cut, &paths, "501 short at 1160")?;
     refused(&rt, &slice, &[], &paths, "501 short at 0")?;
-    refused(&rt, &slice, whole.as_slice(), &paths, "503 trailing at 2184")?;
+    refused(
+        &rt,
+        &slice,
+        whole.as_slice(),
+        &paths,
+        "503 trailing at 2184",
+    )?;
     text[1500] ^= 1;
     refused(&rt, &slice, text.as_slice(), &paths, "502 mismatch at 1160")?;
 
     let decode = ["decode", digits];
     refused(&rt, &decode, &[255; 8], &paths, "501 short at 8")?;
-    refused(&rt, &decode, text.as_slice(), &paths, "502 mismatch at 1160")?;
+    refused(
+        &rt,
+        &decode,
+        text.as_slice(),
+        &paths,
+        "502 mismatch at 1160",
+    )?;
     let mut more = encoding(rt.alloc(), &PLAIN)?;
     more.push(0)?;
-    refused(&rt, &decode, more.as_slice(), &paths, "503 trailing at 2185")?;
+    refused(
+        &rt,
+        &decode,
+        more.as_slice(),
+        &paths,
+        "503 trailing at 2185",
+    )?;
 
     // The text of another mode.
     let keyed = ["decode", "--key", *KEYED.mode.last().ok_or("key")?, digits];
@@ -199,7 +217,13 @@ fn faults_of_writing_what_was_checked(rt: HostRuntime) -> Result<(), Fail> {
     fs::write(&rt, file, encoding(rt.alloc(), &PLAIN)?.as_slice())?;
     let digits = root(&PLAIN)?;
     let closed = "bao_gather: cannot write /tmp/missing/file\n";
-    expect(&rt, &["decode", digits, file, "/tmp/missing/file"], 3, "", closed)?;
+    expect(
+        &rt,
+        &["decode", digits, file, "/tmp/missing/file"],
+        3,
+        "",
+        closed,
+    )?;
     let full = "bao_gather: cannot write /dev/full\n";
     expect(&rt, &["decode", digits, file, "/dev/full"], 3, "", full)?;
     fs::remove_file(&rt, file)?;

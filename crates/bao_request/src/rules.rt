@@ -170,5 +170,7 @@ pub fn program<'a>(alloc: Global) -> Result<Command<'a>, AllocError>
     ensures { IfOk result (IsApp program_app) }
 {
     let program = writers(alloc)?;
-    program.subcommand(decode_command(alloc)?)?.subcommand(decode_slice_command(alloc)?)
+    program
+        .subcommand(decode_command(alloc)?)?
+        .subcommand(decode_slice_command(alloc)?)
 }

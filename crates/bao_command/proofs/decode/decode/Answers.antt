@@ -1,7 +1,7 @@
-use Rattle.std.proofs.Common.{◌≡◌, ℕ, ◌-◌, List, Result, Ok, Err, IfOk, subst}
+use Rattle.std.proofs.Common.{◌≡◌, ℕ, ◌-◌, List, subst}
 use Rattle.bao_check.specs.Accepted.{IsAccepted, slice_nodes}
 use Rattle.bao_check.specs.Checked.{piece_text}
-use Rattle.bao_command.specs.Ranges.{first_written, last_written, part_len, part_start}
+use Rattle.bao_command.specs.Ranges.{first_written, last_written, part_start}
 use Rattle.bao_command.specs.Tasks.{IsRightPart}
 use Rattle.bao_command.proofs.Parts.{accepted_of, with_right}
 use Rattle.bao_text.specs.Cut.{claimed}

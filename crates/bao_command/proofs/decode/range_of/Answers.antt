@@ -1,8 +1,6 @@
-use Rattle.std.proofs.Common.{◌≡◌, ℕ, ◌-◌, ◌*◌, ◌^◌, ◌<◌, min, List, length, take, drop, unwrap_or, [], Some, Option, ◌∙◌, sym, ap, subst, arith}
-use Rattle.std.specs.Option.{option_copied}
+use Rattle.std.proofs.Common.{◌≡◌, ℕ, ◌-◌, ◌*◌, min, List, length, take, drop, unwrap_or, [], Some, ◌∙◌, ap, arith}
 use Rattle.bao_check.specs.Checked.{piece_places, piece_text}
 use Rattle.bao_check.specs.Pieces.{chunk_in}
-use Rattle.bao_command.specs.Ranges.{chunk_range}
 use Rattle.bao_command.proofs.Parts.{bounded}
 use Rattle.bao_command.proofs.decode.range_of.Goals as goal
 

@@ -12,7 +12,7 @@ returns-clause-fault g c =
     let before = g.R.Read.remaining c.args.reader.now in
     let after = g.R.Read.remaining c.check_stream.new.reader in
     with_fault
-      c.ended.result
-      (λ fault. (fault ≡ check.Trailing (length text)) × (c.in_ok-has_more.field-0 ≡ true))
-      (λ fault is. trails before after c.args.mode.now c.args.root.now.0 c.args.start c.args.len text fault accepted c.in_ok-piece.ensures.reader (c.in_ok-has_more.ensures.more is.1) is.0)
-      c.ended.ensures.err
+    c.ended.result
+    (λ fault. (fault ≡ check.Trailing (length text)) × (c.in_ok-has_more.field-0 ≡ true))
+    (λ fault is. trails before after c.args.mode.now c.args.root.now.0 c.args.start c.args.len text fault accepted c.in_ok-piece.ensures.reader (c.in_ok-has_more.ensures.more is.1) is.0)
+    c.ended.ensures.err

@@ -1,7 +1,6 @@
 use Rattle.std.proofs.Common.{◌≡◌, ℕ, ◌-◌, List, ◌∙◌, ap, rules}
 use Rattle.bao_check.specs.Checked.{piece_claimed}
 use Rattle.bao_command.specs.Ranges.{IsCertifiedPart, certified_range, first_written, last_written}
-use Rattle.bao_command.proofs.decode.write_part.Given as given
 use Rattle.bao_command.proofs.decode.write_part.Goals as goal
 
 pub returns-in_err-write_chunks-clause-text : goal.returns-in_err-write_chunks-clause-text
@@ -18,7 +17,8 @@ returns-in_err-write_chunks-clause-text g c =
       after = after;
       holds = c.chunks-from.ensures.spans;
       bytes_are = ap (λ n. certified_range piece n c.written_of-first.result.1 from (after - from)) first
-      ∙ ap (λ n. certified_range piece (first_written part (piece_claimed piece)) n from (after - from)) last} in
+          ∙ ap (λ n. certified_range piece (first_written part (piece_claimed piece)) n from (after - from)) last;
+    } in
     (bytes, certified, search rules, search rules)
 
 pub returns-clause-text : goal.returns-clause-text
@@ -35,5 +35,6 @@ returns-clause-text g c =
       after = after;
       holds = c.chunks-from.ensures.spans;
       bytes_are = ap (λ n. certified_range piece n c.written_of-first.result.1 from (after - from)) first
-      ∙ ap (λ n. certified_range piece (first_written part (piece_claimed piece)) n from (after - from)) last} in
+          ∙ ap (λ n. certified_range piece (first_written part (piece_claimed piece)) n from (after - from)) last;
+    } in
     (bytes, certified, c.in_ok-write_chunks.ensures.ok, tt)

@@ -12,7 +12,8 @@ ends : (old : Option (List ℕ)) (status n : ℕ) → status ≡ n → n ≢ 0 �
 ends old status n is some other = record {
   done = λ none. absurd (some (sym is ∙ none));
   file_fault = λ three. absurd (other (sym is ∙ three));
-  fault = λ _ _. Keeps-refl old}
+  fault = λ _ _. Keeps-refl old;
+}
 
 unread : (fault : Fault) (old : Option (List ℕ)) (status : ℕ) → status ≡ status_of fault → (fault ≡ Word) ⊎ (fault ≡ Memory) → Ends [] old old status
 unread fault old status is (inl word) = ends old status 2 (is ∙ ap status_of word) (omega arith) (omega arith)
@@ -20,11 +21,14 @@ unread fault old status is (inr memory) = ends old status 4 (is ∙ ap status_of
 
 pub returns-in-Ok-clause-outcome : goal.returns-in-Ok-clause-outcome
 returns-in-Ok-clause-outcome g c =
-    let status : exit_status c.from.result ≡ c.command.result = c.from.ensures in
-    (map string_bytes c.as_slice.result.now, record {
-      done = λ is. c.command.ensures.done (sym status ∙ is);
-      file_fault = λ is. c.command.ensures.file_fault (sym status ∙ is);
-      fault = λ some other. c.command.ensures.fault (λ is. some (status ∙ is)) (λ is. other (status ∙ is))})
+    let status : exit_status c.from.result ≡ c.command.result = c.from.ensures in (
+      map string_bytes c.as_slice.result.now,
+      record {
+        done = λ is. c.command.ensures.done (sym status ∙ is);
+        file_fault = λ is. c.command.ensures.file_fault (sym status ∙ is);
+        fault = λ some other. c.command.ensures.fault (λ is. some (status ∙ is)) (λ is. other (status ∙ is));
+      },
+    )
 
 pub returns-in-Err-clause-outcome : goal.returns-in-Err-clause-outcome
 returns-in-Err-clause-outcome g c = ([], unread c.in-Err.fault (g.O.Write.contents c.args.out.now) (exit_status c.from-in-Err.result) (c.from-in-Err.ensures ∙ c.report.ensures) c.in-Err.ensures)

@@ -1,9 +1,8 @@
-use Rattle.std.proofs.Common.{◌≡◌, ◌||◌, false, ap, ap₂, ◌∙◌}
+use Rattle.std.proofs.Common.{◌||◌, ap, ap₂, ◌∙◌}
 use Rattle.std.proofs.lemmas.Result.{IfOk-weaker}
-use Rattle.clap.specs.Words.{App, app_of, with_subcommand}
+use Rattle.clap.specs.Words.{App, with_subcommand}
 use Rattle.clap.specs.declared.builder.command.Command.{Command}
-use Rattle.clap.specs.declared.builder.command.Command.TheViews.{out-Command}
-use Rattle.bao_request.specs.CommandLine.{IsApp, decode_app, decode_slice_app, writers_app}
+use Rattle.bao_request.specs.CommandLine.{IsApp, decode_app, writers_app}
 use Rattle.bao_request.proofs.rules.program.Goals as goal
 
 pub returns : goal.returns

@@ -1,9 +1,8 @@
-use Rattle.std.proofs.Common.{◌≡◌, ◌||◌, false, rules, ap, ap₂, ◌∙◌}
+use Rattle.std.proofs.Common.{◌||◌, rules, ap, ap₂, ◌∙◌}
 use Rattle.std.proofs.lemmas.Result.{IfOk-weaker}
-use Rattle.clap.specs.Words.{App, app_of, with_subcommand}
+use Rattle.clap.specs.Words.{App, with_subcommand}
 use Rattle.clap.specs.declared.builder.command.Command.{Command}
-use Rattle.clap.specs.declared.builder.command.Command.TheViews.{out-Command}
-use Rattle.bao_request.specs.CommandLine.{IsApp, bare_app, encode_app, hash_app, outboard_app, slice_app}
+use Rattle.bao_request.specs.CommandLine.{IsApp, bare_app, encode_app, hash_app, outboard_app}
 use Rattle.bao_request.proofs.rules.writers.Goals as goal
 
 pub returns : goal.returns
