@@ -70,7 +70,10 @@ fn ended<'a>(piece: Checked<'a>, has_more: bool) -> Result<Checked<'a>, CheckFau
 /// Reads all that `reader` has into `text`, which is empty, and checks it as the slice of `len` bytes from
 /// byte `start` on.
 ///
-/// Where the text is accepted one more byte is asked for: one that comes is `Trailing` at the text's end.
+/// Refuses a text by its first fault: 501 `Short`, 502 `Mismatch`, each with the offset of its node. Where the
+/// text is accepted one more byte is asked for, and one that comes is 503 `Trailing` at the text's end. 504
+/// `Memory` comes where there is no room for a node, and 505 `Reader` where a read answers a fault. After
+/// each the vector has what was read of the text.
 pub fn read_text<'a, R: Read>(
     alloc: Global,
     mode: &Mode,
@@ -123,9 +126,11 @@ fn write_chunks<W: Write>(
     Ok(())
 }
 
-/// Writes what the piece certifies of the part to `out`: the blob's bytes at the part's positions.
+/// Writes what the piece certifies of the part to `out`: the bytes of the chunks that it holds, at the part's
+/// positions. Answers how many positions these are, in the length that the piece claims.
 ///
-/// After a fault, which is that of a write, a beginning of them went out.
+/// Refuses by 402 `Writer` alone, where a write answered a fault or took no byte: then a beginning of the bytes
+/// went out. The writer is not flushed.
 pub fn write_part<W: Write>(
     piece: &Checked<'_>,
     part: &Part,
