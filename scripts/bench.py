@@ -81,6 +81,8 @@ ENCODE = "bao_gather encode"
 SLICE = "cut_slice of 1 MiB"
 SLICE_OF_SIXTEENTH = "cut_slice of 1 MiB, a sixteenth of the file"
 LARGER_SLICE = "cut_slice of 8 MiB"
+CHECK = "check_combined"
+CHECK_SLICE = "check_slice of 1 MiB"
 
 # The table: a name of what was timed, and how it worked. Lines of the program bench have their names from there;
 # a further way that it prints needs a line here, and one below where it has a ratio.
@@ -97,6 +99,8 @@ ROWS = [
     (SLICE, "bao_text::cut_slice in one process, one thread, from the file's combined encoding"),
     (SLICE_OF_SIXTEENTH, "as before, from a combined encoding a sixteenth as long"),
     (LARGER_SLICE, "as before, from the file's combined encoding"),
+    (CHECK, "bao_check::check_combined in one process, one thread, of the file's combined encoding"),
+    (CHECK_SLICE, "bao_check::check_slice in one process, one thread, of a slice of it"),
 ]
 
 # The ratios of two of those times: the first over the second, and what is wanted of it.
@@ -111,6 +115,7 @@ RATIOS = [
     ("one thread", ENCODE, HASH_ONE, "at most 1.6"),
     ("one thread", SLICE, SLICE_OF_SIXTEENTH, "about 1: not with the encoding"),
     ("one thread", LARGER_SLICE, SLICE, "about 8: with the slice"),
+    ("one thread", CHECK, "hash", "at most 1.15"),
 ]
 
 
@@ -133,6 +138,8 @@ def measure(room, mib, runs):
             commands.append((name, [PROGRAM, command, path, made]))
         else:
             print(f"The program knows no command {command}, so there is no time of it.")
+    # A command that reads an encoding, such as decode, goes here, with a name and a line of ROWS above. The encoding is
+    # made and its root noted once, before the turns.
     times, hashes = Times(), set()
     for _ in range(runs):
         for name, words in commands:
