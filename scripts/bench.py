@@ -82,6 +82,8 @@ DECODE = "bao_gather decode"
 SLICE = "cut_slice of 1 MiB"
 SLICE_OF_SIXTEENTH = "cut_slice of 1 MiB, a sixteenth of the file"
 LARGER_SLICE = "cut_slice of 8 MiB"
+CHECK = "check_combined"
+CHECK_SLICE = "check_slice of 1 MiB"
 
 # The table: a name of what was timed, and how it worked. Lines of the program bench have their names from there;
 # a further way that it prints needs a line here, and one below where it has a ratio.
@@ -99,6 +101,8 @@ ROWS = [
     (SLICE, "bao_text::cut_slice in one process, one thread, from the file's combined encoding"),
     (SLICE_OF_SIXTEENTH, "as before, from a combined encoding a sixteenth as long"),
     (LARGER_SLICE, "as before, from the file's combined encoding"),
+    (CHECK, "bao_check::check_combined in one process, one thread, of the file's combined encoding"),
+    (CHECK_SLICE, "bao_check::check_slice in one process, one thread, of a slice of it"),
 ]
 
 # The ratios of two of those times: the first over the second, and what is wanted of it.
@@ -114,6 +118,7 @@ RATIOS = [
     ("one thread", DECODE, HASH_ONE, ""),
     ("one thread", SLICE, SLICE_OF_SIXTEENTH, "about 1: not with the encoding"),
     ("one thread", LARGER_SLICE, SLICE, "about 8: with the slice"),
+    ("one thread", CHECK, "hash", "at most 1.15"),
 ]
 
 

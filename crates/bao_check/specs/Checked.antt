@@ -1,11 +1,12 @@
 -- What a checked piece is of.
-use Rattle.std.specs.Prelude.{◌≡◌, ℕ, ◌-◌, List, is_some, true}
+use Rattle.std.specs.Prelude.{◌≡◌, ℕ, ◌-◌, List, Some, is_some, true}
 use Rattle.std.proofs.Math.Bool.{Bool-set}
 use Rattle.b3tree.specs.declared.mode.Mode.{Mode}
 use Rattle.bao_text.specs.Choice.{chunk_count}
 use Rattle.bao_text.specs.Cut.{claimed}
 use Rattle.bao_text.specs.Nodes.{Node}
 use Rattle.bao_check.specs.declared.checked.Checked.{Checked}
+use Rattle.bao_check.specs.Certificate.{Certificate, IsLast}
 use Rattle.bao_check.specs.Pieces.{chunk_in}
 use Rattle.bao_check.specs.Accepted.{places_of, slice_nodes}
 
@@ -37,6 +38,13 @@ HoldsLast piece = is_some (chunk_in (piece_text piece) (piece_places piece) (chu
 
 pub HoldsLast-prop : (piece : Checked) → IsProp (HoldsLast piece)
 HoldsLast-prop piece = Bool-set _ _
+
+-- the piece's text has the last chunk of a blob of `total` bytes, and a certificate of it that is last
+pub record HasLastCertificate (piece : Checked) (total : ℕ) : Type 0 where
+  pub bytes : List ℕ
+  pub there : chunk_in (piece_text piece) (piece_places piece) (chunk_count total - 1) ≡ Some bytes
+  pub certificate : Certificate (piece_mode piece) (piece_root piece) (chunk_count total - 1) bytes
+  pub last : IsLast certificate
 
 -- the piece is this text, accepted as the slice (start, len) under the root in the mode
 pub record IsPiece (piece : Checked) (mode : Mode) (root : List ℕ) (start len : ℕ) (text : List ℕ) : Type 0 where

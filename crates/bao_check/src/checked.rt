@@ -29,7 +29,7 @@ pub struct Checked<'a> {
 }
 
 impl<'a> Checked<'a> {
-    ghost use Rattle.bao_check.specs.Checked.{IsPiece, piece_claimed, piece_mode, piece_places, piece_root, piece_text, HoldsLast};
+    ghost use Rattle.bao_check.specs.Checked.{HasLastCertificate, IsPiece, piece_claimed, piece_mode, piece_places, piece_root, piece_text, HoldsLast};
     ghost use Rattle.bao_check.specs.Tail.{tail_piece};
 
     // The piece that an accepted text is.
@@ -83,8 +83,9 @@ impl<'a> Checked<'a> {
     }
 
     /// The number of the first chunk that the piece holds, and the number after the last. It holds those
-    /// between.
+    /// between, at least one.
     pub fn chunks(&self) -> (u64, u64)
+        ensures some { result.0 < result.1 }
         ensures spans { (i : ℕ) → IsSome (chunk_in (piece_text self.now) (piece_places self.now) i) ↔ ((result.0 ≤ i) × (i < result.1)) }
     {
         let choice = self.choice();
@@ -130,15 +131,16 @@ impl<'a> Checked<'a> {
     }
 
     /// That the piece holds the last chunk of its claimed length, where it does: then that length is
-    /// certified.
+    /// certified, since the way to the last chunk goes to the right at each parent.
     pub fn tail(&self) -> Option<Tail<'a>>
         ensures there { IsSome result ↔ HoldsLast self.now }
         ensures piece { IfSome result (λ tail. tail_piece tail ≡ self.now) }
+        ensures certificate { IfSome result (λ _. HasLastCertificate self.now (piece_claimed self.now)) }
     {
         let last = self.claimed().div_ceil(CHUNK_LEN as u64).max(1) - 1;
         let (first, after) = self.chunks();
         if first <= last && last < after {
-            Some(Tail::new(self))
+            Some(Tail { piece: *self })
         } else {
             None
         }

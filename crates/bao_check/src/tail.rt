@@ -2,7 +2,7 @@ ghost use Rattle.std.specs.Prelude.{◌≡◌, ◌⊎◌, ℕ, ◌+◌, ◌-◌,
 ghost use Rattle.b3tree.specs.Hashing.{hash};
 ghost use Rattle.b3tree.specs.Valid.{AreBytes};
 ghost use Rattle.bao_text.specs.Choice.{chunk_count};
-ghost use Rattle.bao_check.specs.Checked.{HoldsLast, HoldsLast-prop, piece_claimed, piece_mode, piece_places, piece_root, piece_text};
+ghost use Rattle.bao_check.specs.Checked.{HasLastCertificate, HoldsLast, HoldsLast-prop, piece_claimed, piece_mode, piece_places, piece_root, piece_text};
 ghost use Rattle.bao_check.specs.Inputs.{NamesPair};
 ghost use Rattle.bao_check.specs.Pieces.{chunk_in};
 
@@ -13,19 +13,12 @@ use b3tree::{Hash, Mode};
 /// keeps the piece's text by reference.
 #[derive(Clone, Copy, Debug)]
 pub struct Tail<'a> {
-    piece: Checked<'a>,
+    pub(crate) piece: Checked<'a>,
     ghost last: { HoldsLast piece } by { HoldsLast-prop piece },
 }
 
 impl<'a> Tail<'a> {
     ghost use Rattle.bao_check.specs.Tail.{tail_piece};
-
-    pub(crate) fn new(piece: &Checked<'a>) -> Tail<'a>
-        requires { HoldsLast piece.now }
-        ensures { tail_piece result ≡ piece.now }
-    {
-        Tail { piece: *piece }
-    }
 
     /// The root under which the piece was accepted.
     pub fn root(&self) -> Hash
@@ -41,7 +34,9 @@ impl<'a> Tail<'a> {
         self.piece.mode()
     }
 
-    /// The length of the blob in bytes: 1,024 times the last chunk's number, and its size.
+    /// The length of the blob in bytes: 1,024 times the last chunk's number, and its size. The root, the parents
+    /// on the way to that chunk and its bytes are a certificate that is last: the way goes to the right at each
+    /// parent.
     ///
     /// For each blob with the root it is the blob's length, or two different inputs with one chaining
     /// value are named, one of the blob's and one of the text's.
@@ -49,6 +44,7 @@ impl<'a> Tail<'a> {
         ensures value { result ≡ piece_claimed (tail_piece self.now) }
         ensures ends { (bytes : List ℕ) → chunk_in (piece_text (tail_piece self.now)) (piece_places (tail_piece self.now)) (chunk_count result - 1) ≡ Some bytes
             → 1024 * (chunk_count result - 1) + length bytes ≡ result }
+        ensures certificate { HasLastCertificate (tail_piece self.now) result }
         ensures binds { (blob : List ℕ) → AreBytes blob → hash (piece_mode (tail_piece self.now)) blob ≡ piece_root (tail_piece self.now)
             → (result ≡ length blob) ⊎ NamesPair (piece_mode (tail_piece self.now)) blob (piece_text (tail_piece self.now)) (piece_places (tail_piece self.now)) }
     {

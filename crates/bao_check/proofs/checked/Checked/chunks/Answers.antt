@@ -24,6 +24,7 @@ returns c =
     let end : c.end.result ≡ slice_end total start len = c.end.ensures ∙ ap (λ (x : Choice). x.end) c.choice-choice.ensures in
     let after : c.div_ceil.result ≡ (slice_end total start len + 1023) / 1024 = c.div_ceil.ensures ∙ omega arith in
     record {
+      some = omega (arith, first, end, after);
       spans = λ i.
           let there = slice_present total start len 8 i in
           let same = chunk_in-place (piece_text c.args.self.now) (piece_places c.args.self.now) i in (

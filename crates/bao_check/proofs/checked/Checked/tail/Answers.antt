@@ -1,7 +1,9 @@
-use Rattle.std.proofs.Common.{◌≡◌, ◌-◌, ◌+◌, ◌/◌, ◌%◌, min, max, ℕ, IsSome, sym, subst, arith}
+use Rattle.std.proofs.Common.{◌≡◌, ◌≤◌, ◌<◌, ◌-◌, ◌+◌, ◌/◌, ◌%◌, min, max, ℕ, ◌↔◌, IsSome, sym, subst, arith}
 use Rattle.bao_text.specs.Choice.{chunk_count}
-use Rattle.bao_check.specs.Checked.{piece_claimed, piece_places, piece_text}
+use Rattle.bao_check.specs.declared.checked.Checked.{Checked}
+use Rattle.bao_check.specs.Checked.{HoldsLast, piece_claimed, piece_places, piece_text}
 use Rattle.bao_check.specs.Pieces.{chunk_in}
+use Rattle.bao_check.proofs.Tails.{last_certificate}
 use Rattle.bao_check.proofs.checked.Checked.tail.Goals as goal
 use Rattle.bao_check.proofs.checked.Checked.tail.Goals.{else-first-last-via-then-first-last+else-last-after, else-first-last-via-else-first-last}
 
@@ -9,12 +11,23 @@ use Rattle.bao_check.proofs.checked.Checked.tail.Goals.{else-first-last-via-then
 last_is : (total claimed quotient last : ℕ) → claimed ≡ total → quotient ≡ claimed / 1024 + min 1 (claimed % 1024) → last ≡ max quotient 1 → last - 1 ≡ chunk_count total - 1
 last_is total claimed quotient last e q m = omega arith
 
-pub new-requires : goal.new-requires
-new-requires c =
+-- the piece holds it where it is between
+holds_last : (piece : Checked) (last first after : ℕ) → last ≡ chunk_count (piece_claimed piece) - 1
+    → ((i : ℕ) → IsSome (chunk_in (piece_text piece) (piece_places piece) i) ↔ ((first ≤ i) × (i < after))) → first ≤ last → last < after → HoldsLast piece
+holds_last piece last first after is spans from below =
+    subst (λ (i : ℕ). IsSome (chunk_in (piece_text piece) (piece_places piece) i)) is ((spans last).1 (from, below))
+
+pub invariant_of-result : goal.invariant_of-result
+invariant_of-result c =
     let total : ℕ = piece_claimed c.args.self.now in
     let last : c.max-last.result - 1 ≡ chunk_count total - 1 = last_is total c.claimed.result c.div_ceil.result c.max-last.result c.claimed.ensures c.div_ceil.ensures c.max-last.ensures in
-    subst (λ (i : ℕ). IsSome (chunk_in (piece_text c.args.self.now) (piece_places c.args.self.now) i)) last
-    ((c.chunks-first.ensures.spans (c.max-last.result - 1)).1 (c.if-first-last.true, c.if-last-after.true))
+    record { last = holds_last c.args.self.now _ _ _ last c.chunks-first.ensures.spans c.if-first-last.true c.if-last-after.true }
+
+pub returns-then-last-after-clause-certificate : goal.returns-then-last-after-clause-certificate
+returns-then-last-after-clause-certificate c =
+    let total : ℕ = piece_claimed c.args.self.now in
+    let last : c.max-last.result - 1 ≡ chunk_count total - 1 = last_is total c.claimed.result c.div_ceil.result c.max-last.result c.claimed.ensures c.div_ceil.ensures c.max-last.ensures in
+    last_certificate c.args.self.now (holds_last c.args.self.now _ _ _ last c.chunks-first.ensures.spans c.if-first-last.true c.if-last-after.true)
 
 pub returns-else-first-last-clause-there : goal.returns-else-first-last-clause-there
 returns-else-first-last-clause-there c =

@@ -1,9 +1,10 @@
-use Rattle.std.proofs.Common.{◌≡◌, ◌+◌, ◌-◌, ℕ, sym, ap, ◌∙◌, arith}
+use Rattle.std.proofs.Common.{◌≡◌, ◌+◌, ◌-◌, ℕ, sym, ap, subst, ◌∙◌, arith}
 use Rattle.bao_text.specs.Choice.{chunk_count}
 use Rattle.bao_text.specs.Cut.{claimed}
-use Rattle.bao_check.specs.Checked.{piece_mode, piece_root, piece_text}
+use Rattle.bao_check.specs.Checked.{HasLastCertificate, piece_mode, piece_root, piece_text}
 use Rattle.bao_check.specs.Tail.{tail_piece}
 use Rattle.bao_check.proofs.Certified.{certified}
+use Rattle.bao_check.proofs.Tails.{last_certificate}
 use Rattle.bao_check.proofs.tail.Tail.length.Goals as goal
 
 pub returns-clause-ends : goal.returns-clause-ends
@@ -14,3 +15,8 @@ returns-clause-ends c = λ bytes there.
     let found = certified (piece_mode piece) (piece_root piece) (piece_text piece) piece.start piece.len piece.accepted (chunk_count total - 1) bytes there in
     let last : chunk_count total - 1 + 1 ≡ chunk_count (claimed (piece_text piece)) = omega (arith, ap chunk_count is) in
     found.ends last ∙ sym is
+
+pub returns-clause-certificate : goal.returns-clause-certificate
+returns-clause-certificate c =
+    let piece = tail_piece c.args.self.now in
+    subst (HasLastCertificate piece) (sym c.claimed-length.ensures) (last_certificate piece c.args.self.now.last)

@@ -1,0 +1,65 @@
+use crate::measure::print_row;
+use anyhow::Result;
+use b3tree::{Hash, Mode};
+use bao_check::{check_combined, check_slice};
+use bao_text::{combined, cut_slice};
+use std::hint::black_box;
+use std::io;
+use std::rt::Clock;
+use std::time::{Duration, Instant};
+
+// How often each text is checked. The checks take turns.
+const ROUNDS: u32 = 5;
+
+// The bytes of the blob that the slice is of.
+const SLICE_LEN: u64 = 1 << 20;
+
+/// The least times of checks of texts in memory.
+#[derive(Clone, Copy, Debug)]
+pub struct CheckTimes {
+    /// The combined encoding of all bytes.
+    pub whole: Duration,
+    /// The slice of their first 1 MiB.
+    pub slice: Duration,
+}
+
+/// Encodes `bytes`, and checks the encoding and a slice of it, several times. Fails where one isn't accepted.
+pub fn least_times<R: Clock + AllocGlobal>(rt: &R, bytes: &[u8]) -> Result<CheckTimes> {
+    let (root, all) = combined(rt.alloc(), &Mode::hash(), bytes)?;
+    let slice = cut_slice(rt.alloc(), all.as_slice(), 0, SLICE_LEN)?;
+    let mut least = CheckTimes {
+        whole: Duration::MAX,
+        slice: Duration::MAX,
+    };
+    for _ in 0..ROUNDS {
+        least.whole = least.whole.min(timed_whole(rt, &root, all.as_slice())?);
+        least.slice = least.slice.min(timed_slice(rt, &root, slice.as_slice())?);
+    }
+    Ok(least)
+}
+
+// How long the check of a combined encoding takes.
+fn timed_whole<R: Clock + AllocGlobal>(rt: &R, root: &Hash, encoding: &[u8]) -> Result<Duration> {
+    let mode = Mode::hash();
+    let start = Instant::now(rt)?;
+    let piece = check_combined(rt.alloc(), &mode, root, encoding)?;
+    let time = start.elapsed(rt)?;
+    black_box(piece);
+    Ok(time)
+}
+
+// How long the check of the slice of the first `SLICE_LEN` bytes takes.
+fn timed_slice<R: Clock + AllocGlobal>(rt: &R, root: &Hash, slice: &[u8]) -> Result<Duration> {
+    let mode = Mode::hash();
+    let start = Instant::now(rt)?;
+    let piece = check_slice(rt.alloc(), &mode, root, 0, SLICE_LEN, slice)?;
+    let time = start.elapsed(rt)?;
+    black_box(piece);
+    Ok(time)
+}
+
+/// Prints a line for each check: of what, and its time in milliseconds.
+pub fn print(rt: &impl Print, times: &CheckTimes) -> io::Result<()> {
+    print_row(rt, "check_combined", times.whole)?;
+    print_row(rt, "check_slice of 1 MiB", times.slice)
+}
