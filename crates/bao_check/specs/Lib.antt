@@ -4,6 +4,7 @@ pub mod Certificate
 pub mod Inputs
 pub mod Faults
 pub mod Pieces
+pub mod Parents
 pub mod Walk
 pub mod Forms
 pub mod Spans

@@ -18,6 +18,7 @@ mod law;
 mod leaves;
 mod locate;
 mod outline;
+mod parent;
 mod read;
 mod source;
 mod stream;
