@@ -6,6 +6,7 @@ pub mod Faults
 pub mod Pieces
 pub mod Parents
 pub mod Walk
+pub mod Ways
 pub mod Forms
 pub mod Spans
 pub mod Checked

@@ -1,0 +1,15 @@
+//! A piece bound to a blob: that they agree, or two inputs of compressions that collide.
+//!
+//! Nothing here takes memory.
+#![tactic(auto)]
+
+pub use bind::audit;
+pub use verdict::{AuditFault, Verdict};
+
+mod bind;
+mod chunks;
+mod pair;
+mod parents;
+mod part;
+mod verdict;
+mod search;
