@@ -4,7 +4,7 @@ ghost use Rattle.b3tree.specs.Chunk.{block_count, chunk_input, last_chunk_input}
 ghost use Rattle.bao_check.specs.Inputs.{marked, whole_chunk};
 ghost use Rattle.bao_bind.specs.Search.{Finds};
 
-use crate::pair::{Pair, marked};
+use crate::pair::{Pair, are_same, marked};
 use crate::part::{Part, bytes_are};
 use b3tree::{BLOCK_LEN, Mode, chunk_input};
 
@@ -35,7 +35,7 @@ fn blocks_apart(mode: &Mode, ours: &Part<'_>, k: usize, theirs: &Part<'_>, l: us
     }
     let x = chunk_input(mode, ours.first, ours.bytes, k - 1);
     let y = chunk_input(mode, theirs.first, theirs.bytes, l - 1);
-    if x != y {
+    if !are_same(&x, &y) {
         return Some(Pair { ours: x, theirs: y });
     }
     blocks_apart(mode, ours, k - 1, theirs, l - 1)
@@ -49,11 +49,13 @@ pub(crate) fn chunks_apart(mode: &Mode, top: bool, ours: &Part<'_>, theirs: &Par
         → Finds (whole_chunk top mode.now ours.now.first ours.now.bytes.now) (whole_chunk top mode.now theirs.now.first theirs.now.bytes.now)
             ((ours.now.first ≡ theirs.now.first) × (ours.now.bytes.now ≡ theirs.now.bytes.now)) result }
 {
+    bytes_are(ours.bytes);
+    bytes_are(theirs.bytes);
     let k = last_block(ours.bytes);
     let l = last_block(theirs.bytes);
     let x = marked(top, &chunk_input(mode, ours.first, ours.bytes, k));
     let y = marked(top, &chunk_input(mode, theirs.first, theirs.bytes, l));
-    if x != y {
+    if !are_same(&x, &y) {
         return Some(Pair { ours: x, theirs: y });
     }
     blocks_apart(mode, ours, k, theirs, l)

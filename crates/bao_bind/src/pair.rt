@@ -1,4 +1,4 @@
-ghost use Rattle.std.specs.Prelude.{◌≡◌};
+ghost use Rattle.std.specs.Prelude.{◌≡◌, ◌↔◌, IsTrue};
 ghost use Rattle.bao_check.specs.Inputs.{marked};
 
 use b3tree::{Input, rooted};
@@ -15,4 +15,11 @@ pub(crate) fn marked(top: bool, input: &Input) -> Input
     ensures { result ≡ marked top input.now }
 {
     if top { rooted(input) } else { *input }
+}
+
+// Whether two inputs are the same.
+pub(crate) fn are_same(x: &Input, y: &Input) -> bool
+    ensures { IsTrue result ↔ (x.now ≡ y.now) }
+{
+    x == y
 }

@@ -7,7 +7,7 @@ ghost use Rattle.bao_check.specs.Ways.{LeadsTo};
 ghost use Rattle.bao_bind.specs.Search.{Finds, HasChunk, part_inputs};
 
 use crate::chunks::chunks_apart;
-use crate::pair::{Pair, marked};
+use crate::pair::{Pair, are_same, marked};
 use crate::parents::{Parents, input_of};
 use crate::part::Part;
 use b3tree::{CHUNK_LEN, Mode, left_len, top_input};
@@ -44,7 +44,7 @@ pub(crate) fn walk<P: Parents>(
     let middle = number + left_len / CHUNK_LEN as u64;
     let parent = parents.parent_before(middle)?;
     let y = marked(top, &input_of(mode, parent));
-    if ours.bytes.len() <= CHUNK_LEN || x != y {
+    if ours.bytes.len() <= CHUNK_LEN || !are_same(&x, &y) {
         return Some(Pair { ours: x, theirs: y });
     }
     let (left, right) = ours.parts();
