@@ -1,3 +1,4 @@
 mod Found
 mod Blocks
-
+mod TreeChunks
+mod Walks
