@@ -2,3 +2,4 @@ mod Found
 mod Blocks
 mod TreeChunks
 mod Walks
+mod Audits

@@ -1,7 +1,6 @@
 -- A walk through a blob's tree and a piece's parents together, step by step.
-use Rattle.std.proofs.Common.{◌≡◌, ◌≢◌, ◌⊎◌, ℕ, ◌+◌, ◌-◌, ◌*◌, ◌/◌, ◌<◌, ◌≤◌, List, ◌++◌, length, take, drop, None, Some, Option, Bool, true, false, refl, sym, ap, subst, ◌∙◌, arith, inl, inr}
+use Rattle.std.proofs.Common.{◌≡◌, ◌≢◌, ℕ, ◌+◌, ◌-◌, ◌/◌, ◌<◌, ◌≤◌, List, length, take, drop, Some, Option, Bool, false, refl, sym, ap, subst, ◌∙◌}
 use Rattle.std.specs.Prelude.{Contains}
-use Rattle.std.proofs.lemmas.Bool.{cases_lt}
 use Rattle.std.proofs.lemmas.List.{drop_at, take_at}
 use Rattle.b3word.specs.declared.input.Input.{Input}
 use Rattle.b3word.specs.Compression.{cv}
@@ -24,7 +23,7 @@ use Rattle.bao_bind.specs.Search.{Finds, HasChunk, part_inputs}
 use Rattle.bao_bind.proofs.TreeChunks.{chunk_left, chunk_right, chunk_whole}
 use Rattle.bao_bind.proofs.Found.{Finds-within, Names-by}
 
-part_subtree : (top : Bool) (mode : Mode) (first : ℕ) (s : List ℕ) → subtree_inputs top mode first s ≡ part_inputs top mode first s
+pub part_subtree : (top : Bool) (mode : Mode) (first : ℕ) (s : List ℕ) → subtree_inputs top mode first s ≡ part_inputs top mode first s
 unfolding subtree_inputs
 part_subtree top mode first s = refl
 

@@ -7,8 +7,8 @@ ghost use Rattle.bao_text.specs.Choice.{chunk_count};
 ghost use Rattle.bao_bind.specs.Verdict.{AgreesWith, IsOurs, Says};
 
 use crate::part::Part;
-use crate::verdict::{AuditFault, Verdict};
 use crate::search::walk;
+use crate::verdict::{AuditFault, Verdict};
 use b3tree::{CHUNK_LEN, hash};
 use bao_check::Checked;
 
@@ -56,11 +56,21 @@ fn first_apart<'a>(blob: &[u8], piece: &Checked<'a>) -> Option<Part<'a>>
     'chunks: for number in first..after {
         if let Some(bytes) = piece.chunk(number) {
             if !is_ours(blob, claimed, number, bytes) {
-                return Some(Part { first: number, bytes });
+                return Some(Part {
+                    first: number,
+                    bytes,
+                });
             }
         }
     }
     None
+}
+
+// Whether the blob's hash in the piece's mode is the piece's root.
+fn has_root(blob: &[u8], piece: &Checked<'_>) -> bool
+    ensures { IsTrue result ↔ (hash (piece_mode piece.now) blob.now ≡ piece_root piece.now) }
+{
+    hash(&piece.mode(), blob) == piece.root()
 }
 
 /// Whether a piece that was accepted under a blob's root is of that blob; and if it isn't, two inputs of the
@@ -74,14 +84,18 @@ pub fn audit(blob: &[u8], piece: &Checked<'_>) -> Result<Verdict, AuditFault>
     ensures other_root { IsErr result ↔ (hash (piece_mode piece.now) blob.now ≢ piece_root piece.now) }
     ensures says { IfOk result (λ verdict. Says blob.now piece.now verdict) }
 {
-    let mode = piece.mode();
-    if hash(&mode, blob) != piece.root() {
+    if !has_root(blob, piece) {
         return Err(AuditFault::OtherRoot);
     }
     let Some(chunk) = first_apart(blob, piece) else {
         return Ok(Verdict::Agrees);
     };
-    let ours = Part { first: 0, bytes: blob };
+    let mode = piece.mode();
+    mode.is_keyed();
+    let ours = Part {
+        first: 0,
+        bytes: blob,
+    };
     match walk(&mode, piece, true, &ours, 0, piece.claimed(), &chunk) {
         Some(pair) => Ok(Verdict::Collision {
             ours: pair.ours,

@@ -26,7 +26,7 @@ fn blocks_apart(mode: &Mode, ours: &Part<'_>, k: usize, theirs: &Part<'_>, l: us
     ensures { (top either : Bool)
         → marked either (chunk_input mode.now ours.now.first ours.now.bytes.now k) ≡ marked either (chunk_input mode.now theirs.now.first theirs.now.bytes.now l)
         → Finds (whole_chunk top mode.now ours.now.first ours.now.bytes.now) (whole_chunk top mode.now theirs.now.first theirs.now.bytes.now)
-            (take (64 * (k + 1)) ours.now.bytes.now ≡ take (64 * (l + 1)) theirs.now.bytes.now) result }
+        (take (64 * (k + 1)) ours.now.bytes.now ≡ take (64 * (l + 1)) theirs.now.bytes.now) result }
 {
     bytes_are(ours.bytes);
     bytes_are(theirs.bytes);
@@ -42,12 +42,17 @@ fn blocks_apart(mode: &Mode, ours: &Part<'_>, k: usize, theirs: &Part<'_>, l: us
 }
 
 // The last inputs that differ of two chunks with one chaining value; none if the chunks are the same.
-pub(crate) fn chunks_apart(mode: &Mode, top: bool, ours: &Part<'_>, theirs: &Part<'_>) -> Option<Pair>
+pub(crate) fn chunks_apart(
+    mode: &Mode,
+    top: bool,
+    ours: &Part<'_>,
+    theirs: &Part<'_>,
+) -> Option<Pair>
     requires our_len { length ours.now.bytes.now ≤ 1024 }
     requires their_len { length theirs.now.bytes.now ≤ 1024 }
     ensures { cv (marked top (last_chunk_input mode.now ours.now.first ours.now.bytes.now)) ≡ cv (marked top (last_chunk_input mode.now theirs.now.first theirs.now.bytes.now))
         → Finds (whole_chunk top mode.now ours.now.first ours.now.bytes.now) (whole_chunk top mode.now theirs.now.first theirs.now.bytes.now)
-            ((ours.now.first ≡ theirs.now.first) × (ours.now.bytes.now ≡ theirs.now.bytes.now)) result }
+        ((ours.now.first ≡ theirs.now.first) × (ours.now.bytes.now ≡ theirs.now.bytes.now)) result }
 {
     bytes_are(ours.bytes);
     bytes_are(theirs.bytes);

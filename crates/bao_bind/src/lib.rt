@@ -11,5 +11,5 @@ mod chunks;
 mod pair;
 mod parents;
 mod part;
-mod verdict;
 mod search;
+mod verdict;

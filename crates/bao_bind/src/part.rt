@@ -25,8 +25,14 @@ impl<'a> Part<'a> {
         let (left, right) = self.bytes.split_at(left_len as usize);
         let right_first = self.first + left_len / CHUNK_LEN as u64;
         (
-            Part { first: self.first, bytes: left },
-            Part { first: right_first, bytes: right },
+            Part {
+                first: self.first,
+                bytes: left,
+            },
+            Part {
+                first: right_first,
+                bytes: right,
+            },
         )
     }
 }

@@ -1,8 +1,7 @@
 use Rattle.std.proofs.Common.{◌≡◌, ◌+◌, ◌-◌, ◌*◌, ◌≤◌, ◌<◌, ℕ, List, length, take, drop, Some, sym, ap, ◌∙◌, arith, inl, inr, length-drop}
-use Rattle.std.proofs.lemmas.Bool.{cases_lt, lt-ltb}
+use Rattle.std.proofs.lemmas.Bool.{cases_lt}
 use Rattle.std.proofs.lemmas.List.{take_all}
 use Rattle.bao_text.specs.Choice.{chunk_count}
-use Rattle.bao_check.specs.Pieces.{chunk_of}
 use Rattle.bao_check.proofs.Binding.{chunk_of-there}
 use Rattle.bao_bind.proofs.bind.chunk_of.Goals as goal
 

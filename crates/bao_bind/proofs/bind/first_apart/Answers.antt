@@ -1,8 +1,8 @@
-use Rattle.std.proofs.Common.{◌≡◌, ◌+◌, ◌-◌, ◌<◌, ◌≤◌, ℕ, List, length, None, Some, Option, IsSome, true, refl, sym, ap, subst, ◌∙◌, arith, inl, inr}
+use Rattle.std.proofs.Common.{◌≡◌, ◌-◌, ℕ, List, None, Some, Option, IsSome, true, refl, sym, ap, subst, ◌∙◌, arith, inl, inr}
 use Rattle.std.specs.Prelude.{is_some}
 use Rattle.std.proofs.lemmas.Bool.{cases_lt}
 use Rattle.bao_text.specs.Choice.{chunk_count}
-use Rattle.bao_check.specs.Checked.{HoldsLast, piece_claimed, piece_places, piece_text}
+use Rattle.bao_check.specs.Checked.{piece_claimed, piece_places, piece_text}
 use Rattle.bao_check.specs.Pieces.{chunk_in}
 use Rattle.bao_bind.specs.Verdict.{IsOurs}
 use Rattle.bao_bind.proofs.Found.{told}

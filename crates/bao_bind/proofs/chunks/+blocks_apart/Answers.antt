@@ -1,5 +1,4 @@
-use Rattle.std.proofs.Common.{◌≡◌, ◌≢◌, ◌-◌, ◌<◌, ℕ, List, false, sym, ◌∙◌, arith, inl, inr}
-use Rattle.b3word.specs.declared.input.Input.{Input}
+use Rattle.std.proofs.Common.{ℕ, List, false, sym, ◌∙◌, arith, inl, inr}
 use Rattle.bao_bind.proofs.Blocks.{blocks_collide, blocks_on, blocks_start}
 use Rattle.bao_bind.proofs.Found.{told, told_not}
 use Rattle.bao_bind.proofs.chunks.+blocks_apart.Goals as goal

@@ -1,5 +1,4 @@
-use Rattle.std.proofs.Common.{◌≡◌, ◌≢◌, ℕ, ◌+◌, ◌-◌, ◌*◌, ◌/◌, ◌<◌, ◌≤◌, List, length, take, drop, None, Some, Option, false, sym, ap, ◌∙◌, arith, length-drop, ◌^◌}
-use Rattle.b3word.specs.declared.input.Input.{Input}
+use Rattle.std.proofs.Common.{◌≡◌, ℕ, ◌+◌, ◌-◌, ◌*◌, ◌/◌, ◌<◌, ◌≤◌, List, length, take, drop, None, Some, Option, false, sym, ap, ◌∙◌, arith, length-drop, ◌^◌}
 use Rattle.b3tree.specs.declared.mode.Mode.{Mode}
 use Rattle.b3tree.specs.Chunk.{last_chunk_input}
 use Rattle.b3tree.specs.Tree.{left_len, top_input}
