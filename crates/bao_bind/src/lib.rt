@@ -12,4 +12,8 @@ mod pair;
 mod parents;
 mod part;
 mod search;
+#[cfg(test)]
+mod tests;
+#[cfg(test)]
+mod tests_walk;
 mod verdict;

@@ -28,5 +28,7 @@ mod tests;
 #[cfg(test)]
 mod tests_outline;
 #[cfg(test)]
+mod tests_parent;
+#[cfg(test)]
 mod tests_stream;
 mod walk;
