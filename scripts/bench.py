@@ -81,6 +81,7 @@ ENCODE = "bao_gather encode"
 SLICE = "cut_slice of 1 MiB"
 SLICE_OF_SIXTEENTH = "cut_slice of 1 MiB, a sixteenth of the file"
 LARGER_SLICE = "cut_slice of 8 MiB"
+AUDIT = "audit of the whole encoding"
 
 # The table: a name of what was timed, and how it worked. Lines of the program bench have their names from there;
 # a further way that it prints needs a line here, and one below where it has a ratio.
@@ -97,6 +98,7 @@ ROWS = [
     (SLICE, "bao_text::cut_slice in one process, one thread, from the file's combined encoding"),
     (SLICE_OF_SIXTEENTH, "as before, from a combined encoding a sixteenth as long"),
     (LARGER_SLICE, "as before, from the file's combined encoding"),
+    (AUDIT, "bao_bind::audit in one process, one thread, of the file and its combined encoding, which agree"),
 ]
 
 # The ratios of two of those times: the first over the second, and what is wanted of it.
@@ -111,6 +113,7 @@ RATIOS = [
     ("one thread", ENCODE, HASH_ONE, "at most 1.6"),
     ("one thread", SLICE, SLICE_OF_SIXTEENTH, "about 1: not with the encoding"),
     ("one thread", LARGER_SLICE, SLICE, "about 8: with the slice"),
+    ("one thread", AUDIT, "hash", "at most 1.3: one hash and one comparison"),
 ]
 
 

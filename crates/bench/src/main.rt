@@ -7,6 +7,7 @@ use std::rt::Runtime;
 use std::thread::Threads;
 use std::{env, fs};
 
+mod audits;
 mod measure;
 mod slices;
 mod way;
@@ -35,5 +36,7 @@ fn run<R: Runtime + AllocGlobal + Threads + Sync>(rt: &R) -> Result<ExitCode> {
     measure::print(rt, &times)?;
     let slices = slices::least_times(rt, bytes.as_slice())?;
     slices::print(rt, &slices)?;
+    let audit = audits::least_time(rt, bytes.as_slice())?;
+    audits::print(rt, audit)?;
     Ok(ExitCode::SUCCESS)
 }
