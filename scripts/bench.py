@@ -84,6 +84,7 @@ SLICE_OF_SIXTEENTH = "cut_slice of 1 MiB, a sixteenth of the file"
 LARGER_SLICE = "cut_slice of 8 MiB"
 CHECK = "check_combined"
 CHECK_SLICE = "check_slice of 1 MiB"
+AUDIT = "audit of the whole encoding"
 
 # The table: a name of what was timed, and how it worked. Lines of the program bench have their names from there;
 # a further way that it prints needs a line here, and one below where it has a ratio.
@@ -103,6 +104,7 @@ ROWS = [
     (LARGER_SLICE, "as before, from the file's combined encoding"),
     (CHECK, "bao_check::check_combined in one process, one thread, of the file's combined encoding"),
     (CHECK_SLICE, "bao_check::check_slice in one process, one thread, of a slice of it"),
+    (AUDIT, "bao_bind::audit in one process, one thread, of the file and its combined encoding, which agree"),
 ]
 
 # The ratios of two of those times: the first over the second, and what is wanted of it.
@@ -119,6 +121,7 @@ RATIOS = [
     ("one thread", SLICE, SLICE_OF_SIXTEENTH, "about 1: not with the encoding"),
     ("one thread", LARGER_SLICE, SLICE, "about 8: with the slice"),
     ("one thread", CHECK, "hash", "at most 1.15"),
+    ("one thread", AUDIT, "hash", "at most 1.3: one hash and one comparison"),
 ]
 
 

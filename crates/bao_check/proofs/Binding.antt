@@ -114,20 +114,20 @@ reached_right first s l step steps number bytes parts h =
     }
 
 -- a chunk's last input and a parent's differ by their flags
-parent_not_chunk : (top : Bool) (mode : Mode) (near far : List ℕ) (i : ℕ) (s : List ℕ) → marked top (parent_input mode near far) ≡ marked top (last_chunk_input mode i s) → ⊥
+pub parent_not_chunk : (top : Bool) (mode : Mode) (near far : List ℕ) (i : ℕ) (s : List ℕ) → marked top (parent_input mode near far) ≡ marked top (last_chunk_input mode i s) → ⊥
 parent_not_chunk top mode near far i s e =
     let k : ℕ = block_count (length s) - 1 in
     let same : SameParts (parent_input mode near far) (last_chunk_input mode i s) = same_parts top (parent_input mode near far) (last_chunk_input mode i s) e in
     not_parent (block_count (length s)) k (sym (chunk_input_low mode i s k) ∙ sym same.low ∙ parent_low mode near far)
 
 -- the parent over s, and the inputs below it on either side
-parent_there : (top : Bool) (mode : Mode) (first : ℕ) (s : List ℕ) → 1024 < length s → Contains (subtree_inputs top mode first s) (marked top (subtree_parent mode first s))
+pub parent_there : (top : Bool) (mode : Mode) (first : ℕ) (s : List ℕ) → 1024 < length s → Contains (subtree_inputs top mode first s) (marked top (subtree_parent mode first s))
 parent_there top mode first s more = rw (subtree_inputs-parent top mode first s more) (Contains-head
     (subtree_inputs false mode first (take (left_len (length s)) s)
     ++ subtree_inputs false mode (first + left_len (length s) / 1024) (drop (left_len (length s)) s))
     (marked top (subtree_parent mode first s)))
 
-left_there : (top : Bool) (mode : Mode) (first : ℕ) (s : List ℕ) → 1024 < length s → (x : Input)
+pub left_there : (top : Bool) (mode : Mode) (first : ℕ) (s : List ℕ) → 1024 < length s → (x : Input)
     → Contains (subtree_inputs false mode first (take (left_len (length s)) s)) x → Contains (subtree_inputs top mode first s) x
 left_there top mode first s more x there =
     let near : List Input = subtree_inputs false mode first (take (left_len (length s)) s) in
@@ -135,7 +135,7 @@ left_there top mode first s more x there =
     rw (subtree_inputs-parent top mode first s more)
     (Contains-tail (near ++ far) (marked top (subtree_parent mode first s)) x (Contains-append_left near far x there))
 
-right_there : (top : Bool) (mode : Mode) (first : ℕ) (s : List ℕ) → 1024 < length s → (x : Input)
+pub right_there : (top : Bool) (mode : Mode) (first : ℕ) (s : List ℕ) → 1024 < length s → (x : Input)
     → Contains (subtree_inputs false mode (first + left_len (length s) / 1024) (drop (left_len (length s)) s)) x → Contains (subtree_inputs top mode first s) x
 right_there top mode first s more x there =
     let near : List Input = subtree_inputs false mode first (take (left_len (length s)) s) in
@@ -144,7 +144,7 @@ right_there top mode first s more x there =
     (Contains-tail (near ++ far) (marked top (subtree_parent mode first s)) x (Contains-append_right near far x there))
 
 -- the top of more than a chunk
-top_parent : (mode : Mode) (first : ℕ) (s : List ℕ) → 1024 < length s → top_input mode first s ≡ subtree_parent mode first s
+pub top_parent : (mode : Mode) (first : ℕ) (s : List ℕ) → 1024 < length s → top_input mode first s ≡ subtree_parent mode first s
 top_parent mode first s more = top_input-parent mode first s (left_len (length s)) (left_len-IsLeftLen (length s) more) more
 
 -- the way against the tree over s: it ends in a chunk of the tree, or a pair is named
@@ -214,7 +214,7 @@ way_binds top mode first s (step ∷ steps) number bytes hs hb eight same on =
           ]
     ]
 
-chunk_of-there : (blob : List ℕ) (number : ℕ) → number < chunk_count (length blob) → chunk_of blob number ≡ Some (take 1024 (drop (1024 * number) blob))
+pub chunk_of-there : (blob : List ℕ) (number : ℕ) → number < chunk_count (length blob) → chunk_of blob number ≡ Some (take 1024 (drop (1024 * number) blob))
 chunk_of-there blob number there = rw (lt-ltb number (chunk_count (length blob)) there) refl
 
 -- a certificate under a blob's root is of the blob's chunk, or a pair of inputs is named

@@ -75,12 +75,12 @@ chunk_in-append text (x ∷ xs) ys k bytes h = elim (cases_Bool (x.1.is_chunk &&
 ]
 
 -- no way begins below the top
-is_top-below : (sides : List Side) (side : Side) → false ≡ is_top (sides ++ side ∷ [])
+pub is_top-below : (sides : List Side) (side : Side) → false ≡ is_top (sides ++ side ∷ [])
 is_top-below [] side = refl
 is_top-below (d ∷ sides) side = refl
 
 -- that chunk is what the text has there
-same_chunk : (text : List ℕ) (at number n : ℕ) (sides : List Side) (source k : ℕ) (bytes : List ℕ)
+pub same_chunk : (text : List ℕ) (at number n : ℕ) (sides : List Side) (source k : ℕ) (bytes : List ℕ)
     → chunk_in text ((at, chunk_node number n sides source) ∷ []) k ≡ Some bytes → (number ≡ k) × (take n (drop at text) ≡ bytes)
 same_chunk text at number n sides source k bytes there = elim (cases_Bool (number == k)) [
   | inl hit ↦ let found : Some (take n (drop at text)) ≡ Some bytes = rw hit at there in (eqb-true number k hit, cc)
@@ -172,13 +172,13 @@ inputs-step asked mode text q near far own step steps k bytes further first rest
     ])
 
 -- the parts' compressions are among the whole's
-text_inputs-near : (mode : Mode) (text : List ℕ) (near far : List (ℕ × Node)) (x : Input) → Contains (text_inputs mode text near) x
+pub text_inputs-near : (mode : Mode) (text : List ℕ) (near far : List (ℕ × Node)) (x : Input) → Contains (text_inputs mode text near) x
     → Contains (text_inputs mode text (near ++ far)) x
 text_inputs-near mode text near far x h =
     subst (λ (xs : List Input). Contains xs x) (sym (flat_map-append (place_inputs mode text) near far))
     (Contains-append_left (text_inputs mode text near) (text_inputs mode text far) x h)
 
-text_inputs-far : (mode : Mode) (text : List ℕ) (near far : List (ℕ × Node)) (x : Input) → Contains (text_inputs mode text far) x
+pub text_inputs-far : (mode : Mode) (text : List ℕ) (near far : List (ℕ × Node)) (x : Input) → Contains (text_inputs mode text far) x
     → Contains (text_inputs mode text (near ++ far)) x
 text_inputs-far mode text near far x h =
     subst (λ (xs : List Input). Contains xs x) (sym (flat_map-append (place_inputs mode text) near far))

@@ -14,7 +14,7 @@ use Rattle.bao_check.proofs.Marked.{SameParts, same_parts}
 use Rattle.bao_check.proofs.Naming.{Named, earlier_there, last_there, same_or_named}
 
 -- blocks of inputs that are equal but for ROOT
-same_block : (mode : Mode) (i j : ℕ) (s t : List ℕ) (k l : ℕ) → AreBytes s → AreBytes t → SameParts (chunk_input mode i s k) (chunk_input mode j t l) → block s k ≡ block t l
+pub same_block : (mode : Mode) (i j : ℕ) (s t : List ℕ) (k l : ℕ) → AreBytes s → AreBytes t → SameParts (chunk_input mode i s k) (chunk_input mode j t l) → block s k ≡ block t l
 same_block mode i j s t k l hs ht same =
     block_words_same (block s k) (block t l)
     (sym (chunk_input_b mode i s k) ∙ same.b ∙ chunk_input_b mode j t l)
@@ -23,7 +23,7 @@ same_block mode i j s t k l hs ht same =
     (AreBytes-take 64 (drop (64 * l) t) (AreBytes-drop (64 * l) t ht))
     (sym (chunk_input_m mode i s k) ∙ same.m ∙ chunk_input_m mode j t l)
 
-same_start : (mode : Mode) (i j : ℕ) (s t : List ℕ) (k : ℕ) → SameParts (chunk_input mode i s 0) (chunk_input mode j t (suc k)) → ⊥
+pub same_start : (mode : Mode) (i j : ℕ) (s t : List ℕ) (k : ℕ) → SameParts (chunk_input mode i s 0) (chunk_input mode j t (suc k)) → ⊥
 same_start mode i j s t k same =
     first_alone (block_count (length s)) (block_count (length t)) k (sym (chunk_input_low mode i s 0) ∙ same.low ∙ chunk_input_low mode j t (suc k))
 

@@ -4,7 +4,9 @@ pub mod Certificate
 pub mod Inputs
 pub mod Faults
 pub mod Pieces
+pub mod Parents
 pub mod Walk
+pub mod Ways
 pub mod Forms
 pub mod Spans
 pub mod Checked

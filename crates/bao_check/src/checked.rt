@@ -76,7 +76,7 @@ impl<'a> Checked<'a> {
     }
 
     // The part of the blob that the text is of.
-    fn choice(&self) -> Choice
+    pub(crate) fn choice(&self) -> Choice
         ensures { result ≡ of_slice (piece_claimed self.now) self.now.start self.now.len }
     {
         Choice::of_slice(self.claimed(), self.start, self.len)

@@ -18,6 +18,7 @@ mod law;
 mod leaves;
 mod locate;
 mod outline;
+mod parent;
 mod read;
 mod source;
 mod stream;
@@ -26,6 +27,8 @@ mod tail;
 mod tests;
 #[cfg(test)]
 mod tests_outline;
+#[cfg(test)]
+mod tests_parent;
 #[cfg(test)]
 mod tests_stream;
 mod walk;

@@ -7,7 +7,7 @@ use bao_text::{Choice, encoded_len, outboard_len};
 
 pub(crate) const LENGTH_LEN: u128 = 8;
 
-const PARENT_LEN: u128 = 64;
+pub(crate) const PARENT_LEN: u128 = 64;
 
 /// Where a text has a chunk: the offset of its first byte, and how many bytes it has.
 #[derive(Clone, Copy, Debug)]
@@ -18,7 +18,7 @@ pub(crate) struct Span {
 
 // How many bytes of a text the wanted nodes of the subtree over `n` bytes from chunk `number` on are. It
 // goes down only where a subtree is wanted in part, so along the two edges of the wanted positions.
-fn nodes_size(choice: &Choice, number: u64, n: u64) -> u128
+pub(crate) fn nodes_size(choice: &Choice, number: u64, n: u64) -> u128
     requires { 1024 * number + n ≤ 2 ^ 64 - 1 }
     ensures value { (sides : List Side) (from : ℕ) → result ≡ sum_by size (subtree_nodes choice.now number n sides from) }
     ensures bound { result ≤ subtree_size n }

@@ -7,6 +7,7 @@ use std::rt::Runtime;
 use std::thread::Threads;
 use std::{env, fs};
 
+mod audits;
 mod checks;
 mod measure;
 mod slices;
@@ -38,5 +39,7 @@ fn run<R: Runtime + AllocGlobal + Threads + Sync>(rt: &R) -> Result<ExitCode> {
     slices::print(rt, &slices)?;
     let checks = checks::least_times(rt, bytes.as_slice())?;
     checks::print(rt, &checks)?;
+    let audit = audits::least_time(rt, bytes.as_slice())?;
+    audits::print(rt, audit)?;
     Ok(ExitCode::SUCCESS)
 }

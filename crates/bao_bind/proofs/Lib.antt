@@ -1,0 +1,5 @@
+mod Found
+mod Blocks
+mod TreeChunks
+mod Walks
+mod Audits

@@ -1,0 +1,32 @@
+-- What an audit of a piece against a blob says.
+use Rattle.std.specs.Prelude.{◌≡◌, ℕ, ◌+◌, List, length, Some}
+use Rattle.b3word.specs.declared.input.Input.{Input}
+use Rattle.bao_text.specs.Choice.{chunk_count}
+use Rattle.bao_check.specs.declared.checked.Checked.{Checked}
+use Rattle.bao_check.specs.Checked.{HoldsLast, piece_claimed, piece_mode, piece_places, piece_text}
+use Rattle.bao_check.specs.Inputs.{Names, blob_inputs, text_inputs}
+use Rattle.bao_check.specs.Pieces.{chunk_in, chunk_of}
+use Rattle.bao_bind.specs.declared.verdict.Verdict.{Verdict}
+use Rattle.bao_bind.specs.declared.verdict.Verdict.TheVariants.{Agrees, Collision}
+
+-- Each chunk of the piece is the blob's chunk of that number, and where it has the last chunk of the length
+-- that it claims, that length is the blob's.
+pub record AgreesWith (blob : List ℕ) (piece : Checked) : Type 0 where
+  pub chunks : (number : ℕ) (bytes : List ℕ) → chunk_in (piece_text piece) (piece_places piece) number ≡ Some bytes → chunk_of blob number ≡ Some bytes
+  pub tail : HoldsLast piece → piece_claimed piece ≡ length blob
+
+-- x is of the inputs of the blob in the piece's mode and y of those of the piece; they differ, and have one
+-- chaining value
+abbrev pub NamesFrom : List ℕ → Checked → Input → Input → Type 0
+NamesFrom blob piece x y =
+    Names (blob_inputs (piece_mode piece) blob) (text_inputs (piece_mode piece) (piece_text piece) (piece_places piece)) x y
+
+-- what a verdict says of a blob and a piece
+abbrev pub Says : List ℕ → Checked → Verdict → Type 0
+Says blob piece Agrees = AgreesWith blob piece
+Says blob piece (Collision ours theirs) = (¬ AgreesWith blob piece) × NamesFrom blob piece ours theirs
+
+-- The bytes are the blob's chunk of that number, and end the blob where they end the length that the piece
+-- claims.
+abbrev pub IsOurs : List ℕ → ℕ → ℕ → List ℕ → Type 0
+IsOurs blob claimed number bytes = (chunk_of blob number ≡ Some bytes) × (number + 1 ≡ chunk_count claimed → claimed ≡ length blob)

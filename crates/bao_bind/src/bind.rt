@@ -1,0 +1,107 @@
+ghost use Rattle.std.specs.Prelude.{◌≡◌, ◌≢◌, ◌+◌, ◌*◌, ◌^◌, ◌<◌, ◌≤◌, ◌↔◌, ℕ, List, length, Some, IfNone, IfOk, IfSome, IsErr, IsTrue};
+ghost use Rattle.std.specs.Option.{option_copied};
+ghost use Rattle.b3tree.specs.Hashing.{hash};
+ghost use Rattle.bao_check.specs.Checked.{piece_claimed, piece_mode, piece_places, piece_root, piece_text};
+ghost use Rattle.bao_check.specs.Pieces.{chunk_in, chunk_of};
+ghost use Rattle.bao_text.specs.Choice.{chunk_count};
+ghost use Rattle.bao_bind.specs.Verdict.{AgreesWith, IsOurs, Says};
+
+use crate::part::Part;
+use crate::search::walk;
+use crate::verdict::{AuditFault, Verdict};
+use b3tree::{CHUNK_LEN, hash};
+use bao_check::Checked;
+
+// How many chunks `n` bytes have.
+fn chunk_count(n: u64) -> u64
+    ensures { result ≡ chunk_count n }
+{
+    n.div_ceil(CHUNK_LEN as u64).max(1)
+}
+
+// Chunk `number` of a blob, if it has so many.
+fn chunk_of(blob: &[u8], number: u64) -> Option<&[u8]>
+    ensures { option_copied result ≡ chunk_of blob.now number }
+{
+    if number < chunk_count(blob.len() as u64) {
+        let at = number as usize * CHUNK_LEN;
+        let end = blob.len().min(at + CHUNK_LEN);
+        Some(&blob[at..end])
+    } else {
+        None
+    }
+}
+
+// Whether these bytes of a piece are the blob's chunk of that number and, as the last of the claimed length,
+// end the blob.
+fn is_ours(blob: &[u8], claimed: u64, number: u64, bytes: &[u8]) -> bool
+    ensures { IsTrue result ↔ IsOurs blob.now claimed number bytes.now }
+{
+    let same = match chunk_of(blob, number) {
+        Some(ours) => ours == bytes,
+        None => false,
+    };
+    same && (claimed == blob.len() as u64 || number + 1 != chunk_count(claimed))
+}
+
+// The first chunk of the piece that isn't the blob's or, as the last of the claimed length, doesn't end the
+// blob.
+fn first_apart<'a>(blob: &[u8], piece: &Checked<'a>) -> Option<Part<'a>>
+    ensures none { IfNone result (AgreesWith blob.now piece.now) }
+    ensures there { IfSome result (λ chunk. chunk_in (piece_text piece.now) (piece_places piece.now) chunk.first ≡ Some chunk.bytes.now) }
+    ensures apart { IfSome result (λ chunk. ¬ IsOurs blob.now (piece_claimed piece.now) chunk.first chunk.bytes.now) }
+{
+    let claimed = piece.claimed();
+    let (first, after) = piece.chunks();
+    'chunks: for number in first..after {
+        if let Some(bytes) = piece.chunk(number) {
+            if !is_ours(blob, claimed, number, bytes) {
+                return Some(Part {
+                    first: number,
+                    bytes,
+                });
+            }
+        }
+    }
+    None
+}
+
+// Whether the blob's hash in the piece's mode is the piece's root.
+fn has_root(blob: &[u8], piece: &Checked<'_>) -> bool
+    ensures { IsTrue result ↔ (hash (piece_mode piece.now) blob.now ≡ piece_root piece.now) }
+{
+    hash(&piece.mode(), blob) == piece.root()
+}
+
+/// Whether a piece that was accepted under a blob's root is of that blob; and if it isn't, two inputs of the
+/// compression function that collide: they differ and have one chaining value, the one is of those that
+/// hashing the blob compresses, and the other of those that checking the piece compresses.
+///
+/// 601 `OtherRoot` exactly where the blob's hash in the piece's mode isn't the piece's root. Else `Agrees`
+/// exactly where each chunk of the piece is the blob's chunk of that number and, where the piece has a
+/// tail, its length is the blob's. It takes no memory, and costs a hash and a comparison where they agree.
+pub fn audit(blob: &[u8], piece: &Checked<'_>) -> Result<Verdict, AuditFault>
+    ensures other_root { IsErr result ↔ (hash (piece_mode piece.now) blob.now ≢ piece_root piece.now) }
+    ensures says { IfOk result (λ verdict. Says blob.now piece.now verdict) }
+{
+    if !has_root(blob, piece) {
+        return Err(AuditFault::OtherRoot);
+    }
+    let Some(chunk) = first_apart(blob, piece) else {
+        return Ok(Verdict::Agrees);
+    };
+    let mode = piece.mode();
+    mode.is_keyed();
+    let ours = Part {
+        first: 0,
+        bytes: blob,
+    };
+    match walk(&mode, piece, true, &ours, 0, piece.claimed(), &chunk) {
+        Some(pair) => Ok(Verdict::Collision {
+            ours: pair.ours,
+            theirs: pair.theirs,
+        }),
+        // Where nothing differs on the way, it ends in the blob's own chunk.
+        None => unreachable!(),
+    }
+}

@@ -1,0 +1,19 @@
+//! A piece bound to a blob: that they agree, or two inputs of compressions that collide.
+//!
+//! Nothing here takes memory.
+#![tactic(auto)]
+
+pub use bind::audit;
+pub use verdict::{AuditFault, Verdict};
+
+mod bind;
+mod chunks;
+mod pair;
+mod parents;
+mod part;
+mod search;
+#[cfg(test)]
+mod tests;
+#[cfg(test)]
+mod tests_walk;
+mod verdict;

@@ -1,0 +1,59 @@
+ghost use Rattle.std.specs.Prelude.{◌≡◌, ℕ, ◌+◌, ◌-◌, ◌*◌, ◌^◌, ◌≤◌, ◌<◌, List, length, IfSome};
+ghost use Rattle.std.specs.Option.{option_copied};
+ghost use Rattle.bao_text.specs.Nodes.{Side, placed, subtree_nodes, subtree_size};
+ghost use Rattle.bao_check.specs.Parents.{parent_in, parent_place};
+
+use crate::checked::Checked;
+use crate::locate::{LENGTH_LEN, PARENT_LEN, nodes_size};
+use b3tree::{CHUNK_LEN, left_len};
+use bao_text::Choice;
+
+// Where the parent whose right part begins at chunk `m` is in a text, of which the wanted nodes of the
+// subtree over `n` bytes from chunk `number` on begin at `at`.
+fn find_parent(choice: &Choice, number: u64, n: u64, at: u128, m: u64) -> Option<u128>
+    requires range { 1024 * number + n ≤ 2 ^ 64 - 1 }
+    requires room { at + subtree_size n < 2 ^ 128 }
+    ensures { (sides : List Side) (from : ℕ) → result ≡ parent_place (placed at (subtree_nodes choice.now number n sides from)) m }
+{
+    if n <= CHUNK_LEN as u64 || !choice.wants(CHUNK_LEN as u64 * number, n) {
+        return None;
+    }
+    let left_len = left_len(n);
+    let middle = number + left_len / CHUNK_LEN as u64;
+    if m == middle {
+        return Some(at);
+    }
+    if m < middle {
+        return find_parent(choice, number, left_len, at + PARENT_LEN, m);
+    }
+    let left = nodes_size(choice, number, left_len);
+    find_parent(choice, middle, n - left_len, at + PARENT_LEN + left, m)
+}
+
+impl<'a> Checked<'a> {
+    ghost use Rattle.bao_check.specs.Checked.{piece_places, piece_text};
+
+    // Where the text has the parent whose right part begins at chunk `m`.
+    fn parent_at(&self, m: u64) -> Option<u128>
+        ensures value { result ≡ parent_place (piece_places self.now) m }
+        ensures within { IfSome result (λ at. at + 64 ≤ length (piece_text self.now)) }
+    {
+        find_parent(&self.choice(), 0, self.claimed(), LENGTH_LEN, m)
+    }
+
+    /// The 64 bytes of the parent whose right part begins at chunk `m`, in the text itself: the chaining
+    /// values of its left and of its right part, 32 bytes each. There exactly where the piece has such a
+    /// parent; no tree has two of them.
+    pub fn parent(&self, m: u64) -> Option<&'a [u8]>
+        ensures value { option_copied result ≡ parent_in (piece_text self.now) (piece_places self.now) m }
+        ensures len { IfSome result (λ bytes. length bytes.now ≡ 64) }
+    {
+        match self.parent_at(m) {
+            Some(at) => {
+                let at = at as usize;
+                Some(&self.text()[at..at + PARENT_LEN as usize])
+            }
+            None => None,
+        }
+    }
+}
