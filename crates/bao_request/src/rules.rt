@@ -166,7 +166,7 @@ fn writers<'a>(alloc: Global) -> Result<Command<'a>, AllocError>
 }
 
 /// The program's command line: `hash`, `encode`, `outboard`, `slice`, `decode`, `decode-slice`.
-pub fn program<'a>(alloc: Global) -> Result<Command<'a>, AllocError>
+pub(crate) fn program<'a>(alloc: Global) -> Result<Command<'a>, AllocError>
     ensures { IfOk result (IsApp program_app) }
 {
     let program = writers(alloc)?;
