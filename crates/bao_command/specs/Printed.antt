@@ -1,5 +1,6 @@
 -- what a command prints on standard output, and what it leaves there where it fails
-use Rattle.std.specs.Prelude.{ℕ, List, [], ◌∷◌, ◌++◌, take, Option, Result, Ok, Err}
+use Rattle.std.specs.Borrow.{Bor}
+use Rattle.std.specs.Prelude.{◌≡◌, ℕ, List, [], ◌∷◌, ◌++◌, take, Option, Result, Ok, Err}
 use Rattle.std.specs.Io.KnownBytes.{Appends, Keeps}
 use Rattle.hex.specs.Hex.{encode_lower}
 use Rattle.bao_command.specs.declared.fault.Fault.{Fault}
@@ -41,6 +42,20 @@ IsQuiet Output = ⊥
 IsQuiet Encoding = Unit {0}
 IsQuiet (Check fault) = Unit {0}
 IsQuiet Memory = Unit {0}
+
+-- a fault of reading names the one path, and a fault of writing the other
+abbrev pub NamesPaths : Bor (List ℕ) → Bor (List ℕ) → Fault → Type 0
+NamesPaths input output Word = Unit {0}
+NamesPaths input output Root = Unit {0}
+NamesPaths input output Key = Unit {0}
+NamesPaths input output KeyAndContext = Unit {0}
+NamesPaths input output OutputRange = Unit {0}
+NamesPaths input output (Read path) = path ≡ input
+NamesPaths input output (Write path) = path ≡ output
+NamesPaths input output Output = Unit {0}
+NamesPaths input output Encoding = Unit {0}
+NamesPaths input output (Check fault) = Unit {0}
+NamesPaths input output Memory = Unit {0}
 
 -- the line was printed, or the fault leaves what it leaves
 abbrev pub Prints : List ℕ → Option (List ℕ) → Option (List ℕ) → Result Unit Fault → Type 0

@@ -1,7 +1,7 @@
-ghost use Rattle.std.specs.Prelude.{◌≡◌, ◌-◌, ◌<◌, ◌≤◌, ℕ, List, [], IfErr, IfOk, IfSome, OnErr, OnOk, length, true, false};
+ghost use Rattle.std.specs.Prelude.{◌≡◌, ◌⊎◌, ◌-◌, ◌<◌, ◌≤◌, ℕ, List, [], IfErr, IfOk, IfSome, OnErr, OnOk, length, true, false};
 ghost use Rattle.std.specs.Io.KnownBytes.{Appends};
 ghost use Rattle.bao_check.specs.Checked.{IsPiece, piece_claimed, piece_text};
-ghost use Rattle.bao_command.specs.Printed.{AppendsBeginning, IsQuiet, Prints};
+ghost use Rattle.bao_command.specs.Printed.{AppendsBeginning, IsQuiet, NamesPaths, Prints};
 ghost use Rattle.bao_command.specs.Ranges.{IsCertifiedPart, IsFileFault, certified_range, chunk_range, first_written, last_written, part_len, part_start};
 ghost use Rattle.bao_command.specs.Tasks.{IsRightPart, ok_line, part_line};
 ghost use Rattle.bao_text.specs.Cut.{claimed};
@@ -156,7 +156,7 @@ fn write_file<'a, R: Files>(
     path: &'a str,
 ) -> Result<u64, Fault<'a>>
     ensures count { IfOk result (λ count. count ≡ last_written part.now (piece_claimed piece.now) - first_written part.now (piece_claimed piece.now)) }
-    ensures err { IfErr result IsQuiet }
+    ensures err { IfErr result (λ fault. fault ≡ Fault.Write path.entry) }
 {
     let mut out = fs::create(rt, path).map_err(|_| Fault::Write(path))?;
     write_part(piece, part, &mut out).map_err(|_| Fault::Write(path))
@@ -175,6 +175,7 @@ fn decode<'a, R: Files + AllocGlobal>(
     ensures ok { IfOk result (λ count. (bytes : List ℕ) × IsRightPart mode.now root.now part.now bytes
         × (count ≡ last_written part.now (claimed bytes) - first_written part.now (claimed bytes))) }
     ensures err { IfErr result IsQuiet }
+    ensures paths { IfErr result (NamesPaths file.entry path.entry) }
 {
     let root = match bytes_of_digits(root) {
         Some(root) => Hash(root),
@@ -194,7 +195,8 @@ fn decode<'a, R: Files + AllocGlobal>(
 
 // Prints how many bytes were written.
 fn print_count<'a, O: Write>(alloc: Global, count: u64, out: &mut O) -> Result<(), Fault<'a>>
-    ensures { Prints (ok_line count) (O.contents out.old) (O.contents out.new) result }
+    ensures prints { Prints (ok_line count) (O.contents out.old) (O.contents out.new) result }
+    ensures fault { IfErr result (λ fault. (fault ≡ Fault.Memory) ⊎ (fault ≡ Fault.Output)) }
 {
     let line = format!(in alloc; "ok {count}\n").map_err(|_| Fault::Memory)?;
     print_text(line.as_bytes(), out)
@@ -214,8 +216,9 @@ pub fn decode_file<'a, R: Files + AllocGlobal, O: Write>(
     path: &'a str,
     out: &mut O,
 ) -> Result<(), Fault<'a>>
-    ensures { (bytes : List ℕ) × OnOk result (IsRightPart mode.now root.now part.now bytes)
+    ensures answer { (bytes : List ℕ) × OnOk result (IsRightPart mode.now root.now part.now bytes)
         × Prints (part_line part.now bytes) (O.contents out.old) (O.contents out.new) result }
+    ensures paths { IfErr result (NamesPaths file.entry path.entry) }
 {
     let count = decode(rt, mode, root, part, file, path)?;
     print_count(rt.alloc(), count, out)

@@ -1,4 +1,4 @@
-ghost use Rattle.std.specs.Prelude.{◌+◌, ◌-◌, ◌^◌, ◌≤◌};
+ghost use Rattle.std.specs.Prelude.{◌≡◌, ◌+◌, ◌-◌, ◌^◌, ◌≤◌, IfErr};
 ghost use Rattle.b3tree.specs.Hashing.{hash, stream};
 ghost use Rattle.bao_command.specs.Printed.{Prints, digits_line};
 
@@ -20,7 +20,8 @@ const PARTS: u64 = 8;
 ///
 /// After `Output`, the only fault, the writer may hold a beginning of the text.
 pub fn print_text<'a, W: Write>(text: &[u8], out: &mut W) -> Result<(), Fault<'a>>
-    ensures { Prints text.now (W.contents out.old) (W.contents out.new) result }
+    ensures prints { Prints text.now (W.contents out.old) (W.contents out.new) result }
+    ensures fault { IfErr result (λ fault. fault ≡ Fault.Output) }
 {
     if write_text(text, out).is_err() {
         return Err(Fault::Output);

@@ -4,8 +4,8 @@ use Rattle.std.proofs.lemmas.List.{take_all}
 use Rattle.std.specs.Io.KnownBytes.{Appends}
 use Rattle.bao_command.proofs.digits.print_text.Goals as goal
 
-pub returns-in-Err : goal.returns-in-Err
-returns-in-Err g c =
+pub returns-in-Err-clause-prints : goal.returns-in-Err-clause-prints
+returns-in-Err-clause-prints g c =
     let text : List ℕ = c.args.text.now in
     let old = g.W.Write.contents c.args.out.now in
     let mid = g.W.Write.contents c.write_text.new.out in
