@@ -57,10 +57,11 @@ def contents(path):
 
 
 def look(shim, words, out):
-    """How many runs ended with a fault of memory, until one that reached no refusal."""
+    """How many runs ended with a fault of memory, until one that reached no refusal. The task's own fault is among them."""
     whole = run(shim, 0, words)
     text = contents(out)
     faults = quiet = number = 0
+    seen = set()
     while quiet < 20:
         number += 1
         with open(out, "wb") as it:
@@ -74,6 +75,10 @@ def look(shim, words, out):
         if status != 4 or printed or complaint not in MEMORY or contents(out) not in left:
             sys.exit(f"refuse: allocation {number} of {' '.join(words)}: status {status}, {printed!r}, {complaint!r}")
         faults += 1
+        seen.add(complaint)
+    own = MEMORY[{"hash": 0, "decode": 2, "decode-slice": 2}.get(words[0], 1)]
+    if own not in seen:
+        sys.exit(f"refuse: {words[0]} never ended with {own!r}")
     return faults
 
 
