@@ -1,0 +1,10 @@
+//! The one-thread store of a blob's chunks: its state, its events, their histories, and a seat's view.
+#![tactic(auto)]
+
+pub use fixed::Fixed;
+pub use history::{Call, Event, Piece, Settling};
+pub use view::{Named, SeatView, StoredWord};
+
+mod fixed;
+mod history;
+mod view;
