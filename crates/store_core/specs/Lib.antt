@@ -5,3 +5,4 @@ pub mod States
 pub mod Events
 pub mod Histories
 pub mod Views
+pub mod Laws

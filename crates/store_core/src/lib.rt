@@ -3,8 +3,10 @@
 
 pub use fixed::Fixed;
 pub use history::{Call, Event, Piece, Settling};
+pub use law::{claims_apart, held_lasts};
 pub use view::{Named, SeatView, StoredWord};
 
 mod fixed;
 mod history;
+mod law;
 mod view;
