@@ -1,5 +1,5 @@
 -- What a history keeps: sound states, chunks held, the recorded length and the claims of those who don't call.
-use Rattle.std.proofs.Common.{◌≡◌, ◌⊎◌, ℕ, ◌<◌, ◌%◌, ◌==◌, nat_lt, Bool, true, false, ◌&&◌, if◌then◌else◌, List, [], ◌∷◌, ◌++◌, Option, None, Some, is_some, refl, sym, ap, subst, ◌∙◌, arith, inl, inr, ltb-true}
+use Rattle.std.proofs.Common.{◌≡◌, ℕ, ◌<◌, ◌%◌, ◌==◌, true, false, ◌&&◌, List, [], ◌∷◌, ◌++◌, Option, None, Some, is_some, refl, sym, subst, ◌∙◌, inl, inr, ltb-true}
 use Rattle.std.proofs.lemmas.Bool.{and_parts, both_ways, cases_Bool}
 use Rattle.store_core.specs.declared.fixed.Fixed.{Fixed}
 use Rattle.store_core.specs.declared.history.Call.{Call}
@@ -7,14 +7,13 @@ use Rattle.store_core.specs.declared.history.Call.TheVariants.{Take, Give, Commi
 use Rattle.store_core.specs.declared.history.Event.{Event}
 use Rattle.store_core.specs.declared.history.Piece.{Piece}
 use Rattle.store_core.specs.declared.history.Settling.{Settling}
-use Rattle.store_core.specs.declared.history.Settling.TheVariants.{Settled, Known, Differs}
 use Rattle.store_core.specs.Events.{IsRight, after, after_call, is_free, recorded_after, settling}
-use Rattle.store_core.specs.Histories.{AreLegalFrom, AreOfOthers, IsLegal, events_of, is_by, run, state_after}
+use Rattle.store_core.specs.Histories.{AreLegalFrom, AreOfOthers, events_of, is_by, run, state_after}
 use Rattle.store_core.specs.Laws.{ClaimsLast, HeldLasts, IsSound, LegalIsSound, RecordLasts}
-use Rattle.store_core.specs.Masks.{IsMaskOf, has_bit, in_mask}
-use Rattle.store_core.specs.Names.{Name, least_name, share_name}
-use Rattle.store_core.specs.Pieces.{chunk_bytes, holds_chunk, length_of}
-use Rattle.store_core.specs.States.{State, claims, empty, is_among, is_claimed, is_held}
+use Rattle.store_core.specs.Masks.{has_bit, in_mask}
+use Rattle.store_core.specs.Names.{Name, share_name}
+use Rattle.store_core.specs.Pieces.{holds_chunk, length_of}
+use Rattle.store_core.specs.States.{State, claims, empty}
 use Rattle.store_core.proofs.Tests.{IsFree, claims-claimed, claims_apart, free, least_apart, masked, unclaimed-claims}
 
 -- the state after two lists is that of the second from that of the first
@@ -39,7 +38,7 @@ sound_take : (fixed : Fixed) (s : State) (who : List Name) (g w r : ℕ) → IsS
     → IsSound fixed (after_call who (Take g w r) s)
 sound_take fixed s who g w r sound right =
     let granted : (c : ℕ) → in_mask g r c ≡ true → IsFree fixed s c = λ c hit.
-        free fixed s c (and_parts (has_bit w (c % 64)) (is_free fixed s c) (masked g r (λ c. has_bit w (c % 64) && is_free fixed s c) c right hit)).1 in
+    free fixed s c (and_parts (has_bit w (c % 64)) (is_free fixed s c) (masked g r (λ c. has_bit w (c % 64) && is_free fixed s c) c right hit)).1 in
     record {
       apart = λ c h. elim (cases_Bool (in_mask g r c)) [
         | inl hit ↦ absurd (both_ways _ (granted c hit).not_held h)
@@ -75,7 +74,7 @@ sound_commit : (fixed : Fixed) (s : State) (who : List Name) (g : ℕ) (piece : 
     → IsSound fixed (after_call who (Commit g piece r) s)
 sound_commit fixed s who g piece r sound right =
     let below : (c : ℕ) → in_mask g r c ≡ true → c < fixed.capacity = λ c hit.
-        sound.claimed_below c (claims-claimed who s c (committed-claimed fixed s who g piece r c right hit)) in
+    sound.claimed_below c (claims-claimed who s c (committed-claimed fixed s who g piece r c right hit)) in
     record {
       apart = λ c h. elim (cases_Bool (in_mask g r c)) [
         | inl hit ↦ rw hit refl
@@ -140,7 +139,7 @@ held_lasts fixed history more c bytes legal h =
 -- a recorded length stays
 recorded_settle : (o : Option ℕ) (length l : ℕ) → o ≡ Some l → recorded_after (settling o length) length o ≡ Some l
 recorded_settle None length l h = cc
-recorded_settle (Some m) length l h = elim (cases_Bool (m == length)) [ | inl same ↦ rw same h | inr other ↦ rw other h ]
+recorded_settle (Some m) length l h = elim (cases_Bool (m == length)) [ inl same ↦ rw same h | inr other ↦ rw other h ]
 
 recorded_call : (fixed : Fixed) (s : State) (who : List Name) (call : Call) → IsRight fixed s who call
     → (l : ℕ) → s.recorded ≡ Some l → (after_call who call s).recorded ≡ Some l

@@ -1,5 +1,5 @@
 -- The laws of histories.
-use Rattle.std.specs.Prelude.{◌≡◌, ◌⊎◌, ℕ, ◌+◌, ◌*◌, ◌/◌, ◌<◌, ◌≤◌, nat_lt, ◌==◌, Bool, true, false, ◌&&◌, ◌||◌, if◌then◌else◌, List, [], ◌∷◌, ◌++◌, length, Contains, count_by, Option, None, Some, slice_get, slice_index}
+use Rattle.std.specs.Prelude.{◌≡◌, ◌⊎◌, ℕ, ◌+◌, ◌*◌, ◌/◌, ◌%◌, ◌<◌, ◌≤◌, Bool, true, false, if◌then◌else◌, List, [], ◌++◌, length, Contains, count_by, None, Some, slice_get, slice_index}
 use Rattle.b3tree.specs.Hashing.{hash}
 use Rattle.b3tree.specs.Valid.{AreBytes, IsKeyed}
 use Rattle.bao_check.specs.Inputs.{NamesPair}
@@ -117,10 +117,11 @@ HeldBinds = (fixed : Fixed) (history : List Event) (blob : List ℕ) (c : ℕ) (
     → IsLegal fixed history → (state_after history).held c ≡ Some bytes
     → (chunk_of blob c ≡ Some bytes) ⊎ ((from : IsCommitted fixed history c bytes) × PairNamed fixed blob from.piece)
 
--- a byte of a chunk that a history committed
+-- x is the byte at position q of a chunk that a history committed
 pub record ByteFrom (fixed : Fixed) (history : List Event) (q x : ℕ) : Type 0 where
   pub bytes : List ℕ
   pub chunk : IsCommitted fixed history (q / 1024) bytes
+  pub byte : slice_get bytes (q % 1024) ≡ Some x
 
 abbrev pub ByteBinds : Type 0
 ByteBinds = (fixed : Fixed) (history : List Event) (blob : List ℕ) (q x : ℕ) → IsKeyed fixed.mode → IsBlob fixed blob

@@ -1,4 +1,9 @@
-ghost use Rattle.store_core.specs.Laws.{ClaimsApart, ClaimsLast, HeldLasts, LegalIsSound, RecordLasts};
+ghost use Rattle.store_core.specs.Laws.{ByteBinds, ClaimsApart, ClaimsLast, CommittedOnce, HeldBinds, HeldIsCommitted, HeldLasts, LegalIsSound, ReadMeans, RecordBinds, RecordIsSettled, RecordLasts, StateDetermines};
+
+/// The state after a history determines every reply. A law: nothing runs.
+pub fn state_determines()
+    ensures { StateDetermines }
+{}
 
 /// What a store holds stays with its bytes, and so does a recorded length. A law: nothing runs.
 pub fn held_lasts()
@@ -12,4 +17,28 @@ pub fn claims_apart()
     ensures apart { ClaimsApart }
     ensures sound { LegalIsSound }
     ensures last { ClaimsLast }
+{}
+
+/// Each chunk that is held stands in exactly one commit of the history, with the bytes of its piece, and a
+/// recorded length is that of a piece by which it was settled. A law: nothing runs.
+pub fn held_is_committed()
+    ensures committed { HeldIsCommitted }
+    ensures once { CommittedOnce }
+    ensures settled { RecordIsSettled }
+{}
+
+/// The bytes read are those of the range that are held, up to the least position that isn't. A law: nothing
+/// runs.
+pub fn read_means()
+    ensures { ReadMeans }
+{}
+
+/// For each blob with the root of a store: a chunk that the store holds is the blob's chunk of that number, a
+/// byte that it holds is the blob's byte there, and a recorded length is the blob's; or a pair of inputs is
+/// named, one of the blob's and one of the piece's that was committed or settled, that differ and have one
+/// chaining value. A law: nothing runs.
+pub fn held_binds()
+    ensures chunk { HeldBinds }
+    ensures byte { ByteBinds }
+    ensures length { RecordBinds }
 {}
