@@ -4,3 +4,4 @@ pub mod Determined
 pub mod Origins
 pub mod Bytes
 pub mod Bound
+pub mod Joining

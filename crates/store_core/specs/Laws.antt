@@ -1,5 +1,5 @@
 -- The laws of histories.
-use Rattle.std.specs.Prelude.{◌≡◌, ◌⊎◌, ℕ, ◌+◌, ◌*◌, ◌/◌, ◌%◌, ◌<◌, ◌≤◌, Bool, true, false, if◌then◌else◌, List, [], ◌++◌, length, Contains, count_by, None, Some, slice_get, slice_index}
+use Rattle.std.specs.Prelude.{◌≡◌, ◌⊎◌, ℕ, ◌+◌, ◌*◌, ◌/◌, ◌%◌, ◌<◌, ◌≤◌, Bool, true, false, if◌then◌else◌, List, [], ◌++◌, length, Contains, count_by, None, Some, slice_get, slice_index, ◌||◌}
 use Rattle.b3tree.specs.Hashing.{hash}
 use Rattle.b3tree.specs.Valid.{AreBytes, IsKeyed}
 use Rattle.bao_check.specs.Inputs.{NamesPair}
@@ -11,10 +11,12 @@ use Rattle.store_core.specs.declared.history.Event.{Event}
 use Rattle.store_core.specs.declared.history.Piece.{Piece}
 use Rattle.store_core.specs.declared.history.Settling.TheVariants.{Settled}
 use Rattle.store_core.specs.Events.{IsRight}
-use Rattle.store_core.specs.Histories.{AreOfOthers, IsLegal, state_after}
+use Rattle.store_core.specs.Histories.{AreOfOthers, IsLegal, events_of, state_after}
 use Rattle.store_core.specs.Masks.{in_mask}
-use Rattle.store_core.specs.Names.{Name, share_name}
+use Rattle.store_core.specs.Names.{Name, has_name, share_name}
 use Rattle.store_core.specs.Pieces.{EndsBlob, IsAcceptedPiece, chunk_bytes, length_of, places_in}
+use Rattle.store_core.specs.declared.view.SeatView.{SeatView}
+use Rattle.store_core.specs.Views.{IsJoined, mine, names_of, seat_claims, split_first}
 use Rattle.store_core.specs.States.{State, byte_at, claims, is_claimed, is_held, read_bytes}
 
 -- a call without its reply
@@ -143,3 +145,14 @@ pub record IsRead (s : State) (at len : ℕ) (bytes : List ℕ) : Type 0 where
 abbrev pub ReadMeans : Type 0
 ReadMeans = (s : State) (at len : ℕ) (bytes : List ℕ) → (bytes ≡ read_bytes s at len → IsRead s at len bytes)
     × (IsRead s at len bytes → bytes ≡ read_bytes s at len)
+
+-- A split leaves the first seat's names, so its calls and claims. A joined seat has the names of both, each seat's own
+-- calls are the same in what it has seen, and it claims what either claimed.
+abbrev pub SplitKeeps : Type 0
+SplitKeeps = (view : SeatView) → names_of (split_first view) ≡ names_of view
+
+abbrev pub JoinKeeps : Type 0
+JoinKeeps = (first second joined : SeatView) → IsJoined first second joined
+    → ((name : Name) → has_name (names_of joined) name ≡ (has_name (names_of first) name || has_name (names_of second) name))
+    × (events_of (names_of first) joined.seen ≡ mine first) × (events_of (names_of second) joined.seen ≡ mine second)
+    × (IsLegal joined.fixed joined.seen → (c : ℕ) → seat_claims joined c ≡ (seat_claims first c || seat_claims second c))

@@ -1,4 +1,4 @@
-ghost use Rattle.store_core.specs.Laws.{ByteBinds, ClaimsApart, ClaimsLast, CommittedOnce, HeldBinds, HeldIsCommitted, HeldLasts, LegalIsSound, ReadMeans, RecordBinds, RecordIsSettled, RecordLasts, StateDetermines};
+ghost use Rattle.store_core.specs.Laws.{ByteBinds, ClaimsApart, ClaimsLast, CommittedOnce, HeldBinds, HeldIsCommitted, HeldLasts, JoinKeeps, LegalIsSound, ReadMeans, RecordBinds, RecordIsSettled, RecordLasts, SplitKeeps, StateDetermines};
 
 /// The state after a history determines every reply. A law: nothing runs.
 pub fn state_determines()
@@ -41,4 +41,11 @@ pub fn held_binds()
     ensures chunk { HeldBinds }
     ensures byte { ByteBinds }
     ensures length { RecordBinds }
+{}
+
+/// A split leaves a seat's names, and so its calls and claims. A joined seat has the names, the calls and the
+/// claims of both. A law: nothing runs.
+pub fn join_keeps()
+    ensures split { SplitKeeps }
+    ensures join { JoinKeeps }
 {}

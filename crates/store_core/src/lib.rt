@@ -4,7 +4,8 @@
 pub use fixed::Fixed;
 pub use history::{Call, Event, Piece, Settling};
 pub use law::{
-    claims_apart, held_binds, held_is_committed, held_lasts, read_means, state_determines,
+    claims_apart, held_binds, held_is_committed, held_lasts, join_keeps, read_means,
+    state_determines,
 };
 pub use view::{Named, SeatView, StoredWord};
 
