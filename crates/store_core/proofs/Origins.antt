@@ -9,7 +9,7 @@ use Rattle.store_core.specs.declared.history.Call.TheVariants.{Take, Give, Commi
 use Rattle.store_core.specs.declared.history.Event.{Event}
 use Rattle.store_core.specs.declared.history.Piece.{Piece}
 use Rattle.store_core.specs.declared.history.Settling.{Settling}
-use Rattle.store_core.specs.declared.history.Settling.TheVariants.{Settled, Known, Differs}
+use Rattle.store_core.specs.declared.history.Settling.TheVariants.{Settled, Known, Differs, OtherRoot, TooLarge}
 use Rattle.store_core.specs.Events.{IsRight, after, after_call, recorded_after}
 use Rattle.store_core.specs.Histories.{AreLegalFrom, run}
 use Rattle.store_core.specs.Laws.{CommittedOnce, HeldIsCommitted, IsCommitted, IsSettled, IsSound, RecordIsSettled, commits}
@@ -85,6 +85,8 @@ settle_record fixed s who piece Settled events right l h = inr (record {
 })
 settle_record fixed s who piece Known events right l h = inl h
 settle_record fixed s who piece Differs events right l h = inl h
+settle_record fixed s who piece OtherRoot events right l h = inl h
+settle_record fixed s who piece TooLarge events right l h = inl h
 
 call_record : (fixed : Fixed) (s : State) (who : List Name) (call : Call) (events : List Event) → IsRight fixed s who call
     → (l : ℕ) → (after_call who call s).recorded ≡ Some l → (s.recorded ≡ Some l) ⊎ IsSettled fixed (record { who = who; call = call } ∷ events) l

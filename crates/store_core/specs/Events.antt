@@ -5,7 +5,7 @@ use Rattle.store_core.specs.declared.history.Call.{Call}
 use Rattle.store_core.specs.declared.history.Call.TheVariants.{Take, Give, Commit, Settle, Read, Length}
 use Rattle.store_core.specs.declared.history.Event.{Event}
 use Rattle.store_core.specs.declared.history.Settling.{Settling}
-use Rattle.store_core.specs.declared.history.Settling.TheVariants.{Settled, Known, Differs}
+use Rattle.store_core.specs.declared.history.Settling.TheVariants.{Settled, Known, Differs, OtherRoot, TooLarge}
 use Rattle.store_core.specs.Masks.{IsMaskOf, has_bit, in_mask}
 use Rattle.store_core.specs.Names.{Name, least_name}
 use Rattle.store_core.specs.Pieces.{EndsBlob, IsAcceptedPiece, chunk_bytes, holds_chunk, length_of}
@@ -47,6 +47,8 @@ abbrev pub recorded_after : Settling → ℕ → Option ℕ → Option ℕ
 recorded_after Settled l o = Some l
 recorded_after Known l o = o
 recorded_after Differs l o = o
+recorded_after OtherRoot l o = o
+recorded_after TooLarge l o = o
 
 -- The state after a call. The chunks of its reply are claimed by the caller's least name, or their claims end, or
 -- they are held with the piece's bytes and their claims end. A settled length is recorded. Nothing else changes.

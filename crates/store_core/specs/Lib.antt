@@ -5,4 +5,7 @@ pub mod States
 pub mod Events
 pub mod Histories
 pub mod Views
+pub mod Cells
+pub mod Machine
+pub mod Schedules
 pub mod Laws

@@ -10,7 +10,7 @@ pub struct Piece {
     pub text: LinkedList<u8>,
 }
 
-/// What a settled length meets.
+/// What a settled length meets. An event has one of the first three answers.
 #[derive(Clone, Copy, Debug, PartialEq, Eq)]
 pub enum Settling {
     /// None was recorded: it is recorded now.
@@ -19,6 +19,10 @@ pub enum Settling {
     Known,
     /// Another was recorded, and stays.
     Differs,
+    /// The piece is of another root or mode: nothing is asked. Number 804.
+    OtherRoot,
+    /// The length is above what the store has room for: nothing is asked. Number 805.
+    TooLarge,
 }
 
 /// A call of a store with its reply, which stands last. A mask is of the chunks of a group: bit j stands for

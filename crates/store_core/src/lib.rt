@@ -7,9 +7,11 @@ pub use law::{
     claims_apart, held_binds, held_is_committed, held_lasts, join_keeps, read_means,
     state_determines,
 };
+pub use micro::{MicroStep, ReadBytes, Reply};
 pub use view::{Named, SeatView, StoredWord};
 
 mod fixed;
 mod history;
 mod law;
+mod micro;
 mod view;
