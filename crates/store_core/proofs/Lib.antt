@@ -1,4 +1,5 @@
 pub mod Tests
+pub mod Choosing
 pub mod Lasting
 pub mod Determined
 pub mod Origins

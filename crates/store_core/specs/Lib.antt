@@ -8,4 +8,6 @@ pub mod Views
 pub mod Cells
 pub mod Machine
 pub mod Schedules
+pub mod Faults
+pub mod Slots
 pub mod Laws

@@ -1,6 +1,7 @@
 //! The one-thread store of a blob's chunks: its state, its events, their histories, and a seat's view.
 #![tactic(auto)]
 
+pub use fault::{BadCapacity, Missing, StoreFault};
 pub use fixed::Fixed;
 pub use history::{Call, Event, Piece, Settling};
 pub use law::{
@@ -10,8 +11,11 @@ pub use law::{
 pub use micro::{MicroStep, ReadBytes, Reply};
 pub use view::{Named, SeatView, StoredWord};
 
+mod fault;
 mod fixed;
 mod history;
 mod law;
+mod masks;
 mod micro;
+mod slot;
 mod view;

@@ -1,0 +1,99 @@
+ghost use Rattle.std.specs.Prelude.{◌≡◌, ℕ, ◌<◌, ◌%◌, length, true, nat_lt, ◌&&◌, if◌then◌else◌};
+ghost use Rattle.store_core.specs.Masks.{IsMaskOf, has_bit, in_mask};
+ghost use Rattle.store_core.specs.Slots.{claimed_slot, is_of, picks, slot_at};
+
+use crate::masks::{GROUP_LEN, has_bit, with_bit};
+use bao_check::Checked;
+
+/// A chunk's place in a store.
+#[derive(Drop)]
+pub(crate) enum Slot {
+    Free,
+    /// Claimed by the seat with this number.
+    Claimed(u32),
+    /// Held with these bytes.
+    Held(Vec<u8>),
+}
+
+/// Which chunks a call is about.
+#[derive(Clone, Copy)]
+pub(crate) enum Pick<'a> {
+    Free,
+    /// Those that the seat claims.
+    Claimed(u32),
+    /// Those that the seat claims and the piece holds.
+    InPiece(u32, Checked<'a>),
+}
+
+impl Slot {
+    // Whether the seat claims the chunk.
+    fn is_of(&self, seat: u32) -> bool
+        ensures { result ≡ is_of seat self.now }
+    {
+        match self {
+            Slot::Claimed(n) => *n == seat,
+            _ => false,
+        }
+    }
+}
+
+impl Pick<'_> {
+    fn picks(&self, chunk: u64, slot: &Slot) -> bool
+        ensures { result ≡ picks self.now chunk slot.now }
+    {
+        match self {
+            Pick::Free => matches!(slot, Slot::Free),
+            Pick::Claimed(seat) => slot.is_of(*seat),
+            Pick::InPiece(seat, piece) => slot.is_of(*seat) && piece.chunk(chunk).is_some(),
+        }
+    }
+}
+
+// Whether chunk `c` has a slot and is picked.
+fn is_picked(slots: &[Slot], c: usize, pick: &Pick<'_>) -> bool
+    ensures { result ≡ (nat_lt c (length slots.now) && picks pick.now c (slot_at slots.now c)) }
+{
+    match slots.get(c) {
+        Some(slot) => pick.picks(c as u64, slot),
+        None => false,
+    }
+}
+
+// The mask of the chunks of the group that are among the mask, have a slot, and are picked.
+pub(crate) fn chosen(slots: &[Slot], group: u32, among: u64, pick: &Pick<'_>) -> u64
+    requires { group < 1024 }
+    ensures { IsMaskOf group result (λ c. has_bit among (c % 64) && (nat_lt c (length slots.now) && picks pick.now c (slot_at slots.now c))) }
+{
+    let first = GROUP_LEN * group as usize;
+    let mut mask = 0;
+    for j in 0..64u32 {
+        if has_bit(among, j) && is_picked(slots, first + j as usize, pick) {
+            mask = with_bit(mask, j);
+        }
+    }
+    mask
+}
+
+// The place of a chunk that this seat claims, or none.
+fn claimed_slot(seat: Option<u32>) -> Slot
+    ensures { result ≡ claimed_slot seat }
+{
+    match seat {
+        Some(n) => Slot::Claimed(n),
+        None => Slot::Free,
+    }
+}
+
+// Each chunk of the group's mask is claimed by the seat, or by none.
+pub(crate) fn put_claims(slots: &mut [Slot], group: u32, mask: u64, seat: Option<u32>)
+    requires group_in { group < 1024 }
+    requires within { (c : ℕ) → in_mask group mask c ≡ true → c < length slots.old }
+    ensures { (c : ℕ) → slot_at slots.new c ≡ (if in_mask group mask c then claimed_slot seat else slot_at slots.old c) }
+{
+    let first = GROUP_LEN * group as usize;
+    for j in 0..64u32 {
+        if has_bit(mask, j) {
+            slots[first + j as usize] = claimed_slot(seat);
+        }
+    }
+}
