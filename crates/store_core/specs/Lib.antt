@@ -10,4 +10,6 @@ pub mod Machine
 pub mod Schedules
 pub mod Faults
 pub mod Slots
+pub mod Reached
+pub mod Stores
 pub mod Laws

@@ -9,6 +9,7 @@ pub use law::{
     state_determines,
 };
 pub use micro::{MicroStep, ReadBytes, Reply};
+pub use store::{MAX_CAPACITY, Store};
 pub use view::{Named, SeatView, StoredWord};
 
 mod fault;
@@ -18,4 +19,5 @@ mod law;
 mod masks;
 mod micro;
 mod slot;
+mod store;
 mod view;

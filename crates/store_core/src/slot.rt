@@ -1,9 +1,10 @@
-ghost use Rattle.std.specs.Prelude.{◌≡◌, ℕ, ◌<◌, ◌%◌, length, true, nat_lt, ◌&&◌, if◌then◌else◌};
+ghost use Rattle.std.specs.Prelude.{◌≡◌, ℕ, ◌<◌, ◌≤◌, ◌%◌, max, OnOk, length, true, nat_lt, ◌&&◌, if◌then◌else◌};
 ghost use Rattle.store_core.specs.Masks.{IsMaskOf, has_bit, in_mask};
 ghost use Rattle.store_core.specs.Slots.{claimed_slot, is_of, picks, slot_at};
 
 use crate::masks::{GROUP_LEN, has_bit, with_bit};
 use bao_check::Checked;
+use std::alloc::AllocError;
 
 /// A chunk's place in a store.
 #[derive(Drop)]
@@ -96,4 +97,17 @@ pub(crate) fn put_claims(slots: &mut [Slot], group: u32, mask: u64, seat: Option
             slots[first + j as usize] = claimed_slot(seat);
         }
     }
+}
+
+// At least `len` chunks have a slot, if there is memory, and no more than these and those that had one. What
+// each slot has stays.
+pub(crate) fn grow(slots: &mut Vec<Slot>, len: usize) -> Result<(), AllocError>
+    ensures same { (c : ℕ) → slot_at slots.new.items c ≡ slot_at slots.old.items c }
+    ensures enough { OnOk result (len ≤ length slots.new.items) }
+    ensures most { length slots.new.items ≤ max len (length slots.old.items) }
+{
+    while slots.len() < len {
+        slots.push(Slot::Free)?;
+    }
+    Ok(())
 }

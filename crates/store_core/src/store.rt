@@ -1,0 +1,61 @@
+ghost use Rattle.std.specs.Prelude.{◌≡◌, ◌≢◌, ◌↔◌, ◌*◌, ℕ, ◌<◌, ◌≤◌, IfOk, IsOk, IsErrOf, MatchResult, OnErr, length};
+ghost use Rattle.store_core.specs.Slots.{caller, state_in};
+ghost use Rattle.store_core.specs.Reached.{IsReached};
+
+use crate::fault::{BadCapacity, StoreFault};
+use crate::fixed::Fixed;
+use crate::masks::GROUP_LEN;
+use crate::slot::{Pick, Slot, chosen, grow, put_claims};
+use b3tree::{Hash, Mode};
+use std::alloc::Global;
+
+/// The most chunks that a store has room for.
+pub const MAX_CAPACITY: u32 = 65_536;
+
+/// A store of one blob's chunks, for one thread: which are held, which seat claims which, and the blob's length
+/// once it is known. Nothing is taken on anybody's word: what it holds comes from texts accepted under its root.
+#[derive(Drop)]
+pub struct Store {
+    fixed: Fixed,
+    alloc: Global,
+    slots: Vec<Slot>,
+    recorded: Option<u64>,
+    ghost limit: { fixed.capacity ≤ 65536 },
+    ghost within: { length slots.items ≤ fixed.capacity },
+    ghost reached: { ∥ IsReached fixed (state_in slots.items recorded) ∥₁ },
+}
+
+impl Store {
+    ghost use Rattle.store_core.specs.Machine.{groups};
+    ghost use Rattle.store_core.specs.States.{empty};
+    ghost use Rattle.store_core.specs.Stores.{IsEvent, IsNew, IsSame, fixed_of, state_of};
+
+    /// A store that holds, claims and records nothing. It takes no memory.
+    ///
+    /// 802 unless `capacity`, a number of chunks, is 1 to 65,536.
+    pub fn new(alloc: Global, root: Hash, mode: Mode, capacity: u32) -> Result<Store, BadCapacity>
+        ensures fits { IsOk result ↔ ((0 < capacity) × (capacity ≤ 65536)) }
+        ensures made { IfOk result (λ store. IsNew store root mode capacity) }
+    {
+        if capacity == 0 || capacity > MAX_CAPACITY {
+            return Err(BadCapacity);
+        }
+        Ok(Store {
+            fixed: Fixed {
+                root,
+                mode,
+                capacity,
+            },
+            alloc,
+            slots: Vec::new(alloc),
+            recorded: None,
+        })
+    }
+
+    // How many groups there are.
+    fn groups(&self) -> u32
+        ensures { result ≡ groups (fixed_of self.now) }
+    {
+        self.fixed.capacity.div_ceil(GROUP_LEN as u32)
+    }
+}
