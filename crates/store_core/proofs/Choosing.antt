@@ -14,7 +14,7 @@ pub record IsMaskUpTo (group mask j : ℕ) (test : ℕ → Bool) : Type 0 where
   pub below : (k : ℕ) → k < j → has_bit mask k ≡ test (64 * group + k)
   pub above : (k : ℕ) → j ≤ k → has_bit mask k ≡ false
 
-has_bit-zero : (k : ℕ) → has_bit 0 k ≡ false
+pub has_bit-zero : (k : ℕ) → has_bit 0 k ≡ false
 unfolding has_bit
 has_bit-zero k = ap (λ x. nat_eq x 1) (bit_at-zero k)
 

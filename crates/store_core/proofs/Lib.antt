@@ -6,3 +6,4 @@ pub mod Origins
 pub mod Bytes
 pub mod Bound
 pub mod Joining
+pub mod Stored

@@ -1,5 +1,6 @@
 ghost use Rattle.std.specs.Prelude.{◌≡◌};
 
+use std::alloc::AllocError;
 use thiserror::Error;
 
 /// A store has room for 1 to 65,536 chunks, and another capacity was asked for. Number 802.
@@ -28,6 +29,16 @@ pub enum StoreFault {
     /// The piece is of another root or mode. Number 804.
     #[error("804 other root")]
     OtherRoot,
+}
+
+impl From<AllocError> for StoreFault {
+    ghost use Rattle.store_core.specs.declared.fault.StoreFault.{StoreFault};
+
+    ghost from_gives = { λ _ fault. fault ≡ StoreFault.Memory };
+
+    fn from(_memory: AllocError) -> StoreFault {
+        StoreFault::Memory
+    }
 }
 
 impl StoreFault {

@@ -26,6 +26,8 @@ pub struct Store {
 }
 
 impl Store {
+    ghost use Rattle.store_core.specs.declared.history.Call.TheVariants.{Take, Give};
+    ghost use Rattle.store_core.specs.declared.fault.StoreFault.TheVariants.{NoGroup, OtherRoot};
     ghost use Rattle.store_core.specs.Machine.{groups};
     ghost use Rattle.store_core.specs.States.{empty};
     ghost use Rattle.store_core.specs.Stores.{IsEvent, IsNew, IsSame, fixed_of, state_of};
@@ -57,5 +59,39 @@ impl Store {
         ensures { result ≡ groups (fixed_of self.now) }
     {
         self.fixed.capacity.div_ceil(GROUP_LEN as u32)
+    }
+
+    /// Claims for the seat the wanted chunks of a group that are below the capacity and neither held nor claimed, and
+    /// answers their mask: bit j stands for chunk 64 * group + j. A chunk that the seat claims already isn't granted
+    /// again.
+    ///
+    /// 803 `NoGroup` where there is no such group, and 701 `Memory`. The store then stands for the same.
+    pub fn take(&mut self, seat: u32, group: u32, want: u64) -> Result<u64, StoreFault>
+        ensures ok { IfOk result (λ granted. IsEvent self.old self.new (caller seat) (Take group want granted)) }
+        ensures err { OnErr result (IsSame self.old self.new) }
+        ensures no_group { IsErrOf result NoGroup ↔ (groups (fixed_of self.old) ≤ group) }
+        ensures never { result ≢ Err OtherRoot }
+    {
+        if group >= self.groups() {
+            return Err(StoreFault::NoGroup);
+        }
+        let end = (GROUP_LEN * (group as usize + 1)).min(self.fixed.capacity as usize);
+        grow(&mut self.slots, end)?;
+        let granted = chosen(self.slots.as_slice(), group, want, &Pick::Free);
+        put_claims(self.slots.as_mut_slice(), group, granted, Some(seat));
+        Ok(granted)
+    }
+
+    /// Ends the seat's claims among the mask of a group, and answers the mask of those that it had: 0 for a group
+    /// that isn't there. It takes no memory.
+    pub fn give(&mut self, seat: u32, group: u32, mask: u64) -> u64
+        ensures { IsEvent self.old self.new (caller seat) (Give group mask result) }
+    {
+        if group >= self.groups() {
+            return 0;
+        }
+        let given = chosen(self.slots.as_slice(), group, mask, &Pick::Claimed(seat));
+        put_claims(self.slots.as_mut_slice(), group, given, None);
+        given
     }
 }
