@@ -6,4 +6,5 @@ pub mod Origins
 pub mod Bytes
 pub mod Bound
 pub mod Joining
+pub mod SameRoot
 pub mod Stored

@@ -2,14 +2,24 @@
 use Rattle.std.proofs.Common.{◌≡◌, ℕ, ◌+◌, ◌*◌, ◌/◌, ◌%◌, ◌<◌, ◌≤◌, min, nat_lt, ◌==◌, Bool, true, false, not, ◌&&◌, ◌||◌, if◌then◌else◌, List, [], ◌∷◌, ◌++◌, length, Option, None, Some, Result, Ok, Err, OnErr, is_some, refl, sym, ap, subst, ◌∙◌, arith, inl, inr}
 use Rattle.std.proofs.Math.Logic.{∥∥₁_map}
 use Rattle.std.proofs.lemmas.List.{get_or_past}
-use Rattle.std.proofs.lemmas.Bool.{and_parts, and_left, and_right, cases_Bool, cases_lt, lt-ltb, le-ltb}
+use Rattle.std.proofs.lemmas.Bool.{eq-eqb, ne_eqb, and_parts, and_left, and_right, cases_Bool, cases_lt, lt-ltb, le-ltb}
+use Rattle.b3tree.specs.declared.mode.Mode.{Mode}
+use Rattle.b3tree.specs.declared.values.Hash.{Hash}
+use Rattle.b3tree.specs.Valid.{AreBytes}
+use Rattle.bao_check.specs.declared.checked.Checked.{Checked}
+use Rattle.bao_check.specs.Accepted.{IsAccepted}
+use Rattle.bao_check.specs.Checked.{HoldsLast, piece_claimed, piece_mode, piece_nodes, piece_root, piece_text}
+use Rattle.store_core.specs.declared.history.Settling.{Settling}
+use Rattle.store_core.specs.declared.history.Settling.TheVariants.{Settled, Known, Differs}
+use Rattle.store_core.specs.Pieces.{IsAcceptedPiece, piece_of}
+use Rattle.store_core.specs.Stores.{IsOf}
 use Rattle.store_core.specs.declared.fixed.Fixed.{Fixed}
 use Rattle.store_core.specs.declared.history.Call.{Call}
-use Rattle.store_core.specs.declared.history.Call.TheVariants.{Take, Give}
+use Rattle.store_core.specs.declared.history.Call.TheVariants.{Take, Give, Settle}
 use Rattle.store_core.specs.declared.history.Event.{Event}
 use Rattle.store_core.specs.declared.slot.Slot.{Slot}
 use Rattle.store_core.specs.declared.slot.Slot.TheVariants.{Free, Claimed, Held}
-use Rattle.store_core.specs.Events.{IsRight, after_call, is_free}
+use Rattle.store_core.specs.Events.{IsRight, after_call, is_free, settling}
 use Rattle.store_core.specs.Machine.{groups}
 use Rattle.store_core.specs.Masks.{IsMaskOf, has_bit, in_mask}
 use Rattle.store_core.specs.Names.{Name}
@@ -227,3 +237,41 @@ within_group c group end capacity len e h of_group below = omega (arith, e, h, o
 pub on_err : {A B : Type 0} {P : Type 0} (r : Result A B) → P → OnErr r P
 on_err (Ok x) p = tt
 on_err (Err e) p = p
+
+-- a hash with the bytes of another is that hash
+pub same_hash : (one other : Hash) → one.0 ≡ other.0 → one ≡ other
+same_hash one other same = λ i. record { 0 = same i }
+
+-- what a piece of the store's root and mode carries is that it is accepted under them
+pub accepted_piece : (fixed : Fixed) (piece : Checked) → AreBytes (piece_text piece) → IsAccepted (piece_mode piece) (piece_root piece) (piece_text piece) (piece_nodes piece)
+    → IsOf fixed piece → IsAcceptedPiece fixed (piece_of piece)
+accepted_piece fixed piece bytes accepted is = record {
+  bytes = bytes;
+  accepted = subst (λ (m : Mode). IsAccepted m fixed.root.0 (piece_text piece) (piece_nodes piece)) is.mode
+      (subst (λ (r : Hash). IsAccepted piece.mode r.0 (piece_text piece) (piece_nodes piece)) is.root accepted);
+}
+
+-- what is asked of a piece's root and mode
+pub is_of_piece : (fixed : Fixed) (piece : Checked) (root : Hash) (mode : Mode) → root.0 ≡ piece_root piece → mode ≡ piece_mode piece
+    → root ≡ fixed.root → mode ≡ fixed.mode → IsOf fixed piece
+is_of_piece fixed piece root mode r m same_root same_mode = record { root = sym (same_hash root piece.root r) ∙ same_root; mode = sym m ∙ same_mode }
+
+pub not_of_piece : (fixed : Fixed) (piece : Checked) (root : Hash) (mode : Mode) → root.0 ≡ piece_root piece → mode ≡ piece_mode piece
+    → ((root ≡ fixed.root) × (mode ≡ fixed.mode) → ⊥) → ¬ IsOf fixed piece
+not_of_piece fixed piece root mode r m other is = other (same_hash root piece.root r ∙ is.root, m ∙ is.mode)
+
+-- the three answers of a settled length
+pub settling_none : (o : Option ℕ) (l : ℕ) → o ≡ None → Settled ≡ settling o l
+settling_none o l e = rw e refl
+
+pub settling_known : (o : Option ℕ) (m l : ℕ) → o ≡ Some m → m ≡ l → Known ≡ settling o l
+settling_known o m l e same = rw e (rw (eq-eqb m l same) refl)
+
+pub settling_differs : (o : Option ℕ) (m l : ℕ) → o ≡ Some m → (m ≡ l → ⊥) → Differs ≡ settling o l
+settling_differs o m l e other = rw e (rw (ne_eqb m l other) refl)
+
+-- a right Settle
+pub settle_right : (fixed : Fixed) (slots : List Slot) (o : Option ℕ) (piece : Checked) (l : ℕ) (answer : Settling) → IsAcceptedPiece fixed (piece_of piece) → HoldsLast piece
+    → l ≡ piece_claimed piece → l ≤ 1024 * fixed.capacity → answer ≡ settling o l → (who : List Name) → IsRight fixed (state_in slots o) who (Settle (piece_of piece) answer)
+settle_right fixed slots o piece l answer accepted last is fits same who =
+    (accepted, last, subst (λ (n : ℕ). n ≤ 1024 * fixed.capacity) is fits, same ∙ ap (λ (n : ℕ). settling o n) is)

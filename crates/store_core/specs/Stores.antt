@@ -1,9 +1,14 @@
 -- What a store stands for, and what a call does to it.
-use Rattle.std.specs.Prelude.{◌≡◌, ℕ, List}
+use Rattle.std.specs.Prelude.{◌≡◌, ℕ, ◌*◌, ◌<◌, List}
 use Rattle.b3tree.specs.declared.mode.Mode.{Mode}
 use Rattle.b3tree.specs.declared.values.Hash.{Hash}
 use Rattle.store_core.specs.declared.fixed.Fixed.{Fixed}
 use Rattle.store_core.specs.declared.history.Call.{Call}
+use Rattle.store_core.specs.declared.history.Call.TheVariants.{Settle}
+use Rattle.store_core.specs.declared.history.Settling.{Settling}
+use Rattle.store_core.specs.declared.history.Settling.TheVariants.{Settled, Known, Differs, OtherRoot, TooLarge}
+use Rattle.store_core.specs.Pieces.{length_of, piece_of}
+use Rattle.bao_check.specs.declared.checked.Checked.{Checked}
 use Rattle.store_core.specs.declared.store.Store.{Store}
 use Rattle.store_core.specs.Events.{IsRight, after_call}
 use Rattle.store_core.specs.Names.{Name}
@@ -31,3 +36,16 @@ pub record IsEvent (old new : Store) (who : List Name) (call : Call) : Type 0 wh
   pub fixed : fixed_of new ≡ fixed_of old
   pub right : IsRight (fixed_of old) (state_of old) who call
   pub after : state_of new ≡ after_call who call (state_of old)
+
+-- a piece is of the store's root and mode
+pub record IsOf (fixed : Fixed) (piece : Checked) : Type 0 where
+  pub root : piece.root ≡ fixed.root
+  pub mode : piece.mode ≡ fixed.mode
+
+-- what a settled length meets, and what stands after it; the call names no seat, so it is anybody's event
+abbrev pub Settles : Store → Store → Checked → Settling → Type 0
+Settles old new piece OtherRoot = (¬ IsOf (fixed_of old) piece) × IsSame old new
+Settles old new piece TooLarge = IsOf (fixed_of old) piece × (1024 * (fixed_of old).capacity < length_of (piece_of piece)) × IsSame old new
+Settles old new piece Settled = (who : List Name) → IsEvent old new who (Settle (piece_of piece) Settled)
+Settles old new piece Known = (who : List Name) → IsEvent old new who (Settle (piece_of piece) Known)
+Settles old new piece Differs = (who : List Name) → IsEvent old new who (Settle (piece_of piece) Differs)

@@ -1,12 +1,14 @@
-ghost use Rattle.std.specs.Prelude.{◌≡◌, ◌≢◌, ◌↔◌, ◌*◌, ℕ, ◌<◌, ◌≤◌, IfOk, IsOk, IsErrOf, MatchResult, OnErr, length};
+ghost use Rattle.std.specs.Prelude.{◌≡◌, ◌≢◌, ◌↔◌, ◌*◌, ℕ, ◌<◌, ◌≤◌, IfOk, IsOk, IsErrOf, MatchResult, OnErr, List, length};
 ghost use Rattle.store_core.specs.Slots.{caller, state_in};
 ghost use Rattle.store_core.specs.Reached.{IsReached};
 
 use crate::fault::{BadCapacity, StoreFault};
 use crate::fixed::Fixed;
+use crate::history::Settling;
 use crate::masks::GROUP_LEN;
 use crate::slot::{Pick, Slot, chosen, grow, put_claims};
-use b3tree::{Hash, Mode};
+use b3tree::{CHUNK_LEN, Hash, Mode};
+use bao_check::Tail;
 use std::alloc::Global;
 
 /// The most chunks that a store has room for.
@@ -26,11 +28,13 @@ pub struct Store {
 }
 
 impl Store {
-    ghost use Rattle.store_core.specs.declared.history.Call.TheVariants.{Take, Give};
+    ghost use Rattle.store_core.specs.declared.history.Call.TheVariants.{Commit, Give, Length, Take};
     ghost use Rattle.store_core.specs.declared.fault.StoreFault.TheVariants.{NoGroup, OtherRoot};
     ghost use Rattle.store_core.specs.Machine.{groups};
+    ghost use Rattle.bao_check.specs.Tail.{tail_piece};
+    ghost use Rattle.store_core.specs.Names.{Name};
     ghost use Rattle.store_core.specs.States.{empty};
-    ghost use Rattle.store_core.specs.Stores.{IsEvent, IsNew, IsSame, fixed_of, state_of};
+    ghost use Rattle.store_core.specs.Stores.{IsEvent, IsNew, IsSame, Settles, fixed_of, state_of};
 
     /// A store that holds, claims and records nothing. It takes no memory.
     ///
@@ -93,5 +97,43 @@ impl Store {
         let given = chosen(self.slots.as_slice(), group, mask, &Pick::Claimed(seat));
         put_claims(self.slots.as_mut_slice(), group, given, None);
         given
+    }
+
+    /// Records the length in bytes that a piece with the last chunk certifies, if none is recorded: `Settled`. Else it
+    /// changes nothing and says whether the same was recorded, `Known`, or another, `Differs`. It takes no memory.
+    ///
+    /// 804 `OtherRoot`, asked before all else, where the piece is of another root or mode, and 805 `TooLarge` where the
+    /// length is above 1,024 times the capacity. The store is then unchanged.
+    pub fn settle(&mut self, tail: &Tail<'_>) -> Settling
+        ensures { Settles self.old self.new (tail_piece tail.now) result }
+    {
+        tail.is_last();
+        if !self.fixed.is_of(&tail.root(), &tail.mode()) {
+            return Settling::OtherRoot;
+        }
+        let length = tail.length();
+        if length > CHUNK_LEN as u64 * u64::from(self.fixed.capacity) {
+            return Settling::TooLarge;
+        }
+        match self.recorded {
+            None => {
+                self.recorded = Some(length);
+                Settling::Settled
+            }
+            Some(known) => {
+                if known == length {
+                    Settling::Known
+                } else {
+                    Settling::Differs
+                }
+            }
+        }
+    }
+
+    /// The recorded length in bytes, if there is one. It takes no memory.
+    pub fn length(&self) -> Option<u64>
+        ensures { (who : List Name) → IsEvent self.now self.now who (Length result) }
+    {
+        self.recorded
     }
 }
