@@ -1,8 +1,10 @@
 -- What slots stand for, and how calls change it.
-use Rattle.std.proofs.Common.{◌≡◌, ℕ, ◌+◌, ◌*◌, ◌/◌, ◌%◌, ◌<◌, ◌≤◌, min, nat_lt, ◌==◌, Bool, true, false, not, ◌&&◌, ◌||◌, if◌then◌else◌, List, [], ◌∷◌, ◌++◌, length, Option, None, Some, Result, Ok, Err, OnErr, is_some, refl, sym, ap, subst, ◌∙◌, arith, inl, inr}
+use Rattle.std.proofs.Common.{◌≡◌, ℕ, ◌+◌, ◌*◌, ◌/◌, ◌%◌, ◌<◌, ◌≤◌, min, nat_lt, nat_eq, ◌==◌, Bool, true, false, not, ◌&&◌, ◌||◌, if◌then◌else◌, List, [], ◌∷◌, ◌++◌, length, Option, None, Some, Result, Ok, Err, OnErr, is_some, refl, sym, ap, subst, ◌∙◌, arith, inl, inr}
 use Rattle.std.proofs.Math.Logic.{∥∥₁_map}
 use Rattle.std.proofs.lemmas.List.{get_or_past}
-use Rattle.std.proofs.lemmas.Bool.{eq-eqb, ne_eqb, and_parts, and_left, and_right, cases_Bool, cases_lt, lt-ltb, le-ltb}
+use Rattle.std.proofs.lemmas.Nat.Bits.{bit_at_ones}
+use Rattle.store_core.specs.declared.history.Piece.{Piece}
+use Rattle.std.proofs.lemmas.Bool.{eqb-true, eq-eqb, ne_eqb, and_parts, and_left, and_right, cases_Bool, cases_lt, lt-ltb, le-ltb}
 use Rattle.b3tree.specs.declared.mode.Mode.{Mode}
 use Rattle.b3tree.specs.declared.values.Hash.{Hash}
 use Rattle.b3tree.specs.Valid.{AreBytes}
@@ -11,11 +13,11 @@ use Rattle.bao_check.specs.Accepted.{IsAccepted}
 use Rattle.bao_check.specs.Checked.{HoldsLast, piece_claimed, piece_mode, piece_nodes, piece_root, piece_text}
 use Rattle.store_core.specs.declared.history.Settling.{Settling}
 use Rattle.store_core.specs.declared.history.Settling.TheVariants.{Settled, Known, Differs}
-use Rattle.store_core.specs.Pieces.{IsAcceptedPiece, piece_of}
+use Rattle.store_core.specs.Pieces.{IsAcceptedPiece, holds_chunk, piece_of}
 use Rattle.store_core.specs.Stores.{IsOf}
 use Rattle.store_core.specs.declared.fixed.Fixed.{Fixed}
 use Rattle.store_core.specs.declared.history.Call.{Call}
-use Rattle.store_core.specs.declared.history.Call.TheVariants.{Take, Give, Settle}
+use Rattle.store_core.specs.declared.history.Call.TheVariants.{Take, Give, Commit, Settle}
 use Rattle.store_core.specs.declared.history.Event.{Event}
 use Rattle.store_core.specs.declared.slot.Slot.{Slot}
 use Rattle.store_core.specs.declared.slot.Slot.TheVariants.{Free, Claimed, Held}
@@ -24,7 +26,7 @@ use Rattle.store_core.specs.Machine.{groups}
 use Rattle.store_core.specs.Masks.{IsMaskOf, has_bit, in_mask}
 use Rattle.store_core.specs.Names.{Name}
 use Rattle.store_core.specs.Reached.{IsReached}
-use Rattle.store_core.specs.Slots.{caller, claim_in, claimed_slot, held_in, is_free_slot, is_of, slot_at, state_in}
+use Rattle.store_core.specs.Slots.{AreCopies, IsCopy, caller, claim_in, claimed_slot, held_in, is_free_slot, is_of, slot_at, state_in}
 use Rattle.store_core.specs.States.{State, claims, empty, is_among}
 use Rattle.store_core.proofs.Choosing.{has_bit-zero}
 use Rattle.store_core.proofs.Lasting.{legal-join, run-append}
@@ -275,3 +277,86 @@ pub settle_right : (fixed : Fixed) (slots : List Slot) (o : Option ℕ) (piece :
     → l ≡ piece_claimed piece → l ≤ 1024 * fixed.capacity → answer ≡ settling o l → (who : List Name) → IsRight fixed (state_in slots o) who (Settle (piece_of piece) answer)
 settle_right fixed slots o piece l answer accepted last is fits same who =
     (accepted, last, subst (λ (n : ℕ). n ≤ 1024 * fixed.capacity) is fits, same ∙ ap (λ (n : ℕ). settling o n) is)
+
+and_assoc : (a b c : Bool) → (a && (b && c)) ≡ ((a && b) && c)
+and_assoc true b c = refl
+and_assoc false b c = refl
+
+-- all bits are among the greatest mask
+all_bits : (k : ℕ) → k < 64 → has_bit 18446744073709551615 k ≡ true
+unfolding has_bit
+all_bits k below = ap (λ x. nat_eq x 1) (bit_at_ones 64 k below)
+
+-- the chunks that a seat claims and a piece holds
+commit_test : (slots : List Slot) (o : Option ℕ) (seat : ℕ) (piece : Piece) (c : ℕ)
+    → (has_bit 18446744073709551615 (c % 64) && (nat_lt c (length slots) && (is_of seat (slot_at slots c) && holds_chunk piece c)))
+    ≡ (claims (caller seat) (state_in slots o) c && holds_chunk piece c)
+commit_test slots o seat piece c =
+    rw (all_bits (c % 64) (omega arith))
+    (and_assoc (nat_lt c (length slots)) (is_of seat (slot_at slots c)) (holds_chunk piece c)
+    ∙ ap (λ (b : Bool). b && holds_chunk piece c) (claims_test slots o seat c))
+
+-- the copy of a chunk of the mask
+copy_at : (group mask : ℕ) (piece : Checked) (ready : List Slot) (c : ℕ) → AreCopies piece group mask 64 ready → in_mask group mask c ≡ true → IsCopy piece c (slot_at ready (c % 64))
+copy_at group mask piece ready c copies hit =
+    let parts = and_parts (c / 64 == group) (has_bit mask (c % 64)) hit in
+    let of_group : c / 64 ≡ group = eqb-true (c / 64) group parts.0 in
+    let place : 64 * group + c % 64 ≡ c = omega (arith, of_group) in
+    subst (λ (n : ℕ). IsCopy piece n (slot_at ready (c % 64))) place (copies.each (c % 64) (omega arith) parts.1)
+
+-- copies that were put are what stands after a Commit
+pub put_committed : (old ready new : List Slot) (o : Option ℕ) (seat group mask : ℕ) (piece : Checked) → AreCopies piece group mask 64 ready
+    → ((c : ℕ) → slot_at new c ≡ (if in_mask group mask c then slot_at ready (c % 64) else slot_at old c))
+    → state_in new o ≡ after_call (caller seat) (Commit group (piece_of piece) mask) (state_in old o)
+put_committed old ready new o seat group mask piece copies put = same_state (state_in new o) (after_call (caller seat) (Commit group (piece_of piece) mask) (state_in old o))
+    (λ c. elim (cases_Bool (in_mask group mask c)) [
+      | inl hit ↦ rw hit (ap held_in (rw hit at (put c)) ∙ (copy_at group mask piece ready c copies hit).bytes)
+      | inr miss ↦ rw miss (ap held_in (rw miss at (put c)))
+    ])
+    (λ c. elim (cases_Bool (in_mask group mask c)) [
+      | inl hit ↦ rw hit (ap claim_in (rw hit at (put c)) ∙ (copy_at group mask piece ready c copies hit).unclaimed)
+      | inr miss ↦ rw miss (ap claim_in (rw miss at (put c)))
+    ])
+    refl
+
+pub commit_done : (fixed : Fixed) (old ready new : List Slot) (o : Option ℕ) (seat group mask : ℕ) (piece : Checked) → IsAcceptedPiece fixed (piece_of piece)
+    → IsMaskOf group mask (λ c. has_bit 18446744073709551615 (c % 64) && (nat_lt c (length old) && (is_of seat (slot_at old c) && holds_chunk (piece_of piece) c)))
+    → AreCopies piece group mask 64 ready → ((c : ℕ) → slot_at new c ≡ (if in_mask group mask c then slot_at ready (c % 64) else slot_at old c))
+    → IsDone fixed old new o (caller seat) (Commit group (piece_of piece) mask)
+commit_done fixed old ready new o seat group mask piece accepted chosen copies put = record {
+  right = (
+    accepted,
+    mask_same group mask
+        (λ c. has_bit 18446744073709551615 (c % 64) && (nat_lt c (length old) && (is_of seat (slot_at old c) && holds_chunk (piece_of piece) c)))
+        (λ c. claims (caller seat) (state_in old o) c && holds_chunk (piece_of piece) c)
+        (λ c of_group. commit_test old o seat (piece_of piece) c) chosen,
+  );
+  after = put_committed old ready new o seat group mask piece copies put;
+}
+
+pub commit_at : (fixed : Fixed) (old seen written copied ready new : List Slot) (o : Option ℕ) (seat group mask : ℕ) (piece : Checked) → IsAcceptedPiece fixed (piece_of piece)
+    → seen ≡ old → written ≡ old → copied ≡ ready
+    → IsMaskOf group mask (λ c. has_bit 18446744073709551615 (c % 64) && (nat_lt c (length seen) && (is_of seat (slot_at seen c) && holds_chunk (piece_of piece) c)))
+    → AreCopies piece group mask 64 ready → ((c : ℕ) → slot_at new c ≡ (if in_mask group mask c then slot_at copied (c % 64) else slot_at written c))
+    → IsDone fixed old new o (caller seat) (Commit group (piece_of piece) mask)
+commit_at fixed old seen written copied ready new o seat group mask piece accepted e f g chosen copies put =
+    commit_done fixed old ready new o seat group mask piece accepted
+    (subst (λ (xs : List Slot). IsMaskOf group mask (λ c. has_bit 18446744073709551615 (c % 64) && (nat_lt c (length xs) && (is_of seat (slot_at xs c) && holds_chunk (piece_of piece) c)))) e chosen)
+    copies
+    (subst (λ (xs : List Slot). (c : ℕ) → slot_at new c ≡ (if in_mask group mask c then slot_at ready (c % 64) else slot_at xs c)) f
+    (subst (λ (xs : List Slot). (c : ℕ) → slot_at new c ≡ (if in_mask group mask c then slot_at xs (c % 64) else slot_at written c)) g put))
+
+-- a group that isn't there
+pub commit_none : (fixed : Fixed) (slots : List Slot) (o : Option ℕ) (seat group : ℕ) (piece : Checked) → IsAcceptedPiece fixed (piece_of piece)
+    → length slots ≤ fixed.capacity → groups fixed ≤ group → IsDone fixed slots slots o (caller seat) (Commit group (piece_of piece) 0)
+commit_none fixed slots o seat group piece accepted fits absent = record {
+  right = (
+    accepted,
+    no_mask group (λ c. claims (caller seat) (state_in slots o) c && holds_chunk (piece_of piece) c)
+        (λ c of_group. and_left _ _ (sym (claims_test slots o seat c) ∙ and_left _ _ (le-ltb c (length slots) (omega (arith, of_group, absent, fits))))),
+  );
+  after = same_state (state_in slots o) (after_call (caller seat) (Commit group (piece_of piece) 0) (state_in slots o))
+      (λ c. rw (and_right (c / 64 == group) (has_bit 0 (c % 64)) (has_bit-zero (c % 64))) refl)
+      (λ c. rw (and_right (c / 64 == group) (has_bit 0 (c % 64)) (has_bit-zero (c % 64))) refl)
+      refl;
+}

@@ -1,11 +1,13 @@
 -- Places of chunks, and the state that a list of them stands for. A chunk past the list's end is free.
-use Rattle.std.specs.Prelude.{ℕ, ◌==◌, Bool, true, false, ◌&&◌, List, [], ◌∷◌, Option, None, Some, slice_index_or}
+use Rattle.std.specs.Prelude.{◌≡◌, ◌+◌, ◌*◌, ◌<◌, length, ℕ, ◌==◌, Bool, true, false, ◌&&◌, List, [], ◌∷◌, Option, None, Some, slice_index_or}
+use Rattle.bao_check.specs.declared.checked.Checked.{Checked}
 use Rattle.store_core.specs.declared.slot.Pick.{Pick}
 use Rattle.store_core.specs.declared.slot.Pick.TheVariants as kinds
 use Rattle.store_core.specs.declared.slot.Slot.{Slot}
 use Rattle.store_core.specs.declared.slot.Slot.TheVariants.{Free, Claimed, Held}
+use Rattle.store_core.specs.Masks.{has_bit}
 use Rattle.store_core.specs.Names.{Name}
-use Rattle.store_core.specs.Pieces.{holds_chunk, piece_of}
+use Rattle.store_core.specs.Pieces.{chunk_bytes, holds_chunk, piece_of}
 use Rattle.store_core.specs.States.{State}
 
 -- the names of the caller with a seat's number
@@ -49,3 +51,13 @@ picks (kinds.InPiece seat piece) c slot = is_of seat slot && holds_chunk (piece_
 abbrev pub claimed_slot : Option ℕ → Slot
 claimed_slot None = Free
 claimed_slot (Some seat) = Claimed seat
+
+-- the slot is that of chunk c of the piece: with its bytes where the piece holds it, and free otherwise
+pub record IsCopy (piece : Checked) (c : ℕ) (slot : Slot) : Type 0 where
+  pub bytes : held_in slot ≡ chunk_bytes (piece_of piece) c
+  pub unclaimed : claim_in slot ≡ None
+
+-- there are n slots, and those of the mask's bits are of the group's chunks
+pub record AreCopies (piece : Checked) (group mask n : ℕ) (ready : List Slot) : Type 0 where
+  pub count : length ready ≡ n
+  pub each : (j : ℕ) → j < n → has_bit mask j ≡ true → IsCopy piece (64 * group + j) (slot_at ready j)

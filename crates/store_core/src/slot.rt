@@ -1,10 +1,11 @@
-ghost use Rattle.std.specs.Prelude.{◌≡◌, ℕ, ◌<◌, ◌≤◌, ◌%◌, max, OnOk, length, true, nat_lt, ◌&&◌, if◌then◌else◌};
+ghost use Rattle.std.specs.Prelude.{◌≡◌, ℕ, ◌<◌, ◌≤◌, ◌%◌, max, IfOk, OnOk, length, true, nat_lt, ◌&&◌, if◌then◌else◌};
 ghost use Rattle.store_core.specs.Masks.{IsMaskOf, has_bit, in_mask};
-ghost use Rattle.store_core.specs.Slots.{claimed_slot, is_of, picks, slot_at};
+ghost use Rattle.store_core.specs.Slots.{AreCopies, IsCopy, claimed_slot, is_of, picks, slot_at};
 
 use crate::masks::{GROUP_LEN, has_bit, with_bit};
 use bao_check::Checked;
-use std::alloc::AllocError;
+use std::alloc::{AllocError, Global};
+use std::mem::replace;
 
 /// A chunk's place in a store.
 #[derive(Drop)]
@@ -110,4 +111,52 @@ pub(crate) fn grow(slots: &mut Vec<Slot>, len: usize) -> Result<(), AllocError>
         slots.push(Slot::Free)?;
     }
     Ok(())
+}
+
+// What chunk `chunk` of the piece is in a store, if the piece holds it.
+fn copy(alloc: Global, piece: &Checked<'_>, chunk: u64) -> Result<Slot, AllocError>
+    ensures { IfOk result (λ slot. IsCopy piece.now chunk slot) }
+{
+    match piece.chunk(chunk) {
+        Some(bytes) => Ok(Slot::Held(bytes.to_vec(alloc)?)),
+        None => Ok(Slot::Free),
+    }
+}
+
+// A slot for each bit of the mask of a group: that of its chunk in the piece where the bit is set.
+pub(crate) fn copies(
+    alloc: Global,
+    piece: &Checked<'_>,
+    group: u32,
+    mask: u64,
+) -> Result<Vec<Slot>, AllocError>
+    requires { group < 1024 }
+    ensures { IfOk result (λ ready. AreCopies piece.now group mask 64 ready.items) }
+{
+    let first = GROUP_LEN as u64 * u64::from(group);
+    let mut ready = Vec::new(alloc);
+    for j in 0..64u32 {
+        let slot = if has_bit(mask, j) {
+            copy(alloc, piece, first + u64::from(j))?
+        } else {
+            Slot::Free
+        };
+        ready.push(slot)?;
+    }
+    Ok(ready)
+}
+
+// Each chunk of the group's mask has the slot of its bit.
+pub(crate) fn put_ready(slots: &mut [Slot], group: u32, mask: u64, ready: &mut [Slot])
+    requires group_in { group < 1024 }
+    requires within { (c : ℕ) → in_mask group mask c ≡ true → c < length slots.old }
+    requires full { length ready.old ≡ 64 }
+    ensures { (c : ℕ) → slot_at slots.new c ≡ (if in_mask group mask c then slot_at ready.old (c % 64) else slot_at slots.old c) }
+{
+    let first = GROUP_LEN * group as usize;
+    for j in 0..64u32 {
+        if has_bit(mask, j) {
+            slots[first + j as usize] = replace(&mut ready[j as usize], Slot::Free);
+        }
+    }
 }

@@ -6,9 +6,9 @@ use crate::fault::{BadCapacity, StoreFault};
 use crate::fixed::Fixed;
 use crate::history::Settling;
 use crate::masks::GROUP_LEN;
-use crate::slot::{Pick, Slot, chosen, grow, put_claims};
+use crate::slot::{Pick, Slot, chosen, copies, grow, put_claims, put_ready};
 use b3tree::{CHUNK_LEN, Hash, Mode};
-use bao_check::Tail;
+use bao_check::{Checked, Tail};
 use std::alloc::Global;
 
 /// The most chunks that a store has room for.
@@ -33,8 +33,9 @@ impl Store {
     ghost use Rattle.store_core.specs.Machine.{groups};
     ghost use Rattle.bao_check.specs.Tail.{tail_piece};
     ghost use Rattle.store_core.specs.Names.{Name};
+    ghost use Rattle.store_core.specs.Pieces.{piece_of};
     ghost use Rattle.store_core.specs.States.{empty};
-    ghost use Rattle.store_core.specs.Stores.{IsEvent, IsNew, IsSame, Settles, fixed_of, state_of};
+    ghost use Rattle.store_core.specs.Stores.{IsEvent, IsNew, IsOf, IsSame, Settles, fixed_of, state_of};
 
     /// A store that holds, claims and records nothing. It takes no memory.
     ///
@@ -135,5 +136,35 @@ impl Store {
         ensures { (who : List Name) → IsEvent self.now self.now who (Length result) }
     {
         self.recorded
+    }
+
+    /// Stores exactly the chunks of a group that the seat claims and the piece holds, ends these claims, and answers
+    /// their mask: 0 for a group that isn't there.
+    ///
+    /// 804 `OtherRoot`, asked before all else, where the piece is of another root or mode, and 701 `Memory`. The store
+    /// is then unchanged.
+    pub fn commit(&mut self, seat: u32, group: u32, piece: &Checked<'_>) -> Result<u64, StoreFault>
+        ensures ok { IfOk result (λ committed. IsEvent self.old self.new (caller seat) (Commit group (piece_of piece.now) committed)) }
+        ensures err { OnErr result (IsSame self.old self.new) }
+        ensures other_root { IsErrOf result OtherRoot ↔ (¬ IsOf (fixed_of self.old) piece.now) }
+        ensures never { result ≢ Err NoGroup }
+    {
+        piece.is_accepted();
+        if !self.fixed.is_of(&piece.root(), &piece.mode()) {
+            return Err(StoreFault::OtherRoot);
+        }
+        if group >= self.groups() {
+            return Ok(0);
+        }
+        let pick = Pick::InPiece(seat, *piece);
+        let committed = chosen(self.slots.as_slice(), group, u64::MAX, &pick);
+        let mut ready = copies(self.alloc, piece, group, committed)?;
+        put_ready(
+            self.slots.as_mut_slice(),
+            group,
+            committed,
+            ready.as_mut_slice(),
+        );
+        Ok(committed)
     }
 }

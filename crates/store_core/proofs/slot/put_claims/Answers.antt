@@ -17,11 +17,11 @@ loop-j-preserved c =
     let within : c.has_bit.result ≡ true → 64 * g + j < length c.loop-j.slots = λ h.
     let w = c.requires.within (64 * g + j) (in_mask_at g c.args.mask j (omega arith) (sym c.has_bit.ensures ∙ h)) in omega (arith, w) in
     let put : (new : List Slot) → c.has_bit.result ≡ true → new ≡ set c.loop-j.slots (64 * g + j) (claimed_slot c.args.seat)
-    → IsPutUpTo g c.args.mask (j + 1) (claimed_slot c.args.seat) c.args.slots.now new = λ new h is.
-    put_more g c.args.mask j (claimed_slot c.args.seat) c.args.slots.now c.loop-j.slots new (omega arith) c.loop-j.invariant (sym c.has_bit.ensures ∙ h) (within h) is in
+    → IsPutUpTo g c.args.mask (j + 1) (λ k. claimed_slot c.args.seat) c.args.slots.now new = λ new h is.
+    put_more g c.args.mask j (λ k. claimed_slot c.args.seat) c.args.slots.now c.loop-j.slots new (omega arith) c.loop-j.invariant (sym c.has_bit.ensures ∙ h) (within h) is in
     elim c.if-has_bit.branch [
       | then-has_bit+in-Held-1 w ↦ put c.if-has_bit.slots w.if-has_bit.true (w.slots-is ∙ ap (λ (x : Slot). set c.loop-j.slots (64 * g + j) x) w.claimed_slot.ensures)
       | then-has_bit+in-Free-1 w ↦ put c.if-has_bit.slots w.if-has_bit.true (w.slots-is ∙ ap (λ (x : Slot). set c.loop-j.slots (64 * g + j) x) w.claimed_slot.ensures)
-      | else-has_bit w ↦ put_less g c.args.mask j (claimed_slot c.args.seat) c.args.slots.now c.loop-j.slots c.if-has_bit.slots (omega arith) c.loop-j.invariant
+      | else-has_bit w ↦ put_less g c.args.mask j (λ k. claimed_slot c.args.seat) c.args.slots.now c.loop-j.slots c.if-has_bit.slots (omega arith) c.loop-j.invariant
           (sym c.has_bit.ensures ∙ w.if-has_bit.false) w.slots-is
     ]
