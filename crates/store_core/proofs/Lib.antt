@@ -3,8 +3,9 @@ pub mod Choosing
 pub mod Lasting
 pub mod Determined
 pub mod Origins
-pub mod Bytes
+pub mod ReadLaws
 pub mod Bound
 pub mod Joining
 pub mod SameRoot
+pub mod Copying
 pub mod Stored

@@ -1,5 +1,5 @@
 -- Places of chunks, and the state that a list of them stands for. A chunk past the list's end is free.
-use Rattle.std.specs.Prelude.{◌≡◌, ◌+◌, ◌*◌, ◌<◌, length, ℕ, ◌==◌, Bool, true, false, ◌&&◌, List, [], ◌∷◌, Option, None, Some, slice_index_or}
+use Rattle.std.specs.Prelude.{◌≡◌, ◌+◌, ◌*◌, ◌<◌, length, ℕ, ◌==◌, Bool, true, false, ◌&&◌, List, [], ◌∷◌, Option, None, Some, slice_index_or, ◌/◌, ◌%◌, option_and_then, slice_get}
 use Rattle.bao_check.specs.declared.checked.Checked.{Checked}
 use Rattle.store_core.specs.declared.slot.Pick.{Pick}
 use Rattle.store_core.specs.declared.slot.Pick.TheVariants as kinds
@@ -29,6 +29,10 @@ slot_at slots c = slice_index_or slots c Free
 
 abbrev pub state_in : List Slot → Option ℕ → State
 state_in slots recorded = record { held = λ c. held_in (slot_at slots c); claim = λ c. claim_in (slot_at slots c); recorded = recorded }
+
+-- the byte at position q
+abbrev pub slot_byte : List Slot → ℕ → Option ℕ
+slot_byte slots q = option_and_then (λ bytes. slice_get bytes (q % 1024)) (held_in (slot_at slots (q / 1024)))
 
 -- whether the seat claims the chunk
 abbrev pub is_of : ℕ → Slot → Bool

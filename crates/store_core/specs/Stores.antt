@@ -1,14 +1,15 @@
 -- What a store stands for, and what a call does to it.
-use Rattle.std.specs.Prelude.{◌≡◌, ℕ, ◌*◌, ◌<◌, List}
+use Rattle.std.specs.Prelude.{◌≡◌, ℕ, ◌*◌, ◌<◌, List, ◌+◌, ◌++◌, length, drop, Option, None, Some, Result, Ok, Err}
 use Rattle.b3tree.specs.declared.mode.Mode.{Mode}
 use Rattle.b3tree.specs.declared.values.Hash.{Hash}
 use Rattle.store_core.specs.declared.fixed.Fixed.{Fixed}
 use Rattle.store_core.specs.declared.history.Call.{Call}
-use Rattle.store_core.specs.declared.history.Call.TheVariants.{Settle}
+use Rattle.store_core.specs.declared.history.Call.TheVariants.{Read, Settle}
 use Rattle.store_core.specs.declared.history.Settling.{Settling}
 use Rattle.store_core.specs.declared.history.Settling.TheVariants.{Settled, Known, Differs, OtherRoot, TooLarge}
 use Rattle.store_core.specs.Pieces.{length_of, piece_of}
 use Rattle.bao_check.specs.declared.checked.Checked.{Checked}
+use Rattle.store_core.specs.declared.fault.Missing.{Missing}
 use Rattle.store_core.specs.declared.store.Store.{Store}
 use Rattle.store_core.specs.Events.{IsRight, after_call}
 use Rattle.store_core.specs.Names.{Name}
@@ -49,3 +50,21 @@ Settles old new piece TooLarge = IsOf (fixed_of old) piece × (1024 * (fixed_of 
 Settles old new piece Settled = (who : List Name) → IsEvent old new who (Settle (piece_of piece) Settled)
 Settles old new piece Known = (who : List Name) → IsEvent old new who (Settle (piece_of piece) Known)
 Settles old new piece Differs = (who : List Name) → IsEvent old new who (Settle (piece_of piece) Differs)
+
+-- the position that a read answers, if it does
+abbrev pub missing_in : Result Unit Missing → Option ℕ
+missing_in (Ok done) = None
+missing_in (Err missing) = Some missing.0
+
+-- all bytes were read, or the position is the one after those that were
+abbrev pub Answers : ℕ → ℕ → List ℕ → Option ℕ → Type 0
+Answers at len bytes None = length bytes ≡ len
+Answers at len bytes (Some p) = (length bytes < len) × (p ≡ at + length bytes)
+
+-- A read is an event of the store, anybody's. Its bytes fill the buffer from its beginning, and the rest of it is
+-- unchanged.
+pub record DidRead (store : Store) (at : ℕ) (old new : List ℕ) (missing : Option ℕ) : Type 0 where
+  pub bytes : List ℕ
+  pub event : (who : List Name) → IsEvent store store who (Read at (length old) bytes)
+  pub filled : new ≡ bytes ++ drop (length bytes) old
+  pub answer : Answers at (length old) bytes missing

@@ -12,6 +12,7 @@ pub use micro::{MicroStep, ReadBytes, Reply};
 pub use store::{MAX_CAPACITY, Store};
 pub use view::{Named, SeatView, StoredWord};
 
+mod bytes;
 mod fault;
 mod fixed;
 mod history;

@@ -2,7 +2,8 @@ ghost use Rattle.std.specs.Prelude.{◌≡◌, ◌≢◌, ◌↔◌, ◌*◌, �
 ghost use Rattle.store_core.specs.Slots.{caller, state_in};
 ghost use Rattle.store_core.specs.Reached.{IsReached};
 
-use crate::fault::{BadCapacity, StoreFault};
+use crate::bytes::{bytes_from, put_bytes};
+use crate::fault::{BadCapacity, Missing, StoreFault};
 use crate::fixed::Fixed;
 use crate::history::Settling;
 use crate::masks::GROUP_LEN;
@@ -35,7 +36,7 @@ impl Store {
     ghost use Rattle.store_core.specs.Names.{Name};
     ghost use Rattle.store_core.specs.Pieces.{piece_of};
     ghost use Rattle.store_core.specs.States.{empty};
-    ghost use Rattle.store_core.specs.Stores.{IsEvent, IsNew, IsOf, IsSame, Settles, fixed_of, state_of};
+    ghost use Rattle.store_core.specs.Stores.{DidRead, IsEvent, IsNew, IsOf, IsSame, Settles, fixed_of, missing_in, state_of};
 
     /// A store that holds, claims and records nothing. It takes no memory.
     ///
@@ -166,5 +167,27 @@ impl Store {
             ready.as_mut_slice(),
         );
         Ok(committed)
+    }
+
+    /// Fills `out` with the bytes from position `at` on, in bytes. It takes no memory.
+    ///
+    /// `Missing(p)`: p is the least position of the range that isn't held. The bytes before it are filled in, and the
+    /// rest of `out` is unchanged. A position is held if its chunk is and has more bytes than come before it there;
+    /// none at or above 1,024 times the capacity is. An empty buffer is Ok.
+    pub fn read(&self, at: u64, out: &mut [u8]) -> Result<(), Missing>
+        ensures { DidRead self.now at out.old out.new (missing_in result) }
+    {
+        let mut done = 0;
+        while done < out.len() {
+            let position = at + done as u64;
+            let held = bytes_from(self.slots.as_slice(), position);
+            let count = held.len().min(out.len() - done);
+            if count == 0 {
+                return Err(Missing(position));
+            }
+            put_bytes(out, done, &held[..count]);
+            done += count;
+        }
+        Ok(())
     }
 }

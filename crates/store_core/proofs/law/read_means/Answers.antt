@@ -1,5 +1,5 @@
-use Rattle.store_core.proofs.Bytes as bytes
+use Rattle.store_core.proofs.ReadLaws as reads
 use Rattle.store_core.proofs.law.read_means.Goals as goal
 
 pub returns : goal.returns
-returns c = bytes.read_means
+returns c = reads.read_means
