@@ -9,3 +9,4 @@ pub mod Joining
 pub mod SameRoot
 pub mod Copying
 pub mod Stored
+pub mod BoundStore

@@ -1,5 +1,5 @@
 -- What a store stands for, and what a call does to it.
-use Rattle.std.specs.Prelude.{◌≡◌, ℕ, ◌*◌, ◌<◌, List, ◌+◌, ◌++◌, length, drop, Option, None, Some, Result, Ok, Err}
+use Rattle.std.specs.Prelude.{◌≡◌, ℕ, ◌*◌, ◌<◌, List, ◌+◌, ◌++◌, length, drop, Option, None, Some, Result, Ok, Err, ◌⊎◌, ◌-◌, slice_get, slice_index}
 use Rattle.b3tree.specs.declared.mode.Mode.{Mode}
 use Rattle.b3tree.specs.declared.values.Hash.{Hash}
 use Rattle.store_core.specs.declared.fixed.Fixed.{Fixed}
@@ -12,6 +12,8 @@ use Rattle.bao_check.specs.declared.checked.Checked.{Checked}
 use Rattle.store_core.specs.declared.fault.Missing.{Missing}
 use Rattle.store_core.specs.declared.store.Store.{Store}
 use Rattle.store_core.specs.Events.{IsRight, after_call}
+use Rattle.store_core.specs.Laws.{IsBlob, IsCommitted, IsSettled, PairNamed}
+use Rattle.store_core.specs.Reached.{IsReached}
 use Rattle.store_core.specs.Names.{Name}
 use Rattle.store_core.specs.Slots.{state_in}
 use Rattle.store_core.specs.States.{State, empty}
@@ -68,3 +70,32 @@ pub record DidRead (store : Store) (at : ℕ) (old new : List ℕ) (missing : Op
   pub event : (who : List Name) → IsEvent store store who (Read at (length old) bytes)
   pub filled : new ≡ bytes ++ drop (length bytes) old
   pub answer : Answers at (length old) bytes missing
+
+-- A pair is named from a blob and from a piece that some history of the store, one that leads to its state, committed.
+pub record PairCommitted (fixed : Fixed) (s : State) (blob : List ℕ) : Type 0 where
+  pub reached : IsReached fixed s
+  pub chunk : ℕ
+  pub bytes : List ℕ
+  pub committed : IsCommitted fixed reached.history chunk bytes
+  pub pair : PairNamed fixed blob committed.piece
+
+-- or from one by which such a history settled the length
+pub record PairSettled (fixed : Fixed) (s : State) (blob : List ℕ) : Type 0 where
+  pub reached : IsReached fixed s
+  pub recorded : ℕ
+  pub settled : IsSettled fixed reached.history recorded
+  pub pair : PairNamed fixed blob settled.piece
+
+-- how many bytes a read filled in
+abbrev pub filled_count : ℕ → ℕ → Option ℕ → ℕ
+filled_count at len None = len
+filled_count at len (Some p) = p - at
+
+-- each byte filled in is the byte there of each blob with the store's root, or a pair is named
+abbrev pub ReadBinds : Store → ℕ → List ℕ → ℕ → Type 0
+ReadBinds store at bytes count = (blob : List ℕ) → IsBlob (fixed_of store) blob → (i : ℕ) → i < count
+    → ∥ (slice_get blob (at + i) ≡ Some (slice_index bytes i)) ⊎ PairCommitted (fixed_of store) (state_of store) blob ∥₁
+
+-- and a recorded length is the length of each
+abbrev pub LengthBinds : Store → ℕ → Type 0
+LengthBinds store l = (blob : List ℕ) → IsBlob (fixed_of store) blob → ∥ (l ≡ length blob) ⊎ PairSettled (fixed_of store) (state_of store) blob ∥₁

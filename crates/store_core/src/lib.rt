@@ -21,4 +21,6 @@ mod masks;
 mod micro;
 mod slot;
 mod store;
+#[cfg(test)]
+mod tests;
 mod view;

@@ -1,4 +1,4 @@
-ghost use Rattle.std.specs.Prelude.{◌≡◌, ◌≢◌, ◌↔◌, ◌*◌, ℕ, ◌<◌, ◌≤◌, IfOk, IsOk, IsErrOf, MatchResult, OnErr, List, length};
+ghost use Rattle.std.specs.Prelude.{◌≡◌, ◌≢◌, ◌↔◌, ◌*◌, ℕ, ◌<◌, ◌≤◌, IfOk, IfSome, IsOk, IsErrOf, MatchResult, OnErr, List, length};
 ghost use Rattle.store_core.specs.Slots.{caller, state_in};
 ghost use Rattle.store_core.specs.Reached.{IsReached};
 
@@ -36,7 +36,7 @@ impl Store {
     ghost use Rattle.store_core.specs.Names.{Name};
     ghost use Rattle.store_core.specs.Pieces.{piece_of};
     ghost use Rattle.store_core.specs.States.{empty};
-    ghost use Rattle.store_core.specs.Stores.{DidRead, IsEvent, IsNew, IsOf, IsSame, Settles, fixed_of, missing_in, state_of};
+    ghost use Rattle.store_core.specs.Stores.{DidRead, IsEvent, IsNew, IsOf, IsSame, LengthBinds, ReadBinds, Settles, filled_count, fixed_of, missing_in, state_of};
 
     /// A store that holds, claims and records nothing. It takes no memory.
     ///
@@ -133,9 +133,14 @@ impl Store {
     }
 
     /// The recorded length in bytes, if there is one. It takes no memory.
+    ///
+    /// For each blob with the store's root it is the blob's length; or two different inputs with one chaining value
+    /// are named, one of the blob's and one of a piece's by which it was settled.
     pub fn length(&self) -> Option<u64>
-        ensures { (who : List Name) → IsEvent self.now self.now who (Length result) }
+        ensures event { (who : List Name) → IsEvent self.now self.now who (Length result) }
+        ensures binds { IfSome result (λ l. LengthBinds self.now l) }
     {
+        self.fixed.mode.is_keyed();
         self.recorded
     }
 
@@ -174,9 +179,14 @@ impl Store {
     /// `Missing(p)`: p is the least position of the range that isn't held. The bytes before it are filled in, and the
     /// rest of `out` is unchanged. A position is held if its chunk is and has more bytes than come before it there;
     /// none at or above 1,024 times the capacity is. An empty buffer is Ok.
+    ///
+    /// For each blob with the store's root, each byte filled in is the blob's byte there; or two different inputs
+    /// with one chaining value are named, one of the blob's and one of a piece's that was committed.
     pub fn read(&self, at: u64, out: &mut [u8]) -> Result<(), Missing>
-        ensures { DidRead self.now at out.old out.new (missing_in result) }
+        ensures event { DidRead self.now at out.old out.new (missing_in result) }
+        ensures binds { ReadBinds self.now at out.new (filled_count at (length out.old) (missing_in result)) }
     {
+        self.fixed.mode.is_keyed();
         let mut done = 0;
         while done < out.len() {
             let position = at + done as u64;
