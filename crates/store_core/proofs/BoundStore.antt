@@ -1,5 +1,5 @@
 -- What a store reads is the blob's, or a pair is named: its invariant has the history that this needs.
-use Rattle.std.proofs.Common.{◌≡◌, ◌⊎◌, ℕ, ◌+◌, List, length, Option, None, Some, IfSome, slice_get, refl, sym, subst, inl, inr}
+use Rattle.std.proofs.Common.{◌≡◌, ◌⊎◌, ℕ, List, length, Option, None, Some, IfSome, slice_get, refl, sym, subst, inl, inr}
 use Rattle.std.proofs.Math.Logic.{∥∥₁_map}
 use Rattle.b3tree.specs.Valid.{IsKeyed}
 use Rattle.store_core.specs.declared.fixed.Fixed.{Fixed}
@@ -8,7 +8,10 @@ use Rattle.store_core.specs.Laws.{IsBlob}
 use Rattle.store_core.specs.Reached.{IsReached}
 use Rattle.store_core.specs.Slots.{slot_byte, state_in}
 use Rattle.store_core.specs.States.{State, byte_at}
-use Rattle.store_core.specs.Stores.{PairCommitted, PairSettled}
+use Rattle.bao_check.proofs.Laws.{accepted_binds}
+use Rattle.store_core.specs.declared.history.Piece.{Piece}
+use Rattle.store_core.specs.Pieces.{IsAcceptedPiece}
+use Rattle.store_core.specs.Stores.{ChunksBind, PairCommitted, PairSettled}
 use Rattle.store_core.proofs.Bound.{byte_binds, record_binds}
 
 byte_reached : (fixed : Fixed) (s : State) (blob : List ℕ) (q x : ℕ) → IsKeyed fixed.mode → IsBlob fixed blob → byte_at s q ≡ Some x → IsReached fixed s
@@ -39,3 +42,9 @@ length_binds fixed slots o blob l keyed is reached h = ∥∥₁_map reached (re
 pub if_some : (o : Option ℕ) (P : ℕ → Type 0) → ((l : ℕ) → o ≡ Some l → P l) → IfSome o P
 if_some None P each = tt
 if_some (Some l) P each = each l refl
+
+-- a chunk of an accepted piece is the blob's, or a pair is named
+pub piece_binds : (fixed : Fixed) (piece : Piece) (group mask : ℕ) → IsKeyed fixed.mode → IsAcceptedPiece fixed piece → ChunksBind fixed piece group mask
+piece_binds fixed piece group mask keyed accepted blob is c bytes hit has = elim (
+    accepted_binds fixed.mode fixed.root.0 piece.text blob piece.start piece.len c bytes keyed is.bytes accepted.bytes is.root accepted.accepted has
+    ) [ inl same ↦ inl same.0 | inr named ↦ inr named ]

@@ -1,5 +1,5 @@
 -- What a store stands for, and what a call does to it.
-use Rattle.std.specs.Prelude.{◌≡◌, ℕ, ◌*◌, ◌<◌, List, ◌+◌, ◌++◌, length, drop, Option, None, Some, Result, Ok, Err, ◌⊎◌, ◌-◌, slice_get, slice_index}
+use Rattle.std.specs.Prelude.{◌≡◌, ℕ, ◌*◌, ◌<◌, List, ◌+◌, ◌++◌, length, drop, Option, None, Some, Result, Ok, Err, ◌⊎◌, ◌-◌, slice_get, slice_index, true}
 use Rattle.b3tree.specs.declared.mode.Mode.{Mode}
 use Rattle.b3tree.specs.declared.values.Hash.{Hash}
 use Rattle.store_core.specs.declared.fixed.Fixed.{Fixed}
@@ -7,13 +7,16 @@ use Rattle.store_core.specs.declared.history.Call.{Call}
 use Rattle.store_core.specs.declared.history.Call.TheVariants.{Read, Settle}
 use Rattle.store_core.specs.declared.history.Settling.{Settling}
 use Rattle.store_core.specs.declared.history.Settling.TheVariants.{Settled, Known, Differs, OtherRoot, TooLarge}
-use Rattle.store_core.specs.Pieces.{length_of, piece_of}
+use Rattle.store_core.specs.Pieces.{chunk_bytes, length_of, piece_of}
 use Rattle.bao_check.specs.declared.checked.Checked.{Checked}
 use Rattle.store_core.specs.declared.fault.Missing.{Missing}
 use Rattle.store_core.specs.declared.store.Store.{Store}
 use Rattle.store_core.specs.Events.{IsRight, after_call}
 use Rattle.store_core.specs.Laws.{IsBlob, IsCommitted, IsSettled, PairNamed}
 use Rattle.store_core.specs.Reached.{IsReached}
+use Rattle.bao_check.specs.Pieces.{chunk_of}
+use Rattle.store_core.specs.declared.history.Piece.{Piece}
+use Rattle.store_core.specs.Masks.{in_mask}
 use Rattle.store_core.specs.Names.{Name}
 use Rattle.store_core.specs.Slots.{state_in}
 use Rattle.store_core.specs.States.{State, empty}
@@ -99,3 +102,9 @@ ReadBinds store at bytes count = (blob : List ℕ) → IsBlob (fixed_of store) b
 -- and a recorded length is the length of each
 abbrev pub LengthBinds : Store → ℕ → Type 0
 LengthBinds store l = (blob : List ℕ) → IsBlob (fixed_of store) blob → ∥ (l ≡ length blob) ⊎ PairSettled (fixed_of store) (state_of store) blob ∥₁
+
+-- For each blob with the store's root, each chunk of the group's mask that the piece has is the blob's chunk of that
+-- number, or a pair is named from the blob and the piece.
+abbrev pub ChunksBind : Fixed → Piece → ℕ → ℕ → Type 0
+ChunksBind fixed piece group mask = (blob : List ℕ) → IsBlob fixed blob → (c : ℕ) (bytes : List ℕ) → in_mask group mask c ≡ true
+    → chunk_bytes piece c ≡ Some bytes → (chunk_of blob c ≡ Some bytes) ⊎ PairNamed fixed blob piece

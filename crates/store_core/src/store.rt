@@ -36,7 +36,7 @@ impl Store {
     ghost use Rattle.store_core.specs.Names.{Name};
     ghost use Rattle.store_core.specs.Pieces.{piece_of};
     ghost use Rattle.store_core.specs.States.{empty};
-    ghost use Rattle.store_core.specs.Stores.{DidRead, IsEvent, IsNew, IsOf, IsSame, LengthBinds, ReadBinds, Settles, filled_count, fixed_of, missing_in, state_of};
+    ghost use Rattle.store_core.specs.Stores.{ChunksBind, DidRead, IsEvent, IsNew, IsOf, IsSame, LengthBinds, ReadBinds, Settles, filled_count, fixed_of, missing_in, state_of};
 
     /// A store that holds, claims and records nothing. It takes no memory.
     ///
@@ -149,12 +149,17 @@ impl Store {
     ///
     /// 804 `OtherRoot`, asked before all else, where the piece is of another root or mode, and 701 `Memory`. The store
     /// is then unchanged.
+    ///
+    /// For each blob with the store's root, each chunk stored is the blob's chunk of that number; or two different
+    /// inputs with one chaining value are named, one of the blob's and one of the piece's.
     pub fn commit(&mut self, seat: u32, group: u32, piece: &Checked<'_>) -> Result<u64, StoreFault>
         ensures ok { IfOk result (λ committed. IsEvent self.old self.new (caller seat) (Commit group (piece_of piece.now) committed)) }
         ensures err { OnErr result (IsSame self.old self.new) }
         ensures other_root { IsErrOf result OtherRoot ↔ (¬ IsOf (fixed_of self.old) piece.now) }
         ensures never { result ≢ Err NoGroup }
+        ensures binds { IfOk result (λ committed. ChunksBind (fixed_of self.old) (piece_of piece.now) group committed) }
     {
+        self.fixed.mode.is_keyed();
         piece.is_accepted();
         if !self.fixed.is_of(&piece.root(), &piece.mode()) {
             return Err(StoreFault::OtherRoot);

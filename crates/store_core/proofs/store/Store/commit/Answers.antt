@@ -6,6 +6,7 @@ use Rattle.store_core.specs.declared.history.Call.TheVariants.{Commit}
 use Rattle.store_core.specs.declared.slot.Slot.{Slot}
 use Rattle.store_core.specs.Pieces.{IsAcceptedPiece, piece_of}
 use Rattle.store_core.specs.Slots.{caller, state_in}
+use Rattle.store_core.proofs.BoundStore.{piece_binds}
 use Rattle.store_core.proofs.Stored.{IsDone, accepted_piece, commit_at, commit_none, is_of_piece, reached_by}
 use Rattle.store_core.proofs.store.Store.commit.Goals as goal
 
@@ -56,3 +57,21 @@ returns-then-group-groups-clause-ok c =
     (is_of_piece s.fixed piece c.root.result c.mode.result c.root.ensures c.mode.ensures is.0 is.1) in
     let done = commit_none s.fixed s.slots.items s.recorded c.args.seat c.args.group piece accepted s.within (omega (arith, c.groups.ensures, c.if-group-groups.true)) in
     record { fixed = refl; right = done.right; after = done.after }
+
+pub returns-clause-binds : goal.returns-clause-binds
+returns-clause-binds c =
+    let s = c.args.self.now in
+    let piece = c.args.piece.now in
+    let is = c.is_of.ensures.0 c.if-not-is_of.false in
+    let accepted : IsAcceptedPiece s.fixed (piece_of piece) = accepted_piece s.fixed piece c.is_accepted.ensures.bytes c.is_accepted.ensures.accepted
+    (is_of_piece s.fixed piece c.root.result c.mode.result c.root.ensures c.mode.ensures is.0 is.1) in
+    piece_binds s.fixed (piece_of piece) c.args.group c.chosen-committed.result c.is_keyed.ensures accepted
+
+pub returns-then-group-groups-clause-binds : goal.returns-then-group-groups-clause-binds
+returns-then-group-groups-clause-binds c =
+    let s = c.args.self.now in
+    let piece = c.args.piece.now in
+    let is = c.is_of.ensures.0 c.if-not-is_of.false in
+    let accepted : IsAcceptedPiece s.fixed (piece_of piece) = accepted_piece s.fixed piece c.is_accepted.ensures.bytes c.is_accepted.ensures.accepted
+    (is_of_piece s.fixed piece c.root.result c.mode.result c.root.ensures c.mode.ensures is.0 is.1) in
+    piece_binds s.fixed (piece_of piece) c.args.group 0 c.is_keyed.ensures accepted
