@@ -10,7 +10,7 @@ use Rattle.store_core.specs.Masks.{IsMaskOf, has_bit}
 use Rattle.store_core.specs.Names.{Name}
 use Rattle.store_core.specs.Pieces.{holds_chunk, length_of}
 use Rattle.store_core.specs.States.{State, claims, read_bytes}
-use Rattle.store_core.proofs.Tests.{mask_unique}
+use Rattle.store_core.proofs.Tells.{mask_unique}
 
 -- the right reply to a call, which its question fixes
 same_take : (fixed : Fixed) (s : State) (who : List Name) (g w r h v t : ℕ) → g ≡ h → w ≡ v → IsRight fixed s who (Take g w r) → IsRight fixed s who (Take h v t)

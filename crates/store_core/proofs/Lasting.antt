@@ -14,7 +14,7 @@ use Rattle.store_core.specs.Masks.{has_bit, in_mask}
 use Rattle.store_core.specs.Names.{Name, share_name}
 use Rattle.store_core.specs.Pieces.{holds_chunk, length_of}
 use Rattle.store_core.specs.States.{State, claims, empty}
-use Rattle.store_core.proofs.Tests.{IsFree, claims-claimed, claims_apart, free, least_apart, masked, unclaimed-claims}
+use Rattle.store_core.proofs.Tells.{IsFree, claims-claimed, claims_apart, free, least_apart, masked, unclaimed-claims}
 
 -- the state after two lists is that of the second from that of the first
 pub run-append : (s : State) (first second : List Event) → run s (first ++ second) ≡ run (run s first) second

@@ -1,4 +1,4 @@
-pub mod Tests
+pub mod Tells
 pub mod Choosing
 pub mod Lasting
 pub mod Determined

@@ -17,7 +17,7 @@ use Rattle.store_core.specs.Masks.{in_mask}
 use Rattle.store_core.specs.Names.{Name}
 use Rattle.store_core.specs.Pieces.{holds_chunk, length_of}
 use Rattle.store_core.specs.States.{State, claims, empty, is_held}
-use Rattle.store_core.proofs.Tests.{claims-claimed, masked}
+use Rattle.store_core.proofs.Tells.{claims-claimed, masked}
 use Rattle.store_core.proofs.Lasting.{committed-claimed, sound_call, sound_empty}
 
 -- what was committed stays so in a longer history

@@ -30,7 +30,7 @@ use Rattle.store_core.specs.Slots.{AreCopies, IsCopy, caller, claim_in, claimed_
 use Rattle.store_core.specs.States.{State, claims, empty, is_among}
 use Rattle.store_core.proofs.Choosing.{has_bit-zero}
 use Rattle.store_core.proofs.Lasting.{legal-join, run-append}
-use Rattle.store_core.proofs.Tests.{masked}
+use Rattle.store_core.proofs.Tells.{masked}
 
 -- states with the same chunks, claims and length are one
 pub same_state : (s t : State) → ((c : ℕ) → s.held c ≡ t.held c) → ((c : ℕ) → s.claim c ≡ t.claim c) → s.recorded ≡ t.recorded → s ≡ t

@@ -1,5 +1,5 @@
 use Rattle.store_core.proofs.Lasting as lasting
-use Rattle.store_core.proofs.Tests as tests
+use Rattle.store_core.proofs.Tells as tests
 use Rattle.store_core.proofs.law.claims_apart.Goals as goal
 
 pub returns-clause-apart : goal.returns-clause-apart
