@@ -1,0 +1,12 @@
+pub mod Tells
+pub mod Choosing
+pub mod Lasting
+pub mod Determined
+pub mod Origins
+pub mod ReadLaws
+pub mod Bound
+pub mod Joining
+pub mod SameRoot
+pub mod Copying
+pub mod Stored
+pub mod BoundStore
