@@ -1,4 +1,4 @@
--- A whole chunk joins the subtrees on its left that are as large as what it ends.
+-- A whole subtree joins the subtrees on its left that are as large as what it ends.
 use Rattle.std.proofs.Common.{◌≡◌, ℕ, suc, ◌+◌, ◌-◌, ◌*◌, ◌/◌, ◌^◌, ◌<◌, ◌≤◌, List, [], ◌∷◌, ◌++◌, length, take, drop, refl, sym, ap, ◌∙◌, arith, inl, inr, pow_pos, length-append, length-drop, zero-add}
 use Rattle.std.proofs.lemmas.Bool.{cases_lt}
 use Rattle.std.proofs.lemmas.List.{append_assoc, drop_at, length-take-le, length_push, same_from_push, take-append-drop, take_at}
@@ -26,19 +26,20 @@ pub record Joins (mode : Mode) (s : List ℕ) (stack : List (List ℕ)) (value :
   pub stacked : stack ≡ whole_subtrees 54 mode 0 left
   pub valued : value ≡ subtree_cv mode before right
 
--- the value of a chunk by itself
-pub Joins_start : (mode : Mode) (s chunk : List ℕ) (stack : List (List ℕ)) (value : List ℕ) (number : ℕ) → length s ≡ 1024 * number → length chunk ≡ 1024
-    → number + 1 < 2 ^ 54 → stack ≡ whole_subtrees 54 mode 0 s → value ≡ subtree_cv mode number chunk → Joins mode (s ++ chunk) stack value (number + 1)
-Joins_start mode s chunk stack value number ls lc fits es ev = record {
-  level = 0;
+-- the value of a whole subtree by itself
+pub Joins_start : (mode : Mode) (k : ℕ) (s piece : List ℕ) (stack : List (List ℕ)) (value : List ℕ) (before : ℕ)
+    → length s ≡ 1024 * (2 ^ k * before) → length piece ≡ 1024 * 2 ^ k → 2 ^ k * (before + 1) < 2 ^ 54
+    → stack ≡ whole_subtrees 54 mode 0 s → value ≡ subtree_cv mode (2 ^ k * before) piece → Joins mode (s ++ piece) stack value (before + 1)
+Joins_start mode k s piece stack value before ls lp fits es ev = record {
+  level = k;
   left = s;
-  right = chunk;
-  before = number;
+  right = piece;
+  before = 2 ^ k * before;
   whole = refl;
   left_len = ls;
-  right_len = omega arith;
+  right_len = lp;
   number = omega arith;
-  bound = omega arith;
+  bound = fits;
   stacked = es;
   valued = ev;
 }
@@ -61,7 +62,7 @@ doubled j q =
     ap (λ (n : ℕ). n * q) twice ∙ out
 
 -- two subtrees of one size side by side
-pair_cv : (mode : Mode) (j before : ℕ) (a b : List ℕ) → length a ≡ 1024 * 2 ^ j → length b ≡ 1024 * 2 ^ j
+pub pair_cv : (mode : Mode) (j before : ℕ) (a b : List ℕ) → length a ≡ 1024 * 2 ^ j → length b ≡ 1024 * 2 ^ j
     → subtree_cv mode before (a ++ b) ≡ cv (parent_input mode (subtree_cv mode before a) (subtree_cv mode (before + 2 ^ j) b))
 pair_cv mode j before a b la lb =
     let l : ℕ = 1024 * 2 ^ j in
