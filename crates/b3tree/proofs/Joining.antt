@@ -1,5 +1,5 @@
 -- A whole subtree joins the subtrees on its left that are as large as what it ends.
-use Rattle.std.proofs.Common.{◌≡◌, ℕ, suc, ◌+◌, ◌-◌, ◌*◌, ◌/◌, ◌^◌, ◌<◌, ◌≤◌, List, [], ◌∷◌, ◌++◌, length, take, drop, refl, sym, ap, ◌∙◌, arith, inl, inr, pow_pos, length-append, length-drop, zero-add}
+use Rattle.std.proofs.Common.{◌≡◌, ℕ, suc, ◌+◌, ◌-◌, ◌*◌, ◌/◌, ◌^◌, ◌<◌, ◌≤◌, List, [], ◌∷◌, ◌++◌, length, take, drop, refl, sym, ap, subst, ◌∙◌, arith, inl, inr, pow_pos, length-append, length-drop, zero-add}
 use Rattle.std.proofs.lemmas.Bool.{cases_lt}
 use Rattle.std.proofs.lemmas.List.{append_assoc, drop_at, length-take-le, length_push, same_from_push, take-append-drop, take_at}
 use Rattle.std.proofs.Math.Pow.{pow_mono}
@@ -8,6 +8,7 @@ use Rattle.b3word.specs.Compression.{cv}
 use Rattle.b3tree.specs.declared.mode.Mode.{Mode}
 use Rattle.b3tree.specs.Stack.{whole_subtrees}
 use Rattle.b3tree.specs.Tree.{IsLeftLen, parent_input, subtree_cv}
+use Rattle.b3tree.proofs.LeftLen.{IsLeftLen_double}
 use Rattle.b3tree.proofs.Subtrees.{length-whole_subtrees, whole_subtrees-append}
 use Rattle.b3tree.proofs.TopInput.{top_input-parent}
 
@@ -68,14 +69,7 @@ pair_cv mode j before a b la lb =
     let l : ℕ = 1024 * 2 ^ j in
     let some : 0 < 2 ^ j = pow_pos j in
     let all : length (a ++ b) ≡ l + l = length-append a b ∙ (λ i. la i + lb i) in
-    let is : IsLeftLen (length (a ++ b)) l = record {
-      form = (j, refl);
-      below = omega arith;
-      largest = λ k lt. elim (cases_lt j k) [
-        | inl above ↦ let m : 2 ^ suc j ≤ 2 ^ k = pow_mono above in absurd (omega arith)
-        | inr at ↦ let m : 2 ^ k ≤ 2 ^ j = pow_mono at in omega arith
-      ];
-    } in
+    let is : IsLeftLen (length (a ++ b)) l = subst (λ (n : ℕ). IsLeftLen n l) (sym all) (IsLeftLen_double j) in
     let count : l / 1024 ≡ 2 ^ j = omega arith in
     ap cv (top_input-parent mode before (a ++ b) l is (omega arith)
     ∙ (λ i. parent_input mode (subtree_cv mode before (take_at a b l la i)) (subtree_cv mode (before + count i) (drop_at a b l la i))))

@@ -8,6 +8,7 @@ use Rattle.b3tree.specs.declared.mode.Mode.{Mode}
 use Rattle.b3tree.specs.Bytes.{word_at, words_of}
 use Rattle.b3tree.specs.Chunk.{block, block_input, block_words, chunk_input}
 use Rattle.b3tree.specs.Pieces.{before_block, piece}
+use Rattle.b3tree.specs.Parents.{value_at}
 use Rattle.b3tree.specs.Tree.{parent_input, subtree_cv}
 use Rattle.b3tree.proofs.Joining.{pair_cv}
 
@@ -99,11 +100,8 @@ IsPowerOfTwo_half n (suc k, e) more = ((k, omega arith), omega arith)
 pub IsPowerOfTwo_double : (n : ℕ) → IsPowerOfTwo n → IsPowerOfTwo (n + n)
 IsPowerOfTwo_double n (k, e) = (suc k, omega arith)
 
--- the value of the subtree of m chunks that begins a chunks on
-abbrev pub value_at : Mode → ℕ → List ℕ → ℕ → ℕ → List ℕ
-value_at mode first s m a = subtree_cv mode (first + a) (piece s (1024 * a) (1024 * m))
-
-paired : (mode : Mode) (first : ℕ) (s l r : List ℕ) (m a b n : ℕ) → IsPowerOfTwo m → 1024 * (a + (m + m)) ≤ length s → b ≡ a + m → n ≡ m + m
+-- the parent of two neighbours that stand so many chunks on
+pub paired : (mode : Mode) (first : ℕ) (s l r : List ℕ) (m a b n : ℕ) → IsPowerOfTwo m → 1024 * (a + (m + m)) ≤ length s → b ≡ a + m → n ≡ m + m
     → l ≡ value_at mode first s m a → r ≡ value_at mode first s m b → cv (parent_input mode l r) ≡ value_at mode first s n a
 paired mode first s l r m a b n power fits place twice el er =
     let number : first + b ≡ first + a + m = omega arith in

@@ -4,6 +4,7 @@ pub mod Modes
 pub mod Chunk
 pub mod Pieces
 pub mod Tree
+pub mod Parents
 pub mod Hashing
 pub mod Stack
 pub mod Taken

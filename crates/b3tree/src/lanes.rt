@@ -3,7 +3,6 @@
 
 ghost use Rattle.std.specs.Prelude.{◌≡◌, ℕ, ◌+◌, ◌-◌, ◌*◌, ◌/◌, ◌%◌, ◌^◌, ◌<◌, ◌≤◌, [], ◌∷◌, length, map, slice_index, slice_index_or, IfSome};
 ghost use Rattle.std.specs.Int.{IsPowerOfTwo};
-ghost use Rattle.std.specs.List.{range_with_len};
 ghost use Rattle.b3word.specs.Compression.{cv};
 ghost use Rattle.b3word.specs.Lanes.{lane8, lane16};
 ghost use Rattle.b3tree.specs.Bytes.{words_of};
@@ -16,7 +15,6 @@ use crate::bytes::words_of;
 use crate::chunk::{BLOCK_LEN, CHUNK_LEN, block_flags};
 use crate::flags::PARENT;
 use crate::mode::Mode;
-use crate::values::Cv;
 use b3word::{cv_lanes, transposed};
 use std::simd::u32x8;
 
@@ -173,7 +171,7 @@ fn parent_lanes(mode: &Mode, left: &[u32x8; 8], right: &[u32x8; 8]) -> [u32x8; 8
 }
 
 // The value of a whole subtree of `chunks` chunks in each lane, `apart` chunks from lane to lane.
-fn subtree_lanes(
+pub(crate) fn subtree_lanes(
     mode: &Mode,
     first: u64,
     bytes: &[u8],
@@ -203,35 +201,13 @@ fn subtree_lanes(
     parent_lanes(mode, &left, &right)
 }
 
-// The values of eight subtrees side by side, each of `chunks` chunks.
-fn subtree_cvs(mode: &Mode, first: u64, bytes: &[u8], chunks: usize) -> [[u32; 8]; 8]
-    requires some { 0 < chunks }
-    requires len { length bytes.now ≡ 8192 * chunks }
-    requires number { first + 8 * chunks < 2 ^ 64 }
-    ensures { (j : ℕ) → IsPowerOfTwo chunks → j < 8
-        → slice_index_or result j [] ≡ subtree_cv mode.now (first + chunks * j) (piece bytes.now (1024 * (chunks * j)) (1024 * chunks)) }
-{
-    let [v0, v1, v2, v3, v4, v5, v6, v7] = subtree_lanes(mode, first, bytes, 0, chunks, chunks);
-    let [r0, r1, r2, r3, r4, r5, r6, r7] = transposed(v0, v1, v2, v3, v4, v5, v6, v7);
-    [
-        r0.to_array(),
-        r1.to_array(),
-        r2.to_array(),
-        r3.to_array(),
-        r4.to_array(),
-        r5.to_array(),
-        r6.to_array(),
-        r7.to_array(),
-    ]
-}
-
 // The even lanes, and the odd ones, each twice.
 const EVEN: [usize; 8] = [0, 2, 4, 6, 0, 2, 4, 6];
 
 const ODD: [usize; 8] = [1, 3, 5, 7, 1, 3, 5, 7];
 
 // The parents of neighbouring lanes, two and two: lane `j` has that of lanes `2 * j` and `2 * j + 1`.
-fn neighbour_lanes(
+pub(crate) fn neighbour_lanes(
     mode: &Mode,
     v0: u32x8,
     v1: u32x8,
@@ -297,25 +273,4 @@ pub(crate) fn chunks_a_lane(len: usize) -> Option<usize>
         return Some(chunks);
     }
     None
-}
-
-/// The chaining values of the eight chunks of `bytes`, 8,192 in number, of which the first chunk has the
-/// number `first`: what `subtree_cv` gives for each, at once. The bytes have to end within an input of
-/// at most 2^64 - 1 bytes.
-pub fn chunk_cvs8(mode: &Mode, first: u64, bytes: &[u8]) -> [Cv; 8]
-    requires len { length bytes.now ≡ 8192 }
-    requires end { 1024 * first + 8192 ≤ 2 ^ 64 - 1 }
-    ensures { result ≡ map (λ j. record { 0 = subtree_cv mode.now (first + j) (piece bytes.now (1024 * j) 1024) }) (range_with_len 0 8) }
-{
-    let [c0, c1, c2, c3, c4, c5, c6, c7] = subtree_cvs(mode, first, bytes, 1);
-    [
-        Cv(c0),
-        Cv(c1),
-        Cv(c2),
-        Cv(c3),
-        Cv(c4),
-        Cv(c5),
-        Cv(c6),
-        Cv(c7),
-    ]
 }

@@ -5,9 +5,9 @@
 
 pub use b3word::{Input, cv};
 pub use chunk::{BLOCK_LEN, CHUNK_LEN, chunk_input};
+pub use eight::{EightParents, FourParents, Parts, eight_parents};
 pub use hasher::{Hasher, TooLong};
 pub use hashing::{hash, root_hash, rooted, subtree_cv};
-pub use lanes::chunk_cvs8;
 pub use mode::Mode;
 pub use output::{xof, xof_fits};
 pub use tree::{left_len, parent_input, top_input};
@@ -15,6 +15,7 @@ pub use values::{Cv, Hash};
 
 mod bytes;
 mod chunk;
+mod eight;
 mod flags;
 mod hasher;
 mod hashing;

@@ -1,5 +1,5 @@
 use crate::{
-    Cv, Hash, Hasher, Input, Mode, TooLong, chunk_cvs8, chunk_input, cv, hash, left_len,
+    Cv, Hash, Hasher, Input, Mode, Parts, TooLong, chunk_input, cv, eight_parents, hash, left_len,
     parent_input, root_hash, rooted, subtree_cv, top_input, xof, xof_fits,
 };
 use std::alloc::Global;
@@ -126,20 +126,37 @@ fn joined(mode: &Mode, left: &Cv, right: &Cv) -> Cv {
     Cv(cv(&parent_input(mode, left, right)))
 }
 
-// The eight values of an input of eight chunks, joined by hand.
+// A parent that stands over these two.
+fn stands_over(mode: &Mode, parent: &Parts, left: &Parts, right: &Parts) -> bool {
+    parent.left == joined(mode, &left.left, &left.right)
+        && parent.right == joined(mode, &right.left, &right.right)
+}
+
+// The parents of an input of eight chunks, joined by hand.
 #[test]
-fn chunk_values(rt: HostRuntime) -> Result<(), Fail> {
+fn parents_of_eight_chunks(rt: HostRuntime) -> Result<(), Fail> {
     assert!(rt; ROWS.contains("hash 8192 "));
     for line in ROWS.lines() {
         let row = parsed(line)?;
         if row.len == 8192 {
             let bytes = input(rt.alloc(), row.len)?;
             assert_eq!(rt; bytes.len(), 8192);
-            let [c0, c1, c2, c3, c4, c5, c6, c7] = chunk_cvs8(&row.mode, 0, &bytes);
             let mode = &row.mode;
-            let left = joined(mode, &joined(mode, &c0, &c1), &joined(mode, &c2, &c3));
-            let right = joined(mode, &joined(mode, &c4, &c5), &joined(mode, &c6, &c7));
-            let root = rooted(&parent_input(mode, &left, &right));
+            let eight = eight_parents(mode, 0, &bytes);
+            let (left, right) = (&eight.left, &eight.right);
+            assert!(rt;
+                stands_over(mode, &eight.top, &left.top, &right.top),
+                "at {line}"
+            );
+            assert!(rt;
+                stands_over(mode, &left.top, &left.left, &left.right),
+                "at {line}"
+            );
+            assert!(rt;
+                stands_over(mode, &right.top, &right.left, &right.right),
+                "at {line}"
+            );
+            let root = rooted(&parent_input(mode, &eight.top.left, &eight.top.right));
             assert_eq!(rt; root_hash(&root).0[..], row.output[..32], "at {line}");
         }
     }

@@ -2,7 +2,8 @@ use Rattle.std.proofs.Common.{◌≡◌, ◌<◌, ℕ, ◌+◌, ◌*◌, ◌∙�
 use Rattle.b3word.specs.Lanes.{lane8}
 use Rattle.b3tree.specs.Pieces.{piece}
 use Rattle.b3tree.specs.Tree.{subtree_cv}
-use Rattle.b3tree.proofs.Pieces.{joined_eight, value_at}
+use Rattle.b3tree.specs.Parents.{value_at}
+use Rattle.b3tree.proofs.Pieces.{joined_eight}
 use Rattle.b3tree.proofs.lanes.whole_cv.Goals as goal
 
 pub returns : goal.returns
