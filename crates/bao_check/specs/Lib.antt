@@ -5,6 +5,7 @@ pub mod Inputs
 pub mod Faults
 pub mod Pieces
 pub mod Walk
+pub mod Eight
 pub mod Forms
 pub mod Spans
 pub mod Checked
