@@ -122,7 +122,7 @@ fn has_eight_at_hand<S: Source>(
 }
 
 // Takes the wanted nodes of the subtree over `n` bytes from chunk `number` on, and verifies each before
-// the next is taken.
+// the next is taken. Eight whole chunks that are at hand are first tried at once.
 pub(crate) fn check_subtree<S: Source>(
     source: &mut S,
     choice: &Choice,
