@@ -5,7 +5,6 @@ pub mod Inputs
 pub mod Faults
 pub mod Pieces
 pub mod Walk
-pub mod Eight
 pub mod Forms
 pub mod Spans
 pub mod Checked
@@ -13,6 +12,7 @@ pub mod Tail
 pub mod Leaves
 pub mod Outline
 pub mod Sources
+pub mod Eight
 pub mod Laws
 pub mod Streams
 pub use Rattle.bao_text.specs.Choice
