@@ -10,3 +10,6 @@ pub mod SameRoot
 pub mod Copying
 pub mod Stored
 pub mod BoundStore
+pub mod CellWords
+pub mod Served
+pub mod Stepping
