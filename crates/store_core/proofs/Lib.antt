@@ -13,3 +13,4 @@ pub mod BoundStore
 pub mod CellWords
 pub mod Served
 pub mod Stepping
+pub mod Running
