@@ -101,11 +101,11 @@ cell_is word bytes valid fits all =
     let first : word 0 ≡ length bytes = all 0 (omega arith) in
     let size : length (take (word 0) (cell_all word)) ≡ min (word 0) 1024 = length-take (word 0) (cell_all word) ∙ ap (λ (n : ℕ). min (word 0) n) (cell_all-length word) in
     ext_get_or 0 (cell_bytes word) bytes (omega (arith, size, first, fits)) (λ i h.
-      let inside : i < word 0 = omega (arith, h, size) in
-      let place : 8 * (i / 8) + i % 8 ≡ i = omega arith in
-      let next : i / 8 + 1 ≡ suc (i / 8) = omega arith in
-      get_or-take (word 0) (cell_all word) i 0 inside ∙ cell_all-at word i (omega (arith, h, size))
-      ∙ ap (λ (n : ℕ). get_or (to_le_bytes w64 n) (i % 8) 0) (all (i / 8 + 1) (omega (arith, inside, first, fits)))
-      ∙ ap (λ (w : ℕ). get_or (to_le_bytes w64 (cell_word bytes w)) (i % 8) 0) next
-      ∙ word_byte bytes (i / 8) (i % 8) valid (omega arith)
-      ∙ ap (λ (k : ℕ). get_or bytes k 0) place)
+    let inside : i < word 0 = omega (arith, h, size) in
+    let place : 8 * (i / 8) + i % 8 ≡ i = omega arith in
+    let next : i / 8 + 1 ≡ suc (i / 8) = omega arith in
+    get_or-take (word 0) (cell_all word) i 0 inside ∙ cell_all-at word i (omega (arith, h, size))
+    ∙ ap (λ (n : ℕ). get_or (to_le_bytes w64 n) (i % 8) 0) (all (i / 8 + 1) (omega (arith, inside, first, fits)))
+    ∙ ap (λ (w : ℕ). get_or (to_le_bytes w64 (cell_word bytes w)) (i % 8) 0) next
+    ∙ word_byte bytes (i / 8) (i % 8) valid (omega arith)
+    ∙ ap (λ (k : ℕ). get_or bytes k 0) place)

@@ -16,10 +16,10 @@ use Rattle.store_core.specs.declared.micro.Reply.{Reply}
 use Rattle.store_core.specs.declared.micro.Reply.TheVariants.{Granted, Committed, Given, Settling, LengthIs}
 use Rattle.store_core.specs.Events.{IsRight, after_call, recorded_after, settling}
 use Rattle.store_core.specs.Histories.{AreLegalFrom, IsLegal, run, state_after}
-use Rattle.store_core.specs.Laws.{IsRead, IsSound}
+use Rattle.store_core.specs.Laws.{IsRead, IsSound, RunsAreLegal}
 use Rattle.store_core.specs.Machine.{Machine, Reading, Seat, copied, current_bytes, current_holds, seat_has, is_over, is_shown, is_whole, loaded, loaded_group, position, read_of, shown_byte, start, store_of, with_seat}
 use Rattle.store_core.specs.Pieces.{EndsBlob, IsAcceptedPiece, length_of}
-use Rattle.store_core.specs.Schedules.{HasPiece, HasTail, IsLegalStep, IsReply, IsWritten, Runs, after_step, commit_by, current_length, event_by, is_last_load, length_answer, read_after, read_before, settle_answer, settle_by, step_events}
+use Rattle.store_core.specs.Schedules.{AreTexts, HasPiece, HasTail, IsLegalStep, IsReply, IsWritten, Runs, after_step, commit_by, current_length, event_by, is_last_load, length_answer, read_after, read_before, settle_answer, settle_by, step_events}
 use Rattle.store_core.specs.Slots.{caller}
 use Rattle.store_core.specs.States.{State, byte_and, byte_at, empty, read_bytes}
 use Rattle.store_core.proofs.Choosing.{has_bit-zero}
@@ -28,7 +28,7 @@ use Rattle.store_core.proofs.ReadLaws.{is_read, read_is}
 use Rattle.store_core.proofs.Served.{IsKept, IsPart, IsServed, IsStep, keeps, shown_is}
 use Rattle.store_core.specs.Cells.{cell_bytes, cell_word}
 use Rattle.store_core.specs.Masks.{IsMaskOf}
-use Rattle.store_core.proofs.Stepping.{AreTexts, claim_step, give_step, hash_step, publish_step, write_step}
+use Rattle.store_core.proofs.Stepping.{claim_step, give_step, hash_step, publish_step, write_step}
 use Rattle.store_core.proofs.Stored.{same_state}
 
 -- What is copied of a group is what a read of the positions of the group gives.
@@ -47,7 +47,6 @@ copied_is m group p (suc n) (suc k) fits within from end =
     (ap (λ (o : Option ℕ). byte_and o (copied m group (p + 1) n)) (shown_is m p)
     ∙ ap (λ (xs : List ℕ). byte_and (byte_at (store_of m) p) xs)
     (copied_is m group (p + 1) n k (omega (arith, fits)) (omega (arith, within)) (omega (arith, from)) (λ less. omega (arith, end (omega (arith, less))))))
-
 
 -- what is copied is held, and no more than was asked for
 record IsHeldFrom (s : State) (p n : ℕ) (bytes : List ℕ) : Type 0 where
@@ -141,9 +140,9 @@ seat_kept fixed m n seat kept written piece =
     let same : (k : ℕ) → (((with_seat m n seat).seat k).written ≡ (m.seat k).written) × (((with_seat m n seat).seat k).piece ≡ (m.seat k).piece) =
     λ k. elim (cases_Bool (k == n)) [
       | inl hit ↦ rw hit (
-          written ∙ ap (λ (x : ℕ). (m.seat x).written) (sym (eqb-true k n hit)),
-          piece ∙ ap (λ (x : ℕ). (m.seat x).piece) (sym (eqb-true k n hit)),
-        )
+        written ∙ ap (λ (x : ℕ). (m.seat x).written) (sym (eqb-true k n hit)),
+        piece ∙ ap (λ (x : ℕ). (m.seat x).piece) (sym (eqb-true k n hit)),
+      )
       | inr miss ↦ rw miss (refl, refl)
     ] in
     record {
@@ -190,8 +189,8 @@ load_step fixed pieces m n at len reply served same =
     let before : IsBefore (store_of m) at len (read_before m n at len) = before_is (store_of m) (m.seat n).reading at len (served.reads n) same in
     let part : IsPart (store_of m) (read_after fixed m n at len) = loaded_part fixed m (read_before m n at len) before.part in
     load_with fixed m n at len (is_last_load fixed m n at len) (read_after fixed m n at len) served part (λ last.
-      over_read fixed m (loaded_group fixed (read_before m n at len)) (read_after fixed m n at len) served.sound part last
-      ∙ ap (λ (q : ℕ). read_bytes (store_of m) q (read_before m n at len).len) before.at_is ∙ ap (λ (k : ℕ). read_bytes (store_of m) at k) before.len_is)
+    over_read fixed m (loaded_group fixed (read_before m n at len)) (read_after fixed m n at len) served.sound part last
+    ∙ ap (λ (q : ℕ). read_bytes (store_of m) q (read_before m n at len).len) before.at_is ∙ ap (λ (k : ℕ). read_bytes (store_of m) at k) before.len_is)
 
 -- Settle: an event where the length isn't too large
 settle_event : (n : ℕ) (piece : Piece) (answer : Answer) → (answer ≡ TooLarge → ⊥) → settle_by n (Some piece) answer ≡ event_by n (SettleCall piece answer)
@@ -294,3 +293,10 @@ whole_run fixed pieces m (step ∷ steps) replies history last texts served runs
           (subst (λ (s : State). AreLegalFrom fixed s runs.2) (sym done.state) rest.legal);
       state = run-append (store_of m) (step_events fixed m step runs.0) runs.2 ∙ ap (λ (s : State). run s runs.2) done.state ∙ rest.state;
     })
+
+pub runs_are_legal : RunsAreLegal
+runs_are_legal fixed pieces steps replies history last texts runs =
+    let done : IsRun fixed start last history = whole_run fixed pieces start steps replies history last texts (start_served fixed) runs in (
+      subst (λ (s : State). AreLegalFrom fixed s history) start_empty done.legal,
+      ap (λ (s : State). run s history) (sym start_empty) ∙ done.state,
+    )

@@ -21,7 +21,7 @@ use Rattle.store_core.specs.Laws.{IsSound}
 use Rattle.store_core.specs.Machine.{Machine, Reading, Seat, bytes_or_none, current_bytes, current_holds, is_number, is_shown, seat_has, store_of, with_seat}
 use Rattle.store_core.specs.Masks.{IsMaskOf, has_bit, in_mask}
 use Rattle.store_core.specs.Pieces.{IsAcceptedPiece, chunk_bytes, holds_chunk, nodes_of, piece_of, places_in}
-use Rattle.store_core.specs.Schedules.{HasPiece, IsLegalStep, IsReply, IsWritten, after_step, event_by, step_events}
+use Rattle.store_core.specs.Schedules.{AreTexts, HasPiece, IsLegalStep, IsReply, IsWritten, after_step, event_by, step_events}
 use Rattle.store_core.specs.Slots.{caller}
 use Rattle.store_core.specs.States.{State, claims}
 use Rattle.store_core.proofs.Served.{IsKept, IsPart, IsServed, IsStep, chunk_fits, chunk_valid, claimed_hidden, claims_seat, free_same, has_bit-or, keeps, one_seat}
@@ -93,9 +93,6 @@ accepted_seat fixed m n seat here others k piece is = elim (cases_Bool (k == n))
 ]
 
 -- Hash
-abbrev pub AreTexts : List Checked → Type 0
-AreTexts pieces = (i : ℕ) (piece : Checked) → slice_get pieces i ≡ Some piece → AreBytes piece.text.now
-
 listed_accepted : (fixed : Fixed) (pieces : List Checked) (i : ℕ) (piece : Piece) → AreTexts pieces → HasPiece fixed pieces i
     → option_map piece_of (slice_get pieces i) ≡ Some piece → IsAcceptedPiece fixed piece
 listed_accepted fixed pieces i piece texts has is =
@@ -242,9 +239,9 @@ publish_step fixed pieces m n group mask piece served current wrote_all is =
     let of_group : c / 64 ≡ group = eqb-true (c / 64) group (and_parts (c / 64 == group) (has_bit mask (c % 64)) hit).0 in
     let holds : holds_chunk piece c ≡ true = sym (ap (λ (o : Option Piece). current_holds o c) current) ∙ parts.1 in
     some_is (chunk_bytes piece c) (Some (cell_bytes (m.cell c))) holds (λ bytes there.
-      let bytes_are : current_bytes (m.seat n).piece c ≡ bytes = ap (λ (o : Option Piece). current_bytes o c) current ∙ ap bytes_or_none there in
-      ap (λ (xs : List ℕ). Some xs) (sym (cell_is (m.cell c) bytes (chunk_valid piece.text (places_in piece) c bytes accepted.bytes there) (chunk_fits fixed piece c bytes accepted there)
-      (λ w below. served.kept.cells n c w (wrote_all c w of_group parts.0 parts.1 below) parts.0 ∙ ap (λ (xs : List ℕ). cell_word xs w) bytes_are)))) in
+    let bytes_are : current_bytes (m.seat n).piece c ≡ bytes = ap (λ (o : Option Piece). current_bytes o c) current ∙ ap bytes_or_none there in
+    ap (λ (xs : List ℕ). Some xs) (sym (cell_is (m.cell c) bytes (chunk_valid piece.text (places_in piece) c bytes accepted.bytes there) (chunk_fits fixed piece c bytes accepted there)
+    (λ w below. served.kept.cells n c w (wrote_all c w of_group parts.0 parts.1 below) parts.0 ∙ ap (λ (xs : List ℕ). cell_word xs w) bytes_are)))) in
     keeps fixed m next (event_by n (Commit group piece mask)) served
     (right, tt)
     (same_state _ _

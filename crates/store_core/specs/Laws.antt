@@ -15,6 +15,11 @@ use Rattle.store_core.specs.Histories.{AreOfOthers, IsLegal, events_of, state_af
 use Rattle.store_core.specs.Masks.{in_mask}
 use Rattle.store_core.specs.Names.{Name, has_name, share_name}
 use Rattle.store_core.specs.Pieces.{EndsBlob, IsAcceptedPiece, chunk_bytes, length_of, places_in}
+use Rattle.bao_check.specs.declared.checked.Checked.{Checked}
+use Rattle.store_core.specs.declared.micro.MicroStep.{MicroStep}
+use Rattle.store_core.specs.declared.micro.Reply.{Reply}
+use Rattle.store_core.specs.Machine.{Machine, start, store_of}
+use Rattle.store_core.specs.Schedules.{AreTexts, Runs}
 use Rattle.store_core.specs.declared.view.SeatView.{SeatView}
 use Rattle.store_core.specs.Views.{IsJoined, mine, names_of, seat_claims, split_first}
 use Rattle.store_core.specs.States.{State, byte_at, claims, is_claimed, is_held, read_bytes}
@@ -156,3 +161,9 @@ JoinKeeps = (first second joined : SeatView) → IsJoined first second joined
     → ((name : Name) → has_name (names_of joined) name ≡ (has_name (names_of first) name || has_name (names_of second) name))
     × (events_of (names_of first) joined.seen ≡ mine first) × (events_of (names_of second) joined.seen ≡ mine second)
     × (IsLegal joined.fixed joined.seen → (c : ℕ) → seat_claims joined c ≡ (seat_claims first c || seat_claims second c))
+
+-- A run of the machine of schedules, with pieces whose texts are of bytes, is a legal history of the store, and the
+-- words stand for the state after it.
+abbrev pub RunsAreLegal : Type 0
+RunsAreLegal = (fixed : Fixed) (pieces : List Checked) (steps : List MicroStep) (replies : List Reply) (history : List Event) (last : Machine)
+    → AreTexts pieces → Runs fixed pieces start steps replies history last → IsLegal fixed history × (state_after history ≡ store_of last)

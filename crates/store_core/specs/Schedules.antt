@@ -1,5 +1,6 @@
 -- The steps of schedules: where each is legal, what it answers, what it changes, and which event of the store it is.
 use Rattle.std.specs.Prelude.{◌≡◌, ℕ, ◌*◌, ◌/◌, ◌%◌, ◌<◌, ◌≤◌, nat_le, nat_lt, ◌==◌, Bool, true, false, not, ◌&&◌, ◌||◌, if◌then◌else◌, List, [], ◌∷◌, ◌++◌, Option, None, Some, is_some, option_map, option_to_list, bit_or, slice_get, IfSome}
+use Rattle.b3tree.specs.Valid.{AreBytes}
 use Rattle.bao_check.specs.declared.checked.Checked.{Checked}
 use Rattle.store_core.specs.declared.fixed.Fixed.{Fixed}
 use Rattle.store_core.specs.declared.history.Call.{Call}
@@ -152,3 +153,7 @@ Runs fixed pieces m (step ∷ steps) replies history last =
     × IsLegalStep fixed pieces m step × IsReply fixed m step reply
     × (replies ≡ option_to_list reply ++ later) × (history ≡ step_events fixed m step reply ++ rest)
     × Runs fixed pieces (after_step fixed pieces m step reply) steps later rest last
+
+-- the texts are of bytes
+abbrev pub AreTexts : List Checked → Type 0
+AreTexts pieces = (i : ℕ) (piece : Checked) → slice_get pieces i ≡ Some piece → AreBytes piece.text.now

@@ -1,4 +1,4 @@
-ghost use Rattle.store_core.specs.Laws.{ByteBinds, ClaimsApart, ClaimsLast, CommittedOnce, HeldBinds, HeldIsCommitted, HeldLasts, JoinKeeps, LegalIsSound, ReadMeans, RecordBinds, RecordIsSettled, RecordLasts, SplitKeeps, StateDetermines};
+ghost use Rattle.store_core.specs.Laws.{ByteBinds, ClaimsApart, ClaimsLast, CommittedOnce, HeldBinds, HeldIsCommitted, HeldLasts, JoinKeeps, LegalIsSound, ReadMeans, RecordBinds, RecordIsSettled, RecordLasts, RunsAreLegal, SplitKeeps, StateDetermines};
 
 /// The state after a history determines every reply. A law: nothing runs.
 pub fn state_determines()
@@ -48,4 +48,10 @@ pub fn held_binds()
 pub fn join_keeps()
     ensures split { SplitKeeps }
     ensures join { JoinKeeps }
+{}
+
+/// A schedule that runs from the start, each step legal where it stands, is a legal history of the store, and its
+/// words stand for the state after that history. A law: nothing runs.
+pub fn runs_are_legal()
+    ensures { RunsAreLegal }
 {}

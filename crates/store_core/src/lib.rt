@@ -6,7 +6,7 @@ pub use fixed::Fixed;
 pub use history::{Call, Event, Piece, Settling};
 pub use law::{
     claims_apart, held_binds, held_is_committed, held_lasts, join_keeps, read_means,
-    state_determines,
+    runs_are_legal, state_determines,
 };
 pub use micro::{MicroStep, ReadBytes, Reply};
 pub use store::{MAX_CAPACITY, Store};
