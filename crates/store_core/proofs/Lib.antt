@@ -14,3 +14,4 @@ pub mod CellWords
 pub mod Served
 pub mod Stepping
 pub mod Running
+pub mod OneRun

@@ -1,10 +1,9 @@
 -- Loads of a read, settled lengths, and whole runs of the machine of schedules.
-use Rattle.std.proofs.Common.{◌≡◌, ℕ, zero, suc, ◌+◌, ◌-◌, ◌*◌, ◌/◌, ◌%◌, ◌<◌, ◌≤◌, ◌≢◌, IfSome, option_and_then, min, nat_le, nat_lt, nat_eq, ◌==◌, Bool, true, false, not, ◌&&◌, ◌||◌, if◌then◌else◌, List, [], ◌∷◌, ◌++◌, length, get_or, slice_get, slice_index, Option, None, Some, is_none, is_some, refl, sym, ap, subst, ◌∙◌, arith, inl, inr, eqb-true, eq-eqb, length-append, get_or-append-add, option_to_list}
-use Rattle.std.proofs.lemmas.Bool.{and_from, and_parts, both_ways, cases_Bool, cases_lt, leb-true, ne_eqb, or_cases}
+use Rattle.std.proofs.Common.{◌≡◌, ℕ, zero, suc, ◌+◌, ◌-◌, ◌*◌, ◌/◌, ◌%◌, ◌<◌, ◌≤◌, ◌≢◌, IfSome, option_and_then, nat_le, ◌==◌, Bool, true, false, ◌&&◌, ◌||◌, if◌then◌else◌, List, [], ◌∷◌, ◌++◌, length, get_or, slice_get, slice_index, Option, None, Some, is_none, is_some, refl, sym, ap, subst, ◌∙◌, arith, inl, inr, eqb-true, eq-eqb, length-append, get_or-append-add}
+use Rattle.std.proofs.lemmas.Bool.{and_parts, cases_Bool, cases_lt, leb-true, ne_eqb, or_cases}
 use Rattle.std.proofs.lemmas.List.{get_or_append_left}
 use Rattle.bao_check.specs.declared.checked.Checked.{Checked}
 use Rattle.store_core.specs.declared.fixed.Fixed.{Fixed}
-use Rattle.store_core.specs.declared.history.Call.{Call}
 use Rattle.store_core.specs.declared.history.Call.TheVariants.{Read, Settle as SettleCall, Length as LengthCall}
 use Rattle.store_core.specs.declared.history.Event.{Event}
 use Rattle.store_core.specs.declared.history.Piece.{Piece}
@@ -13,18 +12,17 @@ use Rattle.store_core.specs.declared.history.Settling.TheVariants.{Settled, Know
 use Rattle.store_core.specs.declared.micro.MicroStep.{MicroStep}
 use Rattle.store_core.specs.declared.micro.MicroStep.TheVariants.{Claim, Hash, Write, Publish, GiveBack, Load, Settle, Length}
 use Rattle.store_core.specs.declared.micro.Reply.{Reply}
-use Rattle.store_core.specs.declared.micro.Reply.TheVariants.{Granted, Committed, Given, Settling, LengthIs}
-use Rattle.store_core.specs.Events.{IsRight, after_call, recorded_after, settling}
-use Rattle.store_core.specs.Histories.{AreLegalFrom, IsLegal, run, state_after}
-use Rattle.store_core.specs.Laws.{IsRead, IsSound, RunsAreLegal}
-use Rattle.store_core.specs.Machine.{Machine, Reading, Seat, copied, current_bytes, current_holds, seat_has, is_over, is_shown, is_whole, loaded, loaded_group, position, read_of, shown_byte, start, store_of, with_seat}
-use Rattle.store_core.specs.Pieces.{EndsBlob, IsAcceptedPiece, length_of}
-use Rattle.store_core.specs.Schedules.{AreTexts, HasPiece, HasTail, IsLegalStep, IsReply, IsWritten, Runs, after_step, commit_by, current_length, event_by, is_last_load, length_answer, read_after, read_before, settle_answer, settle_by, step_events}
-use Rattle.store_core.specs.Slots.{caller}
+use Rattle.store_core.specs.declared.micro.Reply.TheVariants.{Committed}
+use Rattle.store_core.specs.Events.{recorded_after, settling}
+use Rattle.store_core.specs.Histories.{AreLegalFrom, run}
+use Rattle.store_core.specs.Laws.{IsSound, RunsAreLegal}
+use Rattle.store_core.specs.Machine.{Machine, Reading, Seat, copied, current_bytes, current_holds, seat_has, is_over, is_whole, loaded, loaded_group, position, read_of, shown_byte, start, store_of, with_seat}
+use Rattle.store_core.specs.Pieces.{length_of}
+use Rattle.store_core.specs.Schedules.{AreTexts, HasTail, IsLegalStep, IsReply, IsWritten, Runs, after_step, commit_by, current_length, event_by, is_last_load, length_answer, read_after, read_before, settle_by, step_events}
 use Rattle.store_core.specs.States.{State, byte_and, byte_at, empty, read_bytes}
 use Rattle.store_core.proofs.Choosing.{has_bit-zero}
 use Rattle.store_core.proofs.Lasting.{legal-join, run-append, sound_empty}
-use Rattle.store_core.proofs.ReadLaws.{is_read, read_is}
+use Rattle.store_core.proofs.ReadLaws.{is_read}
 use Rattle.store_core.proofs.Served.{IsKept, IsPart, IsServed, IsStep, keeps, shown_is}
 use Rattle.store_core.specs.Cells.{cell_bytes, cell_word}
 use Rattle.store_core.specs.Masks.{IsMaskOf}

@@ -1,7 +1,7 @@
 -- What the machine of schedules keeps, and what each of its steps is as an event of the store.
-use Rattle.std.proofs.Common.{◌≡◌, ℕ, zero, suc, ◌+◌, ◌-◌, ◌*◌, ◌/◌, ◌%◌, ◌<◌, ◌≤◌, max, nat_lt, nat_eq, ◌==◌, Bool, true, false, not, ◌&&◌, ◌||◌, if◌then◌else◌, List, [], ◌∷◌, ◌++◌, length, take, drop, slice_get, slice_index, Option, None, Some, is_some, option_and_then, option_map, bit_or, refl, sym, ap, subst, ◌∙◌, arith, inl, inr, eqb-true, eq-eqb}
+use Rattle.std.proofs.Common.{◌≡◌, ℕ, ◌+◌, ◌/◌, ◌%◌, ◌<◌, ◌≤◌, max, nat_lt, ◌==◌, Bool, true, false, not, ◌&&◌, ◌||◌, if◌then◌else◌, List, [], ◌∷◌, length, drop, slice_get, slice_index, Option, None, Some, is_some, option_and_then, option_map, bit_or, refl, sym, ap, subst, ◌∙◌, arith, inl, inr, eqb-true, eq-eqb}
 use Rattle.std.specs.Int.{bit_at}
-use Rattle.std.proofs.lemmas.Bool.{and_from, and_left, and_parts, and_right, both_ways, cases_Bool, false_from_ne_true, ne_eqb, or_cases, or_left, or_right}
+use Rattle.std.proofs.lemmas.Bool.{both_ways, cases_Bool, false_from_ne_true}
 use Rattle.std.proofs.lemmas.Bool.Decides.{nat_tests}
 use Rattle.std.proofs.lemmas.Nat.Bits.{bit_at-lt, bit_at_or}
 use Rattle.b3tree.specs.Valid.{AreBytes}
@@ -11,24 +11,19 @@ use Rattle.bao_check.specs.Accepted.{bytes_at}
 use Rattle.bao_check.specs.Pieces.{chunk_in}
 use Rattle.bao_check.proofs.Certified.{certified}
 use Rattle.store_core.specs.declared.fixed.Fixed.{Fixed}
-use Rattle.store_core.specs.declared.history.Call.{Call}
-use Rattle.store_core.specs.declared.history.Call.TheVariants.{Take, Give, Commit}
 use Rattle.store_core.specs.declared.history.Event.{Event}
 use Rattle.store_core.specs.declared.history.Piece.{Piece}
 use Rattle.store_core.specs.Cells.{cell_bytes, cell_word}
-use Rattle.store_core.specs.Events.{IsRight, after_call, is_free}
+use Rattle.store_core.specs.Events.{is_free}
 use Rattle.store_core.specs.Histories.{AreLegalFrom, run}
 use Rattle.store_core.specs.Laws.{IsSound}
-use Rattle.store_core.specs.Machine.{Machine, Reading, Seat, current_bytes, current_holds, is_number, is_shown, seat_has, shown_byte, start, store_of, with_seat}
-use Rattle.store_core.specs.Masks.{IsMaskOf, has_bit, in_mask}
-use Rattle.store_core.specs.Pieces.{IsAcceptedPiece, chunk_bytes, holds_chunk, places_in}
+use Rattle.store_core.specs.Machine.{Machine, Reading, current_bytes, is_number, is_shown, seat_has, shown_byte, store_of}
+use Rattle.store_core.specs.Masks.{has_bit}
+use Rattle.store_core.specs.Pieces.{IsAcceptedPiece, chunk_bytes}
 use Rattle.store_core.specs.Slots.{caller}
-use Rattle.store_core.specs.States.{State, byte_at, claims, empty, is_among}
-use Rattle.store_core.proofs.CellWords.{cell_get, cell_is}
-use Rattle.store_core.proofs.Choosing.{has_bit-zero}
-use Rattle.store_core.proofs.Lasting.{held_from, sound_empty, sound_from}
-use Rattle.store_core.proofs.Stored.{mask_same, same_state}
-use Rattle.store_core.proofs.Tells.{IsFree, free, masked}
+use Rattle.store_core.specs.States.{State, byte_at, claims, is_among}
+use Rattle.store_core.proofs.CellWords.{cell_get}
+use Rattle.store_core.proofs.Lasting.{held_from, sound_from}
 
 -- the bytes that are copied of a read are those of its positions
 pub record IsPart (s : State) (r : Reading) : Type 0 where

@@ -1,33 +1,26 @@
 -- Each step of a schedule as an event of the store.
-use Rattle.std.proofs.Common.{◌≡◌, ℕ, zero, suc, ◌+◌, ◌-◌, ◌*◌, ◌/◌, ◌%◌, ◌<◌, ◌≤◌, nat_le, nat_lt, nat_eq, ◌==◌, Bool, true, false, not, ◌&&◌, ◌||◌, if◌then◌else◌, List, [], ◌∷◌, ◌++◌, length, slice_get, slice_index, Option, None, Some, is_some, option_map, bit_or, refl, sym, ap, subst, ◌∙◌, arith, inl, inr, eqb-true, eq-eqb}
-use Rattle.std.proofs.lemmas.Bool.{and_from, and_left, and_parts, and_right, both_ways, cases_Bool, cases_eq, false_from_ne_true, ne_eqb, or_cases, or_left, or_right, or_parts, not-true}
-use Rattle.b3tree.specs.Valid.{AreBytes}
+use Rattle.std.proofs.Common.{◌≡◌, ℕ, ◌/◌, ◌%◌, nat_lt, ◌==◌, Bool, true, false, not, ◌&&◌, ◌||◌, if◌then◌else◌, List, [], ◌∷◌, slice_get, Option, None, Some, is_some, option_map, refl, sym, ap, subst, ◌∙◌, inl, inr, eqb-true, eq-eqb}
+use Rattle.std.proofs.lemmas.Bool.{and_parts, both_ways, cases_Bool, or_cases, or_right, or_parts, not-true}
 use Rattle.b3tree.specs.declared.mode.Mode.{Mode}
 use Rattle.bao_check.specs.Accepted.{IsAccepted}
 use Rattle.bao_check.specs.declared.checked.Checked.{Checked}
 use Rattle.store_core.specs.declared.fixed.Fixed.{Fixed}
-use Rattle.store_core.specs.declared.history.Call.{Call}
 use Rattle.store_core.specs.declared.history.Call.TheVariants.{Take, Give, Commit}
-use Rattle.store_core.specs.declared.history.Event.{Event}
 use Rattle.store_core.specs.declared.history.Piece.{Piece}
-use Rattle.store_core.specs.declared.micro.MicroStep.{MicroStep}
 use Rattle.store_core.specs.declared.micro.MicroStep.TheVariants.{Claim, Hash, Write, Publish, GiveBack}
-use Rattle.store_core.specs.declared.micro.Reply.{Reply}
 use Rattle.store_core.specs.declared.micro.Reply.TheVariants.{Granted, Committed, Given}
 use Rattle.store_core.specs.Cells.{cell_bytes, cell_word}
-use Rattle.store_core.specs.Events.{IsRight, after_call, is_free}
-use Rattle.store_core.specs.Histories.{AreLegalFrom, run}
-use Rattle.store_core.specs.Laws.{IsSound}
-use Rattle.store_core.specs.Machine.{Machine, Reading, Seat, bytes_or_none, current_bytes, current_holds, is_number, is_shown, seat_has, store_of, with_seat}
+use Rattle.store_core.specs.Events.{IsRight, is_free}
+use Rattle.store_core.specs.Machine.{Machine, Seat, bytes_or_none, current_bytes, current_holds, is_number, is_shown, seat_has, store_of, with_seat}
 use Rattle.store_core.specs.Masks.{IsMaskOf, has_bit, in_mask}
 use Rattle.store_core.specs.Pieces.{IsAcceptedPiece, chunk_bytes, holds_chunk, nodes_of, piece_of, places_in}
-use Rattle.store_core.specs.Schedules.{AreTexts, HasPiece, IsLegalStep, IsReply, IsWritten, after_step, event_by, step_events}
+use Rattle.store_core.specs.Schedules.{AreTexts, HasPiece, IsWritten, after_step, event_by}
 use Rattle.store_core.specs.Slots.{caller}
-use Rattle.store_core.specs.States.{State, claims}
-use Rattle.store_core.proofs.Served.{IsKept, IsPart, IsServed, IsStep, chunk_fits, chunk_valid, claimed_hidden, claims_seat, free_same, has_bit-or, keeps, one_seat}
+use Rattle.store_core.specs.States.{claims}
+use Rattle.store_core.proofs.Served.{IsServed, IsStep, chunk_fits, chunk_valid, claimed_hidden, claims_seat, free_same, has_bit-or, keeps, one_seat}
 use Rattle.store_core.proofs.CellWords.{cell_is}
 use Rattle.store_core.proofs.Stored.{mask_same, same_state}
-use Rattle.store_core.proofs.Tells.{IsFree, free, masked}
+use Rattle.store_core.proofs.Tells.{masked}
 
 -- the claims after chunks were claimed by a seat
 claimed_map : (b : Bool) (n : ℕ) (o : Option ℕ) → (if b then Some (n ∷ []) else option_map (λ k. k ∷ []) o) ≡ option_map (λ k. k ∷ []) (if b then Some n else o)

@@ -167,3 +167,9 @@ JoinKeeps = (first second joined : SeatView) → IsJoined first second joined
 abbrev pub RunsAreLegal : Type 0
 RunsAreLegal = (fixed : Fixed) (pieces : List Checked) (steps : List MicroStep) (replies : List Reply) (history : List Event) (last : Machine)
     → AreTexts pieces → Runs fixed pieces start steps replies history last → IsLegal fixed history × (state_after history ≡ store_of last)
+
+-- A schedule has one run: its steps determine the replies, the events and the end.
+abbrev pub RunsAreOne : Type 0
+RunsAreOne = (fixed : Fixed) (pieces : List Checked) (m : Machine) (steps : List MicroStep) (replies replies' : List Reply) (history history' : List Event) (last last' : Machine)
+    → Runs fixed pieces m steps replies history last → Runs fixed pieces m steps replies' history' last'
+    → (replies ≡ replies') × (history ≡ history') × (last ≡ last')

@@ -1,4 +1,4 @@
-ghost use Rattle.store_core.specs.Laws.{ByteBinds, ClaimsApart, ClaimsLast, CommittedOnce, HeldBinds, HeldIsCommitted, HeldLasts, JoinKeeps, LegalIsSound, ReadMeans, RecordBinds, RecordIsSettled, RecordLasts, RunsAreLegal, SplitKeeps, StateDetermines};
+ghost use Rattle.store_core.specs.Laws.{ByteBinds, ClaimsApart, ClaimsLast, CommittedOnce, HeldBinds, HeldIsCommitted, HeldLasts, JoinKeeps, LegalIsSound, ReadMeans, RecordBinds, RecordIsSettled, RecordLasts, RunsAreLegal, RunsAreOne, SplitKeeps, StateDetermines};
 
 /// The state after a history determines every reply. A law: nothing runs.
 pub fn state_determines()
@@ -51,7 +51,9 @@ pub fn join_keeps()
 {}
 
 /// A schedule that runs from the start, each step legal where it stands, is a legal history of the store, and its
-/// words stand for the state after that history. A law: nothing runs.
+/// words stand for the state after that history. It has one run: its steps determine the replies, the events and the
+/// end. A law: nothing runs.
 pub fn runs_are_legal()
-    ensures { RunsAreLegal }
+    ensures legal { RunsAreLegal }
+    ensures one { RunsAreOne }
 {}
