@@ -1,0 +1,4 @@
+pub mod Bits
+pub mod Gaining
+pub mod Alone
+pub mod Finishing
