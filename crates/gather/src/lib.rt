@@ -14,4 +14,6 @@ mod masks;
 mod one;
 mod report;
 mod shelf;
+#[cfg(test)]
+mod tests;
 mod worker;
