@@ -1,7 +1,7 @@
 ghost use Rattle.std.specs.Prelude.{◌≡◌};
 ghost use Rattle.gather.specs.Claims.{Among};
 ghost use Rattle.gather.specs.Counts.{Gains};
-ghost use Rattle.gather.specs.Worked.{HasWorked, worker_claims};
+ghost use Rattle.gather.specs.Worked.{AddsCertified, HasWorked, worker_claims};
 
 use crate::holder::Holder;
 use crate::report::Report;
@@ -86,6 +86,7 @@ pub fn run_one<H: Holder>(
     holders: &mut [H],
 ) -> Report
     ensures worked { Gains HasWorked store.old store.new 0 result.committed }
+    ensures certified { AddsCertified store.old store.new }
     ensures claims { Among (worker_claims store.old) (worker_claims store.new) }
 {
     let shelf = Alone { fixed: *fixed };
