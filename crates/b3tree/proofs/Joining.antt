@@ -1,5 +1,5 @@
--- A whole chunk joins the subtrees on its left that are as large as what it ends.
-use Rattle.std.proofs.Common.{◌≡◌, ℕ, suc, ◌+◌, ◌-◌, ◌*◌, ◌/◌, ◌^◌, ◌<◌, ◌≤◌, List, [], ◌∷◌, ◌++◌, length, take, drop, refl, sym, ap, ◌∙◌, arith, inl, inr, pow_pos, length-append, length-drop, zero-add}
+-- A whole subtree joins the subtrees on its left that are as large as what it ends.
+use Rattle.std.proofs.Common.{◌≡◌, ℕ, suc, ◌+◌, ◌-◌, ◌*◌, ◌/◌, ◌^◌, ◌<◌, ◌≤◌, List, [], ◌∷◌, ◌++◌, length, take, drop, refl, sym, ap, subst, ◌∙◌, arith, inl, inr, pow_pos, length-append, length-drop, zero-add}
 use Rattle.std.proofs.lemmas.Bool.{cases_lt}
 use Rattle.std.proofs.lemmas.List.{append_assoc, drop_at, length-take-le, length_push, same_from_push, take-append-drop, take_at}
 use Rattle.std.proofs.Math.Pow.{pow_mono}
@@ -8,6 +8,7 @@ use Rattle.b3word.specs.Compression.{cv}
 use Rattle.b3tree.specs.declared.mode.Mode.{Mode}
 use Rattle.b3tree.specs.Stack.{whole_subtrees}
 use Rattle.b3tree.specs.Tree.{IsLeftLen, parent_input, subtree_cv}
+use Rattle.b3tree.proofs.LeftLen.{IsLeftLen_double}
 use Rattle.b3tree.proofs.Subtrees.{length-whole_subtrees, whole_subtrees-append}
 use Rattle.b3tree.proofs.TopInput.{top_input-parent}
 
@@ -26,19 +27,20 @@ pub record Joins (mode : Mode) (s : List ℕ) (stack : List (List ℕ)) (value :
   pub stacked : stack ≡ whole_subtrees 54 mode 0 left
   pub valued : value ≡ subtree_cv mode before right
 
--- the value of a chunk by itself
-pub Joins_start : (mode : Mode) (s chunk : List ℕ) (stack : List (List ℕ)) (value : List ℕ) (number : ℕ) → length s ≡ 1024 * number → length chunk ≡ 1024
-    → number + 1 < 2 ^ 54 → stack ≡ whole_subtrees 54 mode 0 s → value ≡ subtree_cv mode number chunk → Joins mode (s ++ chunk) stack value (number + 1)
-Joins_start mode s chunk stack value number ls lc fits es ev = record {
-  level = 0;
+-- the value of a whole subtree by itself
+pub Joins_start : (mode : Mode) (k : ℕ) (s piece : List ℕ) (stack : List (List ℕ)) (value : List ℕ) (before : ℕ)
+    → length s ≡ 1024 * (2 ^ k * before) → length piece ≡ 1024 * 2 ^ k → 2 ^ k * (before + 1) < 2 ^ 54
+    → stack ≡ whole_subtrees 54 mode 0 s → value ≡ subtree_cv mode (2 ^ k * before) piece → Joins mode (s ++ piece) stack value (before + 1)
+Joins_start mode k s piece stack value before ls lp fits es ev = record {
+  level = k;
   left = s;
-  right = chunk;
-  before = number;
+  right = piece;
+  before = 2 ^ k * before;
   whole = refl;
   left_len = ls;
-  right_len = omega arith;
+  right_len = lp;
   number = omega arith;
-  bound = omega arith;
+  bound = fits;
   stacked = es;
   valued = ev;
 }
@@ -61,20 +63,13 @@ doubled j q =
     ap (λ (n : ℕ). n * q) twice ∙ out
 
 -- two subtrees of one size side by side
-pair_cv : (mode : Mode) (j before : ℕ) (a b : List ℕ) → length a ≡ 1024 * 2 ^ j → length b ≡ 1024 * 2 ^ j
+pub pair_cv : (mode : Mode) (j before : ℕ) (a b : List ℕ) → length a ≡ 1024 * 2 ^ j → length b ≡ 1024 * 2 ^ j
     → subtree_cv mode before (a ++ b) ≡ cv (parent_input mode (subtree_cv mode before a) (subtree_cv mode (before + 2 ^ j) b))
 pair_cv mode j before a b la lb =
     let l : ℕ = 1024 * 2 ^ j in
     let some : 0 < 2 ^ j = pow_pos j in
     let all : length (a ++ b) ≡ l + l = length-append a b ∙ (λ i. la i + lb i) in
-    let is : IsLeftLen (length (a ++ b)) l = record {
-      form = (j, refl);
-      below = omega arith;
-      largest = λ k lt. elim (cases_lt j k) [
-        | inl above ↦ let m : 2 ^ suc j ≤ 2 ^ k = pow_mono above in absurd (omega arith)
-        | inr at ↦ let m : 2 ^ k ≤ 2 ^ j = pow_mono at in omega arith
-      ];
-    } in
+    let is : IsLeftLen (length (a ++ b)) l = subst (λ (n : ℕ). IsLeftLen n l) (sym all) (IsLeftLen_double j) in
     let count : l / 1024 ≡ 2 ^ j = omega arith in
     ap cv (top_input-parent mode before (a ++ b) l is (omega arith)
     ∙ (λ i. parent_input mode (subtree_cv mode before (take_at a b l la i)) (subtree_cv mode (before + count i) (drop_at a b l la i))))

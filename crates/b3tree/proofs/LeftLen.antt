@@ -1,5 +1,5 @@
 -- `left_len` is what `IsLeftLen` says, and nothing else is.
-use Rattle.std.proofs.Common.{◌≡◌, ℕ, zero, suc, ◌-◌, ◌*◌, ◌/◌, ◌^◌, ◌<◌, ◌≤◌, refl, ◌∙◌, arith, inl, inr}
+use Rattle.std.proofs.Common.{◌≡◌, ℕ, zero, suc, ◌+◌, ◌-◌, ◌*◌, ◌/◌, ◌^◌, ◌<◌, ◌≤◌, refl, ◌∙◌, arith, inl, inr, pow_pos}
 use Rattle.std.proofs.lemmas.Bool.{cases_lt, lt-ltb, le-ltb}
 use Rattle.std.proofs.Math.Pow.{pow_mono}
 use Rattle.b3tree.specs.Tree.{IsLeftLen, largest_below, left_len}
@@ -63,6 +63,19 @@ IsLeftLen_unique n l m a b =
     let down : l ≤ m = rw a.form.1 (b.largest a.form.0 (rw (← a.form.1) a.below)) in
     let up : m ≤ l = rw b.form.1 (a.largest b.form.0 (rw (← b.form.1) b.below)) in
     omega arith
+
+-- two parts of one size
+pub IsLeftLen_double : (k : ℕ) → IsLeftLen (1024 * 2 ^ k + 1024 * 2 ^ k) (1024 * 2 ^ k)
+IsLeftLen_double k =
+    let some : 0 < 2 ^ k = pow_pos k in
+    record {
+      form = (k, refl);
+      below = omega arith;
+      largest = λ j lt. elim (cases_lt k j) [
+        | inl above ↦ let m : 2 ^ suc k ≤ 2 ^ j = pow_mono above in absurd (omega arith)
+        | inr at ↦ let m : 2 ^ j ≤ 2 ^ k = pow_mono at in omega arith
+      ];
+    }
 
 -- the shift by the logarithm of the whole chunks before the last byte
 pub left_len_shifted : (n k : ℕ) → 1024 < n → 2 ^ k ≤ (n - 1) / 1024 → (n - 1) / 1024 < 2 * 2 ^ k → 1024 * 2 ^ k ≡ left_len n

@@ -3,6 +3,7 @@ pub mod HashOutput
 pub mod LeftLen
 pub mod TopInput
 pub mod Words
+pub mod Pieces
 pub mod OutputBlocks
 pub mod Subtrees
 pub mod Joining

@@ -7,10 +7,9 @@ use Rattle.std.proofs.Math.Nat.{mul-le-mul_left}
 use Rattle.b3word.specs.declared.input.Input.{Input}
 use Rattle.b3word.specs.Compression.{cv}
 use Rattle.b3tree.specs.declared.mode.Mode.{Mode}
-use Rattle.b3tree.specs.Chunk.{last_chunk_input}
 use Rattle.b3tree.specs.Stack.{whole_subtrees}
 use Rattle.b3tree.specs.Tree.{IsLeftLen, parent_input, subtree_cv, top_input}
-use Rattle.b3tree.proofs.TopInput.{top_input-chunk, top_input-parent}
+use Rattle.b3tree.proofs.TopInput.{top_input-parent}
 
 whole_subtrees_taken : (k : ℕ) (mode : Mode) (first : ℕ) (s : List ℕ) → 1024 * 2 ^ k ≤ length s
     → whole_subtrees (suc k) mode first s
@@ -120,10 +119,10 @@ whole_subtrees-append (suc k) j mode first s u y q jk ls ey yk lu =
     ]
 
 -- a parent whose left part is a whole subtree
-top_input_whole : (k : ℕ) (mode : Mode) (first : ℕ) (s t : List ℕ) (y : ℕ) → length s ≡ 1024 * y → 2 ^ k ≤ y → y < 2 ^ suc k → 0 < length t → length t ≤ 1024
+top_input_whole : (k : ℕ) (mode : Mode) (first : ℕ) (s t : List ℕ) (y : ℕ) → length s ≡ 1024 * y → 2 ^ k ≤ y → 0 < length t → 1024 * y + length t ≤ 1024 * 2 ^ suc k
     → top_input mode first (s ++ t)
     ≡ parent_input mode (subtree_cv mode first (take (1024 * 2 ^ k) s)) (subtree_cv mode (first + 2 ^ k) (drop (1024 * 2 ^ k) s ++ t))
-top_input_whole k mode first s t y ls low high some one =
+top_input_whole k mode first s t y ls low some high =
     let l : ℕ = 1024 * 2 ^ k in
     let all : length (s ++ t) ≡ 1024 * y + length t = length-append s t ∙ ap (λ (n : ℕ). n + length t) ls in
     let power : 0 < 2 ^ k = pow_pos k in
@@ -152,27 +151,45 @@ pub joined-push : (mode : Mode) (vs : List (List ℕ)) (v : List ℕ) (x : Input
 joined-push mode [] v x = refl
 joined-push mode (w ∷ vs) v x = ap (λ (r : Input). parent_input mode w (cv r)) (joined-push mode vs v x)
 
--- the top over whole chunks s and a last chunk t
-pub top_input-joined : (k : ℕ) (mode : Mode) (first : ℕ) (s t : List ℕ) (y : ℕ) → length s ≡ 1024 * y → y < 2 ^ k → 0 < length t → length t ≤ 1024
-    → top_input mode first (s ++ t) ≡ joined mode (whole_subtrees k mode first s) (last_chunk_input mode (first + y) t)
-top_input-joined zero mode first s t y ls yk some one =
+-- eights of chunks that a power of two is among, and twice it is above: it is of eights, and leaves room for eight more
+eights : (k q : ℕ) → 2 ^ k ≤ 8 * q → 8 * q < 2 ^ suc k → (r : ℕ) × (2 ^ k ≡ 8 * r) × (8 * q + 8 ≤ 2 ^ suc k)
+eights k q low high = elim (cases_lt k 3) [
+  | inl less ↦
+      let small : 2 ^ suc k ≤ 8 = pow_mono {i = suc k} {j = 3} (omega arith) in
+      let some : 0 < 2 ^ k = pow_pos k in
+      absurd (omega arith)
+  | inr more ↦
+      let r : ℕ = 2 ^ (k - 3) in
+      let split : k ≡ 3 + (k - 3) = omega arith in
+      let power : 2 ^ k ≡ 8 * r = ap (λ (i : ℕ). 2 ^ i) split ∙ pow-add 2 3 (k - 3) in
+      let twice : 2 ^ suc k ≡ 2 * 2 ^ k = omega arith in
+      (r, power, omega arith)
+]
+
+-- the top over eights of whole chunks s and the last bytes t, of at most eight chunks
+pub top_input-joined : (k : ℕ) (mode : Mode) (first : ℕ) (s t : List ℕ) (y q : ℕ) → y ≡ 8 * q → length s ≡ 1024 * y → y < 2 ^ k → 0 < length t → length t ≤ 8192
+    → top_input mode first (s ++ t) ≡ joined mode (whole_subtrees k mode first s) (top_input mode (first + y) t)
+top_input-joined zero mode first s t y q ey ls yk some few =
     let none : y ≡ 0 = omega arith in
     let empty : s ≡ [] = nil_from_length s (omega arith) in
     let at : first ≡ first + y = omega arith in
-    (λ i. top_input mode first (empty i ++ t)) ∙ top_input-chunk mode first t one ∙ (λ i. last_chunk_input mode (at i) t)
-    ∙ sym (ap (λ (vs : List (List ℕ)). joined mode vs (last_chunk_input mode (first + y) t)) (whole_subtrees_zero mode first s))
-top_input-joined (suc k) mode first s t y ls yk some one = elim (cases_lt y (2 ^ k)) [
+    (λ i. top_input mode first (empty i ++ t)) ∙ (λ i. top_input mode (at i) t)
+    ∙ sym (ap (λ (vs : List (List ℕ)). joined mode vs (top_input mode (first + y) t)) (whole_subtrees_zero mode first s))
+top_input-joined (suc k) mode first s t y q ey ls yk some few = elim (cases_lt y (2 ^ k)) [
   | inl less ↦
-      top_input-joined k mode first s t y ls less some one
-      ∙ ap (λ (vs : List (List ℕ)). joined mode vs (last_chunk_input mode (first + y) t)) (sym (whole_subtrees_left k mode first s (omega arith)))
+      top_input-joined k mode first s t y q ey ls less some few
+      ∙ ap (λ (vs : List (List ℕ)). joined mode vs (top_input mode (first + y) t)) (sym (whole_subtrees_left k mode first s (omega arith)))
   | inr more ↦
       let l : ℕ = 1024 * 2 ^ k in
       let rest : List ℕ = drop l s in
       let size : length rest ≡ 1024 * (y - 2 ^ k) = omega (arith, length-drop l s) in
       let place : first + 2 ^ k + (y - 2 ^ k) ≡ first + y = omega arith in
-      top_input_whole k mode first s t y ls more yk some one
+      let e = eights k q (omega arith) (omega arith) in
+      let power : 2 ^ k ≡ 8 * e.0 = e.1 in
+      let room : 8 * q + 8 ≤ 2 ^ suc k = e.2 in
+      top_input_whole k mode first s t y ls more some (omega arith)
       ∙ ap (λ (r : Input). parent_input mode (subtree_cv mode first (take l s)) (cv r))
-      (top_input-joined k mode (first + 2 ^ k) rest t (y - 2 ^ k) size (omega arith) some one
-      ∙ (λ i. joined mode (whole_subtrees k mode (first + 2 ^ k) rest) (last_chunk_input mode (place i) t)))
-      ∙ ap (λ (vs : List (List ℕ)). joined mode vs (last_chunk_input mode (first + y) t)) (sym (whole_subtrees_taken k mode first s (omega arith)))
+      (top_input-joined k mode (first + 2 ^ k) rest t (y - 2 ^ k) (q - e.0) (omega arith) size (omega arith) some few
+      ∙ (λ i. joined mode (whole_subtrees k mode (first + 2 ^ k) rest) (top_input mode (place i) t)))
+      ∙ ap (λ (vs : List (List ℕ)). joined mode vs (top_input mode (first + y) t)) (sym (whole_subtrees_taken k mode first s (omega arith)))
 ]

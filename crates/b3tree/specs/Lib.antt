@@ -2,10 +2,13 @@ pub mod Flags
 pub mod Bytes
 pub mod Modes
 pub mod Chunk
+pub mod Pieces
 pub mod Tree
+pub mod Parents
 pub mod Hashing
 pub mod Stack
 pub mod Taken
 pub mod Valid
 pub use Rattle.b3word.specs.Compression
+pub use Rattle.b3word.specs.Lanes
 pub use Rattle.b3word.specs.Words

@@ -13,7 +13,7 @@ pub record Splits (hasher : Hasher) (mode : Mode) (earlier last : List ℕ) : Ty
   pub last_len : length last ≡ hasher.buffered
   pub buffer : take hasher.buffered hasher.buffer ≡ last
 
--- The hasher has the mode and has taken in the bytes. The last chunk stays in the buffer, since it
+-- The hasher has the mode and has taken in the bytes. The last of them stay in the buffer, since they
 -- may be the end.
 pub record Holds (hasher : Hasher) (mode : Mode) (bytes : List ℕ) : Type 0 where
   pub earlier : List ℕ

@@ -56,7 +56,7 @@ fn block(chunk: &[u8], k: usize) -> &[u8]
 }
 
 #[inline(always)]
-fn block_flags(mode: &Mode, count: usize, k: usize) -> u32
+pub(crate) fn block_flags(mode: &Mode, count: usize, k: usize) -> u32
     requires { k < count }
     ensures { result ≡ block_flags mode.now count k }
 {

@@ -1,15 +1,46 @@
-ghost use Rattle.std.specs.Prelude.{◌≡◌, ℕ, ◌+◌, ◌-◌, ◌*◌, ◌^◌, ◌<◌, ◌≤◌, ◌↔◌, List, [], ◌++◌, length, take, IsErr, OnErr, OnOk};
+ghost use Rattle.std.specs.Prelude.{◌≡◌, ℕ, ◌+◌, ◌-◌, ◌*◌, ◌%◌, ◌^◌, ◌<◌, ◌≤◌, ◌↔◌, List, [], ◌++◌, length, take, IsErr, OnErr, OnOk};
+ghost use Rattle.std.specs.Int.{IsPowerOfTwo};
 
-use crate::chunk::{CHUNK_LEN, last_chunk_input};
+use crate::chunk::CHUNK_LEN;
 use crate::hashing::{root_hash, rooted};
 use crate::mode::Mode;
 use crate::output::fill_output;
-use crate::stack::{Stack, push_chunk};
-use crate::tree::parent_input;
+use crate::stack::{Stack, push_subtree};
+use crate::tree::{parent_input, subtree_value, top_input};
 use crate::values::{Cv, Hash};
 use arrayvec::ArrayVec;
 use b3word::{Input, cv};
 use thiserror::Error;
+
+// The buffer has the bytes of eight chunks, so that lanes have whole subtrees in any cutting.
+const BUFFER_CHUNKS: usize = 8;
+
+const BUFFER_LEN: usize = BUFFER_CHUNKS * CHUNK_LEN;
+
+// The most chunks of a subtree that is hashed at once.
+const MOST_CHUNKS: usize = 512;
+
+// The chunks of the largest whole subtree that comes after `before` chunks and leaves some of `len`
+// bytes, up to `MOST_CHUNKS`.
+fn whole_chunks(before: u64, len: usize) -> usize
+    requires len { 8192 < len }
+    requires before { before % 8 ≡ 0 }
+    ensures whole { IsPowerOfTwo result }
+    ensures eighths { result % 8 ≡ 0 }
+    ensures some { 0 < result }
+    ensures place { before % result ≡ 0 }
+    ensures within { 1024 * result < len }
+{
+    let mut chunks = BUFFER_CHUNKS;
+    'doubled: while chunks < MOST_CHUNKS {
+        let twice = 2 * chunks;
+        if before % twice as u64 != 0 || CHUNK_LEN * twice >= len {
+            break;
+        }
+        chunks = twice;
+    }
+    chunks
+}
 
 /// The input would be longer than 2^64 - 1 bytes. Number 201.
 #[derive(Clone, Copy, Debug, PartialEq, Eq, Error)]
@@ -30,13 +61,14 @@ impl TooLong {
 #[derive(Drop)]
 pub struct Hasher {
     mode: Mode,
-    // The chunks before the last, whose bytes are in the buffer.
+    // The chunks before those whose bytes are in the buffer: whole subtrees of eight or more.
     stack: Stack,
     chunks: u64,
-    buffer: [u8; CHUNK_LEN],
+    buffer: [u8; BUFFER_LEN],
     buffered: usize,
-    ghost in_buffer: { buffered ≤ 1024 },
+    ghost in_buffer: { buffered ≤ 8192 },
     ghost fits: { 1024 * chunks + buffered < 2 ^ 64 },
+    ghost eighths: { chunks % 8 ≡ 0 },
 }
 
 impl Hasher {
@@ -53,7 +85,7 @@ impl Hasher {
             mode: *mode,
             stack: ArrayVec::new(),
             chunks: 0,
-            buffer: [0; CHUNK_LEN],
+            buffer: [0; BUFFER_LEN],
             buffered: 0,
         }
     }
@@ -80,8 +112,8 @@ impl Hasher {
         Ok(())
     }
 
-    // Takes in the bytes that the last chunk has room for, and answers their number. Where it is full
-    // there is another after it.
+    // Takes in some of the bytes, and answers their number: whole subtrees where the buffer is empty, and
+    // what the buffer has room for. At least one byte goes to the buffer, since it may be the last.
     fn take_some(&mut self, bytes: &[u8]) -> usize
         requires some { 0 < length bytes.now }
         requires fits { 1024 * self.old.chunks + self.old.buffered + length bytes.now < 2 ^ 64 }
@@ -90,32 +122,80 @@ impl Hasher {
         ensures total { 1024 * self.new.chunks + self.new.buffered ≡ 1024 * self.old.chunks + self.old.buffered + result }
         ensures taken { (mode : Mode) (s : List ℕ) → Holds self.old mode s → Holds self.new mode (s ++ take result bytes.now) }
     {
-        if self.buffered == CHUNK_LEN {
-            self.stack_chunk();
+        if self.buffered == BUFFER_LEN {
+            self.stack_buffer();
         }
-        let count = bytes.len().min(CHUNK_LEN - self.buffered);
-        self.keep(&bytes[..count]);
-        count
+        let whole = self.stack_wholes(bytes);
+        let rest = &bytes[whole..];
+        let count = rest.len().min(BUFFER_LEN - self.buffered);
+        self.keep(&rest[..count]);
+        whole + count
     }
 
-    // Moves a full buffer's chunk to the stack.
-    fn stack_chunk(&mut self)
-        requires full { self.old.buffered ≡ 1024 }
-        requires fits { 1024 * self.old.chunks + 1024 < 2 ^ 64 }
-        ensures chunks { self.new.chunks ≡ self.old.chunks + 1 }
+    // Moves a full buffer's chunks to the stack.
+    fn stack_buffer(&mut self)
+        requires full { self.old.buffered ≡ 8192 }
+        requires fits { 1024 * self.old.chunks + 8192 < 2 ^ 64 }
+        ensures chunks { self.new.chunks ≡ self.old.chunks + 8 }
         ensures buffered { self.new.buffered ≡ 0 }
         ensures splits { (mode : Mode) (earlier last : List ℕ) → Splits self.old mode earlier last
             → Splits self.new mode (earlier ++ last) [] }
     {
-        let value = cv(&last_chunk_input(&self.mode, self.chunks, &self.buffer[..self.buffered]));
-        push_chunk(&mut self.stack, &self.mode, self.chunks, value);
+        let value = subtree_value(&self.mode, self.chunks, &self.buffer[..self.buffered]);
         self.buffered = 0;
-        self.chunks += 1;
+        self.push(BUFFER_CHUNKS, value);
+    }
+
+    // Moves whole subtrees from the front of `bytes` to the stack, where the buffer is empty, and answers
+    // how many bytes they have: fewer than all.
+    fn stack_wholes(&mut self, bytes: &[u8]) -> usize
+        requires some { 0 < length bytes.now }
+        requires fits { 1024 * self.old.chunks + self.old.buffered + length bytes.now < 2 ^ 64 }
+        ensures within { result < length bytes.now }
+        ensures total { 1024 * self.new.chunks ≡ 1024 * self.old.chunks + result }
+        ensures buffered { self.new.buffered ≡ self.old.buffered }
+        ensures splits { (mode : Mode) (earlier last : List ℕ) → Splits self.old mode earlier last
+            → (0 < result → last ≡ []) × Splits self.new mode (earlier ++ take result bytes.now) last }
+    {
+        let mut taken = 0;
+        if self.buffered > 0 {
+            return taken;
+        }
+        'wholes: while bytes.len() - taken > BUFFER_LEN {
+            let rest = &bytes[taken..];
+            let chunks = whole_chunks(self.chunks, rest.len());
+            let value = subtree_value(&self.mode, self.chunks, &rest[..CHUNK_LEN * chunks]);
+            self.push(chunks, value);
+            taken += CHUNK_LEN * chunks;
+        }
+        taken
+    }
+
+    // Adds the value of the next `chunks` chunks, a whole subtree, to the stack. The buffer is empty.
+    fn push(&mut self, chunks: usize, value: [u32; 8])
+        requires empty { self.old.buffered ≡ 0 }
+        requires whole { IsPowerOfTwo chunks }
+        requires eighths { chunks % 8 ≡ 0 }
+        requires place { self.old.chunks % chunks ≡ 0 }
+        requires fits { 1024 * self.old.chunks + 1024 * chunks < 2 ^ 64 }
+        ensures chunks { self.new.chunks ≡ self.old.chunks + chunks }
+        ensures buffered { self.new.buffered ≡ 0 }
+        ensures mode { self.new.mode ≡ self.old.mode }
+        ensures splits { (mode : Mode) (earlier piece : List ℕ) → Splits self.old mode earlier [] → length piece ≡ 1024 * chunks
+            → value ≡ subtree_cv self.old.mode self.old.chunks piece → Splits self.new mode (earlier ++ piece) [] }
+    {
+        push_subtree(
+            &mut self.stack,
+            &self.mode,
+            self.chunks / chunks as u64,
+            value,
+        );
+        self.chunks += chunks as u64;
     }
 
     // Takes `piece` into the buffer.
     fn keep(&mut self, piece: &[u8])
-        requires room { self.old.buffered + length piece.now ≤ 1024 }
+        requires room { self.old.buffered + length piece.now ≤ 8192 }
         requires fits { 1024 * self.old.chunks + self.old.buffered + length piece.now < 2 ^ 64 }
         ensures chunks { self.new.chunks ≡ self.old.chunks }
         ensures buffered { self.new.buffered ≡ self.old.buffered + length piece.now }
@@ -127,12 +207,12 @@ impl Hasher {
         self.buffered = end;
     }
 
-    // The root's input: the last chunk joined with the subtrees of the stack, the smallest first.
+    // The root's input: the tree over the buffer joined with the subtrees of the stack, the smallest first.
     fn root(&self) -> Input
         ensures { (mode : Mode) (s : List ℕ) → Holds self.now mode s → result ≡ rooted (top_input mode 0 s) }
     {
         let values = self.stack.as_slice();
-        let mut input = last_chunk_input(&self.mode, self.chunks, &self.buffer[..self.buffered]);
+        let mut input = top_input(&self.mode, self.chunks, &self.buffer[..self.buffered]);
         'joined: for i in (0..values.len()).rev() {
             input = parent_input(&self.mode, &Cv(values[i]), &Cv(cv(&input)));
         }

@@ -4,7 +4,7 @@ ghost use Rattle.b3tree.specs.Hashing.{hash, root_hash, rooted, stream};
 
 use crate::flags::ROOT;
 use crate::mode::Mode;
-use crate::tree::top_input;
+use crate::tree::{subtree_value, top_input};
 use crate::values::{Cv, Hash};
 use b3word::{Input, cv};
 
@@ -42,5 +42,5 @@ pub fn subtree_cv(mode: &Mode, first: u64, bytes: &[u8]) -> Cv
     requires { 1024 * first + length bytes.now ≤ 2 ^ 64 - 1 }
     ensures { result.0 ≡ subtree_cv mode.now first bytes.now }
 {
-    Cv(cv(&top_input(mode, first, bytes)))
+    Cv(subtree_value(mode, first, bytes))
 }

@@ -5,6 +5,7 @@
 
 pub use b3word::{Input, cv};
 pub use chunk::{BLOCK_LEN, CHUNK_LEN, chunk_input};
+pub use eight::{EightParents, FourParents, Parts, eight_parents};
 pub use hasher::{Hasher, TooLong};
 pub use hashing::{hash, root_hash, rooted, subtree_cv};
 pub use mode::Mode;
@@ -14,9 +15,11 @@ pub use values::{Cv, Hash};
 
 mod bytes;
 mod chunk;
+mod eight;
 mod flags;
 mod hasher;
 mod hashing;
+mod lanes;
 mod mode;
 mod output;
 mod stack;

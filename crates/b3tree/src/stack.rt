@@ -15,15 +15,15 @@ pub(crate) const STACK_LEN: usize = 54;
 // binary digit 1 of their number.
 pub(crate) type Stack = ArrayVec<[u32; 8], STACK_LEN>;
 
-// Adds the value of the whole chunk with the number `number`, which is how many chunks the stack has.
-pub(crate) fn push_chunk(stack: &mut Stack, mode: &Mode, number: u64, value: [u32; 8])
-    requires { number + 1 < 2 ^ 64 }
-    ensures { (s chunk : List ℕ) → length s ≡ 1024 * number → length chunk ≡ 1024 → number + 1 < 2 ^ 54
-        → stack.old.items ≡ whole_subtrees 54 mode.now 0 s → value ≡ subtree_cv mode.now number chunk
-        → stack.new.items ≡ whole_subtrees 54 mode.now 0 (s ++ chunk) }
+// Adds the value of a whole subtree, of a size of which the chunks so far have `before`.
+pub(crate) fn push_subtree(stack: &mut Stack, mode: &Mode, before: u64, value: [u32; 8])
+    requires { before + 1 < 2 ^ 64 }
+    ensures { (k : ℕ) (s piece : List ℕ) → length s ≡ 1024 * (2 ^ k * before) → length piece ≡ 1024 * 2 ^ k → 2 ^ k * (before + 1) < 2 ^ 54
+        → stack.old.items ≡ whole_subtrees 54 mode.now 0 s → value ≡ subtree_cv mode.now (2 ^ k * before) piece
+        → stack.new.items ≡ whole_subtrees 54 mode.now 0 (s ++ piece) }
 {
     let mut value = value;
-    let mut count = number + 1;
+    let mut count = before + 1;
     // Each round the value's subtree is the end of the chunks so far, and takes its left neighbour of
     // the same size from the stack, where an even count says that there is one.
     'join: while count % 2 == 0 {

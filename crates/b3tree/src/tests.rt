@@ -1,6 +1,6 @@
 use crate::{
-    Cv, Hash, Hasher, Input, Mode, TooLong, chunk_input, hash, left_len, parent_input, root_hash,
-    rooted, subtree_cv, top_input, xof, xof_fits,
+    Cv, Hash, Hasher, Input, Mode, Parts, TooLong, chunk_input, cv, eight_parents, hash, left_len,
+    parent_input, root_hash, rooted, subtree_cv, top_input, xof, xof_fits,
 };
 use std::alloc::Global;
 use std::test::Fail;
@@ -22,6 +22,9 @@ const ABC_FARTHEST: &str =
 
 const ABC_KEYED: &str =
     "511b1ed22d56f76b5784f8787551883f9d4e125388ca2638557d180f46cd054a8259bcb2949daa8d";
+
+// The digest of 1,100,000 bytes, byte `i` of which is `i` mod 251, computed by b3sum 1.2.0.
+const LARGE: &str = "0c2169ffee9f0b67a16a4dfcf78759ccf9489f30c9ff9003b22bfb5c5db9c782";
 
 // The bytes that `digits` writes, two hexadecimal digits each.
 fn decoded<const N: usize>(digits: &str) -> Result<[u8; N], Fail> {
@@ -85,7 +88,7 @@ fn rows_in_pieces(rt: HostRuntime) -> Result<(), Fail> {
     for line in ROWS.lines() {
         let row = parsed(line)?;
         let bytes = input(rt.alloc(), row.len)?;
-        for size in [1, 7, 64, 1000, 1024] {
+        for size in [1, 1023, 1024, 8192, 8193, 1 << 20] {
             let mut hasher = Hasher::new(&row.mode);
             for piece in bytes.chunks(size) {
                 hasher.update(piece)?;
@@ -98,6 +101,63 @@ fn rows_in_pieces(rt: HostRuntime) -> Result<(), Fail> {
                 row.output[..32],
                 "by {size} at {line}"
             );
+        }
+    }
+    Ok(())
+}
+
+// Long enough for the largest subtrees that lanes take.
+#[test]
+fn a_large_input(rt: HostRuntime) -> Result<(), Fail> {
+    let digest: [u8; 32] = decoded(LARGE)?;
+    let bytes = input(rt.alloc(), 1_100_000)?;
+    assert_eq!(rt; hash(&Mode::hash(), &bytes).0, digest);
+    for size in [1, 1023, 8192, 8193, 1 << 20] {
+        let mut hasher = Hasher::new(&Mode::hash());
+        for piece in bytes.chunks(size) {
+            hasher.update(piece)?;
+        }
+        assert_eq!(rt; hasher.finalize().0, digest, "by {size}");
+    }
+    Ok(())
+}
+
+fn joined(mode: &Mode, left: &Cv, right: &Cv) -> Cv {
+    Cv(cv(&parent_input(mode, left, right)))
+}
+
+// A parent that stands over these two.
+fn stands_over(mode: &Mode, parent: &Parts, left: &Parts, right: &Parts) -> bool {
+    parent.left == joined(mode, &left.left, &left.right)
+        && parent.right == joined(mode, &right.left, &right.right)
+}
+
+// The parents of an input of eight chunks, joined by hand.
+#[test]
+fn parents_of_eight_chunks(rt: HostRuntime) -> Result<(), Fail> {
+    assert!(rt; ROWS.contains("hash 8192 "));
+    for line in ROWS.lines() {
+        let row = parsed(line)?;
+        if row.len == 8192 {
+            let bytes = input(rt.alloc(), row.len)?;
+            assert_eq!(rt; bytes.len(), 8192);
+            let mode = &row.mode;
+            let eight = eight_parents(mode, 0, &bytes);
+            let (left, right) = (&eight.left, &eight.right);
+            assert!(rt;
+                stands_over(mode, &eight.top, &left.top, &right.top),
+                "at {line}"
+            );
+            assert!(rt;
+                stands_over(mode, &left.top, &left.left, &left.right),
+                "at {line}"
+            );
+            assert!(rt;
+                stands_over(mode, &right.top, &right.left, &right.right),
+                "at {line}"
+            );
+            let root = rooted(&parent_input(mode, &eight.top.left, &eight.top.right));
+            assert_eq!(rt; root_hash(&root).0[..], row.output[..32], "at {line}");
         }
     }
     Ok(())

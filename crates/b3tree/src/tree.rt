@@ -1,10 +1,12 @@
 ghost use Rattle.std.specs.Prelude.{◌≡◌, ℕ, ◌+◌, ◌-◌, ◌*◌, ◌/◌, ◌^◌, ◌<◌, ◌≤◌, List, length, take, drop};
+ghost use Rattle.b3word.specs.Compression.{cv};
 ghost use Rattle.b3tree.specs.declared.mode.Mode.{Mode};
 ghost use Rattle.b3tree.specs.Chunk.{last_chunk_input};
 ghost use Rattle.b3tree.specs.Tree.{IsLeftLen, left_len, parent_input, subtree_cv, top_input};
 
 use crate::chunk::{CHUNK_LEN, last_chunk_input};
 use crate::flags::PARENT;
+use crate::lanes::{chunks_a_lane, whole_cv};
 use crate::mode::Mode;
 use crate::values::Cv;
 use b3word::{Input, cv};
@@ -40,11 +42,32 @@ pub fn parent_input(mode: &Mode, left: &Cv, right: &Cv) -> Input
     }
 }
 
+// The chaining value of the parent of two subtrees.
+pub(crate) fn parent_cv(mode: &Mode, left: [u32; 8], right: [u32; 8]) -> [u32; 8]
+    ensures { result ≡ cv (parent_input mode.now left right) }
+{
+    cv(&parent_input(mode, &Cv(left), &Cv(right)))
+}
+
+// The chaining value of the subtree over `bytes`, whose first chunk has the number `first`: a whole
+// subtree of 8 to 512 chunks by lanes.
+#[cycle(subtrees)]
+pub(crate) fn subtree_value(mode: &Mode, first: u64, bytes: &[u8]) -> [u32; 8]
+    requires { 1024 * first + length bytes.now ≤ 2 ^ 64 - 1 }
+    ensures { result ≡ subtree_cv mode.now first bytes.now }
+{
+    match chunks_a_lane(bytes.len()) {
+        Some(chunks) => whole_cv(mode, first, bytes, chunks),
+        None => cv(&top_input(mode, first, bytes)),
+    }
+}
+
 /// The last compression of the tree over `bytes` whose first chunk has the number `first`, before it
 /// is known whether it is the root: that of the only chunk, or the parent of the trees over the left
 /// part and the rest (BLAKE3 paper, 2.5).
 ///
 /// `cv` of it is `subtree_cv`. The bytes have to end within an input of at most 2^64 - 1 bytes.
+#[cycle(subtrees)]
 pub fn top_input(mode: &Mode, first: u64, bytes: &[u8]) -> Input
     requires { 1024 * first + length bytes.now ≤ 2 ^ 64 - 1 }
     ensures value { result ≡ top_input mode.now first bytes.now }
@@ -60,7 +83,7 @@ pub fn top_input(mode: &Mode, first: u64, bytes: &[u8]) -> Input
     let left_len = left_len(bytes.len() as u64);
     let (left, right) = bytes.split_at(left_len as usize);
     let right_first = first + left_len / CHUNK_LEN as u64;
-    let left = Cv(cv(&top_input(mode, first, left)));
-    let right = Cv(cv(&top_input(mode, right_first, right)));
+    let left = Cv(subtree_value(mode, first, left));
+    let right = Cv(subtree_value(mode, right_first, right));
     parent_input(mode, &left, &right)
 }

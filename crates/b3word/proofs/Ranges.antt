@@ -36,6 +36,7 @@ xor_rotated_word x y n a b = rotated_word (bit_xor x y) (2 ^ (n % 32)) (2 ^ ((32
 
 -- the quarter-round function: its sums are words in any case
 quarter_words : (a b c d x y : ℕ) → b < 2 ^ 32 → d < 2 ^ 32 → AreWords (quarter_round a b c d x y)
+unfolding quarter_round
 quarter_words a b c d x y hb hd =
     let a1 : ℕ = add32 (add32 a b) x in
     let d1 : ℕ = xor_rotated d a1 16 in

@@ -18,7 +18,7 @@ abbrev pub xor_rotated : ℕ → ℕ → ℕ → ℕ
 xor_rotated x y n = rotate_right w32 (bit_xor x y) n
 
 -- the quarter-round function G: the new words a, b, c, d, with the message words x and y
-abbrev pub quarter_round : ℕ → ℕ → ℕ → ℕ → ℕ → ℕ → List ℕ
+unfoldable pub quarter_round : ℕ → ℕ → ℕ → ℕ → ℕ → ℕ → List ℕ
 quarter_round a b c d x y =
     let a1 = add32 (add32 a b) x in
     let d1 = xor_rotated d a1 16 in

@@ -1,2 +1,3 @@
 pub mod Compression
+pub mod Lanes
 pub mod Words

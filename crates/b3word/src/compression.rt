@@ -3,9 +3,10 @@ ghost use Rattle.b3word.specs.Compression.{quarter_round, g, round, permuted, in
 
 use crate::input::Input;
 
-const IV: [u32; 4] = [0x6A09E667, 0xBB67AE85, 0x3C6EF372, 0xA54FF53A];
+pub(crate) const IV: [u32; 4] = [0x6A09E667, 0xBB67AE85, 0x3C6EF372, 0xA54FF53A];
 
 #[inline(always)]
+#[tactic(auto, unfolding(crate::specs::Compression::quarter_round))]
 fn quarter_round(a: u32, b: u32, c: u32, d: u32, x: u32, y: u32) -> [u32; 4]
     ensures { result ≡ quarter_round a b c d x y }
 {

@@ -120,7 +120,7 @@ text_size-levels (suc levels) choice mode blob number n sides source hn fits = e
       ]
 ]
 
-text_size : (choice : Choice) (mode : Mode) (blob : List ℕ) (number n : ℕ) (sides : List Side) (source : ℕ) → 1024 * number + n ≤ length blob
+pub text_size : (choice : Choice) (mode : Mode) (blob : List ℕ) (number n : ℕ) (sides : List Side) (source : ℕ) → 1024 * number + n ≤ length blob
     → length (subtree_text choice mode number (span blob number n)) ≡ nodes_size (subtree_nodes choice number n sides source)
 text_size choice mode blob number n sides source fits = text_size-levels n choice mode blob number n sides source (omega arith) fits
 
@@ -225,7 +225,7 @@ parent_values mode blob number n keyed bound fits more =
     )
 
 -- by the number of levels, the text of a subtree is good where the subtree has the value asked for
-good-levels : (levels : ℕ) (asked : Asked) (choice : Choice) (mode : Mode) (blob text : List ℕ) (at number n : ℕ) (sides : List Side) (source : ℕ)
+pub good-levels : (levels : ℕ) (asked : Asked) (choice : Choice) (mode : Mode) (blob text : List ℕ) (at number n : ℕ) (sides : List Side) (source : ℕ)
     → IsKeyed mode → length blob < 2 ^ 64 → n ≤ 1024 * levels + 1024 → 1024 * number + n ≤ length blob
     → Meets asked (top_input mode number (span blob number n)) → At text at (subtree_text choice mode number (span blob number n))
     → AreGood asked sides mode text at (subtree_nodes choice number n sides source)

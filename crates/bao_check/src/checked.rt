@@ -29,7 +29,7 @@ pub struct Checked<'a> {
 }
 
 impl<'a> Checked<'a> {
-    ghost use Rattle.bao_check.specs.Checked.{HasLastCertificate, IsPiece, piece_claimed, piece_mode, piece_places, piece_root, piece_text, HoldsLast};
+    ghost use Rattle.bao_check.specs.Checked.{HasLastCertificate, IsPiece, piece_claimed, piece_mode, piece_nodes, piece_places, piece_root, piece_text, HoldsLast};
     ghost use Rattle.bao_check.specs.Tail.{tail_piece};
 
     // The piece that an accepted text is.
@@ -73,6 +73,15 @@ impl<'a> Checked<'a> {
         ensures { result.now ≡ piece_text self.now }
     {
         self.text
+    }
+
+    /// What a piece carries: its text is of bytes, and accepted under its root in its mode. A law, for proofs over
+    /// pieces. Nothing runs.
+    pub fn is_accepted(&self)
+        ensures bytes { AreBytes (piece_text self.now) }
+        ensures accepted { IsAccepted (piece_mode self.now) (piece_root self.now) (piece_text self.now) (piece_nodes self.now) }
+    {
+        bytes_are(self.text);
     }
 
     // The part of the blob that the text is of.

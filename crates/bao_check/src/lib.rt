@@ -12,6 +12,7 @@ pub use tail::Tail;
 mod asked;
 mod checked;
 mod checks;
+mod eight;
 mod fault;
 mod form;
 mod law;

@@ -1,4 +1,5 @@
-ghost use Rattle.std.specs.Prelude.{◌≡◌, ℕ, ◌≤◌, List, [], length, Option, IfErr, IfOk};
+ghost use Rattle.std.specs.Prelude.{◌≡◌, ℕ, ◌≤◌, List, [], ◌++◌, length, take, Option, IfErr, IfOk};
+ghost use Rattle.std.specs.Io.KnownBytes.{Consumes};
 ghost use Rattle.bao_check.specs.declared.fault.CheckFault.{CheckFault};
 ghost use Rattle.bao_check.specs.Walk.{IsSourceFault, TakenWhole, Takes};
 
@@ -10,6 +11,9 @@ pub(crate) trait Source {
     ghost taken: { Self → List ℕ };
 
     ghost ahead: { Self → Option (List ℕ) };
+
+    // The next bytes, as far as they are there before they are taken.
+    ghost at_hand: { Self → List ℕ };
 
     // The faults that the source itself may answer.
     ghost fails: { CheckFault → Type 0 };
@@ -29,6 +33,17 @@ pub(crate) trait Source {
     // The bytes taken so far.
     fn taken(&self) -> &[u8]
         ensures { result.now ≡ taken self.now };
+
+    // The next bytes, where they are there before they are taken.
+    fn at_hand(&self) -> &[u8]
+        ensures { result.now ≡ at_hand self.now };
+
+    // Takes the next `count` bytes, which are at hand.
+    fn pass(&mut self, count: usize)
+        requires { count ≤ length (at_hand self.old) }
+        ensures same_reference { name self.new ≡ name self.old }
+        ensures grown { taken self.new ≡ taken self.old ++ take count (at_hand self.old) }
+        ensures consumed { Consumes (ahead self.old) (ahead self.new) (take count (at_hand self.old)) };
 }
 
 /// The bytes of a text that is there as a whole: nothing is copied, and nothing fails.
@@ -59,6 +74,8 @@ impl<'a> Source for Bytes<'a> {
 
     ghost ahead = { λ s. Some (bytes_ahead s) };
 
+    ghost at_hand = { λ s. bytes_ahead s };
+
     ghost fails = { λ _. ⊥ };
 
     ghost name = { λ _. (0, 0) };
@@ -74,5 +91,13 @@ impl<'a> Source for Bytes<'a> {
 
     fn taken(&self) -> &[u8] {
         &self.text[..self.at]
+    }
+
+    fn at_hand(&self) -> &[u8] {
+        &self.text[self.at..]
+    }
+
+    fn pass(&mut self, count: usize) {
+        self.at += count;
     }
 }

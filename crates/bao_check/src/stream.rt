@@ -82,11 +82,14 @@ impl<'a, R: Read> Stream<'a, R> {
 }
 
 impl<R: Read> Source for Stream<'_, R> {
+    ghost use Rattle.std.specs.Prelude.{[]};
     ghost use Rattle.bao_check.specs.Walk.{IsSourceFault};
 
     ghost taken = { λ s. s.bytes.now.items };
 
     ghost ahead = { λ s. R.remaining s.reader.now };
+
+    ghost at_hand = { λ _. [] };
 
     ghost fails = { IsSourceFault };
 
@@ -103,4 +106,10 @@ impl<R: Read> Source for Stream<'_, R> {
     fn taken(&self) -> &[u8] {
         self.bytes.as_slice()
     }
+
+    fn at_hand(&self) -> &[u8] {
+        &[]
+    }
+
+    fn pass(&mut self, _count: usize) {}
 }

@@ -2,7 +2,8 @@ ghost use Rattle.std.specs.Prelude.{◌≡◌, ◌⊎◌, ℕ, ◌+◌, ◌-◌,
 ghost use Rattle.b3tree.specs.Hashing.{hash};
 ghost use Rattle.b3tree.specs.Valid.{AreBytes};
 ghost use Rattle.bao_text.specs.Choice.{chunk_count};
-ghost use Rattle.bao_check.specs.Checked.{HasLastCertificate, HoldsLast, HoldsLast-prop, piece_claimed, piece_mode, piece_places, piece_root, piece_text};
+ghost use Rattle.bao_check.specs.Checked.{HasLastCertificate, HoldsLast, HoldsLast-prop, piece_claimed, piece_mode, piece_nodes, piece_places, piece_root, piece_text};
+ghost use Rattle.bao_check.specs.Accepted.{IsAccepted};
 ghost use Rattle.bao_check.specs.Inputs.{NamesPair};
 ghost use Rattle.bao_check.specs.Pieces.{chunk_in};
 
@@ -19,6 +20,16 @@ pub struct Tail<'a> {
 
 impl<'a> Tail<'a> {
     ghost use Rattle.bao_check.specs.Tail.{tail_piece};
+
+    /// What a tail carries: its piece's text is of bytes, accepted under its root in its mode, and has the last chunk
+    /// of the length that it claims. A law, for proofs over tails. Nothing runs.
+    pub fn is_last(&self)
+        ensures bytes { AreBytes (piece_text (tail_piece self.now)) }
+        ensures accepted { IsAccepted (piece_mode (tail_piece self.now)) (piece_root (tail_piece self.now)) (piece_text (tail_piece self.now)) (piece_nodes (tail_piece self.now)) }
+        ensures last { HoldsLast (tail_piece self.now) }
+    {
+        self.piece.is_accepted();
+    }
 
     /// The root under which the piece was accepted.
     pub fn root(&self) -> Hash

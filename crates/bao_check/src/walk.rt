@@ -1,11 +1,13 @@
-ghost use Rattle.std.specs.Prelude.{◌≡◌, ℕ, List, [], ◌+◌, ◌-◌, ◌*◌, ◌^◌, ◌≤◌, length, drop, IfErr, IfOk, OnOk};
+ghost use Rattle.std.specs.Prelude.{◌≡◌, ℕ, List, [], ◌+◌, ◌-◌, ◌*◌, ◌^◌, ◌≤◌, length, drop, IfErr, IfOk, IsTrue, OnOk};
 ghost use Rattle.bao_text.specs.Nodes.{Side, left, right, subtree_nodes};
 ghost use Rattle.bao_check.specs.Accepted.{part_value};
+ghost use Rattle.bao_check.specs.Eight.{HasEightAhead};
 ghost use Rattle.bao_check.specs.Walk.{Grows, IsCutShort, IsRefused, Meets, Passes, PassesText, Stops, StopsText, Takes, chunk_taken, parent_taken};
 ghost use Rattle.bao_check.specs.Forms.{form_nodes};
 ghost use Rattle.bao_text.specs.Cut.{claimed};
 
 use crate::asked::{Asked, meets};
+use crate::eight::{EIGHT_LEN, EIGHT_TEXT_LEN, is_text_of_eight};
 use crate::fault::CheckFault;
 use crate::form::Form;
 use crate::source::Source;
@@ -98,8 +100,29 @@ fn check_parent<S: Source>(
     }
 }
 
+// Whether the next bytes are at hand and are the text of the subtree over `n` bytes from chunk `number` on,
+// eight whole chunks, all good.
+fn has_eight_at_hand<S: Source>(
+    source: &S,
+    choice: &Choice,
+    mode: &Mode,
+    asked: &Asked,
+    number: u64,
+    n: u64,
+) -> bool
+    requires { 1024 * number + n ≤ 2 ^ 64 - 1 }
+    ensures { IsTrue result → HasEightAhead asked.now choice.now mode.now number n (S.at_hand source.now) }
+{
+    let bytes = source.at_hand();
+    n == EIGHT_LEN as u64
+        && choice.has_chunks()
+        && choice.covers(CHUNK_LEN as u64 * number, n)
+        && bytes.len() >= EIGHT_TEXT_LEN
+        && is_text_of_eight(mode, asked, number, &bytes[..EIGHT_TEXT_LEN])
+}
+
 // Takes the wanted nodes of the subtree over `n` bytes from chunk `number` on, and verifies each before
-// the next is taken.
+// the next is taken. Eight whole chunks that are at hand are first tried at once.
 pub(crate) fn check_subtree<S: Source>(
     source: &mut S,
     choice: &Choice,
@@ -125,6 +148,10 @@ pub(crate) fn check_subtree<S: Source>(
         } else {
             Ok(())
         };
+    }
+    if has_eight_at_hand(source, choice, mode, asked, number, n) {
+        source.pass(EIGHT_TEXT_LEN);
+        return Ok(());
     }
     let (left, right) = check_parent(source, mode, asked)?;
     let left_len = left_len(n);

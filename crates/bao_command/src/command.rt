@@ -9,21 +9,19 @@ ghost use Rattle.bao_command.specs.Printed.{Prints, digits_line};
 ghost use Rattle.bao_command.specs.Tasks.{Answers, HasRoot, IsRight, line_of};
 
 use crate::decode::decode_file;
-use crate::digits::{print_digits, print_hash, print_output};
+use crate::digits::print_digits;
 use crate::fault::Fault;
-use crate::input::read_file;
+use crate::input::{open_file, read_file};
 use crate::mode::{bytes_of_digits, mode_of};
 use crate::once::Once;
 use crate::output::encode_file;
+use crate::reading::print_reader;
 use b3tree::{Mode, xof_fits};
 use bao_request::{Request, Task, parse};
 use clap::error::ErrorKind;
 use std::io::Write;
 use std::rt::Files;
 use std::thread::Threads;
-
-/// How many bytes of output a hash has.
-const HASH_LEN: u32 = 32;
 
 /// Runs the program on `words`, its name first, with `out` and `err` as its standard output and error,
 /// and answers the exit status: 0 done, 1 a text that is refused, 2 wrong words, 3 a file fault, 4 want of
@@ -80,8 +78,8 @@ fn serve_task<'a, R: Files + AllocGlobal + Threads + Sync, O: Write>(
             if !xof_fits(at, u64::from(length)) {
                 return Err(Fault::OutputRange);
             }
-            let bytes = read_file(rt, file)?;
-            print_range(rt, mode, bytes.as_slice(), at, length, out)
+            let mut input = open_file(rt, file)?;
+            print_reader(rt.alloc(), mode, &mut input, file, at, length, out)
         }
         Task::Encode {
             encoding,
@@ -109,25 +107,6 @@ fn check_root<'a>(task: &Task<'a>) -> Result<(), Fault<'a>>
     match *task {
         Task::Decode { root, .. } if bytes_of_digits(root).is_none() => Err(Fault::Root),
         _ => Ok(()),
-    }
-}
-
-// Prints `length` bytes of output from byte `at` on: the hash on several threads, and else on one.
-fn print_range<'a, R: AllocGlobal + Threads + Sync, O: Write>(
-    rt: &R,
-    mode: &Mode,
-    bytes: &[u8],
-    at: u64,
-    length: u32,
-    out: &mut O,
-) -> Result<(), Fault<'a>>
-    requires { at + length ≤ 2 ^ 64 - 1 }
-    ensures { Prints (digits_line (stream mode.now bytes.now at length)) (O.contents out.old) (O.contents out.new) result }
-{
-    if at == 0 && length == HASH_LEN {
-        print_hash(rt, rt.alloc(), mode, bytes, out)
-    } else {
-        print_output(rt.alloc(), mode, bytes, at, length, out)
     }
 }
 

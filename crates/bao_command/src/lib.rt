@@ -10,10 +10,13 @@ mod mode;
 mod once;
 mod output;
 mod program;
+mod reading;
 #[cfg(test)]
 mod tests;
 #[cfg(test)]
 mod tests_decode;
+#[cfg(test)]
+mod tests_reading;
 mod words;
 
 pub use program::run;

@@ -15,7 +15,7 @@ pub(crate) const EMPTY: &str = "af1349b9f5f9a1a6a0404dea36dcc9499bcb25c9adc112b7
 const ABC: &str = "6437b3ac38465133ffb63b75273a8db548c558465d79db03fd359c6cd5bd9d85\n";
 
 // The hashes of the bytes i mod 251, 2^20 + 1 of them, and of `abc` and a line end, by `b3sum` 1.2.0.
-const LARGE: &str = "2f053cd7472cf0cd2f9adaf45c1180255b91b9a865404a63671a0ee5f792ed33\n";
+pub(crate) const LARGE: &str = "2f053cd7472cf0cd2f9adaf45c1180255b91b9a865404a63671a0ee5f792ed33\n";
 
 const LINE: &str = "aa95faeede7041e63c6056bdcf10e6fbf709a355e539259da51a067e5dd27802\n";
 

@@ -6,3 +6,4 @@ pub mod SubtreeNodes
 pub mod SubtreeText
 pub mod TextNodes
 pub mod Writing
+pub mod EightChunks

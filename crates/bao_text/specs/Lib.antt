@@ -1,6 +1,7 @@
 pub mod Choice
 pub mod Nodes
 pub mod Texts
+pub mod EightText
 pub mod Cut
 pub mod Faults
 pub mod Pieces

@@ -10,6 +10,7 @@ pub use writer::{write_combined, write_text};
 
 mod choice;
 mod cut;
+mod eight;
 mod fault;
 mod pieces;
 mod sizes;

@@ -8,14 +8,19 @@ ghost use Rattle.bao_text.specs.Nodes.{chosen_nodes, nodes};
 ghost use Rattle.bao_text.specs.Texts.{chosen_text, combined_text, length_text, node_text, outboard_text, slice_text, subtree_text};
 
 use crate::choice::Choice;
+use crate::eight::append_eight;
 use crate::fault::Memory;
 use crate::sizes::{LENGTH_LEN, PARENT_LEN, encoded_len, outboard_len};
 use b3tree::{
-    CHUNK_LEN, Cv, Hash, Input, Mode, cv, left_len, parent_input, root_hash, rooted, top_input,
+    CHUNK_LEN, Cv, Hash, Input, Mode, cv, eight_parents, left_len, parent_input, root_hash, rooted,
+    top_input,
 };
 use std::alloc::Global;
 
 const CV_LEN: usize = 32;
+
+// Bytes of eight chunks.
+const EIGHT_LEN: usize = 8 * CHUNK_LEN;
 
 // Appends `bytes`; where the growth is refused the text is unchanged.
 pub(crate) fn extend(text: &mut Vec<u8>, bytes: &[u8]) -> Result<(), Memory>
@@ -26,7 +31,7 @@ pub(crate) fn extend(text: &mut Vec<u8>, bytes: &[u8]) -> Result<(), Memory>
 }
 
 // The 64 bytes of the parent of two subtrees with these chaining values.
-fn parent_bytes(left: &Cv, right: &Cv) -> [u8; 64]
+pub(crate) fn parent_bytes(left: &Cv, right: &Cv) -> [u8; 64]
     ensures { result ≡ bytes_of left.now.0 ++ bytes_of right.now.0 }
 {
     let mut bytes = [0; PARENT_LEN];
@@ -44,7 +49,8 @@ fn put_parent(text: &mut Vec<u8>, at: usize, parent: &[u8; 64])
 }
 
 // Appends the text of the subtree over `bytes` from chunk `first` on, and answers the subtree's last
-// compression. A parent's place is kept free until the values of its parts are there.
+// compression. A parent's place is kept free until the values of its parts are there; eight whole chunks
+// go by lanes.
 fn append(
     choice: &Choice,
     mode: &Mode,
@@ -65,6 +71,11 @@ fn append(
             extend(text, bytes)?;
         }
         return Ok(top_input(mode, first, bytes));
+    }
+    if bytes.len() == EIGHT_LEN && choice.covers(CHUNK_LEN as u64 * first, len) {
+        let parents = eight_parents(mode, first, bytes);
+        append_eight(choice, &parents, bytes, text)?;
+        return Ok(parent_input(mode, &parents.top.left, &parents.top.right));
     }
     let at = text.len();
     extend(text, &[0; PARENT_LEN])?;

@@ -2,9 +2,11 @@ use Rattle.std.proofs.Common.{◌≡◌, ◌+◌, ◌*◌, ◌/◌, List, ℕ, [
 use Rattle.std.proofs.lemmas.List.{append-nil, append_assoc, drop_at, take_at}
 use Rattle.b3tree.specs.Bytes.{bytes_of}
 use Rattle.b3tree.specs.Compression.{cv}
-use Rattle.b3tree.specs.Tree.{left_len, subtree_cv, top_input}
+use Rattle.b3tree.specs.Tree.{left_len, parent_input, subtree_cv, top_input}
 use Rattle.bao_text.specs.Choice.{wants}
+use Rattle.bao_text.specs.EightText.{eight_text}
 use Rattle.bao_text.specs.Texts.{chunk_text, parent_text, subtree_text}
+use Rattle.bao_text.proofs.EightChunks.{text-eight, top-eight}
 use Rattle.bao_text.proofs.SubtreeText.{subtree_text-leaf, subtree_text-parent, subtree_text-unwanted}
 use Rattle.bao_text.proofs.texts.+append.Goals as goal
 use Rattle.bao_text.proofs.texts.+append.Goals.{else-choice, then-choice+in_ok-extend}
@@ -28,6 +30,24 @@ returns-then-bytes-le-CHUNK_LEN-clause-text t c =
           let none : chunk_text c.args.choice.now c.args.bytes.now ≡ [] = rw w.if-choice.false refl in
           ap (λ (v : Vec ℕ Global). v.items) w.text-is ∙ sym (append-nil old) ∙ ap (λ (xs : List ℕ). old ++ xs) (sym (leaf ∙ none))
     ]
+
+pub returns-then-covers-clause-top : goal.returns-then-covers-clause-top
+returns-then-covers-clause-top t c =
+    let mode = c.args.mode.now in
+    c.parent_input.ensures
+    ∙ (λ i. parent_input mode (c.eight_parents-parents.ensures i).top.left.0 (c.eight_parents-parents.ensures i).top.right.0)
+    ∙ top-eight mode c.args.first c.args.bytes.now c.if-bytes-eq-EIGHT_LEN.true
+
+pub returns-then-covers-clause-text : goal.returns-then-covers-clause-text
+returns-then-covers-clause-text t c =
+    let choice = c.args.choice.now in
+    let s : List ℕ = c.args.bytes.now in
+    let old : List ℕ = c.args.text.now.items in
+    let size : length s ≡ 8192 = c.if-bytes-eq-EIGHT_LEN.true in
+    let covered = c.covers.ensures.0 c.if-covers.true in
+    c.in_ok-append_eight.ensures
+    ∙ (λ i. old ++ eight_text choice (c.eight_parents-parents.ensures i) s)
+    ∙ ap (λ (xs : List ℕ). old ++ xs) (text-eight choice c.args.mode.now c.args.first s size (covered.0, omega (arith, covered.1)))
 
 -- the place kept free for a parent p, once the text of its parts stands behind it
 filled : (t zs a b p : List ℕ) → length zs ≡ 64 → take (length t) (((t ++ zs) ++ a) ++ b) ++ (p ++ drop (length t + 64) (((t ++ zs) ++ a) ++ b)) ≡ t ++ (p ++ (a ++ b))

@@ -1,9 +1,8 @@
-use Rattle.std.proofs.Common.{◌≡◌, ◌+◌, ◌-◌, ◌*◌, ◌^◌, ◌<◌, ◌≤◌, ℕ, List, [], ◌∷◌, ◌++◌, length, take, get_or, ◌∙◌, sym, ap, arith}
+use Rattle.std.proofs.Common.{◌≡◌, ◌+◌, ◌-◌, ◌*◌, ◌%◌, ◌^◌, ◌<◌, ◌≤◌, ℕ, List, [], ◌∷◌, ◌++◌, length, take, get_or, ◌∙◌, sym, ap, arith}
 use Rattle.std.proofs.lemmas.List.{take_more}
 use Rattle.b3word.specs.declared.input.Input.{Input}
 use Rattle.b3word.specs.Compression.{cv}
 use Rattle.b3tree.specs.declared.mode.Mode.{Mode}
-use Rattle.b3tree.specs.Chunk.{last_chunk_input}
 use Rattle.b3tree.specs.Hashing.{rooted}
 use Rattle.b3tree.specs.Stack.{whole_subtrees}
 use Rattle.b3tree.specs.Tree.{parent_input, top_input}
@@ -34,15 +33,16 @@ returns c = λ mode s held.
     let number : ℕ = c.args.self.now.chunks in
     let none : c.joined.i ≡ 0 = omega arith in
     let values : c.as_slice-values.result.now ≡ whole_subtrees 54 mode 0 held.earlier = c.as_slice-values.ensures.value ∙ held.splits.stack in
-    let start : c.last_chunk_input-input.result ≡ last_chunk_input mode number held.last =
-    c.last_chunk_input-input.ensures ∙ (λ i. last_chunk_input (held.splits.same_mode i) number (held.splits.buffer i)) in
+    let start : c.top_input-input.result ≡ top_input mode number held.last =
+    c.top_input-input.ensures.value ∙ (λ i. top_input (held.splits.same_mode i) number (held.splits.buffer i)) in
     let fits : 1024 * number + c.args.self.now.buffered < 2 ^ 64 = c.args.self.now.fits in
-    let in_buffer : c.args.self.now.buffered ≤ 1024 = c.args.self.now.in_buffer in
+    let in_buffer : c.args.self.now.buffered ≤ 8192 = c.args.self.now.in_buffer in
+    let eighths : number % 8 ≡ 0 = c.args.self.now.eighths in
     let bound : number < 2 ^ 54 = omega arith in
-    let one : length held.last ≤ 1024 = omega (arith, held.splits.last_len) in
+    let few : length held.last ≤ 8192 = omega (arith, held.splits.last_len) in
     let ends : 0 < number → 0 < length held.last = λ more. rw held.splits.last_len (held.ends more) in
-    let done : c.joined.input ≡ joined own c.as_slice-values.result.now c.last_chunk_input-input.result =
+    let done : c.joined.input ≡ joined own c.as_slice-values.result.now c.top_input-input.result =
     (λ i. joined own (take (sym none i) c.as_slice-values.result.now) c.joined.input) ∙ c.joined.invariant in
     c.rooted.ensures
     ∙ ap rooted (done ∙ (λ i. joined (held.splits.same_mode i) (values i) (start i))
-    ∙ sym (top_input-taken mode held.earlier held.last number held.splits.chunks bound one ends) ∙ ap (top_input mode 0) (sym held.whole))
+    ∙ sym (top_input-taken mode held.earlier held.last number eighths held.splits.chunks bound few ends) ∙ ap (top_input mode 0) (sym held.whole))

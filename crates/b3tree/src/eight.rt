@@ -1,0 +1,72 @@
+// The parents of eight whole chunks, by lanes.
+
+ghost use Rattle.std.specs.Prelude.{◌≡◌, ◌+◌, ◌-◌, ◌*◌, ◌^◌, ◌≤◌, length};
+ghost use Rattle.b3tree.specs.Parents.{eight_parents};
+
+use crate::lanes::{neighbour_lanes, subtree_lanes};
+use crate::mode::Mode;
+use crate::values::Cv;
+use b3word::transposed;
+use std::simd::u32x8;
+
+/// A parent: the chaining values of its two parts.
+#[derive(Clone, Copy, Debug, PartialEq, Eq)]
+pub struct Parts {
+    pub left: Cv,
+    pub right: Cv,
+}
+
+/// The parents of four whole chunks: that of all, and those of the chunks, two and two.
+#[derive(Clone, Copy, Debug, PartialEq, Eq)]
+pub struct FourParents {
+    pub top: Parts,
+    pub left: Parts,
+    pub right: Parts,
+}
+
+/// The parents of eight whole chunks: that of all, and those below it.
+#[derive(Clone, Copy, Debug, PartialEq, Eq)]
+pub struct EightParents {
+    pub top: Parts,
+    pub left: FourParents,
+    pub right: FourParents,
+}
+
+// The parent of two values.
+fn parent_of(left: u32x8, right: u32x8) -> Parts
+    ensures { result ≡ record { left = record { 0 = left }; right = record { 0 = right } } }
+{
+    Parts {
+        left: Cv(left.to_array()),
+        right: Cv(right.to_array()),
+    }
+}
+
+/// The parents of the eight chunks of `bytes`, 8,192 in number, of which the first chunk has the number
+/// `first`: the values that `subtree_cv` gives for the parts of each, at once. The bytes have to end
+/// within an input of at most 2^64 - 1 bytes.
+pub fn eight_parents(mode: &Mode, first: u64, bytes: &[u8]) -> EightParents
+    requires len { length bytes.now ≡ 8192 }
+    requires end { 1024 * first + 8192 ≤ 2 ^ 64 - 1 }
+    ensures { result ≡ eight_parents mode.now first bytes.now }
+{
+    let [c0, c1, c2, c3, c4, c5, c6, c7] = subtree_lanes(mode, first, bytes, 0, 1, 1);
+    let [p0, p1, p2, p3, p4, p5, p6, p7] = neighbour_lanes(mode, c0, c1, c2, c3, c4, c5, c6, c7);
+    let [q0, q1, q2, q3, q4, q5, q6, q7] = neighbour_lanes(mode, p0, p1, p2, p3, p4, p5, p6, p7);
+    let [c0, c1, c2, c3, c4, c5, c6, c7] = transposed(c0, c1, c2, c3, c4, c5, c6, c7);
+    let [p0, p1, p2, p3, ..] = transposed(p0, p1, p2, p3, p4, p5, p6, p7);
+    let [q0, q1, ..] = transposed(q0, q1, q2, q3, q4, q5, q6, q7);
+    EightParents {
+        top: parent_of(q0, q1),
+        left: FourParents {
+            top: parent_of(p0, p1),
+            left: parent_of(c0, c1),
+            right: parent_of(c2, c3),
+        },
+        right: FourParents {
+            top: parent_of(p2, p3),
+            left: parent_of(c4, c5),
+            right: parent_of(c6, c7),
+        },
+    }
+}

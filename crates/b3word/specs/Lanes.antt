@@ -1,0 +1,31 @@
+-- Eight compressions side by side: each word is a vector of eight lanes, one for each compression.
+use Rattle.std.specs.Prelude.{ℕ, List, [], ◌∷◌, slice_index, slice_index_or}
+use Rattle.b3word.specs.declared.input.Input.{Input}
+
+-- lane j of vector k
+abbrev pub lane_at : List (List ℕ) → ℕ → ℕ → ℕ
+lane_at x k j = slice_index (slice_index_or x k []) j
+
+-- lane j of eight vectors
+abbrev pub lane8 : ℕ → List (List ℕ) → List ℕ
+lane8 j x =
+    lane_at x 0 j ∷ lane_at x 1 j ∷ lane_at x 2 j ∷ lane_at x 3 j
+    ∷ lane_at x 4 j ∷ lane_at x 5 j ∷ lane_at x 6 j ∷ lane_at x 7 j ∷ []
+
+-- lane j of sixteen vectors
+abbrev pub lane16 : ℕ → List (List ℕ) → List ℕ
+lane16 j x =
+    lane_at x 0 j ∷ lane_at x 1 j ∷ lane_at x 2 j ∷ lane_at x 3 j
+    ∷ lane_at x 4 j ∷ lane_at x 5 j ∷ lane_at x 6 j ∷ lane_at x 7 j
+    ∷ lane_at x 8 j ∷ lane_at x 9 j ∷ lane_at x 10 j ∷ lane_at x 11 j
+    ∷ lane_at x 12 j ∷ lane_at x 13 j ∷ lane_at x 14 j ∷ lane_at x 15 j ∷ []
+
+-- the input in lane j, with the counter t
+abbrev pub lane_input : ℕ → List (List ℕ) → List (List ℕ) → ℕ → List ℕ → List ℕ → Input
+lane_input j h m t b d = record {
+  h = lane8 j h;
+  m = lane16 j m;
+  t = t;
+  b = slice_index b j;
+  d = slice_index d j;
+}

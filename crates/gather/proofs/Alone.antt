@@ -1,0 +1,110 @@
+-- What each call of a one-thread store is for its worker.
+use Rattle.std.proofs.Common.{◌≡◌, ℕ, ◌%◌, ◌/◌, ◌==◌, true, false, [], ◌∷◌, Result, Ok, Err, IfOk, OnErr, MatchResult, count_ones, refl, subst, ◌∙◌, arith, inl, inr, eqb-true}
+use Rattle.std.proofs.lemmas.Bool.{and_from, and_parts, both_ways, cases_Bool}
+use Rattle.bao_check.specs.declared.checked.Checked.{Checked}
+use Rattle.store_core.specs.declared.fault.StoreFault.{StoreFault}
+use Rattle.store_core.specs.declared.history.Call.{Call}
+use Rattle.store_core.specs.declared.history.Call.TheVariants.{Take, Give, Commit, Settle}
+use Rattle.store_core.specs.declared.history.Piece.{Piece}
+use Rattle.store_core.specs.declared.history.Settling.{Settling}
+use Rattle.store_core.specs.declared.history.Settling.TheVariants.{Settled, Known, Differs, OtherRoot, TooLarge}
+use Rattle.store_core.specs.declared.store.Store.{Store}
+use Rattle.store_core.specs.Events.{after_call}
+use Rattle.store_core.specs.Masks.{has_bit, in_mask}
+use Rattle.store_core.specs.Pieces.{piece_of}
+use Rattle.store_core.specs.States.{State, claims}
+use Rattle.store_core.specs.Stores.{IsEvent, IsSame, Settles, state_of}
+use Rattle.gather.specs.Claims.{Among, AmongAnd, Without}
+use Rattle.gather.specs.Counts.{Still}
+use Rattle.gather.specs.Worked.{HasWorked, chunks_of, worker, worker_claims}
+
+pub worked_one : (old new : Store) (call : Call) → IsEvent old new worker call → HasWorked old new (chunks_of call)
+worked_one old new call event = record {
+  events = record { who = worker; call = call } ∷ [];
+  own = (refl, tt);
+  legal = (event.right, tt);
+  after = event.after;
+  fixed = event.fixed;
+  counts = omega arith;
+}
+
+pub worked_none : (old new : Store) → IsSame old new → HasWorked old new 0
+worked_none old new same = record { events = []; own = tt; legal = tt; after = same.state; fixed = same.fixed; counts = refl }
+
+-- what is claimed after a call, by the state before it
+claims_after : (old new : Store) (call : Call) → IsEvent old new worker call → (c : ℕ) → worker_claims new c ≡ true
+    → claims worker (after_call worker call (state_of old)) c ≡ true
+claims_after old new call event c is = subst (λ (s : State). claims worker s c ≡ true) event.after is
+
+among_same : (old new : Store) → IsSame old new → Among (worker_claims old) (worker_claims new)
+among_same old new same c is = subst (λ (s : State). claims worker s c ≡ true) same.state is
+
+taken : (old new : Store) (group want granted : ℕ) → IsEvent old new worker (Take group want granted)
+    → AmongAnd (worker_claims old) group granted (worker_claims new)
+taken old new group want granted event c is =
+    let then = claims_after old new (Take group want granted) event c is in
+    elim (cases_Bool (in_mask group granted c)) [
+      | inl hit ↦ inr hit
+      | inr miss ↦ inl (rw miss at then)
+    ]
+
+pub given : (old new : Store) (group mask result : ℕ) → IsEvent old new worker (Give group mask result)
+    → Without (worker_claims old) group mask (worker_claims new)
+given old new group mask result event c is =
+    let then = claims_after old new (Give group mask result) event c is in
+    elim (cases_Bool (in_mask group result c)) [
+      | inl hit ↦ let none : false ≡ true = rw hit at then in cc
+      | inr miss ↦
+          let claimed : worker_claims old c ≡ true = rw miss at then in (
+            claimed,
+            elim (cases_Bool (in_mask group mask c)) [
+              | inr out ↦ out
+              | inl asked ↦
+                  let parts = and_parts (c / 64 == group) (has_bit mask (c % 64)) asked in
+                  let bit : has_bit result (c % 64) ≡ true = event.right.bits c (eqb-true (c / 64) group parts.0) ∙ and_from _ _ parts.1 claimed in
+                  absurd (both_ways _ miss (and_from _ _ parts.0 bit))
+            ],
+          )
+    ]
+
+committed : (old new : Store) (group : ℕ) (piece : Piece) (mask : ℕ) → IsEvent old new worker (Commit group piece mask)
+    → Without (worker_claims old) group mask (worker_claims new)
+committed old new group piece mask event c is =
+    let then = claims_after old new (Commit group piece mask) event c is in
+    elim (cases_Bool (in_mask group mask c)) [
+      | inl hit ↦ let none : false ≡ true = rw hit at then in cc
+      | inr miss ↦ let claimed : worker_claims old c ≡ true = rw miss at then in (claimed, miss)
+    ]
+
+pub take_gains : (old new : Store) (group want : ℕ) (result : Result ℕ StoreFault) → IfOk result (λ granted. IsEvent old new worker (Take group want granted))
+    → OnErr result (IsSame old new) → HasWorked old new 0
+take_gains old new group want (Ok granted) ok err = worked_one old new (Take group want granted) ok
+take_gains old new group want (Err fault) ok err = worked_none old new err
+
+pub take_claims : (old new : Store) (group want : ℕ) (result : Result ℕ StoreFault) → IfOk result (λ granted. IsEvent old new worker (Take group want granted))
+    → OnErr result (IsSame old new)
+    → MatchResult result (λ granted. AmongAnd (worker_claims old) group granted (worker_claims new)) (λ _. Among (worker_claims old) (worker_claims new))
+take_claims old new group want (Ok granted) ok err = taken old new group want granted ok
+take_claims old new group want (Err fault) ok err = among_same old new err
+
+pub commit_gains : (old new : Store) (group : ℕ) (piece : Piece) (result : Result ℕ StoreFault) → IfOk result (λ mask. IsEvent old new worker (Commit group piece mask))
+    → OnErr result (IsSame old new) → MatchResult result (λ mask. HasWorked old new (count_ones mask)) (λ _. HasWorked old new 0)
+commit_gains old new group piece (Ok mask) ok err = worked_one old new (Commit group piece mask) ok
+commit_gains old new group piece (Err fault) ok err = worked_none old new err
+
+pub commit_claims : (old new : Store) (group : ℕ) (piece : Piece) (result : Result ℕ StoreFault) → IfOk result (λ mask. IsEvent old new worker (Commit group piece mask))
+    → OnErr result (IsSame old new)
+    → MatchResult result (λ mask. Without (worker_claims old) group mask (worker_claims new)) (λ _. Among (worker_claims old) (worker_claims new))
+commit_claims old new group piece (Ok mask) ok err = committed old new group piece mask ok
+commit_claims old new group piece (Err fault) ok err = among_same old new err
+
+settle_still : (old new : Store) (piece : Piece) (answer : Settling) → IsEvent old new worker (Settle piece answer) → Still HasWorked worker_claims old new
+settle_still old new piece answer event =
+    (worked_one old new (Settle piece answer) event, λ c is. claims_after old new (Settle piece answer) event c is)
+
+pub settles_still : (old new : Store) (piece : Checked) (answer : Settling) → Settles old new piece answer → Still HasWorked worker_claims old new
+settles_still old new piece Settled settles = settle_still old new (piece_of piece) Settled (settles worker)
+settles_still old new piece Known settles = settle_still old new (piece_of piece) Known (settles worker)
+settles_still old new piece Differs settles = settle_still old new (piece_of piece) Differs (settles worker)
+settles_still old new piece OtherRoot settles = (worked_none old new settles.1, among_same old new settles.1)
+settles_still old new piece TooLarge settles = (worked_none old new settles.2, among_same old new settles.2)

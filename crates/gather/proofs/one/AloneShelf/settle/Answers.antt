@@ -1,0 +1,6 @@
+use Rattle.bao_check.specs.Tail.{tail_piece}
+use Rattle.gather.proofs.Alone.{settles_still}
+use Rattle.gather.proofs.one.AloneShelf.settle.Goals as goal
+
+pub returns-clause-still : goal.returns-clause-still
+returns-clause-still c = settles_still c.args.store.now c.settle.new.self (tail_piece c.args.tail.now) c.settle.result c.settle.ensures

@@ -1,0 +1,8 @@
+use Rattle.gather.proofs.Alone.{take_claims, take_gains}
+use Rattle.gather.proofs.one.AloneShelf.take.Goals as goal
+
+pub returns-clause-gained : goal.returns-clause-gained
+returns-clause-gained c = take_gains c.args.store.now c.take.new.self c.args.group c.args.want c.take.result c.take.ensures.ok c.take.ensures.err
+
+pub returns-clause-claims : goal.returns-clause-claims
+returns-clause-claims c = take_claims c.args.store.now c.take.new.self c.args.group c.args.want c.take.result c.take.ensures.ok c.take.ensures.err

@@ -1,0 +1,60 @@
+-- What a worker alone does to a one-thread store: a history of its own calls, each legal in turn.
+use Rattle.std.specs.Prelude.{◌≡◌, ◌⊎◌, Some, ℕ, Bool, List, count_ones}
+use Rattle.std.specs.List.{AllByRecursion, sum_by}
+use Rattle.store_core.specs.declared.history.Call.{Call}
+use Rattle.store_core.specs.declared.history.Call.TheVariants.{Take, Give, Commit, Settle, Read, Length}
+use Rattle.store_core.specs.declared.history.Event.{Event}
+use Rattle.store_core.specs.declared.fixed.Fixed.{Fixed}
+use Rattle.store_core.specs.declared.history.Piece.{Piece}
+use Rattle.store_core.specs.Pieces.{IsAcceptedPiece, chunk_bytes}
+use Rattle.store_core.specs.declared.store.Store.{Store}
+use Rattle.store_core.specs.Histories.{AreLegalFrom, run}
+use Rattle.store_core.specs.Names.{Name}
+use Rattle.store_core.specs.Slots.{caller}
+use Rattle.store_core.specs.States.{claims}
+use Rattle.store_core.specs.Stores.{fixed_of, state_of}
+
+-- how many chunks a call stores: those of a commit's mask
+abbrev pub chunks_of : Call → ℕ
+chunks_of (Take group want granted) = 0
+chunks_of (Give group mask given) = 0
+chunks_of (Commit group piece committed) = count_ones committed
+chunks_of (Settle piece answer) = 0
+chunks_of (Read at len bytes) = 0
+chunks_of (Length recorded) = 0
+
+-- how many the calls of a history store
+abbrev pub chunks_in : List Event → ℕ
+chunks_in events = sum_by (λ (e : Event). chunks_of e.call) events
+
+-- the names of the worker: those of seat 0
+abbrev pub worker : List Name
+worker = caller 0
+
+abbrev pub IsOwn : Event → Type 0
+IsOwn e = e.who ≡ worker
+
+-- whether the worker claims a chunk
+abbrev pub worker_claims : Store → ℕ → Bool
+worker_claims store c = claims worker (state_of store) c
+
+-- the bytes are the chunk in a text that is accepted under the store's root and in its mode
+pub record IsCertified (fixed : Fixed) (c : ℕ) (bytes : List ℕ) : Type 0 where
+  pub piece : Piece
+  pub accepted : IsAcceptedPiece fixed piece
+  pub has : chunk_bytes piece c ≡ Some bytes
+
+-- nothing but such chunks is stored
+abbrev pub AddsCertified : Store → Store → Type 0
+AddsCertified old new = (c : ℕ) (bytes : List ℕ) → (state_of new).held c ≡ Some bytes
+    → ((state_of old).held c ≡ Some bytes) ⊎ IsCertified (fixed_of old) c bytes
+
+-- Calls of the worker, each with the right reply where it stands, lead from one state of a store to the other, and
+-- commit so many chunks. A commit is of an accepted text alone: nothing is stored that the root doesn't certify.
+pub record HasWorked (old new : Store) (chunks : ℕ) : Type 0 where
+  pub events : List Event
+  pub own : AllByRecursion IsOwn events
+  pub legal : AreLegalFrom (fixed_of old) (state_of old) events
+  pub after : state_of new ≡ run (state_of old) events
+  pub fixed : fixed_of new ≡ fixed_of old
+  pub counts : chunks ≡ chunks_in events

@@ -1,0 +1,80 @@
+ghost use Rattle.std.specs.Prelude.{◌≡◌, ℕ, ◌<◌, ◌++◌, IsErrOf, OnErr, OnOk};
+ghost use Rattle.gather.specs.declared.holder.HolderFault.TheVariants.{Device};
+ghost use Rattle.gather.specs.Holders.{Appends};
+
+use bao_text::cut_slice;
+use std::alloc::Global;
+use thiserror::Error;
+
+/// Why a holder gave no text.
+#[derive(Clone, Copy, Debug, PartialEq, Eq, Error)]
+pub enum HolderFault {
+    /// Its device failed, and its count of faults rose.
+    #[error("holder's device")]
+    Device,
+    /// A growth was refused.
+    #[error("holder's memory")]
+    Memory,
+}
+
+/// Whoever may have texts of a blob. Nothing is assumed of a text: it may be cut, changed or of another blob.
+pub trait Holder {
+    // How many faults of its device it has counted.
+    ghost count: { Self → ℕ };
+
+    /// Appends to `into` what it has as the slice of `len` bytes from byte `start` on: any bytes.
+    ///
+    /// `Device` only where the count of faults rose during the call, `Memory` only where a growth was refused; `into`
+    /// is then unchanged. Once the count is 2^64 - 1 it stays, and a fetch whose device fails answers Ok and appends
+    /// nothing.
+    fn fetch(&mut self, start: u64, len: u64, into: &mut Vec<u8>) -> Result<(), HolderFault>
+        ensures appended { OnOk result (Appends into.old.items into.new.items) }
+        ensures unchanged { OnErr result (into.new.items ≡ into.old.items) }
+        ensures device { IsErrOf result Device → count self.old < count self.new };
+
+    /// How many faults of its device it has counted.
+    fn faults(&self) -> u64
+        ensures { result ≡ count self.now };
+}
+
+/// The holder over the bytes of a combined encoding, which nobody has checked. It keeps them by reference.
+#[derive(Drop)]
+pub struct Encoded<'a> {
+    alloc: Global,
+    text: &'a [u8],
+}
+
+impl<'a> Encoded<'a> {
+    ghost use Rattle.gather.specs.Encodings.{encoding};
+
+    /// A holder of these bytes.
+    pub fn new(alloc: Global, text: &'a [u8]) -> Encoded<'a>
+        ensures { encoding result ≡ text.now }
+    {
+        Encoded { alloc, text }
+    }
+}
+
+impl<'a> Holder for Encoded<'a> {
+    ghost use Rattle.bao_text.specs.Cut.{cut_text};
+    ghost use Rattle.gather.specs.Encodings.{encoding};
+
+    ghost count = { λ _. 0 };
+
+    /// Appends the slice as `cut_slice` cuts it out of the bytes. No device fails.
+    fn fetch(&mut self, start: u64, len: u64, into: &mut Vec<u8>) -> Result<(), HolderFault>
+        ensures appended { OnOk result (Appends into.old.items into.new.items) }
+        ensures unchanged { OnErr result (into.new.items ≡ into.old.items) }
+        ensures device { IsErrOf result Device → 0 < 0 }
+        ensures same { encoding self.new ≡ encoding self.old }
+        ensures cut { OnOk result (into.new.items ≡ into.old.items ++ cut_text (encoding self.old) start len) }
+    {
+        let text = cut_slice(self.alloc, self.text, start, len).map_err(|_| HolderFault::Memory)?;
+        into.extend_from_slice(text.as_slice())
+            .map_err(|_| HolderFault::Memory)
+    }
+
+    fn faults(&self) -> u64 {
+        0
+    }
+}

@@ -1,0 +1,19 @@
+//! Gathers a blob from holders that nobody trusts, and hands it out once its hash is the root.
+#![tactic(auto)]
+
+pub use fault::FinishFault;
+pub use finish::finish_one;
+pub use holder::{Encoded, Holder, HolderFault};
+pub use one::run_one;
+pub use report::Report;
+
+mod fault;
+mod finish;
+mod holder;
+mod masks;
+mod one;
+mod report;
+mod shelf;
+#[cfg(test)]
+mod tests;
+mod worker;

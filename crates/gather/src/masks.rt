@@ -1,0 +1,24 @@
+ghost use Rattle.std.specs.Prelude.{◌≡◌, ℕ, ◌+◌, ◌*◌, ◌<◌, nat_lt, not, ◌&&◌};
+ghost use Rattle.store_core.specs.Masks.{has_bit};
+
+// How many chunks a group has.
+pub(crate) const GROUP_LEN: u64 = 64;
+
+// The mask of the chunks of a group below the number `chunks`.
+pub(crate) fn wanted(chunks: u64, group: u32) -> u64
+    ensures { (j : ℕ) → j < 64 → has_bit result j ≡ nat_lt (64 * group + j) chunks }
+{
+    let before = GROUP_LEN * u64::from(group);
+    let below = chunks.saturating_sub(before);
+    if below >= GROUP_LEN {
+        return u64::MAX;
+    }
+    (1 << below) - 1
+}
+
+// A mask without the chunks of another.
+pub(crate) fn without(mask: u64, other: u64) -> u64
+    ensures { (j : ℕ) → j < 64 → has_bit result j ≡ (has_bit mask j && not (has_bit other j)) }
+{
+    mask & !other
+}

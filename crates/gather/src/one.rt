@@ -1,0 +1,101 @@
+ghost use Rattle.std.specs.Prelude.{◌≡◌};
+ghost use Rattle.gather.specs.Claims.{Among};
+ghost use Rattle.gather.specs.Counts.{Gains};
+ghost use Rattle.gather.specs.Worked.{AddsCertified, HasWorked, worker_claims};
+
+use crate::holder::Holder;
+use crate::report::Report;
+use crate::shelf::Shelf;
+use crate::worker::{Place, work};
+use bao_check::{Checked, Tail};
+use std::alloc::Global;
+use store_core::{Fixed, Settling, Store, StoreFault};
+
+// The seat number of the worker of a one-thread store.
+const SEAT: u32 = 0;
+
+// A one-thread store, which is its one worker's seat: this is what the worker was told of it.
+#[derive(Drop)]
+struct Alone {
+    fixed: Fixed,
+}
+
+impl Shelf for Alone {
+    ghost use Rattle.gather.specs.Working.{adds_work, no_work};
+
+    type Seat = Store;
+
+    ghost has = { λ _ _. Unit {0} };
+
+    ghost claims = { λ store. worker_claims store };
+
+    ghost gained = { λ old new chunks. HasWorked old new chunks };
+
+    fn fixed(&self, _store: &Store) -> Fixed {
+        self.fixed
+    }
+
+    fn take(&self, store: &mut Store, group: u32, want: u64) -> Result<u64, StoreFault> {
+        store.take(SEAT, group, want)
+    }
+
+    fn give(&self, store: &mut Store, group: u32, mask: u64) -> u64 {
+        store.give(SEAT, group, mask)
+    }
+
+    fn commit(
+        &self,
+        store: &mut Store,
+        group: u32,
+        piece: &Checked<'_>,
+    ) -> Result<u64, StoreFault> {
+        store.commit(SEAT, group, piece)
+    }
+
+    fn settle(&self, store: &mut Store, tail: &Tail<'_>) -> Settling {
+        store.settle(tail)
+    }
+
+    fn length(&self, store: &mut Store) -> Option<u64> {
+        store.length()
+    }
+
+    ghost stays = { no_work };
+
+    ghost adds = { adds_work };
+}
+
+/// Gathers what a store still lacks of its blob from holders that nobody trusts: one worker, whose seat is 0.
+///
+/// If no length is recorded, the worker asks its holders in order for the last chunk, checks each text, and settles
+/// the length that it certifies, until one is recorded; it ends where none comes, or where one is above what the
+/// store has room for. Then it goes over the groups of 64 chunks that the length needs. It takes a group's chunks, and
+/// asks its holders in order, each once, for those bytes, checks each text and commits from it, until none of the
+/// chunks granted is left; those that are it gives back. All this is done twice.
+///
+/// It refuses nothing. Refused memory is counted in the report: where a take meets it the group is left, else the
+/// next holder is asked. Texts are checked under the root and in the mode of `fixed`, and the store takes none of
+/// another's.
+///
+/// What the worker did is a history of its own calls, each with the right reply in its turn: so what is stored comes
+/// from texts accepted under the store's root. No claim is left that the worker took.
+pub fn run_one<H: Holder>(
+    alloc: Global,
+    fixed: &Fixed,
+    store: &mut Store,
+    holders: &mut [H],
+) -> Report
+    ensures worked { Gains HasWorked store.old store.new 0 result.committed }
+    ensures certified { AddsCertified store.old store.new }
+    ensures claims { Among (worker_claims store.old) (worker_claims store.new) }
+{
+    let shelf = Alone { fixed: *fixed };
+    let place = Place {
+        number: 0,
+        workers: 1,
+    };
+    let mut report = Report::new();
+    work(alloc, &shelf, store, holders, place, &mut report);
+    work(alloc, &shelf, store, holders, place, &mut report);
+    report
+}

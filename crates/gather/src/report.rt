@@ -1,0 +1,55 @@
+ghost use Rattle.std.specs.Prelude.{◌≡◌, ◌^◌, ◌<◌};
+ghost use Rattle.gather.specs.Counts.{no_counts, plus};
+
+use bao_check::CheckFault;
+
+/// What a worker did. Counts stay at 2^64 - 1 once there.
+#[derive(Clone, Copy, Debug, PartialEq, Eq)]
+pub struct Report {
+    /// Chunks that it committed.
+    pub committed: u64,
+    /// Fetches.
+    pub asked: u64,
+    /// Texts that a check refused for another cause than memory.
+    pub refused: u64,
+    /// Fetches whose device failed.
+    pub failed: u64,
+    /// Growths that were refused.
+    pub memory: u64,
+    /// Whether a certified length was above what the store has room for.
+    pub too_large: bool,
+}
+
+impl Report {
+    /// Nothing was done.
+    pub fn new() -> Report
+        ensures { result ≡ no_counts }
+    {
+        Report {
+            committed: 0,
+            asked: 0,
+            refused: 0,
+            failed: 0,
+            memory: 0,
+            too_large: false,
+        }
+    }
+
+    // Counts a growth that was refused.
+    pub(crate) fn count_memory(&mut self)
+        ensures same { self.new.committed ≡ self.old.committed }
+        ensures counted { self.new.memory ≡ plus self.old.memory 1 }
+    {
+        self.memory = self.memory.saturating_add(1);
+    }
+
+    // Counts a text that a check refused.
+    pub(crate) fn count_refused(&mut self, fault: &CheckFault)
+        ensures same { self.new.committed ≡ self.old.committed }
+    {
+        match fault {
+            CheckFault::Memory => self.memory = self.memory.saturating_add(1),
+            _ => self.refused = self.refused.saturating_add(1),
+        }
+    }
+}

@@ -1,0 +1,65 @@
+ghost use Rattle.std.specs.Prelude.{◌≡◌, ℕ, ◌+◌, Bool, MatchResult, count_ones};
+ghost use Rattle.gather.specs.Claims.{Among, AmongAnd, Without};
+ghost use Rattle.gather.specs.Counts.{Still};
+
+use bao_check::{Checked, Tail};
+use store_core::{Fixed, Settling, StoreFault};
+
+/// A store as one of its workers sees it. The worker's own part of it is its seat.
+pub(crate) trait Shelf {
+    type Seat;
+
+    // The seat is one of this store.
+    ghost has: { Self → Self.Seat → Type 0 };
+
+    // Which chunks the seat claims, by number.
+    ghost claims: { Self.Seat → ℕ → Bool };
+
+    // The seat's own calls led from the one to the other, and stored so many chunks.
+    ghost gained: { Self.Seat → Self.Seat → ℕ → Type 0 };
+
+    // The root and the mode of its blob, and how many chunks it has room for.
+    fn fixed(&self, seat: &Self::Seat) -> Fixed;
+
+    // Claims the wanted chunks of a group that may be granted, and answers their mask.
+    fn take(&self, seat: &mut Self::Seat, group: u32, want: u64) -> Result<u64, StoreFault>
+        requires { has self.now seat.old }
+        ensures has { has self.now seat.new }
+        ensures gained { gained seat.old seat.new 0 }
+        ensures claims { MatchResult result (λ granted. AmongAnd (claims seat.old) group granted (claims seat.new)) (λ _. Among (claims seat.old) (claims seat.new)) };
+
+    // Ends the seat's claims among the mask.
+    fn give(&self, seat: &mut Self::Seat, group: u32, mask: u64) -> u64
+        requires { has self.now seat.old }
+        ensures has { has self.now seat.new }
+        ensures gained { gained seat.old seat.new 0 }
+        ensures claims { Without (claims seat.old) group mask (claims seat.new) };
+
+    // Stores the chunks of a group that the seat claims and the piece holds, and answers their mask.
+    fn commit(
+        &self,
+        seat: &mut Self::Seat,
+        group: u32,
+        piece: &Checked<'_>,
+    ) -> Result<u64, StoreFault>
+        requires { has self.now seat.old }
+        ensures has { has self.now seat.new }
+        ensures gained { MatchResult result (λ committed. gained seat.old seat.new (count_ones committed)) (λ _. gained seat.old seat.new 0) }
+        ensures claims { MatchResult result (λ committed. Without (claims seat.old) group committed (claims seat.new)) (λ _. Among (claims seat.old) (claims seat.new)) };
+
+    // Records the length that a piece with the last chunk certifies, if none is recorded.
+    fn settle(&self, seat: &mut Self::Seat, tail: &Tail<'_>) -> Settling
+        requires { has self.now seat.old }
+        ensures has { has self.now seat.new }
+        ensures still { Still gained claims seat.old seat.new };
+
+    // The recorded length, if there is one.
+    fn length(&self, seat: &mut Self::Seat) -> Option<u64>
+        requires { has self.now seat.old }
+        ensures has { has self.now seat.new }
+        ensures still { Still gained claims seat.old seat.new };
+
+    ghost stays: { (s : Self.Seat) → gained s s 0 };
+
+    ghost adds: { (r s t : Self.Seat) (m n : ℕ) → gained r s m → gained s t n → gained r t (m + n) };
+}

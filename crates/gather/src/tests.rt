@@ -1,0 +1,196 @@
+use crate::{Encoded, FinishFault, Holder, Report, finish_one, run_one};
+use b3tree::{Cv, Hash, Mode, cv, hash, parent_input, root_hash, rooted, subtree_cv};
+use bao_check::check_slice;
+use bao_text::combined;
+use std::test::Fail;
+use store_core::{Fixed, Settling, Store};
+
+// The bytes i mod 251, as in BLAKE3's test vectors.
+fn blob(rt: &HostRuntime, len: usize) -> Result<Vec<u8>, Fail> {
+    let mut bytes = Vec::with_capacity(rt.alloc(), len)?;
+    for i in 0..len {
+        bytes.push((i % 251) as u8)?;
+    }
+    Ok(bytes)
+}
+
+fn fixed(root: Hash, capacity: u32) -> Fixed {
+    Fixed {
+        root,
+        mode: Mode::hash(),
+        capacity,
+    }
+}
+
+fn store(rt: &HostRuntime, fixed: &Fixed) -> Result<Store, Fail> {
+    Ok(Store::new(rt.alloc(), fixed.root, fixed.mode, fixed.capacity)?)
+}
+
+// Of 3,000 bytes: the first 1,000 bytes of their encoding, the encoding of 2,999 bytes, and the whole one.
+#[test]
+fn two_of_three_holders_are_bad(rt: HostRuntime) -> Result<(), Fail> {
+    let bytes = blob(&rt, 3000)?;
+    let (root, whole) = combined(rt.alloc(), &Mode::hash(), bytes.as_slice())?;
+    let (_, shorter) = combined(rt.alloc(), &Mode::hash(), blob(&rt, 2999)?.as_slice())?;
+    assert_eq!(rt; whole.len(), 3136);
+    let fixed = fixed(root, 65_536);
+    let mut store = store(&rt, &fixed)?;
+    let cut = whole.as_slice().get(..1000).ok_or("cut")?;
+    let mut bad = [
+        Encoded::new(rt.alloc(), cut),
+        Encoded::new(rt.alloc(), shorter.as_slice()),
+    ];
+    let report = run_one(rt.alloc(), &fixed, &mut store, &mut bad);
+    let nothing = Report {
+        committed: 0,
+        asked: 4,
+        refused: 4,
+        failed: 0,
+        memory: 0,
+        too_large: false,
+    };
+    assert_eq!(rt; report, nothing);
+    let unfinished = finish_one(rt.alloc(), &fixed, &store);
+    assert!(rt; matches!(&unfinished, Err(FinishFault::Unfinished)));
+    let mut holders = [
+        Encoded::new(rt.alloc(), cut),
+        Encoded::new(rt.alloc(), shorter.as_slice()),
+        Encoded::new(rt.alloc(), whole.as_slice()),
+    ];
+    let report = run_one(rt.alloc(), &fixed, &mut store, &mut holders);
+    let all = Report {
+        committed: 3,
+        asked: 6,
+        refused: 4,
+        failed: 0,
+        memory: 0,
+        too_large: false,
+    };
+    assert_eq!(rt; report, all);
+    let gathered = finish_one(rt.alloc(), &fixed, &store)?;
+    assert_eq!(rt; gathered.as_slice(), bytes.as_slice());
+    Ok(())
+}
+
+// The encoding of 3,072 bytes with its length changed to 4,096, beside the true one.
+#[test]
+fn a_changed_length_is_refused(rt: HostRuntime) -> Result<(), Fail> {
+    let bytes = blob(&rt, 3072)?;
+    let (root, whole) = combined(rt.alloc(), &Mode::hash(), bytes.as_slice())?;
+    let mut changed = whole.clone()?;
+    changed
+        .as_mut_slice()
+        .get_mut(..8)
+        .ok_or("length")?
+        .copy_from_slice(&4096_u64.to_le_bytes());
+    let fixed = fixed(root, 64);
+    let mut store = store(&rt, &fixed)?;
+    let mut holders = [
+        Encoded::new(rt.alloc(), changed.as_slice()),
+        Encoded::new(rt.alloc(), whole.as_slice()),
+    ];
+    let report = run_one(rt.alloc(), &fixed, &mut store, &mut holders);
+    assert_eq!(rt; (report.committed, report.asked, report.refused), (3, 4, 2));
+    let gathered = finish_one(rt.alloc(), &fixed, &store)?;
+    assert_eq!(rt; gathered.as_slice(), bytes.as_slice());
+    Ok(())
+}
+
+#[test]
+fn many_groups(rt: HostRuntime) -> Result<(), Fail> {
+    let bytes = blob(&rt, 200_000)?;
+    let (root, whole) = combined(rt.alloc(), &Mode::hash(), bytes.as_slice())?;
+    let fixed = fixed(root, 196);
+    let mut store = store(&rt, &fixed)?;
+    let mut holders = [Encoded::new(rt.alloc(), whole.as_slice())];
+    let report = run_one(rt.alloc(), &fixed, &mut store, &mut holders);
+    assert_eq!(rt;
+        (report.committed, report.asked, report.refused),
+        (196, 5, 0)
+    );
+    let gathered = finish_one(rt.alloc(), &fixed, &store)?;
+    assert_eq!(rt; gathered.as_slice(), bytes.as_slice());
+    Ok(())
+}
+
+#[test]
+fn a_store_with_less_room(rt: HostRuntime) -> Result<(), Fail> {
+    let bytes = blob(&rt, 3072)?;
+    let (root, whole) = combined(rt.alloc(), &Mode::hash(), bytes.as_slice())?;
+    let fixed = fixed(root, 2);
+    let mut store = store(&rt, &fixed)?;
+    let mut holders = [Encoded::new(rt.alloc(), whole.as_slice())];
+    let report = run_one(rt.alloc(), &fixed, &mut store, &mut holders);
+    assert!(rt; report.too_large);
+    assert_eq!(rt; (report.committed, report.refused), (0, 0));
+    let unfinished = finish_one(rt.alloc(), &fixed, &store);
+    assert!(rt; matches!(&unfinished, Err(FinishFault::Unfinished)));
+    Ok(())
+}
+
+#[test]
+fn an_empty_blob(rt: HostRuntime) -> Result<(), Fail> {
+    let fixed = fixed(hash(&Mode::hash(), b""), 1);
+    let mut store = store(&rt, &fixed)?;
+    let mut holders = [Encoded::new(rt.alloc(), &[0; 8])];
+    let report = run_one(rt.alloc(), &fixed, &mut store, &mut holders);
+    assert_eq!(rt; (report.committed, report.asked), (1, 2));
+    assert_eq!(rt; finish_one(rt.alloc(), &fixed, &store)?.len(), 0);
+    assert_eq!(rt; holders.iter().map(|holder| holder.faults()).max(), Some(0));
+    Ok(())
+}
+
+// The text that claims `len` bytes and has these parts.
+fn text_of(rt: &HostRuntime, len: u64, parts: &[&[u8]]) -> Result<Vec<u8>, Fail> {
+    let mut text = Vec::new(rt.alloc());
+    text.extend_from_slice(&len.to_le_bytes())?;
+    for part in parts {
+        text.extend_from_slice(part)?;
+    }
+    Ok(text)
+}
+
+// The 64 bytes of a parent.
+fn parent_of(left: &Cv, right: &Cv) -> [u8; 64] {
+    let mut bytes = [0; 64];
+    bytes[..32].copy_from_slice(&left.to_bytes());
+    bytes[32..].copy_from_slice(&right.to_bytes());
+    bytes
+}
+
+// Under the hash of a parent that no blob has, two lengths are certified: the store is whole, and no blob comes out.
+#[test]
+fn a_root_of_no_blob(rt: HostRuntime) -> Result<(), Fail> {
+    let mode = Mode::hash();
+    let bytes = blob(&rt, 1500)?;
+    let (first, last) = bytes.as_slice().split_at_checked(1024).ok_or("chunks")?;
+    let u = subtree_cv(&mode, 0, first);
+    let v = subtree_cv(&mode, 1, last);
+    let p = Cv(cv(&parent_input(&mode, &u, &u)));
+    let root = root_hash(&rooted(&parent_input(&mode, &p, &v)));
+    let end_text = text_of(&rt, 1500, &[&parent_of(&p, &v), last])?;
+    let end = check_slice(rt.alloc(), &mode, &root, 1024, 1, end_text.as_slice())?;
+    let begin_text = text_of(&rt, 3072, &[&parent_of(&p, &v), &parent_of(&u, &u), first])?;
+    let begin = check_slice(rt.alloc(), &mode, &root, 0, 1, begin_text.as_slice())?;
+    let fixed = fixed(root, 3);
+    let mut store = store(&rt, &fixed)?;
+    assert_eq!(rt; store.take(1, 0, 0b111)?, 0b111);
+    assert_eq!(rt; store.commit(1, 0, &begin)?, 0b001);
+    assert_eq!(rt; store.commit(1, 0, &end)?, 0b010);
+    assert_eq!(rt; store.settle(&end.tail().ok_or("tail")?), Settling::Settled);
+    assert_eq!(rt; store.read(0, &mut [0; 1500]), Ok(()));
+    let other = finish_one(rt.alloc(), &fixed, &store);
+    assert!(rt; matches!(&other, Err(FinishFault::NotTheRoot)));
+    Ok(())
+}
+
+#[test]
+fn the_fault_has_a_number_and_a_line(rt: HostRuntime) -> Result<(), Fail> {
+    let fault = FinishFault::NotTheRoot;
+    assert_eq!(rt; fault.code(), 902);
+    assert_eq!(rt;
+        format!(in rt.alloc(); "{fault}")?.as_str(),
+        "902 not the root"
+    );
+    Ok(())
+}

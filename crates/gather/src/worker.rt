@@ -1,0 +1,248 @@
+ghost use Rattle.std.specs.Prelude.{◌≡◌, ℕ, ◌*◌, ◌<◌, ◌≤◌, ◌^◌, Bool, nat_lt};
+ghost use Rattle.gather.specs.Claims.{Among, AmongAnd};
+ghost use Rattle.gather.specs.Counts.{Gains};
+
+use crate::holder::{Holder, HolderFault};
+use crate::masks::{GROUP_LEN, wanted, without};
+use crate::report::Report;
+use crate::shelf::Shelf;
+use bao_check::check_slice;
+use std::alloc::Global;
+use store_core::{MAX_CAPACITY, Settling, StoreFault};
+
+// Bytes of a chunk, and of a group.
+const CHUNK_LEN: u64 = b3tree::CHUNK_LEN as u64;
+
+const GROUP_BYTES: u64 = GROUP_LEN * CHUNK_LEN;
+
+// The most groups that a store has.
+const MAX_GROUPS: u64 = MAX_CAPACITY as u64 / GROUP_LEN;
+
+// A worker's number among so many.
+#[derive(Clone, Copy, Debug)]
+pub(crate) struct Place {
+    pub(crate) number: u32,
+    pub(crate) workers: u32,
+}
+
+// One fetch of a text, with its counts.
+fn fetched<H: Holder>(
+    alloc: Global,
+    holder: &mut H,
+    start: u64,
+    len: u64,
+    report: &mut Report,
+) -> Option<Vec<u8>>
+    ensures same { report.new.committed ≡ report.old.committed }
+    ensures fits { report.new.committed < 2 ^ 64 }
+{
+    let _committed = report.committed;
+    report.asked = report.asked.saturating_add(1);
+    let mut text = Vec::new(alloc);
+    match holder.fetch(start, len, &mut text) {
+        Ok(()) => Some(text),
+        Err(HolderFault::Device) => {
+            report.failed = report.failed.saturating_add(1);
+            None
+        }
+        Err(HolderFault::Memory) => {
+            report.count_memory();
+            None
+        }
+    }
+}
+
+// Asks one holder for the last chunk, settles the length that its text certifies, and answers whether that is
+// above what the store has room for.
+fn ask_end<S: Shelf, H: Holder>(
+    alloc: Global,
+    shelf: &S,
+    seat: &mut S::Seat,
+    holder: &mut H,
+    report: &mut Report,
+) -> bool
+    requires { S.has shelf.now seat.old }
+    ensures has { S.has shelf.now seat.new }
+    ensures gains { Gains S.gained seat.old seat.new report.old.committed report.new.committed }
+    ensures claims { Among (S.claims seat.old) (S.claims seat.new) }
+{
+    let _committed = report.committed;
+    let Some(text) = fetched(alloc, holder, u64::MAX, 1, report) else {
+        return false;
+    };
+    let fixed = shelf.fixed(seat);
+    match check_slice(
+        alloc,
+        &fixed.mode,
+        &fixed.root,
+        u64::MAX,
+        1,
+        text.as_slice(),
+    ) {
+        Ok(piece) => {
+            let Some(tail) = piece.tail() else {
+                return false;
+            };
+            let too_large = shelf.settle(seat, &tail) == Settling::TooLarge;
+            report.too_large = report.too_large || too_large;
+            too_large
+        }
+        Err(fault) => {
+            report.count_refused(&fault);
+            false
+        }
+    }
+}
+
+// The recorded length. If there is none, the holders are asked for it in order, until one is recorded or a
+// certified one is above what the store has room for.
+fn agree<S: Shelf, H: Holder>(
+    alloc: Global,
+    shelf: &S,
+    seat: &mut S::Seat,
+    holders: &mut [H],
+    report: &mut Report,
+) -> Option<u64>
+    requires { S.has shelf.now seat.old }
+    ensures has { S.has shelf.now seat.new }
+    ensures gains { Gains S.gained seat.old seat.new report.old.committed report.new.committed }
+    ensures claims { Among (S.claims seat.old) (S.claims seat.new) }
+{
+    let _committed = report.committed;
+    let mut length = shelf.length(seat);
+    let mut too_large = false;
+    for holder in holders.iter_mut() {
+        if length.is_some() || too_large {
+            break;
+        }
+        too_large = ask_end(alloc, shelf, seat, holder, report);
+        length = shelf.length(seat);
+    }
+    length
+}
+
+// Asks one holder for a group, commits what its text holds of the chunks that are left, and answers those that
+// are left then.
+fn ask<S: Shelf, H: Holder>(
+    alloc: Global,
+    shelf: &S,
+    seat: &mut S::Seat,
+    holder: &mut H,
+    group: u32,
+    left: u64,
+    report: &mut Report,
+) -> u64
+    requires { S.has shelf.now seat.old }
+    ensures has { S.has shelf.now seat.new }
+    ensures gains { Gains S.gained seat.old seat.new report.old.committed report.new.committed }
+    ensures claims { (before : ℕ → Bool) → AmongAnd before group left (S.claims seat.old) → AmongAnd before group result (S.claims seat.new) }
+{
+    let _committed = report.committed;
+    let start = GROUP_BYTES * u64::from(group);
+    let Some(text) = fetched(alloc, holder, start, GROUP_BYTES, report) else {
+        return left;
+    };
+    let fixed = shelf.fixed(seat);
+    match check_slice(
+        alloc,
+        &fixed.mode,
+        &fixed.root,
+        start,
+        GROUP_BYTES,
+        text.as_slice(),
+    ) {
+        Ok(piece) => match shelf.commit(seat, group, &piece) {
+            Ok(committed) => {
+                report.committed = report
+                    .committed
+                    .saturating_add(u64::from(committed.count_ones()));
+                without(left, committed)
+            }
+            Err(fault) => {
+                if fault == StoreFault::Memory {
+                    report.count_memory();
+                }
+                left
+            }
+        },
+        Err(fault) => {
+            report.count_refused(&fault);
+            left
+        }
+    }
+}
+
+// Takes the wanted chunks of a group, asks the holders in order until none is left of those granted, and gives
+// back those that are.
+fn work_group<S: Shelf, H: Holder>(
+    alloc: Global,
+    shelf: &S,
+    seat: &mut S::Seat,
+    holders: &mut [H],
+    group: u32,
+    want: u64,
+    report: &mut Report,
+)
+    requires { S.has shelf.now seat.old }
+    ensures has { S.has shelf.now seat.new }
+    ensures gains { Gains S.gained seat.old seat.new report.old.committed report.new.committed }
+    ensures claims { Among (S.claims seat.old) (S.claims seat.new) }
+{
+    let _committed = report.committed;
+    let mut left = match shelf.take(seat, group, want) {
+        Ok(granted) => granted,
+        Err(fault) => {
+            if fault == StoreFault::Memory {
+                report.count_memory();
+            }
+            return;
+        }
+    };
+    for holder in holders.iter_mut() {
+        if left == 0 {
+            break;
+        }
+        left = ask(alloc, shelf, seat, holder, group, left, report);
+    }
+    if left == 0 {
+        return;
+    }
+    shelf.give(seat, group, left);
+}
+
+// A worker's work: it sees to it that a length is recorded, and goes round all groups that the length needs once,
+// from its own part of them on. No claim is left that it took.
+pub(crate) fn work<S: Shelf, H: Holder>(
+    alloc: Global,
+    shelf: &S,
+    seat: &mut S::Seat,
+    holders: &mut [H],
+    place: Place,
+    report: &mut Report,
+)
+    requires has { S.has shelf.now seat.old }
+    requires place { place.number < place.workers }
+    ensures has { S.has shelf.now seat.new }
+    ensures gains { Gains S.gained seat.old seat.new report.old.committed report.new.committed }
+    ensures claims { Among (S.claims seat.old) (S.claims seat.new) }
+{
+    let _committed = report.committed;
+    let Some(length) = agree(alloc, shelf, seat, holders, report) else {
+        return;
+    };
+    let chunks = length.div_ceil(CHUNK_LEN).max(1);
+    let groups = chunks.div_ceil(GROUP_LEN).min(MAX_GROUPS);
+    let first = u64::from(place.number) * groups / u64::from(place.workers);
+    for step in 0..groups {
+        let group = ((first + step) % groups) as u32;
+        work_group(
+            alloc,
+            shelf,
+            seat,
+            holders,
+            group,
+            wanted(chunks, group),
+            report,
+        );
+    }
+}

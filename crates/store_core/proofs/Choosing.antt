@@ -1,0 +1,156 @@
+-- Masks made bit by bit, and chunks marked bit by bit.
+use Rattle.std.proofs.Common.{zero, suc, ◌≡◌, ◌≢◌, ℕ, ◌+◌, ◌*◌, ◌/◌, ◌%◌, ◌^◌, ◌<◌, ◌≤◌, nat_lt, nat_eq, ◌==◌, Bool, true, false, ◌&&◌, if◌then◌else◌, List, length, set, refl, sym, ap, subst, ◌∙◌, arith, inl, inr, eqb-true, eq-eqb, get_or-set_other, get_or-set_same, get_or, ◌++◌, [], ◌∷◌, length-append, get_or-append-add}
+use Rattle.std.proofs.lemmas.Bool.{and_parts, and_from, and_left, and_right, both_ways, cases_Bool, cases_eq, lt-ltb, le-ltb}
+use Rattle.std.proofs.lemmas.Bool.Decides.{nat_tests}
+use Rattle.std.proofs.lemmas.Nat.Bits.{bit_at-zero}
+use Rattle.std.proofs.lemmas.Option.{get_or_from_slice_get, slice_get-get_or}
+use Rattle.store_core.specs.declared.slot.Slot.{Slot}
+use Rattle.store_core.specs.declared.slot.Slot.TheVariants.{Free}
+use Rattle.store_core.specs.Masks.{IsMaskOf, has_bit, in_mask}
+use Rattle.bao_check.specs.declared.checked.Checked.{Checked}
+use Rattle.store_core.specs.Slots.{AreCopies, IsCopy, slot_at}
+
+-- the mask is right for the chunks whose bits are below j, and has no other bit yet
+pub record IsMaskUpTo (group mask j : ℕ) (test : ℕ → Bool) : Type 0 where
+  pub small : mask < 2 ^ 64
+  pub below : (k : ℕ) → k < j → has_bit mask k ≡ test (64 * group + k)
+  pub above : (k : ℕ) → j ≤ k → has_bit mask k ≡ false
+
+pub has_bit-zero : (k : ℕ) → has_bit 0 k ≡ false
+unfolding has_bit
+has_bit-zero k = ap (λ x. nat_eq x 1) (bit_at-zero k)
+
+pub up_to_none : (group : ℕ) (test : ℕ → Bool) → IsMaskUpTo group 0 0 test
+up_to_none group test = record { small = omega arith; below = λ k h. absurd (omega arith); above = λ k h. has_bit-zero k }
+
+-- one more bit, which is set where the test holds
+pub up_to_more : (group m n j : ℕ) (test : ℕ → Bool) → IsMaskUpTo group m j test → n < 2 ^ 64 → has_bit n j ≡ test (64 * group + j)
+    → ((k : ℕ) → k ≢ j → has_bit n k ≡ has_bit m k) → IsMaskUpTo group n (j + 1) test
+up_to_more group m n j test up small same others = record {
+  small = small;
+  below = λ k h. elim (cases_eq k j) [
+    | inl here ↦ subst (λ (i : ℕ). has_bit n i ≡ test (64 * group + i)) (sym here) same
+    | inr other ↦ others k other ∙ up.below k (omega arith)
+  ];
+  above = λ k h. others k (λ here. omega (arith, here)) ∙ up.above k (omega arith);
+}
+
+pub up_to_same : (group m j : ℕ) (test : ℕ → Bool) → IsMaskUpTo group m j test → test (64 * group + j) ≡ false → IsMaskUpTo group m (j + 1) test
+up_to_same group m j test up fails = up_to_more group m m j test up up.small (up.above j (omega arith) ∙ sym fails) (λ k other. refl)
+
+pub up_to_all : (group mask : ℕ) (test : ℕ → Bool) → IsMaskUpTo group mask 64 test → IsMaskOf group mask test
+up_to_all group mask test up = record {
+  small = up.small;
+  bits = λ c h. let place : 64 * group + c % 64 ≡ c = omega (arith, h) in up.below (c % 64) (omega arith) ∙ ap test place;
+}
+
+-- a chunk of the group's mask
+pub in_mask_at : (group mask j : ℕ) → j < 64 → has_bit mask j ≡ true → in_mask group mask (64 * group + j) ≡ true
+in_mask_at group mask j below bit =
+    let place : (64 * group + j) / 64 ≡ group = omega arith in
+    let at : (64 * group + j) % 64 ≡ j = omega arith in
+    and_from _ _ (eq-eqb ((64 * group + j) / 64) group place) (subst (λ (k : ℕ). has_bit mask k ≡ true) (sym at) bit)
+
+-- the chunks of the group's mask whose bits are below j have the slots of their bits, and all others those they had
+abbrev pub IsPutUpTo : ℕ → ℕ → ℕ → (ℕ → Slot) → List Slot → List Slot → Type 0
+IsPutUpTo group mask j slot old new =
+    (c : ℕ) → slot_at new c ≡ (if in_mask group mask c && nat_lt (c % 64) j then slot (c % 64) else slot_at old c)
+
+pub put_none : (group mask : ℕ) (slot : ℕ → Slot) (old : List Slot) → IsPutUpTo group mask 0 slot old old
+put_none group mask slot old c = let no : nat_lt (c % 64) 0 ≡ false = le-ltb (c % 64) 0 (omega arith) in rw (and_right (in_mask group mask c) (nat_lt (c % 64) 0) no) refl
+
+pub put_all : (group mask : ℕ) (slot : ℕ → Slot) (old new : List Slot) → IsPutUpTo group mask 64 slot old new
+    → (c : ℕ) → slot_at new c ≡ (if in_mask group mask c then slot (c % 64) else slot_at old c)
+put_all group mask slot old new up c = elim (cases_Bool (in_mask group mask c)) [
+  | inl hit ↦ rw hit (rw (and_from _ _ hit (lt-ltb (c % 64) 64 (omega arith))) at (up c))
+  | inr miss ↦ rw miss (rw (and_left _ _ miss) at (up c))
+]
+
+-- a test of the bit and of the chunk, at the chunk of bit j
+pub test_at : (among group j : ℕ) (rest : ℕ → Bool) → j < 64
+    → (has_bit among ((64 * group + j) % 64) && rest (64 * group + j)) ≡ (has_bit among j && rest (64 * group + j))
+test_at among group j rest below =
+    let at : (64 * group + j) % 64 ≡ j = omega arith in ap (λ (k : ℕ). has_bit among k && rest (64 * group + j)) at
+
+same_below : (k j : ℕ) → k ≢ j → nat_lt k j ≡ nat_lt k (j + 1)
+same_below k j apart = grind (arith, nat_tests)
+
+-- the chunks below j and below j + 1 differ in the chunk of bit j alone
+same_test : (group mask c j : ℕ) → c ≢ 64 * group + j → (in_mask group mask c && nat_lt (c % 64) j) ≡ (in_mask group mask c && nat_lt (c % 64) (j + 1))
+same_test group mask c j other = elim (cases_Bool (in_mask group mask c)) [
+  | inl hit ↦
+      let of_group : c / 64 ≡ group = eqb-true (c / 64) group (and_parts (c / 64 == group) (has_bit mask (c % 64)) hit).0 in
+      let apart : c % 64 ≢ j = λ here. other (omega (arith, of_group, here)) in
+      let same : nat_lt (c % 64) j ≡ nat_lt (c % 64) (j + 1) = same_below (c % 64) j apart in
+      rw hit same
+  | inr miss ↦ rw miss refl
+]
+
+same_tests : (group mask c j : ℕ) → has_bit mask j ≡ false → (in_mask group mask c && nat_lt (c % 64) j) ≡ (in_mask group mask c && nat_lt (c % 64) (j + 1))
+same_tests group mask c j unset = elim (cases_eq c (64 * group + j)) [
+  | inr other ↦ same_test group mask c j other
+  | inl here ↦ elim (cases_Bool (in_mask group mask c)) [
+    | inl hit ↦ elim (cases_eq (c % 64) j) [
+      | inl at ↦ absurd (both_ways _ (subst (λ (k : ℕ). has_bit mask k ≡ false) (sym at) unset) (and_parts (c / 64 == group) (has_bit mask (c % 64)) hit).1)
+      | inr apart ↦ rw hit (same_below (c % 64) j apart)
+    ]
+    | inr miss ↦ rw miss refl
+  ]
+]
+
+-- one more bit: where it is set, its chunk's slot is written
+pub put_more : (group mask j : ℕ) (slot : ℕ → Slot) (old now new : List Slot) → j < 64 → IsPutUpTo group mask j slot old now → has_bit mask j ≡ true
+    → 64 * group + j < length now → new ≡ set now (64 * group + j) (slot j) → IsPutUpTo group mask (j + 1) slot old new
+put_more group mask j slot old now new below up bit within is c = elim (cases_eq c (64 * group + j)) [
+  | inl here ↦
+      let hit : in_mask group mask c ≡ true = subst (λ (k : ℕ). in_mask group mask k ≡ true) (sym here) (in_mask_at group mask j below bit) in
+      let low : nat_lt (c % 64) (j + 1) ≡ true = lt-ltb (c % 64) (j + 1) (omega (arith, here)) in
+      let bit_is : c % 64 ≡ j = omega (arith, here) in
+      let put : slot_at new c ≡ slot (c % 64) = ap (λ (xs : List Slot). slot_at xs c) is ∙ ap (λ (k : ℕ). slot_at (set now (64 * group + j) (slot j)) k) here
+      ∙ get_or-set_same now (64 * group + j) (slot j) Free within ∙ ap slot (sym bit_is) in
+      rw (and_from _ _ hit low) put
+  | inr other ↦
+      let kept : slot_at new c ≡ slot_at now c = ap (λ (xs : List Slot). slot_at xs c) is ∙ get_or-set_other now (64 * group + j) c (slot j) Free other in
+      kept ∙ up c ∙ ap (λ (b : Bool). if b then slot (c % 64) else slot_at old c) (same_test group mask c j other)
+]
+
+pub put_less : (group mask j : ℕ) (slot : ℕ → Slot) (old now new : List Slot) → j < 64 → IsPutUpTo group mask j slot old now → has_bit mask j ≡ false
+    → new ≡ now → IsPutUpTo group mask (j + 1) slot old new
+put_less group mask j slot old now new below up bit is c =
+    ap (λ (xs : List Slot). slot_at xs c) is ∙ up c ∙ ap (λ (b : Bool). if b then slot (c % 64) else slot_at old c) (same_tests group mask c j bit)
+
+-- an element, read with one default or another
+pub read_again : (xs : List Slot) (i : ℕ) (r : Slot) → i < length xs → r ≡ get_or xs i r → r ≡ slot_at xs i
+read_again xs i r within is = is ∙ sym (get_or_from_slice_get xs i (get_or xs i r) Free (slice_get-get_or xs i r within))
+
+-- what is taken out of the slots at hand leaves those to come
+pub rest_more : (first now new : List Slot) (j : ℕ) (put : Slot) → ((k : ℕ) → j ≤ k → slot_at now k ≡ slot_at first k) → new ≡ set now j put
+    → (k : ℕ) → j + 1 ≤ k → slot_at new k ≡ slot_at first k
+rest_more first now new j put rest is k above =
+    let other : k ≢ j = λ here. omega (arith, here, above) in
+    ap (λ (xs : List Slot). slot_at xs k) is ∙ get_or-set_other now j k put Free other ∙ rest k (omega arith)
+
+-- a slot of the first of two lists
+slot_left : (xs ys : List Slot) (k : ℕ) → k < length xs → slot_at (xs ++ ys) k ≡ slot_at xs k
+slot_left [] ys k below = absurd (omega arith)
+slot_left (x ∷ xs) ys zero below = refl
+slot_left (x ∷ xs) ys (suc k) below = slot_left xs ys k (omega arith)
+
+-- one more slot of the mask
+pub copies_more : (piece : Checked) (group mask n : ℕ) (xs ys : List Slot) (slot : Slot) → AreCopies piece group mask n xs
+    → (has_bit mask n ≡ true → IsCopy piece (64 * group + n) slot) → ys ≡ xs ++ slot ∷ [] → AreCopies piece group mask (n + 1) ys
+copies_more piece group mask n xs ys slot copies here is = record {
+  count = ap length is ∙ length-append xs (slot ∷ []) ∙ omega (arith, copies.count);
+  each = λ k below bit. elim (cases_eq k n) [
+    | inl at ↦
+        let last : slot_at (xs ++ slot ∷ []) (length xs + 0) ≡ slot = get_or-append-add xs (slot ∷ []) 0 Free in
+        let place : length xs + 0 ≡ k = omega (arith, copies.count, at) in
+        let found : slot ≡ slot_at ys k = sym last ∙ ap (λ (i : ℕ). slot_at (xs ++ slot ∷ []) i) place ∙ ap (λ (zs : List Slot). slot_at zs k) (sym is) in
+        subst (λ (s : Slot). IsCopy piece (64 * group + k) s) found
+        (subst (λ (i : ℕ). IsCopy piece (64 * group + i) slot) (sym at) (here (subst (λ (i : ℕ). has_bit mask i ≡ true) at bit)))
+    | inr other ↦
+        let inside : k < length xs = omega (arith, copies.count, below, other) in
+        let found : slot_at xs k ≡ slot_at ys k = sym (slot_left xs (slot ∷ []) k inside) ∙ ap (λ (zs : List Slot). slot_at zs k) (sym is) in
+        subst (λ (s : Slot). IsCopy piece (64 * group + k) s) found (copies.each k (omega (arith, below, other)) bit)
+  ];
+}

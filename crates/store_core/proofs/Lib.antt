@@ -1,0 +1,17 @@
+pub mod Tells
+pub mod Choosing
+pub mod Lasting
+pub mod Determined
+pub mod Origins
+pub mod ReadLaws
+pub mod Bound
+pub mod Joining
+pub mod SameRoot
+pub mod Copying
+pub mod Stored
+pub mod BoundStore
+pub mod CellWords
+pub mod Served
+pub mod Stepping
+pub mod Running
+pub mod OneRun

@@ -1,0 +1,82 @@
+use Rattle.std.proofs.Common.{◌*◌, ◌<◌, ℕ, Some, [], refl, ap, subst, arith}
+use Rattle.bao_check.specs.Tail.{tail_piece}
+use Rattle.store_core.specs.declared.history.Call.TheVariants.{Settle}
+use Rattle.store_core.specs.declared.history.Settling.TheVariants.{Settled, Known, Differs}
+use Rattle.store_core.specs.Pieces.{IsAcceptedPiece, piece_of}
+use Rattle.store_core.specs.Slots.{state_in}
+use Rattle.store_core.proofs.Stored.{accepted_piece, is_of_piece, not_of_piece, reached_by, same_state, settle_right, settling_differs, settling_known, settling_none}
+use Rattle.store_core.proofs.store.Store.settle.Goals as goal
+
+pub returns-then-not-is_of : goal.returns-then-not-is_of
+returns-then-not-is_of c =
+    let s = c.args.self.now in (
+      not_of_piece s.fixed (tail_piece c.args.tail.now) c.root.result c.mode.result c.root.ensures c.mode.ensures (λ is. let yes = c.is_of.ensures.1 is in cc),
+      record { fixed = refl; state = refl },
+    )
+
+pub returns-then-length-from : goal.returns-then-length-from
+returns-then-length-from c =
+    let s = c.args.self.now in
+    let is = c.is_of.ensures.0 c.if-not-is_of.false in (
+      is_of_piece s.fixed (tail_piece c.args.tail.now) c.root.result c.mode.result c.root.ensures c.mode.ensures is.0 is.1,
+      subst (λ (n : ℕ). 1024 * s.fixed.capacity < n) c.length-length.ensures.value (omega (arith, c.if-length-from.true, c.from.ensures)),
+      record { fixed = refl; state = refl },
+    )
+
+pub invariant_of-self : goal.invariant_of-self
+invariant_of-self c =
+    let s = c.args.self.now in
+    let piece = tail_piece c.args.tail.now in
+    let is = c.is_of.ensures.0 c.if-not-is_of.false in
+    let accepted : IsAcceptedPiece s.fixed (piece_of piece) = accepted_piece s.fixed piece c.is_last.ensures.bytes c.is_last.ensures.accepted
+    (is_of_piece s.fixed piece c.root.result c.mode.result c.root.ensures c.mode.ensures is.0 is.1) in
+    let right = settle_right s.fixed s.slots.items s.recorded piece c.length-length.result Settled accepted c.is_last.ensures.last c.length-length.ensures.value
+    (omega (arith, c.if-length-from.false, c.from.ensures)) (settling_none s.recorded c.length-length.result c.in-None.is) [] in
+    record {
+      limit = s.limit;
+      within = s.within;
+      reached = reached_by s.fixed (state_in s.slots.items s.recorded) (state_in s.slots.items (Some c.length-length.result)) [] (Settle (piece_of piece) Settled) right
+          (same_state _ _ (λ x. refl) (λ x. refl) (ap (λ (n : ℕ). Some n) c.length-length.ensures.value)) s.reached;
+    }
+
+pub returns-in-None : goal.returns-in-None
+returns-in-None c =
+    let s = c.args.self.now in
+    let piece = tail_piece c.args.tail.now in
+    let is = c.is_of.ensures.0 c.if-not-is_of.false in
+    let accepted : IsAcceptedPiece s.fixed (piece_of piece) = accepted_piece s.fixed piece c.is_last.ensures.bytes c.is_last.ensures.accepted
+    (is_of_piece s.fixed piece c.root.result c.mode.result c.root.ensures c.mode.ensures is.0 is.1) in
+    λ who. record {
+      fixed = refl;
+      right = settle_right s.fixed s.slots.items s.recorded piece c.length-length.result Settled accepted c.is_last.ensures.last c.length-length.ensures.value
+          (omega (arith, c.if-length-from.false, c.from.ensures)) (settling_none s.recorded c.length-length.result c.in-None.is) who;
+      after = same_state _ _ (λ x. refl) (λ x. refl) (ap (λ (n : ℕ). Some n) c.length-length.ensures.value);
+    }
+
+pub returns-then-known-length : goal.returns-then-known-length
+returns-then-known-length c =
+    let s = c.args.self.now in
+    let piece = tail_piece c.args.tail.now in
+    let is = c.is_of.ensures.0 c.if-not-is_of.false in
+    let accepted : IsAcceptedPiece s.fixed (piece_of piece) = accepted_piece s.fixed piece c.is_last.ensures.bytes c.is_last.ensures.accepted
+    (is_of_piece s.fixed piece c.root.result c.mode.result c.root.ensures c.mode.ensures is.0 is.1) in
+    λ who. record {
+      fixed = refl;
+      right = settle_right s.fixed s.slots.items s.recorded piece c.length-length.result Known accepted c.is_last.ensures.last c.length-length.ensures.value
+          (omega (arith, c.if-length-from.false, c.from.ensures)) (settling_known s.recorded c.in-Some.known c.length-length.result c.in-Some.is c.if-known-length.true) who;
+      after = refl;
+    }
+
+pub returns-else-known-length : goal.returns-else-known-length
+returns-else-known-length c =
+    let s = c.args.self.now in
+    let piece = tail_piece c.args.tail.now in
+    let is = c.is_of.ensures.0 c.if-not-is_of.false in
+    let accepted : IsAcceptedPiece s.fixed (piece_of piece) = accepted_piece s.fixed piece c.is_last.ensures.bytes c.is_last.ensures.accepted
+    (is_of_piece s.fixed piece c.root.result c.mode.result c.root.ensures c.mode.ensures is.0 is.1) in
+    λ who. record {
+      fixed = refl;
+      right = settle_right s.fixed s.slots.items s.recorded piece c.length-length.result Differs accepted c.is_last.ensures.last c.length-length.ensures.value
+          (omega (arith, c.if-length-from.false, c.from.ensures)) (settling_differs s.recorded c.in-Some.known c.length-length.result c.in-Some.is c.if-known-length.false) who;
+      after = refl;
+    }

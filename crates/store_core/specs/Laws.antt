@@ -1,0 +1,175 @@
+-- The laws of histories.
+use Rattle.std.specs.Prelude.{◌≡◌, ◌⊎◌, ℕ, ◌+◌, ◌*◌, ◌/◌, ◌%◌, ◌<◌, ◌≤◌, Bool, true, false, if◌then◌else◌, List, [], ◌++◌, length, Contains, count_by, None, Some, slice_get, slice_index, ◌||◌}
+use Rattle.b3tree.specs.Hashing.{hash}
+use Rattle.b3tree.specs.Valid.{AreBytes, IsKeyed}
+use Rattle.bao_check.specs.Inputs.{NamesPair}
+use Rattle.bao_check.specs.Pieces.{chunk_of}
+use Rattle.store_core.specs.declared.fixed.Fixed.{Fixed}
+use Rattle.store_core.specs.declared.history.Call.{Call}
+use Rattle.store_core.specs.declared.history.Call.TheVariants.{Take, Give, Commit, Settle, Read, Length}
+use Rattle.store_core.specs.declared.history.Event.{Event}
+use Rattle.store_core.specs.declared.history.Piece.{Piece}
+use Rattle.store_core.specs.declared.history.Settling.TheVariants.{Settled}
+use Rattle.store_core.specs.Events.{IsRight}
+use Rattle.store_core.specs.Histories.{AreOfOthers, IsLegal, events_of, state_after}
+use Rattle.store_core.specs.Masks.{in_mask}
+use Rattle.store_core.specs.Names.{Name, has_name, share_name}
+use Rattle.store_core.specs.Pieces.{EndsBlob, IsAcceptedPiece, chunk_bytes, length_of, places_in}
+use Rattle.bao_check.specs.declared.checked.Checked.{Checked}
+use Rattle.store_core.specs.declared.micro.MicroStep.{MicroStep}
+use Rattle.store_core.specs.declared.micro.Reply.{Reply}
+use Rattle.store_core.specs.Machine.{Machine, start, store_of}
+use Rattle.store_core.specs.Schedules.{AreTexts, Runs}
+use Rattle.store_core.specs.declared.view.SeatView.{SeatView}
+use Rattle.store_core.specs.Views.{IsJoined, mine, names_of, seat_claims, split_first}
+use Rattle.store_core.specs.States.{State, byte_at, claims, is_claimed, is_held, read_bytes}
+
+-- a call without its reply
+abbrev pub question : Call → Call
+question (Take group want granted) = Take group want 0
+question (Give group mask given) = Give group mask 0
+question (Commit group piece committed) = Commit group piece 0
+question (Settle piece answer) = Settle piece Settled
+question (Read at len bytes) = Read at len []
+question (Length recorded) = Length None
+
+-- The state after a history determines every reply: two right replies to one question of one caller are one.
+abbrev pub StateDetermines : Type 0
+StateDetermines = (fixed : Fixed) (s : State) (who : List Name) (one other : Call) → IsRight fixed s who one → IsRight fixed s who other
+    → question one ≡ question other → one ≡ other
+
+-- What is held stays, and so does a recorded length.
+abbrev pub HeldLasts : Type 0
+HeldLasts = (fixed : Fixed) (history more : List Event) (c : ℕ) (bytes : List ℕ) → IsLegal fixed (history ++ more)
+    → (state_after history).held c ≡ Some bytes → (state_after (history ++ more)).held c ≡ Some bytes
+
+abbrev pub RecordLasts : Type 0
+RecordLasts = (fixed : Fixed) (history more : List Event) (l : ℕ) → IsLegal fixed (history ++ more)
+    → (state_after history).recorded ≡ Some l → (state_after (history ++ more)).recorded ≡ Some l
+
+-- Claims are apart: no chunk is claimed by two callers without a common name, none is both claimed and held, and
+-- all that are lie below the capacity. A caller's claims stay as long as others alone call.
+abbrev pub ClaimsApart : Type 0
+ClaimsApart = (s : State) (ours theirs : List Name) (c : ℕ) → share_name ours theirs ≡ false → claims theirs s c ≡ true → claims ours s c ≡ false
+
+pub record IsSound (fixed : Fixed) (s : State) : Type 0 where
+  pub apart : (c : ℕ) → is_held s c ≡ true → is_claimed s c ≡ false
+  pub held_below : (c : ℕ) → is_held s c ≡ true → c < fixed.capacity
+  pub claimed_below : (c : ℕ) → is_claimed s c ≡ true → c < fixed.capacity
+
+abbrev pub LegalIsSound : Type 0
+LegalIsSound = (fixed : Fixed) (history : List Event) → IsLegal fixed history → IsSound fixed (state_after history)
+
+abbrev pub ClaimsLast : Type 0
+ClaimsLast = (fixed : Fixed) (history more : List Event) (names : List Name) (c : ℕ) → IsLegal fixed (history ++ more) → AreOfOthers names more
+    → claims names (state_after (history ++ more)) c ≡ claims names (state_after history) c
+
+-- whether an event commits the chunk
+abbrev pub commits : ℕ → Call → Bool
+commits c (Take group want granted) = false
+commits c (Give group mask given) = false
+commits c (Commit group piece committed) = in_mask group committed c
+commits c (Settle piece answer) = false
+commits c (Read at len bytes) = false
+commits c (Length recorded) = false
+
+-- Each chunk that is held stands in exactly one Commit of the history, and no other does in any.
+abbrev pub CommittedOnce : Type 0
+CommittedOnce = (fixed : Fixed) (history : List Event) (c : ℕ) → IsLegal fixed history
+    → count_by (λ e. commits c e.call) history ≡ (if is_held (state_after history) c then 1 else 0)
+
+-- The bytes are chunk c of an accepted piece that a history committed.
+pub record IsCommitted (fixed : Fixed) (history : List Event) (c : ℕ) (bytes : List ℕ) : Type 0 where
+  pub who : List Name
+  pub group : ℕ
+  pub piece : Piece
+  pub mask : ℕ
+  pub there : Contains history (record { who = who; call = Commit group piece mask })
+  pub accepted : IsAcceptedPiece fixed piece
+  pub stored : in_mask group mask c ≡ true
+  pub has : chunk_bytes piece c ≡ Some bytes
+
+-- The length is that of an accepted piece by which a history settled it.
+pub record IsSettled (fixed : Fixed) (history : List Event) (l : ℕ) : Type 0 where
+  pub who : List Name
+  pub piece : Piece
+  pub there : Contains history (record { who = who; call = Settle piece Settled })
+  pub accepted : IsAcceptedPiece fixed piece
+  pub ends : EndsBlob piece
+  pub fits : length_of piece ≤ 1024 * fixed.capacity
+  pub is : length_of piece ≡ l
+
+abbrev pub HeldIsCommitted : Type 0
+HeldIsCommitted = (fixed : Fixed) (history : List Event) (c : ℕ) (bytes : List ℕ) → IsLegal fixed history
+    → (state_after history).held c ≡ Some bytes → IsCommitted fixed history c bytes
+
+abbrev pub RecordIsSettled : Type 0
+RecordIsSettled = (fixed : Fixed) (history : List Event) (l : ℕ) → IsLegal fixed history → (state_after history).recorded ≡ Some l
+    → IsSettled fixed history l
+
+-- the bytes have the store's root as their hash
+pub record IsBlob (fixed : Fixed) (blob : List ℕ) : Type 0 where
+  pub bytes : AreBytes blob
+  pub root : hash fixed.mode blob ≡ fixed.root.0
+
+-- two inputs are named with one chaining value, one of the blob's and one of the piece's
+abbrev pub PairNamed : Fixed → List ℕ → Piece → Type 0
+PairNamed fixed blob piece = NamesPair fixed.mode blob piece.text (places_in piece)
+
+-- For each blob with the root: a chunk that is held is the blob's chunk of that number, a byte that is held is the
+-- blob's byte there, and a recorded length is the blob's; or a pair is named from that blob and from the committed
+-- or settled piece that it comes from.
+abbrev pub HeldBinds : Type 0
+HeldBinds = (fixed : Fixed) (history : List Event) (blob : List ℕ) (c : ℕ) (bytes : List ℕ) → IsKeyed fixed.mode → IsBlob fixed blob
+    → IsLegal fixed history → (state_after history).held c ≡ Some bytes
+    → (chunk_of blob c ≡ Some bytes) ⊎ ((from : IsCommitted fixed history c bytes) × PairNamed fixed blob from.piece)
+
+-- x is the byte at position q of a chunk that a history committed
+pub record ByteFrom (fixed : Fixed) (history : List Event) (q x : ℕ) : Type 0 where
+  pub bytes : List ℕ
+  pub chunk : IsCommitted fixed history (q / 1024) bytes
+  pub byte : slice_get bytes (q % 1024) ≡ Some x
+
+abbrev pub ByteBinds : Type 0
+ByteBinds = (fixed : Fixed) (history : List Event) (blob : List ℕ) (q x : ℕ) → IsKeyed fixed.mode → IsBlob fixed blob
+    → IsLegal fixed history → byte_at (state_after history) q ≡ Some x
+    → (slice_get blob q ≡ Some x) ⊎ ((from : ByteFrom fixed history q x) × PairNamed fixed blob from.chunk.piece)
+
+abbrev pub RecordBinds : Type 0
+RecordBinds = (fixed : Fixed) (history : List Event) (blob : List ℕ) (l : ℕ) → IsKeyed fixed.mode → IsBlob fixed blob
+    → IsLegal fixed history → (state_after history).recorded ≡ Some l
+    → (l ≡ length blob) ⊎ ((from : IsSettled fixed history l) × PairNamed fixed blob from.piece)
+
+-- The bytes are those from position `at` on, as far as they are held: all `len` of them, or those before the least
+-- position of the range that isn't held.
+pub record IsRead (s : State) (at len : ℕ) (bytes : List ℕ) : Type 0 where
+  pub within : length bytes ≤ len
+  pub held : (i : ℕ) → i < length bytes → byte_at s (at + i) ≡ Some (slice_index bytes i)
+  pub missing : length bytes < len → byte_at s (at + length bytes) ≡ None
+
+abbrev pub ReadMeans : Type 0
+ReadMeans = (s : State) (at len : ℕ) (bytes : List ℕ) → (bytes ≡ read_bytes s at len → IsRead s at len bytes)
+    × (IsRead s at len bytes → bytes ≡ read_bytes s at len)
+
+-- A split leaves the first seat's names, so its calls and claims. A joined seat has the names of both, each seat's own
+-- calls are the same in what it has seen, and it claims what either claimed.
+abbrev pub SplitKeeps : Type 0
+SplitKeeps = (view : SeatView) → names_of (split_first view) ≡ names_of view
+
+abbrev pub JoinKeeps : Type 0
+JoinKeeps = (first second joined : SeatView) → IsJoined first second joined
+    → ((name : Name) → has_name (names_of joined) name ≡ (has_name (names_of first) name || has_name (names_of second) name))
+    × (events_of (names_of first) joined.seen ≡ mine first) × (events_of (names_of second) joined.seen ≡ mine second)
+    × (IsLegal joined.fixed joined.seen → (c : ℕ) → seat_claims joined c ≡ (seat_claims first c || seat_claims second c))
+
+-- A run of the machine of schedules, with pieces whose texts are of bytes, is a legal history of the store, and the
+-- words stand for the state after it.
+abbrev pub RunsAreLegal : Type 0
+RunsAreLegal = (fixed : Fixed) (pieces : List Checked) (steps : List MicroStep) (replies : List Reply) (history : List Event) (last : Machine)
+    → AreTexts pieces → Runs fixed pieces start steps replies history last → IsLegal fixed history × (state_after history ≡ store_of last)
+
+-- A schedule has one run: its steps determine the replies, the events and the end.
+abbrev pub RunsAreOne : Type 0
+RunsAreOne = (fixed : Fixed) (pieces : List Checked) (m : Machine) (steps : List MicroStep) (replies replies' : List Reply) (history history' : List Event) (last last' : Machine)
+    → Runs fixed pieces m steps replies history last → Runs fixed pieces m steps replies' history' last'
+    → (replies ≡ replies') × (history ≡ history') × (last ≡ last')

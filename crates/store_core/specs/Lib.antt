@@ -1,0 +1,15 @@
+pub mod Masks
+pub mod Names
+pub mod Pieces
+pub mod States
+pub mod Events
+pub mod Histories
+pub mod Views
+pub mod Cells
+pub mod Machine
+pub mod Schedules
+pub mod Faults
+pub mod Slots
+pub mod Reached
+pub mod Stores
+pub mod Laws

@@ -1,0 +1,114 @@
+-- The machine of schedules: words in place of chunks, and calls in steps.
+use Rattle.std.specs.Prelude.{ℕ, ◌+◌, ◌-◌, ◌*◌, ◌/◌, ◌%◌, zero, suc, nat_le, nat_lt, ◌==◌, Bool, false, ◌&&◌, ◌||◌, if◌then◌else◌, List, [], ◌∷◌, ◌++◌, length, Option, None, Some, is_none, option_map}
+use Rattle.store_core.specs.declared.fixed.Fixed.{Fixed}
+use Rattle.store_core.specs.declared.history.Piece.{Piece}
+use Rattle.store_core.specs.Cells.{cell_byte, cell_bytes}
+use Rattle.store_core.specs.Masks.{has_bit}
+use Rattle.store_core.specs.Pieces.{chunk_bytes, holds_chunk}
+use Rattle.store_core.specs.States.{State, byte_and}
+
+-- a read under way: its first position, its length, and the bytes copied so far
+pub record Reading : Type 0 where
+  pub at : ℕ
+  pub len : ℕ
+  pub bytes : List ℕ
+
+-- a seat: its current piece, which words of which chunks it wrote from it, and a read under way
+pub record Seat : Type 0 where
+  pub piece : Option Piece
+  pub written : ℕ → ℕ → Bool
+  pub reading : Option Reading
+
+-- The words: word w of chunk c's cell, the held word of a group, in which bit j stands for chunk 64 * group + j. The
+-- seat that claims a chunk, the recorded length, and the seats.
+pub record Machine : Type 0 where
+  pub cell : ℕ → ℕ → ℕ
+  pub held_word : ℕ → ℕ
+  pub claim : ℕ → Option ℕ
+  pub recorded : Option ℕ
+  pub seat : ℕ → Seat
+
+-- nothing is written, and no seat has done anything
+abbrev pub no_seat : Seat
+no_seat = record { piece = None; written = λ c w. false; reading = None }
+
+abbrev pub start : Machine
+start = record { cell = λ c w. 0; held_word = λ g. 0; claim = λ c. None; recorded = None; seat = λ n. no_seat }
+
+-- whether a chunk's held bit is set
+abbrev pub is_shown : Machine → ℕ → Bool
+is_shown m c = has_bit (m.held_word (c / 64)) (c % 64)
+
+-- the store that the words stand for: the chunks whose held bit is set, with the bytes of their cells; a seat's name is
+-- its number
+abbrev pub store_of : Machine → State
+store_of m = record {
+  held = λ c. if is_shown m c then Some (cell_bytes (m.cell c)) else None;
+  claim = λ c. option_map (λ n. n ∷ []) (m.claim c);
+  recorded = m.recorded;
+}
+
+-- how many groups there are
+abbrev pub groups : Fixed → ℕ
+groups fixed = (fixed.capacity + 63) / 64
+
+-- the seat with this number, changed
+abbrev pub with_seat : Machine → ℕ → Seat → Machine
+with_seat m n seat = record m { seat = λ k. if k == n then seat else m.seat k }
+
+-- whether a chunk is claimed by the seat
+abbrev pub is_number : ℕ → Option ℕ → Bool
+is_number n None = false
+is_number n (Some k) = k == n
+
+abbrev pub seat_has : Machine → ℕ → ℕ → Bool
+seat_has m n c = is_number n (m.claim c)
+
+-- whether a current piece holds the chunk, and its bytes
+abbrev pub current_holds : Option Piece → ℕ → Bool
+current_holds None c = false
+current_holds (Some piece) c = holds_chunk piece c
+
+abbrev pub bytes_or_none : Option (List ℕ) → List ℕ
+bytes_or_none None = []
+bytes_or_none (Some bytes) = bytes
+
+abbrev pub current_bytes : Option Piece → ℕ → List ℕ
+current_bytes None c = []
+current_bytes (Some piece) c = bytes_or_none (chunk_bytes piece c)
+
+-- Reads. The position where a read goes on, and the group whose held word the next load is of: that of the position, or
+-- group 0 where the position is at or above 1024 times the capacity or nothing is asked.
+abbrev pub position : Reading → ℕ
+position r = r.at + length r.bytes
+
+abbrev pub loaded_group : Fixed → Reading → ℕ
+loaded_group fixed r = if nat_lt (position r) (1024 * fixed.capacity) && nat_lt 0 r.len then position r / 65536 else 0
+
+-- the byte of a position as the words have it
+abbrev pub shown_byte : Machine → ℕ → Option ℕ
+shown_byte m q =
+    if is_shown m (q / 1024) && nat_lt (q % 1024) (m.cell (q / 1024) 0) then Some (cell_byte (m.cell (q / 1024)) (q % 1024)) else None
+
+-- the bytes from position p on, at most n, while they lie in the group and are held
+abbrev pub copied : Machine → ℕ → ℕ → ℕ → List ℕ
+copied m group p zero = []
+copied m group p (suc n) = if p / 65536 == group then byte_and (shown_byte m p) (copied m group (p + 1) n) else []
+
+-- the read after a load
+abbrev pub loaded : Fixed → Machine → Reading → Reading
+loaded fixed m r = record r { bytes = r.bytes ++ copied m (loaded_group fixed r) (position r) (r.len - length r.bytes) }
+
+-- A read ends with all its bytes, at a position of the loaded group that isn't held, or at one at or above 1024 times
+-- the capacity.
+abbrev pub is_whole : Reading → Bool
+is_whole r = length r.bytes == r.len
+
+abbrev pub is_over : Fixed → Machine → ℕ → Reading → Bool
+is_over fixed m group r =
+    is_whole r || (((position r / 65536 == group) && is_none (shown_byte m (position r))) || nat_le (1024 * fixed.capacity) (position r))
+
+-- the read that a load goes on with: the seat's, or one that begins
+abbrev pub read_of : Option Reading → ℕ → ℕ → Reading
+read_of None at len = record { at = at; len = len; bytes = [] }
+read_of (Some r) at len = r

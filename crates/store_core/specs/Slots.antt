@@ -1,0 +1,67 @@
+-- Places of chunks, and the state that a list of them stands for. A chunk past the list's end is free.
+use Rattle.std.specs.Prelude.{◌≡◌, ◌+◌, ◌*◌, ◌<◌, length, ℕ, ◌==◌, Bool, true, false, ◌&&◌, List, [], ◌∷◌, Option, None, Some, slice_index_or, ◌/◌, ◌%◌, option_and_then, slice_get}
+use Rattle.bao_check.specs.declared.checked.Checked.{Checked}
+use Rattle.store_core.specs.declared.slot.Pick.{Pick}
+use Rattle.store_core.specs.declared.slot.Pick.TheVariants as kinds
+use Rattle.store_core.specs.declared.slot.Slot.{Slot}
+use Rattle.store_core.specs.declared.slot.Slot.TheVariants.{Free, Claimed, Held}
+use Rattle.store_core.specs.Masks.{has_bit}
+use Rattle.store_core.specs.Names.{Name}
+use Rattle.store_core.specs.Pieces.{chunk_bytes, holds_chunk, piece_of}
+use Rattle.store_core.specs.States.{State}
+
+-- the names of the caller with a seat's number
+abbrev pub caller : ℕ → List Name
+caller seat = (seat ∷ []) ∷ []
+
+abbrev pub held_in : Slot → Option (List ℕ)
+held_in Free = None
+held_in (Claimed seat) = None
+held_in (Held bytes) = Some bytes.items
+
+abbrev pub claim_in : Slot → Option Name
+claim_in Free = None
+claim_in (Claimed seat) = Some (seat ∷ [])
+claim_in (Held bytes) = None
+
+abbrev pub slot_at : List Slot → ℕ → Slot
+slot_at slots c = slice_index_or slots c Free
+
+abbrev pub state_in : List Slot → Option ℕ → State
+state_in slots recorded = record { held = λ c. held_in (slot_at slots c); claim = λ c. claim_in (slot_at slots c); recorded = recorded }
+
+-- the byte at position q
+abbrev pub slot_byte : List Slot → ℕ → Option ℕ
+slot_byte slots q = option_and_then (λ bytes. slice_get bytes (q % 1024)) (held_in (slot_at slots (q / 1024)))
+
+-- whether the seat claims the chunk
+abbrev pub is_of : ℕ → Slot → Bool
+is_of seat Free = false
+is_of seat (Claimed n) = n == seat
+is_of seat (Held bytes) = false
+
+abbrev pub is_free_slot : Slot → Bool
+is_free_slot Free = true
+is_free_slot (Claimed n) = false
+is_free_slot (Held bytes) = false
+
+-- whether a chunk is one of those that a call is about
+abbrev pub picks : Pick → ℕ → Slot → Bool
+picks kinds.Free c slot = is_free_slot slot
+picks (kinds.Claimed seat) c slot = is_of seat slot
+picks (kinds.InPiece seat piece) c slot = is_of seat slot && holds_chunk (piece_of piece) c
+
+-- the place of a chunk that this seat claims, or none
+abbrev pub claimed_slot : Option ℕ → Slot
+claimed_slot None = Free
+claimed_slot (Some seat) = Claimed seat
+
+-- the slot is that of chunk c of the piece: with its bytes where the piece holds it, and free otherwise
+pub record IsCopy (piece : Checked) (c : ℕ) (slot : Slot) : Type 0 where
+  pub bytes : held_in slot ≡ chunk_bytes (piece_of piece) c
+  pub unclaimed : claim_in slot ≡ None
+
+-- there are n slots, and those of the mask's bits are of the group's chunks
+pub record AreCopies (piece : Checked) (group mask n : ℕ) (ready : List Slot) : Type 0 where
+  pub count : length ready ≡ n
+  pub each : (j : ℕ) → j < n → has_bit mask j ≡ true → IsCopy piece (64 * group + j) (slot_at ready j)

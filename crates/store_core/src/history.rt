@@ -1,0 +1,72 @@
+use std::collections::LinkedList;
+
+// The types of histories. Contracts and views speak of their values; no program makes one.
+
+/// A text and the slice (start, len) as which it is accepted, under the root and in the mode of a store.
+#[derive(Drop)]
+pub struct Piece {
+    pub start: u64,
+    pub len: u64,
+    pub text: LinkedList<u8>,
+}
+
+/// What a settled length meets. An event has one of the first three answers.
+#[derive(Clone, Copy, Debug, PartialEq, Eq)]
+pub enum Settling {
+    /// None was recorded: it is recorded now.
+    Settled,
+    /// The same was recorded.
+    Known,
+    /// Another was recorded, and stays.
+    Differs,
+    /// The piece is of another root or mode: nothing is asked. Number 804.
+    OtherRoot,
+    /// The length is above what the store has room for: nothing is asked. Number 805.
+    TooLarge,
+}
+
+/// A call of a store with its reply, which stands last. A mask is of the chunks of a group: bit j stands for
+/// chunk 64 * group + j.
+#[derive(Drop)]
+pub enum Call {
+    /// Chunks are asked for, and claimed: the wanted mask, and that of the chunks granted.
+    Take {
+        group: u32,
+        want: u64,
+        granted: u64,
+    },
+    /// Claims end: the mask of those given up, and of those that were the caller's.
+    Give {
+        group: u32,
+        mask: u64,
+        given: u64,
+    },
+    /// Chunks of a piece are stored: the mask of those that the caller claimed and the piece holds.
+    Commit {
+        group: u32,
+        piece: Piece,
+        committed: u64,
+    },
+    /// The length is settled by a piece that holds the last chunk.
+    Settle {
+        piece: Piece,
+        answer: Settling,
+    },
+    /// Bytes are read from position `at` on, `len` of them or those before the first that isn't held.
+    Read {
+        at: u64,
+        len: u64,
+        bytes: LinkedList<u8>,
+    },
+    /// The recorded length, if there is one.
+    Length {
+        recorded: Option<u64>,
+    },
+}
+
+/// A call and its caller: a set of names, in dictionary order. A name is a list of numbers.
+#[derive(Drop)]
+pub struct Event {
+    pub who: LinkedList<LinkedList<u64>>,
+    pub call: Call,
+}

@@ -1,0 +1,59 @@
+ghost use Rattle.store_core.specs.Laws.{ByteBinds, ClaimsApart, ClaimsLast, CommittedOnce, HeldBinds, HeldIsCommitted, HeldLasts, JoinKeeps, LegalIsSound, ReadMeans, RecordBinds, RecordIsSettled, RecordLasts, RunsAreLegal, RunsAreOne, SplitKeeps, StateDetermines};
+
+/// The state after a history determines every reply. A law: nothing runs.
+pub fn state_determines()
+    ensures { StateDetermines }
+{}
+
+/// What a store holds stays with its bytes, and so does a recorded length. A law: nothing runs.
+pub fn held_lasts()
+    ensures held { HeldLasts }
+    ensures recorded { RecordLasts }
+{}
+
+/// No chunk is claimed by two callers without a common name, none is both claimed and held, and all that are
+/// lie below the capacity. A caller's claims stay as long as others alone call. A law: nothing runs.
+pub fn claims_apart()
+    ensures apart { ClaimsApart }
+    ensures sound { LegalIsSound }
+    ensures last { ClaimsLast }
+{}
+
+/// Each chunk that is held stands in exactly one commit of the history, with the bytes of its piece, and a
+/// recorded length is that of a piece by which it was settled. A law: nothing runs.
+pub fn held_is_committed()
+    ensures committed { HeldIsCommitted }
+    ensures once { CommittedOnce }
+    ensures settled { RecordIsSettled }
+{}
+
+/// The bytes read are those of the range that are held, up to the least position that isn't. A law: nothing
+/// runs.
+pub fn read_means()
+    ensures { ReadMeans }
+{}
+
+/// For each blob with the root of a store: a chunk that the store holds is the blob's chunk of that number, a
+/// byte that it holds is the blob's byte there, and a recorded length is the blob's; or a pair of inputs is
+/// named, one of the blob's and one of the piece's that was committed or settled, that differ and have one
+/// chaining value. A law: nothing runs.
+pub fn held_binds()
+    ensures chunk { HeldBinds }
+    ensures byte { ByteBinds }
+    ensures length { RecordBinds }
+{}
+
+/// A split leaves a seat's names, and so its calls and claims. A joined seat has the names, the calls and the
+/// claims of both. A law: nothing runs.
+pub fn join_keeps()
+    ensures split { SplitKeeps }
+    ensures join { JoinKeeps }
+{}
+
+/// A schedule that runs from the start, each step legal where it stands, is a legal history of the store, and its
+/// words stand for the state after that history. It has one run: its steps determine the replies, the events and the
+/// end. A law: nothing runs.
+pub fn runs_are_legal()
+    ensures legal { RunsAreLegal }
+    ensures one { RunsAreOne }
+{}

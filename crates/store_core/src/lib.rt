@@ -1,0 +1,26 @@
+//! The one-thread store of a blob's chunks: its state, its events, their histories, and a seat's view.
+#![tactic(auto)]
+
+pub use fault::{BadCapacity, Missing, StoreFault};
+pub use fixed::Fixed;
+pub use history::{Call, Event, Piece, Settling};
+pub use law::{
+    claims_apart, held_binds, held_is_committed, held_lasts, join_keeps, read_means,
+    runs_are_legal, state_determines,
+};
+pub use micro::{MicroStep, ReadBytes, Reply};
+pub use store::{MAX_CAPACITY, Store};
+pub use view::{Named, SeatView, StoredWord};
+
+mod bytes;
+mod fault;
+mod fixed;
+mod history;
+mod law;
+mod masks;
+mod micro;
+mod slot;
+mod store;
+#[cfg(test)]
+mod tests;
+mod view;

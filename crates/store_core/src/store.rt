@@ -1,0 +1,208 @@
+ghost use Rattle.std.specs.Prelude.{◌≡◌, ◌≢◌, ◌↔◌, ◌*◌, ℕ, ◌<◌, ◌≤◌, IfOk, IfSome, IsOk, IsErrOf, MatchResult, OnErr, List, length};
+ghost use Rattle.store_core.specs.Slots.{caller, state_in};
+ghost use Rattle.store_core.specs.Reached.{IsReached};
+
+use crate::bytes::{bytes_from, put_bytes};
+use crate::fault::{BadCapacity, Missing, StoreFault};
+use crate::fixed::Fixed;
+use crate::history::Settling;
+use crate::masks::GROUP_LEN;
+use crate::slot::{Pick, Slot, chosen, copies, grow, put_claims, put_ready};
+use b3tree::{CHUNK_LEN, Hash, Mode};
+use bao_check::{Checked, Tail};
+use std::alloc::Global;
+
+/// The most chunks that a store has room for.
+pub const MAX_CAPACITY: u32 = 65_536;
+
+/// A store of one blob's chunks, for one thread: which are held, which seat claims which, and the blob's length
+/// once it is known. Nothing is taken on anybody's word: what it holds comes from texts accepted under its root.
+#[derive(Drop)]
+pub struct Store {
+    fixed: Fixed,
+    alloc: Global,
+    slots: Vec<Slot>,
+    recorded: Option<u64>,
+    ghost limit: { fixed.capacity ≤ 65536 },
+    ghost within: { length slots.items ≤ fixed.capacity },
+    ghost reached: { ∥ IsReached fixed (state_in slots.items recorded) ∥₁ },
+}
+
+impl Store {
+    ghost use Rattle.store_core.specs.declared.history.Call.TheVariants.{Commit, Give, Length, Take};
+    ghost use Rattle.store_core.specs.declared.fault.StoreFault.TheVariants.{NoGroup, OtherRoot};
+    ghost use Rattle.store_core.specs.Machine.{groups};
+    ghost use Rattle.bao_check.specs.Tail.{tail_piece};
+    ghost use Rattle.store_core.specs.Names.{Name};
+    ghost use Rattle.store_core.specs.Pieces.{piece_of};
+    ghost use Rattle.store_core.specs.States.{empty};
+    ghost use Rattle.store_core.specs.Stores.{ChunksBind, DidRead, IsEvent, IsNew, IsOf, IsSame, LengthBinds, ReadBinds, Settles, filled_count, fixed_of, missing_in, state_of};
+
+    /// A store that holds, claims and records nothing. It takes no memory.
+    ///
+    /// 802 unless `capacity`, a number of chunks, is 1 to 65,536.
+    pub fn new(alloc: Global, root: Hash, mode: Mode, capacity: u32) -> Result<Store, BadCapacity>
+        ensures fits { IsOk result ↔ ((0 < capacity) × (capacity ≤ 65536)) }
+        ensures made { IfOk result (λ store. IsNew store root mode capacity) }
+    {
+        if capacity == 0 || capacity > MAX_CAPACITY {
+            return Err(BadCapacity);
+        }
+        Ok(Store {
+            fixed: Fixed {
+                root,
+                mode,
+                capacity,
+            },
+            alloc,
+            slots: Vec::new(alloc),
+            recorded: None,
+        })
+    }
+
+    // How many groups there are.
+    fn groups(&self) -> u32
+        ensures { result ≡ groups (fixed_of self.now) }
+    {
+        self.fixed.capacity.div_ceil(GROUP_LEN as u32)
+    }
+
+    /// Claims for the seat the wanted chunks of a group that are below the capacity and neither held nor claimed, and
+    /// answers their mask: bit j stands for chunk 64 * group + j. A chunk that the seat claims already isn't granted
+    /// again.
+    ///
+    /// 803 `NoGroup` where there is no such group, and 701 `Memory`. The store then stands for the same.
+    pub fn take(&mut self, seat: u32, group: u32, want: u64) -> Result<u64, StoreFault>
+        ensures ok { IfOk result (λ granted. IsEvent self.old self.new (caller seat) (Take group want granted)) }
+        ensures err { OnErr result (IsSame self.old self.new) }
+        ensures no_group { IsErrOf result NoGroup ↔ (groups (fixed_of self.old) ≤ group) }
+        ensures never { result ≢ Err OtherRoot }
+    {
+        if group >= self.groups() {
+            return Err(StoreFault::NoGroup);
+        }
+        let end = (GROUP_LEN * (group as usize + 1)).min(self.fixed.capacity as usize);
+        grow(&mut self.slots, end)?;
+        let granted = chosen(self.slots.as_slice(), group, want, &Pick::Free);
+        put_claims(self.slots.as_mut_slice(), group, granted, Some(seat));
+        Ok(granted)
+    }
+
+    /// Ends the seat's claims among the mask of a group, and answers the mask of those that it had: 0 for a group
+    /// that isn't there. It takes no memory.
+    pub fn give(&mut self, seat: u32, group: u32, mask: u64) -> u64
+        ensures { IsEvent self.old self.new (caller seat) (Give group mask result) }
+    {
+        if group >= self.groups() {
+            return 0;
+        }
+        let given = chosen(self.slots.as_slice(), group, mask, &Pick::Claimed(seat));
+        put_claims(self.slots.as_mut_slice(), group, given, None);
+        given
+    }
+
+    /// Records the length in bytes that a piece with the last chunk certifies, if none is recorded: `Settled`. Else it
+    /// changes nothing and says whether the same was recorded, `Known`, or another, `Differs`. It takes no memory.
+    ///
+    /// 804 `OtherRoot`, asked before all else, where the piece is of another root or mode, and 805 `TooLarge` where the
+    /// length is above 1,024 times the capacity. The store is then unchanged.
+    pub fn settle(&mut self, tail: &Tail<'_>) -> Settling
+        ensures { Settles self.old self.new (tail_piece tail.now) result }
+    {
+        tail.is_last();
+        if !self.fixed.is_of(&tail.root(), &tail.mode()) {
+            return Settling::OtherRoot;
+        }
+        let length = tail.length();
+        if length > CHUNK_LEN as u64 * u64::from(self.fixed.capacity) {
+            return Settling::TooLarge;
+        }
+        match self.recorded {
+            None => {
+                self.recorded = Some(length);
+                Settling::Settled
+            }
+            Some(known) => {
+                if known == length {
+                    Settling::Known
+                } else {
+                    Settling::Differs
+                }
+            }
+        }
+    }
+
+    /// The recorded length in bytes, if there is one. It takes no memory.
+    ///
+    /// For each blob with the store's root it is the blob's length; or two different inputs with one chaining value
+    /// are named, one of the blob's and one of a piece's by which it was settled.
+    pub fn length(&self) -> Option<u64>
+        ensures event { (who : List Name) → IsEvent self.now self.now who (Length result) }
+        ensures binds { IfSome result (λ l. LengthBinds self.now l) }
+    {
+        self.fixed.mode.is_keyed();
+        self.recorded
+    }
+
+    /// Stores exactly the chunks of a group that the seat claims and the piece holds, ends these claims, and answers
+    /// their mask: 0 for a group that isn't there.
+    ///
+    /// 804 `OtherRoot`, asked before all else, where the piece is of another root or mode, and 701 `Memory`. The store
+    /// is then unchanged.
+    ///
+    /// For each blob with the store's root, each chunk stored is the blob's chunk of that number; or two different
+    /// inputs with one chaining value are named, one of the blob's and one of the piece's.
+    pub fn commit(&mut self, seat: u32, group: u32, piece: &Checked<'_>) -> Result<u64, StoreFault>
+        ensures ok { IfOk result (λ committed. IsEvent self.old self.new (caller seat) (Commit group (piece_of piece.now) committed)) }
+        ensures err { OnErr result (IsSame self.old self.new) }
+        ensures other_root { IsErrOf result OtherRoot ↔ (¬ IsOf (fixed_of self.old) piece.now) }
+        ensures never { result ≢ Err NoGroup }
+        ensures binds { IfOk result (λ committed. ChunksBind (fixed_of self.old) (piece_of piece.now) group committed) }
+    {
+        self.fixed.mode.is_keyed();
+        piece.is_accepted();
+        if !self.fixed.is_of(&piece.root(), &piece.mode()) {
+            return Err(StoreFault::OtherRoot);
+        }
+        if group >= self.groups() {
+            return Ok(0);
+        }
+        let pick = Pick::InPiece(seat, *piece);
+        let committed = chosen(self.slots.as_slice(), group, u64::MAX, &pick);
+        let mut ready = copies(self.alloc, piece, group, committed)?;
+        put_ready(
+            self.slots.as_mut_slice(),
+            group,
+            committed,
+            ready.as_mut_slice(),
+        );
+        Ok(committed)
+    }
+
+    /// Fills `out` with the bytes from position `at` on, in bytes. It takes no memory.
+    ///
+    /// `Missing(p)`: p is the least position of the range that isn't held. The bytes before it are filled in, and the
+    /// rest of `out` is unchanged. A position is held if its chunk is and has more bytes than come before it there;
+    /// none at or above 1,024 times the capacity is. An empty buffer is Ok.
+    ///
+    /// For each blob with the store's root, each byte filled in is the blob's byte there; or two different inputs
+    /// with one chaining value are named, one of the blob's and one of a piece's that was committed.
+    pub fn read(&self, at: u64, out: &mut [u8]) -> Result<(), Missing>
+        ensures event { DidRead self.now at out.old out.new (missing_in result) }
+        ensures binds { ReadBinds self.now at out.new (filled_count at (length out.old) (missing_in result)) }
+    {
+        self.fixed.mode.is_keyed();
+        let mut done = 0;
+        while done < out.len() {
+            let position = at + done as u64;
+            let held = bytes_from(self.slots.as_slice(), position);
+            let count = held.len().min(out.len() - done);
+            if count == 0 {
+                return Err(Missing(position));
+            }
+            put_bytes(out, done, &held[..count]);
+            done += count;
+        }
+        Ok(())
+    }
+}

@@ -1,0 +1,27 @@
+use crate::fixed::Fixed;
+use crate::history::Event;
+use std::collections::LinkedList;
+
+/// A name of a seat, and how many seats were split off from it.
+#[derive(Drop)]
+pub struct Named {
+    pub name: LinkedList<u64>,
+    pub splits: u64,
+}
+
+/// A word of a chunk's cell that was stored: word w of chunk c has the number 129 * c + w.
+#[derive(Clone, Copy, Debug)]
+pub struct StoredWord {
+    pub number: u64,
+    pub value: u64,
+}
+
+/// What a seat of a store knows: its names in dictionary order, the history that it has seen, and the
+/// cell words that it stored for chunks that it claims, the newest first. Contracts alone speak of it.
+#[derive(Drop)]
+pub struct SeatView {
+    pub fixed: Fixed,
+    pub names: LinkedList<Named>,
+    pub seen: LinkedList<Event>,
+    pub written: LinkedList<StoredWord>,
+}
