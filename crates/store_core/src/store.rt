@@ -60,6 +60,14 @@ impl Store {
         })
     }
 
+    /// The root, the mode and the capacity in chunks, which never change.
+    pub fn fixed(&self) -> Fixed
+        ensures { result ≡ fixed_of self.now }
+    {
+        let Store { fixed, .. } = self;
+        *fixed
+    }
+
     // How many groups there are.
     fn groups(&self) -> u32
         ensures { result ≡ groups (fixed_of self.now) }
