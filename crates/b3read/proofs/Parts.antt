@@ -1,0 +1,69 @@
+-- Bytes that reads gave, one part after another.
+use Rattle.std.proofs.Common.{◌≡◌, ℕ, ◌+◌, ◌-◌, ◌*◌, ◌/◌, ◌<◌, ◌≤◌, List, ◌++◌, length, take, drop, Option, Some, None, ◌∙◌, sym, ap, subst, arith}
+use Rattle.std.proofs.lemmas.List.{take_at, drop_at, length-append, length-take-le, take-append-le}
+use Rattle.std.proofs.Math.Seq.{take-append-add}
+use borrow.Rule.Slice.PartMut.{put_mid, post_of}
+use Rattle.b3word.specs.declared.input.Input.{Input}
+use Rattle.b3word.specs.Compression.{cv}
+use Rattle.b3tree.specs.declared.mode.Mode.{Mode}
+use Rattle.b3tree.specs.Pieces.{piece}
+use Rattle.b3tree.specs.Tree.{parent_input, subtree_cv, top_input}
+use Rattle.b3tree.proofs.Pieces.{piece-append}
+use Rattle.b3read.specs.Given.{GivenAt, IsTopOf, ReadsAt}
+
+-- what comes after other bytes
+pub GivenAt-append : (contents : Option (List ℕ)) (at : ℕ) (a b : List ℕ) → GivenAt contents at a → GivenAt contents (at + length a) b → GivenAt contents at (a ++ b)
+GivenAt-append None at a b p q = tt
+GivenAt-append (Some s) at a b p q =
+    (λ i. p i ++ q i)
+    ∙ sym (piece-append s at (length a) (length b))
+    ∙ ap (piece s at) (sym (length-append a b))
+
+-- what one read gave
+GivenAt-read : (contents : Option (List ℕ)) (at count : ℕ) (new : List ℕ) → length (take count new) ≡ count → ReadsAt contents at count new
+    → GivenAt contents at (take count new)
+GivenAt-read None at count new size read = tt
+GivenAt-read (Some s) at count new size read = read.0 ∙ ap (piece s at) (sym size)
+
+-- the tops of the two parts of a tree, joined
+pub top_joined : (contents : Option (List ℕ)) (mode : Mode) (first len l : ℕ) (left right : Input)
+    → ((s : List ℕ) → length s ≡ len
+    → top_input mode first s ≡ parent_input mode (subtree_cv mode first (take l s)) (subtree_cv mode (first + l / 1024) (drop l s)))
+    → 1024 * (l / 1024) ≡ l → l ≤ len
+    → IsTopOf contents mode first l left → IsTopOf contents mode (first + l / 1024) (len - l) right
+    → IsTopOf contents mode first len (parent_input mode (cv left) (cv right))
+top_joined contents mode first len l left right parts whole within a b =
+    let both : List ℕ = a.bytes ++ b.bytes in
+    let size : length both ≡ len = length-append a.bytes b.bytes ∙ (λ i. a.len_is i + b.len_is i) ∙ omega arith in
+    let place : 1024 * (first + l / 1024) ≡ 1024 * first + length a.bytes = omega (arith, a.len_is) in
+    let front : take l both ≡ a.bytes = take_at a.bytes b.bytes l a.len_is in
+    let back : drop l both ≡ b.bytes = drop_at a.bytes b.bytes l a.len_is in
+    record {
+      bytes = both;
+      given = GivenAt-append contents (1024 * first) a.bytes b.bytes a.given (subst (λ p. GivenAt contents p b.bytes) place b.given);
+      len_is = size;
+      top =
+          (λ i. parent_input mode (cv (a.top i)) (cv (b.top i)))
+          ∙ (λ i. parent_input mode (subtree_cv mode first (sym front i)) (subtree_cv mode (first + l / 1024) (sym back i)))
+          ∙ sym (parts both size);
+    }
+
+-- what a buffer begins with, after `count` more bytes were put at `at`
+put_more : (at k count : ℕ) (buffer new : List ℕ) → at ≤ length buffer → count ≤ length new → take (at + count) (put_mid at k buffer new) ≡ take at buffer ++ take count new
+put_more at k count buffer new fits within =
+    let front : length (take at buffer) ≡ at = length-take-le at buffer fits in
+    let rest : List ℕ = post_of at k buffer in
+    ap (λ (n : ℕ). take (n + count) (take at buffer ++ (new ++ rest))) (sym front)
+    ∙ take-append-add (take at buffer) (new ++ rest) count
+    ∙ ap (λ (s : List ℕ). take at buffer ++ s) (take-append-le count new rest within)
+
+-- a read gave more of the contents, after those that the buffer begins with
+pub GivenAt-more : (contents : Option (List ℕ)) (at filled k count : ℕ) (buffer new : List ℕ) → filled ≤ length buffer → count ≤ length new
+    → GivenAt contents at (take filled buffer) → ReadsAt contents (at + filled) count new
+    → GivenAt contents at (take (filled + count) (put_mid filled k buffer new))
+GivenAt-more contents at filled k count buffer new fits within before read =
+    let front : length (take filled buffer) ≡ filled = length-take-le filled buffer fits in
+    let some : length (take count new) ≡ count = length-take-le count new within in
+    subst (GivenAt contents at) (sym (put_more filled k count buffer new fits within))
+    (GivenAt-append contents at (take filled buffer) (take count new) before
+    (subst (λ n. GivenAt contents (at + n) (take count new)) (sym front) (GivenAt-read contents (at + filled) count new some read)))

@@ -1,0 +1,22 @@
+-- What reads at places give of a source.
+use Rattle.std.specs.Prelude.{◌≡◌, ℕ, ◌*◌, ◌<◌, ◌≤◌, List, Option, IfSome, length, take}
+use Rattle.b3word.specs.declared.input.Input.{Input}
+use Rattle.b3tree.specs.declared.mode.Mode.{Mode}
+use Rattle.b3tree.specs.Pieces.{piece}
+use Rattle.b3tree.specs.Tree.{top_input}
+
+-- a read at the place `at` gave the first n bytes of `buf`: those of the contents there, none only past
+-- their end or where there is no room
+abbrev pub ReadsAt : Option (List ℕ) → ℕ → ℕ → List ℕ → Type 0
+ReadsAt contents at n buf = IfSome contents (λ s. (take n buf ≡ piece s at n) × (n ≡ 0 → 0 < length buf → length s ≤ at))
+
+-- the bytes are those of the contents from `at` on, where these are known
+abbrev pub GivenAt : Option (List ℕ) → ℕ → List ℕ → Type 0
+GivenAt contents at bytes = IfSome contents (λ s. bytes ≡ piece s at (length bytes))
+
+-- the input is the top of the tree over `len` bytes of the contents, which begin with chunk `first`
+pub record IsTopOf (contents : Option (List ℕ)) (mode : Mode) (first len : ℕ) (input : Input) : Type 0 where
+  pub bytes : List ℕ
+  pub given : GivenAt contents (1024 * first) bytes
+  pub len_is : length bytes ≡ len
+  pub top : input ≡ top_input mode first bytes

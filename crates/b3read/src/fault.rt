@@ -1,0 +1,34 @@
+ghost use Rattle.std.specs.Prelude.{◌≡◌};
+ghost use Rattle.b3read.specs.Faults.{number_of};
+
+use std::alloc::AllocError;
+use thiserror::Error;
+
+/// Why a source gave no hash.
+#[derive(Clone, Copy, Debug, PartialEq, Eq, Error)]
+pub enum ReadFault {
+    /// There was no memory for a piece. Number 311.
+    #[error("311 memory")]
+    Memory,
+    /// A read answered a fault, or the source hasn't the length that it was said to have. Number 312.
+    #[error("312 reader")]
+    Reader,
+}
+
+impl ReadFault {
+    /// The fault's number: 311 or 312.
+    pub fn code(&self) -> u16
+        ensures { result ≡ number_of self.now }
+    {
+        match self {
+            ReadFault::Memory => 311,
+            ReadFault::Reader => 312,
+        }
+    }
+}
+
+impl From<AllocError> for ReadFault {
+    fn from(_fault: AllocError) -> ReadFault {
+        ReadFault::Memory
+    }
+}

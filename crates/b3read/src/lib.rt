@@ -1,0 +1,12 @@
+//! BLAKE3 of what is read at places, as a file is: on several threads, in memory that doesn't grow with the
+//! input.
+#![tactic(auto)]
+
+pub use fault::ReadFault;
+pub use ranges::hash_source;
+pub use source::Source;
+
+mod fault;
+mod pieces;
+mod ranges;
+mod source;
