@@ -1,15 +1,17 @@
 -- Bytes that reads gave, one part after another.
-use Rattle.std.proofs.Common.{◌≡◌, ℕ, ◌+◌, ◌-◌, ◌*◌, ◌/◌, ◌<◌, ◌≤◌, List, ◌++◌, length, take, drop, Option, Some, None, ◌∙◌, sym, ap, subst, arith}
-use Rattle.std.proofs.lemmas.List.{take_at, drop_at, length-append, length-take-le, take-append-le}
+use Rattle.std.proofs.Common.{◌≡◌, ℕ, ◌+◌, ◌-◌, ◌*◌, ◌/◌, ◌≤◌, List, ◌++◌, length, take, drop, Option, Some, None, IfSome, ◌∙◌, sym, ap, subst, arith}
+use Rattle.std.proofs.lemmas.List.{take_at, drop_at, length-append, length-take-le, take-append-le, take_all}
 use Rattle.std.proofs.Math.Seq.{take-append-add}
 use borrow.Rule.Slice.PartMut.{put_mid, post_of}
 use Rattle.b3word.specs.declared.input.Input.{Input}
 use Rattle.b3word.specs.Compression.{cv}
 use Rattle.b3tree.specs.declared.mode.Mode.{Mode}
+use Rattle.b3tree.specs.Hashing.{hash, root_hash, rooted}
 use Rattle.b3tree.specs.Pieces.{piece}
 use Rattle.b3tree.specs.Tree.{parent_input, subtree_cv, top_input}
+use Rattle.b3tree.proofs.HashOutput.{hash-stream}
 use Rattle.b3tree.proofs.Pieces.{piece-append}
-use Rattle.b3read.specs.Given.{GivenAt, IsTopOf, ReadsAt}
+use Rattle.b3read.specs.Given.{GivenAt, IsHashOf, IsTopOf, ReadsAt}
 
 -- what comes after other bytes
 pub GivenAt-append : (contents : Option (List ℕ)) (at : ℕ) (a b : List ℕ) → GivenAt contents at a → GivenAt contents (at + length a) b → GivenAt contents at (a ++ b)
@@ -67,3 +69,27 @@ GivenAt-more contents at filled k count buffer new fits within before read =
     subst (GivenAt contents at) (sym (put_more filled k count buffer new fits within))
     (GivenAt-append contents at (take filled buffer) (take count new) before
     (subst (λ n. GivenAt contents (at + n) (take count new)) (sym front) (GivenAt-read contents (at + filled) count new some read)))
+
+-- the tree's root gives the hash
+hash_rooted : (mode : Mode) (bytes : List ℕ) (top : Input) → top ≡ top_input mode 0 bytes → root_hash (rooted top) ≡ hash mode bytes
+unfolding hash
+hash_rooted mode bytes top is = ap (λ (x : Input). root_hash (rooted x)) is
+
+pub IsHashOf-top : (contents : Option (List ℕ)) (mode : Mode) (len : ℕ) (top : Input) (is : IsTopOf contents mode 0 len top)
+    → IsHashOf mode len is.bytes (root_hash (rooted top))
+IsHashOf-top contents mode len top is =
+    let hash_is : root_hash (rooted top) ≡ hash mode is.bytes = hash_rooted mode is.bytes top is.top in
+    record {
+      len_is = is.len_is;
+      hash_is = hash_is;
+      stream_is = hash_is ∙ hash-stream mode is.bytes;
+    }
+
+-- where the contents are known and end there, they are what was given
+pub IsHashOf-all : (contents : Option (List ℕ)) (mode : Mode) (len : ℕ) (top : Input) → IsTopOf contents mode 0 len top
+    → IfSome contents (λ s. length s ≤ len) → IfSome contents (λ s. IsHashOf mode len s (root_hash (rooted top)))
+IsHashOf-all None mode len top is ends = tt
+IsHashOf-all (Some s) mode len top is ends =
+    let within : length s ≤ length is.bytes = omega (arith, is.len_is) in
+    let same : is.bytes ≡ s = is.given ∙ take_all (length is.bytes) s within in
+    subst (λ (bytes : List ℕ). IsHashOf mode len bytes (root_hash (rooted top))) same (IsHashOf-top (Some s) mode len top is)

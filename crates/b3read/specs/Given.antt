@@ -2,6 +2,7 @@
 use Rattle.std.specs.Prelude.{◌≡◌, ℕ, ◌*◌, ◌<◌, ◌≤◌, List, Option, IfSome, length, take}
 use Rattle.b3word.specs.declared.input.Input.{Input}
 use Rattle.b3tree.specs.declared.mode.Mode.{Mode}
+use Rattle.b3tree.specs.Hashing.{hash, stream}
 use Rattle.b3tree.specs.Pieces.{piece}
 use Rattle.b3tree.specs.Tree.{top_input}
 
@@ -20,3 +21,9 @@ pub record IsTopOf (contents : Option (List ℕ)) (mode : Mode) (first len : ℕ
   pub given : GivenAt contents (1024 * first) bytes
   pub len_is : length bytes ≡ len
   pub top : input ≡ top_input mode first bytes
+
+-- the bytes are so many, and the answer is their hash: the first 32 bytes of their output stream
+pub record IsHashOf (mode : Mode) (len : ℕ) (bytes answer : List ℕ) : Type 0 where
+  pub len_is : length bytes ≡ len
+  pub hash_is : answer ≡ hash mode bytes
+  pub stream_is : answer ≡ stream mode bytes 0 32

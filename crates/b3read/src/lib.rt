@@ -3,10 +3,12 @@
 #![tactic(auto)]
 
 pub use fault::ReadFault;
-pub use ranges::hash_source;
+pub use ranges::{RANGES, hash_source};
 pub use source::Source;
 
 mod fault;
 mod pieces;
 mod ranges;
 mod source;
+#[cfg(test)]
+mod tests;

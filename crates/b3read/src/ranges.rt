@@ -1,7 +1,6 @@
 ghost use Rattle.std.specs.Prelude.{◌≡◌, ℕ, List, ◌+◌, ◌-◌, ◌*◌, ◌^◌, ◌<◌, ◌≤◌, length, IfOk, IfSome};
 ghost use Rattle.std.specs.Thread.{IsSync};
-ghost use Rattle.b3tree.specs.Hashing.{hash};
-ghost use Rattle.b3read.specs.Given.{IsTopOf};
+ghost use Rattle.b3read.specs.Given.{IsHashOf, IsTopOf};
 
 use crate::fault::ReadFault;
 use crate::pieces::{ends_at, top_in_pieces};
@@ -9,6 +8,9 @@ use crate::source::Source;
 use b3tree::{CHUNK_LEN, Cv, Hash, Input, Mode, cv, left_len, parent_input, root_hash, rooted};
 use std::alloc::Global;
 use std::thread::{Threads, join};
+
+/// So many ranges keep several processors busy, also where other programs use them, and take 8 MiB of memory.
+pub const RANGES: u64 = 16;
 
 // Fewer bytes than these aren't worth a thread.
 const LEAST_RANGE_LEN: u64 = 1 << 20;
@@ -77,7 +79,6 @@ fn top_in_ranges<R: Threads + Sync, S: Source + Sync>(
 /// fault, one of the kind `Interrupted` too, which is not tried again, and where the source has fewer or more
 /// than `len` bytes. The threads have ended in any case; the work of one that can't be started is done by
 /// another.
-#[tactic(auto, unfolding(b3tree::specs::Hashing::hash))]
 pub fn hash_source<R: Threads + Sync, S: Source + Sync>(
     rt: &R,
     alloc: Global,
@@ -87,8 +88,8 @@ pub fn hash_source<R: Threads + Sync, S: Source + Sync>(
     ranges: u64,
 ) -> Result<Hash, ReadFault>
     requires ranges { (1 ≤ ranges) × (ranges ≤ 64) }
-    ensures all { IfOk result (λ answer. IfSome (S.contents source.now) (λ s. (length s ≡ len) × (answer.0 ≡ hash mode.now s))) }
-    ensures some { IfOk result (λ answer. (s : List ℕ) × (length s ≡ len) × (answer.0 ≡ hash mode.now s)) }
+    ensures all { IfOk result (λ answer. IfSome (S.contents source.now) (λ bytes. IsHashOf mode.now len bytes answer.0)) }
+    ensures some { IfOk result (λ answer. (bytes : List ℕ) × IsHashOf mode.now len bytes answer.0) }
 {
     let most = len.div_ceil(ranges).max(LEAST_RANGE_LEN);
     let top = top_in_ranges(rt, alloc, mode, source, 0, len, most)?;
