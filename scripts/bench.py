@@ -76,13 +76,22 @@ HASH = "bao_gather hash"
 HASH_ONE = "bao_gather hash --length 33"
 B3SUM_ONE = "b3sum --num-threads 1"
 B3SUM_FOUR = "b3sum --num-threads 4"
+B3SUM_READ_ONE = "b3sum --no-mmap --num-threads 1"
+B3SUM_READ_FOUR = "b3sum --no-mmap --num-threads 4"
 OUTBOARD = "bao_gather outboard"
 ENCODE = "bao_gather encode"
 DECODE = "bao_gather decode"
 SLICE = "cut_slice of 1 MiB"
 SLICE_OF_SIXTEENTH = "cut_slice of 1 MiB, a sixteenth of the file"
 LARGER_SLICE = "cut_slice of 8 MiB"
+POOL_ONE = "hash_pool, 1 worker"
+POOL_FOUR = "hash_pool, 4 workers"
+SMALL_PIECES = "Hasher, pieces of 64 KiB"
+LARGE_PIECES = "Hasher, pieces of 1 MiB"
+FILE_ONE = "hash_source, 1 range"
+FILE_RANGES = "hash_source, 16 ranges"
 CHECK = "check_combined"
+CHECK_OUTBOARD = "check_outboard"
 CHECK_SLICE = "check_slice of 1 MiB"
 AUDIT = "audit of the whole encoding"
 
@@ -91,36 +100,52 @@ AUDIT = "audit of the whole encoding"
 ROWS = [
     (HASH, "whole program, one thread, reads in pieces"),
     (B3SUM_FOUR, "whole program, several threads"),
+    (B3SUM_READ_FOUR, "whole program, reads in pieces"),
     (HASH_ONE, "whole program, one thread"),
     (B3SUM_ONE, "whole program, one thread"),
+    (B3SUM_READ_ONE, "whole program, one thread, reads in pieces"),
     (OUTBOARD, "whole program, one thread, writes a file"),
     (ENCODE, "whole program, one thread, writes a file"),
     (DECODE, "whole program, one thread, checks the file's combined encoding, writes the file"),
     ("hash", "b3tree::hash in one process, one thread"),
     ("hash_join", "b3par::hash_join in one process, several threads"),
-    ("Hasher", "b3tree::Hasher in one process, one thread, pieces of 64 KiB"),
+    (POOL_ONE, "b3par::hash_pool in one process, one worker"),
+    (POOL_FOUR, "b3par::hash_pool in one process, four workers"),
+    (SMALL_PIECES, "b3tree::Hasher in one process, one thread"),
+    (LARGE_PIECES, "b3tree::Hasher in one process, one thread"),
+    (FILE_ONE, "b3read::hash_source in one process, one thread, reads the file in pieces"),
+    (FILE_RANGES, "b3read::hash_source in one process, several threads, reads the file in pieces"),
     (SLICE, "bao_text::cut_slice in one process, one thread, from the file's combined encoding"),
     (SLICE_OF_SIXTEENTH, "as before, from a combined encoding a sixteenth as long"),
     (LARGER_SLICE, "as before, from the file's combined encoding"),
     (CHECK, "bao_check::check_combined in one process, one thread, of the file's combined encoding"),
+    (CHECK_OUTBOARD, "bao_check::check_outboard in one process, one thread, of the file's outboard encoding"),
     (CHECK_SLICE, "bao_check::check_slice in one process, one thread, of a slice of it"),
     (AUDIT, "bao_bind::audit in one process, one thread, of the file and its combined encoding, which agree"),
 ]
 
 # The ratios of two of those times: the first over the second, and what is wanted of it.
 RATIOS = [
-    ("one thread", B3SUM_ONE, HASH, ""),
-    ("several threads", B3SUM_FOUR, HASH, ""),
-    ("one thread", B3SUM_ONE, HASH_ONE, ""),
-    ("one thread", B3SUM_ONE, "hash", ""),
-    ("several threads", "hash_join", "hash", "at most 0.4 on four processors"),
-    ("one thread", "Hasher", "hash", "at most 1.1"),
-    ("one thread", OUTBOARD, HASH_ONE, "at most 1.3"),
-    ("one thread", ENCODE, HASH_ONE, "at most 1.6"),
+    ("several threads", B3SUM_FOUR, HASH, "at least 0.45 on four processors"),
+    ("several threads", B3SUM_READ_FOUR, HASH, "at least 1.0 on four processors"),
+    ("one thread", B3SUM_ONE, HASH_ONE, "at least 0.42"),
+    ("one thread", B3SUM_READ_ONE, HASH_ONE, ""),
+    ("several threads", B3SUM_FOUR, FILE_RANGES, ""),
+    ("one thread", B3SUM_ONE, FILE_ONE, ""),
+    ("one thread", B3SUM_ONE, "hash", "at least 0.55"),
+    ("several threads", "hash", "hash_join", "at least 2.5 on four processors"),
+    ("one thread", "hash", POOL_ONE, ""),
+    ("several threads", "hash", POOL_FOUR, "at least 3.0 on four processors"),
+    ("several threads", FILE_ONE, FILE_RANGES, ""),
+    ("one thread", SMALL_PIECES, "hash", "at most 1.3"),
+    ("one thread", LARGE_PIECES, "hash", "at most 1.1"),
+    ("one thread", OUTBOARD, HASH_ONE, "at most 1.5"),
+    ("one thread", ENCODE, HASH_ONE, "at most 2.2"),
     ("one thread", DECODE, HASH_ONE, ""),
     ("one thread", SLICE, SLICE_OF_SIXTEENTH, "about 1: not with the encoding"),
     ("one thread", LARGER_SLICE, SLICE, "about 8: with the slice"),
     ("one thread", CHECK, "hash", "at most 1.15"),
+    ("one thread", CHECK_OUTBOARD, "hash", ""),
     ("one thread", AUDIT, "hash", "at most 1.3: one hash and one comparison"),
 ]
 
@@ -133,10 +158,8 @@ def measure(room, mib, runs):
     commands = [(HASH, [PROGRAM, "hash", path]), (HASH_ONE, [PROGRAM, "hash", *ONE_THREAD, path])]
     b3sum = shutil.which("b3sum")
     if b3sum:
-        commands += [
-            (B3SUM_ONE, [b3sum, "--no-names", "--num-threads", "1", path]),
-            (B3SUM_FOUR, [b3sum, "--no-names", "--num-threads", "4", path]),
-        ]
+        for name, words in ((B3SUM_ONE, ["1"]), (B3SUM_FOUR, ["4"]), (B3SUM_READ_ONE, ["1", "--no-mmap"]), (B3SUM_READ_FOUR, ["4", "--no-mmap"])):
+            commands.append((name, [b3sum, "--no-names", "--num-threads", *words, path]))
     else:
         print("b3sum is not installed, so there are no times of it (Debian: apt-get install b3sum).")
     for name, command in ((OUTBOARD, "outboard"), (ENCODE, "encode")):

@@ -9,14 +9,14 @@ use b3tree::{CHUNK_LEN, Cv, Hash, Input, Mode, cv, left_len, parent_input, root_
 use std::alloc::Global;
 use std::thread::{Threads, join};
 
-/// So many ranges keep several processors busy, also where other programs use them, and take 8 MiB of memory.
+/// So many ranges keep several processors busy, also where other programs use them, and take 4 MiB of memory.
 pub const RANGES: u64 = 16;
 
 // Fewer bytes than these aren't worth a thread.
 const LEAST_RANGE_LEN: u64 = 1 << 20;
 
 // The most bytes that a thread asks for at once: few enough to stay in a processor's cache.
-const PIECE_LEN: usize = 1 << 19;
+const PIECE_LEN: usize = 1 << 18;
 
 // The top of the tree over a range, by this thread.
 fn top_alone<S: Source>(

@@ -1,8 +1,8 @@
 use crate::measure::print_row;
 use anyhow::Result;
 use b3tree::{Hash, Mode};
-use bao_check::{check_combined, check_slice};
-use bao_text::{combined, cut_slice};
+use bao_check::{check_combined, check_outboard, check_slice};
+use bao_text::{combined, cut_slice, outboard};
 use std::hint::black_box;
 use std::io;
 use std::rt::Clock;
@@ -19,20 +19,27 @@ const SLICE_LEN: u64 = 1 << 20;
 pub struct CheckTimes {
     /// The combined encoding of all bytes.
     pub whole: Duration,
+    /// The outboard encoding of all bytes.
+    pub outboard: Duration,
     /// The slice of their first 1 MiB.
     pub slice: Duration,
 }
 
-/// Encodes `bytes`, and checks the encoding and a slice of it, several times. Fails where one isn't accepted.
+/// Encodes `bytes`, and checks the encodings and a slice, several times. Fails where one isn't accepted.
 pub fn least_times<R: Clock + AllocGlobal>(rt: &R, bytes: &[u8]) -> Result<CheckTimes> {
     let (root, all) = combined(rt.alloc(), &Mode::hash(), bytes)?;
     let slice = cut_slice(rt.alloc(), all.as_slice(), 0, SLICE_LEN)?;
+    let (_, parents) = outboard(rt.alloc(), &Mode::hash(), bytes)?;
     let mut least = CheckTimes {
         whole: Duration::MAX,
+        outboard: Duration::MAX,
         slice: Duration::MAX,
     };
     for _ in 0..ROUNDS {
         least.whole = least.whole.min(timed_whole(rt, &root, all.as_slice())?);
+        least.outboard = least
+            .outboard
+            .min(timed_outboard(rt, &root, parents.as_slice())?);
         least.slice = least.slice.min(timed_slice(rt, &root, slice.as_slice())?);
     }
     Ok(least)
@@ -45,6 +52,20 @@ fn timed_whole<R: Clock + AllocGlobal>(rt: &R, root: &Hash, encoding: &[u8]) -> 
     let piece = check_combined(rt.alloc(), &mode, root, encoding)?;
     let time = start.elapsed(rt)?;
     black_box(piece);
+    Ok(time)
+}
+
+// How long the check of an outboard encoding takes.
+fn timed_outboard<R: Clock + AllocGlobal>(
+    rt: &R,
+    root: &Hash,
+    encoding: &[u8],
+) -> Result<Duration> {
+    let mode = Mode::hash();
+    let start = Instant::now(rt)?;
+    let outline = check_outboard(rt.alloc(), &mode, root, encoding)?;
+    let time = start.elapsed(rt)?;
+    black_box(outline);
     Ok(time)
 }
 
@@ -61,5 +82,6 @@ fn timed_slice<R: Clock + AllocGlobal>(rt: &R, root: &Hash, slice: &[u8]) -> Res
 /// Prints a line for each check: of what, and its time in milliseconds.
 pub fn print(rt: &impl Print, times: &CheckTimes) -> io::Result<()> {
     print_row(rt, "check_combined", times.whole)?;
+    print_row(rt, "check_outboard", times.outboard)?;
     print_row(rt, "check_slice of 1 MiB", times.slice)
 }

@@ -2,13 +2,15 @@
 #![tactic(auto)]
 
 use anyhow::{Context, Result};
+use std::fs::File;
 use std::process::ExitCode;
-use std::rt::Runtime;
+use std::rt::{Files, Runtime};
 use std::thread::Threads;
 use std::{env, fs};
 
 mod audits;
 mod checks;
+mod files;
 mod measure;
 mod slices;
 mod way;
@@ -26,7 +28,7 @@ fn main(rt: HostRuntime) -> ExitCode {
     }
 }
 
-fn run<R: Runtime + AllocGlobal + Threads + Sync>(rt: &R) -> Result<ExitCode> {
+fn run<R: Runtime + Files<File = File> + AllocGlobal + Threads + Sync>(rt: &R) -> Result<ExitCode> {
     let words: Vec<String> = env::args(rt)?.collect(rt.alloc())?;
     let [_, path] = words.as_slice() else {
         eprintln!(rt; "usage: bench FILE")?;
@@ -35,6 +37,9 @@ fn run<R: Runtime + AllocGlobal + Threads + Sync>(rt: &R) -> Result<ExitCode> {
     let bytes = fs::read(rt, path).context("reading the file")?;
     let times = measure::least_times(rt, bytes.as_slice())?;
     measure::print(rt, &times)?;
+    let file = fs::open(rt, path).context("opening the file")?;
+    let of_file = files::least_times(rt, &file, bytes.as_slice())?;
+    files::print(rt, &of_file)?;
     let slices = slices::least_times(rt, bytes.as_slice())?;
     slices::print(rt, &slices)?;
     let checks = checks::least_times(rt, bytes.as_slice())?;

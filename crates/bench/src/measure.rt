@@ -7,50 +7,52 @@ use std::thread::Threads;
 use std::time::{Duration, Instant};
 
 // How often each way is taken. The ways take turns.
-const ROUNDS: u32 = 3;
+const ROUNDS: u32 = 5;
 
-/// The least time of each way.
-#[derive(Clone, Copy, Debug)]
-pub struct Times {
-    pub whole: Duration,
-    pub joined: Duration,
-    pub pieces: Duration,
-}
+/// The ways, by the names of their lines.
+const WAYS: [(&str, Way); 6] = [
+    ("hash", Way::Whole),
+    ("hash_join", Way::Joined),
+    ("hash_pool, 1 worker", Way::PooledByOne),
+    ("hash_pool, 4 workers", Way::PooledByFour),
+    ("Hasher, pieces of 64 KiB", Way::SmallPieces),
+    ("Hasher, pieces of 1 MiB", Way::LargePieces),
+];
 
-/// Hashes `bytes` in each way, several times. Fails where the hashes differ.
-pub fn least_times<R: Clock + Threads + Sync>(rt: &R, bytes: &[u8]) -> Result<Times> {
-    let mut least = Times {
-        whole: Duration::MAX,
-        joined: Duration::MAX,
-        pieces: Duration::MAX,
-    };
+/// Hashes `bytes` in each way, several times, and answers the least time of each. Fails where the hashes differ.
+pub fn least_times<R: Clock + AllocGlobal + Threads + Sync>(
+    rt: &R,
+    bytes: &[u8],
+) -> Result<[Duration; WAYS.len()]> {
+    let (expected, _) = timed(rt, Way::Whole, bytes)?;
+    let mut least = [Duration::MAX; WAYS.len()];
     for _ in 0..ROUNDS {
-        let (hash, whole) = timed(rt, Way::Whole, bytes)?;
-        let (of_joined, joined) = timed(rt, Way::Joined, bytes)?;
-        let (of_pieces, pieces) = timed(rt, Way::Pieces, bytes)?;
-        ensure!(
-            of_joined == hash && of_pieces == hash,
-            "the hashes of one input differ"
-        );
-        least.whole = least.whole.min(whole);
-        least.joined = least.joined.min(joined);
-        least.pieces = least.pieces.min(pieces);
+        for i in 0..WAYS.len() {
+            let (hash, time) = timed(rt, WAYS[i].1, bytes)?;
+            ensure!(hash == expected, "the hashes of one input differ");
+            least[i] = least[i].min(time);
+        }
     }
     Ok(least)
 }
 
 // The hash of `bytes` in this way, and how long it took.
-fn timed<R: Clock + Threads + Sync>(rt: &R, way: Way, bytes: &[u8]) -> Result<(Hash, Duration)> {
+fn timed<R: Clock + AllocGlobal + Threads + Sync>(
+    rt: &R,
+    way: Way,
+    bytes: &[u8],
+) -> Result<(Hash, Duration)> {
     let start = Instant::now(rt)?;
-    let hash = way.hash(rt, bytes)?;
+    let hash = way.hash(rt, rt.alloc(), bytes)?;
     Ok((hash, start.elapsed(rt)?))
 }
 
 /// Prints a line for each way: its name and its time in milliseconds.
-pub fn print(rt: &impl Print, times: &Times) -> io::Result<()> {
-    print_row(rt, "hash", times.whole)?;
-    print_row(rt, "hash_join", times.joined)?;
-    print_row(rt, "Hasher", times.pieces)
+pub fn print(rt: &impl Print, times: &[Duration; WAYS.len()]) -> io::Result<()> {
+    for i in 0..WAYS.len() {
+        print_row(rt, WAYS[i].0, times[i])?;
+    }
+    Ok(())
 }
 
 /// Prints the line of one time.

@@ -1,13 +1,12 @@
-ghost use Rattle.std.specs.Prelude.{◌≡◌, ◌≤◌, IfOk};
+ghost use Rattle.std.specs.Prelude.{◌≡◌, ◌<◌, ◌≤◌, IfOk};
 ghost use Rattle.b3tree.specs.Hashing.{hash};
 ghost use Rattle.b3tree.specs.Modes.{plain};
 
-use b3par::hash_join;
+use anyhow::Result;
+use b3par::{Open, hash_join, hash_pool};
 use b3tree::{CHUNK_LEN, Hash, Hasher, Mode, TooLong};
+use std::alloc::Global;
 use std::thread::Threads;
-
-// The size of a piece that a hasher is fed with.
-const PIECE_LEN: usize = 65_536;
 
 // Fewer chunks than these aren't worth a thread.
 const LEAST_GRAIN: u64 = 64;
@@ -22,21 +21,31 @@ pub enum Way {
     Whole,
     /// By `b3par::hash_join`, on several threads.
     Joined,
+    /// By `b3par::hash_pool` with one worker.
+    PooledByOne,
+    /// By `b3par::hash_pool` with four workers.
+    PooledByFour,
     /// By a `b3tree::Hasher` that is fed with pieces of 64 KiB, on one thread.
-    Pieces,
+    SmallPieces,
+    /// By one that is fed with pieces of 1 MiB.
+    LargePieces,
 }
 
 impl Way {
     /// The plain hash of `bytes`, made in this way.
-    pub fn hash<R: Threads + Sync>(self, rt: &R, bytes: &[u8]) -> Result<Hash, TooLong>
+    pub fn hash<R: Threads + Sync>(self, rt: &R, alloc: Global, bytes: &[u8]) -> Result<Hash>
         ensures { IfOk result (λ answer. answer.0 ≡ hash plain bytes.now) }
     {
         let mode = Mode::hash();
-        match self {
-            Way::Whole => Ok(b3tree::hash(&mode, bytes)),
-            Way::Joined => Ok(hash_join(rt, &mode, bytes, grain_of(bytes.len()))),
-            Way::Pieces => hash_pieces(&mode, bytes),
-        }
+        let hash = match self {
+            Way::Whole => b3tree::hash(&mode, bytes),
+            Way::Joined => hash_join(rt, &mode, bytes, grain_of(bytes.len())),
+            Way::PooledByOne => hash_pool(rt, alloc, &mode, bytes, 1, &Open)?,
+            Way::PooledByFour => hash_pool(rt, alloc, &mode, bytes, 4, &Open)?,
+            Way::SmallPieces => hash_pieces(&mode, bytes, 1 << 16)?,
+            Way::LargePieces => hash_pieces(&mode, bytes, 1 << 20)?,
+        };
+        Ok(hash)
     }
 }
 
@@ -48,13 +57,15 @@ fn grain_of(len: usize) -> u64
     chunks.div_ceil(PARTS).max(LEAST_GRAIN)
 }
 
-fn hash_pieces(mode: &Mode, bytes: &[u8]) -> Result<Hash, TooLong>
+// By a hasher that is fed with pieces of `piece_len` bytes.
+fn hash_pieces(mode: &Mode, bytes: &[u8], piece_len: usize) -> Result<Hash, TooLong>
+    requires { 0 < piece_len }
     ensures { IfOk result (λ answer. answer.0 ≡ hash mode.now bytes.now) }
 {
     let mut hasher = Hasher::new(mode);
     let mut rest = bytes;
     'pieces: while !rest.is_empty() {
-        let (piece, others) = rest.split_at(rest.len().min(PIECE_LEN));
+        let (piece, others) = rest.split_at(rest.len().min(piece_len));
         hasher.update(piece)?;
         rest = others;
     }
