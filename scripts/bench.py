@@ -98,7 +98,7 @@ AUDIT = "audit of the whole encoding"
 # The table: a name of what was timed, and how it worked. Lines of the program bench have their names from there;
 # a further way that it prints needs a line here, and one below where it has a ratio.
 ROWS = [
-    (HASH, "whole program, one thread, reads in pieces"),
+    (HASH, "whole program, as a user runs it"),
     (B3SUM_FOUR, "whole program, several threads"),
     (B3SUM_READ_FOUR, "whole program, reads in pieces"),
     (HASH_ONE, "whole program, one thread"),
