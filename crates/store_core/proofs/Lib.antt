@@ -15,3 +15,4 @@ pub mod Served
 pub mod Stepping
 pub mod Running
 pub mod OneRun
+pub mod Staging

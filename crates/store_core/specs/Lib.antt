@@ -12,4 +12,6 @@ pub mod Faults
 pub mod Slots
 pub mod Reached
 pub mod Stores
+pub mod Replays
+pub mod Stages
 pub mod Laws
