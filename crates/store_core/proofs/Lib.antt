@@ -16,3 +16,5 @@ pub mod Stepping
 pub mod Running
 pub mod OneRun
 pub mod Staging
+pub mod Marks
+pub mod Loading

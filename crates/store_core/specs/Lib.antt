@@ -12,6 +12,7 @@ pub mod Faults
 pub mod Slots
 pub mod Reached
 pub mod Stores
+pub mod Laws
+pub mod Served
 pub mod Replays
 pub mod Stages
-pub mod Laws

@@ -20,6 +20,7 @@ mod history;
 mod law;
 mod masks;
 mod micro;
+mod reading;
 mod schedule;
 mod slot;
 mod store;

@@ -1,15 +1,22 @@
-ghost use Rattle.std.specs.Prelude.{◌≡◌, ◌≢◌, ◌⊎◌, ◌↔◌, ℕ, ◌+◌, ◌^◌, ◌<◌, ◌==◌, if◌then◌else◌, ◌++◌, [], ◌∷◌, Some, length, true, IfOk, IsErrOf, IsTrue, OnOk};
+ghost use Rattle.std.specs.Prelude.{◌≡◌, ◌≢◌, ◌⊎◌, option_to_list, ◌↔◌, ℕ, ◌<◌, ◌≤◌, nat_lt, ◌==◌, ◌&&◌, ◌||◌, if◌then◌else◌, ◌++◌, List, Some, option_map, length, slice_index_or, true, false, IfOk, IsErrOf, IsTrue, OnOk};
 ghost use Rattle.store_core.specs.declared.fault.ReplayFault.TheVariants.{Capacity, Illegal};
 ghost use Rattle.store_core.specs.declared.fixed.Fixed.{Fixed};
-ghost use Rattle.store_core.specs.Machine.{position};
+ghost use Rattle.store_core.specs.Machine.{current_holds};
+ghost use Rattle.store_core.specs.Masks.{in_mask};
+ghost use Rattle.store_core.specs.Pieces.{piece_of};
+ghost use Rattle.bao_check.specs.declared.checked.Checked.{Checked};
 ghost use Rattle.store_core.specs.Replays.{IsIllegalAt, IsReplayed};
-ghost use Rattle.store_core.specs.Stages.{IsTaken, is_marked, player_in, reading_of};
+ghost use Rattle.store_core.specs.Slots.{caller};
+ghost use Rattle.store_core.specs.Stages.{IsCleared, IsFilled, IsTaken, is_marked, player_in};
+ghost use Rattle.store_core.specs.States.{claims};
+ghost use Rattle.store_core.specs.Stores.{fixed_of, state_of};
 
-use crate::fault::{ReplayFault, StoreFault};
+use crate::fault::ReplayFault;
 use crate::masks::{GROUP_LEN, has_bit};
-use crate::micro::{MicroStep, ReadBytes, Reply};
+use crate::micro::{MicroStep, Reply};
+use crate::reading::Reading;
 use crate::store::Store;
-use b3tree::{CHUNK_LEN, Hash, Mode};
+use b3tree::{Hash, Mode};
 use bao_check::Checked;
 use std::alloc::{AllocError, Global};
 
@@ -19,40 +26,22 @@ const CELL_WORDS: usize = 129;
 // The most bytes that a read of a schedule asks for.
 const MAX_READ: u32 = 65_536;
 
-const GROUP_BYTES: u64 = 65_536;
-
-// Which words of a chunk's cell were written, and in which turn: after which `Hash` of all. They count for the seat
-// whose turn that is.
-#[derive(Clone, Copy)]
-struct Cell {
-    turn: u64,
-    words: [bool; CELL_WORDS],
-}
-
-// A read under way, and the bytes that it has so far.
-#[derive(Drop)]
-struct Reading {
-    at: u64,
-    len: u32,
-    bytes: Vec<u8>,
-}
-
 #[derive(Drop)]
 struct Player<'a> {
     number: u32,
     piece: Option<Checked<'a>>,
-    turn: u64,
     reading: Option<Reading>,
 }
 
 // A schedule on its way: the one-thread store in place of the words, as far as held bits and claims go. What was
-// written need not be kept, since a chunk is shown once all its words come from the current piece.
+// written need not be kept, since a chunk is shown once all its words come from the current piece. That a word of a
+// claimed chunk was written, by the one seat that claims it and from its current piece, is kept for each word at index
+// 129 * chunk + word.
 #[derive(Drop)]
 struct Stage<'a> {
     alloc: Global,
     store: Store,
-    turns: u64,
-    cells: Vec<Cell>,
+    written: Vec<bool>,
     players: Vec<Player<'a>>,
 }
 
@@ -73,15 +62,6 @@ impl From<AllocError> for StepFault {
     }
 }
 
-impl From<StoreFault> for StepFault {
-    fn from(fault: StoreFault) -> StepFault {
-        match fault {
-            StoreFault::Memory => StepFault::Memory,
-            _ => StepFault::Illegal,
-        }
-    }
-}
-
 // Takes the seat's player out of the list; a seat that did nothing yet has a new one.
 fn take_player<'a>(players: &mut Vec<Player<'a>>, number: u32) -> Player<'a>
     ensures is { IsTaken (player_in players.old.items number) result }
@@ -96,7 +76,6 @@ fn take_player<'a>(players: &mut Vec<Player<'a>>, number: u32) -> Player<'a>
     Player {
         number,
         piece: None,
-        turn: 0,
         reading: None,
     }
 }
@@ -109,67 +88,123 @@ fn put_player<'a>(players: &mut Vec<Player<'a>>, player: Player<'a>) -> Result<(
     Ok(())
 }
 
-fn add(replies: &mut Vec<Reply>, reply: Reply) -> Result<(), AllocError>
-    ensures { OnOk result (replies.new.items ≡ replies.old.items ++ reply ∷ []) }
+// One more reply, if the step has one.
+fn add(replies: &mut Vec<Reply>, reply: Option<Reply>) -> Result<(), AllocError>
+    ensures { OnOk result (replies.new.items ≡ replies.old.items ++ option_to_list reply) }
 {
-    replies.push(reply)?;
+    if let Some(reply) = reply {
+        replies.push(reply)?;
+    }
     Ok(())
 }
 
-// Whether all words of the chunk's cell were written in the turn.
-fn is_written(cells: &[Cell], chunk: u32, turn: u64) -> bool
-    ensures { IsTrue result ↔ ((w : ℕ) → w < 129 → is_marked cells.now chunk turn w ≡ true) }
+// Whether all words of the chunk's cell are marked as written.
+fn is_written(written: &[bool], chunk: u32) -> bool
+    ensures { IsTrue result ↔ ((w : ℕ) → w < 129 → is_marked written.now chunk w ≡ true) }
 {
-    match cells.get(chunk as usize) {
-        Some(cell) => cell.turn == turn && cell.words.iter().all(|word| *word),
-        None => false,
+    let first = CELL_WORDS * chunk as usize;
+    for w in 0..CELL_WORDS {
+        if first + w >= written.len() || !written[first + w] {
+            return false;
+        }
     }
+    true
 }
 
-// Marks a word of the chunk's cell as written in the turn.
-fn mark(cells: &mut Vec<Cell>, chunk: u32, turn: u64, word: u8) -> Result<(), AllocError>
+// At least `len` words have a mark, if there is memory; none is added as written.
+fn grow(written: &mut Vec<bool>, len: usize) -> Result<(), AllocError>
+    ensures same { (k : ℕ) → slice_index_or written.new.items k false ≡ slice_index_or written.old.items k false }
+    ensures enough { OnOk result (len ≤ length written.new.items) }
+{
+    while written.len() < len {
+        written.push(false)?;
+    }
+    Ok(())
+}
+
+// Marks a word of the chunk's cell as written.
+fn mark(written: &mut Vec<bool>, chunk: u32, word: u8) -> Result<(), AllocError>
     requires { word < 129 }
+    ensures { OnOk result ((c w : ℕ) → w < 129 → is_marked written.new.items c w ≡ ((c == chunk) && (w == word) || is_marked written.old.items c w)) }
 {
-    while cells.len() <= chunk as usize {
-        cells.push(Cell {
-            turn: 0,
-            words: [false; CELL_WORDS],
-        })?;
-    }
-    let cell = &mut cells[chunk as usize];
-    if cell.turn != turn {
-        cell.turn = turn;
-        cell.words = [false; CELL_WORDS];
-    }
-    cell.words[word as usize] = true;
+    let i = CELL_WORDS * chunk as usize + word as usize;
+    grow(written, i + 1)?;
+    written[i] = true;
     Ok(())
 }
 
-// No word of the mask's chunks counts as written.
-fn unmark(cells: &mut [Cell], group: u32, mask: u64) {
-    let first = GROUP_LEN * group as usize;
-    for j in 0..64u32 {
-        let chunk = first + j as usize;
-        if has_bit(mask, j) && chunk < cells.len() {
-            cells[chunk].words = [false; CELL_WORDS];
+// No word of the chunk's cell counts as written.
+fn unmark(written: &mut [bool], chunk: u32)
+    ensures { IsCleared (λ c. c == chunk) written.old written.new }
+{
+    let first = CELL_WORDS * chunk as usize;
+    for w in 0..CELL_WORDS {
+        if first + w < written.len() {
+            written[first + w] = false;
         }
     }
 }
 
-// The position where the read goes on.
-fn position(reading: &Reading) -> u64
-    requires { reading.now.at + length reading.now.bytes.items < 2 ^ 64 }
-    ensures { result ≡ position (reading_of reading.now) }
+// No word of the mask's chunks counts as written.
+fn unmark_group(written: &mut [bool], group: u32, mask: u64)
+    requires { group < 1024 }
+    ensures { IsCleared (in_mask group mask) written.old written.new }
 {
-    reading.at + reading.bytes.len() as u64
+    for j in 0..64u32 {
+        if has_bit(mask, j) {
+            unmark(written, GROUP_LEN as u32 * group + j);
+        }
+    }
+}
+
+// No word of the chunks that the seat claims counts as written.
+fn unmark_claims(written: &mut [bool], store: &Store, seat: u32)
+    ensures { IsCleared (λ c. nat_lt c (fixed_of store.now).capacity && claims (caller seat) (state_of store.now) c) written.old written.new }
+{
+    for chunk in 0..store.fixed().capacity {
+        if store.has_claim(seat, chunk) {
+            unmark(written, chunk);
+        }
+    }
+}
+
+// Whether the player's current piece holds the chunk.
+fn does_hold(player: &Player<'_>, chunk: u32) -> bool
+    ensures { result ≡ current_holds (option_map piece_of player.now.piece) chunk }
+{
+    match player.piece {
+        Some(piece) => piece.chunk(u64::from(chunk)).is_some(),
+        None => false,
+    }
 }
 
 impl<'a> Stage<'a> {
-    fn claim(&mut self, seat: u32, group: u32, want: u64) -> Result<Reply, StepFault> {
-        Ok(Reply::Granted(self.store.take(seat, group, want)?))
+    ghost use Rattle.store_core.specs.declared.micro.MicroStep.{MicroStep};
+    ghost use Rattle.store_core.specs.declared.schedule.StepFault.{StepFault};
+    ghost use Rattle.store_core.specs.Stages.{DoesRefuse, DoesStep};
+
+    fn claim(&mut self, seat: u32, group: u32, want: u64) -> Result<Option<Reply>, StepFault>
+        ensures ok { (pieces : List Checked) → IfOk result (λ reply. DoesStep pieces self.old self.new (MicroStep.Claim seat group want) reply) }
+        ensures illegal { (pieces : List Checked) → IsErrOf result StepFault.Illegal → DoesRefuse pieces self.old (MicroStep.Claim seat group want) }
+    {
+        if group >= self.store.groups() {
+            return Err(StepFault::Illegal);
+        }
+        match self.store.take(seat, group, want) {
+            Ok(granted) => Ok(Some(Reply::Granted(granted))),
+            Err(_) => Err(StepFault::Memory),
+        }
     }
 
-    fn hash(&mut self, pieces: &[Checked<'a>], seat: u32, index: usize) -> Result<(), StepFault> {
+    fn hash(
+        &mut self,
+        pieces: &[Checked<'a>],
+        seat: u32,
+        index: usize,
+    ) -> Result<Option<Reply>, StepFault>
+        ensures ok { IfOk result (λ reply. DoesStep pieces.now self.old self.new (MicroStep.Hash seat index) reply) }
+        ensures illegal { IsErrOf result StepFault.Illegal → DoesRefuse pieces.now self.old (MicroStep.Hash seat index) }
+    {
         if index >= pieces.len() {
             return Err(StepFault::Illegal);
         }
@@ -177,103 +212,114 @@ impl<'a> Stage<'a> {
         if !self.store.is_of(&piece) {
             return Err(StepFault::Illegal);
         }
+        unmark_claims(self.written.as_mut_slice(), &self.store, seat);
         let mut player = take_player(&mut self.players, seat);
-        self.turns += 1;
-        player.turn = self.turns;
         player.piece = Some(piece);
-        put_player(&mut self.players, player)?;
-        Ok(())
-    }
-
-    fn write(&mut self, seat: u32, chunk: u32, word: u8) -> Result<(), StepFault> {
-        let player = take_player(&mut self.players, seat);
-        let holds = match player.piece {
-            Some(piece) => piece.chunk(u64::from(chunk)).is_some(),
-            None => false,
-        };
-        if word as usize >= CELL_WORDS || !holds || !self.store.has_claim(seat, chunk) {
-            return Err(StepFault::Illegal);
-        }
-        mark(&mut self.cells, chunk, player.turn, word)?;
-        put_player(&mut self.players, player)?;
-        Ok(())
-    }
-
-    fn publish(&mut self, seat: u32, group: u32) -> Result<Reply, StepFault> {
-        let player = take_player(&mut self.players, seat);
-        if group >= self.store.groups() {
-            return Err(StepFault::Illegal);
-        }
-        let piece = match player.piece {
-            Some(piece) => piece,
-            None => return Err(StepFault::Illegal),
-        };
-        for j in 0..64u32 {
-            let chunk = 64 * group + j;
-            if self.store.has_claim(seat, chunk)
-                && piece.chunk(u64::from(chunk)).is_some()
-                && !is_written(self.cells.as_slice(), chunk, player.turn)
-            {
-                return Err(StepFault::Illegal);
-            }
-        }
-        let committed = self.store.commit(seat, group, &piece)?;
-        put_player(&mut self.players, player)?;
-        Ok(Reply::Committed(committed))
-    }
-
-    fn give_back(&mut self, seat: u32, group: u32, mask: u64) -> Result<Reply, StepFault> {
-        if group >= self.store.groups() {
-            return Err(StepFault::Illegal);
-        }
-        let given = self.store.give(seat, group, mask);
-        unmark(self.cells.as_mut_slice(), group, given);
-        Ok(Reply::Given(given))
-    }
-
-    fn load(&mut self, seat: u32, at: u64, len: u32) -> Result<Option<Reply>, StepFault> {
-        let mut player = take_player(&mut self.players, seat);
-        let mut reading = match player.reading.take() {
-            Some(reading) => reading,
-            None => Reading {
-                at,
-                len,
-                bytes: Vec::new(self.alloc),
-            },
-        };
-        if len > MAX_READ || reading.at != at || reading.len != len {
-            return Err(StepFault::Illegal);
-        }
-        let from = position(&reading);
-        let mut over = from >= self.store.byte_capacity();
-        if !over {
-            let room = u64::from(len) - reading.bytes.len() as u64;
-            let count = room.min(GROUP_BYTES - from % GROUP_BYTES) as usize;
-            let mut out = vec![in self.alloc; 0u8; count]?;
-            match self.store.read(from, out.as_mut_slice()) {
-                Ok(()) => {}
-                Err(missing) => {
-                    out.truncate((missing.0 - from) as usize);
-                    over = true;
-                }
-            }
-            reading.bytes.extend_from_slice(out.as_slice())?;
-        }
-        let is_whole = reading.bytes.len() == len as usize;
-        let end = position(&reading);
-        if is_whole || over || end >= self.store.byte_capacity() {
-            put_player(&mut self.players, player)?;
-            if is_whole {
-                return Ok(Some(Reply::Bytes(ReadBytes::new(reading.bytes))));
-            }
-            return Ok(Some(Reply::NotHeld(end)));
-        }
-        player.reading = Some(reading);
         put_player(&mut self.players, player)?;
         Ok(None)
     }
 
-    fn settle(&mut self, seat: u32) -> Result<Reply, StepFault> {
+    fn write(&mut self, seat: u32, chunk: u32, word: u8) -> Result<Option<Reply>, StepFault>
+        ensures ok { (pieces : List Checked) → IfOk result (λ reply. DoesStep pieces self.old self.new (MicroStep.Write seat chunk word) reply) }
+        ensures illegal { (pieces : List Checked) → IsErrOf result StepFault.Illegal → DoesRefuse pieces self.old (MicroStep.Write seat chunk word) }
+    {
+        let player = take_player(&mut self.players, seat);
+        let holds = does_hold(&player, chunk);
+        if word as usize >= CELL_WORDS || !holds || !self.store.has_claim(seat, chunk) {
+            return Err(StepFault::Illegal);
+        }
+        mark(&mut self.written, chunk, word)?;
+        put_player(&mut self.players, player)?;
+        Ok(None)
+    }
+
+    fn publish(&mut self, seat: u32, group: u32) -> Result<Option<Reply>, StepFault>
+        ensures ok { (pieces : List Checked) → IfOk result (λ reply. DoesStep pieces self.old self.new (MicroStep.Publish seat group) reply) }
+        ensures illegal { (pieces : List Checked) → IsErrOf result StepFault.Illegal → DoesRefuse pieces self.old (MicroStep.Publish seat group) }
+    {
+        let player = take_player(&mut self.players, seat);
+        let piece = match player.piece {
+            Some(piece) => piece,
+            None => return Err(StepFault::Illegal),
+        };
+        if group >= self.store.groups() || !self.is_filled(seat, group, &piece) {
+            return Err(StepFault::Illegal);
+        }
+        let reply = match self.store.commit(seat, group, &piece) {
+            Ok(committed) => Reply::Committed(committed),
+            Err(_) => return Err(StepFault::Memory),
+        };
+        put_player(&mut self.players, player)?;
+        Ok(Some(reply))
+    }
+
+    // Whether all words were written of each chunk of the group that the seat claims and the piece holds.
+    fn is_filled(&self, seat: u32, group: u32, piece: &Checked<'_>) -> bool
+        requires { group < 1024 }
+        ensures { IsTrue result ↔ IsFilled self.now.store self.now.written.items seat group piece.now }
+    {
+        for j in 0..64u32 {
+            let chunk = GROUP_LEN as u32 * group + j;
+            if self.store.has_claim(seat, chunk)
+                && piece.chunk(u64::from(chunk)).is_some()
+                && !is_written(self.written.as_slice(), chunk)
+            {
+                return false;
+            }
+        }
+        true
+    }
+
+    fn give_back(
+        &mut self,
+        seat: u32,
+        group: u32,
+        mask: u64,
+    ) -> Result<Option<Reply>, StepFault>
+        ensures ok { (pieces : List Checked) → IfOk result (λ reply. DoesStep pieces self.old self.new (MicroStep.GiveBack seat group mask) reply) }
+        ensures illegal { (pieces : List Checked) → IsErrOf result StepFault.Illegal → DoesRefuse pieces self.old (MicroStep.GiveBack seat group mask) }
+    {
+        if group >= self.store.groups() {
+            return Err(StepFault::Illegal);
+        }
+        let given = self.store.give(seat, group, mask);
+        unmark_group(self.written.as_mut_slice(), group, given);
+        Ok(Some(Reply::Given(given)))
+    }
+
+    fn load(&mut self, seat: u32, at: u64, len: u32) -> Result<Option<Reply>, StepFault>
+        ensures ok { (pieces : List Checked) → IfOk result (λ reply. DoesStep pieces self.old self.new (MicroStep.Load seat at len) reply) }
+        ensures illegal { (pieces : List Checked) → IsErrOf result StepFault.Illegal → DoesRefuse pieces self.old (MicroStep.Load seat at len) }
+    {
+        let Player {
+            number,
+            piece,
+            reading,
+        } = take_player(&mut self.players, seat);
+        let before = Reading::begun(self.alloc, reading, at, len);
+        if len > MAX_READ || !before.is_of(at, len) {
+            return Err(StepFault::Illegal);
+        }
+        let from = before.position();
+        let after = before.carry_on(self.alloc, &self.store)?;
+        let (reply, reading) = if after.is_over(&self.store, from) {
+            (Some(after.reply()), None)
+        } else {
+            (None, Some(after))
+        };
+        let player = Player {
+            number,
+            piece,
+            reading,
+        };
+        put_player(&mut self.players, player)?;
+        Ok(reply)
+    }
+
+    fn settle(&mut self, seat: u32) -> Result<Option<Reply>, StepFault>
+        ensures ok { (pieces : List Checked) → IfOk result (λ reply. DoesStep pieces self.old self.new (MicroStep.Settle seat) reply) }
+        ensures illegal { (pieces : List Checked) → IsErrOf result StepFault.Illegal → DoesRefuse pieces self.old (MicroStep.Settle seat) }
+    {
         let player = take_player(&mut self.players, seat);
         let piece = match player.piece {
             Some(piece) => piece,
@@ -285,31 +331,34 @@ impl<'a> Stage<'a> {
         };
         let answer = self.store.settle(&tail);
         put_player(&mut self.players, player)?;
-        Ok(Reply::Settling(answer))
+        Ok(Some(Reply::Settling(answer)))
+    }
+
+    fn length(&mut self, seat: u32) -> Result<Option<Reply>, StepFault>
+        ensures ok { (pieces : List Checked) → IfOk result (λ reply. DoesStep pieces self.old self.new (MicroStep.Length seat) reply) }
+        ensures illegal { (pieces : List Checked) → IsErrOf result StepFault.Illegal → DoesRefuse pieces self.old (MicroStep.Length seat) }
+    {
+        let _ = seat;
+        Ok(Some(Reply::LengthIs(self.store.length())))
     }
 
     fn step(
         &mut self,
         pieces: &[Checked<'a>],
         step: &MicroStep,
-    ) -> Result<Option<Reply>, StepFault> {
+    ) -> Result<Option<Reply>, StepFault>
+        ensures ok { IfOk result (λ reply. DoesStep pieces.now self.old self.new step.now reply) }
+        ensures illegal { IsErrOf result StepFault.Illegal → DoesRefuse pieces.now self.old step.now }
+    {
         match *step {
-            MicroStep::Claim { seat, group, want } => Ok(Some(self.claim(seat, group, want)?)),
-            MicroStep::Hash { seat, piece } => {
-                self.hash(pieces, seat, piece)?;
-                Ok(None)
-            }
-            MicroStep::Write { seat, chunk, word } => {
-                self.write(seat, chunk, word)?;
-                Ok(None)
-            }
-            MicroStep::Publish { seat, group } => Ok(Some(self.publish(seat, group)?)),
-            MicroStep::GiveBack { seat, group, mask } => Ok(Some(self.give_back(
-                seat, group, mask,
-            )?)),
+            MicroStep::Claim { seat, group, want } => self.claim(seat, group, want),
+            MicroStep::Hash { seat, piece } => self.hash(pieces, seat, piece),
+            MicroStep::Write { seat, chunk, word } => self.write(seat, chunk, word),
+            MicroStep::Publish { seat, group } => self.publish(seat, group),
+            MicroStep::GiveBack { seat, group, mask } => self.give_back(seat, group, mask),
             MicroStep::Load { seat, at, len } => self.load(seat, at, len),
-            MicroStep::Settle { seat } => Ok(Some(self.settle(seat)?)),
-            MicroStep::Length { seat: _ } => Ok(Some(Reply::LengthIs(self.store.length()))),
+            MicroStep::Settle { seat } => self.settle(seat),
+            MicroStep::Length { seat } => self.length(seat),
         }
     }
 }
@@ -338,15 +387,16 @@ pub fn replay(
     let mut stage = Stage {
         alloc,
         store,
-        turns: 0,
-        cells: Vec::new(alloc),
+        written: Vec::new(alloc),
         players: Vec::new(alloc),
     };
+    for piece in pieces {
+        piece.is_accepted();
+    }
     let mut replies = Vec::new(alloc);
     for i in 0..steps.len() {
         match stage.step(pieces, &steps[i]) {
-            Ok(Some(reply)) => add(&mut replies, reply)?,
-            Ok(None) => {}
+            Ok(reply) => add(&mut replies, reply)?,
             Err(StepFault::Memory) => return Err(ReplayFault::Memory),
             Err(StepFault::Illegal) => return Err(ReplayFault::Illegal { step: i }),
         }

@@ -47,10 +47,10 @@ returns-then-index-number-clause-others c = λ k apart.
 pub returns-clause-is : goal.returns-clause-is
 returns-clause-is c =
     let first : List Player = c.args.players.now.items in
-    let d : Player = record { number = c.args.number; piece = None; turn = 0; reading = None } in
+    let d : Player = record { number = c.args.number; piece = None; reading = None } in
     let none : player_in first c.args.number ≡ None =
     player_none first c.args.number d (λ j h. c.loop-i.invariant.1 j d (omega (arith, h, ap length c.loop-i.invariant.0))) in
-    subst (λ (o : Option Player). IsTaken o d) (sym none) (refl, refl, refl)
+    subst (λ (o : Option Player). IsTaken o d) (sym none) (refl, refl)
 
 pub returns-clause-others : goal.returns-clause-others
 returns-clause-others c = λ k apart. ap (λ (xs : List Player). player_in xs k) c.loop-i.invariant.0
