@@ -18,3 +18,4 @@ pub mod OneRun
 pub mod Staging
 pub mod Marks
 pub mod Loading
+pub mod Standing

@@ -205,7 +205,7 @@ or_none : (b : Bool) → b ≡ (b || false)
 or_none true = refl
 or_none false = refl
 
-shown_or : (fixed : Fixed) (pieces : List Checked) (m : Machine) (n group mask c : ℕ)
+pub shown_or : (fixed : Fixed) (pieces : List Checked) (m : Machine) (n group mask c : ℕ)
     → is_shown (after_step fixed pieces m (Publish n group) (Some (Committed mask))) c ≡ (is_shown m c || in_mask group mask c)
 shown_or fixed pieces m n group mask c = elim (cases_Bool (c / 64 == group)) [
   | inl hit ↦ rw hit (has_bit-or (m.held_word (c / 64)) mask (c % 64))
