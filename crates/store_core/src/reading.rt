@@ -17,7 +17,7 @@ pub(crate) struct Reading {
 }
 
 impl Reading {
-    ghost use Rattle.std.specs.Prelude.{◌*◌, ◌/◌, ◌↔◌, nat_le, ◌==◌, ◌||◌, option_map, IfOk, IsTrue};
+    ghost use Rattle.std.specs.Prelude.{◌*◌, ◌/◌, ◌↔◌, nat_le, ◌==◌, ◌||◌, option_map, Some, None, if◌then◌else◌, IfOk, IsTrue};
     ghost use Rattle.store_core.specs.Machine.{is_whole, position, read_of};
     ghost use Rattle.store_core.specs.Schedules.{end_reply};
     ghost use Rattle.store_core.specs.Stages.{carried_on, reading_of};
@@ -100,13 +100,25 @@ impl Reading {
     }
 
     // What it answers at its end: its bytes if it has all, or else the position that isn't held.
-    pub(crate) fn reply(self) -> Reply
+    fn reply(self) -> Reply
         ensures { result ≡ end_reply (reading_of self) }
     {
         if self.bytes.len() == self.len as usize {
             Reply::Bytes(ReadBytes::new(self.bytes))
         } else {
             Reply::NotHeld(self.position())
+        }
+    }
+
+    // What its load answers, and the read that goes on.
+    pub(crate) fn outcome(self, is_last: bool) -> (Option<Reply>, Option<Reading>)
+        ensures reply { result.0 ≡ (if is_last then Some (end_reply (reading_of self)) else None) }
+        ensures reading { option_map reading_of result.1 ≡ (if is_last then None else Some (reading_of self)) }
+    {
+        if is_last {
+            (Some(self.reply()), None)
+        } else {
+            (None, Some(self))
         }
     }
 }

@@ -302,11 +302,8 @@ impl<'a> Stage<'a> {
         }
         let from = before.position();
         let after = before.carry_on(self.alloc, &self.store)?;
-        let (reply, reading) = if after.is_over(&self.store, from) {
-            (Some(after.reply()), None)
-        } else {
-            (None, Some(after))
-        };
+        let is_last = after.is_over(&self.store, from);
+        let (reply, reading) = after.outcome(is_last);
         let player = Player {
             number,
             piece,
