@@ -19,3 +19,4 @@ pub mod Staging
 pub mod Marks
 pub mod Loading
 pub mod Standing
+pub mod Replaying

@@ -5,7 +5,7 @@ use Rattle.b3tree.specs.declared.values.Hash.{Hash as Digest}
 use Rattle.bao_check.specs.declared.checked.Checked.{Checked}
 use Rattle.bao_check.specs.Checked.{HoldsLast}
 use Rattle.store_core.specs.declared.fixed.Fixed.{Fixed}
-use Rattle.store_core.specs.declared.history.Call.TheVariants.{Take, Give, Commit, Settle as SettleCall}
+use Rattle.store_core.specs.declared.history.Call.TheVariants.{Take, Give, Commit, Settle as SettleCall, Length as LengthCall}
 use Rattle.store_core.specs.declared.history.Event.{Event}
 use Rattle.store_core.specs.declared.history.Piece.{Piece}
 use Rattle.store_core.specs.declared.history.Settling.{Settling as Answer}
@@ -13,7 +13,7 @@ use Rattle.store_core.specs.declared.history.Settling.TheVariants.{Settled, Know
 use Rattle.store_core.specs.declared.micro.MicroStep.{MicroStep}
 use Rattle.store_core.specs.declared.micro.MicroStep.TheVariants.{Claim, Hash, Write, Publish, GiveBack, Load, Settle, Length}
 use Rattle.store_core.specs.declared.micro.Reply.{Reply}
-use Rattle.store_core.specs.declared.micro.Reply.TheVariants.{Granted, Committed, Given, Settling}
+use Rattle.store_core.specs.declared.micro.Reply.TheVariants.{Granted, Committed, Given, Settling, LengthIs}
 use Rattle.store_core.specs.declared.schedule.Player.{Player}
 use Rattle.store_core.specs.declared.schedule.Stage.{Stage}
 use Rattle.store_core.specs.declared.store.Store.{Store}
@@ -26,7 +26,7 @@ use Rattle.store_core.specs.Pieces.{holds_chunk, length_of, piece_of}
 use Rattle.store_core.specs.Schedules.{AreTexts, IsLegalStep, IsReply, IsWritten, HasTail, after_step, commit_by, current_length, end_reply, is_last_load, length_answer, read_after, read_before, settle_answer, step_events}
 use Rattle.store_core.specs.Served.{IsServed}
 use Rattle.store_core.specs.Slots.{caller}
-use Rattle.store_core.specs.Stages.{IsCleared, IsPlayer, IsSeatOf, IsStepped, IsTaken, StandsFor, carried_on, is_marked, player_in, reading_of}
+use Rattle.store_core.specs.Stages.{IsCleared, IsPlayer, IsSeatOf, IsStepped, IsTaken, Stands, StandsFor, carried_on, is_marked, player_in, reading_of}
 use Rattle.store_core.specs.States.{State, claims, is_claimed}
 use Rattle.store_core.specs.Stores.{IsEvent, IsOf, Settles, fixed_of, state_of}
 use Rattle.store_core.proofs.Running.{IsBefore, before_is, one_step}
@@ -501,3 +501,17 @@ load_same fixed pieces s old written m n at len was before served is taken begin
     let b : before ≡ read_before m n at len = begins ∙ ap (λ (o : Option Reading). read_of o at len) (sym old_seat.reading) in
     let first : IsBefore (store_of m) at len (read_before m n at len) = before_is (store_of m) (m.seat n).reading at len (served.reads n) legal.1 in
     (ap (λ (r : Reading). r.at) b ∙ first.at_is, ap (λ (r : Reading). r.len) b ∙ first.len_is)
+
+-- Length
+pub length_next : (pieces : List Checked) (stage : Stage) (m : Machine) (n : ℕ) (recorded : Option ℕ) → Stands stage m
+    → ((who : List Name) → IsEvent stage.store stage.store who (LengthCall recorded))
+    → IsNext (fixed_of stage.store) pieces (state_of stage.store) stage.players.items stage.written.items m (Length n) (Some (LengthIs recorded))
+length_next pieces stage m n recorded is each = record {
+  legal = tt;
+  right = ap (λ (o : Option ℕ). Some (LengthIs o)) ((each []).right ∙ ap (λ (s : State). s.recorded) is.state);
+  stands = is;
+}
+
+-- a step that is spelled in two ways
+pub legal_at : (fixed : Fixed) (pieces : List Checked) (m : Machine) (step other : MicroStep) → step ≡ other → IsLegalStep fixed pieces m step → IsLegalStep fixed pieces m other
+legal_at fixed pieces m step other e legal = subst (λ (x : MicroStep). IsLegalStep fixed pieces m x) e legal

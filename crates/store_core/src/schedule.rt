@@ -6,6 +6,7 @@ ghost use Rattle.store_core.specs.Masks.{in_mask};
 ghost use Rattle.store_core.specs.Pieces.{piece_of};
 ghost use Rattle.bao_check.specs.declared.checked.Checked.{Checked};
 ghost use Rattle.store_core.specs.Replays.{IsIllegalAt, IsReplayed};
+ghost use Rattle.store_core.specs.Schedules.{AreTexts};
 ghost use Rattle.store_core.specs.Slots.{caller};
 ghost use Rattle.store_core.specs.Stages.{IsCleared, IsFilled, IsTaken, is_marked, player_in};
 ghost use Rattle.store_core.specs.States.{claims};
@@ -360,6 +361,15 @@ impl<'a> Stage<'a> {
     }
 }
 
+// The texts are of bytes. A law: nothing runs on them.
+fn are_texts(pieces: &[Checked<'_>])
+    ensures { AreTexts pieces.now }
+{
+    for piece in pieces {
+        piece.is_accepted();
+    }
+}
+
 /// Runs a schedule from the empty store, step by step, and answers what the steps answer, in order, and the store that
 /// they leave. A seat is a number; it may have a current piece, words written from it, claims, and a read under way.
 ///
@@ -387,9 +397,7 @@ pub fn replay(
         written: Vec::new(alloc),
         players: Vec::new(alloc),
     };
-    for piece in pieces {
-        piece.is_accepted();
-    }
+    are_texts(pieces);
     let mut replies = Vec::new(alloc);
     for i in 0..steps.len() {
         match stage.step(pieces, &steps[i]) {
