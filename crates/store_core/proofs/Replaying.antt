@@ -1,8 +1,10 @@
 -- The run of a schedule, step by step.
-use Rattle.std.proofs.Common.{◌≡◌, ℕ, ◌+◌, ◌*◌, ◌<◌, Bool, false, arith, List, [], ◌∷◌, ◌++◌, length, take, get_or, slice_get, Option, Some, option_to_list, refl, sym, ap, subst, ◌∙◌, append_assoc}
+use Rattle.std.proofs.Common.{◌≡◌, ℕ, ◌+◌, ◌*◌, ◌<◌, Bool, false, arith, List, [], ◌∷◌, ◌++◌, length, take, get_or, slice_get, Option, Some, option_to_list, Result, Err, IsErrOf, refl, sym, ap, subst, ◌∙◌, append_assoc}
 use Rattle.std.proofs.lemmas.List.{append-nil, get_or_past, take_more}
 use Rattle.std.proofs.lemmas.Option.{get_or_from_slice_get}
 use Rattle.bao_check.specs.declared.checked.Checked.{Checked}
+use Rattle.store_core.specs.declared.fault.ReplayFault.{ReplayFault}
+use Rattle.store_core.specs.declared.fault.ReplayFault.TheVariants.{Illegal}
 use Rattle.store_core.specs.declared.fixed.Fixed.{Fixed}
 use Rattle.store_core.specs.declared.history.Event.{Event}
 use Rattle.store_core.specs.declared.micro.MicroStep.{MicroStep}
@@ -48,12 +50,12 @@ pub record IsInRun (fixed : Fixed) (pieces : List Checked) (steps : List MicroSt
   pub fixed_is : fixed_of stage.store ≡ fixed
   pub stands : Stands stage last
 
-pub run_none : (fixed : Fixed) (pieces : List Checked) (steps : List MicroStep) (stage : Stage) → fixed_of stage.store ≡ fixed → state_of stage.store ≡ empty
-    → stage.players.items ≡ [] → stage.written.items ≡ [] → IsInRun fixed pieces steps 0 [] stage
-run_none fixed pieces steps stage same new nobody unwritten = record {
+pub run_none : (fixed : Fixed) (pieces : List Checked) (steps : List MicroStep) (replies : List Reply) (stage : Stage) → replies ≡ [] → fixed_of stage.store ≡ fixed → state_of stage.store ≡ empty
+    → stage.players.items ≡ [] → stage.written.items ≡ [] → IsInRun fixed pieces steps 0 replies stage
+run_none fixed pieces steps replies stage silent same new nobody unwritten = record {
   history = [];
   last = start;
-  runs = (refl, refl, refl);
+  runs = (silent, refl, refl);
   served = start_served fixed;
   fixed_is = same;
   stands = record {
@@ -113,3 +115,7 @@ run_illegal fixed pieces steps i replies stage step found is refuses = record {
   illegal = λ legal. refuses is.last (subst (λ (f : Fixed). IsServed f is.last) (sym is.fixed_is) is.served) is.stands
       (subst (λ (f : Fixed). IsLegalStep f pieces is.last step) (sym is.fixed_is) legal);
 }
+
+-- the index that a refusal names
+pub same_index : {A : Type 0} (i k : ℕ) → IsErrOf {T = A} {E = ReplayFault} (Err (Illegal i)) (Illegal k) → i ≡ k
+same_index i k e = cc
