@@ -15,3 +15,8 @@ pub mod Served
 pub mod Stepping
 pub mod Running
 pub mod OneRun
+pub mod Staging
+pub mod Marks
+pub mod Loading
+pub mod Standing
+pub mod Replaying

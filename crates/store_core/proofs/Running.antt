@@ -23,7 +23,8 @@ use Rattle.store_core.specs.States.{State, byte_and, byte_at, empty, read_bytes}
 use Rattle.store_core.proofs.Choosing.{has_bit-zero}
 use Rattle.store_core.proofs.Lasting.{legal-join, run-append, sound_empty}
 use Rattle.store_core.proofs.ReadLaws.{is_read}
-use Rattle.store_core.proofs.Served.{IsKept, IsPart, IsServed, IsStep, keeps, shown_is}
+use Rattle.store_core.specs.Served.{IsKept, IsPart, IsServed}
+use Rattle.store_core.proofs.Served.{IsStep, keeps, shown_is}
 use Rattle.store_core.specs.Cells.{cell_bytes, cell_word}
 use Rattle.store_core.specs.Masks.{IsMaskOf}
 use Rattle.store_core.proofs.Stepping.{claim_step, give_step, hash_step, publish_step, write_step}

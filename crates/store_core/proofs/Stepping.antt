@@ -17,7 +17,8 @@ use Rattle.store_core.specs.Pieces.{IsAcceptedPiece, chunk_bytes, holds_chunk, n
 use Rattle.store_core.specs.Schedules.{AreTexts, HasPiece, IsWritten, after_step, event_by}
 use Rattle.store_core.specs.Slots.{caller}
 use Rattle.store_core.specs.States.{claims}
-use Rattle.store_core.proofs.Served.{IsServed, IsStep, chunk_fits, chunk_valid, claimed_hidden, claims_seat, free_same, has_bit-or, keeps, one_seat}
+use Rattle.store_core.specs.Served.{IsServed}
+use Rattle.store_core.proofs.Served.{IsStep, chunk_fits, chunk_valid, claimed_hidden, claims_seat, free_same, has_bit-or, keeps, one_seat}
 use Rattle.store_core.proofs.CellWords.{cell_is}
 use Rattle.store_core.proofs.Stored.{mask_same, same_state}
 use Rattle.store_core.proofs.Tells.{masked}
@@ -204,7 +205,7 @@ or_none : (b : Bool) → b ≡ (b || false)
 or_none true = refl
 or_none false = refl
 
-shown_or : (fixed : Fixed) (pieces : List Checked) (m : Machine) (n group mask c : ℕ)
+pub shown_or : (fixed : Fixed) (pieces : List Checked) (m : Machine) (n group mask c : ℕ)
     → is_shown (after_step fixed pieces m (Publish n group) (Some (Committed mask))) c ≡ (is_shown m c || in_mask group mask c)
 shown_or fixed pieces m n group mask c = elim (cases_Bool (c / 64 == group)) [
   | inl hit ↦ rw hit (has_bit-or (m.held_word (c / 64)) mask (c % 64))

@@ -13,3 +13,6 @@ pub mod Slots
 pub mod Reached
 pub mod Stores
 pub mod Laws
+pub mod Served
+pub mod Replays
+pub mod Stages

@@ -59,3 +59,27 @@ impl StoreFault {
 /// The least position of a range that is not held, in bytes.
 #[derive(Clone, Copy, Debug, PartialEq, Eq)]
 pub struct Missing(pub u64);
+
+/// Why a schedule was refused. No store is handed out.
+#[derive(Clone, Copy, Debug, PartialEq, Eq, Error)]
+pub enum ReplayFault {
+    /// There was no memory. Number 701.
+    #[error("701 memory")]
+    Memory,
+    /// The step with this index, from 0, is the least that isn't legal. Number 702.
+    #[error("702 illegal step {step}")]
+    Illegal { step: usize },
+    /// The capacity isn't 1 to 65,536 chunks. Number 802.
+    #[error("802 capacity")]
+    Capacity,
+}
+
+impl From<AllocError> for ReplayFault {
+    ghost use Rattle.store_core.specs.declared.fault.ReplayFault.{ReplayFault};
+
+    ghost from_gives = { λ _ fault. fault ≡ ReplayFault.Memory };
+
+    fn from(_memory: AllocError) -> ReplayFault {
+        ReplayFault::Memory
+    }
+}

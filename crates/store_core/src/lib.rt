@@ -1,7 +1,7 @@
 //! The one-thread store of a blob's chunks: its state, its events, their histories, and a seat's view.
 #![tactic(auto)]
 
-pub use fault::{BadCapacity, Missing, StoreFault};
+pub use fault::{BadCapacity, Missing, ReplayFault, StoreFault};
 pub use fixed::Fixed;
 pub use history::{Call, Event, Piece, Settling};
 pub use law::{
@@ -9,6 +9,7 @@ pub use law::{
     runs_are_legal, state_determines,
 };
 pub use micro::{MicroStep, ReadBytes, Reply};
+pub use schedule::replay;
 pub use store::{MAX_CAPACITY, Store};
 pub use view::{Named, SeatView, StoredWord};
 
@@ -19,6 +20,8 @@ mod history;
 mod law;
 mod masks;
 mod micro;
+mod reading;
+mod schedule;
 mod slot;
 mod store;
 #[cfg(test)]

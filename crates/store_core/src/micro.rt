@@ -38,6 +38,13 @@ impl Model for ReadBytes {
 }
 
 impl ReadBytes {
+    // These bytes, as a read gave them.
+    pub(crate) fn new(bytes: Vec<u8>) -> ReadBytes
+        ensures { result ≡ bytes.items }
+    {
+        ReadBytes { bytes }
+    }
+
     /// The bytes.
     pub fn as_slice(&self) -> &[u8]
         ensures { result.now ≡ self.now }

@@ -52,7 +52,7 @@ impl Pick<'_> {
 }
 
 // Whether chunk `c` has a slot and is picked.
-fn is_picked(slots: &[Slot], c: usize, pick: &Pick<'_>) -> bool
+pub(crate) fn is_picked(slots: &[Slot], c: usize, pick: &Pick<'_>) -> bool
     ensures { result ≡ (nat_lt c (length slots.now) && picks pick.now c (slot_at slots.now c)) }
 {
     match slots.get(c) {

@@ -1,4 +1,4 @@
-ghost use Rattle.std.specs.Prelude.{◌≡◌, ◌≢◌, ◌↔◌, ◌*◌, ℕ, ◌<◌, ◌≤◌, IfOk, IfSome, IsOk, IsErrOf, MatchResult, OnErr, List, length};
+ghost use Rattle.std.specs.Prelude.{◌≡◌, ◌≢◌, ◌↔◌, ◌*◌, ℕ, ◌<◌, ◌≤◌, IfOk, IfSome, IsOk, IsErrOf, IsTrue, MatchResult, OnErr, List, length};
 ghost use Rattle.store_core.specs.Slots.{caller, state_in};
 ghost use Rattle.store_core.specs.Reached.{IsReached};
 
@@ -7,7 +7,7 @@ use crate::fault::{BadCapacity, Missing, StoreFault};
 use crate::fixed::Fixed;
 use crate::history::Settling;
 use crate::masks::GROUP_LEN;
-use crate::slot::{Pick, Slot, chosen, copies, grow, put_claims, put_ready};
+use crate::slot::{Pick, Slot, chosen, copies, grow, is_picked, put_claims, put_ready};
 use b3tree::{CHUNK_LEN, Hash, Mode};
 use bao_check::{Checked, Tail};
 use std::alloc::Global;
@@ -35,7 +35,7 @@ impl Store {
     ghost use Rattle.bao_check.specs.Tail.{tail_piece};
     ghost use Rattle.store_core.specs.Names.{Name};
     ghost use Rattle.store_core.specs.Pieces.{piece_of};
-    ghost use Rattle.store_core.specs.States.{empty};
+    ghost use Rattle.store_core.specs.States.{claims, empty};
     ghost use Rattle.store_core.specs.Stores.{ChunksBind, DidRead, IsEvent, IsNew, IsOf, IsSame, LengthBinds, ReadBinds, Settles, filled_count, fixed_of, missing_in, state_of};
 
     /// A store that holds, claims and records nothing. It takes no memory.
@@ -69,10 +69,31 @@ impl Store {
     }
 
     // How many groups there are.
-    fn groups(&self) -> u32
+    pub(crate) fn groups(&self) -> u32
         ensures { result ≡ groups (fixed_of self.now) }
     {
         self.fixed.capacity.div_ceil(GROUP_LEN as u32)
+    }
+
+    // How many bytes it has room for.
+    pub(crate) fn byte_capacity(&self) -> u64
+        ensures { result ≡ 1024 * (fixed_of self.now).capacity }
+    {
+        CHUNK_LEN as u64 * u64::from(self.fixed.capacity)
+    }
+
+    // Whether the piece is of the store's root and mode.
+    pub(crate) fn is_of(&self, piece: &Checked<'_>) -> bool
+        ensures { IsTrue result ↔ IsOf (fixed_of self.now) piece.now }
+    {
+        self.fixed.is_of(&piece.root(), &piece.mode())
+    }
+
+    // Whether the seat claims the chunk.
+    pub(crate) fn has_claim(&self, seat: u32, chunk: u32) -> bool
+        ensures { result ≡ claims (caller seat) (state_of self.now) chunk }
+    {
+        is_picked(self.slots.as_slice(), chunk as usize, &Pick::Claimed(seat))
     }
 
     /// Claims for the seat the wanted chunks of a group that are below the capacity and neither held nor claimed, and

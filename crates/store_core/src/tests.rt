@@ -1,4 +1,4 @@
-use crate::{Missing, Settling, Store, StoreFault};
+use crate::{MicroStep, Missing, ReplayFault, Reply, Settling, Store, StoreFault, replay};
 use b3tree::{Hash, Mode, hash};
 use bao_check::{check_combined, check_slice};
 use bao_text::{combined, slice};
@@ -123,5 +123,72 @@ fn a_claimed_length_settles_nothing(rt: HostRuntime) -> Result<(), Fail> {
     assert_eq!(rt; store.take(1, 0, 1)?, 1);
     assert_eq!(rt; store.commit(1, 0, &piece)?, 1);
     assert_eq!(rt; store.length(), None);
+    Ok(())
+}
+
+// All words of a chunk's cell, in order.
+fn fill(steps: &mut Vec<MicroStep>, seat: u32, chunk: u32) -> Result<(), Fail> {
+    for word in 0..129u8 {
+        steps.push(MicroStep::Write { seat, chunk, word })?;
+    }
+    Ok(())
+}
+
+// The schedule of one chunk, `abc`, by seat 1, which seat 2 reads meanwhile; filled or not.
+fn schedule(rt: &HostRuntime, filled: bool) -> Result<Vec<MicroStep>, Fail> {
+    let load = MicroStep::Load {
+        seat: 2,
+        at: 0,
+        len: 3,
+    };
+    let mut steps = Vec::new(rt.alloc());
+    steps.push(MicroStep::Claim {
+        seat: 1,
+        group: 0,
+        want: 1,
+    })?;
+    steps.push(MicroStep::Hash { seat: 1, piece: 0 })?;
+    steps.push(load)?;
+    if filled {
+        fill(&mut steps, 1, 0)?;
+    }
+    steps.push(load)?;
+    steps.push(MicroStep::Publish { seat: 1, group: 0 })?;
+    steps.push(load)?;
+    steps.push(MicroStep::Settle { seat: 1 })?;
+    steps.push(MicroStep::Length { seat: 2 })?;
+    Ok(steps)
+}
+
+#[test]
+fn a_schedule_of_one_chunk(rt: HostRuntime) -> Result<(), Fail> {
+    let text = [3, 0, 0, 0, 0, 0, 0, 0, 0x61, 0x62, 0x63];
+    let root = hash(&Mode::hash(), b"abc");
+    let piece = check_slice(rt.alloc(), &Mode::hash(), &root, 0, 1, &text)?;
+    let steps = schedule(&rt, true)?;
+    let (replies, store) = replay(rt.alloc(), root, Mode::hash(), 65_536, &[piece], &steps)?;
+    assert_eq!(rt; replies.len(), 7);
+    assert!(rt; matches!(&replies[0], Reply::Granted(1)));
+    assert!(rt; matches!(&replies[1], Reply::NotHeld(0)));
+    assert!(rt; matches!(&replies[2], Reply::NotHeld(0)));
+    assert!(rt; matches!(&replies[3], Reply::Committed(1)));
+    match &replies[4] {
+        Reply::Bytes(bytes) => assert_eq!(rt; bytes.as_slice(), b"abc".as_slice()),
+        _ => assert!(rt; false),
+    }
+    assert!(rt; matches!(&replies[5], Reply::Settling(Settling::Settled)));
+    assert!(rt; matches!(&replies[6], Reply::LengthIs(Some(3))));
+    assert_eq!(rt; store.length(), Some(3));
+    Ok(())
+}
+
+#[test]
+fn a_chunk_that_was_not_filled(rt: HostRuntime) -> Result<(), Fail> {
+    let text = [3, 0, 0, 0, 0, 0, 0, 0, 0x61, 0x62, 0x63];
+    let root = hash(&Mode::hash(), b"abc");
+    let piece = check_slice(rt.alloc(), &Mode::hash(), &root, 0, 1, &text)?;
+    let steps = schedule(&rt, false)?;
+    let refused = replay(rt.alloc(), root, Mode::hash(), 65_536, &[piece], &steps);
+    assert!(rt; matches!(refused, Err(ReplayFault::Illegal { step: 4 })));
     Ok(())
 }

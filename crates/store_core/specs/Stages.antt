@@ -1,0 +1,86 @@
+-- A schedule on its way: what the store, the marks of written words and the players stand for.
+use Rattle.std.specs.Prelude.{◌≡◌, ℕ, ◌+◌, ◌-◌, ◌*◌, ◌/◌, ◌%◌, ◌<◌, min, nat_lt, ◌==◌, Bool, false, true, ◌&&◌, if◌then◌else◌, List, [], ◌∷◌, ◌++◌, length, Option, None, Some, option_map, slice_index_or}
+use Rattle.bao_check.specs.declared.checked.Checked.{Checked}
+use Rattle.store_core.specs.declared.fixed.Fixed.{Fixed}
+use Rattle.store_core.specs.declared.micro.MicroStep.{MicroStep}
+use Rattle.store_core.specs.declared.micro.Reply.{Reply}
+use Rattle.store_core.specs.declared.schedule.Player.{Player}
+use Rattle.store_core.specs.declared.reading.Reading.{Reading as Under}
+use Rattle.store_core.specs.declared.schedule.Stage.{Stage}
+use Rattle.store_core.specs.declared.store.Store.{Store}
+use Rattle.store_core.specs.Machine.{Machine, Reading, Seat, is_shown, position, seat_has, store_of}
+use Rattle.store_core.specs.Pieces.{holds_chunk, piece_of}
+use Rattle.store_core.specs.Schedules.{AreTexts, IsLegalStep, IsReply, after_step}
+use Rattle.store_core.specs.Served.{IsServed}
+use Rattle.store_core.specs.Slots.{caller}
+use Rattle.store_core.specs.States.{State, claims, read_bytes}
+use Rattle.store_core.specs.Stores.{IsOf, fixed_of, state_of}
+
+-- the seat's player, if it did something yet
+abbrev pub player_in : List Player → ℕ → Option Player
+player_in [] n = None
+player_in (player ∷ players) n = if player.number == n then Some player else player_in players n
+
+-- what is taken: the seat's player, or a new one
+abbrev pub IsTaken : Option Player → Player → Type 0
+IsTaken None player = (player.piece ≡ None) × (player.reading ≡ None)
+IsTaken (Some was) player = player ≡ was
+
+-- whether word w of the chunk's cell is marked as written
+abbrev pub is_marked : List Bool → ℕ → ℕ → Bool
+is_marked written c w = slice_index_or written (129 * c + w) false
+
+-- no word is marked of the chunks that pass the test, and the other marks stay
+abbrev pub IsCleared : (ℕ → Bool) → List Bool → List Bool → Type 0
+IsCleared test old new = (c w : ℕ) → w < 129 → is_marked new c w ≡ (if test c then false else is_marked old c w)
+
+-- of each chunk of the group that the seat claims and the piece holds, all words are marked
+abbrev pub IsFilled : Store → List Bool → ℕ → ℕ → Checked → Type 0
+IsFilled store written n group piece = (c w : ℕ) → c / 64 ≡ group → claims (caller n) (state_of store) c ≡ true → holds_chunk (piece_of piece) c ≡ true
+    → w < 129 → is_marked written c w ≡ true
+
+abbrev pub reading_of : Under → Reading
+reading_of r = record { at = r.at; len = r.len; bytes = r.bytes.items }
+
+-- a read with what a load of one group adds
+abbrev pub carried_on : Fixed → State → Reading → Reading
+carried_on fixed s r = record r {
+  bytes = if nat_lt (position r) (1024 * fixed.capacity) then r.bytes ++ read_bytes s (position r) (min (r.len - length r.bytes) (65536 - position r % 65536)) else r.bytes;
+}
+
+-- a player stands for the seat, but for the words written; its piece is of the store's root and mode
+pub record IsPlayer (fixed : Fixed) (player : Player) (seat : Seat) : Type 0 where
+  pub piece : seat.piece ≡ option_map piece_of player.piece
+  pub reading : seat.reading ≡ option_map reading_of player.reading
+  pub of : (piece : Checked) → player.piece ≡ Some piece → IsOf fixed piece
+
+abbrev pub IsSeatOf : Fixed → Option Player → Seat → Type 0
+IsSeatOf fixed None seat = (seat.piece ≡ None) × (seat.reading ≡ None)
+IsSeatOf fixed (Some player) seat = IsPlayer fixed player seat
+
+-- The store stands for what the words do, the players for the seats. Of a chunk that isn't shown the words that a seat
+-- wrote are those marked, if it claims the chunk, and none otherwise. If nobody claims it, no word is marked.
+pub record StandsFor (fixed : Fixed) (s : State) (players : List Player) (written : List Bool) (m : Machine) : Type 0 where
+  pub state : s ≡ store_of m
+  pub seats : (n : ℕ) → IsSeatOf fixed (player_in players n) (m.seat n)
+  pub wrote : (n c w : ℕ) → w < 129 → is_shown m c ≡ false → (m.seat n).written c w ≡ (seat_has m n c && is_marked written c w)
+  pub clean : (c w : ℕ) → w < 129 → m.claim c ≡ None → is_shown m c ≡ false → is_marked written c w ≡ false
+
+abbrev pub Stands : Stage → Machine → Type 0
+Stands stage m = StandsFor (fixed_of stage.store) (state_of stage.store) stage.players.items stage.written.items m
+
+-- Wherever a stage stands for a machine, the step is legal, this is its reply, and what the stage becomes stands for the
+-- machine after it.
+pub record IsStepped (fixed : Fixed) (pieces : List Checked) (new : Stage) (m : Machine) (step : MicroStep) (reply : Option Reply) : Type 0 where
+  pub legal : IsLegalStep fixed pieces m step
+  pub right : IsReply fixed m step reply
+  pub fixed_is : fixed_of new.store ≡ fixed
+  pub stands : Stands new (after_step fixed pieces m step reply)
+
+abbrev pub DoesStep : List Checked → Stage → Stage → MicroStep → Option Reply → Type 0
+DoesStep pieces old new step reply = (m : Machine) → AreTexts pieces → IsServed (fixed_of old.store) m → Stands old m
+    → IsStepped (fixed_of old.store) pieces new m step reply
+
+-- or the step isn't legal
+abbrev pub DoesRefuse : List Checked → Stage → MicroStep → Type 0
+DoesRefuse pieces old step = (m : Machine) → IsServed (fixed_of old.store) m → Stands old m → ¬ IsLegalStep (fixed_of old.store) pieces m step

@@ -1,0 +1,411 @@
+ghost use Rattle.std.specs.Prelude.{◌≡◌, ◌≢◌, ◌⊎◌, option_to_list, ◌↔◌, ℕ, ◌<◌, ◌≤◌, nat_lt, ◌==◌, ◌&&◌, ◌||◌, if◌then◌else◌, ◌++◌, List, Some, option_map, length, slice_index_or, true, false, IfOk, IsErrOf, IsTrue, OnOk};
+ghost use Rattle.store_core.specs.declared.fault.ReplayFault.TheVariants.{Capacity, Illegal};
+ghost use Rattle.store_core.specs.declared.fixed.Fixed.{Fixed};
+ghost use Rattle.store_core.specs.Machine.{current_holds};
+ghost use Rattle.store_core.specs.Masks.{in_mask};
+ghost use Rattle.store_core.specs.Pieces.{piece_of};
+ghost use Rattle.bao_check.specs.declared.checked.Checked.{Checked};
+ghost use Rattle.store_core.specs.Replays.{IsIllegalAt, IsReplayed};
+ghost use Rattle.store_core.specs.Schedules.{AreTexts};
+ghost use Rattle.store_core.specs.Slots.{caller};
+ghost use Rattle.store_core.specs.Stages.{IsCleared, IsFilled, IsTaken, is_marked, player_in};
+ghost use Rattle.store_core.specs.States.{claims};
+ghost use Rattle.store_core.specs.Stores.{fixed_of, state_of};
+
+use crate::fault::ReplayFault;
+use crate::masks::{GROUP_LEN, has_bit};
+use crate::micro::{MicroStep, Reply};
+use crate::reading::Reading;
+use crate::store::Store;
+use b3tree::{Hash, Mode};
+use bao_check::Checked;
+use std::alloc::{AllocError, Global};
+
+// A cell has its chunk's size and 128 words of eight bytes.
+const CELL_WORDS: usize = 129;
+
+// The most bytes that a read of a schedule asks for.
+const MAX_READ: u32 = 65_536;
+
+#[derive(Drop)]
+struct Player<'a> {
+    number: u32,
+    piece: Option<Checked<'a>>,
+    reading: Option<Reading>,
+}
+
+// A schedule on its way: the one-thread store in place of the words, as far as held bits and claims go. What was
+// written need not be kept, since a chunk is shown once all its words come from the current piece. That a word of a
+// claimed chunk was written, by the one seat that claims it and from its current piece, is kept for each word at index
+// 129 * chunk + word.
+#[derive(Drop)]
+struct Stage<'a> {
+    alloc: Global,
+    store: Store,
+    written: Vec<bool>,
+    players: Vec<Player<'a>>,
+}
+
+// Why a step did not run.
+#[derive(Clone, Copy)]
+enum StepFault {
+    Memory,
+    Illegal,
+}
+
+impl From<AllocError> for StepFault {
+    ghost use Rattle.store_core.specs.declared.schedule.StepFault.{StepFault};
+
+    ghost from_gives = { λ _ fault. fault ≡ StepFault.Memory };
+
+    fn from(_memory: AllocError) -> StepFault {
+        StepFault::Memory
+    }
+}
+
+// Takes the seat's player out of the list; a seat that did nothing yet has a new one.
+fn take_player<'a>(players: &mut Vec<Player<'a>>, number: u32) -> Player<'a>
+    ensures is { IsTaken (player_in players.old.items number) result }
+    ensures others { (k : ℕ) → k ≢ number → player_in players.new.items k ≡ player_in players.old.items k }
+    ensures number { result.number ≡ number }
+{
+    for i in 0..players.len() {
+        if players[i].number == number {
+            return players.remove(i);
+        }
+    }
+    Player {
+        number,
+        piece: None,
+        reading: None,
+    }
+}
+
+// Puts a seat's player first in the list.
+fn put_player<'a>(players: &mut Vec<Player<'a>>, player: Player<'a>) -> Result<(), AllocError>
+    ensures { OnOk result ((k : ℕ) → player_in players.new.items k ≡ (if player.entry.number == k then Some player.entry else player_in players.old.items k)) }
+{
+    players.insert(0, player)?;
+    Ok(())
+}
+
+// One more reply, if the step has one.
+fn add(replies: &mut Vec<Reply>, reply: Option<Reply>) -> Result<(), AllocError>
+    ensures { OnOk result (replies.new.items ≡ replies.old.items ++ option_to_list reply) }
+{
+    if let Some(reply) = reply {
+        replies.push(reply)?;
+    }
+    Ok(())
+}
+
+// Whether all words of the chunk's cell are marked as written.
+fn is_written(written: &[bool], chunk: u32) -> bool
+    ensures { IsTrue result ↔ ((w : ℕ) → w < 129 → is_marked written.now chunk w ≡ true) }
+{
+    let first = CELL_WORDS * chunk as usize;
+    for w in 0..CELL_WORDS {
+        if first + w >= written.len() || !written[first + w] {
+            return false;
+        }
+    }
+    true
+}
+
+// At least `len` words have a mark, if there is memory; none is added as written.
+fn grow(written: &mut Vec<bool>, len: usize) -> Result<(), AllocError>
+    ensures same { (k : ℕ) → slice_index_or written.new.items k false ≡ slice_index_or written.old.items k false }
+    ensures enough { OnOk result (len ≤ length written.new.items) }
+{
+    while written.len() < len {
+        written.push(false)?;
+    }
+    Ok(())
+}
+
+// Marks a word of the chunk's cell as written.
+fn mark(written: &mut Vec<bool>, chunk: u32, word: u8) -> Result<(), AllocError>
+    requires { word < 129 }
+    ensures { OnOk result ((c w : ℕ) → w < 129 → is_marked written.new.items c w ≡ ((c == chunk) && (w == word) || is_marked written.old.items c w)) }
+{
+    let i = CELL_WORDS * chunk as usize + word as usize;
+    grow(written, i + 1)?;
+    written[i] = true;
+    Ok(())
+}
+
+// No word of the chunk's cell counts as written.
+fn unmark(written: &mut [bool], chunk: u32)
+    ensures { IsCleared (λ c. c == chunk) written.old written.new }
+{
+    let first = CELL_WORDS * chunk as usize;
+    for w in 0..CELL_WORDS {
+        if first + w < written.len() {
+            written[first + w] = false;
+        }
+    }
+}
+
+// No word of the mask's chunks counts as written.
+fn unmark_group(written: &mut [bool], group: u32, mask: u64)
+    requires { group < 1024 }
+    ensures { IsCleared (in_mask group mask) written.old written.new }
+{
+    for j in 0..64u32 {
+        if has_bit(mask, j) {
+            unmark(written, GROUP_LEN as u32 * group + j);
+        }
+    }
+}
+
+// No word of the chunks that the seat claims counts as written.
+fn unmark_claims(written: &mut [bool], store: &Store, seat: u32)
+    ensures { IsCleared (λ c. nat_lt c (fixed_of store.now).capacity && claims (caller seat) (state_of store.now) c) written.old written.new }
+{
+    for chunk in 0..store.fixed().capacity {
+        if store.has_claim(seat, chunk) {
+            unmark(written, chunk);
+        }
+    }
+}
+
+// Whether the player's current piece holds the chunk.
+fn does_hold(player: &Player<'_>, chunk: u32) -> bool
+    ensures { result ≡ current_holds (option_map piece_of player.now.piece) chunk }
+{
+    match player.piece {
+        Some(piece) => piece.chunk(u64::from(chunk)).is_some(),
+        None => false,
+    }
+}
+
+impl<'a> Stage<'a> {
+    ghost use Rattle.store_core.specs.declared.micro.MicroStep.{MicroStep};
+    ghost use Rattle.store_core.specs.declared.schedule.StepFault.{StepFault};
+    ghost use Rattle.store_core.specs.Stages.{DoesRefuse, DoesStep};
+
+    fn claim(&mut self, seat: u32, group: u32, want: u64) -> Result<Option<Reply>, StepFault>
+        ensures ok { (pieces : List Checked) → IfOk result (λ reply. DoesStep pieces self.old self.new (MicroStep.Claim seat group want) reply) }
+        ensures illegal { (pieces : List Checked) → IsErrOf result StepFault.Illegal → DoesRefuse pieces self.old (MicroStep.Claim seat group want) }
+    {
+        if group >= self.store.groups() {
+            return Err(StepFault::Illegal);
+        }
+        match self.store.take(seat, group, want) {
+            Ok(granted) => Ok(Some(Reply::Granted(granted))),
+            Err(_) => Err(StepFault::Memory),
+        }
+    }
+
+    fn hash(
+        &mut self,
+        pieces: &[Checked<'a>],
+        seat: u32,
+        index: usize,
+    ) -> Result<Option<Reply>, StepFault>
+        ensures ok { IfOk result (λ reply. DoesStep pieces.now self.old self.new (MicroStep.Hash seat index) reply) }
+        ensures illegal { IsErrOf result StepFault.Illegal → DoesRefuse pieces.now self.old (MicroStep.Hash seat index) }
+    {
+        if index >= pieces.len() {
+            return Err(StepFault::Illegal);
+        }
+        let piece = pieces[index];
+        if !self.store.is_of(&piece) {
+            return Err(StepFault::Illegal);
+        }
+        unmark_claims(self.written.as_mut_slice(), &self.store, seat);
+        let mut player = take_player(&mut self.players, seat);
+        player.piece = Some(piece);
+        put_player(&mut self.players, player)?;
+        Ok(None)
+    }
+
+    fn write(&mut self, seat: u32, chunk: u32, word: u8) -> Result<Option<Reply>, StepFault>
+        ensures ok { (pieces : List Checked) → IfOk result (λ reply. DoesStep pieces self.old self.new (MicroStep.Write seat chunk word) reply) }
+        ensures illegal { (pieces : List Checked) → IsErrOf result StepFault.Illegal → DoesRefuse pieces self.old (MicroStep.Write seat chunk word) }
+    {
+        let player = take_player(&mut self.players, seat);
+        let holds = does_hold(&player, chunk);
+        if word as usize >= CELL_WORDS || !holds || !self.store.has_claim(seat, chunk) {
+            return Err(StepFault::Illegal);
+        }
+        mark(&mut self.written, chunk, word)?;
+        put_player(&mut self.players, player)?;
+        Ok(None)
+    }
+
+    fn publish(&mut self, seat: u32, group: u32) -> Result<Option<Reply>, StepFault>
+        ensures ok { (pieces : List Checked) → IfOk result (λ reply. DoesStep pieces self.old self.new (MicroStep.Publish seat group) reply) }
+        ensures illegal { (pieces : List Checked) → IsErrOf result StepFault.Illegal → DoesRefuse pieces self.old (MicroStep.Publish seat group) }
+    {
+        let player = take_player(&mut self.players, seat);
+        let piece = match player.piece {
+            Some(piece) => piece,
+            None => return Err(StepFault::Illegal),
+        };
+        if group >= self.store.groups() || !self.is_filled(seat, group, &piece) {
+            return Err(StepFault::Illegal);
+        }
+        let reply = match self.store.commit(seat, group, &piece) {
+            Ok(committed) => Reply::Committed(committed),
+            Err(_) => return Err(StepFault::Memory),
+        };
+        put_player(&mut self.players, player)?;
+        Ok(Some(reply))
+    }
+
+    // Whether all words were written of each chunk of the group that the seat claims and the piece holds.
+    fn is_filled(&self, seat: u32, group: u32, piece: &Checked<'_>) -> bool
+        requires { group < 1024 }
+        ensures { IsTrue result ↔ IsFilled self.now.store self.now.written.items seat group piece.now }
+    {
+        for j in 0..64u32 {
+            let chunk = GROUP_LEN as u32 * group + j;
+            if self.store.has_claim(seat, chunk)
+                && piece.chunk(u64::from(chunk)).is_some()
+                && !is_written(self.written.as_slice(), chunk)
+            {
+                return false;
+            }
+        }
+        true
+    }
+
+    fn give_back(
+        &mut self,
+        seat: u32,
+        group: u32,
+        mask: u64,
+    ) -> Result<Option<Reply>, StepFault>
+        ensures ok { (pieces : List Checked) → IfOk result (λ reply. DoesStep pieces self.old self.new (MicroStep.GiveBack seat group mask) reply) }
+        ensures illegal { (pieces : List Checked) → IsErrOf result StepFault.Illegal → DoesRefuse pieces self.old (MicroStep.GiveBack seat group mask) }
+    {
+        if group >= self.store.groups() {
+            return Err(StepFault::Illegal);
+        }
+        let given = self.store.give(seat, group, mask);
+        unmark_group(self.written.as_mut_slice(), group, given);
+        Ok(Some(Reply::Given(given)))
+    }
+
+    fn load(&mut self, seat: u32, at: u64, len: u32) -> Result<Option<Reply>, StepFault>
+        ensures ok { (pieces : List Checked) → IfOk result (λ reply. DoesStep pieces self.old self.new (MicroStep.Load seat at len) reply) }
+        ensures illegal { (pieces : List Checked) → IsErrOf result StepFault.Illegal → DoesRefuse pieces self.old (MicroStep.Load seat at len) }
+    {
+        let Player {
+            number,
+            piece,
+            reading,
+        } = take_player(&mut self.players, seat);
+        let before = Reading::begun(self.alloc, reading, at, len);
+        if len > MAX_READ || !before.is_of(at, len) {
+            return Err(StepFault::Illegal);
+        }
+        let from = before.position();
+        let after = before.carry_on(self.alloc, &self.store)?;
+        let is_last = after.is_over(&self.store, from);
+        let (reply, reading) = after.outcome(is_last);
+        let player = Player {
+            number,
+            piece,
+            reading,
+        };
+        put_player(&mut self.players, player)?;
+        Ok(reply)
+    }
+
+    fn settle(&mut self, seat: u32) -> Result<Option<Reply>, StepFault>
+        ensures ok { (pieces : List Checked) → IfOk result (λ reply. DoesStep pieces self.old self.new (MicroStep.Settle seat) reply) }
+        ensures illegal { (pieces : List Checked) → IsErrOf result StepFault.Illegal → DoesRefuse pieces self.old (MicroStep.Settle seat) }
+    {
+        let player = take_player(&mut self.players, seat);
+        let piece = match player.piece {
+            Some(piece) => piece,
+            None => return Err(StepFault::Illegal),
+        };
+        let tail = match piece.tail() {
+            Some(tail) => tail,
+            None => return Err(StepFault::Illegal),
+        };
+        let answer = self.store.settle(&tail);
+        put_player(&mut self.players, player)?;
+        Ok(Some(Reply::Settling(answer)))
+    }
+
+    fn length(&mut self, seat: u32) -> Result<Option<Reply>, StepFault>
+        ensures ok { (pieces : List Checked) → IfOk result (λ reply. DoesStep pieces self.old self.new (MicroStep.Length seat) reply) }
+        ensures illegal { (pieces : List Checked) → IsErrOf result StepFault.Illegal → DoesRefuse pieces self.old (MicroStep.Length seat) }
+    {
+        let _ = seat;
+        Ok(Some(Reply::LengthIs(self.store.length())))
+    }
+
+    fn step(
+        &mut self,
+        pieces: &[Checked<'a>],
+        step: &MicroStep,
+    ) -> Result<Option<Reply>, StepFault>
+        ensures ok { IfOk result (λ reply. DoesStep pieces.now self.old self.new step.now reply) }
+        ensures illegal { IsErrOf result StepFault.Illegal → DoesRefuse pieces.now self.old step.now }
+    {
+        match *step {
+            MicroStep::Claim { seat, group, want } => self.claim(seat, group, want),
+            MicroStep::Hash { seat, piece } => self.hash(pieces, seat, piece),
+            MicroStep::Write { seat, chunk, word } => self.write(seat, chunk, word),
+            MicroStep::Publish { seat, group } => self.publish(seat, group),
+            MicroStep::GiveBack { seat, group, mask } => self.give_back(seat, group, mask),
+            MicroStep::Load { seat, at, len } => self.load(seat, at, len),
+            MicroStep::Settle { seat } => self.settle(seat),
+            MicroStep::Length { seat } => self.length(seat),
+        }
+    }
+}
+
+// The texts are of bytes. A law: nothing runs on them.
+fn are_texts(pieces: &[Checked<'_>])
+    ensures { AreTexts pieces.now }
+{
+    for piece in pieces {
+        piece.is_accepted();
+    }
+}
+
+/// Runs a schedule from the empty store, step by step, and answers what the steps answer, in order, and the store that
+/// they leave. A seat is a number; it may have a current piece, words written from it, claims, and a read under way.
+///
+/// 802 `Capacity` where the capacity isn't 1 to 65,536 chunks. Else, whichever it meets first: 702 `Illegal` with the
+/// least index, from 0, of a step that isn't legal, and 701 `Memory`. No store is handed out then.
+pub fn replay(
+    alloc: Global,
+    root: Hash,
+    mode: Mode,
+    capacity: u32,
+    pieces: &[Checked<'_>],
+    steps: &[MicroStep],
+) -> Result<(Vec<Reply>, Store), ReplayFault>
+    ensures capacity { IsErrOf result Capacity ↔ ((capacity ≡ 0) ⊎ (65536 < capacity)) }
+    ensures ok { IfOk result (λ r. IsReplayed (record { root = root; mode = mode; capacity = capacity }) pieces.now steps.now r.0.items r.1) }
+    ensures illegal { (i : ℕ) → IsErrOf result (Illegal i) → IsIllegalAt (record { root = root; mode = mode; capacity = capacity }) pieces.now steps.now i }
+{
+    let store = match Store::new(alloc, root, mode, capacity) {
+        Ok(store) => store,
+        Err(_) => return Err(ReplayFault::Capacity),
+    };
+    let mut stage = Stage {
+        alloc,
+        store,
+        written: Vec::new(alloc),
+        players: Vec::new(alloc),
+    };
+    are_texts(pieces);
+    let mut replies = Vec::new(alloc);
+    for i in 0..steps.len() {
+        match stage.step(pieces, &steps[i]) {
+            Ok(reply) => add(&mut replies, reply)?,
+            Err(StepFault::Memory) => return Err(ReplayFault::Memory),
+            Err(StepFault::Illegal) => return Err(ReplayFault::Illegal { step: i }),
+        }
+    }
+    let Stage { store, .. } = stage;
+    Ok((replies, store))
+}
