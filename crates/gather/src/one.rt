@@ -14,11 +14,9 @@ use store_core::{Fixed, Settling, Store, StoreFault};
 // The seat number of the worker of a one-thread store.
 const SEAT: u32 = 0;
 
-// A one-thread store, which is its one worker's seat: this is what the worker was told of it.
+// The shelf of a one-thread store, which is its one worker's seat and has all there is to say of it.
 #[derive(Drop)]
-struct Alone {
-    fixed: Fixed,
-}
+struct Alone;
 
 impl Shelf for Alone {
     ghost use Rattle.gather.specs.Working.{adds_work, no_work};
@@ -31,8 +29,8 @@ impl Shelf for Alone {
 
     ghost gained = { λ old new chunks. HasWorked old new chunks };
 
-    fn fixed(&self, _store: &Store) -> Fixed {
-        self.fixed
+    fn fixed(&self, store: &Store) -> Fixed {
+        store.fixed()
     }
 
     fn take(&self, store: &mut Store, group: u32, want: u64) -> Result<u64, StoreFault> {
@@ -74,28 +72,21 @@ impl Shelf for Alone {
 /// chunks granted is left; those that are it gives back. All this is done twice.
 ///
 /// It refuses nothing. Refused memory is counted in the report: where a take meets it the group is left, else the
-/// next holder is asked. Texts are checked under the root and in the mode of `fixed`, and the store takes none of
-/// another's.
+/// next holder is asked. Texts are checked under the store's root and in its mode.
 ///
 /// What the worker did is a history of its own calls, each with the right reply in its turn: so what is stored comes
 /// from texts accepted under the store's root. No claim is left that the worker took.
-pub fn run_one<H: Holder>(
-    alloc: Global,
-    fixed: &Fixed,
-    store: &mut Store,
-    holders: &mut [H],
-) -> Report
+pub fn run_one<H: Holder>(alloc: Global, store: &mut Store, holders: &mut [H]) -> Report
     ensures worked { Gains HasWorked store.old store.new 0 result.committed }
     ensures certified { AddsCertified store.old store.new }
     ensures claims { Among (worker_claims store.old) (worker_claims store.new) }
 {
-    let shelf = Alone { fixed: *fixed };
     let place = Place {
         number: 0,
         workers: 1,
     };
     let mut report = Report::new();
-    work(alloc, &shelf, store, holders, place, &mut report);
-    work(alloc, &shelf, store, holders, place, &mut report);
+    work(alloc, &Alone, store, holders, place, &mut report);
+    work(alloc, &Alone, store, holders, place, &mut report);
     report
 }

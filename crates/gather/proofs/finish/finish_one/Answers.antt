@@ -1,5 +1,7 @@
 use Rattle.std.proofs.Common.{◌≡◌, ℕ, List, [], length, sym, ap, subst, ◌∙◌, inl, inr, arith}
 use Rattle.std.proofs.lemmas.List.{with_items_is}
+use Rattle.b3tree.specs.Hashing.{hash}
+use Rattle.store_core.specs.declared.fixed.Fixed.{Fixed}
 use Rattle.store_core.specs.Stores.{state_of}
 use Rattle.gather.specs.Finished.{IsWhole}
 use Rattle.gather.proofs.Finishing.{differs, no_none, read_lacks, read_whole}
@@ -29,7 +31,8 @@ returns-then-ne-clause-other c = λ _.
     record {
       bytes = c.as_slice.result.now;
       whole = subst (λ (xs : List ℕ). IsWhole (state_of c.args.store.now) xs) (sym put) whole;
-      hashed = λ same. differs c.hash.result.0 c.args.fixed.now.root.0 c.if-ne.ensures (c.hash.ensures.value ∙ same);
+      hashed = λ same. differs c.hash.result.0 c.fixed-fixed.result.root.0 c.if-ne.ensures
+          (c.hash.ensures.value ∙ subst (λ (fixed : Fixed). hash fixed.mode c.as_slice.result.now ≡ fixed.root.0) (sym c.fixed-fixed.ensures) same);
     }
 
 pub returns-clause-whole : goal.returns-clause-whole
