@@ -1,4 +1,4 @@
-use crate::{Encoded, FinishFault, Holder, Report, finish_one, run_one};
+use crate::{Encoded, FinishFault, GatherFault, Holder, Report, finish_one, gather_texts, run_one};
 use b3tree::{Cv, Hash, Mode, cv, hash, parent_input, root_hash, rooted, subtree_cv};
 use bao_check::check_slice;
 use bao_text::combined;
@@ -69,6 +69,28 @@ fn two_of_three_holders_are_bad(rt: HostRuntime) -> Result<(), Fail> {
     assert_eq!(rt; report, all);
     let gathered = finish_one(rt.alloc(), &store)?;
     assert_eq!(rt; gathered.as_slice(), bytes.as_slice());
+    Ok(())
+}
+
+// The same texts, without a store of one's own.
+#[test]
+fn the_blob_of_three_texts(rt: HostRuntime) -> Result<(), Fail> {
+    let mode = Mode::hash();
+    let bytes = blob(&rt, 3000)?;
+    let (root, whole) = combined(rt.alloc(), &mode, bytes.as_slice())?;
+    let (_, shorter) = combined(rt.alloc(), &mode, blob(&rt, 2999)?.as_slice())?;
+    let mut cut = Vec::new(rt.alloc());
+    cut.extend_from_slice(whole.as_slice().get(..1000).ok_or("cut")?)?;
+    let mut texts = vec![in rt.alloc(); cut, shorter]?;
+    let unfinished = gather_texts(rt.alloc(), root, mode, 65_536, texts.as_slice());
+    assert!(rt; matches!(&unfinished, Err(GatherFault::Unfinished)));
+    texts.push(whole)?;
+    let gathered = gather_texts(rt.alloc(), root, mode, 65_536, texts.as_slice())?;
+    assert_eq!(rt; gathered.as_slice(), bytes.as_slice());
+    let small = gather_texts(rt.alloc(), root, mode, 2, texts.as_slice());
+    assert!(rt; matches!(&small, Err(GatherFault::TooLarge)));
+    let none = gather_texts(rt.alloc(), root, mode, 0, texts.as_slice());
+    assert!(rt; matches!(&none, Err(GatherFault::Capacity)));
     Ok(())
 }
 
