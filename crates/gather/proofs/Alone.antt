@@ -1,7 +1,12 @@
 -- What each call of a one-thread store is for its worker.
 use Rattle.std.proofs.Common.{◌≡◌, ℕ, ◌%◌, ◌/◌, ◌==◌, true, false, [], ◌∷◌, Result, Ok, Err, IfOk, OnErr, MatchResult, count_ones, refl, subst, ◌∙◌, arith, inl, inr, eqb-true}
 use Rattle.std.proofs.lemmas.Bool.{and_from, and_parts, both_ways, cases_Bool}
+use Rattle.b3tree.specs.declared.mode.Mode.{Mode}
+use Rattle.b3tree.specs.declared.values.Hash.{Hash}
+use Rattle.b3tree.specs.Valid.{AreBytes}
 use Rattle.bao_check.specs.declared.checked.Checked.{Checked}
+use Rattle.bao_check.specs.Accepted.{IsAccepted}
+use Rattle.bao_check.specs.Checked.{HoldsLast, piece_mode, piece_nodes, piece_root, piece_text}
 use Rattle.store_core.specs.declared.fault.StoreFault.{StoreFault}
 use Rattle.store_core.specs.declared.history.Call.{Call}
 use Rattle.store_core.specs.declared.history.Call.TheVariants.{Take, Give, Commit, Settle}
@@ -13,9 +18,10 @@ use Rattle.store_core.specs.Events.{after_call}
 use Rattle.store_core.specs.Masks.{has_bit, in_mask}
 use Rattle.store_core.specs.Pieces.{piece_of}
 use Rattle.store_core.specs.States.{State, claims}
-use Rattle.store_core.specs.Stores.{IsEvent, IsSame, Settles, state_of}
+use Rattle.store_core.specs.Stores.{IsEvent, IsSame, Settles, fixed_of, state_of}
 use Rattle.gather.specs.Claims.{Among, AmongAnd, Without}
 use Rattle.gather.specs.Counts.{Still}
+use Rattle.gather.specs.Large.{IsTooLarge}
 use Rattle.gather.specs.Worked.{HasWorked, chunks_of, worker, worker_claims}
 
 pub worked_one : (old new : Store) (call : Call) → IsEvent old new worker call → HasWorked old new (chunks_of call)
@@ -108,3 +114,22 @@ settles_still old new piece Known settles = settle_still old new (piece_of piece
 settles_still old new piece Differs settles = settle_still old new (piece_of piece) Differs (settles worker)
 settles_still old new piece OtherRoot settles = (worked_none old new settles.1, among_same old new settles.1)
 settles_still old new piece TooLarge settles = (worked_none old new settles.2, among_same old new settles.2)
+
+-- the piece of a tail that is too large is an accepted one of the store's root and mode, with the last chunk
+pub settles_large : (old new : Store) (piece : Checked) (answer : Settling) → AreBytes (piece_text piece)
+    → IsAccepted (piece_mode piece) (piece_root piece) (piece_text piece) (piece_nodes piece) → HoldsLast piece → Settles old new piece answer → answer ≡ TooLarge
+    → IsTooLarge (fixed_of old)
+settles_large old new piece Settled bytes accepted last settles is = let no : Settled ≡ TooLarge = is in cc
+settles_large old new piece Known bytes accepted last settles is = let no : Known ≡ TooLarge = is in cc
+settles_large old new piece Differs bytes accepted last settles is = let no : Differs ≡ TooLarge = is in cc
+settles_large old new piece OtherRoot bytes accepted last settles is = let no : OtherRoot ≡ TooLarge = is in cc
+settles_large old new piece TooLarge bytes accepted last settles is = record {
+  piece = piece_of piece;
+  accepted = record {
+    bytes = bytes;
+    accepted = subst (λ (mode : Mode). IsAccepted mode (fixed_of old).root.0 (piece_text piece) (piece_nodes piece)) settles.0.mode
+        (subst (λ (root : Hash). IsAccepted (piece_mode piece) root.0 (piece_text piece) (piece_nodes piece)) settles.0.root accepted);
+  };
+  ends = last;
+  above = settles.1;
+}

@@ -1,38 +1,15 @@
 -- A worker's calls one after another: what they gain, and what they claim.
-use Rattle.std.proofs.Common.{◌≡◌, ℕ, ◌+◌, ◌^◌, ◌<◌, Bool, ◌&&◌, not, arith, inl, inr}
+use Rattle.std.proofs.Common.{◌≡◌, ℕ, ◌<◌, Bool, ◌&&◌, not, inl, inr}
 use Rattle.std.proofs.lemmas.Bool.{both_ways}
 use Rattle.gather.proofs.Bits.{in_mask_zero, in_without}
 use Rattle.store_core.specs.Masks.{has_bit}
 use Rattle.gather.specs.Claims.{Among, AmongAnd, Without}
-use Rattle.gather.specs.Counts.{Gains}
-
--- nothing was gained
-pub gains_none : {S : Type 0} (gained : S → S → ℕ → Type 0) (s t : S) (count count' : ℕ) → gained s t 0 → count' ≡ count → count' < 2 ^ 64
-    → Gains gained s t count count'
-gains_none gained s t count count' none same fits = record { chunks = 0; gains = none; counts = omega arith }
-
-pub onward : {S : Type 0} (gained : S → S → ℕ → Type 0) (adds : (r s t : S) (m n : ℕ) → gained r s m → gained s t n → gained r t (m + n))
-    (r s t : S) (count count' count'' : ℕ) → Gains gained r s count count' → Gains gained s t count' count'' → Gains gained r t count count''
-onward gained adds r s t count count' count'' first second = record {
-  chunks = first.chunks + second.chunks;
-  gains = adds r s t first.chunks second.chunks first.gains second.gains;
-  counts = omega (arith, first.counts, second.counts);
-}
 
 pub among_onward : (r s t : ℕ → Bool) → Among r s → Among s t → Among r t
 among_onward r s t first second c is = first c (second c is)
 
 pub among_and_onward : (before s t : ℕ → Bool) (group mask : ℕ) → AmongAnd before group mask s → Among s t → AmongAnd before group mask t
 among_and_onward before s t group mask first second c is = first c (second c is)
-
--- a call that stores nothing
-pub onward_none : {S : Type 0} (gained : S → S → ℕ → Type 0) (adds : (r s t : S) (m n : ℕ) → gained r s m → gained s t n → gained r t (m + n))
-    (r s t : S) (count count' : ℕ) → Gains gained r s count count' → gained s t 0 → Gains gained r t count count'
-onward_none gained adds r s t count count' first second = record {
-  chunks = first.chunks + 0;
-  gains = adds r s t first.chunks 0 first.gains second;
-  counts = omega (arith, first.counts);
-}
 
 -- claims of an empty mask, or those of a mask that are given back
 pub among_and_none : (old new : ℕ → Bool) (group : ℕ) → AmongAnd old group 0 new → Among old new

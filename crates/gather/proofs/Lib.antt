@@ -1,5 +1,7 @@
 pub mod Bits
 pub mod Gaining
+pub mod Binding
+pub mod Reporting
 pub mod Alone
 pub mod Certifying
 pub mod Finishing

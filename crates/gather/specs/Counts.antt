@@ -1,7 +1,11 @@
 -- What a report counts.
-use Rattle.std.specs.Prelude.{◌≡◌, ℕ, ◌+◌, ◌-◌, ◌^◌, Bool, false, min}
+use Rattle.std.specs.Prelude.{◌≡◌, ◌⊎◌, ℕ, ◌+◌, ◌-◌, ◌^◌, ◌<◌, ◌≤◌, Bool, false, min, IsTrue, Option, None, Some}
+use Rattle.bao_check.specs.declared.fault.CheckFault.{CheckFault}
+use Rattle.bao_check.specs.declared.fault.CheckFault.TheVariants.{Short, Mismatch, Trailing, Memory, Reader}
+use Rattle.store_core.specs.declared.fixed.Fixed.{Fixed}
 use Rattle.gather.specs.declared.report.Report.{Report}
 use Rattle.gather.specs.Claims.{Among}
+use Rattle.gather.specs.Large.{IsTooLarge}
 
 -- a count goes up, and stays at 2^64 - 1 once there
 abbrev pub plus : ℕ → ℕ → ℕ
@@ -10,11 +14,47 @@ plus count more = min (count + more) (2 ^ 64 - 1)
 abbrev pub no_counts : Report
 no_counts = record { committed = 0; asked = 0; refused = 0; failed = 0; memory = 0; too_large = false }
 
--- a seat's own calls stored some chunks, and the count went up by their number
-pub record Gains {S : Type 0} (gained : S → S → ℕ → Type 0) (old new : S) (count count' : ℕ) : Type 0 where
+-- one more of a kind
+abbrev pub asked_once : Report → Report
+asked_once report = record report { asked = plus report.asked 1 }
+
+abbrev pub refused_once : Report → Report
+refused_once report = record report { refused = plus report.refused 1 }
+
+abbrev pub failed_once : Report → Report
+failed_once report = record report { failed = plus report.failed 1 }
+
+abbrev pub memory_once : Report → Report
+memory_once report = record report { memory = plus report.memory 1 }
+
+-- a text that a check refused, for want of memory or for another cause
+abbrev pub checked_once : CheckFault → Report → Report
+checked_once (Short at) report = refused_once report
+checked_once (Mismatch at) report = refused_once report
+checked_once (Trailing at) report = refused_once report
+checked_once Memory report = memory_once report
+checked_once Reader report = refused_once report
+
+-- What a fetch counts, by the text that it gave, or none, and by its holder's count of device faults before and after.
+abbrev pub IsFetch : {A : Type 0} → ℕ → ℕ → Option A → Report → Report → Type 0
+IsFetch before after (Some text) report report' = (before ≤ after) × (report' ≡ asked_once report)
+IsFetch before after None report report' =
+    ((before < after) × (report' ≡ failed_once (asked_once report))) ⊎ ((before ≤ after) × (report' ≡ memory_once (asked_once report)))
+
+-- no more texts were refused and devices failed than fetches made
+abbrev pub IsAnswered : Report → Type 0
+IsAnswered report = min (report.refused + report.failed) (2 ^ 64 - 1) ≤ report.asked
+
+-- What a worker's report gained is so, between two seats and two sums of its holders' counts of device faults: its
+-- own calls stored the chunks that are counted, no more device faults are counted than the holders counted, and a
+-- blob is called too large only where an accepted text certifies that it is.
+pub record Reports {S : Type 0} (fixed_of : S → Fixed) (gained : S → S → ℕ → Type 0) (old new : S) (before after : ℕ) (report report' : Report) : Type 0 where
   pub chunks : ℕ
   pub gains : gained old new chunks
-  pub counts : count' ≡ plus count chunks
+  pub committed : report'.committed ≡ plus report.committed chunks
+  pub failed : report'.failed + before ≤ report.failed + after
+  pub answered : IsAnswered report → IsAnswered report'
+  pub too_large : IsTrue report'.too_large → IsTrue report.too_large ⊎ IsTooLarge (fixed_of old)
 
 -- none was stored, and nothing more is claimed
 abbrev pub Still : {S : Type 0} → (S → S → ℕ → Type 0) → (S → ℕ → Bool) → S → S → Type 0

@@ -2,6 +2,7 @@ pub mod Faults
 pub mod Holders
 pub mod Encodings
 pub mod Claims
+pub mod Large
 pub mod Counts
 pub mod Worked
 pub mod Working

@@ -1,11 +1,13 @@
 -- What a worker alone does to a one-thread store: a history of its own calls, each legal in turn.
-use Rattle.std.specs.Prelude.{◌≡◌, ◌⊎◌, Some, ℕ, Bool, List, count_ones}
+use Rattle.std.specs.Prelude.{◌≡◌, ◌⊎◌, Some, ℕ, ◌-◌, ◌^◌, min, Bool, List, count_ones}
 use Rattle.std.specs.List.{AllByRecursion, sum_by}
 use Rattle.store_core.specs.declared.history.Call.{Call}
 use Rattle.store_core.specs.declared.history.Call.TheVariants.{Take, Give, Commit, Settle, Read, Length}
 use Rattle.store_core.specs.declared.history.Event.{Event}
 use Rattle.store_core.specs.declared.fixed.Fixed.{Fixed}
 use Rattle.store_core.specs.declared.history.Piece.{Piece}
+use Rattle.bao_check.specs.Pieces.{chunk_of}
+use Rattle.store_core.specs.Laws.{IsBlob, PairNamed}
 use Rattle.store_core.specs.Pieces.{IsAcceptedPiece, chunk_bytes}
 use Rattle.store_core.specs.declared.store.Store.{Store}
 use Rattle.store_core.specs.Histories.{AreLegalFrom, run}
@@ -49,6 +51,12 @@ abbrev pub AddsCertified : Store → Store → Type 0
 AddsCertified old new = (c : ℕ) (bytes : List ℕ) → (state_of new).held c ≡ Some bytes
     → ((state_of old).held c ≡ Some bytes) ⊎ IsCertified (fixed_of old) c bytes
 
+-- Each chunk stored is the one of that number of each blob with the root, or a pair is named from that blob and from
+-- the text that the chunk comes from.
+abbrev pub AddsBlobs : Store → Store → Type 0
+AddsBlobs old new = (blob : List ℕ) → IsBlob (fixed_of old) blob → (c : ℕ) (bytes : List ℕ) → (state_of new).held c ≡ Some bytes
+    → ((state_of old).held c ≡ Some bytes) ⊎ (chunk_of blob c ≡ Some bytes) ⊎ ((from : IsCertified (fixed_of old) c bytes) × PairNamed (fixed_of old) blob from.piece)
+
 -- Calls of the worker, each with the right reply where it stands, lead from one state of a store to the other, and
 -- commit so many chunks. A commit is of an accepted text alone: nothing is stored that the root doesn't certify.
 pub record HasWorked (old new : Store) (chunks : ℕ) : Type 0 where
@@ -58,3 +66,9 @@ pub record HasWorked (old new : Store) (chunks : ℕ) : Type 0 where
   pub after : state_of new ≡ run (state_of old) events
   pub fixed : fixed_of new ≡ fixed_of old
   pub counts : chunks ≡ chunks_in events
+
+-- it has, and the count is of the chunks stored, as far as a count goes
+pub record Gains (old new : Store) (count : ℕ) : Type 0 where
+  pub chunks : ℕ
+  pub worked : HasWorked old new chunks
+  pub counts : count ≡ min chunks (2 ^ 64 - 1)

@@ -42,3 +42,6 @@ adds_work r s t m n first second =
       fixed = second.fixed ∙ first.fixed;
       counts = ap (λ (k : ℕ). k + n) first.counts ∙ ap (λ (k : ℕ). chunks_in first.events + k) second.counts ∙ sym (sum_by-append (λ (e : Event). chunks_of e.call) first.events second.events);
     }
+
+pub keeps_fixed : (s t : Store) (n : ℕ) → HasWorked s t n → fixed_of t ≡ fixed_of s
+keeps_fixed s t n worked = worked.fixed

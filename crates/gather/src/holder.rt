@@ -1,4 +1,4 @@
-ghost use Rattle.std.specs.Prelude.{◌≡◌, ℕ, ◌<◌, ◌++◌, IsErrOf, OnErr, OnOk};
+ghost use Rattle.std.specs.Prelude.{◌≡◌, ℕ, ◌<◌, ◌≤◌, ◌++◌, IsErrOf, OnErr, OnOk};
 ghost use Rattle.gather.specs.declared.holder.HolderFault.TheVariants.{Device};
 ghost use Rattle.gather.specs.Holders.{Appends};
 
@@ -26,11 +26,12 @@ pub trait Holder {
     ///
     /// `Device` only where the count of faults rose during the call, `Memory` only where a growth was refused; `into`
     /// is then unchanged. Once the count is 2^64 - 1 it stays, and a fetch whose device fails answers Ok and appends
-    /// nothing.
+    /// nothing. The count never goes down.
     fn fetch(&mut self, start: u64, len: u64, into: &mut Vec<u8>) -> Result<(), HolderFault>
         ensures appended { OnOk result (Appends into.old.items into.new.items) }
         ensures unchanged { OnErr result (into.new.items ≡ into.old.items) }
-        ensures device { IsErrOf result Device → count self.old < count self.new };
+        ensures device { IsErrOf result Device → count self.old < count self.new }
+        ensures counts { count self.old ≤ count self.new };
 
     /// How many faults of its device it has counted.
     fn faults(&self) -> u64
@@ -66,6 +67,7 @@ impl<'a> Holder for Encoded<'a> {
         ensures appended { OnOk result (Appends into.old.items into.new.items) }
         ensures unchanged { OnErr result (into.new.items ≡ into.old.items) }
         ensures device { IsErrOf result Device → 0 < 0 }
+        ensures counts { 0 ≤ 0 }
         ensures same { encoding self.new ≡ encoding self.old }
         ensures cut { OnOk result (into.new.items ≡ into.old.items ++ cut_text (encoding self.old) start len) }
     {

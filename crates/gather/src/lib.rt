@@ -6,6 +6,7 @@ pub use finish::finish_one;
 pub use holder::{Encoded, Holder, HolderFault};
 pub use one::run_one;
 pub use report::Report;
+pub use texts::{GatherFault, gather_texts};
 
 mod fault;
 mod finish;
@@ -16,4 +17,5 @@ mod report;
 mod shelf;
 #[cfg(test)]
 mod tests;
+mod texts;
 mod worker;

@@ -1,38 +1,41 @@
-ghost use Rattle.std.specs.Prelude.{◌≡◌};
+ghost use Rattle.std.specs.Prelude.{◌≡◌, ◌≤◌, ◌+◌, IsTrue, sum_by};
+ghost use Rattle.store_core.specs.Stores.{fixed_of};
 ghost use Rattle.gather.specs.Claims.{Among};
-ghost use Rattle.gather.specs.Counts.{Gains};
-ghost use Rattle.gather.specs.Worked.{AddsCertified, HasWorked, worker_claims};
+ghost use Rattle.gather.specs.Counts.{IsAnswered};
+ghost use Rattle.gather.specs.Large.{AreLonger, IsTooLarge};
+ghost use Rattle.gather.specs.Worked.{AddsBlobs, AddsCertified, Gains, HasWorked, worker_claims};
 
 use crate::holder::Holder;
 use crate::report::Report;
 use crate::shelf::Shelf;
 use crate::worker::{Place, work};
-use bao_check::{Checked, Tail};
+use bao_check::{Checked, Tail, accepted_binds};
 use std::alloc::Global;
 use store_core::{Fixed, Settling, Store, StoreFault};
 
 // The seat number of the worker of a one-thread store.
 const SEAT: u32 = 0;
 
-// A one-thread store, which is its one worker's seat: this is what the worker was told of it.
+// The shelf of a one-thread store, which is its one worker's seat and has all there is to say of it.
 #[derive(Drop)]
-struct Alone {
-    fixed: Fixed,
-}
+struct Alone;
 
 impl Shelf for Alone {
-    ghost use Rattle.gather.specs.Working.{adds_work, no_work};
+    ghost use Rattle.gather.specs.Working.{adds_work, keeps_fixed, no_work};
+    ghost use Rattle.store_core.specs.Stores.{fixed_of};
 
     type Seat = Store;
 
     ghost has = { λ _ _. Unit {0} };
 
+    ghost fixed_of = { λ store. fixed_of store };
+
     ghost claims = { λ store. worker_claims store };
 
     ghost gained = { λ old new chunks. HasWorked old new chunks };
 
-    fn fixed(&self, _store: &Store) -> Fixed {
-        self.fixed
+    fn fixed(&self, store: &Store) -> Fixed {
+        store.fixed()
     }
 
     fn take(&self, store: &mut Store, group: u32, want: u64) -> Result<u64, StoreFault> {
@@ -53,6 +56,7 @@ impl Shelf for Alone {
     }
 
     fn settle(&self, store: &mut Store, tail: &Tail<'_>) -> Settling {
+        tail.is_last();
         store.settle(tail)
     }
 
@@ -61,6 +65,8 @@ impl Shelf for Alone {
     }
 
     ghost stays = { no_work };
+
+    ghost keeps = { keeps_fixed };
 
     ghost adds = { adds_work };
 }
@@ -74,28 +80,29 @@ impl Shelf for Alone {
 /// chunks granted is left; those that are it gives back. All this is done twice.
 ///
 /// It refuses nothing. Refused memory is counted in the report: where a take meets it the group is left, else the
-/// next holder is asked. Texts are checked under the root and in the mode of `fixed`, and the store takes none of
-/// another's.
+/// next holder is asked. Texts are checked under the store's root and in its mode.
 ///
 /// What the worker did is a history of its own calls, each with the right reply in its turn: so what is stored comes
 /// from texts accepted under the store's root. No claim is left that the worker took.
-pub fn run_one<H: Holder>(
-    alloc: Global,
-    fixed: &Fixed,
-    store: &mut Store,
-    holders: &mut [H],
-) -> Report
-    ensures worked { Gains HasWorked store.old store.new 0 result.committed }
+pub fn run_one<H: Holder>(alloc: Global, store: &mut Store, holders: &mut [H]) -> Report
+    ensures worked { Gains store.old store.new result.committed }
     ensures certified { AddsCertified store.old store.new }
+    ensures binds { AddsBlobs store.old store.new }
     ensures claims { Among (worker_claims store.old) (worker_claims store.new) }
+    ensures failed { result.failed + sum_by H.count holders.old ≤ sum_by H.count holders.new }
+    ensures answered { IsAnswered result }
+    ensures too_large { IsTrue result.too_large → IsTooLarge (fixed_of store.old) }
+    ensures longer { IsTrue result.too_large → AreLonger (fixed_of store.old) }
 {
-    let shelf = Alone { fixed: *fixed };
     let place = Place {
         number: 0,
         workers: 1,
     };
+    let fixed = store.fixed();
+    fixed.mode.is_keyed();
+    accepted_binds();
     let mut report = Report::new();
-    work(alloc, &shelf, store, holders, place, &mut report);
-    work(alloc, &shelf, store, holders, place, &mut report);
+    work(alloc, &Alone, store, holders, place, &mut report);
+    work(alloc, &Alone, store, holders, place, &mut report);
     report
 }

@@ -1,5 +1,5 @@
-ghost use Rattle.std.specs.Prelude.{◌≡◌, ◌^◌, ◌<◌};
-ghost use Rattle.gather.specs.Counts.{no_counts, plus};
+ghost use Rattle.std.specs.Prelude.{◌≡◌};
+ghost use Rattle.gather.specs.Counts.{checked_once, memory_once, no_counts};
 
 use bao_check::CheckFault;
 
@@ -37,15 +37,14 @@ impl Report {
 
     // Counts a growth that was refused.
     pub(crate) fn count_memory(&mut self)
-        ensures same { self.new.committed ≡ self.old.committed }
-        ensures counted { self.new.memory ≡ plus self.old.memory 1 }
+        ensures { self.new ≡ memory_once self.old }
     {
         self.memory = self.memory.saturating_add(1);
     }
 
     // Counts a text that a check refused.
     pub(crate) fn count_refused(&mut self, fault: &CheckFault)
-        ensures same { self.new.committed ≡ self.old.committed }
+        ensures { self.new ≡ checked_once fault.now self.old }
     {
         match fault {
             CheckFault::Memory => self.memory = self.memory.saturating_add(1),

@@ -1,6 +1,9 @@
 ghost use Rattle.std.specs.Prelude.{◌≡◌, ℕ, ◌+◌, Bool, MatchResult, count_ones};
+ghost use Rattle.store_core.specs.declared.fixed.Fixed as fixed;
+ghost use Rattle.store_core.specs.declared.history.Settling.TheVariants.{TooLarge};
 ghost use Rattle.gather.specs.Claims.{Among, AmongAnd, Without};
 ghost use Rattle.gather.specs.Counts.{Still};
+ghost use Rattle.gather.specs.Large.{IsTooLarge};
 
 use bao_check::{Checked, Tail};
 use store_core::{Fixed, Settling, StoreFault};
@@ -12,14 +15,18 @@ pub(crate) trait Shelf {
     // The seat is one of this store.
     ghost has: { Self → Self.Seat → Type 0 };
 
+    // The root and the mode of the store's blob, and how many chunks it has room for.
+    ghost fixed_of: { Self.Seat → fixed.Fixed };
+
     // Which chunks the seat claims, by number.
     ghost claims: { Self.Seat → ℕ → Bool };
 
     // The seat's own calls led from the one to the other, and stored so many chunks.
     ghost gained: { Self.Seat → Self.Seat → ℕ → Type 0 };
 
-    // The root and the mode of its blob, and how many chunks it has room for.
-    fn fixed(&self, seat: &Self::Seat) -> Fixed;
+    // The root and the mode of the store's blob, and how many chunks it has room for.
+    fn fixed(&self, seat: &Self::Seat) -> Fixed
+        ensures { result ≡ fixed_of seat.now };
 
     // Claims the wanted chunks of a group that may be granted, and answers their mask.
     fn take(&self, seat: &mut Self::Seat, group: u32, want: u64) -> Result<u64, StoreFault>
@@ -51,7 +58,8 @@ pub(crate) trait Shelf {
     fn settle(&self, seat: &mut Self::Seat, tail: &Tail<'_>) -> Settling
         requires { has self.now seat.old }
         ensures has { has self.now seat.new }
-        ensures still { Still gained claims seat.old seat.new };
+        ensures still { Still gained claims seat.old seat.new }
+        ensures large { result ≡ TooLarge → IsTooLarge (fixed_of seat.old) };
 
     // The recorded length, if there is one.
     fn length(&self, seat: &mut Self::Seat) -> Option<u64>
@@ -60,6 +68,8 @@ pub(crate) trait Shelf {
         ensures still { Still gained claims seat.old seat.new };
 
     ghost stays: { (s : Self.Seat) → gained s s 0 };
+
+    ghost keeps: { (s t : Self.Seat) (n : ℕ) → gained s t n → fixed_of t ≡ fixed_of s };
 
     ghost adds: { (r s t : Self.Seat) (m n : ℕ) → gained r s m → gained s t n → gained r t (m + n) };
 }

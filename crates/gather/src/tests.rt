@@ -1,4 +1,4 @@
-use crate::{Encoded, FinishFault, Holder, Report, finish_one, run_one};
+use crate::{Encoded, FinishFault, GatherFault, Holder, Report, finish_one, gather_texts, run_one};
 use b3tree::{Cv, Hash, Mode, cv, hash, parent_input, root_hash, rooted, subtree_cv};
 use bao_check::check_slice;
 use bao_text::combined;
@@ -40,7 +40,7 @@ fn two_of_three_holders_are_bad(rt: HostRuntime) -> Result<(), Fail> {
         Encoded::new(rt.alloc(), cut),
         Encoded::new(rt.alloc(), shorter.as_slice()),
     ];
-    let report = run_one(rt.alloc(), &fixed, &mut store, &mut bad);
+    let report = run_one(rt.alloc(), &mut store, &mut bad);
     let nothing = Report {
         committed: 0,
         asked: 4,
@@ -50,14 +50,14 @@ fn two_of_three_holders_are_bad(rt: HostRuntime) -> Result<(), Fail> {
         too_large: false,
     };
     assert_eq!(rt; report, nothing);
-    let unfinished = finish_one(rt.alloc(), &fixed, &store);
+    let unfinished = finish_one(rt.alloc(), &store);
     assert!(rt; matches!(&unfinished, Err(FinishFault::Unfinished)));
     let mut holders = [
         Encoded::new(rt.alloc(), cut),
         Encoded::new(rt.alloc(), shorter.as_slice()),
         Encoded::new(rt.alloc(), whole.as_slice()),
     ];
-    let report = run_one(rt.alloc(), &fixed, &mut store, &mut holders);
+    let report = run_one(rt.alloc(), &mut store, &mut holders);
     let all = Report {
         committed: 3,
         asked: 6,
@@ -67,8 +67,30 @@ fn two_of_three_holders_are_bad(rt: HostRuntime) -> Result<(), Fail> {
         too_large: false,
     };
     assert_eq!(rt; report, all);
-    let gathered = finish_one(rt.alloc(), &fixed, &store)?;
+    let gathered = finish_one(rt.alloc(), &store)?;
     assert_eq!(rt; gathered.as_slice(), bytes.as_slice());
+    Ok(())
+}
+
+// The same texts, without a store of one's own.
+#[test]
+fn the_blob_of_three_texts(rt: HostRuntime) -> Result<(), Fail> {
+    let mode = Mode::hash();
+    let bytes = blob(&rt, 3000)?;
+    let (root, whole) = combined(rt.alloc(), &mode, bytes.as_slice())?;
+    let (_, shorter) = combined(rt.alloc(), &mode, blob(&rt, 2999)?.as_slice())?;
+    let mut cut = Vec::new(rt.alloc());
+    cut.extend_from_slice(whole.as_slice().get(..1000).ok_or("cut")?)?;
+    let mut texts = vec![in rt.alloc(); cut, shorter]?;
+    let unfinished = gather_texts(rt.alloc(), root, mode, 65_536, texts.as_slice());
+    assert!(rt; matches!(&unfinished, Err(GatherFault::Unfinished)));
+    texts.push(whole)?;
+    let gathered = gather_texts(rt.alloc(), root, mode, 65_536, texts.as_slice())?;
+    assert_eq!(rt; gathered.as_slice(), bytes.as_slice());
+    let small = gather_texts(rt.alloc(), root, mode, 2, texts.as_slice());
+    assert!(rt; matches!(&small, Err(GatherFault::TooLarge)));
+    let none = gather_texts(rt.alloc(), root, mode, 0, texts.as_slice());
+    assert!(rt; matches!(&none, Err(GatherFault::Capacity)));
     Ok(())
 }
 
@@ -89,9 +111,9 @@ fn a_changed_length_is_refused(rt: HostRuntime) -> Result<(), Fail> {
         Encoded::new(rt.alloc(), changed.as_slice()),
         Encoded::new(rt.alloc(), whole.as_slice()),
     ];
-    let report = run_one(rt.alloc(), &fixed, &mut store, &mut holders);
+    let report = run_one(rt.alloc(), &mut store, &mut holders);
     assert_eq!(rt; (report.committed, report.asked, report.refused), (3, 4, 2));
-    let gathered = finish_one(rt.alloc(), &fixed, &store)?;
+    let gathered = finish_one(rt.alloc(), &store)?;
     assert_eq!(rt; gathered.as_slice(), bytes.as_slice());
     Ok(())
 }
@@ -103,12 +125,12 @@ fn many_groups(rt: HostRuntime) -> Result<(), Fail> {
     let fixed = fixed(root, 196);
     let mut store = store(&rt, &fixed)?;
     let mut holders = [Encoded::new(rt.alloc(), whole.as_slice())];
-    let report = run_one(rt.alloc(), &fixed, &mut store, &mut holders);
+    let report = run_one(rt.alloc(), &mut store, &mut holders);
     assert_eq!(rt;
         (report.committed, report.asked, report.refused),
         (196, 5, 0)
     );
-    let gathered = finish_one(rt.alloc(), &fixed, &store)?;
+    let gathered = finish_one(rt.alloc(), &store)?;
     assert_eq!(rt; gathered.as_slice(), bytes.as_slice());
     Ok(())
 }
@@ -120,10 +142,10 @@ fn a_store_with_less_room(rt: HostRuntime) -> Result<(), Fail> {
     let fixed = fixed(root, 2);
     let mut store = store(&rt, &fixed)?;
     let mut holders = [Encoded::new(rt.alloc(), whole.as_slice())];
-    let report = run_one(rt.alloc(), &fixed, &mut store, &mut holders);
+    let report = run_one(rt.alloc(), &mut store, &mut holders);
     assert!(rt; report.too_large);
     assert_eq!(rt; (report.committed, report.refused), (0, 0));
-    let unfinished = finish_one(rt.alloc(), &fixed, &store);
+    let unfinished = finish_one(rt.alloc(), &store);
     assert!(rt; matches!(&unfinished, Err(FinishFault::Unfinished)));
     Ok(())
 }
@@ -133,9 +155,9 @@ fn an_empty_blob(rt: HostRuntime) -> Result<(), Fail> {
     let fixed = fixed(hash(&Mode::hash(), b""), 1);
     let mut store = store(&rt, &fixed)?;
     let mut holders = [Encoded::new(rt.alloc(), &[0; 8])];
-    let report = run_one(rt.alloc(), &fixed, &mut store, &mut holders);
+    let report = run_one(rt.alloc(), &mut store, &mut holders);
     assert_eq!(rt; (report.committed, report.asked), (1, 2));
-    assert_eq!(rt; finish_one(rt.alloc(), &fixed, &store)?.len(), 0);
+    assert_eq!(rt; finish_one(rt.alloc(), &store)?.len(), 0);
     assert_eq!(rt; holders.iter().map(|holder| holder.faults()).max(), Some(0));
     Ok(())
 }
@@ -179,7 +201,7 @@ fn a_root_of_no_blob(rt: HostRuntime) -> Result<(), Fail> {
     assert_eq!(rt; store.commit(1, 0, &end)?, 0b010);
     assert_eq!(rt; store.settle(&end.tail().ok_or("tail")?), Settling::Settled);
     assert_eq!(rt; store.read(0, &mut [0; 1500]), Ok(()));
-    let other = finish_one(rt.alloc(), &fixed, &store);
+    let other = finish_one(rt.alloc(), &store);
     assert!(rt; matches!(&other, Err(FinishFault::NotTheRoot)));
     Ok(())
 }

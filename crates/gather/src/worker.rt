@@ -1,6 +1,6 @@
-ghost use Rattle.std.specs.Prelude.{◌≡◌, ℕ, ◌*◌, ◌<◌, ◌≤◌, ◌^◌, Bool, nat_lt};
+ghost use Rattle.std.specs.Prelude.{◌≡◌, ℕ, ◌*◌, ◌<◌, ◌≤◌, ◌^◌, Bool, nat_lt, sum_by};
 ghost use Rattle.gather.specs.Claims.{Among, AmongAnd};
-ghost use Rattle.gather.specs.Counts.{Gains};
+ghost use Rattle.gather.specs.Counts.{IsFetch, Reports};
 
 use crate::holder::{Holder, HolderFault};
 use crate::masks::{GROUP_LEN, wanted, without};
@@ -33,8 +33,8 @@ fn fetched<H: Holder>(
     len: u64,
     report: &mut Report,
 ) -> Option<Vec<u8>>
-    ensures same { report.new.committed ≡ report.old.committed }
-    ensures fits { report.new.committed < 2 ^ 64 }
+    ensures fetch { IsFetch (H.count holder.old) (H.count holder.new) result report.old report.new }
+    ensures fits { report.old.committed < 2 ^ 64 }
 {
     let _committed = report.committed;
     report.asked = report.asked.saturating_add(1);
@@ -63,10 +63,9 @@ fn ask_end<S: Shelf, H: Holder>(
 ) -> bool
     requires { S.has shelf.now seat.old }
     ensures has { S.has shelf.now seat.new }
-    ensures gains { Gains S.gained seat.old seat.new report.old.committed report.new.committed }
+    ensures reports { Reports S.fixed_of S.gained seat.old seat.new (H.count holder.old) (H.count holder.new) report.old report.new }
     ensures claims { Among (S.claims seat.old) (S.claims seat.new) }
 {
-    let _committed = report.committed;
     let Some(text) = fetched(alloc, holder, u64::MAX, 1, report) else {
         return false;
     };
@@ -83,9 +82,13 @@ fn ask_end<S: Shelf, H: Holder>(
             let Some(tail) = piece.tail() else {
                 return false;
             };
-            let too_large = shelf.settle(seat, &tail) == Settling::TooLarge;
-            report.too_large = report.too_large || too_large;
-            too_large
+            match shelf.settle(seat, &tail) {
+                Settling::TooLarge => {
+                    report.too_large = true;
+                    true
+                }
+                _ => false,
+            }
         }
         Err(fault) => {
             report.count_refused(&fault);
@@ -105,7 +108,7 @@ fn agree<S: Shelf, H: Holder>(
 ) -> Option<u64>
     requires { S.has shelf.now seat.old }
     ensures has { S.has shelf.now seat.new }
-    ensures gains { Gains S.gained seat.old seat.new report.old.committed report.new.committed }
+    ensures reports { Reports S.fixed_of S.gained seat.old seat.new (sum_by H.count holders.old) (sum_by H.count holders.new) report.old report.new }
     ensures claims { Among (S.claims seat.old) (S.claims seat.new) }
 {
     let _committed = report.committed;
@@ -134,7 +137,7 @@ fn ask<S: Shelf, H: Holder>(
 ) -> u64
     requires { S.has shelf.now seat.old }
     ensures has { S.has shelf.now seat.new }
-    ensures gains { Gains S.gained seat.old seat.new report.old.committed report.new.committed }
+    ensures reports { Reports S.fixed_of S.gained seat.old seat.new (H.count holder.old) (H.count holder.new) report.old report.new }
     ensures claims { (before : ℕ → Bool) → AmongAnd before group left (S.claims seat.old) → AmongAnd before group result (S.claims seat.new) }
 {
     let _committed = report.committed;
@@ -185,7 +188,7 @@ fn work_group<S: Shelf, H: Holder>(
 )
     requires { S.has shelf.now seat.old }
     ensures has { S.has shelf.now seat.new }
-    ensures gains { Gains S.gained seat.old seat.new report.old.committed report.new.committed }
+    ensures reports { Reports S.fixed_of S.gained seat.old seat.new (sum_by H.count holders.old) (sum_by H.count holders.new) report.old report.new }
     ensures claims { Among (S.claims seat.old) (S.claims seat.new) }
 {
     let _committed = report.committed;
@@ -223,7 +226,7 @@ pub(crate) fn work<S: Shelf, H: Holder>(
     requires has { S.has shelf.now seat.old }
     requires place { place.number < place.workers }
     ensures has { S.has shelf.now seat.new }
-    ensures gains { Gains S.gained seat.old seat.new report.old.committed report.new.committed }
+    ensures reports { Reports S.fixed_of S.gained seat.old seat.new (sum_by H.count holders.old) (sum_by H.count holders.new) report.old report.new }
     ensures claims { Among (S.claims seat.old) (S.claims seat.new) }
 {
     let _committed = report.committed;

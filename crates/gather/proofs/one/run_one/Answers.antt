@@ -1,19 +1,37 @@
-use Rattle.std.proofs.Common.{ℕ, ap, subst}
+use Rattle.std.proofs.Common.{◌≡◌, IsTrue, false, ap, subst, arith, inl, inr}
+use Rattle.b3tree.specs.Valid.{IsKeyed}
+use Rattle.store_core.specs.declared.fixed.Fixed.{Fixed}
+use Rattle.store_core.specs.Stores.{fixed_of}
 use Rattle.gather.specs.declared.report.Report.{Report}
-use Rattle.gather.specs.Counts.{Gains}
 use Rattle.gather.specs.Worked.{HasWorked}
-use Rattle.gather.specs.Working.{adds_work}
+use Rattle.gather.specs.Working.{adds_work, keeps_fixed}
+use Rattle.gather.proofs.Binding.{adds_blobs, are_longer}
 use Rattle.gather.proofs.Certifying.{work_certified}
-use Rattle.gather.proofs.Gaining.{onward}
+use Rattle.gather.proofs.Reporting.{onward}
 use Rattle.gather.proofs.one.run_one.Goals as goal
 
 pub returns-clause-worked : goal.returns-clause-worked
 returns-clause-worked g c =
-    let first = subst (λ (count : ℕ). Gains HasWorked c.args.store.now c.work.new.seat count c.work.new.report.committed) (ap (λ (r : Report). r.committed) c.new-report.ensures) c.work.ensures.gains in
-    onward HasWorked adds_work _ _ _ _ _ _ first c.work-2.ensures.gains
+    let both = onward fixed_of HasWorked keeps_fixed adds_work _ _ _ _ _ _ _ _ _ c.work.ensures.reports c.work-2.ensures.reports in
+    let none : c.new-report.result.committed ≡ 0 = ap (λ (report : Report). report.committed) c.new-report.ensures in
+    record { chunks = both.chunks; worked = both.gains; counts = omega (arith, both.committed, none) }
 
 pub returns-clause-certified : goal.returns-clause-certified
 returns-clause-certified g c =
-    let first = subst (λ (count : ℕ). Gains HasWorked c.args.store.now c.work.new.seat count c.work.new.report.committed) (ap (λ (r : Report). r.committed) c.new-report.ensures) c.work.ensures.gains in
-    let both = onward HasWorked adds_work _ _ _ _ _ _ first c.work-2.ensures.gains in
+    let both = onward fixed_of HasWorked keeps_fixed adds_work _ _ _ _ _ _ _ _ _ c.work.ensures.reports c.work-2.ensures.reports in
     work_certified _ _ both.chunks both.gains
+
+pub returns-clause-binds : goal.returns-clause-binds
+returns-clause-binds g c =
+    let both = onward fixed_of HasWorked keeps_fixed adds_work _ _ _ _ _ _ _ _ _ c.work.ensures.reports c.work-2.ensures.reports in
+    let keyed = subst (λ (fixed : Fixed). IsKeyed fixed.mode) c.fixed-fixed.ensures c.is_keyed.ensures in
+    adds_blobs c.accepted_binds.ensures c.args.store.now c.work-2.new.seat keyed (work_certified _ _ both.chunks both.gains)
+
+pub returns-clause-longer : goal.returns-clause-longer
+returns-clause-longer g c = λ large.
+    let keyed = subst (λ (fixed : Fixed). IsKeyed fixed.mode) c.fixed-fixed.ensures c.is_keyed.ensures in
+    let both = onward fixed_of HasWorked keeps_fixed adds_work _ _ _ _ _ _ _ _ _ c.work.ensures.reports c.work-2.ensures.reports in
+    are_longer c.accepted_binds.ensures (fixed_of c.args.store.now) keyed (elim (both.too_large large) [
+      | inl before ↦ let no : IsTrue false = subst (λ (report : Report). IsTrue report.too_large) c.new-report.ensures before in cc
+      | inr is ↦ is
+    ])

@@ -1,6 +1,15 @@
-use Rattle.gather.proofs.Gaining.{gains_none}
+use Rattle.std.proofs.Common.{refl}
+use Rattle.gather.proofs.Reporting.{fetch_large, fetch_some, refused_done}
 use Rattle.gather.proofs.worker.ask_end.Goals as goal
 
-pub returns-in_default-tail-clause-gains : goal.returns-in_default-tail-clause-gains
-returns-in_default-tail-clause-gains g c =
-    gains_none g.S.Shelf.gained _ _ _ _ (g.met.S.Shelf.stays c.args.seat.now) c.in-Some.ensures.same c.in-Some.ensures.fits
+pub returns-in_default-tail-clause-reports : goal.returns-in_default-tail-clause-reports
+returns-in_default-tail-clause-reports g c =
+    fetch_some g.S.Shelf.fixed_of g.S.Shelf.gained _ _ _ _ _ _ (g.met.S.Shelf.stays c.args.seat.now) c.in-Some.ensures.fits c.in-Some.ensures.fetch
+
+pub returns-in-TooLarge-clause-reports : goal.returns-in-TooLarge-clause-reports
+returns-in-TooLarge-clause-reports g c =
+    fetch_large g.S.Shelf.fixed_of g.S.Shelf.gained _ _ _ _ _ _ c.in-TooLarge.ensures.still.0 c.in-Some.ensures.fits c.in-Some.ensures.fetch (c.in-TooLarge.ensures.large refl)
+
+pub returns-clause-reports : goal.returns-clause-reports
+returns-clause-reports g c =
+    refused_done g.S.Shelf.fixed_of g.S.Shelf.gained _ _ _ _ _ _ c.in-Err.fault (g.met.S.Shelf.stays c.args.seat.now) c.in-Some.ensures.fits c.in-Some.ensures.fetch c.count_refused.ensures

@@ -1,8 +1,9 @@
 use Rattle.gather.specs.Claims.{Among}
-use Rattle.gather.specs.Counts.{Gains}
+use Rattle.std.specs.List.{sum_by}
+use Rattle.gather.specs.Counts.{Reports}
 use Rattle.gather.proofs.worker.work.Given as goal
 
 abbrev pub invariant-loop-step : goal.invariant-loop-step
 invariant-loop-step g l = g.S.Shelf.has l.shelf l.seat
-    × Gains g.S.Shelf.gained l.fn.seat l.seat l.fn.report.committed l.report.committed
+    × Reports g.S.Shelf.fixed_of g.S.Shelf.gained l.fn.seat l.seat (sum_by g.H.Holder.count l.fn.holders) (sum_by g.H.Holder.count l.holders) l.fn.report l.report
     × Among (g.S.Shelf.claims l.fn.seat) (g.S.Shelf.claims l.seat)

@@ -1,17 +1,31 @@
-use Rattle.std.proofs.Common.{ℕ, subst}
+use Rattle.std.proofs.Common.{ℕ, ◌≡◌, sym, subst, ◌∙◌, arith}
+use Rattle.std.specs.List.{sum_by}
+use Rattle.std.proofs.lemmas.List.{set-get_or}
+use Rattle.gather.specs.Counts.{Reports}
 use Rattle.gather.specs.Claims.{AmongAnd}
-use Rattle.gather.proofs.Gaining.{among_and_none, onward, onward_none}
+use Rattle.gather.proofs.Gaining.{among_and_none}
+use Rattle.gather.proofs.Reporting.{among_holders, onward, onward_none}
+use Rattle.gather.proofs.worker.work_group.Goals.{else-loop-holder-test, then-loop-holder-test+then-left-eq0}
 use Rattle.gather.proofs.worker.work_group.Goals as goal
 
 pub loop-holder-preserved : goal.loop-holder-preserved
-loop-holder-preserved g c = (
-  c.ask-left.ensures.has,
-  onward g.S.Shelf.gained g.met.S.Shelf.adds _ _ _ _ _ _ c.loop-holder.invariant.1 c.ask-left.ensures.gains,
-  c.ask-left.ensures.claims _ c.loop-holder.invariant.2,
-)
+loop-holder-preserved g c =
+    let one = among_holders g.S.Shelf.fixed_of g.S.Shelf.gained g.H.Holder.count _ _ c.loop-holder.holders c.loop-holder.holder-index c.holder-item.result _ _ _
+    (omega (arith, c.loop-holder-test.true)) c.ask-left.ensures.reports in (
+      c.ask-left.ensures.has,
+      onward g.S.Shelf.fixed_of g.S.Shelf.gained g.met.S.Shelf.keeps g.met.S.Shelf.adds _ _ _ _ _ _ _ _ _ c.loop-holder.invariant.1 one,
+      c.ask-left.ensures.claims _ c.loop-holder.invariant.2,
+    )
 
-pub returns-clause-gains : goal.returns-clause-gains
-returns-clause-gains g c = onward_none g.S.Shelf.gained g.met.S.Shelf.adds _ _ _ _ _ c.loop-holder.invariant.1 c.give.ensures.gained
+pub returns-clause-reports : goal.returns-clause-reports
+returns-clause-reports g c =
+    let same : c.loop-holder-test.holders ≡ c.loop-holder.holders = elim c.loop-holder-test.branch [
+      | else-loop-holder-test w ↦ w.holders-is
+      | then-loop-holder-test+then-left-eq0 w ↦ w.holders-is ∙ set-get_or c.loop-holder.holders c.loop-holder.holder-index w.holder-item.result
+    ] in
+    let asked = subst (λ holders. Reports g.S.Shelf.fixed_of g.S.Shelf.gained c.args.seat.now c.loop-holder.seat (sum_by g.H.Holder.count c.args.holders.now) (sum_by g.H.Holder.count holders) c.args.report.now c.loop-holder.report)
+    (sym same) c.loop-holder.invariant.1 in
+    onward_none g.S.Shelf.fixed_of g.S.Shelf.gained g.met.S.Shelf.adds _ _ _ _ _ _ _ asked c.give.ensures.gained
 
 pub returns-then-left-eq0-2-clause-claims : goal.returns-then-left-eq0-2-clause-claims
 returns-then-left-eq0-2-clause-claims g c =

@@ -1,0 +1,118 @@
+ghost use Rattle.std.specs.Prelude.{◌≡◌, ◌↔◌, ◌⊎◌, ◌<◌, Err, IfOk, IsErrOf};
+ghost use Rattle.b3tree.specs.Hashing.{hash};
+ghost use Rattle.gather.specs.Faults.{cause_of, number_of_gather};
+ghost use Rattle.gather.specs.Large.{AreLonger, IsOfNone, IsTooLarge, fixed_as};
+ghost use Rattle.gather.specs.declared.texts.GatherFault.TheVariants.{Capacity, NotTheRoot, TooLarge};
+
+use crate::fault::FinishFault;
+use crate::finish::finish_one;
+use crate::holder::Encoded;
+use crate::one::run_one;
+use crate::report::Report;
+use b3tree::{Hash, Mode};
+use std::alloc::Global;
+use store_core::{BadCapacity, Store};
+use thiserror::Error;
+
+/// Why no blob was gathered.
+#[derive(Clone, Copy, Debug, PartialEq, Eq, Error)]
+pub enum GatherFault {
+    /// The capacity is not 1 to 65,536 chunks. Number 802.
+    #[error("802 capacity")]
+    Capacity,
+    /// The texts leave the blob unfinished, and one certifies a length above the capacity. Number 805.
+    #[error("805 too large")]
+    TooLarge,
+    /// The texts leave the blob unfinished. Number 901.
+    #[error("901 unfinished")]
+    Unfinished,
+    /// All bytes are held, and their hash isn't the root. Number 902.
+    #[error("902 not the root")]
+    NotTheRoot,
+    /// There was no memory for the blob. Number 903.
+    #[error("903 memory")]
+    Memory,
+    /// There was no memory for the worker's list of texts, or it met none in its work and the blob is unfinished.
+    /// Number 911.
+    #[error("911 memory")]
+    Starved,
+}
+
+impl From<BadCapacity> for GatherFault {
+    ghost use Rattle.gather.specs.declared.texts.GatherFault.{GatherFault};
+
+    ghost from_gives = { λ _ fault. fault ≡ GatherFault.Capacity };
+
+    fn from(_capacity: BadCapacity) -> GatherFault {
+        GatherFault::Capacity
+    }
+}
+
+impl GatherFault {
+    /// The fault's number: 802, 805, 901 to 903 or 911.
+    pub fn code(&self) -> u16
+        ensures { result ≡ number_of_gather self.now }
+    {
+        match self {
+            GatherFault::Capacity => 802,
+            GatherFault::TooLarge => 805,
+            GatherFault::Unfinished => 901,
+            GatherFault::NotTheRoot => 902,
+            GatherFault::Memory => 903,
+            GatherFault::Starved => 911,
+        }
+    }
+}
+
+// Why the worker left the blob unfinished: what it lacked first of memory, room and texts.
+fn cause(report: &Report) -> GatherFault
+    ensures { result ≡ cause_of report.now }
+{
+    if report.memory > 0 {
+        GatherFault::Starved
+    } else if report.too_large {
+        GatherFault::TooLarge
+    } else {
+        GatherFault::Unfinished
+    }
+}
+
+/// The blob with this root in this mode, out of texts that nobody trusts: each may be its combined encoding, or any
+/// bytes. One worker asks them in their order, as `run_one` says, and fills a store with room for `capacity` chunks,
+/// which is let go at the end. The texts are not copied.
+///
+/// 802 `Capacity` unless `capacity` is 1 to 65,536; 911 `Starved` where there is no memory for a list of the texts.
+/// Then the blob is answered only once its hash is the root: 902 `NotTheRoot` where it isn't, 903 `Memory` where there
+/// is no memory for the blob. An unfinished blob is 911 where the worker met a want of memory, else 805 `TooLarge`
+/// where it met a length above 1,024 times the capacity, else 901 `Unfinished`.
+///
+/// At 805 each blob with the root is longer than the capacity, and at 902 there is none; or two different inputs with
+/// one chaining value are named, one of the blob's and one of a text's that is accepted under the root.
+pub fn gather_texts(
+    alloc: Global,
+    root: Hash,
+    mode: Mode,
+    capacity: u32,
+    texts: &[Vec<u8>],
+) -> Result<Vec<u8>, GatherFault>
+    ensures root { IfOk result (λ blob. hash mode blob.items ≡ root.0) }
+    ensures capacity { (result ≡ Err Capacity) ↔ ((capacity ≡ 0) ⊎ (65536 < capacity)) }
+    ensures too_large { IsErrOf result TooLarge → IsTooLarge (fixed_as root mode capacity) }
+    ensures longer { IsErrOf result TooLarge → AreLonger (fixed_as root mode capacity) }
+    ensures none { IsErrOf result NotTheRoot → IsOfNone (fixed_as root mode capacity) }
+{
+    let mut store = Store::new(alloc, root, mode, capacity)?;
+    let mut holders = Vec::new(alloc);
+    for text in texts {
+        if holders.push(Encoded::new(alloc, text.as_slice())).is_err() {
+            return Err(GatherFault::Starved);
+        }
+    }
+    let report = run_one(alloc, &mut store, holders.as_mut_slice());
+    match finish_one(alloc, &store) {
+        Ok(blob) => Ok(blob),
+        Err(FinishFault::Unfinished) => Err(cause(&report)),
+        Err(FinishFault::NotTheRoot) => Err(GatherFault::NotTheRoot),
+        Err(FinishFault::Memory) => Err(GatherFault::Memory),
+    }
+}
