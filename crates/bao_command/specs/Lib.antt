@@ -5,3 +5,4 @@ pub mod Reading
 pub mod Outcome
 pub mod Tasks
 pub mod Ranges
+pub mod Gathered

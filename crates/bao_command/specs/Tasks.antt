@@ -1,5 +1,5 @@
 -- what a task prints, and what it writes to its file OUT
-use Rattle.std.specs.Prelude.{◌≡◌, ℕ, ◌-◌, List, [], ◌∷◌, ◌++◌, Option, Result, Ok, Err, codes}
+use Rattle.std.specs.Prelude.{◌≡◌, ◌≤◌, ℕ, ◌-◌, List, [], ◌∷◌, ◌++◌, length, Option, Result, Ok, Err, codes}
 use Rattle.std.specs.Fmt.{decimal}
 use Rattle.std.specs.Io.KnownBytes.{Appends, Keeps}
 use Rattle.std.specs.Option.{option_copied}
@@ -7,13 +7,13 @@ use Rattle.b3tree.specs.declared.mode.Mode.{Mode}
 use Rattle.b3tree.specs.Hashing.{hash, stream}
 use Rattle.bao_text.specs.Texts.{combined_text, outboard_text, slice_text}
 use Rattle.bao_command.specs.declared.fault.Fault.{Fault}
-use Rattle.bao_command.specs.declared.fault.Fault.TheVariants.{Word, Root, Key, KeyAndContext, OutputRange, Read, Write, Output, Encoding, Check, Memory}
+use Rattle.bao_command.specs.declared.fault.Fault.TheVariants.{Word, Root, Key, KeyAndContext, OutputRange, TooManyFiles, Read, Write, Output, Encoding, Check, Gather, Memory}
 use Rattle.bao_request.specs.declared.tasks.Request.{Request}
 use Rattle.bao_request.specs.declared.tasks.Encoding.{Encoding as Kind}
 use Rattle.bao_request.specs.declared.tasks.Encoding.TheVariants.{Combined, Outboard, Slice}
 use Rattle.bao_request.specs.declared.tasks.Part.{Part}
 use Rattle.bao_request.specs.declared.tasks.Task.{Task}
-use Rattle.bao_request.specs.declared.tasks.Task.TheVariants.{Hash, Encode, Decode}
+use Rattle.bao_request.specs.declared.tasks.Task.TheVariants.{Hash, Encode, Decode, Gather as Collect}
 use Rattle.bao_command.specs.Ranges.{first_written, last_written, part_len, part_start}
 use Rattle.bao_text.specs.Cut.{claimed}
 use Rattle.bao_check.specs.Accepted.{IsAccepted, slice_nodes}
@@ -21,7 +21,7 @@ use Rattle.hex.specs.Hex.{decode_of}
 use Rattle.bao_command.specs.ModeWords.{GivesMode, IsDigits}
 use Rattle.bao_command.specs.Printed.{AppendsBeginning, digits_line}
 
--- the line of a text that was decoded to n bytes
+-- the line of n bytes that were written
 abbrev pub ok_line : ℕ → List ℕ
 ok_line n = codes "ok " ++ decimal n ++ 10 ∷ []
 
@@ -29,29 +29,37 @@ ok_line n = codes "ok " ++ decimal n ++ 10 ∷ []
 abbrev pub part_line : Part → List ℕ → List ℕ
 part_line part bytes = ok_line (last_written part (claimed bytes) - first_written part (claimed bytes))
 
--- the line of a task on a file of these bytes: the digits of the output asked for, or of the hash, or
--- how many bytes were written
+-- the line of a task on these bytes, of a file or of the blob that was gathered: the digits of the output
+-- asked for, or of the hash, or how many bytes were written
 abbrev pub line_of : Mode → Task → List ℕ → List ℕ
 line_of mode (Hash at length file) bytes = digits_line (stream mode bytes at length)
 line_of mode (Encode encoding file out) bytes = digits_line (hash mode bytes)
 line_of mode (Decode root part file out) bytes = part_line part bytes
+line_of mode (Collect root capacity files out) bytes = ok_line (length bytes)
 
 -- the task's root, where it has one, is 64 hexadecimal digits
 abbrev pub HasRoot : Task → Type 0
 HasRoot (Hash at length file) = Unit {0}
 HasRoot (Encode encoding file out) = Unit {0}
 HasRoot (Decode root part file out) = IsDigits root.now
+HasRoot (Collect root capacity files out) = IsDigits root.now
 
 -- the text of a part of the blob with this root, in hexadecimal digits, is accepted
 abbrev pub IsRightPart : Mode → List ℕ → Part → List ℕ → Type 0
 IsRightPart mode root part bytes =
     (key : List ℕ) × ((decode_of root ≡ Ok key) × IsAccepted mode key bytes (slice_nodes bytes (part_start part) (part_len part)))
 
--- what the file's bytes have to be: a text that is decoded is accepted under the root that the words give
+-- these bytes have this root, in hexadecimal digits
+abbrev pub HasHash : Mode → List ℕ → List ℕ → Type 0
+HasHash mode root bytes = (key : List ℕ) × ((decode_of root ≡ Ok key) × (hash mode bytes ≡ key))
+
+-- what the bytes have to be: a text that is decoded is accepted under the root that the words give, and a blob
+-- that is gathered, from at most 64 files, has that root
 abbrev pub IsRight : Mode → Task → List ℕ → Type 0
 IsRight mode (Hash at length file) bytes = Unit {0}
 IsRight mode (Encode encoding file out) bytes = Unit {0}
 IsRight mode (Decode root part file out) bytes = IsRightPart mode root.now part bytes
+IsRight mode (Collect root capacity files out) bytes = (length files.items ≤ 64) × HasHash mode root.now bytes
 
 -- the text that goes to OUT
 abbrev pub encoding_text : Mode → Kind → List ℕ → List ℕ
@@ -79,11 +87,13 @@ LeavesOf request old new Root = Keeps old new
 LeavesOf request old new Key = Keeps old new
 LeavesOf request old new KeyAndContext = Keeps old new
 LeavesOf request old new OutputRange = Keeps old new
+LeavesOf request old new TooManyFiles = Keeps old new
 LeavesOf request old new (Read path) = Keeps old new
 LeavesOf request old new (Write path) = Keeps old new
 LeavesOf request old new Output = PrintsBeginning request old new
 LeavesOf request old new Encoding = Keeps old new
 LeavesOf request old new (Check fault) = Keeps old new
+LeavesOf request old new (Gather fault) = Keeps old new
 LeavesOf request old new Memory = Keeps old new
 
 -- the answer to the request

@@ -11,6 +11,7 @@ ghost use Rattle.bao_command.specs.Tasks.{Answers, HasRoot, IsRight, line_of};
 use crate::decode::decode_file;
 use crate::digits::print_digits;
 use crate::fault::Fault;
+use crate::gathering::gather_files;
 use crate::input::{open_file, read_file};
 use crate::mode::{bytes_of_digits, mode_of};
 use crate::once::Once;
@@ -24,11 +25,11 @@ use std::rt::Files;
 use std::thread::Threads;
 
 /// Runs the program on `words`, its name first, with `out` and `err` as its standard output and error,
-/// and answers the exit status: 0 done, 1 a text that is refused, 2 wrong words, 3 a file fault, 4 want of
+/// and answers the exit status: 0 done, 1 a text or a blob that is refused, 2 wrong words, 3 a file fault, 4 want of
 /// memory.
 ///
-/// At status 0 `out` has the line of the request that the words make, on the file's bytes, or where they ask
-/// for it help or the version. At 3 it has a beginning at most, and after other faults nothing.
+/// At status 0 `out` has the line of the request that the words make, on the file's bytes or the gathered blob, or
+/// where they ask for it help or the version. At 3 it has a beginning at most, and after other faults nothing.
 pub fn command<R: Files + AllocGlobal + Threads + Sync, O: Write, E: Write>(
     rt: &R,
     words: &[String],
@@ -63,7 +64,7 @@ fn serve<'a, R: Files + AllocGlobal + Threads + Sync, O: Write>(
     serve_task(rt, &mode, &request.task, out)
 }
 
-// Does the task on the file's bytes, whatever these are.
+// Does the task on the files' bytes, whatever these are.
 fn serve_task<'a, R: Files + AllocGlobal + Threads + Sync, O: Write>(
     rt: &R,
     mode: &Mode,
@@ -73,13 +74,13 @@ fn serve_task<'a, R: Files + AllocGlobal + Threads + Sync, O: Write>(
     ensures { (bytes : List ℕ) × OnOk result (IsRight mode.now task.now bytes)
         × Prints (line_of mode.now task.now bytes) (O.contents out.old) (O.contents out.new) result }
 {
-    match *task {
+    match task {
         Task::Hash { at, length, file } => {
-            if !xof_fits(at, u64::from(length)) {
+            if !xof_fits(*at, u64::from(*length)) {
                 return Err(Fault::OutputRange);
             }
             let mut input = open_file(rt, file)?;
-            print_reader(rt.alloc(), mode, &mut input, file, at, length, out)
+            print_reader(rt.alloc(), mode, &mut input, file, *at, *length, out)
         }
         Task::Encode {
             encoding,
@@ -87,7 +88,7 @@ fn serve_task<'a, R: Files + AllocGlobal + Threads + Sync, O: Write>(
             out: path,
         } => {
             let bytes = read_file(rt, file)?;
-            let hash = encode_file(rt, mode, encoding, bytes.as_slice(), path)?;
+            let hash = encode_file(rt, mode, *encoding, bytes.as_slice(), path)?;
             print_digits(rt.alloc(), &hash.0, out)
         }
         Task::Decode {
@@ -95,7 +96,13 @@ fn serve_task<'a, R: Files + AllocGlobal + Threads + Sync, O: Write>(
             part,
             file,
             out: path,
-        } => decode_file(rt, mode, root, &part, file, path, out),
+        } => decode_file(rt, mode, root, part, file, path, out),
+        Task::Gather {
+            root,
+            capacity,
+            files,
+            out: path,
+        } => gather_files(rt, mode, root, *capacity, files.as_slice(), path, out),
     }
 }
 
@@ -104,9 +111,13 @@ fn check_root<'a>(task: &Task<'a>) -> Result<(), Fault<'a>>
     ensures ok { OnOk result (HasRoot task.now) }
     ensures err { IfErr result (λ fault. (fault ≡ Fault.Root) × ¬ HasRoot task.now) }
 {
-    match *task {
-        Task::Decode { root, .. } if bytes_of_digits(root).is_none() => Err(Fault::Root),
-        _ => Ok(()),
+    let root = match task {
+        Task::Decode { root, .. } | Task::Gather { root, .. } => root,
+        Task::Hash { .. } | Task::Encode { .. } => return Ok(()),
+    };
+    match bytes_of_digits(root) {
+        Some(_) => Ok(()),
+        None => Err(Fault::Root),
     }
 }
 

@@ -3,10 +3,10 @@ ghost use Rattle.std.specs.Io.KnownBytes.{Appends};
 ghost use Rattle.bao_check.specs.Checked.{IsPiece, piece_claimed, piece_text};
 ghost use Rattle.bao_command.specs.Printed.{AppendsBeginning, IsQuiet, NamesPaths, Prints};
 ghost use Rattle.bao_command.specs.Ranges.{IsCertifiedPart, IsFileFault, certified_range, chunk_range, first_written, last_written, part_len, part_start};
-ghost use Rattle.bao_command.specs.Tasks.{IsRightPart, ok_line, part_line};
+ghost use Rattle.bao_command.specs.Tasks.{IsRightPart, part_line};
 ghost use Rattle.bao_text.specs.Cut.{claimed};
 
-use crate::digits::print_text;
+use crate::digits::print_count;
 use crate::fault::Fault;
 use crate::input::open_file;
 use crate::mode::bytes_of_digits;
@@ -191,15 +191,6 @@ fn decode<'a, R: Files + AllocGlobal>(
         Err(fault) => return Err(Fault::Check(fault)),
     };
     write_file(rt, &piece, part, path)
-}
-
-// Prints how many bytes were written.
-fn print_count<'a, O: Write>(alloc: Global, count: u64, out: &mut O) -> Result<(), Fault<'a>>
-    ensures prints { Prints (ok_line count) (O.contents out.old) (O.contents out.new) result }
-    ensures fault { IfErr result (λ fault. (fault ≡ Fault.Memory) ⊎ (fault ≡ Fault.Output)) }
-{
-    let line = format!(in alloc; "ok {count}\n").map_err(|_| Fault::Memory)?;
-    print_text(line.as_bytes(), out)
 }
 
 /// Checks the text in the file under the root, writes what it certifies to the file at `path`, made anew

@@ -3,6 +3,7 @@ ghost use Rattle.b3tree.specs.declared.mode.Mode.{Mode};
 ghost use Rattle.b3tree.specs.Hashing.{stream};
 ghost use Rattle.b3tree.specs.Taken.{Holds};
 ghost use Rattle.bao_command.specs.Printed.{Prints, digits_line};
+ghost use Rattle.bao_command.specs.Tasks.{ok_line};
 
 use crate::fault::Fault;
 use b3tree::Hasher;
@@ -36,6 +37,17 @@ pub fn print_digits<'a, W: Write>(alloc: Global, bytes: &[u8], out: &mut W) -> R
     let mut line = hex::encode(alloc, bytes).map_err(|_| Fault::Memory)?;
     line.push('\n').map_err(|_| Fault::Memory)?;
     print_text(line.as_bytes(), out)
+}
+
+/// Writes `ok`, how many bytes were written, and a line end to `out`.
+///
+/// After `Memory` nothing is written. After `Output` the writer may hold a beginning of the line.
+pub fn print_count<'a, W: Write>(alloc: Global, count: u64, out: &mut W) -> Result<(), Fault<'a>>
+    ensures prints { Prints (ok_line count) (W.contents out.old) (W.contents out.new) result }
+    ensures fault { IfErr result (λ fault. (fault ≡ Fault.Memory) ⊎ (fault ≡ Fault.Output)) }
+{
+    let counted = format!(in alloc; "ok {count}\n").map_err(|_| Fault::Memory)?;
+    print_text(counted.as_bytes(), out)
 }
 
 /// Writes `len` bytes of the extended output of what `hasher` has taken in, from byte `at` on, to `out`: their

@@ -1,8 +1,9 @@
 ghost use Rattle.std.specs.Prelude.{◌≡◌};
-ghost use Rattle.bao_command.specs.Status.{check_status_of, status_of};
+ghost use Rattle.bao_command.specs.Status.{check_status_of, gather_status_of, status_of};
 
 use crate::once::Once;
 use bao_check::CheckFault;
+use gather::GatherFault;
 use std::io::Write;
 use thiserror::Error;
 
@@ -25,6 +26,9 @@ pub enum Fault<'a> {
     /// The bytes of output that are asked for end after 2^64 - 1. Status 2.
     #[error("usage: output range too large")]
     OutputRange,
+    /// More than 64 files are given. Status 2.
+    #[error("usage: too many files")]
+    TooManyFiles,
     /// An input file can't be opened or read. Status 3.
     #[error("cannot read {0}")]
     Read(&'a str),
@@ -40,6 +44,9 @@ pub enum Fault<'a> {
     /// A text was not accepted: its first fault. Status 1, and 4 for want of memory.
     #[error("{0}")]
     Check(CheckFault),
+    /// A blob was not gathered. Status 1, and 4 for want of memory.
+    #[error("{0}")]
+    Gather(GatherFault),
     /// The program found no memory. Status 4.
     #[error("memory")]
     Memory,
@@ -56,14 +63,31 @@ fn check_status(fault: CheckFault) -> u8
     }
 }
 
+// The exit status of a fault of gathering.
+fn gather_status(fault: GatherFault) -> u8
+    ensures { result ≡ gather_status_of fault }
+{
+    match fault {
+        GatherFault::TooLarge | GatherFault::Unfinished | GatherFault::NotTheRoot => 1,
+        GatherFault::Capacity => 2,
+        GatherFault::Memory | GatherFault::Starved => 4,
+    }
+}
+
 impl Fault<'_> {
     /// The exit status.
     pub fn status(self) -> u8
         ensures { result ≡ status_of self.entry }
     {
         match self {
-            Fault::Word | Fault::Root | Fault::Key | Fault::KeyAndContext | Fault::OutputRange => 2,
+            Fault::Word
+            | Fault::Root
+            | Fault::Key
+            | Fault::KeyAndContext
+            | Fault::OutputRange
+            | Fault::TooManyFiles => 2,
             Fault::Check(fault) => check_status(fault),
+            Fault::Gather(fault) => gather_status(fault),
             Fault::Read(_) | Fault::Write(_) | Fault::Output => 3,
             Fault::Encoding | Fault::Memory => 4,
         }

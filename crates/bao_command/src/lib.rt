@@ -5,6 +5,7 @@ mod command;
 mod decode;
 mod digits;
 mod fault;
+mod gathering;
 mod input;
 mod mode;
 mod once;
@@ -15,6 +16,8 @@ mod reading;
 mod tests;
 #[cfg(test)]
 mod tests_decode;
+#[cfg(test)]
+mod tests_gather;
 #[cfg(test)]
 mod tests_reading;
 mod words;

@@ -13,7 +13,8 @@ use std::io::Write;
 use std::rt::Files;
 use std::{fs, io};
 
-/// A file that is made anew by the first write to it: before, the path is as it was.
+/// A file that is made anew by the first write to it, or by a flush where none came: before, the path is as it
+/// was.
 pub struct LateFile<'a, R: Files> {
     rt: &'a R,
     path: &'a str,
@@ -55,6 +56,9 @@ impl<R: Files> Write for LateFile<'_, R> {
     }
 
     fn flush(&mut self) -> io::Result<()> {
+        if self.file.is_none() {
+            self.file = Some(fs::create(self.rt, self.path)?);
+        }
         match &mut self.file {
             Some(file) => file.flush(),
             None => Ok(()),

@@ -19,9 +19,9 @@ pub(crate) const LARGE: &str = "2f053cd7472cf0cd2f9adaf45c1180255b91b9a865404a63
 
 const LINE: &str = "aa95faeede7041e63c6056bdcf10e6fbf709a355e539259da51a067e5dd27802\n";
 
-const KEY: &str = "77686174732074686520456c7669736820776f726420666f7220667269656E64";
+pub(crate) const KEY: &str = "77686174732074686520456c7669736820776f726420666f7220667269656E64";
 
-const CONTEXT: &str = "BLAKE3 2019-12-27 16:29:52 test vectors context";
+pub(crate) const CONTEXT: &str = "BLAKE3 2019-12-27 16:29:52 test vectors context";
 
 // What another program has of the bytes i mod 251, 2,049 of them, in the mode of these words: the digits of the
 // hash, which `b3sum` 1.2.0 gives too, and the 64 bytes of the root and of the parent on its left. The program was
@@ -98,7 +98,7 @@ pub(crate) struct Broken {
     pub(crate) held: Vec<u8>,
     room: usize,
     kind: ErrorKind,
-    stuck: bool,
+    pub(crate) stuck: bool,
 }
 
 impl Write for Broken {
@@ -366,7 +366,7 @@ fn faults_of_usage(rt: HostRuntime) -> Result<(), Fail> {
 #[test]
 fn faults_of_words(rt: HostRuntime) -> Result<(), Fail> {
     let none = "error: 'bao_gather' requires a subcommand but one was not provided
-  [subcommands: hash, encode, outboard, slice, decode, decode-slice, help]
+  [subcommands: hash, encode, outboard, slice, decode, decode-slice, gather, help]
 
 Usage: bao_gather <COMMAND>
 

@@ -3,6 +3,7 @@ use Rattle.std.specs.Prelude.{◌≡◌, ◌⊎◌, List, [], ◌∷◌, Some, p
 use Rattle.clap.specs.Words.{App, IsAmong, Rule, Text, app_of, fault_of, new_app, new_rule, subcommand_of, with_rule, with_subcommand}
 use Rattle.clap.specs.declared.builder.command.Command.{Command}
 use Rattle.clap.specs.declared.builder.command.Command.TheViews.{out-Command}
+use Rattle.clap.specs.Lexer.{usize_max}
 use Rattle.clap.specs.declared.builder.value_parser.ValueParser.{ValueParser}
 use Rattle.clap.specs.declared.builder.value_parser.ValueParser.TheVariants.{Signed, Unsigned}
 use Rattle.clap.specs.declared.error.kind.ErrorKind.{ErrorKind}
@@ -85,14 +86,35 @@ with_slice_rules app = with_mode_rules (with_rule (with_rule app slice_rule) out
 abbrev pub decode_slice_app : App
 decode_slice_app = with_slice_rules (with_range_rules (new_app (codes "decode-slice")))
 
+-- how many workers gather: one, for now
+abbrev pub workers_rule : Rule
+workers_rule = record (option_rule (codes "workers")) { parser = Some (Signed (pos 1) (pos 1)); defaults = codes "1" ∷ [] }
+
+-- the most chunks of a blob
+abbrev pub capacity_rule : Rule
+capacity_rule = record (option_rule (codes "capacity")) { parser = Some (Signed (pos 1) (pos 65536)); defaults = codes "65536" ∷ [] }
+
+-- one file or more
+abbrev pub files_rule : Rule
+files_rule = record (place_rule (codes "FILE")) { range = Some (record { start_inclusive = 1; end_inclusive = usize_max }) }
+
+abbrev pub with_holders_rules : App → App
+with_holders_rules app = with_mode_rules (with_rule (with_rule (with_rule app root_rule) out_rule) files_rule)
+
+abbrev pub gather_app : App
+gather_app = with_holders_rules (with_rule (with_rule (new_app (codes "gather")) workers_rule) capacity_rule)
+
 abbrev pub bare_app : App
 bare_app = let app = new_app (codes "bao_gather") in record app { top = record app.top { has_version = true; subcommand_required = true } }
 
 abbrev pub writers_app : App
 writers_app = with_subcommand (with_subcommand (with_subcommand (with_subcommand bare_app hash_app.top) encode_app.top) outboard_app.top) slice_app.top
 
+abbrev pub checkers_app : App
+checkers_app = with_subcommand (with_subcommand writers_app decode_app.top) decode_slice_app.top
+
 abbrev pub program_app : App
-program_app = with_subcommand (with_subcommand writers_app decode_app.top) decode_slice_app.top
+program_app = with_subcommand checkers_app gather_app.top
 
 -- the command is that of the description, and has no global option
 pub record IsApp (app : App) (command : Command) : Type 0 where

@@ -1,20 +1,25 @@
 -- what the words ask for: a request, from the rows that clap has of a subcommand's words (an
 -- option's or a place's name, with its text)
-use Rattle.std.specs.Prelude.{◌≡◌, ℕ, List, Option, Some, None, codes}
+use Rattle.std.specs.Prelude.{◌≡◌, ℕ, List, Option, Some, None, codes, map}
 use Rattle.std.specs.Option.{option_copied}
 use Rattle.std.specs.Str.Parse.{digits_value, without_leading_plus}
-use Rattle.clap.specs.Words.{Row, Text, first_of, one_of}
+use Rattle.std.specs.Borrow.{Bor}
+use Rattle.clap.specs.Words.{Row, Text, all_of, first_of, one_of}
 use Rattle.bao_request.specs.declared.tasks.Encoding.{Encoding}
 use Rattle.bao_request.specs.declared.tasks.Encoding.TheVariants.{Combined, Outboard, Slice}
 use Rattle.bao_request.specs.declared.tasks.Part.{Part}
 use Rattle.bao_request.specs.declared.tasks.Part.TheVariants as part
 use Rattle.bao_request.specs.declared.tasks.Request.{Request}
 use Rattle.bao_request.specs.declared.tasks.Task.{Task}
-use Rattle.bao_request.specs.declared.tasks.Task.TheVariants.{Hash, Encode, Decode}
+use Rattle.bao_request.specs.declared.tasks.Task.TheVariants.{Hash, Encode, Decode, Gather}
 
 -- the row of this name has this text
 abbrev pub GivesText : List Row → Text → Text → Type 0
 GivesText rows id text = first_of id rows ≡ Some text
+
+-- the row of this name has these texts
+abbrev pub GivesTexts : List Row → Text → List (Bor Text) → Type 0
+GivesTexts rows id texts = all_of id rows ≡ Some (map (λ text. text.now) texts)
 
 -- the row of this name has decimal digits of this value
 abbrev pub GivesNumber : List Row → Text → ℕ → Type 0
@@ -44,6 +49,8 @@ GivesTask name rows (Encode encoding file out) =
     GivesEncoding name rows encoding × GivesText rows (codes "FILE") file.now × GivesText rows (codes "OUT") out.now
 GivesTask name rows (Decode root part file out) =
     GivesPart name rows part file.now × GivesText rows (codes "ROOT") root.now × GivesText rows (codes "OUT") out.now
+GivesTask name rows (Gather root capacity files out) =
+    (name ≡ codes "gather") × GivesNumber rows (codes "capacity") capacity × GivesText rows (codes "ROOT") root.now × GivesTexts rows (codes "FILE") files.items × GivesText rows (codes "OUT") out.now
 
 -- the subcommand's name and rows ask for this request
 abbrev pub GivesRequest : Option (Text × List Row) → Request → Type 0

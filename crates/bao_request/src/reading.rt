@@ -1,8 +1,8 @@
-ghost use Rattle.std.specs.Prelude.{◌≡◌, IfErr, IfOk, IfSome, Some, map, string_bytes};
+ghost use Rattle.std.specs.Prelude.{◌≡◌, IfErr, IfOk, IfSome, Some, codes, map, string_bytes};
 ghost use Rattle.std.specs.Option.{option_copied};
 ghost use Rattle.clap.specs.Words.{first_of, found_of, kind_of, rows_of, subcommand_of, subcommand_rows_of};
 ghost use Rattle.bao_request.specs.CommandLine.{AsksFor, AsksForHelp, IsHelp, program_app};
-ghost use Rattle.bao_request.specs.Requests.{GivesEncoding, GivesNumber, GivesRange, GivesRequest, GivesTask, GivesText};
+ghost use Rattle.bao_request.specs.Requests.{GivesEncoding, GivesNumber, GivesRange, GivesRequest, GivesTask, GivesText, GivesTexts};
 
 use crate::rules::program;
 use crate::tasks::{Encoding, Part, Request, Task};
@@ -23,6 +23,13 @@ fn number(words: &ArgMatches<'_>, id: &str) -> Option<u64>
     ensures { IfSome result (GivesNumber (rows_of (found_of words.now)) id.now) }
 {
     words.get_one(id)
+}
+
+// The number of the word `id`, where it has 32 bits.
+fn count(words: &ArgMatches<'_>, id: &str) -> Option<u32>
+    ensures { IfSome result (GivesNumber (rows_of (found_of words.now)) id.now) }
+{
+    u32::try_from(number(words, id)?).ok()
 }
 
 // The range that the words START and LEN give.
@@ -71,14 +78,41 @@ fn decode_of<'a>(name: &str, words: &ArgMatches<'a>) -> Option<Task<'a>>
     }
 }
 
-// The task of a subcommand's words, where they are all there.
-fn task_of<'a>(name: &str, words: &ArgMatches<'a>) -> Option<Task<'a>>
+// The texts of the word `id`, all of them.
+fn texts<'m, 'a>(words: &'m ArgMatches<'a>, id: &str) -> Option<&'m [&'a str]>
+    ensures { IfSome result (λ texts. GivesTexts (rows_of (found_of words.now)) id.now texts.now) }
+{
+    words.get_strs(id)
+}
+
+// The task of gathering, where its words are all there.
+fn gather_of<'a>(alloc: Global, words: &ArgMatches<'a>) -> Result<Option<Task<'a>>, AllocError>
+    ensures { IfOk result (λ task. IfSome task (GivesTask (codes "gather") (rows_of (found_of words.now)))) }
+{
+    let (Some(root), Some(capacity), Some(files), Some(out)) = (
+        text(words, "ROOT"),
+        count(words, "capacity"),
+        texts(words, "FILE"),
+        text(words, "OUT"),
+    ) else {
+        return Ok(None);
+    };
+    Ok(Some(Task::Gather {
+        root,
+        capacity,
+        files: files.to_vec(alloc)?,
+        out,
+    }))
+}
+
+// The task of a subcommand's words on one file, where they are all there.
+fn file_task_of<'a>(name: &str, words: &ArgMatches<'a>) -> Option<Task<'a>>
     ensures { IfSome result (GivesTask name.now (rows_of (found_of words.now))) }
 {
     if name == "hash" {
         return Some(Task::Hash {
             at: number(words, "at")?,
-            length: u32::try_from(number(words, "length")?).ok()?,
+            length: count(words, "length")?,
             file: text(words, "FILE")?,
         });
     }
@@ -92,16 +126,38 @@ fn task_of<'a>(name: &str, words: &ArgMatches<'a>) -> Option<Task<'a>>
     }
 }
 
-// What the words of a subcommand ask for, where they are all there.
-fn request_of<'a>(matches: &ArgMatches<'a>) -> Option<Request<'a>>
-    ensures { IfSome result (GivesRequest (subcommand_rows_of matches.now)) }
+// The task of a subcommand's words, where they are all there.
+fn task_of<'a>(
+    alloc: Global,
+    name: &str,
+    words: &ArgMatches<'a>,
+) -> Result<Option<Task<'a>>, AllocError>
+    ensures { IfOk result (λ task. IfSome task (GivesTask name.now (rows_of (found_of words.now)))) }
 {
-    let (name, words) = matches.subcommand()?;
-    Some(Request {
+    if name == "gather" {
+        return gather_of(alloc, words);
+    }
+    Ok(file_task_of(name, words))
+}
+
+// What the words of a subcommand ask for, where they are all there.
+fn request_of<'a>(
+    alloc: Global,
+    matches: &ArgMatches<'a>,
+) -> Result<Option<Request<'a>>, AllocError>
+    ensures { IfOk result (λ request. IfSome request (GivesRequest (subcommand_rows_of matches.now))) }
+{
+    let Some((name, words)) = matches.subcommand() else {
+        return Ok(None);
+    };
+    let Some(task) = task_of(alloc, name, words)? else {
+        return Ok(None);
+    };
+    Ok(Some(Request {
         key: text(words, "key"),
         context: text(words, "context"),
-        task: task_of(name, words)?,
-    })
+        task,
+    }))
 }
 
 // What `clap` finds in the words.
@@ -127,7 +183,7 @@ pub fn parse<'a>(alloc: Global, words: &'a [String]) -> Result<Request<'a>, Erro
     ensures help { IfErr result (λ error. IsHelp (kind_of error) → AsksForHelp (map string_bytes words.entry.now)) }
 {
     let matches = matches_of(alloc, words)?;
-    match request_of(&matches) {
+    match request_of(alloc, &matches)? {
         Some(request) => Ok(request),
         None => Err(incomplete(alloc)?),
     }

@@ -1,10 +1,16 @@
 ghost use Rattle.std.specs.Prelude.{◌≡◌, IfOk, Some, false};
 ghost use Rattle.clap.specs.Words.{app_of, rule_of};
 ghost use Rattle.clap.specs.declared.builder.command.Command.TheViews.{out-Command};
-ghost use Rattle.bao_request.specs.CommandLine.{IsApp, any_number, at_rule, decode_app, decode_slice_app, encode_app, hash_app, length_rule, option_rule, outboard_app, place_rule, program_app, slice_app, with_file_rules, with_mode_rules, with_range_rules, with_slice_rules, writers_app};
+ghost use Rattle.bao_request.specs.CommandLine.{IsApp, any_number, at_rule, capacity_rule, checkers_app, decode_app, decode_slice_app, encode_app, files_rule, gather_app, hash_app, length_rule, option_rule, outboard_app, place_rule, program_app, slice_app, with_file_rules, with_holders_rules, with_mode_rules, with_range_rules, with_slice_rules, workers_rule, writers_app};
 
 use clap::{Arg, ArgAction, Command, value_parser};
 use std::alloc::{AllocError, Global};
+
+// The most bytes of output that are printed.
+const MOST_OUTPUT: i64 = 65_536;
+
+// The most chunks of a blob that is gathered.
+const MOST_CHUNKS: i64 = 65_536;
 
 // The option `--id NAME`.
 fn option<'a>(alloc: Global, id: &'a str, name: &'a str) -> Arg<'a>
@@ -37,7 +43,7 @@ fn length_option<'a>(alloc: Global) -> Arg<'a>
     ensures global { result.global ≡ false }
 {
     option(alloc, "length", "N")
-        .value_parser(value_parser!(u32).range(1..65_537))
+        .value_parser(value_parser!(u32).range(1..=MOST_OUTPUT))
         .default_value("32")
         .help("How many bytes of output to print, 1 to 65536")
 }
@@ -151,13 +157,69 @@ fn decode_slice_command<'a>(alloc: Global) -> Result<Command<'a>, AllocError>
     with_slice(alloc, command)
 }
 
+fn workers_option<'a>(alloc: Global) -> Arg<'a>
+    ensures rule { rule_of result ≡ workers_rule }
+    ensures global { result.global ≡ false }
+{
+    option(alloc, "workers", "N")
+        .value_parser(value_parser!(u32).range(1..=1))
+        .default_value("1")
+        .help("How many workers gather, which is 1")
+}
+
+fn capacity_option<'a>(alloc: Global) -> Arg<'a>
+    ensures rule { rule_of result ≡ capacity_rule }
+    ensures global { result.global ≡ false }
+{
+    option(alloc, "capacity", "N")
+        .value_parser(value_parser!(u32).range(1..=MOST_CHUNKS))
+        .default_value("65536")
+        .help("How many chunks of 1024 bytes the blob may have, 1 to 65536")
+}
+
+// The place of one file or more.
+fn files_place<'a>(alloc: Global) -> Arg<'a>
+    ensures rule { rule_of result ≡ files_rule }
+    ensures global { result.global ≡ false }
+{
+    place(
+        alloc,
+        "FILE",
+        "The holders' combined Bao encodings, 1 to 64 files",
+    )
+    .num_args(1..)
+}
+
+// The command with the words ROOT, OUT and FILE.., and those of the mode.
+fn with_holders<'a>(alloc: Global, command: Command<'a>) -> Result<Command<'a>, AllocError>
+    requires { (out-Command command).has_globals ≡ false }
+    ensures { IfOk result (IsApp (with_holders_rules (app_of command.entry))) }
+{
+    let root = place(alloc, "ROOT", "The hash of the blob, 64 hexadecimal digits");
+    let out = place(alloc, "OUT", "The file to write");
+    let command = command.arg(root)?.arg(out)?.arg(files_place(alloc))?;
+    with_mode(alloc, command)
+}
+
+fn gather_command<'a>(alloc: Global) -> Result<Command<'a>, AllocError>
+    ensures { IfOk result (IsApp gather_app) }
+{
+    let command = Command::new(alloc, "gather")
+        .about("Gathers the blob with a root out of combined Bao encodings, and writes it")
+        .arg(workers_option(alloc))?
+        .arg(capacity_option(alloc))?;
+    with_holders(alloc, command)
+}
+
 // The program with the commands that hash and write.
 fn writers<'a>(alloc: Global) -> Result<Command<'a>, AllocError>
     ensures { IfOk result (IsApp writers_app) }
 {
     Command::new(alloc, "bao_gather")
         .version("0.1.0")
-        .about("Hashes files with BLAKE3, and writes and checks their Bao encodings")
+        .about(
+            "Hashes files with BLAKE3, writes and checks their Bao encodings, and gathers blobs from them",
+        )
         .subcommand_required(true)
         .subcommand(hash_command(alloc)?)?
         .subcommand(encode_command(alloc)?)?
@@ -165,12 +227,20 @@ fn writers<'a>(alloc: Global) -> Result<Command<'a>, AllocError>
         .subcommand(slice_command(alloc)?)
 }
 
-/// The program's command line: `hash`, `encode`, `outboard`, `slice`, `decode`, `decode-slice`.
-pub(crate) fn program<'a>(alloc: Global) -> Result<Command<'a>, AllocError>
-    ensures { IfOk result (IsApp program_app) }
+// The program with the commands that check a text, too.
+fn checkers<'a>(alloc: Global) -> Result<Command<'a>, AllocError>
+    ensures { IfOk result (IsApp checkers_app) }
 {
     let program = writers(alloc)?;
     program
         .subcommand(decode_command(alloc)?)?
         .subcommand(decode_slice_command(alloc)?)
+}
+
+/// The program's command line: `hash`, `encode`, `outboard`, `slice`, `decode`, `decode-slice`, `gather`.
+pub(crate) fn program<'a>(alloc: Global) -> Result<Command<'a>, AllocError>
+    ensures { IfOk result (IsApp program_app) }
+{
+    let program = checkers(alloc)?;
+    program.subcommand(gather_command(alloc)?)
 }

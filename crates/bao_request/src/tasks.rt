@@ -1,5 +1,5 @@
 /// What the words ask for.
-#[derive(Clone, Copy, Debug)]
+#[derive(Debug, Drop)]
 pub struct Request<'a> {
     /// The text of `--key`.
     pub key: Option<&'a str>,
@@ -9,7 +9,7 @@ pub struct Request<'a> {
 }
 
 /// A command with its words.
-#[derive(Clone, Copy, Debug)]
+#[derive(Debug, Drop)]
 pub enum Task<'a> {
     /// `length` bytes, 1 to 65,536, of a file's extended output, from byte `at` on.
     Hash {
@@ -28,6 +28,14 @@ pub enum Task<'a> {
         root: &'a str,
         part: Part,
         file: &'a str,
+        out: &'a str,
+    },
+    /// The blob with this root, of at most `capacity` chunks, 1 to 65,536, out of the files, one or more, to
+    /// the file `out`.
+    Gather {
+        root: &'a str,
+        capacity: u32,
+        files: Vec<&'a str>,
         out: &'a str,
     },
 }

@@ -1,0 +1,131 @@
+ghost use Rattle.std.specs.Borrow.{Bor};
+ghost use Rattle.std.specs.Prelude.{◌≡◌, ◌⊎◌, ◌<◌, ◌≤◌, ℕ, List, IfErr, IfOk, IsErrAnd, OnOk, Some, length, slice_get};
+ghost use Rattle.bao_command.specs.declared.fault.Fault.TheVariants as Fault;
+ghost use Rattle.bao_command.specs.Gathered.{LeavesBlob, WritesBlob};
+ghost use Rattle.bao_command.specs.Printed.{IsQuiet, NamesFirst, Prints};
+ghost use Rattle.bao_command.specs.Tasks.{HasHash, ok_line};
+
+use crate::digits::print_count;
+use crate::fault::Fault;
+use crate::input::read_file;
+use crate::mode::bytes_of_digits;
+use crate::output::LateFile;
+use b3tree::{Hash, Mode};
+use bao_text::write_text;
+use gather::gather_texts;
+use std::alloc::Global;
+use std::io::Write;
+use std::rt::Files;
+
+// The most files that a blob is gathered from.
+const MOST_FILES: usize = 64;
+
+// The bytes of those files that can be read, in the order of the paths. Where none can, the fault names the first.
+fn read_files<'a, R: Files + AllocGlobal>(
+    rt: &R,
+    paths: &[&'a str],
+) -> Result<Vec<Vec<u8>>, Fault<'a>>
+    ensures { IfErr result (λ fault. (fault ≡ Fault.Memory)
+        ⊎ ((first : Bor (List ℕ)) × (slice_get paths.now 0 ≡ Some first) × (fault ≡ Fault.Read first))) }
+{
+    let mut texts = Vec::with_capacity(rt.alloc(), paths.len()).map_err(|_| Fault::Memory)?;
+    'files: for path in paths {
+        match read_file(rt, path) {
+            Ok(text) => texts.push(text).map_err(|_| Fault::Memory)?,
+            Err(Fault::Memory) => return Err(Fault::Memory),
+            Err(_) => {}
+        }
+    }
+    match paths.first() {
+        Some(first) if texts.is_empty() => Err(Fault::Read(first)),
+        _ => Ok(texts),
+    }
+}
+
+/// Gathers the blob with this root out of the texts, each a combined encoding from a holder that nobody trusts,
+/// writes it to `out`, which is flushed, and answers how many bytes it has.
+///
+/// Nothing is written before the blob was verified. After `Gather`, where no blob with this root and at most
+/// `capacity` chunks came together, nothing was written; after `Write` with the path a beginning of the blob may
+/// stand.
+pub fn write_gathered<'a, W: Write>(
+    alloc: Global,
+    mode: &Mode,
+    root: &Hash,
+    capacity: u32,
+    texts: &[Vec<u8>],
+    path: &'a str,
+    out: &mut W,
+) -> Result<u64, Fault<'a>>
+    ensures blob { IfOk result (WritesBlob mode.now root.now.0 (W.contents out.old) (W.contents out.new)) }
+    ensures fault { IfErr result (LeavesBlob mode.now root.now.0 path.entry (W.contents out.old) (W.contents out.new)) }
+{
+    let blob = match gather_texts(alloc, *root, *mode, capacity, texts) {
+        Ok(blob) => blob,
+        Err(fault) => return Err(Fault::Gather(fault)),
+    };
+    if write_text(blob.as_slice(), out).is_err() || out.flush().is_err() {
+        return Err(Fault::Write(path));
+    }
+    Ok(blob.len() as u64)
+}
+
+// Gathers the blob out of the files, writes it to the file at `path`, which is made once the blob was verified, and
+// answers how many bytes that is.
+fn gather<'a, R: Files + AllocGlobal>(
+    rt: &R,
+    mode: &Mode,
+    root: &str,
+    capacity: u32,
+    files: &[&'a str],
+    path: &'a str,
+) -> Result<u64, Fault<'a>>
+    ensures ok { IfOk result (λ count. (blob : List ℕ) × HasHash mode.now root.now blob × (count ≡ length blob)) }
+    ensures err { IfErr result IsQuiet }
+    ensures paths { IfErr result (NamesFirst files.now path.entry) }
+{
+    let root = match bytes_of_digits(root) {
+        Some(root) => Hash(root),
+        None => return Err(Fault::Root),
+    };
+    let texts = read_files(rt, files)?;
+    let mut out = LateFile::new(rt, path);
+    write_gathered(
+        rt.alloc(),
+        mode,
+        &root,
+        capacity,
+        texts.as_slice(),
+        path,
+        &mut out,
+    )
+}
+
+/// Gathers the blob with this root, of at most `capacity` chunks, out of the files, each a combined encoding from a
+/// holder that nobody trusts, writes it to the file at `path`, made anew once the blob was verified, and prints `ok`
+/// and how many bytes that is. A file that can't be read is left out.
+///
+/// Refuses more than 64 files (`TooManyFiles`), a root that is no text of 64 hexadecimal digits (`Root`), files of
+/// which none can be read (`Read` of the first), a blob that did not come together (`Gather`), and an output that
+/// can't be made or written (`Write`).
+pub fn gather_files<'a, R: Files + AllocGlobal, O: Write>(
+    rt: &R,
+    mode: &Mode,
+    root: &str,
+    capacity: u32,
+    files: &[&'a str],
+    path: &'a str,
+    out: &mut O,
+) -> Result<(), Fault<'a>>
+    ensures answer { (blob : List ℕ) × OnOk result (HasHash mode.now root.now blob)
+        × Prints (ok_line (length blob)) (O.contents out.old) (O.contents out.new) result }
+    ensures few { OnOk result (length files.now ≤ 64) }
+    ensures many { 64 < length files.now → IsErrAnd result (λ fault. fault ≡ Fault.TooManyFiles) }
+    ensures paths { IfErr result (NamesFirst files.now path.entry) }
+{
+    if files.len() > MOST_FILES {
+        return Err(Fault::TooManyFiles);
+    }
+    let count = gather(rt, mode, root, capacity, files, path)?;
+    print_count(rt.alloc(), count, out)
+}
