@@ -1,4 +1,4 @@
-use Rattle.std.proofs.Common.{◌⊎◌, ℕ, List, Option, inl, inr, map, string_bytes}
+use Rattle.std.proofs.Common.{ℕ, List, Option, inl, inr, map, string_bytes}
 use Rattle.clap.specs.Words.{Text}
 use Rattle.bao_request.specs.declared.tasks.Request.{Request}
 use Rattle.bao_request.specs.CommandLine.{AsksFor}
