@@ -12,14 +12,15 @@ use crate::decode::decode_file;
 use crate::digits::print_digits;
 use crate::fault::Fault;
 use crate::gathering::gather_files;
-use crate::input::{open_file, read_file};
+use crate::input::{open_file, read_file, shared_len};
 use crate::mode::{bytes_of_digits, mode_of};
 use crate::once::Once;
 use crate::output::encode_file;
-use crate::reading::print_reader;
+use crate::reading::print_input;
 use b3tree::{Mode, xof_fits};
 use bao_request::{Request, Task, parse};
 use clap::error::ErrorKind;
+use std::fs::File;
 use std::io::Write;
 use std::rt::Files;
 use std::thread::Threads;
@@ -30,7 +31,7 @@ use std::thread::Threads;
 ///
 /// At status 0 `out` has the line of the request that the words make, on the file's bytes or the gathered blob, or
 /// where they ask for it help or the version. At 3 it has a beginning at most, and after other faults nothing.
-pub fn command<R: Files + AllocGlobal + Threads + Sync, O: Write, E: Write>(
+pub fn command<R: Files<File = File> + AllocGlobal + Threads + Sync, O: Write, E: Write>(
     rt: &R,
     words: &[String],
     out: &mut O,
@@ -51,7 +52,7 @@ pub fn command<R: Files + AllocGlobal + Threads + Sync, O: Write, E: Write>(
 }
 
 // Does what the request asks for.
-fn serve<'a, R: Files + AllocGlobal + Threads + Sync, O: Write>(
+fn serve<'a, R: Files<File = File> + AllocGlobal + Threads + Sync, O: Write>(
     rt: &R,
     request: &Request<'a>,
     out: &mut O,
@@ -65,7 +66,7 @@ fn serve<'a, R: Files + AllocGlobal + Threads + Sync, O: Write>(
 }
 
 // Does the task on the files' bytes, whatever these are.
-fn serve_task<'a, R: Files + AllocGlobal + Threads + Sync, O: Write>(
+fn serve_task<'a, R: Files<File = File> + AllocGlobal + Threads + Sync, O: Write>(
     rt: &R,
     mode: &Mode,
     task: &Task<'a>,
@@ -80,7 +81,8 @@ fn serve_task<'a, R: Files + AllocGlobal + Threads + Sync, O: Write>(
                 return Err(Fault::OutputRange);
             }
             let mut input = open_file(rt, file)?;
-            print_reader(rt.alloc(), mode, &mut input, file, *at, *length, out)
+            let len = shared_len(&input);
+            print_input(rt, mode, &mut input, len, file, *at, *length, out)
         }
         Task::Encode {
             encoding,

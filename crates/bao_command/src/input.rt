@@ -11,6 +11,9 @@ use std::rt::Files;
 // The most bytes that one read asks for.
 const READ_LEN: usize = 1 << 18;
 
+// A file of fewer bytes isn't worth threads.
+const LEAST_SHARED_LEN: u64 = 4 << 20;
+
 /// Why a reader was not read to its end.
 #[derive(Clone, Copy, Debug, PartialEq, Eq)]
 pub enum ReadFault {
@@ -65,6 +68,12 @@ pub fn open_file<'a, R: Files>(rt: &R, path: &'a str) -> Result<R::File, Fault<'
     ensures { IfErr result (λ fault. fault ≡ Fault.Read path.entry) }
 {
     fs::open(rt, path).map_err(|_| Fault::Read(path))
+}
+
+/// How many bytes a regular file says it has, where they are enough to be worth threads.
+pub fn shared_len<F: OpenFile>(file: &F) -> Option<u64> {
+    let metadata = file.metadata().ok()?;
+    (metadata.is_file() && metadata.len() >= LEAST_SHARED_LEN).then_some(metadata.len())
 }
 
 /// All bytes of the file at `path`.

@@ -5,6 +5,7 @@ ghost use Rattle.bao_command.specs.Outcome.{Ends};
 use crate::command::command;
 use crate::fault::Fault;
 use crate::words::own_words;
+use std::fs::File;
 use std::io::Write;
 use std::process::ExitCode;
 use std::rt::{Env, Files};
@@ -16,7 +17,7 @@ use std::thread::Threads;
 ///
 /// At status 0 `out` has the line of the request that the words make, on the file's bytes, or where they ask
 /// for it help or the version. At 3 it has a beginning at most, and after other faults nothing.
-pub fn run<R: Env + Files + AllocGlobal + Threads + Sync, O: Write, E: Write>(
+pub fn run<R: Env + Files<File = File> + AllocGlobal + Threads + Sync, O: Write, E: Write>(
     rt: &R,
     out: &mut O,
     err: &mut E,

@@ -1,19 +1,24 @@
-ghost use Rattle.std.specs.Prelude.{◌≡◌, ◌⊎◌, ◌+◌, ◌-◌, ◌^◌, ◌<◌, ◌≤◌, ℕ, List, ◌++◌, length, IfErr, IfOk, IfSome, OnOk};
+ghost use Rattle.std.specs.Prelude.{◌≡◌, ◌⊎◌, ◌+◌, ◌-◌, ◌^◌, ◌<◌, ◌≤◌, ℕ, List, ◌++◌, length, IfErr, IfOk, IfSome, OnOk, Some};
 ghost use Rattle.std.specs.Io.KnownBytes.{Consumes, IsAtEnd};
 ghost use Rattle.b3tree.specs.declared.mode.Mode.{Mode};
 ghost use Rattle.b3tree.specs.Hashing.{stream};
 ghost use Rattle.b3tree.specs.Taken.{Holds};
 ghost use Rattle.bao_command.specs.Printed.{Prints, digits_line};
 
-use crate::digits::print_output;
+use crate::digits::{print_digits, print_output};
 use crate::fault::Fault;
 use crate::input::ReadFault;
-use b3tree::{Hasher, Mode};
+use b3read::{RANGES, Source, hash_source};
+use b3tree::{Hash, Hasher, Mode};
 use std::alloc::Global;
 use std::io::{Read, Write};
+use std::thread::Threads;
 
 // The most bytes that one read asks for: few enough to stay in a processor's cache.
 const PIECE_LEN: usize = 1 << 20;
+
+// The bytes of a hash, as far as extended output goes.
+const HASH_LEN: u32 = 32;
 
 // Has the hasher take in what one read gives, and answers how many bytes that is: none only at the reader's
 // end.
@@ -90,4 +95,45 @@ pub fn print_reader<'a, R: Read, W: Write>(
         Ok(hasher) => print_output(alloc, &hasher, at, len, out),
         Err(_) => Err(Fault::Read(path)),
     }
+}
+
+// The hash of the bytes of an input that is said to have `len` of them, on several threads. Where it hasn't, and
+// where a read or memory fails, there is none. The input is read at places, so that it is left where it stood.
+fn shared_hash<R: AllocGlobal + Threads + Sync, I: Source + Sync>(
+    rt: &R,
+    mode: &Mode,
+    input: &I,
+    len: Option<u64>,
+) -> Option<Hash>
+    ensures all { IfSome result (λ hash. IfSome (I.contents input.now) (λ s. hash.0 ≡ stream mode.now s 0 32)) }
+    ensures some { IfSome result (λ hash. (bytes : List ℕ) × (hash.0 ≡ stream mode.now bytes 0 32)) }
+{
+    hash_source(rt, rt.alloc(), mode, input, len?, RANGES).ok()
+}
+
+/// As `print_reader`, of an input that can also be read at places. Where it is said to have `len_hint` bytes and its
+/// hash is asked for, it is read on several threads first, each in pieces of its own. If that gives no hash, it is
+/// read from where it stands on one thread, and what that meets is answered.
+pub fn print_input<'a, R: AllocGlobal + Threads + Sync, I: Read + Source + Sync, W: Write>(
+    rt: &R,
+    mode: &Mode,
+    input: &mut I,
+    len_hint: Option<u64>,
+    path: &'a str,
+    at: u64,
+    len: u32,
+    out: &mut W,
+) -> Result<(), Fault<'a>>
+    requires { at + len ≤ 2 ^ 64 - 1 }
+    ensures all { IfSome (I.contents input.old) (λ s. I.remaining input.old ≡ Some s
+        → Prints (digits_line (stream mode.now s at len)) (W.contents out.old) (W.contents out.new) result) }
+    ensures some { (bytes : List ℕ) × Prints (digits_line (stream mode.now bytes at len)) (W.contents out.old) (W.contents out.new) result }
+    ensures fault { IfErr result (λ fault. (fault ≡ Fault.Memory) ⊎ (fault ≡ Fault.Output) ⊎ (fault ≡ Fault.Read path.entry)) }
+{
+    if at == 0 && len == HASH_LEN {
+        if let Some(hash) = shared_hash(rt, mode, input, len_hint) {
+            return print_digits(rt.alloc(), &hash.0, out);
+        }
+    }
+    print_reader(rt.alloc(), mode, input, path, at, len, out)
 }

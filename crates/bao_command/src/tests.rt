@@ -3,6 +3,7 @@ use crate::input::{ReadFault, read_whole};
 use crate::words::own_words;
 use std::alloc::Global;
 use std::env::FillError;
+use std::fs::File;
 use std::io::{ErrorKind, Read, Write};
 use std::process::Abort;
 use std::rt::{Env, Files};
@@ -16,6 +17,11 @@ const ABC: &str = "6437b3ac38465133ffb63b75273a8db548c558465d79db03fd359c6cd5bd9
 
 // The hashes of the bytes i mod 251, 2^20 + 1 of them, and of `abc` and a line end, by `b3sum` 1.2.0.
 pub(crate) const LARGE: &str = "2f053cd7472cf0cd2f9adaf45c1180255b91b9a865404a63671a0ee5f792ed33\n";
+
+// The same of 5,000,001 such bytes, in two modes.
+const SHARED: &str = "f64c8ef65563cff7e1f2659717bf57b177401918900fe83d4f30f9540970a7ba\n";
+
+const SHARED_KEYED: &str = "b028562c0c6dd495ed42b4c6452323a666481f1ca4d5a2db5e1e1d68b68522c9\n";
 
 const LINE: &str = "aa95faeede7041e63c6056bdcf10e6fbf709a355e539259da51a067e5dd27802\n";
 
@@ -196,7 +202,7 @@ fn words(alloc: Global, given: &[&str]) -> Result<Vec<String>, Fail> {
 }
 
 // Runs the program, and asserts its status and what it prints on its two streams.
-pub(crate) fn expect<R: Files + AllocGlobal + Threads + Sync + Abort>(
+pub(crate) fn expect<R: Files<File = File> + AllocGlobal + Threads + Sync + Abort>(
     rt: &R,
     given: &[&str],
     status: u8,
@@ -309,6 +315,21 @@ fn files_are_read_whole(rt: HostRuntime) -> Result<(), Fail> {
         str::from_utf8(line.as_slice())?,
         "",
     )?;
+    fs::remove_file(&rt, file)?;
+    Ok(())
+}
+
+// A file that is long enough for several threads, and the same output where it is asked for in another way.
+#[test]
+fn long_files_are_read_on_threads(rt: HostRuntime) -> Result<(), Fail> {
+    let file = path(rt.alloc(), process::id(rt.process()), "long")?;
+    let file = file.as_str();
+    fs::write(&rt, file, blob(rt.alloc(), 5_000_001)?.as_slice())?;
+    expect(&rt, &["hash", file], 0, SHARED, "")?;
+    expect(&rt, &["hash", "--key", KEY, file], 0, SHARED_KEYED, "")?;
+    let half = SHARED.get(32..65).ok_or("digits")?;
+    let words = ["hash", "--at", "16", "--length", "16", file];
+    expect(&rt, &words, 0, half, "")?;
     fs::remove_file(&rt, file)?;
     Ok(())
 }
@@ -587,7 +608,7 @@ fn words_are_text(rt: HostRuntime) -> Result<(), Fail> {
 }
 
 // The whole file that a task makes of `file`, with the words of a mode.
-fn made<R: Files + AllocGlobal + Threads + Sync + Abort>(
+fn made<R: Files<File = File> + AllocGlobal + Threads + Sync + Abort>(
     rt: &R,
     task: &[&str],
     figures: &Figures,

@@ -4,6 +4,7 @@ use b3tree::{Hash, Mode};
 use bao_check::{Checked, check_slice};
 use bao_request::Part;
 use std::alloc::Global;
+use std::fs::File;
 use std::io::ErrorKind;
 use std::process::Abort;
 use std::rt::Files;
@@ -48,7 +49,7 @@ fn files_of(alloc: Global, process: u32, name: &str) -> Result<Paths, Fail> {
 }
 
 // Runs a task on a text that it accepts, and answers what it wrote.
-fn decoded<R: Files + AllocGlobal + Threads + Sync + Abort>(
+fn decoded<R: Files<File = File> + AllocGlobal + Threads + Sync + Abort>(
     rt: &R,
     figures: &Figures,
     task: &[&str],
@@ -70,7 +71,7 @@ fn decoded<R: Files + AllocGlobal + Threads + Sync + Abort>(
 }
 
 // Runs a task on a text that it refuses, with this fault, and sees that OUT was not made.
-fn refused<R: Files + AllocGlobal + Threads + Sync + Abort>(
+fn refused<R: Files<File = File> + AllocGlobal + Threads + Sync + Abort>(
     rt: &R,
     task: &[&str],
     text: &[u8],

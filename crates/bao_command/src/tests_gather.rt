@@ -2,6 +2,7 @@ use crate::gathering::write_gathered;
 use crate::tests::{Broken, CONTEXT, EMPTY, KEY, blob, expect, failing, path};
 use b3tree::{Hash, Mode};
 use bao_text::combined;
+use std::fs::File;
 use std::io::ErrorKind;
 use std::process::Abort;
 use std::rt::Files;
@@ -61,7 +62,7 @@ fn remove<R: Files>(rt: &R, holders: &Holders) -> Result<(), Fail> {
 }
 
 // Gathers 3,000 bytes with these words, and sees what OUT holds.
-fn gathered<R: Files + AllocGlobal + Threads + Sync + Abort>(
+fn gathered<R: Files<File = File> + AllocGlobal + Threads + Sync + Abort>(
     rt: &R,
     given: &[&str],
     out: &str,
@@ -74,7 +75,7 @@ fn gathered<R: Files + AllocGlobal + Threads + Sync + Abort>(
 }
 
 // Sees that the words are refused by this status and line, and that OUT was not made.
-fn refused<R: Files + AllocGlobal + Threads + Sync + Abort>(
+fn refused<R: Files<File = File> + AllocGlobal + Threads + Sync + Abort>(
     rt: &R,
     given: &[&str],
     out: &str,

@@ -1,5 +1,5 @@
 use crate::fault::Fault;
-use crate::reading::print_reader;
+use crate::reading::{print_input, print_reader};
 use crate::tests::{LARGE, blob};
 use b3tree::Mode;
 use std::io;
@@ -95,6 +95,35 @@ fn nothing_is_printed_after_a_fault_of_reading(rt: HostRuntime) -> Result<(), Fa
             assert_eq!(rt; path, "file");
             assert!(rt; printed.is_empty());
         }
+    }
+    Ok(())
+}
+
+// An input that hasn't the length that it was said to have is read on one thread.
+#[test]
+fn digits_of_all_that_an_input_has(rt: HostRuntime) -> Result<(), Fail> {
+    let bytes = blob(rt.alloc(), 1_048_577)?;
+    for len in [
+        None,
+        Some(0),
+        Some(1_048_576),
+        Some(1_048_577),
+        Some(u64::MAX),
+    ] {
+        let mut input = bytes.as_slice();
+        let mut printed = Vec::new(rt.alloc());
+        let got = print_input(
+            &rt,
+            &Mode::hash(),
+            &mut input,
+            len,
+            "file",
+            0,
+            32,
+            &mut printed,
+        );
+        assert!(rt; got.is_ok());
+        assert_eq!(rt; printed.as_slice(), LARGE.as_bytes(), "{len:?}");
     }
     Ok(())
 }
