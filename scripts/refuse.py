@@ -42,7 +42,15 @@ void *realloc(void *old, size_t size) {
 }
 """
 
-MEMORY = [b"bao_gather: memory\n", b"bao_gather: 401 memory\n", b"bao_gather: 504 memory\n"]
+NAMES = ("", "401 ", "504 ", "903 ", "911 ")
+MEMORY = {name.strip(): f"bao_gather: {name}memory\n".encode() for name in NAMES}
+
+# The faults of memory that a task has of its own.
+OWN = {"hash": [""], "decode": ["504"], "decode-slice": ["504"], "gather": ["903", "911"]}
+
+# After how many runs in a row that ended well the last allocation is behind: a worker that gathers goes on after a
+# refusal.
+QUIET = {"gather": 500}
 
 
 def run(shim, number, words):
@@ -62,7 +70,7 @@ def look(shim, words, out):
     text = contents(out)
     faults = quiet = number = 0
     seen = set()
-    while quiet < 20:
+    while quiet < QUIET.get(words[0], 20):
         number += 1
         with open(out, "wb") as it:
             it.write(b"kept")
@@ -71,14 +79,14 @@ def look(shim, words, out):
             quiet += 1
             continue
         quiet = 0
-        left = [b"kept", text] if complaint == MEMORY[0] else [b"kept"]
-        if status != 4 or printed or complaint not in MEMORY or contents(out) not in left:
+        left = [b"kept", text] if complaint == MEMORY[""] else [b"kept"]
+        if status != 4 or printed or complaint not in MEMORY.values() or contents(out) not in left:
             sys.exit(f"refuse: allocation {number} of {' '.join(words)}: status {status}, {printed!r}, {complaint!r}")
         faults += 1
         seen.add(complaint)
-    own = MEMORY[{"hash": 0, "decode": 2, "decode-slice": 2}.get(words[0], 1)]
-    if own not in seen:
-        sys.exit(f"refuse: {words[0]} never ended with {own!r}")
+    for own in OWN.get(words[0], ["401"]):
+        if MEMORY[own] not in seen:
+            sys.exit(f"refuse: {words[0]} never ended with {MEMORY[own]!r}")
     return faults
 
 
@@ -95,7 +103,8 @@ def main():
         run(shim, 0, ["slice", "5", "9999", blob, piece])
         writers = (["encode", blob, out], ["outboard", blob, out], ["slice", "5", "9999", blob, out])
         decoders = (["decode", root, encoding, out], ["decode-slice", root, "5", "9999", piece, out])
-        for words in (["hash", blob], ["hash", "--length", "99", blob], *writers, *decoders):
+        gatherer = ["gather", root, out, piece, encoding]
+        for words in (["hash", blob], ["hash", "--length", "99", blob], *writers, *decoders, gatherer):
             with open(out, "wb"):
                 pass
             print(f"{words[0]}: {look(shim, words, out)} runs ended with a fault of memory, and the others as they should")

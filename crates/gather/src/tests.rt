@@ -1,4 +1,7 @@
-use crate::{Encoded, FinishFault, GatherFault, Holder, Report, finish_one, gather_texts, run_one};
+use crate::{
+    Encoded, FinishFault, GatherFault, Holder, HolderFault, Report, finish_one, gather_texts,
+    run_one,
+};
 use b3tree::{Cv, Hash, Mode, cv, hash, parent_input, root_hash, rooted, subtree_cv};
 use bao_check::check_slice;
 use bao_text::combined;
@@ -180,6 +183,148 @@ fn parent_of(left: &Cv, right: &Cv) -> [u8; 64] {
     bytes
 }
 
+// Under the hash of a parent that no blob has, one text certifies 65 chunks and the last of them, another 129 chunks
+// and the first 64: the store is whole, and no blob comes out.
+#[test]
+fn texts_of_a_root_of_no_blob(rt: HostRuntime) -> Result<(), Fail> {
+    let mode = Mode::hash();
+    let first = blob(&rt, 65_536)?;
+    let last = blob(&rt, 476)?;
+    let q = subtree_cv(&mode, 0, first.as_slice());
+    let v = subtree_cv(&mode, 64, last.as_slice());
+    let p = Cv(cv(&parent_input(&mode, &q, &q)));
+    let root = root_hash(&rooted(&parent_input(&mode, &p, &v)));
+    let top = parent_of(&p, &v);
+    let (_, whole) = combined(rt.alloc(), &mode, first.as_slice())?;
+    let inner = whole.as_slice().get(8..).ok_or("nodes")?;
+    let zeros = vec![in rt.alloc(); 0; inner.len()]?;
+    let end_text = text_of(&rt, 66_012, &[&top, zeros.as_slice(), last.as_slice()])?;
+    let begin_text = text_of(&rt, 131_548, &[&top, &parent_of(&q, &q), inner])?;
+    let fixed = fixed(root, 65);
+    let mut store = store(&rt, &fixed)?;
+    let mut holders = [
+        Encoded::new(rt.alloc(), end_text.as_slice()),
+        Encoded::new(rt.alloc(), begin_text.as_slice()),
+    ];
+    let report = run_one(rt.alloc(), &mut store, &mut holders);
+    assert_eq!(rt;
+        (report.committed, report.asked, report.refused),
+        (65, 4, 1)
+    );
+    let other = finish_one(rt.alloc(), &store);
+    assert!(rt; matches!(&other, Err(FinishFault::NotTheRoot)));
+    let texts = vec![in rt.alloc(); end_text, begin_text]?;
+    let other = gather_texts(rt.alloc(), root, mode, 65, texts.as_slice());
+    assert!(rt; matches!(&other, Err(GatherFault::NotTheRoot)));
+    Ok(())
+}
+
+// A device that fails on every fetch, a holder without memory for any text, or one over an encoding.
+#[derive(Drop)]
+enum Kind<'a> {
+    Broken,
+    Starved,
+    Whole(Encoded<'a>),
+}
+
+// Once the count of faults is full, a device that fails gives an empty text.
+#[derive(Drop)]
+struct Peer<'a> {
+    faults: u64,
+    kind: Kind<'a>,
+}
+
+impl Holder for Peer<'_> {
+    ghost count = { λ peer. peer.faults };
+
+    fn fetch(&mut self, start: u64, len: u64, into: &mut Vec<u8>) -> Result<(), HolderFault> {
+        match &mut self.kind {
+            Kind::Broken => {
+                if self.faults == u64::MAX {
+                    return Ok(());
+                }
+                self.faults += 1;
+                Err(HolderFault::Device)
+            }
+            Kind::Starved => Err(HolderFault::Memory),
+            Kind::Whole(holder) => match holder.fetch(start, len, into) {
+                Ok(()) => Ok(()),
+                Err(_) => Err(HolderFault::Memory),
+            },
+        }
+    }
+
+    fn faults(&self) -> u64 {
+        self.faults
+    }
+}
+
+#[test]
+fn a_device_that_fails(rt: HostRuntime) -> Result<(), Fail> {
+    let bytes = blob(&rt, 3000)?;
+    let (root, whole) = combined(rt.alloc(), &Mode::hash(), bytes.as_slice())?;
+    for (faults, kind, failed, refused, memory) in [
+        (0, Kind::Broken, 2, 0, 0),
+        (u64::MAX - 1, Kind::Broken, 1, 1, 0),
+        (0, Kind::Starved, 0, 0, 2),
+    ] {
+        let mut store = store(&rt, &fixed(root, 3))?;
+        let good = Encoded::new(rt.alloc(), whole.as_slice());
+        let mut holders = [
+            Peer { faults, kind },
+            Peer {
+                faults: 0,
+                kind: Kind::Whole(good),
+            },
+        ];
+        let report = run_one(rt.alloc(), &mut store, &mut holders);
+        let all = Report {
+            committed: 3,
+            asked: 4,
+            refused,
+            failed,
+            memory,
+            too_large: false,
+        };
+        assert_eq!(rt; report, all);
+        let gathered = finish_one(rt.alloc(), &store)?;
+        assert_eq!(rt; gathered.as_slice(), bytes.as_slice());
+    }
+    Ok(())
+}
+
+// Where a growth is refused, that is told, and a second call gives the blob: `rt try --test --fail-alloc N`.
+#[test]
+fn a_growth_that_is_refused(rt: HostRuntime) -> Result<(), Fail> {
+    let mode = Mode::hash();
+    let bytes = blob(&rt, 3000)?;
+    let (root, whole) = combined(rt.alloc(), &mode, bytes.as_slice())?;
+    let texts = vec![in rt.alloc(); whole]?;
+    match gather_texts(rt.alloc(), root, mode, 3, texts.as_slice()) {
+        Ok(gathered) => assert_eq!(rt; gathered.as_slice(), bytes.as_slice()),
+        Err(fault) => {
+            assert!(rt; matches!(fault, GatherFault::Memory | GatherFault::Starved));
+            let gathered = gather_texts(rt.alloc(), root, mode, 3, texts.as_slice())?;
+            assert_eq!(rt; gathered.as_slice(), bytes.as_slice());
+        }
+    }
+    let mut store = store(&rt, &fixed(root, 3))?;
+    let mut holders = [Encoded::new(rt.alloc(), whole_of(&texts)?)];
+    let report = run_one(rt.alloc(), &mut store, &mut holders);
+    if report.committed < 3 {
+        assert!(rt; report.memory > 0);
+        let again = run_one(rt.alloc(), &mut store, &mut holders);
+        assert_eq!(rt; again.committed, 3 - report.committed);
+    }
+    let gathered = finish_one(rt.alloc(), &store)?;
+    assert_eq!(rt; gathered.as_slice(), bytes.as_slice());
+    Ok(())
+}
+
+fn whole_of(texts: &Vec<Vec<u8>>) -> Result<&[u8], Fail> {
+    Ok(texts.first().ok_or("text")?.as_slice())
+}
+
 // Under the hash of a parent that no blob has, two lengths are certified: the store is whole, and no blob comes out.
 #[test]
 fn a_root_of_no_blob(rt: HostRuntime) -> Result<(), Fail> {
@@ -207,12 +352,25 @@ fn a_root_of_no_blob(rt: HostRuntime) -> Result<(), Fail> {
 }
 
 #[test]
-fn the_fault_has_a_number_and_a_line(rt: HostRuntime) -> Result<(), Fail> {
-    let fault = FinishFault::NotTheRoot;
-    assert_eq!(rt; fault.code(), 902);
-    assert_eq!(rt;
-        format!(in rt.alloc(); "{fault}")?.as_str(),
-        "902 not the root"
-    );
+fn each_fault_has_a_number_and_a_line(rt: HostRuntime) -> Result<(), Fail> {
+    for (fault, number, line) in [
+        (FinishFault::Unfinished, 901, "901 unfinished"),
+        (FinishFault::NotTheRoot, 902, "902 not the root"),
+        (FinishFault::Memory, 903, "903 memory"),
+    ] {
+        assert_eq!(rt; fault.code(), number);
+        assert_eq!(rt; format!(in rt.alloc(); "{fault}")?.as_str(), line);
+    }
+    for (fault, number, line) in [
+        (GatherFault::Capacity, 802, "802 capacity"),
+        (GatherFault::TooLarge, 805, "805 too large"),
+        (GatherFault::Unfinished, 901, "901 unfinished"),
+        (GatherFault::NotTheRoot, 902, "902 not the root"),
+        (GatherFault::Memory, 903, "903 memory"),
+        (GatherFault::Starved, 911, "911 memory"),
+    ] {
+        assert_eq!(rt; fault.code(), number);
+        assert_eq!(rt; format!(in rt.alloc(); "{fault}")?.as_str(), line);
+    }
     Ok(())
 }
