@@ -271,12 +271,7 @@ impl<'a> Stage<'a> {
         true
     }
 
-    fn give_back(
-        &mut self,
-        seat: u32,
-        group: u32,
-        mask: u64,
-    ) -> Result<Option<Reply>, StepFault>
+    fn give_back(&mut self, seat: u32, group: u32, mask: u64) -> Result<Option<Reply>, StepFault>
         ensures ok { (pieces : List Checked) → IfOk result (λ reply. DoesStep pieces self.old self.new (MicroStep.GiveBack seat group mask) reply) }
         ensures illegal { (pieces : List Checked) → IsErrOf result StepFault.Illegal → DoesRefuse pieces self.old (MicroStep.GiveBack seat group mask) }
     {
@@ -340,11 +335,7 @@ impl<'a> Stage<'a> {
         Ok(Some(Reply::LengthIs(self.store.length())))
     }
 
-    fn step(
-        &mut self,
-        pieces: &[Checked<'a>],
-        step: &MicroStep,
-    ) -> Result<Option<Reply>, StepFault>
+    fn step(&mut self, pieces: &[Checked<'a>], step: &MicroStep) -> Result<Option<Reply>, StepFault>
         ensures ok { IfOk result (λ reply. DoesStep pieces.now self.old self.new step.now reply) }
         ensures illegal { IsErrOf result StepFault.Illegal → DoesRefuse pieces.now self.old step.now }
     {
