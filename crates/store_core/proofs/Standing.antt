@@ -1,6 +1,6 @@
 -- What a stage stands for after each step.
 use Rattle.std.proofs.Common.{◌≡◌, ◌≢◌, ℕ, ◌+◌, ◌*◌, ◌/◌, ◌%◌, ◌<◌, ◌≤◌, nat_le, nat_lt, ◌==◌, Bool, true, false, not, ◌&&◌, ◌||◌, if◌then◌else◌, List, [], ◌∷◌, slice_get, Option, None, Some, IfSome, is_some, option_map, refl, sym, ap, subst, ◌∙◌, inl, inr, eqb-true, eq-eqb}
-use Rattle.std.proofs.lemmas.Bool.{and_from, and_left, and_parts, and_right, both_ways, cases_Bool, false_from_ne_true, leb-false, lt-leb, le-leb, lt-ltb, ne_eqb, not-true, or_parts}
+use Rattle.std.proofs.lemmas.Bool.{and_from, and_left, and_parts, and_right, both_ways, cases_Bool, false_from_ne_true, lt-leb, le-leb, lt-ltb, ne_eqb, not-true, or_parts}
 use Rattle.b3tree.specs.declared.values.Hash.{Hash as Digest}
 use Rattle.bao_check.specs.declared.checked.Checked.{Checked}
 use Rattle.bao_check.specs.Checked.{HoldsLast}
@@ -19,11 +19,11 @@ use Rattle.store_core.specs.declared.schedule.Stage.{Stage}
 use Rattle.store_core.specs.declared.store.Store.{Store}
 use Rattle.store_core.specs.Events.{IsRight, is_free, recorded_after, settling}
 use Rattle.store_core.specs.Histories.{run}
-use Rattle.store_core.specs.Machine.{Machine, Reading, Seat, current_holds, is_number, is_shown, is_whole, position, read_of, seat_has, store_of, with_seat}
+use Rattle.store_core.specs.Machine.{Machine, Reading, Seat, current_holds, is_number, is_shown, is_whole, position, read_of, seat_has, store_of}
 use Rattle.store_core.specs.Masks.{IsMaskOf, has_bit, in_mask}
 use Rattle.store_core.specs.Names.{Name}
 use Rattle.store_core.specs.Pieces.{holds_chunk, length_of, piece_of}
-use Rattle.store_core.specs.Schedules.{AreTexts, IsLegalStep, IsReply, IsWritten, HasTail, after_step, commit_by, current_length, end_reply, is_last_load, length_answer, read_after, read_before, settle_answer, step_events}
+use Rattle.store_core.specs.Schedules.{AreTexts, IsLegalStep, IsReply, IsWritten, HasTail, after_step, commit_by, current_length, end_reply, is_last_load, length_answer, read_after, read_before, settle_answer}
 use Rattle.store_core.specs.Served.{IsServed}
 use Rattle.store_core.specs.Slots.{caller}
 use Rattle.store_core.specs.Stages.{IsCleared, IsPlayer, IsSeatOf, IsStepped, IsTaken, Stands, StandsFor, carried_on, is_marked, player_in, reading_of}

@@ -1,4 +1,4 @@
-use Rattle.std.proofs.Common.{refl, sym, ◌∙◌, ap, arith, ℕ, ◌==◌, ◌/◌, ◌*◌, ◌||◌, nat_le}
+use Rattle.std.proofs.Common.{refl, ◌∙◌, ap, ℕ, ◌==◌, ◌/◌, ◌*◌, ◌||◌, nat_le}
 use Rattle.store_core.specs.Machine.{is_whole, position}
 use Rattle.store_core.specs.Stages.{reading_of}
 use Rattle.store_core.specs.Stores.{state_of}
