@@ -1,0 +1,14 @@
+//! The text of a schedule: read, and run over pieces of encodings.
+#![tactic(auto)]
+
+mod fault;
+mod forms;
+mod line;
+mod numbered;
+mod script;
+mod words;
+
+pub use fault::ScriptFault;
+pub use line::Line;
+pub use numbered::NumberedLine;
+pub use script::{Script, parse};
