@@ -5,6 +5,7 @@ mod fault;
 mod forms;
 mod line;
 mod numbered;
+mod printed;
 mod script;
 mod words;
 
