@@ -1,12 +1,14 @@
 //! The text of a schedule: read, and run over pieces of encodings.
 #![tactic(auto)]
 
+mod answers;
 mod fault;
 mod forms;
 mod line;
 mod numbered;
 mod printed;
 mod script;
+mod steps;
 mod words;
 
 pub use fault::ScriptFault;
