@@ -6,3 +6,5 @@ pub mod Steps
 pub mod Marks
 pub mod ScriptRuns
 pub mod Slices
+pub mod Printouts
+pub mod Faults

@@ -1,6 +1,6 @@
 -- What a script's run is, line by line.
 use Rattle.std.specs.Prelude.{◌≡◌, ℕ, ◌+◌, List, [], ◌∷◌, ◌++◌, Some, map, slice_get, take}
-use Rattle.std.specs.List.{flat_map, sum_by}
+use Rattle.std.specs.List.{flat_map}
 use Rattle.bao_check.specs.declared.checked.Checked.{Checked}
 use Rattle.store_core.specs.declared.fixed.Fixed.{Fixed}
 use Rattle.store_core.specs.declared.history.Event.{Event}
@@ -10,7 +10,7 @@ use Rattle.store_core.specs.Machine.{Machine, start}
 use Rattle.store_core.specs.Schedules.{IsLegalStep, Runs}
 use Rattle.bao_script.specs.declared.numbered.NumberedLine.{NumberedLine}
 use Rattle.bao_script.specs.Replies.{reply_line}
-use Rattle.bao_script.specs.Steps.{pieces_in, steps_of}
+use Rattle.bao_script.specs.Steps.{pieces_among, pieces_in, steps_of}
 
 -- The lines' steps run one after another, and each reply has its line's number. The first line's piece, if it has one,
 -- is that with the given number of the list.
@@ -39,7 +39,7 @@ StopsAt fixed pieces piece m script number =
     (before : List NumberedLine) × (line : NumberedLine) × (after : List NumberedLine)
     × (script ≡ before ++ line ∷ after) × (line.number ≡ number)
     × (answers : List (ℕ × Reply)) × (last : Machine) × RunsScript fixed pieces piece m before answers last
-    × StopsAmong fixed pieces last (steps_of (piece + sum_by (λ line. pieces_in line.line) before) line.line)
+    × StopsAmong fixed pieces last (steps_of (piece + pieces_among before) line.line)
 
 -- the replies' lines
 abbrev pub answers_text : List (ℕ × Reply) → List ℕ

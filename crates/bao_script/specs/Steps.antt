@@ -1,9 +1,10 @@
 -- The micro-steps that the lines of a script stand for.
-use Rattle.std.specs.Prelude.{ℕ, List, [], ◌∷◌, map}
+use Rattle.std.specs.Prelude.{ℕ, ◌+◌, List, [], ◌∷◌, map}
 use Rattle.std.specs.List.{range_with_len}
 use Rattle.store_core.specs.declared.micro.MicroStep.{MicroStep}
 use Rattle.store_core.specs.declared.micro.MicroStep.TheVariants as steps
 use Rattle.bao_script.specs.declared.line.Line.{Line}
+use Rattle.bao_script.specs.declared.numbered.NumberedLine.{NumberedLine}
 use Rattle.bao_script.specs.declared.line.Line.TheVariants.{Claim, Hash, Write, Fill, Publish, Give, Load, Settle, Length}
 
 -- the writes of words 0 to 128 of a chunk's cell, in order
@@ -26,3 +27,7 @@ steps_of piece (Length seat) = steps.Length seat ∷ []
 abbrev pub pieces_in : Line → ℕ
 pieces_in (Hash seat file start len) = 1
 pieces_in line = 0
+
+abbrev pub pieces_among : List NumberedLine → ℕ
+pieces_among [] = 0
+pieces_among (line ∷ lines) = pieces_in line.line + pieces_among lines

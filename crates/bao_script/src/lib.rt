@@ -7,11 +7,14 @@ mod forms;
 mod line;
 mod numbered;
 mod printed;
+mod replay;
 mod script;
+mod slice;
 mod steps;
 mod words;
 
-pub use fault::ScriptFault;
+pub use fault::{ReplayScriptFault, ScriptFault};
 pub use line::Line;
 pub use numbered::NumberedLine;
+pub use replay::replay_script;
 pub use script::{Script, parse};
