@@ -29,9 +29,15 @@ run_of_marked fixed pieces piece m (line ∷ lines) replies events last runs =
     let rest = run_of_marked fixed pieces (piece + pieces_in line.line) split.middle lines split.back split.later last split.runs_second in
     let P : List Reply → Type 0 = λ left. RunsScript fixed pieces piece m (line ∷ lines) (answers_of (line ∷ lines) left) last in
     let Q : List Reply → Type 0 = λ left. RunsScript fixed pieces (piece + pieces_in line.line) split.middle lines (answers_of lines left) last in
-    subst P (sym split.is)
-    (said_by line.line (split.front ++ split.back), told.events, split.middle, answers_of lines (left_by line.line (split.front ++ split.back)),
-        told.runs, refl, subst Q (sym told.rest) rest)
+    subst P (sym split.is) (
+      said_by line.line (split.front ++ split.back),
+      told.events,
+      split.middle,
+      answers_of lines (left_by line.line (split.front ++ split.back)),
+      told.runs,
+      refl,
+      subst Q (sym told.rest) rest,
+    )
 
 stops_load : (fixed : Fixed) (pieces : List Checked) (m : Machine) (seat at len index : ℕ) (replies : List Reply) (events : List Event) (last : Machine)
     → Runs fixed pieces m (take index (steps.Load seat at len ∷ steps.Length seat ∷ [])) replies events last
@@ -119,11 +125,17 @@ one_before : (fixed : Fixed) (pieces : List Checked) (piece : ℕ) (m middle : M
     → StopsAt fixed pieces piece m (line ∷ lines) number
 one_before fixed pieces piece m middle line lines number front events runs (before, stopped, after, is, number_is, answers, last, ran, stops) =
     let told = told_line fixed pieces m piece line.line front [] events middle runs in
-    let P : ℕ → Type 0 = λ n. StopsAmong fixed pieces last (steps_of n stopped.line) in
-    (line ∷ before, stopped, after, ap (λ rest. line ∷ rest) is, number_is,
-        map (λ reply. (line.number, reply)) (said_by line.line (front ++ [])) ++ answers, last,
-        (said_by line.line (front ++ []), told.events, middle, answers, told.runs, refl, ran),
-        subst P (add_assoc piece (pieces_in line.line) (pieces_among before)) stops)
+    let P : ℕ → Type 0 = λ n. StopsAmong fixed pieces last (steps_of n stopped.line) in (
+      line ∷ before,
+      stopped,
+      after,
+      ap (λ rest. line ∷ rest) is,
+      number_is,
+      map (λ reply. (line.number, reply)) (said_by line.line (front ++ [])) ++ answers,
+      last,
+      (said_by line.line (front ++ []), told.events, middle, answers, told.runs, refl, ran),
+      subst P (add_assoc piece (pieces_in line.line) (pieces_among before)) stops,
+    )
 
 stop_by : (fixed : Fixed) (pieces : List Checked) (piece : ℕ) (m : Machine) (line : NumberedLine) (lines : List NumberedLine) (index : ℕ) (here : Bool)
     → nat_lt index (length (marked_steps_of 0 line.line)) ≡ here
@@ -134,10 +146,18 @@ stop_by fixed pieces piece m line lines index true test others stops =
     let count : length (marked_steps_of 0 line.line) ≡ length (marked_steps_of piece line.line) = same_count piece line.line in
     let within : index < length (marked_steps_of 0 line.line) = grind (arith, nat_tests) in
     let below : index < length (marked_steps_of piece line.line) = omega arith in
-    let P : ℕ → Type 0 = λ n. StopsAmong fixed pieces m (steps_of n line.line) in
-    ([], line, lines, refl, refl, [], m, (refl, refl),
-        subst P (sym (add-zero piece))
-        (stops_line fixed pieces piece m line.line (stop_here fixed pieces m (marked_steps_of piece line.line) (marked_steps (piece + pieces_in line.line) lines) index below stops)))
+    let P : ℕ → Type 0 = λ n. StopsAmong fixed pieces m (steps_of n line.line) in (
+      [],
+      line,
+      lines,
+      refl,
+      refl,
+      [],
+      m,
+      (refl, refl),
+      subst P (sym (add-zero piece))
+          (stops_line fixed pieces piece m line.line (stop_here fixed pieces m (marked_steps_of piece line.line) (marked_steps (piece + pieces_in line.line) lines) index below stops)),
+    )
 stop_by fixed pieces piece m line lines index false test others stops =
     let count : length (marked_steps_of 0 line.line) ≡ length (marked_steps_of piece line.line) = same_count piece line.line in
     let out : length (marked_steps_of 0 line.line) ≤ index = grind (arith, nat_tests) in

@@ -24,7 +24,7 @@ pub printed : (fixed : Fixed) (files : List (List ℕ)) (script : List NumberedL
     → IsPrinted fixed files script text
 printed fixed files script pieces replies store held text named replayed held_is text_is =
     let count : held ≡ held_count (store_of replayed.last) fixed.capacity =
-        held_is ∙ ap (λ s. held_count s (fixed_of store).capacity) replayed.words ∙ ap (λ f. held_count (store_of replayed.last) f.capacity) replayed.fixed_is
+    held_is ∙ ap (λ s. held_count s (fixed_of store).capacity) replayed.words ∙ ap (λ f. held_count (store_of replayed.last) f.capacity) replayed.fixed_is
     in
     record {
       pieces = pieces;

@@ -42,7 +42,7 @@ refused_at mode root slices i d pieces number fault below item are number_is fir
   after = drop (suc i) slices;
   slices_are =
       sym (take-append-drop i slices)
-          ∙ ap (λ rest. take i slices ++ rest) (drop-cons slices i d below ∙ ap (λ slice. slice ∷ drop (suc i) slices) (sym item));
+      ∙ ap (λ rest. take i slices ++ rest) (drop-cons slices i d below ∙ ap (λ slice. slice ∷ drop (suc i) slices) (sym item));
   pieces = pieces;
   accepted = are;
   number_is = sym number_is;

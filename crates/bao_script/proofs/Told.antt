@@ -102,8 +102,8 @@ load_told : (over : Bool) (r : Reading) (l : Option ℕ) (reply : Option Reply) 
     → (load_reply (front ++ back) ≡ option_to_list reply ++ []) × (after_load (front ++ back) ≡ back)
 load_told over r l reply front back reply_is front_is =
     let whole : front ++ back ≡ option_to_list (cond over (Some (end_reply r)) None) ++ LengthIs l ∷ back =
-        ap (λ x. x ++ back) (front_is ∙ ap (λ x. option_to_list x ++ LengthIs l ∷ []) reply_is)
-            ∙ append_assoc (option_to_list (cond over (Some (end_reply r)) None)) (LengthIs l ∷ []) back
+    ap (λ x. x ++ back) (front_is ∙ ap (λ x. option_to_list x ++ LengthIs l ∷ []) reply_is)
+    ∙ append_assoc (option_to_list (cond over (Some (end_reply r)) None)) (LengthIs l ∷ []) back
     in
     let told = load_is_told over r l back in
     (ap load_reply whole ∙ told.0 ∙ ap (λ x. option_to_list x ++ []) (sym reply_is), ap after_load whole ∙ told.1)
@@ -133,10 +133,10 @@ told_line fixed pieces m piece (Give seat group mask) front back events last run
 told_line fixed pieces m piece (Load seat at len) front back events last runs =
     let mark = runs.7 in
     let answer : runs.1 ≡ LengthIs m.recorded ∷ [] =
-        mark.5 ∙ ap (λ x. option_to_list x ++ mark.1) mark.4 ∙ ap (λ x. LengthIs m.recorded ∷ x) mark.7.0
+    mark.5 ∙ ap (λ x. option_to_list x ++ mark.1) mark.4 ∙ ap (λ x. LengthIs m.recorded ∷ x) mark.7.0
     in
     let told = load_told (is_last_load fixed m seat at len) (read_after fixed m seat at len) m.recorded runs.0 front back runs.4
-        (runs.5 ∙ ap (λ x. option_to_list runs.0 ++ x) answer)
+    (runs.5 ∙ ap (λ x. option_to_list runs.0 ++ x) answer)
     in
     record {
       events = step_events fixed m (steps.Load seat at len) runs.0 ++ [];

@@ -11,6 +11,10 @@ mod replay;
 mod script;
 mod slice;
 mod steps;
+#[cfg(test)]
+mod tests;
+#[cfg(test)]
+mod tests_replay;
 mod words;
 
 pub use fault::{ReplayScriptFault, ScriptFault};

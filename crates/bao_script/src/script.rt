@@ -2,6 +2,7 @@ ghost use Rattle.std.specs.Prelude.{◌≡◌, ℕ, ◌<◌, ◌++◌, List, len
 ghost use Rattle.bao_script.specs.declared.fault.ScriptFault.TheVariants.{Line as RefusedLine};
 ghost use Rattle.bao_script.specs.declared.numbered.NumberedLine.{NumberedLine};
 ghost use Rattle.bao_script.specs.Scripts.{Gains, IsRefused, IsScript, IsRefusedLine};
+ghost use Rattle.bao_script.specs.Slices.{NameFiles};
 ghost use Rattle.bao_script.specs.Words.{lines_of};
 
 use crate::fault::ScriptFault;
@@ -70,6 +71,7 @@ fn add_line(
 /// form. `Memory` where the lines found no room.
 pub fn parse(alloc: Global, text: &[u8], files: usize) -> Result<Script, ScriptFault>
     ensures script { IfOk result (IsScript files text.now) }
+    ensures files { IfOk result (NameFiles files) }
     ensures refused { (number : ℕ) → IsErrOf result (RefusedLine number) → IsRefused files text.now number }
 {
     let texts = split_lines(alloc, text)?;

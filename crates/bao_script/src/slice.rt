@@ -43,7 +43,10 @@ fn push_slice(
     ensures fault { IfErr result IsWant }
 {
     if let Line::Hash {
-        file, start, len, ..
+        file,
+        start,
+        len,
+        ..
     } = line.line
     {
         let text = cut_slice(alloc, files[file].as_slice(), start, len)?;

@@ -21,12 +21,7 @@ fn push_fill(steps: &mut Vec<MicroStep>, seat: u32, chunk: u32) -> Result<(), Al
 }
 
 // Adds a load, and a question for the length after it, which tells whether the load answered.
-fn push_load(
-    steps: &mut Vec<MicroStep>,
-    seat: u32,
-    at: u64,
-    len: u32,
-) -> Result<(), AllocError>
+fn push_load(steps: &mut Vec<MicroStep>, seat: u32, at: u64, len: u32) -> Result<(), AllocError>
     ensures { OnOk result (steps.new.items ≡ steps.old.items ++ MicroStep.Load seat at len ∷ MicroStep.Length seat ∷ []) }
 {
     steps.push(MicroStep::Load { seat, at, len })?;
@@ -75,10 +70,7 @@ fn piece_count(line: &Line) -> usize
 }
 
 // The steps of the lines, with a question for the length after each load.
-pub fn steps_of_script(
-    alloc: Global,
-    lines: &[NumberedLine],
-) -> Result<Vec<MicroStep>, AllocError>
+pub fn steps_of_script(alloc: Global, lines: &[NumberedLine]) -> Result<Vec<MicroStep>, AllocError>
     ensures { IfOk result (λ steps. steps.items ≡ marked_steps 0 lines.now) }
 {
     let mut steps = Vec::new(alloc);

@@ -47,14 +47,14 @@ returns-in-Ok-clause-printed c =
     let fixed : Fixed = record { root = c.args.root; mode = c.args.mode; capacity = c.args.capacity } in
     let files : List (List ℕ) = map (λ file. file.items) c.args.files.now in
     let pieces = named c.args.mode c.args.root.0 files c.lines-lines.result.now c.args.script.now c.as_slice.result.now c.in_ok-slices.slices.items c.in_ok-pieces.pieces.items c.as_slice-2.result.now
-        lines c.in_ok-slices.ensures.ok c.as_slice.ensures.value c.as_slice-2.ensures.value c.in_ok-pieces.ensures.pieces
+    lines c.in_ok-slices.ensures.ok c.as_slice.ensures.value c.as_slice-2.ensures.value c.in_ok-pieces.ensures.pieces
     in
     let P : List MicroStep → Type 0 = λ steps. IsReplayed fixed c.as_slice-2.result.now steps c.in-Ok.replies.items c.in-Ok.store in
     let replayed = subst P (c.as_slice-3.ensures.value ∙ c.in_ok-steps.ensures ∙ ap (marked_steps 0) lines) c.in-Ok.ensures.ok in
     let text : c.into_bytes.result.items ≡ answers_text (answers_of c.args.script.now c.in-Ok.replies.items) ++ held_line c.held_count.result =
-        ap (λ v. v.items) c.into_bytes.ensures.value ∙ c.in_ok-text-in-Ok.ensures
-            ∙ ap (λ all. answers_text (answers_of all c.as_slice-in-Ok.result.now) ++ held_line c.held_count.result) lines
-            ∙ ap (λ replies. answers_text (answers_of c.args.script.now replies) ++ held_line c.held_count.result) c.as_slice-in-Ok.ensures.value
+    ap (λ v. v.items) c.into_bytes.ensures.value ∙ c.in_ok-text-in-Ok.ensures
+    ∙ ap (λ all. answers_text (answers_of all c.as_slice-in-Ok.result.now) ++ held_line c.held_count.result) lines
+    ∙ ap (λ replies. answers_text (answers_of c.args.script.now replies) ++ held_line c.held_count.result) c.as_slice-in-Ok.ensures.value
     in
     printed fixed files c.args.script.now c.as_slice-2.result.now c.in-Ok.replies.items c.in-Ok.store c.held_count.result c.into_bytes.result.items
     pieces replayed c.held_count.ensures text
@@ -65,7 +65,7 @@ returns-in-Err-Illegal-clause-illegal c number h =
     let fixed : Fixed = record { root = c.args.root; mode = c.args.mode; capacity = c.args.capacity } in
     let files : List (List ℕ) = map (λ file. file.items) c.args.files.now in
     let pieces = named c.args.mode c.args.root.0 files c.lines-lines.result.now c.args.script.now c.as_slice.result.now c.in_ok-slices.slices.items c.in_ok-pieces.pieces.items c.as_slice-2.result.now
-        lines c.in_ok-slices.ensures.ok c.as_slice.ensures.value c.as_slice-2.ensures.value c.in_ok-pieces.ensures.pieces
+    lines c.in_ok-slices.ensures.ok c.as_slice.ensures.value c.as_slice-2.ensures.value c.in_ok-pieces.ensures.pieces
     in
     let P : List MicroStep → Type 0 = λ steps. IsIllegalAt fixed c.as_slice-2.result.now steps c.in-Err-Illegal.step in
     let illegal = subst P (c.as_slice-3.ensures.value ∙ c.in_ok-steps.ensures ∙ ap (marked_steps 0) lines) (c.in-Err-Illegal.ensures.illegal c.in-Err-Illegal.step (ap Err c.in-Err-Illegal.field-0-is)) in

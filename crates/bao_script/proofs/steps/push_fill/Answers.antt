@@ -10,13 +10,13 @@ one_more : (front : List MicroStep) (step : ℕ → MicroStep) (n : ℕ)
     → (front ++ map step (range_with_len 0 n)) ++ step n ∷ [] ≡ front ++ map step (range_with_len 0 (n + 1))
 one_more front step n =
     append_assoc front (map step (range_with_len 0 n)) (step n ∷ [])
-        ∙ ap (λ steps. front ++ steps) (sym (map-range_with_len_more step 0 n n (omega arith)))
+    ∙ ap (λ steps. front ++ steps) (sym (map-range_with_len_more step 0 n n (omega arith)))
 
 pub loop-word-preserved : goal.loop-word-preserved
 loop-word-preserved c =
     c.in_ok-push.ensures.items
-        ∙ ap (λ steps. steps ++ Write c.args.seat c.args.chunk c.loop-word.word ∷ []) c.loop-word.invariant
-        ∙ one_more c.args.steps.now.items (λ word. Write c.args.seat c.args.chunk word) c.loop-word.word
+    ∙ ap (λ steps. steps ++ Write c.args.seat c.args.chunk c.loop-word.word ∷ []) c.loop-word.invariant
+    ∙ one_more c.args.steps.now.items (λ word. Write c.args.seat c.args.chunk word) c.loop-word.word
 
 pub returns : goal.returns
 unfolding fill_steps
