@@ -1,7 +1,8 @@
 use crate::gathering::write_gathered;
 use crate::tests::{Broken, CONTEXT, EMPTY, KEY, blob, expect, failing, path};
-use b3tree::{Hash, Mode};
+use b3tree::{Cv, Hash, Mode, cv, parent_input, root_hash, rooted, subtree_cv};
 use bao_text::combined;
+use std::alloc::Global;
 use std::io::ErrorKind;
 use std::process::Abort;
 use std::rt::Files;
@@ -188,6 +189,62 @@ fn room_for_the_blob(rt: HostRuntime) -> Result<(), Fail> {
         gathered(&rt, &given, out)?;
     }
     gathered(&rt, &["gather", ROOT, out, whole, "--workers", "1"], out)?;
+    remove(&rt, &holders)
+}
+
+// A text of nodes, with the length that it claims.
+fn text_of(alloc: Global, len: u64, nodes: &[&[u8]]) -> Result<Vec<u8>, Fail> {
+    let mut text = Vec::new(alloc);
+    text.extend_from_slice(&len.to_le_bytes())?;
+    for node in nodes {
+        text.extend_from_slice(node)?;
+    }
+    Ok(text)
+}
+
+// The 64 bytes of a parent.
+fn parent_of(left: &Cv, right: &Cv) -> [u8; 64] {
+    let mut bytes = [0; 64];
+    bytes[..32].copy_from_slice(&left.to_bytes());
+    bytes[32..].copy_from_slice(&right.to_bytes());
+    bytes
+}
+
+// Under the hash of a parent that no blob has, one file certifies 65 chunks and the last of them, another 129 chunks
+// and the first 64: all chunks come together, and no blob.
+#[test]
+fn a_root_of_no_blob(rt: HostRuntime) -> Result<(), Fail> {
+    let mode = Mode::hash();
+    let first = blob(rt.alloc(), 65_536)?;
+    let last = blob(rt.alloc(), 476)?;
+    let left = subtree_cv(&mode, 0, first.as_slice());
+    let right = subtree_cv(&mode, 64, last.as_slice());
+    let both = Cv(cv(&parent_input(&mode, &left, &left)));
+    let root = root_hash(&rooted(&parent_input(&mode, &both, &right)));
+    let digits = hex::encode(rt.alloc(), &root.0)?;
+    let top = parent_of(&both, &right);
+    let (_, whole) = combined(rt.alloc(), &mode, first.as_slice())?;
+    let inner = whole.get(8..).ok_or("nodes")?;
+    let zeros = vec![in rt.alloc(); 0; inner.len()]?;
+    let end = text_of(
+        rt.alloc(),
+        66_012,
+        &[&top, zeros.as_slice(), last.as_slice()],
+    )?;
+    let start = text_of(
+        rt.alloc(),
+        131_548,
+        &[&top, &parent_of(&left, &left), inner],
+    )?;
+
+    let holders = make_holders(&rt, process::id(rt.process()), "no-blob", &mode)?;
+    let out = holders.out.as_str();
+    let (begins, ends) = (holders.cut.as_str(), holders.shorter.as_str());
+    fs::write(&rt, begins, start.as_slice())?;
+    fs::write(&rt, ends, end.as_slice())?;
+    let other = "bao_gather: 902 not the root\n";
+    let given = ["gather", digits.as_str(), out, ends, begins];
+    refused(&rt, &given, out, 1, other)?;
     remove(&rt, &holders)
 }
 
