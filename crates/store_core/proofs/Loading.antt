@@ -1,13 +1,13 @@
 -- Loads of a read: what a stage reads is what the words have.
-use Rattle.std.proofs.Common.{◌≡◌, ◌≢◌, ℕ, zero, suc, ◌+◌, ◌-◌, ◌*◌, ◌/◌, ◌%◌, ◌<◌, ◌≤◌, min, nat_le, nat_lt, ◌==◌, Bool, true, false, ◌&&◌, ◌||◌, if◌then◌else◌, List, [], ◌++◌, length, take, drop, IfSome, Option, None, Some, is_none, refl, sym, ap, subst, ◌∙◌, arith, inl, inr, append-nil, length-append, eqb-true, eq-eqb}
+use Rattle.std.proofs.Common.{◌≡◌, ◌≢◌, ℕ, zero, suc, ◌+◌, ◌-◌, ◌*◌, ◌/◌, ◌%◌, ◌<◌, ◌≤◌, min, nat_le, ◌==◌, Bool, true, false, ◌&&◌, ◌||◌, if◌then◌else◌, List, [], ◌++◌, length, take, drop, Option, None, Some, is_none, refl, sym, ap, subst, ◌∙◌, arith, inl, inr, append-nil, length-append, eqb-true, eq-eqb}
 use Rattle.std.proofs.Math.ListN.{drop_of_length-le}
 use Rattle.std.proofs.Math.Seq.{take-append_seam}
 use Rattle.std.proofs.lemmas.Bool.{both_ways, cases_Bool, cases_lt, le-ltb, leb-false, lt-ltb}
 use Rattle.store_core.specs.declared.fixed.Fixed.{Fixed}
 use Rattle.store_core.specs.declared.store.Store.{Store}
-use Rattle.store_core.specs.Machine.{Machine, Reading, copied, is_over, is_whole, loaded, loaded_group, position, read_of, shown_byte, store_of}
+use Rattle.store_core.specs.Machine.{Machine, Reading, copied, is_over, is_whole, loaded, loaded_group, position, shown_byte, store_of}
 use Rattle.store_core.specs.Stages.{carried_on}
-use Rattle.store_core.specs.States.{State, byte_and, byte_at, read_bytes}
+use Rattle.store_core.specs.States.{byte_and, byte_at, read_bytes}
 use Rattle.store_core.specs.Stores.{DidRead, state_of}
 use Rattle.store_core.specs.Laws.{IsRead, IsSound}
 use Rattle.store_core.specs.Served.{IsPart}

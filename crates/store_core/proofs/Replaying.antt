@@ -1,5 +1,5 @@
 -- The run of a schedule, step by step.
-use Rattle.std.proofs.Common.{◌≡◌, ℕ, ◌+◌, ◌*◌, ◌<◌, Bool, false, arith, List, [], ◌∷◌, ◌++◌, length, take, get_or, slice_get, Option, Some, option_to_list, Result, Err, IsErrOf, refl, sym, ap, subst, ◌∙◌, append_assoc}
+use Rattle.std.proofs.Common.{◌≡◌, ℕ, ◌+◌, ◌*◌, ◌<◌, Bool, false, arith, List, [], ◌∷◌, ◌++◌, length, take, slice_get, Option, Some, option_to_list, Err, IsErrOf, refl, sym, ap, subst, ◌∙◌, append_assoc}
 use Rattle.std.proofs.lemmas.List.{append-nil, get_or_past, take_more}
 use Rattle.std.proofs.lemmas.Option.{get_or_from_slice_get}
 use Rattle.bao_check.specs.declared.checked.Checked.{Checked}
@@ -11,12 +11,11 @@ use Rattle.store_core.specs.declared.micro.MicroStep.{MicroStep}
 use Rattle.store_core.specs.declared.micro.Reply.{Reply}
 use Rattle.store_core.specs.declared.schedule.Player.{Player}
 use Rattle.store_core.specs.declared.schedule.Stage.{Stage}
-use Rattle.store_core.specs.declared.store.Store.{Store}
 use Rattle.store_core.specs.Machine.{Machine, start}
 use Rattle.store_core.specs.Replays.{IsIllegalAt, IsReplayed}
 use Rattle.store_core.specs.Schedules.{AreTexts, IsLegalStep, IsReply, Runs, after_step, step_events}
 use Rattle.store_core.specs.Served.{IsServed}
-use Rattle.store_core.specs.Stages.{DoesRefuse, DoesStep, IsSeatOf, IsStepped, is_marked, player_in, Stands, StandsFor}
+use Rattle.store_core.specs.Stages.{DoesRefuse, DoesStep, IsSeatOf, IsStepped, is_marked, player_in, Stands}
 use Rattle.store_core.specs.States.{empty}
 use Rattle.store_core.specs.Stores.{fixed_of, state_of}
 use Rattle.store_core.proofs.Running.{one_step, runs_are_legal, start_empty, start_served}
@@ -29,13 +28,21 @@ runs_more fixed pieces m [] replies history last step reply runs =
     subst (λ (x : Machine). IsLegalStep fixed pieces x step → IsReply fixed x step reply
     → Runs fixed pieces m (step ∷ []) (replies ++ option_to_list reply) (history ++ step_events fixed x step reply) (after_step fixed pieces x step reply)) (sym runs.2)
     (λ legal right. (
-      reply, [], [], legal, right,
+      reply,
+      [],
+      [],
+      legal,
+      right,
       ap (λ (xs : List Reply). xs ++ option_to_list reply) runs.0 ∙ sym (append-nil (option_to_list reply)),
       ap (λ (xs : List Event). xs ++ step_events fixed m step reply) runs.1 ∙ sym (append-nil (step_events fixed m step reply)),
       (refl, refl, refl),
     ))
 runs_more fixed pieces m (first ∷ steps) replies history last step reply runs = λ legal right. (
-  runs.0, runs.1 ++ option_to_list reply, runs.2 ++ step_events fixed last step reply, runs.3, runs.4,
+  runs.0,
+  runs.1 ++ option_to_list reply,
+  runs.2 ++ step_events fixed last step reply,
+  runs.3,
+  runs.4,
   ap (λ (xs : List Reply). xs ++ option_to_list reply) runs.5 ∙ append_assoc (option_to_list runs.0) runs.1 (option_to_list reply),
   ap (λ (xs : List Event). xs ++ step_events fixed last step reply) runs.6 ∙ append_assoc (step_events fixed m first runs.0) runs.2 (step_events fixed last step reply),
   runs_more fixed pieces (after_step fixed pieces m first runs.0) steps runs.1 runs.2 last step reply runs.7 legal right,

@@ -13,11 +13,11 @@ use Rattle.bao_check.proofs.Certified.{certified}
 use Rattle.store_core.specs.declared.fixed.Fixed.{Fixed}
 use Rattle.store_core.specs.declared.history.Event.{Event}
 use Rattle.store_core.specs.declared.history.Piece.{Piece}
-use Rattle.store_core.specs.Cells.{cell_bytes, cell_word}
+use Rattle.store_core.specs.Cells.{cell_bytes}
 use Rattle.store_core.specs.Events.{is_free}
 use Rattle.store_core.specs.Histories.{AreLegalFrom, run}
 use Rattle.store_core.specs.Laws.{IsSound}
-use Rattle.store_core.specs.Machine.{Machine, Reading, current_bytes, is_number, is_shown, seat_has, shown_byte, store_of}
+use Rattle.store_core.specs.Machine.{Machine, is_number, is_shown, seat_has, shown_byte, store_of}
 use Rattle.store_core.specs.Masks.{has_bit}
 use Rattle.store_core.specs.Pieces.{IsAcceptedPiece, chunk_bytes}
 use Rattle.store_core.specs.Served.{IsKept, IsPart, IsServed}

@@ -53,12 +53,7 @@ impl Reading {
     }
 
     // The bytes from position `at` on, at most `len`, up to the first that isn't held.
-    fn held_bytes(
-        alloc: Global,
-        store: &Store,
-        at: u64,
-        len: usize,
-    ) -> Result<Vec<u8>, AllocError>
+    fn held_bytes(alloc: Global, store: &Store, at: u64, len: usize) -> Result<Vec<u8>, AllocError>
         ensures value { IfOk result (λ bytes. bytes.items ≡ read_bytes (state_of store.now) at len) }
         ensures within { IfOk result (λ bytes. length bytes.items ≤ len) }
     {

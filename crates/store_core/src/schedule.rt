@@ -1,10 +1,9 @@
-ghost use Rattle.std.specs.Prelude.{◌≡◌, ◌≢◌, ◌⊎◌, option_to_list, ◌↔◌, ℕ, ◌<◌, ◌≤◌, nat_lt, ◌==◌, ◌&&◌, ◌||◌, if◌then◌else◌, ◌++◌, List, Some, option_map, length, slice_index_or, true, false, IfOk, IsErrOf, IsTrue, OnOk};
+ghost use Rattle.std.specs.Prelude.{◌≡◌, ◌≢◌, ◌⊎◌, ◌↔◌, ℕ, ◌<◌, ◌≤◌, nat_lt, ◌==◌, ◌&&◌, ◌||◌, if◌then◌else◌, true, false, List, ◌++◌, length, slice_index_or, Some, option_map, option_to_list, IfOk, IsErrOf, IsTrue, OnOk};
+ghost use Rattle.bao_check.specs.declared.checked.Checked.{Checked};
 ghost use Rattle.store_core.specs.declared.fault.ReplayFault.TheVariants.{Capacity, Illegal};
-ghost use Rattle.store_core.specs.declared.fixed.Fixed.{Fixed};
 ghost use Rattle.store_core.specs.Machine.{current_holds};
 ghost use Rattle.store_core.specs.Masks.{in_mask};
 ghost use Rattle.store_core.specs.Pieces.{piece_of};
-ghost use Rattle.bao_check.specs.declared.checked.Checked.{Checked};
 ghost use Rattle.store_core.specs.Replays.{IsIllegalAt, IsReplayed};
 ghost use Rattle.store_core.specs.Schedules.{AreTexts};
 ghost use Rattle.store_core.specs.Slots.{caller};
@@ -27,6 +26,7 @@ const CELL_WORDS: usize = 129;
 // The most bytes that a read of a schedule asks for.
 const MAX_READ: u32 = 65_536;
 
+// What a seat has: its current piece, and a read under way.
 #[derive(Drop)]
 struct Player<'a> {
     number: u32,
@@ -34,10 +34,9 @@ struct Player<'a> {
     reading: Option<Reading>,
 }
 
-// A schedule on its way: the one-thread store in place of the words, as far as held bits and claims go. What was
-// written need not be kept, since a chunk is shown once all its words come from the current piece. That a word of a
-// claimed chunk was written, by the one seat that claims it and from its current piece, is kept for each word at index
-// 129 * chunk + word.
+// A schedule on its way: the one-thread store in place of the words, as far as held bits and claims go. The words'
+// values need not be kept, since a chunk is shown only once all of them come from the current piece of the one seat that
+// claims it. Which of them do is kept, at index 129 * chunk + word.
 #[derive(Drop)]
 struct Stage<'a> {
     alloc: Global,
@@ -271,12 +270,7 @@ impl<'a> Stage<'a> {
         true
     }
 
-    fn give_back(
-        &mut self,
-        seat: u32,
-        group: u32,
-        mask: u64,
-    ) -> Result<Option<Reply>, StepFault>
+    fn give_back(&mut self, seat: u32, group: u32, mask: u64) -> Result<Option<Reply>, StepFault>
         ensures ok { (pieces : List Checked) → IfOk result (λ reply. DoesStep pieces self.old self.new (MicroStep.GiveBack seat group mask) reply) }
         ensures illegal { (pieces : List Checked) → IsErrOf result StepFault.Illegal → DoesRefuse pieces self.old (MicroStep.GiveBack seat group mask) }
     {
@@ -332,19 +326,14 @@ impl<'a> Stage<'a> {
         Ok(Some(Reply::Settling(answer)))
     }
 
-    fn length(&mut self, seat: u32) -> Result<Option<Reply>, StepFault>
-        ensures ok { (pieces : List Checked) → IfOk result (λ reply. DoesStep pieces self.old self.new (MicroStep.Length seat) reply) }
-        ensures illegal { (pieces : List Checked) → IsErrOf result StepFault.Illegal → DoesRefuse pieces self.old (MicroStep.Length seat) }
+    fn length(&self) -> Reply
+        ensures { (pieces : List Checked) (seat : ℕ) → DoesStep pieces self.now self.now (MicroStep.Length seat) (Some result) }
     {
-        let _ = seat;
-        Ok(Some(Reply::LengthIs(self.store.length())))
+        Reply::LengthIs(self.store.length())
     }
 
-    fn step(
-        &mut self,
-        pieces: &[Checked<'a>],
-        step: &MicroStep,
-    ) -> Result<Option<Reply>, StepFault>
+    // Runs a step, and answers what it answers, if it does.
+    fn step(&mut self, pieces: &[Checked<'a>], step: &MicroStep) -> Result<Option<Reply>, StepFault>
         ensures ok { IfOk result (λ reply. DoesStep pieces.now self.old self.new step.now reply) }
         ensures illegal { IsErrOf result StepFault.Illegal → DoesRefuse pieces.now self.old step.now }
     {
@@ -356,12 +345,12 @@ impl<'a> Stage<'a> {
             MicroStep::GiveBack { seat, group, mask } => self.give_back(seat, group, mask),
             MicroStep::Load { seat, at, len } => self.load(seat, at, len),
             MicroStep::Settle { seat } => self.settle(seat),
-            MicroStep::Length { seat } => self.length(seat),
+            MicroStep::Length { .. } => Ok(Some(self.length())),
         }
     }
 }
 
-// The texts are of bytes. A law: nothing runs on them.
+// That the texts are of bytes, which each piece carries. A law, for the proof of `replay`.
 fn are_texts(pieces: &[Checked<'_>])
     ensures { AreTexts pieces.now }
 {

@@ -1,4 +1,4 @@
-use Rattle.std.proofs.Common.{◌≡◌, ℕ, ◌+◌, ◌*◌, ◌<◌, true, false, get_or, sym, ◌∙◌, arith}
+use Rattle.std.proofs.Common.{◌≡◌, ◌+◌, ◌*◌, true, false, get_or, sym, ◌∙◌, arith}
 use Rattle.std.proofs.lemmas.List.{get_or_past}
 use Rattle.store_core.proofs.schedule.is_written.Goals as goal
 use Rattle.store_core.proofs.schedule.is_written.Goals.{then-first-w-via-then-first-w, then-first-w-via-else-first-w+then-not-written-first}

@@ -1,8 +1,6 @@
-use Rattle.std.proofs.Common.{◌≡◌, ℕ, Err, List, Some, length, get_or, slice_get, take, ap, sym, subst, ◌∙◌, arith}
+use Rattle.std.proofs.Common.{◌≡◌, ℕ, Err, length, get_or, take, ap, subst, ◌∙◌, arith}
 use Rattle.std.proofs.Math.Seq.{take-length}
 use Rattle.std.proofs.lemmas.Option.{slice_get-get_or}
-use Rattle.store_core.specs.declared.fault.ReplayFault.{ReplayFault}
-use Rattle.store_core.specs.declared.fault.ReplayFault.TheVariants.{Illegal}
 use Rattle.store_core.specs.declared.fixed.Fixed.{Fixed}
 use Rattle.store_core.specs.declared.micro.MicroStep.{MicroStep}
 use Rattle.store_core.specs.declared.micro.MicroStep.TheVariants.{Claim}

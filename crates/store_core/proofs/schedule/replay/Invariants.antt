@@ -1,4 +1,3 @@
-use Rattle.std.proofs.Common.{ℕ}
 use Rattle.store_core.proofs.Replaying.{IsInRun}
 use Rattle.store_core.proofs.schedule.replay.Given as goal
 

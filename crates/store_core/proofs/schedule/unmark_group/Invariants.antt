@@ -1,4 +1,4 @@
-use Rattle.std.proofs.Common.{ℕ, ◌%◌, ◌&&◌, nat_lt}
+use Rattle.std.proofs.Common.{◌%◌, ◌&&◌, nat_lt}
 use Rattle.store_core.specs.Masks.{in_mask}
 use Rattle.store_core.specs.Stages.{IsCleared}
 use Rattle.store_core.proofs.schedule.unmark_group.Given as goal

@@ -1,8 +1,9 @@
 use Rattle.std.proofs.Common.{refl}
-use Rattle.store_core.proofs.Standing.{length_next, stepped}
+use Rattle.store_core.proofs.Standing.{stepped}
+use Rattle.store_core.proofs.Wordless.{length_next}
 use Rattle.store_core.proofs.schedule.Stage.length.Goals as goal
 
-pub returns-clause-ok : goal.returns-clause-ok
-returns-clause-ok c = λ pieces m texts served is.
+pub returns : goal.returns
+returns c = λ pieces seat m texts served is.
     let s = c.args.self.now in
-    stepped s.store.fixed pieces s m _ _ refl (length_next pieces s m c.args.seat c.length.result is c.length.ensures.event)
+    stepped s.store.fixed pieces s m _ _ refl (length_next pieces s m seat c.length.result is c.length.ensures.event)

@@ -1,4 +1,7 @@
-use Rattle.store_core.proofs.Standing.{legal_at}
+use Rattle.std.proofs.Common.{Some, sym, subst}
+use Rattle.store_core.specs.declared.micro.MicroStep.{MicroStep}
+use Rattle.store_core.specs.Stages.{IsStepped}
+use Rattle.store_core.proofs.Wordless.{legal_at}
 use Rattle.store_core.proofs.schedule.Stage.step.Goals as goal
 
 pub returns-in-Claim-clause-illegal : goal.returns-in-Claim-clause-illegal
@@ -25,6 +28,8 @@ pub returns-in-Settle-clause-illegal : goal.returns-in-Settle-clause-illegal
 returns-in-Settle-clause-illegal c = λ refused m served is legal.
     c.settle.ensures.illegal c.args.pieces.now refused m served is (legal_at c.args.self.now.store.fixed c.args.pieces.now m c.args.step.now _ c.in-Settle.is legal)
 
-pub returns-in-Length-clause-illegal : goal.returns-in-Length-clause-illegal
-returns-in-Length-clause-illegal c = λ refused m served is legal.
-    c.length.ensures.illegal c.args.pieces.now refused m served is (legal_at c.args.self.now.store.fixed c.args.pieces.now m c.args.step.now _ c.in-Length.is legal)
+pub returns-in-Length-clause-ok : goal.returns-in-Length-clause-ok
+returns-in-Length-clause-ok c = λ m texts served is.
+    let s = c.args.self.now in
+    subst (λ (step : MicroStep). IsStepped s.store.fixed c.args.pieces.now s m step (Some c.length.result)) (sym c.in-Length.is)
+    (c.length.ensures c.args.pieces.now c.in-Length.seat m texts served is)

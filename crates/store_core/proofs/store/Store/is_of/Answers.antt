@@ -1,4 +1,4 @@
-use Rattle.std.proofs.Common.{Bool, true, false, inl, inr}
+use Rattle.std.proofs.Common.{inl, inr}
 use Rattle.std.proofs.lemmas.Bool.{cases_Bool, both_ways}
 use Rattle.store_core.proofs.Stored.{is_of_piece, not_of_piece}
 use Rattle.store_core.proofs.store.Store.is_of.Goals as goal
