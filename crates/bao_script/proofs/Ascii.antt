@@ -1,5 +1,5 @@
 -- A line that says something is ASCII, and so UTF-8.
-use Rattle.std.proofs.Common.{◌≡◌, ◌<◌, ◌&&◌, ℕ, List, [], ◌∷◌, ◌++◌, Some, nat_lt, true, sym, subst, refl, lit<, arith, rules}
+use Rattle.std.proofs.Common.{◌≡◌, ◌<◌, ℕ, List, [], ◌∷◌, Some, nat_lt, true, sym, subst, refl, lit<, arith}
 use Rattle.std.specs.Char.{is_ascii_digit}
 use Rattle.std.specs.List.{list_all, join_with_byte}
 use Rattle.std.specs.Str.{IsAscii, IsUtf8}

@@ -1,5 +1,5 @@
 -- A script's run, from that of its steps with the questions after its loads.
-use Rattle.std.proofs.Common.{◌≡◌, ◌∙◌, ◌⊎◌, inl, inr, ℕ, ◌+◌, ◌-◌, ◌<◌, ◌≤◌, nat_lt, zero, suc, List, [], ◌∷◌, ◌++◌, Bool, true, false, cond, Option, None, Some, length, take, map, ap, sym, subst, refl, append-nil, add_assoc, add-zero, arith}
+use Rattle.std.proofs.Common.{◌≡◌, ◌∙◌, ℕ, ◌+◌, ◌-◌, ◌<◌, ◌≤◌, nat_lt, zero, suc, List, [], ◌∷◌, ◌++◌, Bool, true, false, cond, Some, length, take, map, ap, sym, subst, refl, append-nil, add_assoc, add-zero, arith}
 use Rattle.std.specs.List.{slice_get}
 use Rattle.std.proofs.lemmas.Bool.Decides.{nat_tests}
 use Rattle.std.proofs.lemmas.List.{take-append-le}
@@ -12,7 +12,7 @@ use Rattle.store_core.specs.declared.micro.Reply.{Reply}
 use Rattle.store_core.specs.Machine.{Machine}
 use Rattle.store_core.specs.Schedules.{IsLegalStep, Runs}
 use Rattle.bao_script.proofs.Places.{get_back, get_front, take_back}
-use Rattle.bao_script.proofs.Told.{Split, Told, split_run, told_line}
+use Rattle.bao_script.proofs.Told.{split_run, told_line}
 use Rattle.bao_script.specs.declared.line.Line.{Line}
 use Rattle.bao_script.specs.declared.line.Line.TheVariants.{Claim, Hash, Write, Fill, Publish, Give, Load, Settle, Length}
 use Rattle.bao_script.specs.declared.numbered.NumberedLine.{NumberedLine}

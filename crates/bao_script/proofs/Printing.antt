@@ -1,16 +1,14 @@
 -- What is printed, and where a run stops, from the answer of the schedule's replay.
-use Rattle.std.proofs.Common.{◌≡◌, ◌∙◌, ℕ, List, ◌++◌, ap, subst, sym}
+use Rattle.std.proofs.Common.{◌≡◌, ◌∙◌, ℕ, List, ◌++◌, ap, subst}
 use Rattle.bao_check.specs.declared.checked.Checked.{Checked}
 use Rattle.store_core.specs.declared.fixed.Fixed.{Fixed}
-use Rattle.store_core.specs.declared.micro.MicroStep.{MicroStep}
 use Rattle.store_core.specs.declared.micro.Reply.{Reply}
 use Rattle.store_core.specs.declared.store.Store.{Store}
 use Rattle.store_core.specs.Machine.{start, store_of}
 use Rattle.store_core.specs.Replays.{IsIllegalAt, IsReplayed}
-use Rattle.store_core.specs.Schedules.{Runs}
 use Rattle.store_core.specs.States.{held_count}
 use Rattle.store_core.specs.Stores.{fixed_of, state_of}
-use Rattle.bao_script.proofs.Marked.{IllegalAt, run_of_marked, stop_of_marked}
+use Rattle.bao_script.proofs.Marked.{run_of_marked, stop_of_marked}
 use Rattle.bao_script.specs.declared.numbered.NumberedLine.{NumberedLine}
 use Rattle.bao_script.specs.Marks.{answers_of, marked_steps, number_at}
 use Rattle.bao_script.specs.Printouts.{IsPrinted, IsStopped}

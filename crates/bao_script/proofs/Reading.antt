@@ -1,7 +1,6 @@
 -- What is said line by line, as lines are added at the end.
-use Rattle.std.proofs.Common.{◌≡◌, ◌∙◌, ℕ, ◌+◌, ◌<◌, ◌≤◌, suc, take, get_or, map, Bor, Some, List, [], ◌∷◌, ◌++◌, length, Bool, true, false, cond, ◌==◌, ap, sym, subst, refl, add-zero, arith}
+use Rattle.std.proofs.Common.{◌≡◌, ◌∙◌, ℕ, ◌+◌, ◌<◌, ◌≤◌, suc, take, get_or, map, Bor, List, [], ◌∷◌, ◌++◌, length, Bool, true, false, cond, ◌==◌, ap, sym, subst, refl, add-zero, arith}
 use Rattle.bao_script.specs.declared.numbered.NumberedLine.{NumberedLine}
-use Rattle.bao_script.specs.Forms.{Says}
 use Rattle.bao_script.specs.Scripts.{AreRead, Gains, IsRefused, IsRefusedLine, IsScript, numbered}
 use Rattle.bao_script.specs.Slices.{NameFiles}
 use Rattle.bao_script.specs.Words.{lines_of}

@@ -13,7 +13,7 @@ use Rattle.store_core.specs.Machine.{Machine, Reading, is_whole, position}
 use Rattle.store_core.specs.Schedules.{Runs, end_reply, after_step, is_last_load, read_after, step_events}
 use Rattle.bao_script.specs.declared.line.Line.{Line}
 use Rattle.bao_script.specs.declared.line.Line.TheVariants.{Claim, Hash, Write, Fill, Publish, Give, Load, Settle, Length}
-use Rattle.bao_script.specs.Marks.{after_load, first_of, left_by, load_reply, mark_of, marked_steps_of, said_by}
+use Rattle.bao_script.specs.Marks.{after_load, first_of, left_by, load_reply, marked_steps_of, said_by}
 use Rattle.bao_script.specs.Steps.{fill_steps, steps_of}
 
 -- a run of two lists of steps is one of each

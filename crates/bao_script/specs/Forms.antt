@@ -2,7 +2,7 @@
 use Rattle.std.specs.Prelude.{ℕ, ◌≡◌, ◌<◌, List, [], ◌∷◌, Option, None, Some, codes}
 use Rattle.bao_script.specs.declared.line.Line.{Line}
 use Rattle.bao_script.specs.declared.line.Line.TheVariants.{Claim, Hash, Write, Fill, Publish, Give, Load, Settle, Length}
-use Rattle.bao_script.specs.Words.{number_of, words_of}
+use Rattle.bao_script.specs.Words.{number_of}
 
 -- the word that a line begins with
 abbrev pub name_of : Line → List ℕ

@@ -6,7 +6,7 @@ use Rattle.store_core.specs.declared.fixed.Fixed.{Fixed}
 use Rattle.store_core.specs.declared.history.Event.{Event}
 use Rattle.store_core.specs.declared.micro.MicroStep.{MicroStep}
 use Rattle.store_core.specs.declared.micro.Reply.{Reply}
-use Rattle.store_core.specs.Machine.{Machine, start}
+use Rattle.store_core.specs.Machine.{Machine}
 use Rattle.store_core.specs.Schedules.{IsLegalStep, Runs}
 use Rattle.bao_script.specs.declared.numbered.NumberedLine.{NumberedLine}
 use Rattle.bao_script.specs.Replies.{reply_line}

@@ -1,17 +1,15 @@
-use Rattle.std.proofs.Common.{◌≡◌, ◌⊎◌, ◌∙◌, ℕ, List, ◌++◌, Err, ap, map, sym, subst}
+use Rattle.std.proofs.Common.{◌≡◌, ◌∙◌, ℕ, List, ◌++◌, Err, ap, map, sym, subst}
 use Rattle.b3tree.specs.declared.mode.Mode.{Mode}
 use Rattle.bao_check.specs.declared.checked.Checked.{Checked}
 use Rattle.store_core.specs.declared.fixed.Fixed.{Fixed}
 use Rattle.store_core.specs.declared.micro.MicroStep.{MicroStep}
-use Rattle.store_core.specs.declared.micro.Reply.{Reply}
 use Rattle.store_core.specs.Replays.{IsIllegalAt, IsReplayed}
 use Rattle.bao_script.proofs.Exits.{passed_on}
 use Rattle.bao_script.proofs.Printing.{printed, stopped}
-use Rattle.bao_script.specs.declared.fault.ReplayScriptFault.TheVariants.{Capacity, Illegal, Refused}
+use Rattle.bao_script.specs.declared.fault.ReplayScriptFault.TheVariants.{Capacity, Illegal}
 use Rattle.bao_script.specs.declared.numbered.NumberedLine.{NumberedLine}
 use Rattle.bao_script.specs.Faults.{IsEarly, IsWant}
 use Rattle.bao_script.specs.Marks.{answers_of, marked_steps, number_at}
-use Rattle.bao_script.specs.Printouts.{IsPrinted, IsStopped}
 use Rattle.bao_script.specs.Replies.{held_line}
 use Rattle.bao_script.specs.ScriptRuns.{answers_text}
 use Rattle.bao_script.specs.Slices.{ArePieces, Slice, slices_of}

@@ -1,4 +1,4 @@
-use Rattle.std.proofs.Common.{◌≡◌, length, map, take}
+use Rattle.std.proofs.Common.{◌≡◌, map, take}
 use Rattle.bao_script.specs.Slices.{slices_of}
 use Rattle.bao_script.proofs.slice.cut_slices.Given as goal
 
