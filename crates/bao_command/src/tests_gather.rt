@@ -91,41 +91,35 @@ fn refused<R: Files<File = File> + AllocGlobal + Threads + Sync + Abort>(
     Ok(())
 }
 
-// Gathers in this mode, with these words for it: two bad files, and then the whole encoding beside them.
-fn gathered_in<'a, R: Files<File = File> + AllocGlobal + Threads + Sync + Abort>(
+// Gathers with these words as far as the root: from two bad files, and then from the whole encoding beside them.
+fn gathered_from<R: Files<File = File> + AllocGlobal + Threads + Sync + Abort>(
     rt: &R,
-    process: u32,
-    mode: &Mode,
-    root: &'a str,
-    options: &[&'a str],
+    holders: &Holders,
+    words: &[&str],
 ) -> Result<(), Fail> {
-    let holders = make_holders(rt, process, "gather", mode)?;
     let (cut, shorter) = (holders.cut.as_str(), holders.shorter.as_str());
     let (whole, out) = (holders.whole.as_str(), holders.out.as_str());
     let mut given = Vec::new(rt.alloc());
-    given.push("gather")?;
-    given.extend_from_slice(options)?;
-    given.extend_from_slice(&[root, out, cut, shorter])?;
+    given.extend_from_slice(words)?;
+    given.extend_from_slice(&[out, cut, shorter])?;
     refused(rt, given.as_slice(), out, 1, UNFINISHED)?;
     given.push(whole)?;
     gathered(rt, given.as_slice(), out)?;
-    remove(rt, &holders)
+    remove(rt, holders)
 }
 
 #[test]
 fn two_of_three_files_are_bad(rt: HostRuntime) -> Result<(), Fail> {
     let process = process::id(rt.process());
-    let keyed = Mode::keyed(*b"whats the Elvish word for friend");
-    let derived = Mode::derive(CONTEXT);
-    gathered_in(&rt, process, &Mode::hash(), ROOT, &[])?;
-    gathered_in(&rt, process, &keyed, KEYED_ROOT, &["--key", KEY])?;
-    gathered_in(
-        &rt,
-        process,
-        &derived,
-        DERIVED_ROOT,
-        &["--context", CONTEXT],
-    )
+    let plain = make_holders(&rt, process, "plain", &Mode::hash())?;
+    gathered_from(&rt, &plain, &["gather", ROOT])?;
+    let mode = Mode::keyed(*b"whats the Elvish word for friend");
+    let keyed = make_holders(&rt, process, "keyed", &mode)?;
+    gathered_from(&rt, &keyed, &["gather", "--key", KEY, KEYED_ROOT])?;
+    let mode = Mode::derive(CONTEXT);
+    let derived = make_holders(&rt, process, "derived", &mode)?;
+    let words = ["gather", "--context", CONTEXT, DERIVED_ROOT];
+    gathered_from(&rt, &derived, &words)
 }
 
 // The texts of another mode and of another root, an OUT that was there, and the blob of no bytes.

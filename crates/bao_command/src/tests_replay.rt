@@ -12,9 +12,11 @@ const ROOT: &str = "6437b3ac38465133ffb63b75273a8db548c558465d79db03fd359c6cd5bd
 const ENCODING: &str = "\x03\0\0\0\0\0\0\0abc";
 
 // A schedule whose replies are known.
-const SCRIPT: &str = "claim 1 0 1\nhash 1 0 0 1\nload 2 0 3\nfill 1 0\nload 2 0 3\npublish 1 0\nload 2 0 3\nsettle 1\nlength 2\n";
+const SCRIPT: &str =
+    "claim 1 0 1\nhash 1 0 0 1\nload 2 0 3\nfill 1 0\nload 2 0 3\npublish 1 0\nload 2 0 3\nsettle 1\nlength 2\n";
 
-const REPLIES: &str = "1 granted 1\n3 missing 0\n5 missing 0\n6 committed 1\n7 bytes 616263\n8 settled\n9 length 3\nheld 1\n";
+const REPLIES: &str =
+    "1 granted 1\n3 missing 0\n5 missing 0\n6 committed 1\n7 bytes 616263\n8 settled\n9 length 3\nheld 1\n";
 
 // Runs the schedule over pieces of this one file.
 fn replayed<R: Files<File = File> + AllocGlobal + Threads + Sync + Abort>(
@@ -89,13 +91,7 @@ fn files_of_a_schedule(rt: HostRuntime) -> Result<(), Fail> {
         err.as_str(),
     )?;
     let root = "bao_gather: usage: root is not 64 hexadecimal digits\n";
-    expect(
-        &rt,
-        &["replay", "00", missing, missing],
-        2,
-        "",
-        root,
-    )?;
+    expect(&rt, &["replay", "00", missing, missing], 2, "", root)?;
     let mut given = Vec::new(rt.alloc());
     given.extend_from_slice(&["replay", ROOT])?;
     for _ in 0..66 {
