@@ -6,3 +6,4 @@ pub mod Outcome
 pub mod Tasks
 pub mod Ranges
 pub mod Gathered
+pub mod Replayed

@@ -4,7 +4,7 @@ use Rattle.std.specs.Prelude.{◌≡◌, ℕ, List, [], ◌∷◌, ◌++◌, sli
 use Rattle.std.specs.Io.KnownBytes.{Appends, Keeps}
 use Rattle.hex.specs.Hex.{encode_lower}
 use Rattle.bao_command.specs.declared.fault.Fault.{Fault}
-use Rattle.bao_command.specs.declared.fault.Fault.TheVariants.{Word, Root, Key, KeyAndContext, OutputRange, TooManyFiles, Read, Write, Output, Encoding, Check, Gather, Memory}
+use Rattle.bao_command.specs.declared.fault.Fault.TheVariants.{Word, Root, Key, KeyAndContext, OutputRange, TooManyFiles, Script, Read, Write, Output, Encoding, Check, Gather, Replay, Memory}
 
 -- the lower-case digits of bytes, and a line end
 abbrev pub digits_line : List ℕ → List ℕ
@@ -23,12 +23,14 @@ Leaves line old new Key = Keeps old new
 Leaves line old new KeyAndContext = Keeps old new
 Leaves line old new OutputRange = Keeps old new
 Leaves line old new TooManyFiles = Keeps old new
+Leaves line old new (Script number) = Keeps old new
 Leaves line old new (Read path) = Keeps old new
 Leaves line old new (Write path) = Keeps old new
 Leaves line old new Output = AppendsBeginning old new line
 Leaves line old new Encoding = Keeps old new
 Leaves line old new (Check fault) = Keeps old new
 Leaves line old new (Gather fault) = Keeps old new
+Leaves line old new (Replay fault) = Keeps old new
 Leaves line old new Memory = Keeps old new
 
 -- a fault that comes before anything is printed
@@ -39,12 +41,14 @@ IsQuiet Key = Unit {0}
 IsQuiet KeyAndContext = Unit {0}
 IsQuiet OutputRange = Unit {0}
 IsQuiet TooManyFiles = Unit {0}
+IsQuiet (Script number) = Unit {0}
 IsQuiet (Read path) = Unit {0}
 IsQuiet (Write path) = Unit {0}
 IsQuiet Output = ⊥
 IsQuiet Encoding = Unit {0}
 IsQuiet (Check fault) = Unit {0}
 IsQuiet (Gather fault) = Unit {0}
+IsQuiet (Replay fault) = Unit {0}
 IsQuiet Memory = Unit {0}
 
 -- a fault of reading names the one path, and a fault of writing the other
@@ -55,12 +59,14 @@ NamesPaths input output Key = Unit {0}
 NamesPaths input output KeyAndContext = Unit {0}
 NamesPaths input output OutputRange = Unit {0}
 NamesPaths input output TooManyFiles = Unit {0}
+NamesPaths input output (Script number) = Unit {0}
 NamesPaths input output (Read path) = path ≡ input
 NamesPaths input output (Write path) = path ≡ output
 NamesPaths input output Output = Unit {0}
 NamesPaths input output Encoding = Unit {0}
 NamesPaths input output (Check fault) = Unit {0}
 NamesPaths input output (Gather fault) = Unit {0}
+NamesPaths input output (Replay fault) = Unit {0}
 NamesPaths input output Memory = Unit {0}
 
 -- the same, where the first of the inputs is named

@@ -1,11 +1,13 @@
 -- the exit status of each fault: 1 for a text or a blob that is refused, 2 for usage, 3 for a file, 4 for want of memory
 use Rattle.std.specs.Prelude.{ℕ}
 use Rattle.bao_command.specs.declared.fault.Fault.{Fault}
-use Rattle.bao_command.specs.declared.fault.Fault.TheVariants.{Word, Root, Key, KeyAndContext, OutputRange, TooManyFiles, Read, Write, Output, Encoding, Check, Gather, Memory}
+use Rattle.bao_command.specs.declared.fault.Fault.TheVariants.{Word, Root, Key, KeyAndContext, OutputRange, TooManyFiles, Script, Read, Write, Output, Encoding, Check, Gather, Replay, Memory}
 use Rattle.bao_check.specs.declared.fault.CheckFault.{CheckFault}
 use Rattle.bao_check.specs.declared.fault.CheckFault.TheVariants as check
 use Rattle.gather.specs.declared.texts.GatherFault.{GatherFault}
 use Rattle.gather.specs.declared.texts.GatherFault.TheVariants as gather
+use Rattle.bao_script.specs.declared.fault.ReplayScriptFault.{ReplayScriptFault}
+use Rattle.bao_script.specs.declared.fault.ReplayScriptFault.TheVariants as replay
 
 abbrev pub check_status_of : CheckFault → ℕ
 check_status_of (check.Short at) = 1
@@ -22,6 +24,14 @@ gather_status_of gather.NotTheRoot = 1
 gather_status_of gather.Memory = 4
 gather_status_of gather.Starved = 4
 
+abbrev pub replay_status_of : ReplayScriptFault → ℕ
+replay_status_of (replay.Refused line fault) = check_status_of fault
+replay_status_of (replay.Illegal line) = 1
+replay_status_of replay.Capacity = 2
+replay_status_of replay.Cutting = 4
+replay_status_of replay.Replaying = 4
+replay_status_of replay.Memory = 4
+
 abbrev pub status_of : Fault → ℕ
 status_of Word = 2
 status_of Root = 2
@@ -29,10 +39,12 @@ status_of Key = 2
 status_of KeyAndContext = 2
 status_of OutputRange = 2
 status_of TooManyFiles = 2
+status_of (Script line) = 2
 status_of (Read path) = 3
 status_of (Write path) = 3
 status_of Output = 3
 status_of Encoding = 4
 status_of (Check fault) = check_status_of fault
 status_of (Gather fault) = gather_status_of fault
+status_of (Replay fault) = replay_status_of fault
 status_of Memory = 4

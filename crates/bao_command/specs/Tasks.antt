@@ -7,19 +7,20 @@ use Rattle.b3tree.specs.declared.mode.Mode.{Mode}
 use Rattle.b3tree.specs.Hashing.{hash, stream}
 use Rattle.bao_text.specs.Texts.{combined_text, outboard_text, slice_text}
 use Rattle.bao_command.specs.declared.fault.Fault.{Fault}
-use Rattle.bao_command.specs.declared.fault.Fault.TheVariants.{Word, Root, Key, KeyAndContext, OutputRange, TooManyFiles, Read, Write, Output, Encoding, Check, Gather, Memory}
+use Rattle.bao_command.specs.declared.fault.Fault.TheVariants.{Word, Root, Key, KeyAndContext, OutputRange, TooManyFiles, Script, Read, Write, Output, Encoding, Check, Gather, Replay, Memory}
 use Rattle.bao_request.specs.declared.tasks.Request.{Request}
 use Rattle.bao_request.specs.declared.tasks.Encoding.{Encoding as Kind}
 use Rattle.bao_request.specs.declared.tasks.Encoding.TheVariants.{Combined, Outboard, Slice}
 use Rattle.bao_request.specs.declared.tasks.Part.{Part}
 use Rattle.bao_request.specs.declared.tasks.Task.{Task}
-use Rattle.bao_request.specs.declared.tasks.Task.TheVariants.{Hash, Encode, Decode, Gather as Collect}
+use Rattle.bao_request.specs.declared.tasks.Task.TheVariants.{Hash, Encode, Decode, Gather as Collect, Replay as Rerun}
 use Rattle.bao_command.specs.Ranges.{first_written, last_written, part_len, part_start}
 use Rattle.bao_text.specs.Cut.{claimed}
 use Rattle.bao_check.specs.Accepted.{IsAccepted, slice_nodes}
 use Rattle.hex.specs.Hex.{decode_of}
 use Rattle.bao_command.specs.ModeWords.{GivesMode, IsDigits}
 use Rattle.bao_command.specs.Printed.{AppendsBeginning, digits_line}
+use Rattle.bao_command.specs.Replayed.{IsReplay}
 
 -- the line of n bytes that were written
 abbrev pub ok_line : ℕ → List ℕ
@@ -30,12 +31,13 @@ abbrev pub part_line : Part → List ℕ → List ℕ
 part_line part bytes = ok_line (last_written part (claimed bytes) - first_written part (claimed bytes))
 
 -- the line of a task on these bytes, of a file or of the blob that was gathered: the digits of the output
--- asked for, or of the hash, or how many bytes were written
+-- asked for, or of the hash, or how many bytes were written; and the whole text of a schedule's replies
 abbrev pub line_of : Mode → Task → List ℕ → List ℕ
 line_of mode (Hash at length file) bytes = digits_line (stream mode bytes at length)
 line_of mode (Encode encoding file out) bytes = digits_line (hash mode bytes)
 line_of mode (Decode root part file out) bytes = part_line part bytes
 line_of mode (Collect root capacity files out) bytes = ok_line (length bytes)
+line_of mode (Rerun root capacity script files) bytes = bytes
 
 -- the task's root, where it has one, is 64 hexadecimal digits
 abbrev pub HasRoot : Task → Type 0
@@ -43,6 +45,7 @@ HasRoot (Hash at length file) = Unit {0}
 HasRoot (Encode encoding file out) = Unit {0}
 HasRoot (Decode root part file out) = IsDigits root.now
 HasRoot (Collect root capacity files out) = IsDigits root.now
+HasRoot (Rerun root capacity script files) = IsDigits root.now
 
 -- the text of a part of the blob with this root, in hexadecimal digits, is accepted
 abbrev pub IsRightPart : Mode → List ℕ → Part → List ℕ → Type 0
@@ -54,12 +57,13 @@ abbrev pub HasHash : Mode → List ℕ → List ℕ → Type 0
 HasHash mode root bytes = (key : List ℕ) × ((decode_of root ≡ Ok key) × (hash mode bytes ≡ key))
 
 -- what the bytes have to be: a text that is decoded is accepted under the root that the words give, and a blob
--- that is gathered, from at most 64 files, has that root
+-- that is gathered, from at most 64 files, has that root; and a schedule's replies are those of its run
 abbrev pub IsRight : Mode → Task → List ℕ → Type 0
 IsRight mode (Hash at length file) bytes = Unit {0}
 IsRight mode (Encode encoding file out) bytes = Unit {0}
 IsRight mode (Decode root part file out) bytes = IsRightPart mode root.now part bytes
 IsRight mode (Collect root capacity files out) bytes = (length files.items ≤ 64) × HasHash mode root.now bytes
+IsRight mode (Rerun root capacity script files) bytes = (length files.items ≤ 64) × IsReplay mode root.now capacity (length files.items) bytes
 
 -- the text that goes to OUT
 abbrev pub encoding_text : Mode → Kind → List ℕ → List ℕ
@@ -88,12 +92,14 @@ LeavesOf request old new Key = Keeps old new
 LeavesOf request old new KeyAndContext = Keeps old new
 LeavesOf request old new OutputRange = Keeps old new
 LeavesOf request old new TooManyFiles = Keeps old new
+LeavesOf request old new (Script number) = Keeps old new
 LeavesOf request old new (Read path) = Keeps old new
 LeavesOf request old new (Write path) = Keeps old new
 LeavesOf request old new Output = PrintsBeginning request old new
 LeavesOf request old new Encoding = Keeps old new
 LeavesOf request old new (Check fault) = Keeps old new
 LeavesOf request old new (Gather fault) = Keeps old new
+LeavesOf request old new (Replay fault) = Keeps old new
 LeavesOf request old new Memory = Keeps old new
 
 -- the answer to the request

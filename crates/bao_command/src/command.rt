@@ -17,6 +17,7 @@ use crate::mode::{bytes_of_digits, mode_of};
 use crate::once::Once;
 use crate::output::encode_file;
 use crate::reading::print_input;
+use crate::replaying::replay_files;
 use b3tree::{Mode, xof_fits};
 use bao_request::{Request, Task, parse};
 use clap::error::ErrorKind;
@@ -105,6 +106,12 @@ fn serve_task<'a, R: Files<File = File> + AllocGlobal + Threads + Sync, O: Write
             files,
             out: path,
         } => gather_files(rt, mode, root, *capacity, files.as_slice(), path, out),
+        Task::Replay {
+            root,
+            capacity,
+            script,
+            files,
+        } => replay_files(rt, mode, root, *capacity, script, files.as_slice(), out),
     }
 }
 
@@ -114,7 +121,7 @@ fn check_root<'a>(task: &Task<'a>) -> Result<(), Fault<'a>>
     ensures err { IfErr result (λ fault. (fault ≡ Fault.Root) × ¬ HasRoot task.now) }
 {
     let root = match task {
-        Task::Decode { root, .. } | Task::Gather { root, .. } => root,
+        Task::Decode { root, .. } | Task::Gather { root, .. } | Task::Replay { root, .. } => root,
         Task::Hash { .. } | Task::Encode { .. } => return Ok(()),
     };
     match bytes_of_digits(root) {

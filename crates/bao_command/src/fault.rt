@@ -1,8 +1,9 @@
 ghost use Rattle.std.specs.Prelude.{◌≡◌};
-ghost use Rattle.bao_command.specs.Status.{check_status_of, gather_status_of, status_of};
+ghost use Rattle.bao_command.specs.Status.{check_status_of, gather_status_of, replay_status_of, status_of};
 
 use crate::once::Once;
 use bao_check::CheckFault;
+use bao_script::ReplayScriptFault;
 use gather::GatherFault;
 use std::io::Write;
 use thiserror::Error;
@@ -29,6 +30,9 @@ pub enum Fault<'a> {
     /// More than 64 files are given. Status 2.
     #[error("usage: too many files")]
     TooManyFiles,
+    /// The line of a schedule with this number, counted from 1, has no form. Status 2.
+    #[error("usage: script line {0}")]
+    Script(u64),
     /// An input file can't be opened or read. Status 3.
     #[error("cannot read {0}")]
     Read(&'a str),
@@ -47,6 +51,9 @@ pub enum Fault<'a> {
     /// A blob was not gathered. Status 1, and 4 for want of memory.
     #[error("{0}")]
     Gather(GatherFault),
+    /// A schedule was not run to its end. Status 1, and 4 for want of memory.
+    #[error("{0}")]
+    Replay(ReplayScriptFault),
     /// The program found no memory. Status 4.
     #[error("memory")]
     Memory,
@@ -74,6 +81,18 @@ fn gather_status(fault: GatherFault) -> u8
     }
 }
 
+// The exit status of a schedule's fault.
+fn replay_status(fault: ReplayScriptFault) -> u8
+    ensures { result ≡ replay_status_of fault }
+{
+    match fault {
+        ReplayScriptFault::Refused { fault, .. } => check_status(fault),
+        ReplayScriptFault::Illegal { .. } => 1,
+        ReplayScriptFault::Capacity => 2,
+        ReplayScriptFault::Cutting | ReplayScriptFault::Replaying | ReplayScriptFault::Memory => 4,
+    }
+}
+
 impl Fault<'_> {
     /// The exit status.
     pub fn status(self) -> u8
@@ -85,9 +104,11 @@ impl Fault<'_> {
             | Fault::Key
             | Fault::KeyAndContext
             | Fault::OutputRange
+            | Fault::Script(_)
             | Fault::TooManyFiles => 2,
             Fault::Check(fault) => check_status(fault),
             Fault::Gather(fault) => gather_status(fault),
+            Fault::Replay(fault) => replay_status(fault),
             Fault::Read(_) | Fault::Write(_) | Fault::Output => 3,
             Fault::Encoding | Fault::Memory => 4,
         }

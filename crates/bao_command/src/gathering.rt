@@ -17,8 +17,8 @@ use std::alloc::Global;
 use std::io::Write;
 use std::rt::Files;
 
-// The most files that a blob is gathered from.
-const MOST_FILES: usize = 64;
+// The most files that a task takes.
+pub(crate) const MOST_FILES: usize = 64;
 
 // The bytes of those files that can be read, in the order of the paths. Where none can, the fault names the first.
 fn read_files<'a, R: Files + AllocGlobal>(

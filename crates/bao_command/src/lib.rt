@@ -12,6 +12,7 @@ mod once;
 mod output;
 mod program;
 mod reading;
+mod replaying;
 #[cfg(test)]
 mod tests;
 #[cfg(test)]
@@ -20,6 +21,8 @@ mod tests_decode;
 mod tests_gather;
 #[cfg(test)]
 mod tests_reading;
+#[cfg(test)]
+mod tests_replay;
 mod words;
 
 pub use program::run;

@@ -387,7 +387,7 @@ fn faults_of_usage(rt: HostRuntime) -> Result<(), Fail> {
 #[test]
 fn faults_of_words(rt: HostRuntime) -> Result<(), Fail> {
     let none = "error: 'bao_gather' requires a subcommand but one was not provided
-  [subcommands: hash, encode, outboard, slice, decode, decode-slice, gather, help]
+  [subcommands: hash, encode, outboard, slice, decode, decode-slice, gather, replay, help]
 
 Usage: bao_gather <COMMAND>
 

@@ -1,7 +1,8 @@
 use crate::gathering::write_gathered;
-use crate::tests::{Broken, CONTEXT, EMPTY, KEY, blob, expect, failing, path};
-use b3tree::{Hash, Mode};
+use crate::tests::{Broken, CONTEXT, KEY, blob, expect, failing, path};
+use b3tree::{Cv, Hash, Mode, cv, parent_input, root_hash, rooted, subtree_cv};
 use bao_text::combined;
+use std::alloc::Global;
 use std::fs::File;
 use std::io::ErrorKind;
 use std::process::Abort;
@@ -17,6 +18,9 @@ const ROOT: &str = "5fade288bf27444bee55ba2babb98c3c922c1e84c2e445e7d1f6da24756f
 const KEYED_ROOT: &str = "a30978882a69e839ed7ce6087b2d9d7bdbe1b91d7d27c1cb0f5fe0e4744d5eeb";
 
 const DERIVED_ROOT: &str = "844b8ed1a526c0e973c8e0eedb3d85014e6166ac41fa2b8b9d4daf0f3eed6f38";
+
+// The hash of no bytes.
+const EMPTY_ROOT: &str = "af1349b9f5f9a1a6a0404dea36dcc9499bcb25c9adc112b7cc9a93cae41f3262";
 
 const MISSING: &str = "/tmp/missing/file";
 
@@ -87,29 +91,35 @@ fn refused<R: Files<File = File> + AllocGlobal + Threads + Sync + Abort>(
     Ok(())
 }
 
+// Gathers with these words as far as the root: from two bad files, and then from the whole encoding beside them.
+fn gathered_from<R: Files<File = File> + AllocGlobal + Threads + Sync + Abort>(
+    rt: &R,
+    holders: &Holders,
+    words: &[&str],
+) -> Result<(), Fail> {
+    let (cut, shorter) = (holders.cut.as_str(), holders.shorter.as_str());
+    let (whole, out) = (holders.whole.as_str(), holders.out.as_str());
+    let mut given = Vec::new(rt.alloc());
+    given.extend_from_slice(words)?;
+    given.extend_from_slice(&[out, cut, shorter])?;
+    refused(rt, given.as_slice(), out, 1, UNFINISHED)?;
+    given.push(whole)?;
+    gathered(rt, given.as_slice(), out)?;
+    remove(rt, holders)
+}
+
 #[test]
 fn two_of_three_files_are_bad(rt: HostRuntime) -> Result<(), Fail> {
     let process = process::id(rt.process());
-    let key = *b"whats the Elvish word for friend";
-    let modes: [(Mode, &str, &[&str]); 3] = [
-        (Mode::hash(), ROOT, &[]),
-        (Mode::keyed(key), KEYED_ROOT, &["--key", KEY]),
-        (Mode::derive(CONTEXT), DERIVED_ROOT, &["--context", CONTEXT]),
-    ];
-    for (mode, root, options) in modes {
-        let holders = make_holders(&rt, process, "gather", &mode)?;
-        let out = holders.out.as_str();
-        let (cut, shorter) = (holders.cut.as_str(), holders.shorter.as_str());
-        let mut given = Vec::new(rt.alloc());
-        given.push("gather")?;
-        given.extend_from_slice(options)?;
-        given.extend_from_slice(&[root, out, cut, shorter])?;
-        refused(&rt, given.as_slice(), out, 1, UNFINISHED)?;
-        given.push(holders.whole.as_str())?;
-        gathered(&rt, given.as_slice(), out)?;
-        remove(&rt, &holders)?;
-    }
-    Ok(())
+    let plain = make_holders(&rt, process, "plain", &Mode::hash())?;
+    gathered_from(&rt, &plain, &["gather", ROOT])?;
+    let mode = Mode::keyed(*b"whats the Elvish word for friend");
+    let keyed = make_holders(&rt, process, "keyed", &mode)?;
+    gathered_from(&rt, &keyed, &["gather", "--key", KEY, KEYED_ROOT])?;
+    let mode = Mode::derive(CONTEXT);
+    let derived = make_holders(&rt, process, "derived", &mode)?;
+    let words = ["gather", "--context", CONTEXT, DERIVED_ROOT];
+    gathered_from(&rt, &derived, &words)
 }
 
 // The texts of another mode and of another root, an OUT that was there, and the blob of no bytes.
@@ -129,8 +139,7 @@ fn out_is_made_once_the_blob_is_verified(rt: HostRuntime) -> Result<(), Fail> {
     gathered(&rt, &["gather", ROOT, out, whole], out)?;
 
     fs::write(&rt, whole, &[0; 8])?;
-    let empty = EMPTY.get(..64).ok_or("digits")?;
-    expect(&rt, &["gather", empty, out, whole], 0, "ok 0\n", "")?;
+    expect(&rt, &["gather", EMPTY_ROOT, out, whole], 0, "ok 0\n", "")?;
     assert!(rt; fs::read(&rt, out)?.is_empty());
     fs::remove_file(&rt, out)?;
     remove(&rt, &holders)
@@ -155,10 +164,11 @@ fn files_that_cannot_be_read_are_left_out(rt: HostRuntime) -> Result<(), Fail> {
 fn at_most_64_files(rt: HostRuntime) -> Result<(), Fail> {
     let holders = make_holders(&rt, process::id(rt.process()), "many", &Mode::hash())?;
     let (whole, out) = (holders.whole.as_str(), holders.out.as_str());
+    let cut = holders.cut.as_str();
     let mut given = Vec::new(rt.alloc());
     given.extend_from_slice(&["gather", ROOT, out, whole])?;
     for _ in 1..64 {
-        given.push(holders.cut.as_str())?;
+        given.push(cut)?;
     }
     gathered(&rt, given.as_slice(), out)?;
     given.push(MISSING)?;
@@ -189,6 +199,62 @@ fn room_for_the_blob(rt: HostRuntime) -> Result<(), Fail> {
         gathered(&rt, &given, out)?;
     }
     gathered(&rt, &["gather", ROOT, out, whole, "--workers", "1"], out)?;
+    remove(&rt, &holders)
+}
+
+// A text of nodes, with the length that it claims.
+fn text_of(alloc: Global, len: u64, nodes: &[&[u8]]) -> Result<Vec<u8>, Fail> {
+    let mut text = Vec::new(alloc);
+    text.extend_from_slice(&len.to_le_bytes())?;
+    for node in nodes {
+        text.extend_from_slice(node)?;
+    }
+    Ok(text)
+}
+
+// The 64 bytes of a parent.
+fn parent_of(left: &Cv, right: &Cv) -> [u8; 64] {
+    let mut bytes = [0; 64];
+    bytes[..32].copy_from_slice(&left.to_bytes());
+    bytes[32..].copy_from_slice(&right.to_bytes());
+    bytes
+}
+
+// Under the hash of a parent that no blob has, one file certifies 65 chunks and the last of them, another 129 chunks
+// and the first 64: all chunks come together, and no blob.
+#[test]
+fn a_root_of_no_blob(rt: HostRuntime) -> Result<(), Fail> {
+    let mode = Mode::hash();
+    let first = blob(rt.alloc(), 65_536)?;
+    let last = blob(rt.alloc(), 476)?;
+    let left = subtree_cv(&mode, 0, first.as_slice());
+    let right = subtree_cv(&mode, 64, last.as_slice());
+    let both = Cv(cv(&parent_input(&mode, &left, &left)));
+    let root = root_hash(&rooted(&parent_input(&mode, &both, &right)));
+    let digits = hex::encode(rt.alloc(), &root.0)?;
+    let top = parent_of(&both, &right);
+    let (_, whole) = combined(rt.alloc(), &mode, first.as_slice())?;
+    let inner = whole.get(8..).ok_or("nodes")?;
+    let zeros = vec![in rt.alloc(); 0; inner.len()]?;
+    let end = text_of(
+        rt.alloc(),
+        66_012,
+        &[&top, zeros.as_slice(), last.as_slice()],
+    )?;
+    let start = text_of(
+        rt.alloc(),
+        131_548,
+        &[&top, &parent_of(&left, &left), inner],
+    )?;
+
+    let holders = make_holders(&rt, process::id(rt.process()), "no-blob", &mode)?;
+    let out = holders.out.as_str();
+    let (begins, ends) = (holders.cut.as_str(), holders.shorter.as_str());
+    fs::write(&rt, begins, start.as_slice())?;
+    fs::write(&rt, ends, end.as_slice())?;
+    let other = "bao_gather: 902 not the root\n";
+    let given = ["gather", digits.as_str(), out, ends, begins];
+    refused(&rt, &given, out, 1, other)?;
     remove(&rt, &holders)
 }
 
@@ -250,8 +316,7 @@ fn faults_of_writing_a_blob(rt: HostRuntime) -> Result<(), Fail> {
 
     // The blob of no bytes is made, too.
     fs::write(&rt, whole, &[0; 8])?;
-    let empty = EMPTY.get(..64).ok_or("digits")?;
-    expect(&rt, &["gather", empty, MISSING, whole], 3, "", closed)?;
+    expect(&rt, &["gather", EMPTY_ROOT, MISSING, whole], 3, "", closed)?;
     remove(&rt, &holders)
 }
 

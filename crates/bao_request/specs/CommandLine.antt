@@ -104,6 +104,15 @@ with_holders_rules app = with_mode_rules (with_rule (with_rule (with_rule app ro
 abbrev pub gather_app : App
 gather_app = with_holders_rules (with_rule (with_rule (new_app (codes "gather")) workers_rule) capacity_rule)
 
+abbrev pub script_rule : Rule
+script_rule = place_rule (codes "SCRIPT")
+
+abbrev pub with_script_rules : App → App
+with_script_rules app = with_mode_rules (with_rule (with_rule (with_rule app root_rule) script_rule) files_rule)
+
+abbrev pub replay_app : App
+replay_app = with_script_rules (with_rule (new_app (codes "replay")) capacity_rule)
+
 abbrev pub bare_app : App
 bare_app = let app = new_app (codes "bao_gather") in record app { top = record app.top { has_version = true; subcommand_required = true } }
 
@@ -114,7 +123,7 @@ abbrev pub checkers_app : App
 checkers_app = with_subcommand (with_subcommand writers_app decode_app.top) decode_slice_app.top
 
 abbrev pub program_app : App
-program_app = with_subcommand checkers_app gather_app.top
+program_app = with_subcommand (with_subcommand checkers_app gather_app.top) replay_app.top
 
 -- the command is that of the description, and has no global option
 pub record IsApp (app : App) (command : Command) : Type 0 where

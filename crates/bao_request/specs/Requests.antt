@@ -11,7 +11,7 @@ use Rattle.bao_request.specs.declared.tasks.Part.{Part}
 use Rattle.bao_request.specs.declared.tasks.Part.TheVariants as part
 use Rattle.bao_request.specs.declared.tasks.Request.{Request}
 use Rattle.bao_request.specs.declared.tasks.Task.{Task}
-use Rattle.bao_request.specs.declared.tasks.Task.TheVariants.{Hash, Encode, Decode, Gather}
+use Rattle.bao_request.specs.declared.tasks.Task.TheVariants.{Hash, Encode, Decode, Gather, Replay}
 
 -- the row of this name has this text
 abbrev pub GivesText : List Row → Text → Text → Type 0
@@ -51,6 +51,8 @@ GivesTask name rows (Decode root part file out) =
     GivesPart name rows part file.now × GivesText rows (codes "ROOT") root.now × GivesText rows (codes "OUT") out.now
 GivesTask name rows (Gather root capacity files out) =
     (name ≡ codes "gather") × GivesNumber rows (codes "capacity") capacity × GivesText rows (codes "ROOT") root.now × GivesTexts rows (codes "FILE") files.items × GivesText rows (codes "OUT") out.now
+GivesTask name rows (Replay root capacity script files) =
+    (name ≡ codes "replay") × GivesNumber rows (codes "capacity") capacity × GivesText rows (codes "ROOT") root.now × GivesText rows (codes "SCRIPT") script.now × GivesTexts rows (codes "FILE") files.items
 
 -- the subcommand's name and rows ask for this request
 abbrev pub GivesRequest : Option (Text × List Row) → Request → Type 0

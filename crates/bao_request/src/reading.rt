@@ -105,6 +105,28 @@ fn gather_of<'a>(alloc: Global, words: &ArgMatches<'a>) -> Result<Option<Task<'a
     }))
 }
 
+// The task of running a schedule, where its words are all there.
+fn replay_of<'a>(alloc: Global, words: &ArgMatches<'a>) -> Result<Option<Task<'a>>, AllocError>
+    ensures { IfOk result (λ task. IfSome task (GivesTask (codes "replay") (rows_of (found_of words.now)))) }
+{
+    let capacity = count(words, "capacity");
+    let (Some(root), Some(capacity), Some(script), Some(files)) = (
+        text(words, "ROOT"),
+        capacity,
+        text(words, "SCRIPT"),
+        texts(words, "FILE"),
+    ) else {
+        return Ok(None);
+    };
+    let files = files.to_vec(alloc)?;
+    Ok(Some(Task::Replay {
+        root,
+        capacity,
+        script,
+        files,
+    }))
+}
+
 // The task of a subcommand's words on one file, where they are all there.
 fn file_task_of<'a>(name: &str, words: &ArgMatches<'a>) -> Option<Task<'a>>
     ensures { IfSome result (GivesTask name.now (rows_of (found_of words.now))) }
@@ -134,10 +156,11 @@ fn task_of<'a>(
 ) -> Result<Option<Task<'a>>, AllocError>
     ensures { IfOk result (λ task. IfSome task (GivesTask name.now (rows_of (found_of words.now)))) }
 {
-    if name == "gather" {
-        return gather_of(alloc, words);
+    match name {
+        "gather" => gather_of(alloc, words),
+        "replay" => replay_of(alloc, words),
+        _ => Ok(file_task_of(name, words)),
     }
-    Ok(file_task_of(name, words))
 }
 
 // What the words of a subcommand ask for, where they are all there.

@@ -1,7 +1,7 @@
 ghost use Rattle.std.specs.Prelude.{◌≡◌, IfOk, Some, false};
 ghost use Rattle.clap.specs.Words.{app_of, rule_of};
 ghost use Rattle.clap.specs.declared.builder.command.Command.TheViews.{out-Command};
-ghost use Rattle.bao_request.specs.CommandLine.{IsApp, any_number, at_rule, capacity_rule, checkers_app, decode_app, decode_slice_app, encode_app, files_rule, gather_app, hash_app, length_rule, option_rule, outboard_app, place_rule, program_app, slice_app, with_file_rules, with_holders_rules, with_mode_rules, with_range_rules, with_slice_rules, workers_rule, writers_app};
+ghost use Rattle.bao_request.specs.CommandLine.{IsApp, any_number, at_rule, capacity_rule, checkers_app, decode_app, decode_slice_app, encode_app, files_rule, gather_app, hash_app, length_rule, option_rule, outboard_app, place_rule, program_app, replay_app, slice_app, with_file_rules, with_holders_rules, with_mode_rules, with_range_rules, with_script_rules, with_slice_rules, workers_rule, writers_app};
 
 use clap::{Arg, ArgAction, Command, value_parser};
 use std::alloc::{AllocError, Global};
@@ -178,16 +178,11 @@ fn capacity_option<'a>(alloc: Global) -> Arg<'a>
 }
 
 // The place of one file or more.
-fn files_place<'a>(alloc: Global) -> Arg<'a>
+fn files_place<'a>(alloc: Global, help: &'a str) -> Arg<'a>
     ensures rule { rule_of result ≡ files_rule }
     ensures global { result.global ≡ false }
 {
-    place(
-        alloc,
-        "FILE",
-        "The holders' combined Bao encodings, 1 to 64 files",
-    )
-    .num_args(1..)
+    place(alloc, "FILE", help).num_args(1..)
 }
 
 // The command with the words ROOT, OUT and FILE.., and those of the mode.
@@ -197,7 +192,8 @@ fn with_holders<'a>(alloc: Global, command: Command<'a>) -> Result<Command<'a>, 
 {
     let root = place(alloc, "ROOT", "The hash of the blob, 64 hexadecimal digits");
     let out = place(alloc, "OUT", "The file to write");
-    let command = command.arg(root)?.arg(out)?.arg(files_place(alloc))?;
+    let files = files_place(alloc, "The holders' combined Bao encodings, 1 to 64 files");
+    let command = command.arg(root)?.arg(out)?.arg(files)?;
     with_mode(alloc, command)
 }
 
@@ -209,6 +205,30 @@ fn gather_command<'a>(alloc: Global) -> Result<Command<'a>, AllocError>
         .arg(workers_option(alloc))?
         .arg(capacity_option(alloc))?;
     with_holders(alloc, command)
+}
+
+// The command with the words ROOT, SCRIPT and FILE.., and those of the mode.
+fn with_script<'a>(alloc: Global, command: Command<'a>) -> Result<Command<'a>, AllocError>
+    requires { (out-Command command).has_globals ≡ false }
+    ensures { IfOk result (IsApp (with_script_rules (app_of command.entry))) }
+{
+    let root = place(alloc, "ROOT", "The hash of the blob, 64 hexadecimal digits");
+    let script = place(alloc, "SCRIPT", "The schedule, a step a line");
+    let files = files_place(
+        alloc,
+        "The encodings that pieces are cut from, 1 to 64 files",
+    );
+    let command = command.arg(root)?.arg(script)?.arg(files)?;
+    with_mode(alloc, command)
+}
+
+fn replay_command<'a>(alloc: Global) -> Result<Command<'a>, AllocError>
+    ensures { IfOk result (IsApp replay_app) }
+{
+    let command = Command::new(alloc, "replay")
+        .about("Runs a schedule of steps on a store of a blob's chunks, and prints the replies")
+        .arg(capacity_option(alloc))?;
+    with_script(alloc, command)
 }
 
 // The program with the commands that hash and write.
@@ -237,10 +257,12 @@ fn checkers<'a>(alloc: Global) -> Result<Command<'a>, AllocError>
         .subcommand(decode_slice_command(alloc)?)
 }
 
-/// The program's command line: `hash`, `encode`, `outboard`, `slice`, `decode`, `decode-slice`, `gather`.
+/// The program's command line: `hash`, `encode`, `outboard`, `slice`, `decode`, `decode-slice`, `gather`, `replay`.
 pub(crate) fn program<'a>(alloc: Global) -> Result<Command<'a>, AllocError>
     ensures { IfOk result (IsApp program_app) }
 {
     let program = checkers(alloc)?;
-    program.subcommand(gather_command(alloc)?)
+    program
+        .subcommand(gather_command(alloc)?)?
+        .subcommand(replay_command(alloc)?)
 }

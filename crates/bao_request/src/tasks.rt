@@ -38,6 +38,14 @@ pub enum Task<'a> {
         files: Vec<&'a str>,
         out: &'a str,
     },
+    /// The run of a schedule of steps on a store with this root and room for `capacity` chunks, 1 to 65,536: the
+    /// file `script` has the schedule, and its pieces are cut from the files, one or more.
+    Replay {
+        root: &'a str,
+        capacity: u32,
+        script: &'a str,
+        files: Vec<&'a str>,
+    },
 }
 
 /// Which part of a blob a text that is checked is of.

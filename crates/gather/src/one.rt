@@ -83,7 +83,13 @@ impl Shelf for Alone {
 /// next holder is asked. Texts are checked under the store's root and in its mode.
 ///
 /// What the worker did is a history of its own calls, each with the right reply in its turn: so what is stored comes
-/// from texts accepted under the store's root. No claim is left that the worker took.
+/// from texts accepted under the store's root. For each blob with that root, each chunk stored is the blob's of that
+/// number, or two different inputs with one chaining value are named, one of the blob's and one of that text's. No
+/// claim is left that the worker took.
+///
+/// The report's `committed` is the number of chunks stored, `failed` is at most what the holders' counts rose together,
+/// and `too_large` is set only where an accepted text certifies a length above what the store has room for: each blob
+/// with the root is then longer, or such a pair is named.
 pub fn run_one<H: Holder>(alloc: Global, store: &mut Store, holders: &mut [H]) -> Report
     ensures worked { Gains store.old store.new result.committed }
     ensures certified { AddsCertified store.old store.new }

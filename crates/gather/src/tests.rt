@@ -29,6 +29,36 @@ fn store(rt: &HostRuntime, fixed: &Fixed) -> Result<Store, Fail> {
     Ok(Store::new(rt.alloc(), fixed.root, fixed.mode, fixed.capacity)?)
 }
 
+// The report of a worker that met no want of memory.
+fn ample(report: Report) -> Result<Report, Fail> {
+    if report.memory > 0 {
+        return Err(Fail::from("a growth was refused"));
+    }
+    Ok(report)
+}
+
+// Why there is no blob, with ample memory.
+fn finish_fault(rt: &HostRuntime, store: &Store) -> Result<FinishFault, Fail> {
+    match finish_one(rt.alloc(), store) {
+        Ok(_) => Err(Fail::from("a blob")),
+        Err(FinishFault::Memory) => Err(Fail::from(FinishFault::Memory)),
+        Err(fault) => Ok(fault),
+    }
+}
+
+fn gather_fault(
+    rt: &HostRuntime,
+    root: Hash,
+    capacity: u32,
+    texts: &[Vec<u8>],
+) -> Result<GatherFault, Fail> {
+    match gather_texts(rt.alloc(), root, Mode::hash(), capacity, texts) {
+        Ok(_) => Err(Fail::from("a blob")),
+        Err(fault @ (GatherFault::Memory | GatherFault::Starved)) => Err(Fail::from(fault)),
+        Err(fault) => Ok(fault),
+    }
+}
+
 // Of 3,000 bytes: the first 1,000 bytes of their encoding, the encoding of 2,999 bytes, and the whole one.
 #[test]
 fn two_of_three_holders_are_bad(rt: HostRuntime) -> Result<(), Fail> {
@@ -43,7 +73,7 @@ fn two_of_three_holders_are_bad(rt: HostRuntime) -> Result<(), Fail> {
         Encoded::new(rt.alloc(), cut),
         Encoded::new(rt.alloc(), shorter.as_slice()),
     ];
-    let report = run_one(rt.alloc(), &mut store, &mut bad);
+    let report = ample(run_one(rt.alloc(), &mut store, &mut bad))?;
     let nothing = Report {
         committed: 0,
         asked: 4,
@@ -53,14 +83,13 @@ fn two_of_three_holders_are_bad(rt: HostRuntime) -> Result<(), Fail> {
         too_large: false,
     };
     assert_eq!(rt; report, nothing);
-    let unfinished = finish_one(rt.alloc(), &store);
-    assert!(rt; matches!(&unfinished, Err(FinishFault::Unfinished)));
+    assert_eq!(rt; finish_fault(&rt, &store)?, FinishFault::Unfinished);
     let mut holders = [
         Encoded::new(rt.alloc(), cut),
         Encoded::new(rt.alloc(), shorter.as_slice()),
         Encoded::new(rt.alloc(), whole.as_slice()),
     ];
-    let report = run_one(rt.alloc(), &mut store, &mut holders);
+    let report = ample(run_one(rt.alloc(), &mut store, &mut holders))?;
     let all = Report {
         committed: 3,
         asked: 6,
@@ -85,15 +114,15 @@ fn the_blob_of_three_texts(rt: HostRuntime) -> Result<(), Fail> {
     let mut cut = Vec::new(rt.alloc());
     cut.extend_from_slice(whole.as_slice().get(..1000).ok_or("cut")?)?;
     let mut texts = vec![in rt.alloc(); cut, shorter]?;
-    let unfinished = gather_texts(rt.alloc(), root, mode, 65_536, texts.as_slice());
-    assert!(rt; matches!(&unfinished, Err(GatherFault::Unfinished)));
+    let unfinished = gather_fault(&rt, root, 65_536, texts.as_slice())?;
+    assert_eq!(rt; unfinished, GatherFault::Unfinished);
     texts.push(whole)?;
     let gathered = gather_texts(rt.alloc(), root, mode, 65_536, texts.as_slice())?;
     assert_eq!(rt; gathered.as_slice(), bytes.as_slice());
-    let small = gather_texts(rt.alloc(), root, mode, 2, texts.as_slice());
-    assert!(rt; matches!(&small, Err(GatherFault::TooLarge)));
-    let none = gather_texts(rt.alloc(), root, mode, 0, texts.as_slice());
-    assert!(rt; matches!(&none, Err(GatherFault::Capacity)));
+    let small = gather_fault(&rt, root, 2, texts.as_slice())?;
+    assert_eq!(rt; small, GatherFault::TooLarge);
+    let none = gather_fault(&rt, root, 0, texts.as_slice())?;
+    assert_eq!(rt; none, GatherFault::Capacity);
     Ok(())
 }
 
@@ -114,7 +143,7 @@ fn a_changed_length_is_refused(rt: HostRuntime) -> Result<(), Fail> {
         Encoded::new(rt.alloc(), changed.as_slice()),
         Encoded::new(rt.alloc(), whole.as_slice()),
     ];
-    let report = run_one(rt.alloc(), &mut store, &mut holders);
+    let report = ample(run_one(rt.alloc(), &mut store, &mut holders))?;
     assert_eq!(rt; (report.committed, report.asked, report.refused), (3, 4, 2));
     let gathered = finish_one(rt.alloc(), &store)?;
     assert_eq!(rt; gathered.as_slice(), bytes.as_slice());
@@ -128,7 +157,7 @@ fn many_groups(rt: HostRuntime) -> Result<(), Fail> {
     let fixed = fixed(root, 196);
     let mut store = store(&rt, &fixed)?;
     let mut holders = [Encoded::new(rt.alloc(), whole.as_slice())];
-    let report = run_one(rt.alloc(), &mut store, &mut holders);
+    let report = ample(run_one(rt.alloc(), &mut store, &mut holders))?;
     assert_eq!(rt;
         (report.committed, report.asked, report.refused),
         (196, 5, 0)
@@ -145,11 +174,10 @@ fn a_store_with_less_room(rt: HostRuntime) -> Result<(), Fail> {
     let fixed = fixed(root, 2);
     let mut store = store(&rt, &fixed)?;
     let mut holders = [Encoded::new(rt.alloc(), whole.as_slice())];
-    let report = run_one(rt.alloc(), &mut store, &mut holders);
+    let report = ample(run_one(rt.alloc(), &mut store, &mut holders))?;
     assert!(rt; report.too_large);
     assert_eq!(rt; (report.committed, report.refused), (0, 0));
-    let unfinished = finish_one(rt.alloc(), &store);
-    assert!(rt; matches!(&unfinished, Err(FinishFault::Unfinished)));
+    assert_eq!(rt; finish_fault(&rt, &store)?, FinishFault::Unfinished);
     Ok(())
 }
 
@@ -158,7 +186,7 @@ fn an_empty_blob(rt: HostRuntime) -> Result<(), Fail> {
     let fixed = fixed(hash(&Mode::hash(), b""), 1);
     let mut store = store(&rt, &fixed)?;
     let mut holders = [Encoded::new(rt.alloc(), &[0; 8])];
-    let report = run_one(rt.alloc(), &mut store, &mut holders);
+    let report = ample(run_one(rt.alloc(), &mut store, &mut holders))?;
     assert_eq!(rt; (report.committed, report.asked), (1, 2));
     assert_eq!(rt; finish_one(rt.alloc(), &store)?.len(), 0);
     assert_eq!(rt; holders.iter().map(|holder| holder.faults()).max(), Some(0));
@@ -206,16 +234,15 @@ fn texts_of_a_root_of_no_blob(rt: HostRuntime) -> Result<(), Fail> {
         Encoded::new(rt.alloc(), end_text.as_slice()),
         Encoded::new(rt.alloc(), begin_text.as_slice()),
     ];
-    let report = run_one(rt.alloc(), &mut store, &mut holders);
+    let report = ample(run_one(rt.alloc(), &mut store, &mut holders))?;
     assert_eq!(rt;
         (report.committed, report.asked, report.refused),
         (65, 4, 1)
     );
-    let other = finish_one(rt.alloc(), &store);
-    assert!(rt; matches!(&other, Err(FinishFault::NotTheRoot)));
+    assert_eq!(rt; finish_fault(&rt, &store)?, FinishFault::NotTheRoot);
     let texts = vec![in rt.alloc(); end_text, begin_text]?;
-    let other = gather_texts(rt.alloc(), root, mode, 65, texts.as_slice());
-    assert!(rt; matches!(&other, Err(GatherFault::NotTheRoot)));
+    let other = gather_fault(&rt, root, 65, texts.as_slice())?;
+    assert_eq!(rt; other, GatherFault::NotTheRoot);
     Ok(())
 }
 
@@ -286,6 +313,9 @@ fn a_device_that_fails(rt: HostRuntime) -> Result<(), Fail> {
             memory,
             too_large: false,
         };
+        if report.memory != memory {
+            return Err(Fail::from("a growth was refused"));
+        }
         assert_eq!(rt; report, all);
         let gathered = finish_one(rt.alloc(), &store)?;
         assert_eq!(rt; gathered.as_slice(), bytes.as_slice());
@@ -346,8 +376,7 @@ fn a_root_of_no_blob(rt: HostRuntime) -> Result<(), Fail> {
     assert_eq!(rt; store.commit(1, 0, &end)?, 0b010);
     assert_eq!(rt; store.settle(&end.tail().ok_or("tail")?), Settling::Settled);
     assert_eq!(rt; store.read(0, &mut [0; 1500]), Ok(()));
-    let other = finish_one(rt.alloc(), &store);
-    assert!(rt; matches!(&other, Err(FinishFault::NotTheRoot)));
+    assert_eq!(rt; finish_fault(&rt, &store)?, FinishFault::NotTheRoot);
     Ok(())
 }
 

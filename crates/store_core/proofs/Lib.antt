@@ -19,4 +19,5 @@ pub mod Staging
 pub mod Marks
 pub mod Loading
 pub mod Standing
+pub mod Wordless
 pub mod Replaying

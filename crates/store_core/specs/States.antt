@@ -1,5 +1,5 @@
 -- The state of a store: which chunks it holds, who claims which, and the length of the blob once it is known.
-use Rattle.std.specs.Prelude.{◌≡◌, ℕ, zero, suc, ◌+◌, ◌/◌, ◌%◌, Bool, true, false, List, [], ◌∷◌, Option, None, Some, is_some, option_and_then, slice_get}
+use Rattle.std.specs.Prelude.{◌≡◌, ℕ, zero, suc, ◌+◌, ◌/◌, ◌%◌, Bool, true, false, List, [], ◌∷◌, Option, None, Some, is_some, option_and_then, slice_get, if◌then◌else◌}
 use Rattle.store_core.specs.Names.{Name, has_name}
 
 -- Each is a finite map, from the numbers of chunks: to a chunk's bytes, and to the name that claims it. The
@@ -15,6 +15,11 @@ empty = record { held = λ c. None; claim = λ c. None; recorded = None }
 
 abbrev pub is_held : State → ℕ → Bool
 is_held s c = is_some (s.held c)
+
+-- how many of the first n chunks are held
+abbrev pub held_count : State → ℕ → ℕ
+held_count s zero = 0
+held_count s (suc n) = held_count s n + (if is_held s n then 1 else 0)
 
 abbrev pub is_claimed : State → ℕ → Bool
 is_claimed s c = is_some (s.claim c)

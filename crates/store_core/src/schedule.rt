@@ -1,9 +1,9 @@
-ghost use Rattle.std.specs.Prelude.{◌≡◌, ◌≢◌, ◌⊎◌, option_to_list, ◌↔◌, ℕ, ◌<◌, ◌≤◌, nat_lt, ◌==◌, ◌&&◌, ◌||◌, if◌then◌else◌, ◌++◌, List, Some, option_map, length, slice_index_or, true, false, IfOk, IsErrOf, IsTrue, OnOk};
+ghost use Rattle.std.specs.Prelude.{◌≡◌, ◌≢◌, ◌⊎◌, ◌↔◌, ℕ, ◌<◌, ◌≤◌, nat_lt, ◌==◌, ◌&&◌, ◌||◌, if◌then◌else◌, true, false, List, ◌++◌, length, slice_index_or, Some, option_map, option_to_list, IfOk, IsErrOf, IsTrue, OnOk};
+ghost use Rattle.bao_check.specs.declared.checked.Checked.{Checked};
 ghost use Rattle.store_core.specs.declared.fault.ReplayFault.TheVariants.{Capacity, Illegal};
 ghost use Rattle.store_core.specs.Machine.{current_holds};
 ghost use Rattle.store_core.specs.Masks.{in_mask};
 ghost use Rattle.store_core.specs.Pieces.{piece_of};
-ghost use Rattle.bao_check.specs.declared.checked.Checked.{Checked};
 ghost use Rattle.store_core.specs.Replays.{IsIllegalAt, IsReplayed};
 ghost use Rattle.store_core.specs.Schedules.{AreTexts};
 ghost use Rattle.store_core.specs.Slots.{caller};

@@ -1,6 +1,6 @@
-ghost use Rattle.std.specs.Prelude.{◌≡◌, ℕ, ◌<◌, ◌≤◌, ◌%◌, max, IfOk, OnOk, length, true, nat_lt, ◌&&◌, if◌then◌else◌};
+ghost use Rattle.std.specs.Prelude.{◌≡◌, ℕ, ◌<◌, ◌≤◌, ◌%◌, max, is_some, IfOk, OnOk, length, true, nat_lt, ◌&&◌, if◌then◌else◌};
 ghost use Rattle.store_core.specs.Masks.{IsMaskOf, has_bit, in_mask};
-ghost use Rattle.store_core.specs.Slots.{AreCopies, IsCopy, claimed_slot, is_of, picks, slot_at};
+ghost use Rattle.store_core.specs.Slots.{AreCopies, IsCopy, claimed_slot, held_in, is_of, picks, slot_at};
 
 use crate::masks::{GROUP_LEN, has_bit, with_bit};
 use bao_check::Checked;
@@ -49,6 +49,13 @@ impl Pick<'_> {
             Pick::InPiece(seat, piece) => slot.is_of(*seat) && piece.chunk(chunk).is_some(),
         }
     }
+}
+
+// Whether chunk `c` is held.
+pub(crate) fn is_held(slots: &[Slot], c: usize) -> bool
+    ensures { result ≡ is_some (held_in (slot_at slots.now c)) }
+{
+    matches!(slots.get(c), Some(Slot::Held(_)))
 }
 
 // Whether chunk `c` has a slot and is picked.

@@ -7,7 +7,7 @@ use crate::fault::{BadCapacity, Missing, StoreFault};
 use crate::fixed::Fixed;
 use crate::history::Settling;
 use crate::masks::GROUP_LEN;
-use crate::slot::{Pick, Slot, chosen, copies, grow, is_picked, put_claims, put_ready};
+use crate::slot::{Pick, Slot, chosen, copies, grow, is_held, is_picked, put_claims, put_ready};
 use b3tree::{CHUNK_LEN, Hash, Mode};
 use bao_check::{Checked, Tail};
 use std::alloc::Global;
@@ -35,7 +35,7 @@ impl Store {
     ghost use Rattle.bao_check.specs.Tail.{tail_piece};
     ghost use Rattle.store_core.specs.Names.{Name};
     ghost use Rattle.store_core.specs.Pieces.{piece_of};
-    ghost use Rattle.store_core.specs.States.{claims, empty};
+    ghost use Rattle.store_core.specs.States.{claims, empty, held_count};
     ghost use Rattle.store_core.specs.Stores.{ChunksBind, DidRead, IsEvent, IsNew, IsOf, IsSame, LengthBinds, ReadBinds, Settles, filled_count, fixed_of, missing_in, state_of};
 
     /// A store that holds, claims and records nothing. It takes no memory.
@@ -171,6 +171,19 @@ impl Store {
     {
         self.fixed.mode.is_keyed();
         self.recorded
+    }
+
+    /// How many chunks are held.
+    pub fn held_count(&self) -> u64
+        ensures { result ≡ held_count (state_of self.now) (fixed_of self.now).capacity }
+    {
+        let mut count = 0;
+        for chunk in 0..self.fixed.capacity as usize {
+            if is_held(self.slots.as_slice(), chunk) {
+                count += 1;
+            }
+        }
+        count
     }
 
     /// Stores exactly the chunks of a group that the seat claims and the piece holds, ends these claims, and answers

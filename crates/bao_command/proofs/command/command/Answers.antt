@@ -3,7 +3,7 @@ use Rattle.clap.specs.Words.{Text}
 use Rattle.bao_request.specs.declared.tasks.Request.{Request}
 use Rattle.bao_request.specs.CommandLine.{AsksFor}
 use Rattle.bao_command.specs.declared.fault.Fault.{Fault}
-use Rattle.bao_command.specs.declared.fault.Fault.TheVariants.{Word, Root, Key, KeyAndContext, OutputRange, TooManyFiles, Read, Write, Output, Encoding, Check, Gather, Memory}
+use Rattle.bao_command.specs.declared.fault.Fault.TheVariants.{Word, Root, Key, KeyAndContext, OutputRange, TooManyFiles, Script, Read, Write, Output, Encoding, Check, Gather, Replay, Memory}
 use Rattle.bao_command.specs.Outcome.{Begun}
 use Rattle.bao_command.specs.Tasks.{LeavesOf}
 use Rattle.bao_command.proofs.command.command.Goals as goal
@@ -16,12 +16,14 @@ begun words request old new Key asks leaves = inl leaves
 begun words request old new KeyAndContext asks leaves = inl leaves
 begun words request old new OutputRange asks leaves = inl leaves
 begun words request old new TooManyFiles asks leaves = inl leaves
+begun words request old new (Script number) asks leaves = inl leaves
 begun words request old new (Read path) asks leaves = inl leaves
 begun words request old new (Write path) asks leaves = inl leaves
 begun words request old new Output asks leaves = inr (inr (request, asks, leaves))
 begun words request old new Encoding asks leaves = inl leaves
 begun words request old new (Check fault) asks leaves = inl leaves
 begun words request old new (Gather fault) asks leaves = inl leaves
+begun words request old new (Replay fault) asks leaves = inl leaves
 begun words request old new Memory asks leaves = inl leaves
 
 pub returns-in-Ok-clause-file_fault : goal.returns-in-Ok-clause-file_fault

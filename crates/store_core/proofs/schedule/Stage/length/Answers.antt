@@ -1,5 +1,6 @@
 use Rattle.std.proofs.Common.{refl}
-use Rattle.store_core.proofs.Standing.{length_next, stepped}
+use Rattle.store_core.proofs.Standing.{stepped}
+use Rattle.store_core.proofs.Wordless.{length_next}
 use Rattle.store_core.proofs.schedule.Stage.length.Goals as goal
 
 pub returns : goal.returns

@@ -2,7 +2,8 @@ use Rattle.std.proofs.Common.{refl, ◌∙◌, ap, ℕ, ◌==◌, ◌/◌, ◌*�
 use Rattle.store_core.specs.Machine.{is_whole, position}
 use Rattle.store_core.specs.Stages.{reading_of}
 use Rattle.store_core.specs.Stores.{state_of}
-use Rattle.store_core.proofs.Standing.{load_next, stepped}
+use Rattle.store_core.proofs.Standing.{stepped}
+use Rattle.store_core.proofs.Wordless.{load_next}
 use Rattle.store_core.proofs.schedule.Stage.load.Goals as goal
 
 pub returns-clause-ok : goal.returns-clause-ok

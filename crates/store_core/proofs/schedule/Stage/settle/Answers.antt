@@ -1,7 +1,8 @@
 use Rattle.std.proofs.Common.{◌≡◌, true, false, refl, subst}
 use Rattle.bao_check.specs.declared.checked.Checked.{Checked}
 use Rattle.store_core.specs.Stores.{Settles, state_of}
-use Rattle.store_core.proofs.Standing.{settle_fixed, settle_last, settle_next, stepped}
+use Rattle.store_core.proofs.Standing.{stepped}
+use Rattle.store_core.proofs.Wordless.{settle_fixed, settle_last, settle_next}
 use Rattle.store_core.proofs.schedule.Stage.settle.Goals as goal
 
 pub returns-in-None-tail-clause-illegal : goal.returns-in-None-tail-clause-illegal

@@ -1,7 +1,7 @@
 use Rattle.std.proofs.Common.{Some, sym, subst}
 use Rattle.store_core.specs.declared.micro.MicroStep.{MicroStep}
 use Rattle.store_core.specs.Stages.{IsStepped}
-use Rattle.store_core.proofs.Standing.{legal_at}
+use Rattle.store_core.proofs.Wordless.{legal_at}
 use Rattle.store_core.proofs.schedule.Stage.step.Goals as goal
 
 pub returns-in-Claim-clause-illegal : goal.returns-in-Claim-clause-illegal

@@ -1,0 +1,46 @@
+-- What is printed, and where a run stops, from the answer of the schedule's replay.
+use Rattle.std.proofs.Common.{◌≡◌, ◌∙◌, ℕ, List, ◌++◌, ap, subst}
+use Rattle.bao_check.specs.declared.checked.Checked.{Checked}
+use Rattle.store_core.specs.declared.fixed.Fixed.{Fixed}
+use Rattle.store_core.specs.declared.micro.Reply.{Reply}
+use Rattle.store_core.specs.declared.store.Store.{Store}
+use Rattle.store_core.specs.Machine.{start, store_of}
+use Rattle.store_core.specs.Replays.{IsIllegalAt, IsReplayed}
+use Rattle.store_core.specs.States.{held_count}
+use Rattle.store_core.specs.Stores.{fixed_of, state_of}
+use Rattle.bao_script.proofs.Marked.{run_of_marked, stop_of_marked}
+use Rattle.bao_script.specs.declared.numbered.NumberedLine.{NumberedLine}
+use Rattle.bao_script.specs.Marks.{answers_of, marked_steps, number_at}
+use Rattle.bao_script.specs.Printouts.{IsPrinted, IsStopped}
+use Rattle.bao_script.specs.Replies.{held_line}
+use Rattle.bao_script.specs.ScriptRuns.{StopsAt, answers_text}
+use Rattle.bao_script.specs.Slices.{ArePieces, slices_of}
+
+pub printed : (fixed : Fixed) (files : List (List ℕ)) (script : List NumberedLine) (pieces : List Checked) (replies : List Reply) (store : Store) (held : ℕ) (text : List ℕ)
+    → ArePieces fixed.mode fixed.root.0 (slices_of files script) pieces → IsReplayed fixed pieces (marked_steps 0 script) replies store
+    → held ≡ held_count (state_of store) (fixed_of store).capacity → text ≡ answers_text (answers_of script replies) ++ held_line held
+    → IsPrinted fixed files script text
+printed fixed files script pieces replies store held text named replayed held_is text_is =
+    let count : held ≡ held_count (store_of replayed.last) fixed.capacity =
+    held_is ∙ ap (λ s. held_count s (fixed_of store).capacity) replayed.words ∙ ap (λ f. held_count (store_of replayed.last) f.capacity) replayed.fixed_is
+    in
+    record {
+      pieces = pieces;
+      named = named;
+      answers = answers_of script replies;
+      last = replayed.last;
+      runs = run_of_marked fixed pieces 0 start script replies replayed.history replayed.last replayed.runs;
+      text_is = text_is ∙ ap (λ n. answers_text (answers_of script replies) ++ held_line n) count;
+    }
+
+pub stopped : (fixed : Fixed) (files : List (List ℕ)) (script : List NumberedLine) (pieces : List Checked) (index number : ℕ)
+    → ArePieces fixed.mode fixed.root.0 (slices_of files script) pieces → IsIllegalAt fixed pieces (marked_steps 0 script) index
+    → number_at script index ≡ number → IsStopped fixed files script number
+stopped fixed files script pieces index number named illegal number_is =
+    let P : ℕ → Type 0 = StopsAt fixed pieces 0 start script in
+    record {
+      pieces = pieces;
+      named = named;
+      stops = subst P number_is
+          (stop_of_marked fixed pieces 0 start script index (illegal.replies, illegal.history, illegal.last, illegal.step, illegal.runs, illegal.is, illegal.illegal));
+    }

@@ -1,0 +1,8 @@
+use Rattle.std.proofs.Common.{◌≡◌, length, refl, arith}
+use Rattle.bao_script.proofs.Written.{three_written}
+use Rattle.bao_script.proofs.forms.give.Goals as goal
+
+pub returns : goal.returns
+returns c =
+    let len : length c.args.words.now ≡ 3 = omega arith in
+    (refl, three_written c.args.words.now _ 32 32 64 len c.in_ok-number_32.ensures c.in_ok-number_32-2.ensures c.in_ok-number_64.ensures)

@@ -1,0 +1,22 @@
+-- The words of a script's text, and the numbers that they write.
+use Rattle.std.specs.Prelude.{ℕ, ◌^◌, ◌==◌, nat_lt, Bool, ◌&&◌, List, length, Option, Some, None, if◌then◌else◌}
+use Rattle.std.specs.Char.{is_ascii_digit}
+use Rattle.std.specs.List.{list_all, slice_split}
+use Rattle.std.specs.Str.Parse.{digits_value}
+
+-- the lines of a text, between its line ends; the last may lack its own
+abbrev pub lines_of : List ℕ → List (List ℕ)
+lines_of text = slice_split (λ byte. byte == 10) text
+
+-- the words of a line, between its single spaces
+abbrev pub words_of : List ℕ → List (List ℕ)
+words_of line = slice_split (λ byte. byte == 32) line
+
+-- one or more decimal digits; leading zeros are digits, and a sign isn't one
+abbrev pub is_number : List ℕ → Bool
+is_number word = nat_lt 0 (length word) && list_all is_ascii_digit word
+
+-- the number that a word writes, where it is one that fits the bits
+abbrev pub number_of : ℕ → List ℕ → Option ℕ
+number_of bits word =
+    if is_number word && nat_lt (digits_value 10 word) (2 ^ bits) then Some (digits_value 10 word) else None

@@ -1,0 +1,82 @@
+ghost use Rattle.std.specs.Prelude.{◌≡◌};
+ghost use Rattle.bao_script.specs.declared.fault.ReplayScriptFault.TheVariants as replay;
+ghost use Rattle.bao_script.specs.declared.fault.ScriptFault.TheVariants.{Memory};
+
+use bao_check::CheckFault;
+use std::alloc::{AllocError, AllocFailed};
+use thiserror::Error;
+
+/// Why a script wasn't read.
+#[derive(Clone, Copy, Debug, PartialEq, Eq, Error)]
+pub enum ScriptFault {
+    /// The line with this number, counted from 1, has no form. It is the first such line.
+    #[error("usage: script line {number}")]
+    Line { number: u64 },
+    /// There was no memory for the lines.
+    #[error("memory")]
+    Memory,
+}
+
+impl From<AllocError> for ScriptFault {
+    ghost from_gives = { λ _ fault. fault ≡ Memory };
+
+    fn from(_memory: AllocError) -> ScriptFault {
+        ScriptFault::Memory
+    }
+}
+
+impl<T: Drop> From<AllocFailed<T>> for ScriptFault {
+    ghost from_gives = { λ _ fault. fault ≡ Memory };
+
+    fn from(_memory: AllocFailed<T>) -> ScriptFault {
+        ScriptFault::Memory
+    }
+}
+
+/// Why a script's run has no text.
+#[derive(Clone, Copy, Debug, PartialEq, Eq, Error)]
+pub enum ReplayScriptFault {
+    /// The slice that the line with this number names wasn't accepted, with this fault. It is the first such line. No
+    /// step ran. Number 501 to 503.
+    #[error("line {line}: {fault}")]
+    Refused { line: u64, fault: CheckFault },
+    /// A step of the line with this number isn't legal, and all before it were. Number 702.
+    #[error("702 illegal step at line {line}")]
+    Illegal { line: u64 },
+    /// The capacity isn't 1 to 65,536 chunks. Number 802.
+    #[error("802 capacity")]
+    Capacity,
+    /// There was no memory for a slice. Number 401.
+    #[error("401 memory")]
+    Cutting,
+    /// There was no memory for the schedule. Number 701.
+    #[error("701 memory")]
+    Replaying,
+    /// There was no memory for the pieces, the steps or the text.
+    #[error("memory")]
+    Memory,
+}
+
+impl From<AllocError> for ReplayScriptFault {
+    ghost from_gives = { λ _ fault. fault ≡ replay.Memory };
+
+    fn from(_memory: AllocError) -> ReplayScriptFault {
+        ReplayScriptFault::Memory
+    }
+}
+
+impl<T: Drop> From<AllocFailed<T>> for ReplayScriptFault {
+    ghost from_gives = { λ _ fault. fault ≡ replay.Memory };
+
+    fn from(_memory: AllocFailed<T>) -> ReplayScriptFault {
+        ReplayScriptFault::Memory
+    }
+}
+
+impl From<bao_text::Memory> for ReplayScriptFault {
+    ghost from_gives = { λ _ fault. fault ≡ replay.Cutting };
+
+    fn from(_memory: bao_text::Memory) -> ReplayScriptFault {
+        ReplayScriptFault::Cutting
+    }
+}

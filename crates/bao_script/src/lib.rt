@@ -1,0 +1,24 @@
+//! The text of a schedule: read, and run over pieces of encodings.
+#![tactic(auto)]
+
+mod answers;
+mod fault;
+mod forms;
+mod line;
+mod numbered;
+mod printed;
+mod replay;
+mod script;
+mod slice;
+mod steps;
+#[cfg(test)]
+mod tests;
+#[cfg(test)]
+mod tests_replay;
+mod words;
+
+pub use fault::{ReplayScriptFault, ScriptFault};
+pub use line::Line;
+pub use numbered::NumberedLine;
+pub use replay::replay_script;
+pub use script::{Script, parse};

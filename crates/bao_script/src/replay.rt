@@ -1,0 +1,62 @@
+ghost use Rattle.std.specs.Prelude.{◌≡◌, ◌⊎◌, ℕ, ◌<◌, length, map, IfOk, IsErrOf};
+ghost use Rattle.bao_check.specs.declared.fault.CheckFault.{CheckFault};
+ghost use Rattle.bao_script.specs.declared.fault.ReplayScriptFault.TheVariants.{Capacity, Illegal, Refused};
+ghost use Rattle.bao_script.specs.Printouts.{IsPrinted, IsStopped};
+ghost use Rattle.bao_script.specs.Slices.{IsRefusedSlice, NameFiles, slices_of};
+
+use crate::answers::print_answers;
+use crate::fault::ReplayScriptFault;
+use crate::script::Script;
+use crate::slice::{check_slices, cut_slices};
+use crate::steps::{line_of_step, steps_of_script};
+use b3tree::{Hash, Mode};
+use std::alloc::Global;
+use store_core::{ReplayFault, replay};
+
+/// Runs a script over pieces of the files, from an empty store with room for `capacity` chunks of the blob with the
+/// hash `root` in `mode`, and answers the text to print: a line for each reply, with the number of its line, and a last
+/// line with the number of chunks held.
+///
+/// Each slice that a line names is cut out of its file, a combined encoding, and checked under the root. Only when all
+/// are accepted the first step runs. `Refused` (501 to 503) is of the first line whose slice isn't accepted. After that
+/// `Capacity` (802) comes where the capacity isn't 1 to 65,536 chunks, and `Illegal` (702) with the line of the first
+/// step that isn't legal. Memory that a slice (401), the schedule (701) or the text found none of is a fault of its own.
+pub fn replay_script(
+    alloc: Global,
+    root: Hash,
+    mode: Mode,
+    capacity: u32,
+    script: &Script,
+    files: &[Vec<u8>],
+) -> Result<Vec<u8>, ReplayScriptFault>
+    requires { NameFiles (length files.now) script.now }
+    ensures printed { IfOk result (λ text. IsPrinted (record { root = root; mode = mode; capacity = capacity }) (map (λ file. file.items) files.now) script.now text.items) }
+    ensures illegal { (number : ℕ) → IsErrOf result (Illegal number)
+        → IsStopped (record { root = root; mode = mode; capacity = capacity }) (map (λ file. file.items) files.now) script.now number }
+    ensures refused { (number : ℕ) (fault : CheckFault) → IsErrOf result (Refused number fault)
+        → IsRefusedSlice mode root.0 (slices_of (map (λ file. file.items) files.now) script.now) number fault }
+    ensures capacity { IsErrOf result Capacity → (capacity ≡ 0) ⊎ (65536 < capacity) }
+{
+    let lines = script.lines();
+    let slices = cut_slices(alloc, files, lines)?;
+    let pieces = check_slices(alloc, &root, &mode, slices.as_slice())?;
+    let steps = steps_of_script(alloc, lines)?;
+    match replay(
+        alloc,
+        root,
+        mode,
+        capacity,
+        pieces.as_slice(),
+        steps.as_slice(),
+    ) {
+        Ok((replies, store)) => {
+            let text = print_answers(alloc, lines, replies.as_slice(), store.held_count())?;
+            Ok(text.into_bytes())
+        }
+        Err(ReplayFault::Illegal { step }) => Err(ReplayScriptFault::Illegal {
+            line: line_of_step(lines, step),
+        }),
+        Err(ReplayFault::Capacity) => Err(ReplayScriptFault::Capacity),
+        Err(ReplayFault::Memory) => Err(ReplayScriptFault::Replaying),
+    }
+}
