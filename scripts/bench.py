@@ -16,6 +16,9 @@ PROGRAM = f"{ROOT}/out/bao_gather"
 IN_PROCESS = f"{ROOT}/out/bench"
 MIB = 1 << 20
 
+# The most bytes that a store has room for.
+MOST_GATHERED = 64 * MIB
+
 # Output past 32 bytes is made on one thread.
 ONE_THREAD = ["--length", "33"]
 
@@ -81,6 +84,9 @@ B3SUM_READ_FOUR = "b3sum --no-mmap --num-threads 4"
 OUTBOARD = "bao_gather outboard"
 ENCODE = "bao_gather encode"
 DECODE = "bao_gather decode"
+GATHER = "bao_gather gather, one true file"
+GATHER_TEN = "bao_gather gather, ten damaged files"
+HASH_GATHERED = "bao_gather hash of the gathered blob"
 SLICE = "cut_slice of 1 MiB"
 SLICE_OF_SIXTEENTH = "cut_slice of 1 MiB, a sixteenth of the file"
 LARGER_SLICE = "cut_slice of 8 MiB"
@@ -94,6 +100,12 @@ CHECK = "check_combined"
 CHECK_OUTBOARD = "check_outboard"
 CHECK_SLICE = "check_slice of 1 MiB"
 AUDIT = "audit of the whole encoding"
+GATHER_TEXTS = "gather_texts"
+HASH_OF_GATHERED = "hash of the gathered"
+INTO_EMPTY = "a group into an empty store"
+INTO_FULL = "a group into a full store"
+OUT_OF_ONE = "a group out of a store of one"
+OUT_OF_FULL = "a group out of a full store"
 
 # The table: a name of what was timed, and how it worked. Lines of the program bench have their names from there;
 # a further way that it prints needs a line here, and one below where it has a ratio.
@@ -107,6 +119,9 @@ ROWS = [
     (OUTBOARD, "whole program, one thread, writes a file"),
     (ENCODE, "whole program, one thread, writes a file"),
     (DECODE, "whole program, one thread, checks the file's combined encoding, writes the file"),
+    (HASH_GATHERED, "whole program, as a user runs it, of the first 64 MiB"),
+    (GATHER, "whole program, one worker, of the combined encoding of the first 64 MiB"),
+    (GATHER_TEN, "whole program, one worker, of ten such encodings, each with another tenth damaged"),
     ("hash", "b3tree::hash in one process, one thread"),
     ("hash_join", "b3par::hash_join in one process, several threads"),
     (POOL_ONE, "b3par::hash_pool in one process, one worker"),
@@ -122,6 +137,12 @@ ROWS = [
     (CHECK_OUTBOARD, "bao_check::check_outboard in one process, one thread, of the file's outboard encoding"),
     (CHECK_SLICE, "bao_check::check_slice in one process, one thread, of a slice of it"),
     (AUDIT, "bao_bind::audit in one process, one thread, of the file and its combined encoding, which agree"),
+    (HASH_OF_GATHERED, "b3tree::hash in one process, one thread, of the first 64 MiB"),
+    (GATHER_TEXTS, "gather::gather_texts in one process, one worker, of their combined encoding"),
+    (INTO_EMPTY, "store_core's take and commit of 64 chunks in one process, where the store holds nothing"),
+    (INTO_FULL, "as before, where it holds 64 MiB"),
+    (OUT_OF_ONE, "store_core's read of 64 chunks in one process, where the store holds no others"),
+    (OUT_OF_FULL, "as before, where it holds 64 MiB"),
 ]
 
 # The ratios of two of those times: the first over the second, and what is wanted of it.
@@ -147,7 +168,31 @@ RATIOS = [
     ("one thread", CHECK, "hash", "at most 1.15"),
     ("one thread", CHECK_OUTBOARD, "hash", ""),
     ("one thread", AUDIT, "hash", "at most 1.3: one hash and one comparison"),
+    ("one thread", GATHER_TEXTS, HASH_OF_GATHERED, "at most 3.5: a check, a store, a read and a hash"),
+    ("as a user runs it", GATHER, HASH_GATHERED, ""),
+    ("one thread", GATHER_TEN, GATHER, ""),
+    ("one thread", INTO_FULL, INTO_EMPTY, "about 1: not with what the store holds"),
+    ("one thread", OUT_OF_FULL, OUT_OF_ONE, "about 1: not with what the store holds"),
 ]
+
+
+def holders(room, path):
+    """The first bytes of the file, as many as a store has room for, with their root, a true encoding of them and ten damaged ones."""
+    blob, encoding = f"{room}/blob", f"{room}/blob.bao"
+    with open(path, "rb") as whole, open(blob, "wb") as it:
+        it.write(whole.read(MOST_GATHERED))
+    root = output([PROGRAM, "encode", blob, encoding]).strip()
+    with open(encoding, "rb") as it:
+        text = it.read()
+    damaged = []
+    for tenth in range(10):
+        changed = bytearray(text)
+        for at in range(len(text) * tenth // 10, len(text) * (tenth + 1) // 10, 512):
+            changed[at] ^= 1
+        damaged.append(f"{room}/damaged-{tenth}")
+        with open(damaged[-1], "wb") as it:
+            it.write(changed)
+    return blob, root, encoding, damaged
 
 
 def measure(room, mib, runs):
@@ -170,12 +215,16 @@ def measure(room, mib, runs):
     encoding = f"{room}/encoding"
     root = output([PROGRAM, "encode", path, encoding]).strip()
     commands.append((DECODE, [PROGRAM, "decode", root, encoding, made]))
+    blob, root, encoding, damaged = holders(room, path)
+    commands.append((GATHER, [PROGRAM, "gather", root, made, encoding]))
+    commands.append((GATHER_TEN, [PROGRAM, "gather", root, made, *damaged]))
     times, hashes = Times(), set()
     for _ in range(runs):
         for name, words in commands:
             printed = times.run(name, words, made)
             if made not in words:
                 hashes.add(printed[:64])
+        times.run(HASH_GATHERED, [PROGRAM, "hash", blob])
         times.run_in_process(path)
     if len(hashes) > 1:
         fail(f"the programs print different hashes of one file: {', '.join(sorted(hashes))}")

@@ -58,6 +58,33 @@ fn illegal_steps_name_their_line(rt: HostRuntime) -> Result<(), Fail> {
     Ok(())
 }
 
+// One of each kind, with the number of its line.
+#[test]
+fn each_illegal_step(rt: HostRuntime) -> Result<(), Fail> {
+    let process = process::id(rt.process());
+    let scripts = [
+        ("claim 1 0 1\nclaim 1 1024 1\n", 2),
+        ("claim 1 0 1\n\nwrite 1 0 0\n", 3),
+        ("hash 1 0 0 1\nwrite 1 0 0\n", 2),
+        ("claim 1 0 1\nhash 1 0 0 1\nwrite 1 0 129\n", 3),
+        ("claim 2 0 1\nhash 1 0 0 1\nfill 1 0\n", 3),
+        ("claim 1 0 1\npublish 1 0\n", 2),
+        ("publish 1 1024\n", 1),
+        (
+            "claim 1 0 1\nhash 1 0 0 1\nfill 1 0\nhash 1 0 0 1\npublish 1 0\n",
+            5,
+        ),
+        ("give 1 1024 0\n", 1),
+        ("load 1 0 65537\n", 1),
+        ("settle 1\n", 1),
+    ];
+    for (script, line) in scripts {
+        let err = format!(in rt.alloc(); "bao_gather: 702 illegal step at line {line}\n")?;
+        replayed(&rt, process, "kinds", script, ENCODING, 1, "", err.as_str())?;
+    }
+    Ok(())
+}
+
 #[test]
 fn refused_schedules(rt: HostRuntime) -> Result<(), Fail> {
     let process = process::id(rt.process());

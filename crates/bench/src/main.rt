@@ -13,6 +13,7 @@ mod checks;
 mod files;
 mod measure;
 mod slices;
+mod stores;
 mod way;
 
 /// The exit status where the words are not one file's name.
@@ -46,5 +47,7 @@ fn run<R: Runtime + Files<File = File> + AllocGlobal + Threads + Sync>(rt: &R) -
     checks::print(rt, &checks)?;
     let audit = audits::least_time(rt, bytes.as_slice())?;
     audits::print(rt, audit)?;
+    let of_store = stores::least_times(rt, bytes.as_slice())?;
+    stores::print(rt, &of_store)?;
     Ok(ExitCode::SUCCESS)
 }

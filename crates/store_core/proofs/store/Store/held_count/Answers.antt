@@ -12,7 +12,7 @@ one_more s n k b held counted = ap (held_count s) (add-one n) ∙ ap (λ m. m + 
 pub loop-chunk-preserved : goal.loop-chunk-preserved
 loop-chunk-preserved c =
     elim c.if-is_held.branch [
-      then-is_held w ↦
+      | then-is_held w ↦
           let held = ap (λ slots. is_some (held_in (slot_at slots c.loop-chunk.chunk))) (sym c.as_slice.ensures.value) ∙ sym w.if-is_held.ensures in
           let more = one_more (state_of c.args.self.now) c.loop-chunk.chunk c.loop-chunk.count true held c.loop-chunk.invariant.0 in
           (w.count-is ∙ sym more, omega arith)
