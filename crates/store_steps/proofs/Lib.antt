@@ -1,0 +1,5 @@
+pub mod Bits
+pub mod Standing
+pub mod Lists
+pub mod Keeping
+pub mod Taking

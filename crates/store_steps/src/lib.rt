@@ -1,0 +1,14 @@
+//! The words of a store that many threads share, the rule over them and over what each seat knows, and one call for each
+//! atomic step.
+#![tactic(auto)]
+
+pub use fault::NewFault;
+pub use grip::Grip;
+pub use words::Words;
+
+mod fault;
+mod grip;
+mod places;
+mod plays;
+mod rule;
+mod words;
