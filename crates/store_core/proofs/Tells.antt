@@ -34,7 +34,7 @@ mask_unique group m n test right also = same_from_bits_below 64 m n right.small 
     has_bit-same m n j (subst (λ (k : ℕ). has_bit m k ≡ has_bit n k) bit same))
 
 -- names that the test calls one are one
-same_name-true : (one other : Name) → same_name one other ≡ true → one ≡ other
+pub same_name-true : (one other : Name) → same_name one other ≡ true → one ≡ other
 same_name-true [] [] h = refl
 same_name-true [] (y ∷ ys) h = cc
 same_name-true (x ∷ xs) [] h = cc
@@ -45,14 +45,14 @@ same_name-true (x ∷ xs) (y ∷ ys) h =
     cc
 
 -- a name of both sets is a common one
-common_name : (ours theirs : List Name) (name : Name) → has_name ours name ≡ true → has_name theirs name ≡ true → share_name ours theirs ≡ true
+pub common_name : (ours theirs : List Name) (name : Name) → has_name ours name ≡ true → has_name theirs name ≡ true → share_name ours theirs ≡ true
 common_name ours [] name our their = cc
 common_name ours (other ∷ theirs) name our their = elim (or_cases (same_name name other) (list_any (same_name name) theirs) their) [
   | inl same ↦ or_left _ _ (subst (λ (n : Name). has_name ours n ≡ true) (same_name-true name other same) our)
   | inr rest ↦ or_right _ _ (common_name ours theirs name our rest)
 ]
 
-among_apart : (ours theirs : List Name) (o : Option Name) → share_name ours theirs ≡ false → is_among theirs o ≡ true → is_among ours o ≡ false
+pub among_apart : (ours theirs : List Name) (o : Option Name) → share_name ours theirs ≡ false → is_among theirs o ≡ true → is_among ours o ≡ false
 among_apart ours theirs None apart h = refl
 among_apart ours theirs (Some name) apart h =
     false_from_ne_true _ (λ our. both_ways _ apart (common_name ours theirs name our h))
