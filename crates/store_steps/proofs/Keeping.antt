@@ -1,18 +1,18 @@
 -- A step of a seat with one view keeps the rule.
-use Rattle.std.proofs.Common.{◌≡◌, ◌≢◌, ◌⊎◌, ℕ, ◌+◌, ◌*◌, ◌/◌, ◌<◌, true, false, List, [], ◌∷◌, ◌++◌, map, length, Contains, Some, set, refl, sym, ap, subst, ◌∙◌, arith, inl, inr, append_assoc}
-use Rattle.std.proofs.lemmas.Bool.{both_ways, false≢true, or_cases}
+use Rattle.std.proofs.Common.{◌≡◌, ◌≢◌, ◌⊎◌, ℕ, ◌/◌, ◌<◌, true, false, List, [], ◌∷◌, ◌++◌, length, Contains, set, refl, sym, ap, subst, ◌∙◌, inl, inr, append_assoc}
+use Rattle.std.proofs.lemmas.Bool.{false≢true, or_cases}
 use mathlib.Core.Option.{some}
 use lib.ListN.{get_elem?}
-use Rattle.atomic_table.specs.Table.{Act, State as Table, keeps, stepped}
+use Rattle.atomic_table.specs.Table.{State as Table, keeps, stepped}
 use Rattle.atomic_table.proofs.Lists.{at_set}
 use Rattle.store_core.specs.declared.fixed.Fixed.{Fixed}
 use Rattle.store_core.specs.declared.history.Event.{Event}
 use Rattle.store_core.specs.declared.view.Named.{Named}
 use Rattle.store_core.specs.declared.view.SeatView.{SeatView}
-use Rattle.store_core.specs.Histories.{AreLegalFrom, AreOfOthers, IsLegal, run, state_after}
+use Rattle.store_core.specs.Histories.{AreOfOthers, IsLegal, state_after}
 use Rattle.store_core.specs.Names.{Name, has_name, same_name, share_name}
 use Rattle.store_core.specs.States.{State, claims, empty, is_claimed}
-use Rattle.store_core.specs.Views.{Continues, names_of, stored}
+use Rattle.store_core.specs.Views.{names_of}
 use Rattle.store_core.proofs.Joining.{plain}
 use Rattle.store_core.proofs.Lasting.{claims_from, legal-append, run-append}
 use Rattle.store_core.proofs.Tells.{claims-claimed, claims_apart, same_name-true}

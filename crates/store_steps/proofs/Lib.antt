@@ -2,4 +2,6 @@ pub mod Bits
 pub mod Standing
 pub mod Lists
 pub mod Keeping
+pub mod Opening
+pub mod Stepping
 pub mod Taking

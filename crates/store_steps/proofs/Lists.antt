@@ -1,21 +1,17 @@
 -- Views of seats, names among them, and events of others.
-use Rattle.std.proofs.Common.{eq-eqb, ◌==◌, ◌&&◌, ◌≡◌, ◌≢◌, ◌⊎◌, ℕ, zero, suc, ◌+◌, ◌<◌, Bool, true, false, ◌||◌, List, [], ◌∷◌, ◌++◌, map, length, Contains, refl, sym, ap, subst, ◌∙◌, arith, inl, inr}
-use Rattle.std.specs.List.{list_any}
-use Rattle.std.proofs.lemmas.Bool.{and_from, both_ways, cases_Bool, false_from_ne_true, or_cases, or_left, or_right}
+use Rattle.std.proofs.Common.{eq-eqb, ◌==◌, ◌≡◌, ℕ, zero, suc, true, false, List, [], ◌∷◌, ◌++◌, Contains, refl, sym, ap, ◌∙◌, inl, inr}
+use Rattle.std.proofs.lemmas.Bool.{and_from, false_from_ne_true, or_cases, or_left, or_right}
 use Rattle.std.proofs.lemmas.List.Elements.{filter-append}
-use mathlib.Core.Option.{some, none, some-injective, some-ne-none}
+use mathlib.Core.Option.{some, some-injective, some-ne-none}
 use lib.ListN.{get_elem?}
-use Rattle.atomic_table.proofs.Lists.{at_set, set_here, set_else}
 use Rattle.bao_check.proofs.Lists.{Contains-head, Contains-tail}
 use Rattle.store_core.specs.declared.history.Event.{Event}
 use Rattle.store_core.specs.declared.view.Named.{Named}
 use Rattle.store_core.specs.declared.view.SeatView.{SeatView}
 use Rattle.store_core.specs.Histories.{AreOfOthers, events_of, is_by}
 use Rattle.store_core.specs.Names.{Name, has_name, same_name, share_name}
-use Rattle.store_core.specs.Views.{names_of}
 use Rattle.store_core.proofs.Joining.{plain}
-use Rattle.store_core.proofs.Tells.{common_name, same_name-true}
-use Rattle.store_steps.specs.Rule.{HasView, IsNamed}
+use Rattle.store_core.proofs.Tells.{same_name-true}
 
 -- a name is itself
 pub same_name-refl : (name : Name) → same_name name name ≡ true

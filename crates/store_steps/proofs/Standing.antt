@@ -1,6 +1,6 @@
 -- Words that stand for a state still do where a step writes a word of one kind, and the words of the other kinds are left.
-use Rattle.std.proofs.Common.{◌≡◌, ◌≢◌, ◌⊎◌, ℕ, suc, ◌+◌, ◌*◌, ◌/◌, ◌%◌, ◌<◌, ◌≤◌, Bool, true, false, ◌&&◌, ◌||◌, if◌then◌else◌, List, Option, None, Some, is_some, length, slice_index, set, refl, sym, ap, subst, ◌∙◌, arith, inl, inr}
-use Rattle.std.proofs.lemmas.Bool.{cases_Bool, cases_eq}
+use Rattle.std.proofs.Common.{◌≡◌, ◌≢◌, ℕ, ◌+◌, ◌*◌, ◌/◌, ◌%◌, ◌<◌, Bool, true, false, ◌||◌, List, Option, Some, is_some, length, slice_index, set, sym, ap, subst, ◌∙◌, arith, inl, inr}
+use Rattle.std.proofs.lemmas.Bool.{cases_eq}
 use Rattle.std.proofs.lemmas.List.{get_or-set_other, get_or-set_same, length-set}
 use Rattle.store_core.specs.declared.fixed.Fixed.{Fixed}
 use Rattle.store_core.specs.Cells.{cell_word}
@@ -9,7 +9,7 @@ use Rattle.store_core.specs.Machine.{groups}
 use Rattle.store_core.specs.Masks.{has_bit}
 use Rattle.store_core.specs.Names.{Name}
 use Rattle.store_core.specs.States.{State, is_claimed, is_held}
-use Rattle.store_steps.specs.Layout.{cell_at, cell_place, claim_place, claim_word, held_word, length_code, length_place, length_word, word_count}
+use Rattle.store_steps.specs.Layout.{cell_at, cell_place, claim_place, length_code, length_place}
 use Rattle.store_steps.specs.Rule.{StandFor}
 
 -- a word that isn't written, and one that is

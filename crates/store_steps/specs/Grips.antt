@@ -1,5 +1,5 @@
 -- Seats of a store's words, and what they have seen.
-use Rattle.std.specs.Prelude.{◌≡◌, List, [], ◌∷◌}
+use Rattle.std.specs.Prelude.{List, [], ◌∷◌}
 use Rattle.atomic_table.specs.Seated.{TableId}
 use Rattle.b3tree.specs.Modes.{plain}
 use Rattle.store_core.specs.declared.fixed.Fixed.{Fixed}

@@ -1,4 +1,4 @@
-ghost use Rattle.std.specs.Prelude.{◌≡◌, ◌<◌, ◌≤◌, ◌^◌, ◌%◌, ◌/◌, ℕ, nat_lt};
+ghost use Rattle.std.specs.Prelude.{◌-◌, ◌≡◌, ◌<◌, ◌≤◌, ◌^◌, ◌%◌, ◌/◌, ℕ, nat_lt};
 ghost use Rattle.store_core.specs.Machine.{groups};
 ghost use Rattle.store_core.specs.Masks.{has_bit};
 ghost use Rattle.store_steps.specs.Layout.{claim_place, word_count};
@@ -10,7 +10,8 @@ const GROUP_LEN: u32 = 64;
 
 // How many groups a store has.
 pub(crate) fn groups(fixed: &Fixed) -> usize
-    ensures { result ≡ groups fixed.now }
+    ensures count { result ≡ groups fixed.now }
+    ensures few { result ≤ 2 ^ 26 }
 {
     fixed.capacity.div_ceil(GROUP_LEN) as usize
 }
