@@ -5,3 +5,4 @@ pub mod Keeping
 pub mod Opening
 pub mod Stepping
 pub mod Taking
+pub mod Giving

@@ -2,6 +2,8 @@ pub mod Layout
 pub mod Rule
 pub mod Grips
 pub mod Tells
+pub mod Reads
 pub mod Plays
+pub mod Asks
 pub mod Words
 pub mod Faults

@@ -1,21 +1,65 @@
 -- What each kind of step tells, as the table asks it: of the step, the seat before, the number found and the seat after.
-use Rattle.std.specs.Prelude.{◌≡◌, ℕ, List, [], ◌∷◌, bit_and}
+use Rattle.std.specs.Prelude.{◌≡◌, ℕ, ◌-◌, ◌/◌, ◌%◌, ◌==◌, if◌then◌else◌, List, [], ◌∷◌, Option, None, Some, bit_and}
 use Rattle.std.specs.Int.{w64, bit_not}
 use Rattle.atomic_table.specs.Table.{Me}
-use Rattle.store_core.specs.declared.history.Call.TheVariants.{Take}
+use Rattle.store_core.specs.declared.history.Call.TheVariants.{Commit, Give, Length, Settle, Take}
 use Rattle.store_core.specs.declared.history.Piece.{Piece}
 use Rattle.store_core.specs.declared.view.SeatView.{SeatView}
-use Rattle.store_steps.specs.Tells.{Did}
+use Rattle.store_core.specs.Cells.{cell_word}
+use Rattle.store_core.specs.Events.{settling}
+use Rattle.store_core.specs.Histories.{state_after}
+use Rattle.store_core.specs.Masks.{has_bit}
+use Rattle.store_core.specs.Pieces.{length_of}
+use Rattle.store_core.specs.States.{is_held}
+use Rattle.store_steps.specs.Reads.{read_events}
+use Rattle.store_steps.specs.Tells.{Did, Looked}
 
 -- a seat with one view has one afterwards, of which this is told
 abbrev pub OfOne : (SeatView → SeatView → Type 0) → Me Unit (List SeatView) → Me Unit (List SeatView) → Type 0
 OfOne Told me later = (view : SeatView) → me.0 ≡ view ∷ []
     → (new : SeatView) × (later.0 ≡ new ∷ []) × (later.1 ≡ me.1) × Told view new
 
+-- a piece that nobody has
+abbrev pub no_piece : Piece
+no_piece = record { start = 0; len = 0; text = [] }
+
 -- `asked` are the wanted chunks below the capacity, of which those are granted whose bit wasn't set
 abbrev pub Takes : ℕ → ℕ → ℕ → ℕ → SeatView → SeatView → Type 0
 Takes group want asked found old new = Did (Take group want (bit_and asked (bit_not w64 found))) old new
 
--- a piece that nobody has
-abbrev pub no_piece : Piece
-no_piece = record { start = 0; len = 0; text = [] }
+abbrev pub Gives : ℕ → ℕ → ℕ → SeatView → SeatView → Type 0
+Gives group mask given old new = Did (Give group mask given) old new
+
+-- the word counts as stored, and nothing else changes
+abbrev pub Stores : ℕ → ℕ → SeatView → SeatView → Type 0
+Stores number value old new = new ≡ record old { written = record { number = number; value = value } ∷ old.written }
+
+abbrev pub Publishes : ℕ → Piece → ℕ → SeatView → SeatView → Type 0
+Publishes group piece mask old new = Did (Commit group piece mask) old new
+
+-- the word found shows which chunks of the group are held
+abbrev pub FindsHeld : ℕ → ℕ → SeatView → Type 0
+FindsHeld group found view = (c : ℕ) → c / 64 ≡ group → has_bit found (c % 64) ≡ is_held (state_after view.seen) c
+
+pub record Loads (group at len found : ℕ) (old new : SeatView) : Type 0 where
+  pub looked : Looked (read_events old group at len) old new
+  pub finds : FindsHeld group found new
+
+-- the word found is that of the chunk's cell, where the chunk is held
+abbrev pub FindsWord : ℕ → ℕ → SeatView → Type 0
+FindsWord number found view =
+    (bytes : List ℕ) → (state_after view.seen).held (number / 129) ≡ Some bytes → found ≡ cell_word bytes (number % 129)
+
+pub record Copies (number found : ℕ) (old new : SeatView) : Type 0 where
+  pub same : new ≡ old
+  pub finds : FindsWord number found old
+
+-- the length that a word stands for
+abbrev pub length_in : ℕ → Option ℕ
+length_in word = if word == 0 then None else Some (word - 1)
+
+abbrev pub Settles : Piece → ℕ → SeatView → SeatView → Type 0
+Settles piece found old new = Did (Settle piece (settling (length_in found) (length_of piece))) old new
+
+abbrev pub Answers : ℕ → SeatView → SeatView → Type 0
+Answers found old new = Did (Length (length_in found)) old new
