@@ -6,3 +6,7 @@ pub mod Opening
 pub mod Stepping
 pub mod Taking
 pub mod Giving
+pub mod Storing
+pub mod Publishing
+pub mod Looking
+pub mod Settling

@@ -2,14 +2,15 @@
 use Rattle.std.proofs.Common.{◌≡◌, ℕ, ◌/◌, ◌^◌, ◌<◌, true, false, List, [], ◌∷◌, ◌++◌, Some, slice_index, set, refl, sym, ap, subst, ◌∙◌}
 use mathlib.Core.Option.{some}
 use lib.ListN.{get_elem?}
-use Rattle.std.proofs.lemmas.List.{append-nil}
+use Rattle.std.proofs.lemmas.List.{append-nil, set-get_or}
 use Rattle.atomic_table.specs.Table.{Allows, Me, State as Table, keeps, stepped}
 use Rattle.store_core.specs.declared.fixed.Fixed.{Fixed}
 use Rattle.store_core.specs.declared.history.Call.{Call}
 use Rattle.store_core.specs.declared.history.Event.{Event}
 use Rattle.store_core.specs.declared.view.SeatView.{SeatView}
+use Rattle.store_core.specs.declared.view.StoredWord.{StoredWord}
 use Rattle.store_core.specs.Events.{IsRight, after_call}
-use Rattle.store_core.specs.Histories.{AreLegalFrom, IsLegal, state_after}
+use Rattle.store_core.specs.Histories.{run, AreLegalFrom, IsLegal, state_after}
 use Rattle.store_core.specs.States.{State, claims, empty, is_claimed}
 use Rattle.store_core.specs.Views.{names_of, stored, written_after}
 use Rattle.store_core.proofs.Lasting.{legal-join, run-append}
@@ -17,8 +18,9 @@ use Rattle.store_steps.specs.Grips.{first_of}
 use Rattle.store_steps.specs.Layout.{cell_at}
 use Rattle.store_steps.specs.Plays.{OfOne}
 use Rattle.store_steps.specs.Rule.{Fits, IsKept, StandFor}
-use Rattle.store_steps.specs.Tells.{Did, GoesOn, event_of}
+use Rattle.store_steps.specs.Tells.{Did, GoesOn, Looked, event_of}
 use Rattle.store_steps.proofs.Keeping.{its, kept_step}
+use Rattle.store_steps.proofs.Lists.{AreBy}
 
 pub record Steps (fixed : Fixed) (s : Table Unit (List SeatView)) (id i n : ℕ) (Told : SeatView → Type 0) : Type 0 where
   pub new : SeatView
@@ -99,4 +101,55 @@ module _ (fixed : Fixed) (s : Table Unit (List SeatView)) (k : IsKept fixed s) (
           goes_on = record { fixed_is = on.fixed_is; names_are = on.names_are; seen_is = on.seen_is; others = on.others; legal = on.legal };
           written_are = refl;
         };
+      }
+
+  -- A step with no event: the seat sees nothing new, and what it stored changes at most.
+  pub silent_step : (written : List StoredWord) (i n : ℕ) → StandFor fixed (set s.words i n) now
+      → ((number value : ℕ) → stored written number ≡ Some value → (claims (names_of view) now (number / 129) ≡ true) × (cell_at fixed (set s.words i n) number ≡ value))
+      → ((number : ℕ) → is_claimed now (number / 129) ≡ true → claims (names_of view) now (number / 129) ≡ false
+      → cell_at fixed (set s.words i n) number ≡ cell_at fixed s.words number)
+      → IsKept fixed (stepped s i n id [] (record view { written = written } ∷ []) keeps)
+  silent_step written i n words stand cells =
+      let whole : k.history ++ [] ≡ k.history = append-nil k.history in
+      kept_step fixed s k id view (record view { written = written }) seat refl [] i n tt (subst (λ (h : List Event). IsLegal fixed h) (sym whole) k.legal)
+      (subst (λ (h : List Event). StandFor fixed (set s.words i n) (state_after h)) (sym whole) words)
+      (subst (λ (h : List Event). Fits fixed h (set s.words i n) (record view { written = written })) (sym whole) (record {
+        fixed_is = fitting.fixed_is;
+        continues = record { between = fitting.continues.between; is = fitting.continues.is; others = fitting.continues.others };
+        written = stand;
+      }))
+      cells
+
+  -- A load: its word is left. The seat sees all that happened, and has the events that the state gives: they leave it.
+  pub look_step : (events : State → List Event) (i : ℕ) → AreLegalFrom fixed now (events now) → run now (events now) ≡ now → AreBy (names_of view) (events now)
+      → Steps fixed s id i (slice_index s.words i) (λ new. Looked events view new × (state_after new.seen ≡ now))
+  look_step events i legal quiet by =
+      let own : List Event = events now in
+      let then : state_after (k.history ++ own) ≡ now = run-append empty k.history own ∙ quiet in
+      let same : set s.words i (slice_index s.words i) ≡ s.words = set-get_or s.words i 0 in
+      let on : GoesOn view (after_own own) fitting.continues.between own = goes_on own legal in
+      let state : now ≡ state_after (view.seen ++ fitting.continues.between) = ap (λ (h : List Event). state_after h) fitting.continues.is in
+      record {
+        new = after_own own;
+        kept = kept_step fixed s k id view (after_own own) seat refl own i (slice_index s.words i) by (legal-join fixed empty k.history own k.legal legal)
+            (subst (λ (t : State). StandFor fixed (set s.words i (slice_index s.words i)) t) (sym then)
+            (subst (λ (words : List ℕ). StandFor fixed words now) (sym same) k.words))
+            (record {
+              fixed_is = fitting.fixed_is;
+              continues = record { between = []; is = sym (append-nil (k.history ++ own)); others = refl };
+              written = λ number value is.
+                  let w = fitting.written number value is in (
+                    ap (λ (t : State). claims (names_of view) t (number / 129)) then ∙ w.0,
+                    ap (λ (words : List ℕ). cell_at fixed words number) same ∙ w.1,
+                  );
+            })
+            (λ number c others. ap (λ (words : List ℕ). cell_at fixed words number) same);
+        told = (
+          record {
+            between = fitting.continues.between;
+            goes_on = subst (λ (t : State). GoesOn view (after_own own) fitting.continues.between (events t)) state on;
+            written_are = refl;
+          },
+          then,
+        );
       }

@@ -27,6 +27,7 @@ impl Asked for Brand {
     ghost piece = { no_piece };
 }
 
+// `group`, and `first` for the wanted mask.
 pub(crate) struct Taking<A> {
     asked: PhantomData<A>,
 }
@@ -35,4 +36,78 @@ impl<A: Asked> Play<(), LinkedList<SeatView>> for Taking<A> {
     ghost use Rattle.store_steps.specs.Plays.{OfOne, Takes};
 
     ghost then = { λ step me found later. OfOne (Takes A.group A.first step.first found) me later };
+}
+
+// `group`, `first` for the mask and `second` for that of the chunks given.
+pub(crate) struct Giving<A> {
+    asked: PhantomData<A>,
+}
+
+impl<A: Asked> Play<(), LinkedList<SeatView>> for Giving<A> {
+    ghost use Rattle.store_steps.specs.Plays.{OfOne, Gives};
+
+    ghost then = { λ step me found later. OfOne (Gives A.group A.first A.second) me later };
+}
+
+// `first` for the word's number.
+pub(crate) struct Storing<A> {
+    asked: PhantomData<A>,
+}
+
+impl<A: Asked> Play<(), LinkedList<SeatView>> for Storing<A> {
+    ghost use Rattle.store_steps.specs.Plays.{OfOne, Stores};
+
+    ghost then = { λ step me found later. OfOne (Stores A.first found) me later };
+}
+
+// `group`, and `piece`.
+pub(crate) struct Publishing<A> {
+    asked: PhantomData<A>,
+}
+
+impl<A: Asked> Play<(), LinkedList<SeatView>> for Publishing<A> {
+    ghost use Rattle.store_steps.specs.Plays.{OfOne, Publishes};
+
+    ghost then = { λ step me found later. OfOne (Publishes A.group A.piece step.first) me later };
+}
+
+// `group`, `first` for the position and `second` for the length of a read.
+pub(crate) struct Loading<A> {
+    asked: PhantomData<A>,
+}
+
+impl<A: Asked> Play<(), LinkedList<SeatView>> for Loading<A> {
+    ghost use Rattle.store_steps.specs.Plays.{OfOne, Loads};
+
+    ghost then = { λ step me found later. OfOne (Loads A.group A.first A.second found) me later };
+}
+
+// `first` for the word's number.
+pub(crate) struct Copying<A> {
+    asked: PhantomData<A>,
+}
+
+impl<A: Asked> Play<(), LinkedList<SeatView>> for Copying<A> {
+    ghost use Rattle.store_steps.specs.Plays.{OfOne, Copies};
+
+    ghost then = { λ step me found later. OfOne (Copies A.first found) me later };
+}
+
+// `piece`.
+pub(crate) struct Settling<A> {
+    asked: PhantomData<A>,
+}
+
+impl<A: Asked> Play<(), LinkedList<SeatView>> for Settling<A> {
+    ghost use Rattle.store_steps.specs.Plays.{OfOne, Settles};
+
+    ghost then = { λ step me found later. OfOne (Settles A.piece found) me later };
+}
+
+pub(crate) struct Answering;
+
+impl Play<(), LinkedList<SeatView>> for Answering {
+    ghost use Rattle.store_steps.specs.Plays.{Answers, OfOne};
+
+    ghost then = { λ step me found later. OfOne (Answers found) me later };
 }

@@ -1,0 +1,103 @@
+-- Loads: of a held word, of a cell word, and of the length word.
+use Rattle.std.proofs.Common.{ne_eqb, ◌≡◌, ℕ, ◌+◌, ◌*◌, ◌-◌, ◌/◌, ◌%◌, ◌<◌, ◌==◌, Bool, true, false, if◌then◌else◌, List, [], ◌∷◌, ◌++◌, Option, None, Some, is_some, slice_index, set, refl, sym, ap, subst, ◌∙◌, arith, inl, inr}
+use Rattle.std.proofs.lemmas.Bool.{cases_Bool}
+use Rattle.std.proofs.lemmas.List.{set-get_or}
+use mathlib.Core.Option.{some}
+use lib.ListN.{get_elem?}
+use Rattle.atomic_table.specs.Table.{State as Table}
+use Rattle.store_core.specs.declared.fixed.Fixed.{Fixed}
+use Rattle.store_core.specs.declared.history.Call.TheVariants.{Length, Read}
+use Rattle.store_core.specs.declared.history.Event.{Event}
+use Rattle.store_core.specs.declared.view.SeatView.{SeatView}
+use Rattle.store_core.specs.Cells.{cell_word}
+use Rattle.store_core.specs.Histories.{AreLegalFrom, IsLegal, run, state_after}
+use Rattle.store_core.specs.Machine.{groups}
+use Rattle.store_core.specs.Masks.{has_bit}
+use Rattle.store_core.specs.States.{State, is_held, read_bytes}
+use Rattle.store_core.specs.Views.{names_of, stored}
+use Rattle.store_core.proofs.Lasting.{held_lasts}
+use Rattle.store_steps.specs.Layout.{cell_at, cell_place, held_word, length_code, length_place}
+use Rattle.store_steps.specs.Plays.{Answers, Copies, FindsHeld, Loads, length_in}
+use Rattle.store_steps.specs.Reads.{is_last, read_events}
+use Rattle.store_steps.specs.Rule.{IsKept, StandFor}
+use Rattle.store_steps.specs.Tells.{Did, event_of}
+use Rattle.store_steps.proofs.Lists.{AreBy}
+use Rattle.store_steps.proofs.Stepping.{Steps, fitting, look_step, now, silent_step}
+
+-- a load's events are right, leave the state, and are the seat's
+reads_right : (fixed : Fixed) (view : SeatView) (group at len : ℕ) (s : State) → AreLegalFrom fixed s (read_events view group at len s)
+reads_right fixed view group at len s = elim (cases_Bool (is_last view.fixed group at len s)) [ inl last ↦ rw last (refl, tt) | inr more ↦ rw more tt ]
+
+reads_quiet : (view : SeatView) (group at len : ℕ) (s : State) → run s (read_events view group at len s) ≡ s
+reads_quiet view group at len s = elim (cases_Bool (is_last view.fixed group at len s)) [ inl last ↦ rw last refl | inr more ↦ rw more refl ]
+
+reads_by : (view : SeatView) (group at len : ℕ) (s : State) → AreBy (names_of view) (read_events view group at len s)
+reads_by view group at len s = elim (cases_Bool (is_last view.fixed group at len s)) [ inl last ↦ rw last (refl, tt) | inr more ↦ rw more tt ]
+
+-- the length that a length's word stands for
+pub length_back : (o : Option ℕ) → length_in (length_code o) ≡ o
+length_back None = refl
+length_back (Some l) =
+    let some : (l + 1 == 0) ≡ false = ne_eqb (l + 1) 0 (λ e. omega (arith, e)) in
+    let back : l + 1 - 1 ≡ l = omega arith in
+    rw some (ap (λ (n : ℕ). Some n) back)
+
+module _ (fixed : Fixed) (s : Table Unit (List SeatView)) (k : IsKept fixed s) (id : ℕ) (view : SeatView) (seat : get_elem? s.views id ≡ some (view ∷ [])) where
+  abbrev state : State
+  state = state_after k.history
+
+  pub load_steps : (group at len : ℕ) → group < groups fixed
+      → Steps fixed s id group (slice_index s.words group) (λ new. Loads group at len (slice_index s.words group) view new)
+  load_steps group at len there =
+      let t = look_step fixed s k id view seat (read_events view group at len) group (reads_right fixed view group at len state)
+      (reads_quiet view group at len state) (reads_by view group at len state) in
+      record {
+        new = t.new;
+        kept = t.kept;
+        told = record {
+          looked = t.told.0;
+          finds = λ c here.
+              ap (λ (g : ℕ). has_bit (held_word s.words g) (c % 64)) (sym here) ∙ k.words.held c (omega (arith, here, there))
+              ∙ ap (λ (t : State). is_held t c) (sym t.told.1);
+        };
+      }
+
+  pub length_steps : Steps fixed s id (length_place fixed) (slice_index s.words (length_place fixed)) (λ new. Answers (slice_index s.words (length_place fixed)) view new)
+  length_steps =
+      let answer : length_in (slice_index s.words (length_place fixed)) ≡ state.recorded =
+      ap (λ (n : ℕ). length_in n) k.words.recorded ∙ length_back state.recorded in
+      let events : State → List Event = λ t. event_of view (Length (length_in (slice_index s.words (length_place fixed)))) ∷ [] in
+      let t = look_step fixed s k id view seat events (length_place fixed) (answer, tt) refl (refl, tt) in
+      record {
+        new = t.new;
+        kept = t.kept;
+        told = record { between = t.told.0.between; goes_on = t.told.0.goes_on; written_are = t.told.0.written_are };
+      }
+
+  -- what the seat saw held is held
+  held_now : (c : ℕ) (bytes : List ℕ) → (state_after view.seen).held c ≡ Some bytes → state.held c ≡ Some bytes
+  held_now c bytes h =
+      let on = (fitting fixed s k id view seat).continues in
+      ap (λ (t : List Event). (state_after t).held c) on.is
+      ∙ held_lasts fixed view.seen on.between c bytes (subst (λ (t : List Event). IsLegal fixed t) on.is k.legal) h
+
+  pub copy_steps : (number : ℕ) → Steps fixed s id (cell_place fixed number) (slice_index s.words (cell_place fixed number))
+      (λ new. Copies number (slice_index s.words (cell_place fixed number)) view new)
+  copy_steps number =
+      let same : set s.words (cell_place fixed number) (slice_index s.words (cell_place fixed number)) ≡ s.words =
+      set-get_or s.words (cell_place fixed number) 0 in
+      record {
+        new = view;
+        kept = silent_step fixed s k id view seat view.written (cell_place fixed number) (slice_index s.words (cell_place fixed number))
+            (subst (λ (words : List ℕ). StandFor fixed words state) (sym same) k.words)
+            (λ other value is.
+            let w = (fitting fixed s k id view seat).written other value is in (w.0, ap (λ (words : List ℕ). cell_at fixed words other) same ∙ w.1))
+            (λ other c theirs. ap (λ (words : List ℕ). cell_at fixed words other) same);
+        told = record {
+          same = refl;
+          finds = λ bytes held.
+              let place : 129 * (number / 129) + number % 129 ≡ number = omega arith in
+              ap (λ (n : ℕ). cell_at fixed s.words n) (sym place)
+              ∙ k.words.cells (number / 129) (number % 129) bytes (held_now (number / 129) bytes held) (omega arith);
+        };
+      }

@@ -1,0 +1,7 @@
+use Rattle.store_steps.specs.Plays.{no_piece}
+use Rattle.store_core.specs.Pieces.{piece_of}
+use Rattle.bao_check.specs.Tail.{tail_piece}
+use Rattle.store_steps.proofs.words.Words.copy.Given as goal
+
+abbrev pub ghosts-copy_asked : goal.ghosts-copy_asked
+ghosts-copy_asked a = record { group = 0; first = a.number; second = 0; piece = no_piece }
