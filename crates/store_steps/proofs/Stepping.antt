@@ -12,8 +12,9 @@ use Rattle.store_core.specs.declared.view.StoredWord.{StoredWord}
 use Rattle.store_core.specs.Events.{IsRight, after_call}
 use Rattle.store_core.specs.Histories.{run, AreLegalFrom, IsLegal, state_after}
 use Rattle.store_core.specs.States.{State, claims, empty, is_claimed}
-use Rattle.store_core.specs.Views.{names_of, stored, written_after}
-use Rattle.store_core.proofs.Lasting.{legal-join, run-append}
+use Rattle.store_core.specs.Views.{seat_claims, names_of, stored, written_after}
+use Rattle.store_core.proofs.Tells.{claims-claimed}
+use Rattle.store_core.proofs.Lasting.{legal_is_sound, legal-join, run-append}
 use Rattle.store_steps.specs.Grips.{first_of}
 use Rattle.store_steps.specs.Layout.{cell_at}
 use Rattle.store_steps.specs.Plays.{OfOne}
@@ -153,3 +154,13 @@ module _ (fixed : Fixed) (s : Table Unit (List SeatView)) (k : IsKept fixed s) (
           then,
         );
       }
+
+-- a step that tells more tells this
+pub told_by : (fixed : Fixed) (s : Table Unit (List SeatView)) (id i n : ℕ) (Told Less : SeatView → Type 0) → ((new : SeatView) → Told new → Less new)
+    → Steps fixed s id i n Told → Steps fixed s id i n Less
+told_by fixed s id i n Told Less less t = record { new = t.new; kept = t.kept; told = less t.new t.told }
+
+-- what a view claims lies below the capacity
+pub claimed_low : (view : SeatView) → IsLegal view.fixed view.seen → (c : ℕ) → seat_claims view c ≡ true → c < view.fixed.capacity
+claimed_low view legal c ours =
+    (legal_is_sound view.fixed view.seen legal).claimed_below c (claims-claimed (names_of view) (state_after view.seen) c ours)

@@ -1,6 +1,4 @@
 use Rattle.store_steps.specs.Plays.{no_piece}
-use Rattle.store_core.specs.Pieces.{piece_of}
-use Rattle.bao_check.specs.Tail.{tail_piece}
 use Rattle.store_steps.proofs.words.Words.load.Given as goal
 
 abbrev pub ghosts-load_asked : goal.ghosts-load_asked

@@ -1,6 +1,4 @@
-use Rattle.store_steps.specs.Plays.{no_piece}
 use Rattle.store_core.specs.Pieces.{piece_of}
-use Rattle.bao_check.specs.Tail.{tail_piece}
 use Rattle.store_steps.proofs.words.Words.publish.Given as goal
 
 abbrev pub ghosts-publish_asked : goal.ghosts-publish_asked

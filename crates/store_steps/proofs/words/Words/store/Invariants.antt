@@ -1,6 +1,4 @@
 use Rattle.store_steps.specs.Plays.{no_piece}
-use Rattle.store_core.specs.Pieces.{piece_of}
-use Rattle.bao_check.specs.Tail.{tail_piece}
 use Rattle.store_steps.proofs.words.Words.store.Given as goal
 
 abbrev pub ghosts-store_asked : goal.ghosts-store_asked
