@@ -1,28 +1,27 @@
 -- Loads: of a held word, of a cell word, and of the length word.
-use Rattle.std.proofs.Common.{ne_eqb, ◌≡◌, ℕ, ◌+◌, ◌*◌, ◌-◌, ◌/◌, ◌%◌, ◌<◌, ◌==◌, Bool, true, false, if◌then◌else◌, List, [], ◌∷◌, ◌++◌, Option, None, Some, is_some, slice_index, set, refl, sym, ap, subst, ◌∙◌, arith, inl, inr}
+use Rattle.std.proofs.Common.{ne_eqb, ◌≡◌, ℕ, ◌+◌, ◌*◌, ◌-◌, ◌/◌, ◌%◌, ◌<◌, ◌==◌, false, List, [], ◌∷◌, Option, None, Some, slice_index, set, refl, sym, ap, subst, ◌∙◌, arith, inl, inr}
 use Rattle.std.proofs.lemmas.Bool.{cases_Bool}
 use Rattle.std.proofs.lemmas.List.{set-get_or}
 use mathlib.Core.Option.{some}
 use lib.ListN.{get_elem?}
 use Rattle.atomic_table.specs.Table.{State as Table}
 use Rattle.store_core.specs.declared.fixed.Fixed.{Fixed}
-use Rattle.store_core.specs.declared.history.Call.TheVariants.{Length, Read}
+use Rattle.store_core.specs.declared.history.Call.TheVariants.{Length}
 use Rattle.store_core.specs.declared.history.Event.{Event}
 use Rattle.store_core.specs.declared.view.SeatView.{SeatView}
-use Rattle.store_core.specs.Cells.{cell_word}
 use Rattle.store_core.specs.Histories.{AreLegalFrom, IsLegal, run, state_after}
 use Rattle.store_core.specs.Machine.{groups}
 use Rattle.store_core.specs.Masks.{has_bit}
-use Rattle.store_core.specs.States.{State, is_held, read_bytes}
-use Rattle.store_core.specs.Views.{names_of, stored}
+use Rattle.store_core.specs.States.{State, is_held}
+use Rattle.store_core.specs.Views.{names_of}
 use Rattle.store_core.proofs.Lasting.{held_lasts}
 use Rattle.store_steps.specs.Layout.{cell_at, cell_place, held_word, length_code, length_place}
-use Rattle.store_steps.specs.Plays.{Answers, Copies, FindsHeld, Loads, length_in}
+use Rattle.store_steps.specs.Plays.{Answers, Copies, Loads, length_in}
 use Rattle.store_steps.specs.Reads.{is_last, read_events}
 use Rattle.store_steps.specs.Rule.{IsKept, StandFor}
-use Rattle.store_steps.specs.Tells.{Did, event_of}
+use Rattle.store_steps.specs.Tells.{event_of}
 use Rattle.store_steps.proofs.Lists.{AreBy}
-use Rattle.store_steps.proofs.Stepping.{Steps, fitting, look_step, now, silent_step}
+use Rattle.store_steps.proofs.Stepping.{Steps, fitting, look_step, silent_step}
 
 -- a load's events are right, leave the state, and are the seat's
 reads_right : (fixed : Fixed) (view : SeatView) (group at len : ℕ) (s : State) → AreLegalFrom fixed s (read_events view group at len s)

@@ -1,5 +1,5 @@
 -- Commit: one or on the held word, once all words of the chunks are stored.
-use Rattle.std.proofs.Common.{◌≡◌, ◌≢◌, ℕ, ◌+◌, ◌*◌, ◌/◌, ◌%◌, ◌<◌, ◌==◌, Bool, true, false, not, ◌&&◌, ◌||◌, if◌then◌else◌, List, [], ◌∷◌, Option, None, Some, is_some, slice_index, set, refl, sym, ap, subst, ◌∙◌, arith, inl, inr, ne_eqb, eq-eqb}
+use Rattle.std.proofs.Common.{◌≡◌, ◌≢◌, ℕ, ◌+◌, ◌*◌, ◌/◌, ◌%◌, ◌<◌, Bool, true, false, ◌&&◌, ◌||◌, if◌then◌else◌, List, [], ◌∷◌, Option, None, Some, is_some, slice_index, set, refl, sym, ap, ◌∙◌, arith, inl, inr, ne_eqb, eq-eqb}
 use Rattle.std.specs.Int.Bits.{bit_or}
 use Rattle.std.proofs.lemmas.Bool.{and_left, and_parts, cases_Bool}
 use mathlib.Core.Option.{some}
@@ -10,23 +10,23 @@ use Rattle.store_core.specs.declared.history.Call.TheVariants.{Commit}
 use Rattle.store_core.specs.declared.history.Piece.{Piece}
 use Rattle.store_core.specs.declared.view.SeatView.{SeatView}
 use Rattle.store_core.specs.Cells.{cell_word}
-use Rattle.store_core.specs.Events.{IsRight, after_call}
+use Rattle.store_core.specs.Events.{after_call}
 use Rattle.store_core.specs.Histories.{state_after}
 use Rattle.store_core.specs.Machine.{groups}
 use Rattle.store_core.specs.Masks.{IsMaskOf, has_bit, in_mask}
 use Rattle.store_core.specs.Names.{Name}
 use Rattle.store_core.specs.Pieces.{IsAcceptedPiece, chunk_bytes, holds_chunk}
-use Rattle.store_core.specs.States.{State, claims, is_claimed, is_held}
-use Rattle.store_core.specs.Views.{names_of, stored}
+use Rattle.store_core.specs.States.{State, claims, is_held}
+use Rattle.store_core.specs.Views.{names_of}
 use Rattle.store_core.proofs.Tells.{claims-claimed, masked}
 use Rattle.store_steps.specs.Asks.{AreHeldClaims, AreWritten}
 use Rattle.store_steps.specs.Layout.{cell_at, held_word}
 use Rattle.store_steps.specs.Plays.{Publishes}
 use Rattle.store_steps.specs.Rule.{IsKept, StandFor}
 use Rattle.store_steps.proofs.Bits.{has_bit-or}
-use Rattle.store_steps.proofs.Giving.{cells_beside, claims_now, ended_written, not_held}
+use Rattle.store_steps.proofs.Giving.{cells_beside, claims_now, ended_written}
 use Rattle.store_steps.proofs.Standing.{held_stand}
-use Rattle.store_steps.proofs.Stepping.{Steps, did_step, fitting, now}
+use Rattle.store_steps.proofs.Stepping.{Steps, did_step, fitting}
 
 -- the bit of a chunk, whether it is held afterwards, and whether it is held or claimed
 held_bit : (hit held : Bool) (new old : Option (List ℕ)) → held ≡ is_some old → (hit ≡ true → is_some new ≡ true)

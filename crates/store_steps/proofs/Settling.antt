@@ -1,5 +1,5 @@
 -- Settle: one exchange on the length word.
-use Rattle.std.proofs.Common.{◌≡◌, ℕ, ◌+◌, ◌*◌, ◌/◌, ◌<◌, ◌≤◌, ◌==◌, Bool, true, false, if◌then◌else◌, List, [], ◌∷◌, Option, None, Some, slice_index, set, refl, sym, ap, subst, ◌∙◌, arith, inl, inr, ne_eqb}
+use Rattle.std.proofs.Common.{◌≡◌, ℕ, ◌+◌, ◌*◌, ◌/◌, ◌≤◌, ◌==◌, true, false, List, [], ◌∷◌, Option, None, Some, slice_index, set, refl, sym, ap, ◌∙◌, arith, inl, inr, ne_eqb}
 use Rattle.std.proofs.lemmas.Bool.{cases_Bool}
 use prog.Atomic.{either}
 use mathlib.Core.Option.{some}
@@ -10,20 +10,20 @@ use Rattle.store_core.specs.declared.history.Call.TheVariants.{Settle}
 use Rattle.store_core.specs.declared.history.Piece.{Piece}
 use Rattle.store_core.specs.declared.history.Settling.{Settling}
 use Rattle.store_core.specs.declared.view.SeatView.{SeatView}
-use Rattle.store_core.specs.Events.{IsRight, after_call, recorded_after, settling}
+use Rattle.store_core.specs.Events.{recorded_after, settling}
 use Rattle.store_core.specs.Histories.{state_after}
 use Rattle.store_core.specs.Laws.{IsSound}
 use Rattle.store_core.specs.Pieces.{EndsBlob, IsAcceptedPiece, length_of}
-use Rattle.store_core.specs.States.{State, claims, is_claimed}
-use Rattle.store_core.specs.Views.{names_of, stored}
+use Rattle.store_core.specs.States.{State, is_claimed}
+use Rattle.store_core.specs.Views.{names_of}
 use Rattle.store_core.proofs.Lasting.{legal_is_sound}
 use Rattle.store_core.proofs.Tells.{claims-claimed}
 use Rattle.store_steps.specs.Layout.{cell_at, cell_place, length_code, length_place}
 use Rattle.store_steps.specs.Plays.{Settles, length_in}
-use Rattle.store_steps.specs.Rule.{IsKept, StandFor}
+use Rattle.store_steps.specs.Rule.{IsKept}
 use Rattle.store_steps.proofs.Looking.{length_back}
 use Rattle.store_steps.proofs.Standing.{left, length_stands}
-use Rattle.store_steps.proofs.Stepping.{Steps, did_step, fitting, now}
+use Rattle.store_steps.proofs.Stepping.{Steps, did_step, fitting}
 
 -- the word after the exchange is that of the length recorded then
 word_then : (o : Option ℕ) (l : ℕ) → either (length_code o == 0) (l + 1) (length_code o) ≡ length_code (recorded_after (settling o l) l o)

@@ -1,24 +1,23 @@
 -- A store to a cell word of a chunk that the seat claims.
-use Rattle.std.proofs.Common.{◌≡◌, ℕ, ◌+◌, ◌*◌, ◌/◌, ◌%◌, ◌<◌, ◌==◌, Bool, true, false, if◌then◌else◌, List, [], ◌∷◌, Option, None, Some, is_some, slice_index, set, refl, sym, ap, subst, ◌∙◌, arith, inl, inr, eqb-true, eq-eqb}
+use Rattle.std.proofs.Common.{◌≡◌, ℕ, ◌*◌, ◌/◌, ◌<◌, ◌==◌, true, false, List, [], ◌∷◌, Some, set, refl, sym, ap, subst, ◌∙◌, arith, inl, inr, eqb-true, eq-eqb}
 use Rattle.std.proofs.lemmas.Bool.{both_ways, cases_Bool, false_from_ne_true}
 use mathlib.Core.Option.{some}
 use lib.ListN.{get_elem?}
 use Rattle.atomic_table.specs.Table.{State as Table}
 use Rattle.store_core.specs.declared.fixed.Fixed.{Fixed}
 use Rattle.store_core.specs.declared.view.SeatView.{SeatView}
-use Rattle.store_core.specs.declared.view.StoredWord.{StoredWord}
 use Rattle.store_core.specs.Histories.{state_after}
 use Rattle.store_core.specs.Laws.{IsSound}
-use Rattle.store_core.specs.States.{State, claims, is_claimed, is_held}
+use Rattle.store_core.specs.States.{State, claims}
 use Rattle.store_core.specs.Views.{names_of, seat_claims, stored}
 use Rattle.store_core.proofs.Lasting.{legal_is_sound}
 use Rattle.store_core.proofs.Tells.{claims-claimed}
-use Rattle.store_steps.specs.Layout.{cell_at, cell_place, length_place, word_count}
+use Rattle.store_steps.specs.Layout.{cell_at, cell_place}
 use Rattle.store_steps.specs.Plays.{Stores}
-use Rattle.store_steps.specs.Rule.{IsKept, StandFor}
+use Rattle.store_steps.specs.Rule.{IsKept}
 use Rattle.store_steps.proofs.Giving.{claims_now, not_held}
 use Rattle.store_steps.proofs.Standing.{cells_stand, left, put}
-use Rattle.store_steps.proofs.Stepping.{Steps, fitting, now, silent_step}
+use Rattle.store_steps.proofs.Stepping.{Steps, fitting, silent_step}
 
 module _ (fixed : Fixed) (s : Table Unit (List SeatView)) (k : IsKept fixed s) (id : ℕ) (view : SeatView) (seat : get_elem? s.views id ≡ some (view ∷ []))
     (number value : ℕ) (ours : seat_claims view (number / 129) ≡ true) where

@@ -3,6 +3,7 @@ ghost use Rattle.store_steps.specs.Layout.{word_count};
 
 use crate::fault::NewFault;
 use crate::grip::Grip;
+use crate::lengths::{length_in, settling};
 use crate::places::{
     cell_place, chunks_below, claim_place, held_place, length_place, word_count,
 };
@@ -269,13 +270,7 @@ impl Words {
             .table
             .shared
             .compare_exchange::<SettlingStep<A>>(&mut grip.seat, place, 0, length + 1);
-        if found == 0 {
-            Settling::Settled
-        } else if found == length + 1 {
-            Settling::Known
-        } else {
-            Settling::Differs
-        }
+        settling(length_in(found), length)
     }
 
     /// The recorded length in bytes, if there is one. One load of the length word.
@@ -289,10 +284,6 @@ impl Words {
             .table
             .shared
             .load::<Answering>(&mut grip.seat, place);
-        if found == 0 {
-            None
-        } else {
-            Some(found - 1)
-        }
+        length_in(found)
     }
 }
