@@ -10,3 +10,4 @@ pub mod Storing
 pub mod Publishing
 pub mod Looking
 pub mod Settling
+pub mod Naming

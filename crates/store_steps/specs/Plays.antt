@@ -11,6 +11,8 @@ use Rattle.store_core.specs.Histories.{state_after}
 use Rattle.store_core.specs.Masks.{has_bit}
 use Rattle.store_core.specs.Pieces.{length_of}
 use Rattle.store_core.specs.States.{is_held}
+use Rattle.store_core.specs.Views.{split_first, split_second}
+use Rattle.store_steps.specs.Parts.{AreMet, ArePartsOf, IsMerged}
 use Rattle.store_steps.specs.Reads.{read_events}
 use Rattle.store_steps.specs.Tells.{Did, Looked}
 
@@ -63,3 +65,28 @@ Settles piece found old new = Did (Settle piece (settling (length_in found) (len
 
 abbrev pub Answers : ℕ → SeatView → SeatView → Type 0
 Answers found old new = Did (Length (length_in found)) old new
+
+-- the loads of a split, a join and a meeting
+pub record Parts (old new : SeatView) : Type 0 where
+  pub same : new ≡ old
+  pub parts : ArePartsOf old (split_first old) (split_second old)
+
+-- a seat with two views tells this of what it has afterwards
+abbrev pub OfTwo : (SeatView → SeatView → List SeatView → Type 0) → Me Unit (List SeatView) → Me Unit (List SeatView) → Type 0
+OfTwo Told me later = (first second : SeatView) → me.0 ≡ first ∷ second ∷ [] → Told first second later.0 × (later.1 ≡ me.1)
+
+pub record Merges (first second : SeatView) (later : List SeatView) : Type 0 where
+  pub view : SeatView
+  pub is : later ≡ view ∷ []
+  pub merged : IsMerged first second view
+
+pub record Meets (first second : SeatView) (later : List SeatView) : Type 0 where
+  pub new_first : SeatView
+  pub new_second : SeatView
+  pub is : later ≡ new_first ∷ new_second ∷ []
+  pub met : AreMet first second new_first new_second
+
+-- the second of a seat's views, and those after the first
+abbrev pub rest_of : List SeatView → List SeatView
+rest_of [] = []
+rest_of (view ∷ views) = views

@@ -1,4 +1,3 @@
-use Rattle.store_steps.specs.Plays.{no_piece}
 use Rattle.store_core.specs.Pieces.{piece_of}
 use Rattle.bao_check.specs.Tail.{tail_piece}
 use Rattle.store_steps.proofs.words.Words.settle.Given as goal
