@@ -34,7 +34,7 @@ or_assoc : (a b c : Bool) → (a || (b || c)) ≡ ((a || b) || c)
 or_assoc true b c = refl
 or_assoc false b c = refl
 
-put-has : (named : Named) (others : List Named) (name : Name)
+pub put-has : (named : Named) (others : List Named) (name : Name)
     → has_name (plain (put_name named others)) name ≡ (same_name name named.name || has_name (plain others) name)
 put-has named [] name = refl
 put-has named (other ∷ others) name = elim (cases_Bool (name_le named.name other.name)) [
