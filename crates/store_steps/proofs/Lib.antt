@@ -11,3 +11,4 @@ pub mod Publishing
 pub mod Looking
 pub mod Settling
 pub mod Naming
+pub mod Regrouping
