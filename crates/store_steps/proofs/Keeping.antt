@@ -37,7 +37,7 @@ named_before views later before named k =
     record { seat = k.seat; part = k.part; view = b.old; has = b.has; among = subst (λ (ns : List Named). Contains ns named) (sym b.names) k.among }
 
 -- the only name of a set
-single : (name other : Name) → has_name (name ∷ []) other ≡ true → other ≡ name
+pub single : (name other : Name) → has_name (name ∷ []) other ≡ true → other ≡ name
 single name other h = elim (or_cases (same_name other name) false h) [ inl same ↦ same_name-true other name same | inr never ↦ absurd (false≢true never) ]
 
 -- the names of a step's seat have called, and no name of a split has
@@ -51,7 +51,7 @@ new_names_by views history apart seat part view has own by named is name later =
     (subst (λ (n : Name). IsLater named n) same later))) by
 
 -- names stay apart where each view has the entries that it had, and a seat calls
-apart_still : (views later : List (List SeatView)) (history own : List Event) → AreApart views history
+pub apart_still : (views later : List (List SeatView)) (history own : List Event) → AreApart views history
     → ((seat part : ℕ) (view : SeatView) → HasView later seat part view → Before views seat part view)
     → (seat part : ℕ) (view : SeatView) → HasView views seat part view → AreBy (names_of view) own → AreApart later (history ++ own)
 apart_still views later history own apart before id at view has by = record {

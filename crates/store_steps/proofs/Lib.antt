@@ -12,3 +12,4 @@ pub mod Looking
 pub mod Settling
 pub mod Naming
 pub mod Regrouping
+pub mod Parting
