@@ -13,3 +13,4 @@ pub mod Settling
 pub mod Naming
 pub mod Regrouping
 pub mod Parting
+pub mod Meeting

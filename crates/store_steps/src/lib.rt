@@ -8,6 +8,7 @@ pub use words::Words;
 
 mod fault;
 mod grip;
+mod joins;
 mod lengths;
 mod places;
 mod plays;

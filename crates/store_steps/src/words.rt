@@ -1,8 +1,9 @@
-ghost use Rattle.std.specs.Prelude.{◌≡◌, ◌+◌, ◌*◌, ◌/◌, ◌<◌, ◌≤◌, ℕ, true, IfOk, OnErr, IsErrOf};
+ghost use Rattle.std.specs.Prelude.{◌≡◌, ◌+◌, ◌*◌, ◌/◌, ◌<◌, ◌≤◌, ℕ, true, IfErr, IfOk, IsErrOf, IsOk, OnErr};
 ghost use Rattle.store_steps.specs.Layout.{word_count};
 
 use crate::fault::NewFault;
 use crate::grip::Grip;
+use crate::joins::{Both, Entering, Leaving, Meeting, Merging, Parting, Parts};
 use crate::lengths::{length_in, settling};
 use crate::places::{
     cell_place, chunks_below, claim_place, held_place, length_place, word_count,
@@ -17,6 +18,7 @@ use bao_check::{Checked, Tail};
 use std::alloc::Global;
 use std::collections::LinkedList;
 use std::marker::Brand;
+use std::mem::replace;
 use store_core::{Fixed, SeatView, Settling};
 
 /// The words of a store that many threads share: of each group of 64 chunks a held word and a claim word, of each chunk
@@ -44,6 +46,7 @@ impl Words {
     ghost use Rattle.store_core.specs.Views.{seat_claims};
     ghost use Rattle.store_steps.specs.Asks.{AreClaimed, AreHeldClaims, AreWritten};
     ghost use Rattle.store_steps.specs.Grips.{opening_view};
+    ghost use Rattle.store_steps.specs.Parts.{AreMet, ArePartsOf, IsMerged};
     ghost use Rattle.store_steps.specs.Plays.{FindsHeld, FindsWord, Stores};
     ghost use Rattle.store_steps.specs.Reads.{read_events};
     ghost use Rattle.store_steps.specs.Tells.{Did, Looked};
@@ -285,5 +288,67 @@ impl Words {
             .shared
             .load::<Answering>(&mut grip.seat, place);
         length_in(found)
+    }
+
+    /// Parts a grip in two. The first keeps its calls and its claims. The second has seen the same and has neither: its
+    /// name is one that no grip had before, a dropped one neither.
+    ///
+    /// It needs no memory today, so that it always answers `Ok`. An `Err` would give the grip back as it was.
+    pub fn part(&self, grip: Grip) -> Result<(Grip, Grip), Grip>
+        requires of { IsOf self.now grip }
+        ensures ok { IsOk result }
+        ensures of { IfOk result (λ parts. IsOf self.now parts.0 × IsOf self.now parts.1) }
+        ensures parts { IfOk result (λ parts. ArePartsOf grip.view parts.0.view parts.1.view) }
+        ensures back { IfErr result (λ back. back ≡ grip) }
+    {
+        let Grip { mut seat } = grip;
+        self.table
+            .shared
+            .load::<Parting>(&mut seat, 0);
+        let other = self.table.shared.split_seat::<Parts>(&mut seat);
+        Ok((Grip { seat }, Grip { seat: other }))
+    }
+
+    /// Merges two grips to one, with the calls, the claims and the stored words of both. What it has seen begins with
+    /// what each had seen.
+    pub fn merge(&self, first: Grip, second: Grip) -> Grip
+        requires first { IsOf self.now first }
+        requires second { IsOf self.now second }
+        ensures of { IsOf self.now result }
+        ensures merged { IsMerged first.view second.view result.view }
+    {
+        let Grip { mut seat } = first;
+        let Grip { seat: other } = second;
+        self.table.shared.join_seat::<Both>(&mut seat, other);
+        self.table
+            .shared
+            .load::<Merging>(&mut seat, 0);
+        Grip { seat }
+    }
+
+    /// Lets two grips meet: afterwards both have seen one history, which begins with what each had seen. Their calls,
+    /// claims and stored words stay as they are.
+    pub fn meet(&self, first: &mut Grip, second: &mut Grip)
+        requires first { IsOf self.now first.old }
+        requires second { IsOf self.now second.old }
+        ensures first { IsOf self.now first.new }
+        ensures second { IsOf self.now second.new }
+        ensures met { AreMet first.old.view second.old.view first.new.view second.new.view }
+    {
+        let (_, spare) = self
+            .table
+            .shared
+            .load_new_seat::<Entering>(0);
+        let other = replace(&mut second.seat, spare);
+        self.table
+            .shared
+            .join_seat::<Both>(&mut first.seat, other);
+        self.table
+            .shared
+            .load::<Meeting>(&mut first.seat, 0);
+        second.seat = self
+            .table
+            .shared
+            .split_seat::<Leaving>(&mut first.seat);
     }
 }
