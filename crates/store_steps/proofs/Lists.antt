@@ -11,6 +11,7 @@ use Rattle.store_core.specs.declared.view.SeatView.{SeatView}
 use Rattle.store_core.specs.Histories.{AreOfOthers, events_of, is_by}
 use Rattle.store_core.specs.Names.{Name, has_name, same_name, share_name}
 use Rattle.store_core.proofs.Joining.{plain}
+use Rattle.store_steps.specs.Grips.{first_of}
 use Rattle.store_core.proofs.Tells.{same_name-true}
 
 -- a name is itself
@@ -58,3 +59,10 @@ others_by names who [] apart by = refl
 others_by names who (e ∷ events) apart by =
     let not_ours : is_by names e ≡ false = ap (λ (ns : List Name). share_name names ns) by.0 ∙ apart in
     rw not_ours (others_by names who events apart by.1)
+
+-- the views of a seat that has one, and of one with two
+pub only : (views : List SeatView) (view : SeatView) → views ≡ view ∷ [] → views ≡ first_of views ∷ []
+only views view is = is ∙ ap (λ (v : SeatView). v ∷ []) (sym (ap (λ (vs : List SeatView). first_of vs) is))
+
+pub two_of : (ours theirs : List SeatView) → ours ≡ first_of ours ∷ [] → theirs ≡ first_of theirs ∷ [] → ours ++ theirs ≡ first_of ours ∷ first_of theirs ∷ []
+two_of ours theirs one two = ap (λ (vs : List SeatView). vs ++ theirs) one ∙ ap (λ (vs : List SeatView). first_of ours ∷ vs) two

@@ -21,7 +21,7 @@ use Rattle.store_steps.specs.Reads.{is_last, read_events}
 use Rattle.store_steps.specs.Rule.{IsKept, StandFor}
 use Rattle.store_steps.specs.Tells.{event_of}
 use Rattle.store_steps.proofs.Lists.{AreBy}
-use Rattle.store_steps.proofs.Stepping.{Steps, fitting, look_step, silent_step}
+use Rattle.store_steps.proofs.Stepping.{Steps, fitting, look_step, still_step}
 
 -- a load's events are right, leave the state, and are the seat's
 reads_right : (fixed : Fixed) (view : SeatView) (group at len : ℕ) (s : State) → AreLegalFrom fixed s (read_events view group at len s)
@@ -82,21 +82,14 @@ module _ (fixed : Fixed) (s : Table Unit (List SeatView)) (k : IsKept fixed s) (
 
   pub copy_steps : (number : ℕ) → Steps fixed s id (cell_place fixed number) (slice_index s.words (cell_place fixed number))
       (λ new. Copies number (slice_index s.words (cell_place fixed number)) view new)
-  copy_steps number =
-      let same : set s.words (cell_place fixed number) (slice_index s.words (cell_place fixed number)) ≡ s.words =
-      set-get_or s.words (cell_place fixed number) 0 in
-      record {
-        new = view;
-        kept = silent_step fixed s k id view seat view.written (cell_place fixed number) (slice_index s.words (cell_place fixed number))
-            (subst (λ (words : List ℕ). StandFor fixed words state) (sym same) k.words)
-            (λ other value is.
-            let w = (fitting fixed s k id view seat).written other value is in (w.0, ap (λ (words : List ℕ). cell_at fixed words other) same ∙ w.1))
-            (λ other c theirs. ap (λ (words : List ℕ). cell_at fixed words other) same);
-        told = record {
-          same = refl;
-          finds = λ bytes held.
-              let place : 129 * (number / 129) + number % 129 ≡ number = omega arith in
-              ap (λ (n : ℕ). cell_at fixed s.words n) (sym place)
-              ∙ k.words.cells (number / 129) (number % 129) bytes (held_now (number / 129) bytes held) (omega arith);
-        };
-      }
+  copy_steps number = record {
+    new = view;
+    kept = still_step fixed s k id view seat (cell_place fixed number);
+    told = record {
+      same = refl;
+      finds = λ bytes held.
+          let place : 129 * (number / 129) + number % 129 ≡ number = omega arith in
+          ap (λ (n : ℕ). cell_at fixed s.words n) (sym place)
+          ∙ k.words.cells (number / 129) (number % 129) bytes (held_now (number / 129) bytes held) (omega arith);
+    };
+  }

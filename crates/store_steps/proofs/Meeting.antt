@@ -10,7 +10,7 @@ use Rattle.store_core.specs.declared.history.Event.{Event}
 use Rattle.store_core.specs.declared.view.Named.{Named}
 use Rattle.store_core.specs.declared.view.SeatView.{SeatView}
 use Rattle.store_core.specs.declared.view.StoredWord.{StoredWord}
-use Rattle.store_core.specs.Histories.{state_after}
+use Rattle.store_core.specs.Histories.{IsLegal, state_after}
 use Rattle.store_core.specs.Names.{Name, has_name, share_name}
 use Rattle.store_core.specs.States.{State, claims, is_among}
 use Rattle.store_core.specs.Views.{merge_names, names_of, stored}
@@ -192,6 +192,7 @@ module _ (fixed : Fixed) (s : Table Unit (List SeatView)) (k : IsKept fixed s) (
           after_second = fits_two.continues;
           written_are = refl;
         };
+        legal = subst (λ (f : Fixed). IsLegal f k.history) (sym fits_one.fixed_is) k.legal;
       };
     };
   }
@@ -251,6 +252,6 @@ module _ (fixed : Fixed) (s : Table Unit (List SeatView)) (k : IsKept fixed s) (
       new_first = met_one;
       new_second = met_two;
       is = refl;
-      met = record { history = k.history; first_is = refl; second_is = refl; after_first = fits_one.continues; after_second = fits_two.continues; apart = apart };
+      met = record { history = k.history; first_is = refl; second_is = refl; after_first = fits_one.continues; after_second = fits_two.continues; legal = subst (λ (f : Fixed). IsLegal f k.history) (sym fits_one.fixed_is) k.legal; apart = apart };
     };
   }

@@ -1,5 +1,5 @@
 -- A seat with one view parts: its first name splits, and a new seat gets the name that comes of it.
-use Rattle.std.proofs.Common.{◌≡◌, ◌≢◌, ℕ, ◌+◌, ◌<◌, true, false, if◌then◌else◌, List, [], ◌∷◌, ◌++◌, length, set, Contains, refl, sym, ap, subst, ◌∙◌, arith, inl, inr, length-append, ◌/◌}
+use Rattle.std.proofs.Common.{slice_index, ◌≡◌, ◌≢◌, ℕ, ◌+◌, ◌<◌, true, false, if◌then◌else◌, List, [], ◌∷◌, ◌++◌, length, set, Contains, refl, sym, ap, subst, ◌∙◌, arith, inl, inr, length-append, ◌/◌}
 use Rattle.std.proofs.lemmas.Bool.{false_from_ne_true}
 use Rattle.std.proofs.lemmas.List.Elements.{filter-append}
 use mathlib.Core.Option.{some}
@@ -20,6 +20,10 @@ use Rattle.store_core.proofs.Tells.{same_name-true}
 use Rattle.store_steps.specs.Layout.{cell_at}
 use Rattle.store_steps.specs.Parts.{ArePartsOf}
 use Rattle.store_steps.specs.Rule.{AreDistinct, Fits, HasView, IsKept, IsLater, IsNamed}
+use Rattle.atomic_table.specs.Table.{Splits}
+use Rattle.store_steps.specs.Grips.{first_of}
+use Rattle.store_steps.specs.Plays.{Parts}
+use Rattle.store_steps.proofs.Stepping.{Steps, still_step}
 use Rattle.store_steps.proofs.Keeping.{its, single}
 use Rattle.store_steps.proofs.Lists.{entry_of, one_part, same_name-refl}
 use Rattle.store_steps.proofs.Naming.{child, child_later, first_entry, first_there, later_cases, later_child, later_raised, name_there, new_names-are, raise-length, raised, raised_cases, same_rest}
@@ -230,3 +234,14 @@ module _ (fixed : Fixed) (s : Table Unit (List SeatView)) (k : IsKept fixed s) (
     new_to_calls = λ one is name l.
         let o = older one (entry_of_later one is) in k.names.new_to_calls o.old o.is name (o.later_too name l);
   })
+
+  -- the load before it
+  pub part_steps : Steps fixed s id 0 (slice_index s.words 0) (λ new. Parts view new)
+  part_steps = record { new = view; kept = still_step fixed s k id view at 0; told = record { same = refl; parts = parts_told } }
+
+-- that is what the table asks where a seat's only view parts
+pub part_asks : (fixed key : Fixed) → key ≡ fixed → (id : ℕ) (views : List SeatView) → views ≡ first_of views ∷ []
+    → Splits (IsKept key) id views (split_first (first_of views) ∷ []) (split_second (first_of views) ∷ [])
+part_asks fixed key key_is id views one =
+    subst (λ (f : Fixed). Splits (IsKept f) id views (split_first (first_of views) ∷ []) (split_second (first_of views) ∷ [])) (sym key_is)
+    (λ s k at. parted_kept fixed s k id (first_of views) (at ∙ ap (λ (vs : List SeatView). some vs) one))

@@ -9,6 +9,9 @@ use Rattle.store_core.specs.declared.view.Named.{Named}
 use Rattle.store_core.specs.declared.view.SeatView.{SeatView}
 use Rattle.store_core.specs.Histories.{state_after}
 use Rattle.store_steps.specs.Rule.{AreApart, Fits, HasView, IsKept, IsNamed, StandFor}
+use Rattle.atomic_table.specs.Table.{Enters, Joins, Splits}
+use Rattle.store_steps.specs.Grips.{first_of}
+use Rattle.store_steps.specs.Plays.{rest_of}
 use Rattle.store_steps.proofs.Lists.{one_part}
 
 -- the rule of another table with the same words, whose views fit and whose names are apart
@@ -163,3 +166,23 @@ left_kept fixed s k id one two at =
             is = same_place id id (length first, 0) (id, 1) refl ∙ (λ x. (sym last.0 x, sym only.0 x));
           }
     ])
+
+-- What the table asks of these.
+pub join_asks : (fixed key : Fixed) → key ≡ fixed → (id other : ℕ) (ours theirs : List SeatView) → ours ≡ first_of ours ∷ [] → theirs ≡ first_of theirs ∷ []
+    → Joins (IsKept key) id ours other theirs (ours ++ theirs) []
+join_asks fixed key key_is id other ours theirs one two =
+    subst (λ (f : Fixed). Joins (IsKept f) id ours other theirs (ours ++ theirs) []) (sym key_is)
+    (subst (λ (xs : List SeatView). Joins (IsKept fixed) id xs other theirs (xs ++ theirs) []) (sym one)
+    (subst (λ (ys : List SeatView). Joins (IsKept fixed) id (first_of ours ∷ []) other ys ((first_of ours ∷ []) ++ ys) []) (sym two)
+    (λ s k at differ at_other. joined_kept fixed s k id other (first_of ours) (first_of theirs) at differ at_other)))
+
+pub enter_asks : (fixed key : Fixed) → key ≡ fixed → (slots i : ℕ) → Enters (IsKept key) slots i (λ n views. views ≡ [])
+enter_asks fixed key key_is slots i =
+    subst (λ (f : Fixed). Enters (IsKept f) slots i (λ n views. views ≡ [])) (sym key_is) (λ s k homes small. ([], entered_kept fixed s k, refl))
+
+pub leave_asks : (fixed key : Fixed) → key ≡ fixed → (id : ℕ) (views : List SeatView) (one two : SeatView) → views ≡ one ∷ two ∷ []
+    → Splits (IsKept key) id views (first_of views ∷ []) (rest_of views)
+leave_asks fixed key key_is id views one two both =
+    subst (λ (f : Fixed). Splits (IsKept f) id views (first_of views ∷ []) (rest_of views)) (sym key_is)
+    (subst (λ (vs : List SeatView). Splits (IsKept fixed) id vs (first_of vs ∷ []) (rest_of vs)) (sym both)
+    (λ s k at. left_kept fixed s k id one two at))

@@ -121,6 +121,14 @@ module _ (fixed : Fixed) (s : Table Unit (List SeatView)) (k : IsKept fixed s) (
       }))
       cells
 
+  -- a load that changes nothing
+  pub still_step : (i : ℕ) → IsKept fixed (stepped s i (slice_index s.words i) id [] (view ∷ []) keeps)
+  still_step i =
+      let same : set s.words i (slice_index s.words i) ≡ s.words = set-get_or s.words i 0 in
+      silent_step view.written i (slice_index s.words i) (subst (λ (words : List ℕ). StandFor fixed words now) (sym same) k.words)
+      (λ other value is. let w = fitting.written other value is in (w.0, ap (λ (words : List ℕ). cell_at fixed words other) same ∙ w.1))
+      (λ other c theirs. ap (λ (words : List ℕ). cell_at fixed words other) same)
+
   -- A load: its word is left. The seat sees all that happened, and has the events that the state gives: they leave it.
   pub look_step : (events : State → List Event) (i : ℕ) → AreLegalFrom fixed now (events now) → run now (events now) ≡ now → AreBy (names_of view) (events now)
       → Steps fixed s id i (slice_index s.words i) (λ new. Looked events view new × (state_after new.seen ≡ now))
