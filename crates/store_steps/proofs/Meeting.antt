@@ -1,6 +1,6 @@
 -- A seat with two views loads a word: they merge to one, or both see all that happened.
-use Rattle.std.proofs.Common.{Contains, ◌≡◌, ◌≢◌, ◌⊎◌, ℕ, ◌/◌, ◌<◌, ◌==◌, Bool, true, false, ◌||◌, if◌then◌else◌, List, [], ◌∷◌, ◌++◌, length, set, slice_index, Option, None, Some, refl, sym, ap, subst, ◌∙◌, arith, inl, inr}
-use Rattle.std.proofs.lemmas.Bool.{both_ways, cases_Bool, false_from_ne_true, or_cases, or_left, or_right}
+use Rattle.std.proofs.Common.{Contains, ◌≡◌, ◌≢◌, ◌⊎◌, ℕ, ◌/◌, ◌<◌, ◌==◌, true, false, ◌||◌, if◌then◌else◌, List, [], ◌∷◌, ◌++◌, length, set, slice_index, Option, None, Some, refl, sym, ap, subst, ◌∙◌, arith, inl, inr}
+use Rattle.std.proofs.lemmas.Bool.{cases_Bool, false_from_ne_true, or_cases, or_left, or_right}
 use Rattle.std.proofs.lemmas.List.{append-nil, set-get_or}
 use mathlib.Core.Option.{some}
 use lib.ListN.{get_elem?}
@@ -12,12 +12,10 @@ use Rattle.store_core.specs.declared.view.SeatView.{SeatView}
 use Rattle.store_core.specs.declared.view.StoredWord.{StoredWord}
 use Rattle.store_core.specs.Histories.{IsLegal, state_after}
 use Rattle.store_core.specs.Names.{Name, has_name, share_name}
-use Rattle.store_core.specs.States.{State, claims, is_among}
+use Rattle.store_core.specs.States.{claims, is_among}
 use Rattle.store_core.specs.Views.{merge_names, names_of, stored}
-use Rattle.store_core.proofs.Joining.{merge-has, plain}
+use Rattle.store_core.proofs.Joining.{merge-has}
 use Rattle.store_steps.specs.Grips.{first_of}
-use Rattle.store_steps.specs.Layout.{cell_at}
-use Rattle.store_steps.specs.Parts.{AreMet, IsMerged}
 use Rattle.store_steps.specs.Plays.{Meets, Merges, OfTwo, rest_of}
 use Rattle.store_steps.specs.Rule.{AreApart, AreDistinct, Fits, HasView, IsKept, IsNamed}
 use Rattle.store_steps.proofs.Keeping.{Before, apart_still}
