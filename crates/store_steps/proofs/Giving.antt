@@ -16,8 +16,7 @@ use Rattle.store_core.specs.Machine.{groups}
 use Rattle.store_core.specs.Masks.{has_bit, in_mask}
 use Rattle.store_core.specs.Names.{Name}
 use Rattle.store_core.specs.States.{State, claims, is_among, is_claimed, is_held}
-use Rattle.store_core.specs.Views.{names_of, seat_claims, stored, without_chunks}
-use Rattle.store_core.proofs.Joining.{claims_continued}
+use Rattle.store_core.specs.Views.{names_of, stored, without_chunks}
 use Rattle.store_core.proofs.Lasting.{legal_is_sound}
 use Rattle.store_core.proofs.Tells.{claims-claimed, masked}
 use Rattle.store_steps.specs.Asks.{AreClaimed}
@@ -26,7 +25,7 @@ use Rattle.store_steps.specs.Plays.{Gives}
 use Rattle.store_steps.specs.Rule.{IsKept, StandFor}
 use Rattle.store_steps.proofs.Bits.{has_bit-and, has_bit-not}
 use Rattle.store_steps.proofs.Standing.{claims_stand, left}
-use Rattle.store_steps.proofs.Stepping.{Steps, did_step, fitting}
+use Rattle.store_steps.proofs.Stepping.{Steps, did_step, fitting, claims_now}
 
 -- a word that still counts as stored did so before, and is of none of the mask's chunks
 pub still_stored : (group mask : ℕ) (words : List StoredWord) (number value : ℕ) → stored (without_chunks group mask words) number ≡ Some value
@@ -57,10 +56,6 @@ give_bit false false true old is free = refl
 give_bit false false false old is free = is
 
 module _ (fixed : Fixed) (s : Table Unit (List SeatView)) (k : IsKept fixed s) (id : ℕ) (view : SeatView) (seat : get_elem? s.views id ≡ some (view ∷ [])) where
-  -- what the seat knows of its claims is so
-  pub claims_now : (c : ℕ) → claims (names_of view) (state_after k.history) c ≡ seat_claims view c
-  claims_now c = claims_continued fixed view k.history (fitting fixed s k id view seat).continues k.legal c
-
   -- what it claims isn't held
   pub not_held : (c : ℕ) → claims (names_of view) (state_after k.history) c ≡ true → is_held (state_after k.history) c ≡ false
   not_held c ours = false_from_ne_true _ (λ shown.
@@ -91,7 +86,7 @@ module _ (fixed : Fixed) (s : Table Unit (List SeatView)) (k : IsKept fixed s) (
     state = state_after k.history
 
     right : IsRight fixed state (names_of view) (Give group mask given)
-    right = record { small = ours.small; bits = λ c here. ours.bits c here ∙ ap (λ (b : Bool). has_bit mask (c % 64) && b) (sym (claims_now c)) }
+    right = record { small = ours.small; bits = λ c here. ours.bits c here ∙ ap (λ (b : Bool). has_bit mask (c % 64) && b) (sym (claims_now fixed s k id view seat c)) }
 
     -- a chunk of the mask is claimed, and so not held
     free : (c : ℕ) → in_mask group given c ≡ true → is_held state c ≡ false

@@ -1,6 +1,7 @@
 pub mod Bits
 pub mod Standing
 pub mod Lists
+pub mod Calls
 pub mod Keeping
 pub mod Opening
 pub mod Stepping

@@ -1,7 +1,6 @@
 -- Loads: of a held word, of a cell word, and of the length word.
-use Rattle.std.proofs.Common.{ne_eqb, ◌≡◌, ℕ, ◌+◌, ◌*◌, ◌-◌, ◌/◌, ◌%◌, ◌<◌, ◌==◌, false, List, [], ◌∷◌, Option, None, Some, slice_index, set, refl, sym, ap, subst, ◌∙◌, arith, inl, inr}
+use Rattle.std.proofs.Common.{ne_eqb, ◌≡◌, ℕ, ◌+◌, ◌*◌, ◌-◌, ◌%◌, ◌<◌, ◌==◌, false, List, [], ◌∷◌, Option, None, Some, slice_index, refl, sym, ap, subst, ◌∙◌, arith, inl, inr}
 use Rattle.std.proofs.lemmas.Bool.{cases_Bool}
-use Rattle.std.proofs.lemmas.List.{set-get_or}
 use mathlib.Core.Option.{some}
 use lib.ListN.{get_elem?}
 use Rattle.atomic_table.specs.Table.{State as Table}
@@ -15,10 +14,10 @@ use Rattle.store_core.specs.Masks.{has_bit}
 use Rattle.store_core.specs.States.{State, is_held}
 use Rattle.store_core.specs.Views.{names_of}
 use Rattle.store_core.proofs.Lasting.{held_lasts}
-use Rattle.store_steps.specs.Layout.{cell_at, cell_place, held_word, length_code, length_place}
+use Rattle.store_steps.specs.Layout.{cell_place, held_word, length_code, length_place}
 use Rattle.store_steps.specs.Plays.{Answers, Copies, Loads, length_in}
 use Rattle.store_steps.specs.Reads.{is_last, read_events}
-use Rattle.store_steps.specs.Rule.{IsKept, StandFor}
+use Rattle.store_steps.specs.Rule.{IsKept}
 use Rattle.store_steps.specs.Tells.{event_of}
 use Rattle.store_steps.proofs.Lists.{AreBy}
 use Rattle.store_steps.proofs.Stepping.{Steps, fitting, look_step, still_step}
@@ -70,7 +69,7 @@ module _ (fixed : Fixed) (s : Table Unit (List SeatView)) (k : IsKept fixed s) (
       record {
         new = t.new;
         kept = t.kept;
-        told = record { between = t.told.0.between; goes_on = t.told.0.goes_on; written_are = t.told.0.written_are };
+        told = record { between = t.told.0.between; goes_on = t.told.0.goes_on; claims_are = t.told.0.claims_are; written_are = t.told.0.written_are };
       }
 
   -- what the seat saw held is held
@@ -80,16 +79,10 @@ module _ (fixed : Fixed) (s : Table Unit (List SeatView)) (k : IsKept fixed s) (
       ap (λ (t : List Event). (state_after t).held c) on.is
       ∙ held_lasts fixed view.seen on.between c bytes (subst (λ (t : List Event). IsLegal fixed t) on.is k.legal) h
 
-  pub copy_steps : (number : ℕ) → Steps fixed s id (cell_place fixed number) (slice_index s.words (cell_place fixed number))
-      (λ new. Copies number (slice_index s.words (cell_place fixed number)) view new)
-  copy_steps number = record {
+  pub copy_steps : (chunk w : ℕ) → w < 129 → Steps fixed s id (cell_place fixed (129 * chunk + w)) (slice_index s.words (cell_place fixed (129 * chunk + w)))
+      (λ new. Copies chunk w (slice_index s.words (cell_place fixed (129 * chunk + w))) view new)
+  copy_steps chunk w below = record {
     new = view;
-    kept = still_step fixed s k id view seat (cell_place fixed number);
-    told = record {
-      same = refl;
-      finds = λ bytes held.
-          let place : 129 * (number / 129) + number % 129 ≡ number = omega arith in
-          ap (λ (n : ℕ). cell_at fixed s.words n) (sym place)
-          ∙ k.words.cells (number / 129) (number % 129) bytes (held_now (number / 129) bytes held) (omega arith);
-    };
+    kept = still_step fixed s k id view seat (cell_place fixed (129 * chunk + w));
+    told = record { same = refl; finds = λ bytes held. k.words.cells chunk w bytes (held_now chunk bytes held) below };
   }

@@ -24,9 +24,9 @@ use Rattle.store_steps.specs.Layout.{cell_at, held_word}
 use Rattle.store_steps.specs.Plays.{Publishes}
 use Rattle.store_steps.specs.Rule.{IsKept, StandFor}
 use Rattle.store_steps.proofs.Bits.{has_bit-or}
-use Rattle.store_steps.proofs.Giving.{cells_beside, claims_now, ended_written}
+use Rattle.store_steps.proofs.Giving.{cells_beside, ended_written}
 use Rattle.store_steps.proofs.Standing.{held_stand}
-use Rattle.store_steps.proofs.Stepping.{Steps, did_step, fitting}
+use Rattle.store_steps.proofs.Stepping.{Steps, did_step, fitting, claims_now}
 
 -- the bit of a chunk, whether it is held afterwards, and whether it is held or claimed
 held_bit : (hit held : Bool) (new old : Option (List ℕ)) → held ≡ is_some old → (hit ≡ true → is_some new ≡ true)

@@ -1,8 +1,9 @@
 -- What a step comes to: a new view with which the rule holds, of which the step tells.
-use Rattle.std.proofs.Common.{◌≡◌, ℕ, ◌/◌, ◌^◌, ◌<◌, true, false, List, [], ◌∷◌, ◌++◌, Some, slice_index, set, refl, sym, ap, subst, ◌∙◌}
+use Rattle.std.proofs.Common.{◌≡◌, ℕ, ◌/◌, ◌^◌, ◌<◌, true, false, List, [], ◌∷◌, ◌++◌, length, Some, slice_index, set, refl, sym, ap, subst, ◌∙◌}
 use mathlib.Core.Option.{some}
 use lib.ListN.{get_elem?}
 use Rattle.std.proofs.lemmas.List.{append-nil, set-get_or}
+use Rattle.std.proofs.lemmas.List.Elements.{filter-append}
 use Rattle.atomic_table.specs.Table.{Allows, Me, State as Table, keeps, stepped}
 use Rattle.store_core.specs.declared.fixed.Fixed.{Fixed}
 use Rattle.store_core.specs.declared.history.Call.{Call}
@@ -10,9 +11,10 @@ use Rattle.store_core.specs.declared.history.Event.{Event}
 use Rattle.store_core.specs.declared.view.SeatView.{SeatView}
 use Rattle.store_core.specs.declared.view.StoredWord.{StoredWord}
 use Rattle.store_core.specs.Events.{IsRight, after_call}
-use Rattle.store_core.specs.Histories.{run, AreLegalFrom, IsLegal, state_after}
+use Rattle.store_core.specs.Histories.{AreLegalFrom, IsLegal, events_of, is_by, run, state_after}
 use Rattle.store_core.specs.States.{State, claims, empty, is_claimed}
-use Rattle.store_core.specs.Views.{seat_claims, names_of, stored, written_after}
+use Rattle.store_core.specs.Views.{mine, names_of, seat_claims, stored, written_after}
+use Rattle.store_core.proofs.Joining.{claims_continued, continued}
 use Rattle.store_core.proofs.Tells.{claims-claimed}
 use Rattle.store_core.proofs.Lasting.{legal_is_sound, legal-join, run-append}
 use Rattle.store_steps.specs.Grips.{first_of}
@@ -20,6 +22,7 @@ use Rattle.store_steps.specs.Layout.{cell_at}
 use Rattle.store_steps.specs.Plays.{OfOne}
 use Rattle.store_steps.specs.Rule.{Fits, IsKept, StandFor}
 use Rattle.store_steps.specs.Tells.{Did, GoesOn, Looked, event_of}
+use Rattle.store_steps.proofs.Calls.{claims_after-same, claims_then, least_among, own_all, shares_itself}
 use Rattle.store_steps.proofs.Keeping.{its, kept_step}
 use Rattle.store_steps.proofs.Lists.{AreBy}
 
@@ -62,12 +65,23 @@ module _ (fixed : Fixed) (s : Table Unit (List SeatView)) (k : IsKept fixed s) (
   abbrev pub after_own : List Event → SeatView
   after_own own = record view { seen = k.history ++ own }
 
-  pub goes_on : (own : List Event) → AreLegalFrom fixed now own → GoesOn view (after_own own) fitting.continues.between own
-  goes_on own legal = record {
+  -- what the seat knows of its claims is so
+  pub claims_now : (c : ℕ) → claims (names_of view) now c ≡ seat_claims view c
+  claims_now c = claims_continued fixed view k.history fitting.continues k.legal c
+
+  -- it has a name
+  pub some_names : 0 < length view.names
+  some_names = k.names.named id 0 view (its fixed s k id view view seat refl)
+
+  pub goes_on : (own : List Event) → AreLegalFrom fixed now own → AreBy (names_of view) own → GoesOn view (after_own own) fitting.continues.between own
+  goes_on own legal by = record {
     fixed_is = refl;
     names_are = refl;
     seen_is = seen_is own;
     others = fitting.continues.others;
+    mine_is = filter-append (is_by (names_of view)) k.history own
+        ∙ ap (λ (events : List Event). events ++ events_of (names_of view) own) (continued view k.history fitting.continues)
+        ∙ ap (λ (events : List Event). mine view ++ events) (own_all (names_of view) own (shares_itself view.names some_names) by);
     legal = subst (λ (f : Fixed). IsLegal f (k.history ++ own)) (sym fitting.fixed_is) (legal-join fixed empty k.history own k.legal legal);
   }
 
@@ -85,7 +99,7 @@ module _ (fixed : Fixed) (s : Table Unit (List SeatView)) (k : IsKept fixed s) (
       let then : state_after (k.history ++ own) ≡ after_call (names_of view) call now = run-append empty k.history own in
       let new : SeatView = record (after_own own) { written = written_after call view.written } in
       let legal : IsLegal fixed (k.history ++ own) = legal-join fixed empty k.history own k.legal (right, tt) in
-      let on : GoesOn view (after_own own) fitting.continues.between own = goes_on own (right, tt) in
+      let on : GoesOn view (after_own own) fitting.continues.between own = goes_on own (right, tt) (refl, tt) in
       record {
         new = new;
         kept = kept_step fixed s k id view new seat refl own i n (refl, tt) legal
@@ -99,7 +113,10 @@ module _ (fixed : Fixed) (s : Table Unit (List SeatView)) (k : IsKept fixed s) (
             cells;
         told = record {
           between = fitting.continues.between;
-          goes_on = record { fixed_is = on.fixed_is; names_are = on.names_are; seen_is = on.seen_is; others = on.others; legal = on.legal };
+          goes_on = record { fixed_is = on.fixed_is; names_are = on.names_are; seen_is = on.seen_is; others = on.others; mine_is = on.mine_is; legal = on.legal };
+          claims_are = λ c.
+              ap (λ (t : State). claims (names_of view) t c) then ∙ claims_then (names_of view) call now c (least_among view.names some_names)
+              ∙ claims_after-same call (λ d. claims (names_of view) now d) (seat_claims view) c (claims_now c);
           written_are = refl;
         };
       }
@@ -136,7 +153,7 @@ module _ (fixed : Fixed) (s : Table Unit (List SeatView)) (k : IsKept fixed s) (
       let own : List Event = events now in
       let then : state_after (k.history ++ own) ≡ now = run-append empty k.history own ∙ quiet in
       let same : set s.words i (slice_index s.words i) ≡ s.words = set-get_or s.words i 0 in
-      let on : GoesOn view (after_own own) fitting.continues.between own = goes_on own legal in
+      let on : GoesOn view (after_own own) fitting.continues.between own = goes_on own legal by in
       let state : now ≡ state_after (view.seen ++ fitting.continues.between) = ap (λ (h : List Event). state_after h) fitting.continues.is in
       record {
         new = after_own own;
@@ -157,6 +174,7 @@ module _ (fixed : Fixed) (s : Table Unit (List SeatView)) (k : IsKept fixed s) (
           record {
             between = fitting.continues.between;
             goes_on = subst (λ (t : State). GoesOn view (after_own own) fitting.continues.between (events t)) state on;
+            claims_are = λ c. ap (λ (t : State). claims (names_of view) t c) then ∙ claims_now c;
             written_are = refl;
           },
           then,

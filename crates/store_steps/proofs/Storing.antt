@@ -1,5 +1,5 @@
 -- A store to a cell word of a chunk that the seat claims.
-use Rattle.std.proofs.Common.{◌≡◌, ℕ, ◌*◌, ◌/◌, ◌<◌, ◌==◌, true, false, List, [], ◌∷◌, Some, set, refl, sym, ap, subst, ◌∙◌, arith, inl, inr, eqb-true, eq-eqb}
+use Rattle.std.proofs.Common.{◌+◌, ◌≡◌, ℕ, ◌*◌, ◌/◌, ◌<◌, ◌==◌, true, false, List, [], ◌∷◌, Some, set, refl, sym, ap, subst, ◌∙◌, arith, inl, inr, eqb-true, eq-eqb}
 use Rattle.std.proofs.lemmas.Bool.{both_ways, cases_Bool, false_from_ne_true}
 use mathlib.Core.Option.{some}
 use lib.ListN.{get_elem?}
@@ -15,12 +15,18 @@ use Rattle.store_core.proofs.Tells.{claims-claimed}
 use Rattle.store_steps.specs.Layout.{cell_at, cell_place}
 use Rattle.store_steps.specs.Plays.{Stores}
 use Rattle.store_steps.specs.Rule.{IsKept}
-use Rattle.store_steps.proofs.Giving.{claims_now, not_held}
+use Rattle.store_steps.proofs.Giving.{not_held}
 use Rattle.store_steps.proofs.Standing.{cells_stand, left, put}
-use Rattle.store_steps.proofs.Stepping.{Steps, fitting, silent_step}
+use Rattle.store_steps.proofs.Stepping.{Steps, fitting, silent_step, claims_now}
 
 module _ (fixed : Fixed) (s : Table Unit (List SeatView)) (k : IsKept fixed s) (id : ℕ) (view : SeatView) (seat : get_elem? s.views id ≡ some (view ∷ []))
-    (number value : ℕ) (ours : seat_claims view (number / 129) ≡ true) where
+    (chunk w value : ℕ) (cell : w < 129) (claims_it : seat_claims view chunk ≡ true) where
+  abbrev number : ℕ
+  number = 129 * chunk + w
+
+  ours : seat_claims view (number / 129) ≡ true
+  ours = let same : chunk ≡ number / 129 = omega (arith, cell) in subst (λ (k : ℕ). seat_claims view k ≡ true) same claims_it
+
   abbrev state : State
   state = state_after k.history
 
@@ -55,7 +61,7 @@ module _ (fixed : Fixed) (s : Table Unit (List SeatView)) (k : IsKept fixed s) (
         let w = (fitting fixed s k id view seat).written other found (rw differs at is) in (w.0, stays other differs ∙ w.1)
   ]
 
-  pub store_steps : Steps fixed s id (cell_place fixed number) value (λ new. Stores number value view new)
+  pub store_steps : Steps fixed s id (cell_place fixed number) value (λ new. Stores chunk w value view new)
   store_steps = record {
     new = record view { written = record { number = number; value = value } ∷ view.written };
     kept = silent_step fixed s k id view seat (record { number = number; value = value } ∷ view.written) (cell_place fixed number) value

@@ -2,7 +2,7 @@
 use Rattle.std.proofs.Common.{◌≡◌, ◌≢◌, ℕ, ◌/◌, ◌%◌, ◌^◌, ◌<◌, nat_lt, Bool, true, false, not, ◌&&◌, ◌||◌, if◌then◌else◌, List, [], ◌∷◌, length, Option, is_some, slice_index, set, refl, sym, ap, ◌∙◌, arith, inl, inr, ne_eqb, eq-eqb}
 use Rattle.std.specs.Int.{w64, bit_not}
 use Rattle.std.specs.Int.Bits.{bit_and, bit_or}
-use Rattle.std.proofs.lemmas.Bool.{and_left, cases_Bool, or_left}
+use Rattle.std.proofs.lemmas.Bool.{and_left, cases_Bool}
 use mathlib.Core.Option.{some}
 use lib.ListN.{get_elem?}
 use Rattle.atomic_table.specs.Table.{State as Table}
@@ -22,16 +22,11 @@ use Rattle.store_steps.specs.Layout.{cell_at, cell_place, claim_place, claim_wor
 use Rattle.store_steps.specs.Plays.{Takes}
 use Rattle.store_steps.specs.Rule.{IsKept, StandFor}
 use Rattle.store_steps.proofs.Bits.{and_small, has_bit-and, has_bit-not, has_bit-or}
-use Rattle.store_steps.proofs.Keeping.{its}
-use Rattle.store_steps.proofs.Lists.{same_name-refl}
+use Rattle.store_steps.proofs.Calls.{least_among}
 use Rattle.store_steps.proofs.Standing.{claims_stand, left}
-use Rattle.store_steps.proofs.Stepping.{Steps, did_step, fitting}
+use Rattle.store_steps.proofs.Stepping.{Steps, did_step, fitting, some_names}
 
--- one with names has its least among them
-least_among : (names : List Named) → 0 < length names → is_among (plain names) (least_name (plain names)) ≡ true
-least_among [] none = absurd (omega arith)
-least_among (named ∷ names) more = or_left _ _ (same_name-refl named.name)
-
+-- one with names has a least
 is_some-least : (names : List Named) → 0 < length names → is_some (least_name (plain names)) ≡ true
 is_some-least [] none = absurd (omega arith)
 is_some-least (named ∷ names) more = refl
@@ -94,14 +89,11 @@ module _ (fixed : Fixed) (s : Table Unit (List SeatView)) (k : IsKept fixed s) (
   abbrev claim_then : ℕ → Option Name
   claim_then c = if in_mask group granted c then least_name who else state.claim c
 
-  some_names : 0 < length view.names
-  some_names = k.names.named id 0 view (its fixed s k id view view seat refl)
-
   words : StandFor fixed (set s.words (claim_place fixed group) (bit_or found asked)) (after_call who (Take group want granted) state)
   words = claims_stand fixed s.words state k.words claim_then group (bit_or found asked) there
       (λ c here.
       has_bit-or found asked (c % 64) ∙ ap (λ (b : Bool). b || has_bit asked (c % 64)) (found_bit c here)
-      ∙ claim_bit (has_bit asked (c % 64)) (is_held state c) (is_claimed state c) (least_name who) (state.claim c) (is_some-least view.names some_names) refl
+      ∙ claim_bit (has_bit asked (c % 64)) (is_held state c) (is_claimed state c) (least_name who) (state.claim c) (is_some-least view.names (some_names fixed s k id view seat)) refl
       ∙ ap (λ (b : Bool). is_held state c || is_some (if b then least_name who else state.claim c)) (sym (in_here c here)))
       (λ c other. ap (λ (b : Bool). if b then least_name who else state.claim c) (in_other c other))
 
@@ -111,7 +103,7 @@ module _ (fixed : Fixed) (s : Table Unit (List SeatView)) (k : IsKept fixed s) (
 
   claims_stay : (c : ℕ) → claims who state c ≡ true → is_among who (claim_then c) ≡ true
   claims_stay c ours = elim (cases_Bool (in_mask group granted c)) [
-    | inl hit ↦ rw hit (least_among view.names some_names)
+    | inl hit ↦ rw hit (least_among view.names (some_names fixed s k id view seat))
     | inr miss ↦ rw miss ours
   ]
 

@@ -1,5 +1,5 @@
 -- What each kind of step tells, as the table asks it: of the step, the seat before, the number found and the seat after.
-use Rattle.std.specs.Prelude.{◌≡◌, ℕ, ◌-◌, ◌/◌, ◌%◌, ◌==◌, if◌then◌else◌, List, [], ◌∷◌, Option, None, Some, bit_and}
+use Rattle.std.specs.Prelude.{◌*◌, ◌+◌, ◌≡◌, ℕ, ◌-◌, ◌/◌, ◌%◌, ◌==◌, if◌then◌else◌, List, [], ◌∷◌, Option, None, Some, bit_and}
 use Rattle.std.specs.Int.{w64, bit_not}
 use Rattle.atomic_table.specs.Table.{Me}
 use Rattle.store_core.specs.declared.history.Call.TheVariants.{Commit, Give, Length, Settle, Take}
@@ -32,9 +32,9 @@ Takes group want asked found old new = Did (Take group want (bit_and asked (bit_
 abbrev pub Gives : ℕ → ℕ → ℕ → SeatView → SeatView → Type 0
 Gives group mask given old new = Did (Give group mask given) old new
 
--- the word counts as stored, and nothing else changes
-abbrev pub Stores : ℕ → ℕ → SeatView → SeatView → Type 0
-Stores number value old new = new ≡ record old { written = record { number = number; value = value } ∷ old.written }
+-- word w of the chunk's cell counts as stored, and nothing else changes
+abbrev pub Stores : ℕ → ℕ → ℕ → SeatView → SeatView → Type 0
+Stores chunk w value old new = new ≡ record old { written = record { number = 129 * chunk + w; value = value } ∷ old.written }
 
 abbrev pub Publishes : ℕ → Piece → ℕ → SeatView → SeatView → Type 0
 Publishes group piece mask old new = Did (Commit group piece mask) old new
@@ -47,14 +47,13 @@ pub record Loads (group at len found : ℕ) (old new : SeatView) : Type 0 where
   pub looked : Looked (read_events old group at len) old new
   pub finds : FindsHeld group found new
 
--- the word found is that of the chunk's cell, where the chunk is held
-abbrev pub FindsWord : ℕ → ℕ → SeatView → Type 0
-FindsWord number found view =
-    (bytes : List ℕ) → (state_after view.seen).held (number / 129) ≡ Some bytes → found ≡ cell_word bytes (number % 129)
+-- where the seat has seen the chunk held, the word found is word w of its cell
+abbrev pub FindsWord : ℕ → ℕ → ℕ → SeatView → Type 0
+FindsWord chunk w found view = (bytes : List ℕ) → (state_after view.seen).held chunk ≡ Some bytes → found ≡ cell_word bytes w
 
-pub record Copies (number found : ℕ) (old new : SeatView) : Type 0 where
+pub record Copies (chunk w found : ℕ) (old new : SeatView) : Type 0 where
   pub same : new ≡ old
-  pub finds : FindsWord number found old
+  pub finds : FindsWord chunk w found old
 
 -- the length that a word stands for
 abbrev pub length_in : ℕ → Option ℕ

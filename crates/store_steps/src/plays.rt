@@ -49,7 +49,7 @@ impl<A: Asked> Play<(), LinkedList<SeatView>> for Giving<A> {
     ghost then = { λ step me found later. OfOne (Gives A.group A.first A.second) me later };
 }
 
-// `first` for the word's number.
+// `first` for the chunk and `second` for the word of its cell.
 pub(crate) struct Storing<A> {
     asked: PhantomData<A>,
 }
@@ -57,7 +57,7 @@ pub(crate) struct Storing<A> {
 impl<A: Asked> Play<(), LinkedList<SeatView>> for Storing<A> {
     ghost use Rattle.store_steps.specs.Plays.{OfOne, Stores};
 
-    ghost then = { λ step me found later. OfOne (Stores A.first found) me later };
+    ghost then = { λ step me found later. OfOne (Stores A.first A.second found) me later };
 }
 
 // `group`, and `piece`.
@@ -82,7 +82,7 @@ impl<A: Asked> Play<(), LinkedList<SeatView>> for Loading<A> {
     ghost then = { λ step me found later. OfOne (Loads A.group A.first A.second found) me later };
 }
 
-// `first` for the word's number.
+// `first` for the chunk and `second` for the word of its cell.
 pub(crate) struct Copying<A> {
     asked: PhantomData<A>,
 }
@@ -90,7 +90,7 @@ pub(crate) struct Copying<A> {
 impl<A: Asked> Play<(), LinkedList<SeatView>> for Copying<A> {
     ghost use Rattle.store_steps.specs.Plays.{OfOne, Copies};
 
-    ghost then = { λ step me found later. OfOne (Copies A.first found) me later };
+    ghost then = { λ step me found later. OfOne (Copies A.first A.second found) me later };
 }
 
 // `piece`.

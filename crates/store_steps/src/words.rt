@@ -140,19 +140,18 @@ impl Words {
         requires claimed { seat_claims grip.old.view chunk ≡ true }
         requires word { word < 129 }
         ensures of { IsOf self.now grip.new }
-        ensures stored { Stores (129 * chunk + word) value grip.old.view grip.new.view }
+        ensures stored { Stores chunk word value grip.old.view grip.new.view }
     {
-        self.store_asked::<Brand>(grip, chunk, word, value, 129 * u64::from(chunk) + u64::from(word));
+        self.store_asked::<Brand>(grip, chunk, word, value);
     }
 
-    fn store_asked<A: Asked>(&self, grip: &mut Grip, chunk: u32, word: u8, value: u64, number: u64)
+    fn store_asked<A: Asked>(&self, grip: &mut Grip, chunk: u32, word: u8, value: u64)
         requires of { IsOf self.now grip.old }
         requires claimed { seat_claims grip.old.view chunk ≡ true }
         requires word { word < 129 }
-        requires number { number ≡ 129 * chunk + word }
-        requires asked { A.first ≡ number }
+        requires asked { (A.first ≡ chunk) × (A.second ≡ word) }
         ensures of { IsOf self.now grip.new }
-        ensures stored { Stores number value grip.old.view grip.new.view }
+        ensures stored { Stores chunk word value grip.old.view grip.new.view }
     {
         let place = cell_place(&self.fixed, chunk, word);
         self.table
@@ -225,19 +224,18 @@ impl Words {
         requires chunk { chunk < (fixed_of self.now).capacity }
         requires word { word < 129 }
         ensures same { grip.new ≡ grip.old }
-        ensures word { FindsWord (129 * chunk + word) result grip.old.view }
+        ensures word { FindsWord chunk word result grip.old.view }
     {
-        self.copy_asked::<Brand>(grip, chunk, word, 129 * u64::from(chunk) + u64::from(word))
+        self.copy_asked::<Brand>(grip, chunk, word)
     }
 
-    fn copy_asked<A: Asked>(&self, grip: &mut Grip, chunk: u32, word: u8, number: u64) -> u64
+    fn copy_asked<A: Asked>(&self, grip: &mut Grip, chunk: u32, word: u8) -> u64
         requires of { IsOf self.now grip.old }
         requires chunk { chunk < (fixed_of self.now).capacity }
         requires word { word < 129 }
-        requires number { number ≡ 129 * chunk + word }
-        requires asked { A.first ≡ number }
+        requires asked { (A.first ≡ chunk) × (A.second ≡ word) }
         ensures same { grip.new ≡ grip.old }
-        ensures word { FindsWord number result grip.old.view }
+        ensures word { FindsWord chunk word result grip.old.view }
     {
         let place = cell_place(&self.fixed, chunk, word);
         self.table

@@ -1,4 +1,4 @@
-use Rattle.std.proofs.Common.{◌≡◌, ◌+◌, ◌*◌, ℕ, sym, ap, ◌∙◌, arith}
+use Rattle.std.proofs.Common.{◌≡◌, ◌+◌, ◌*◌, ℕ, ap, ◌∙◌, arith}
 use Rattle.store_core.specs.declared.fixed.Fixed.{Fixed}
 use Rattle.store_core.specs.declared.view.SeatView.{SeatView}
 use Rattle.store_steps.specs.Grips.{Gripped, first_of}
@@ -15,11 +15,13 @@ load-requires g c =
     let seat = c.grip.inside.seat in
     let view : SeatView = first_of seat.me.0 in
     let its : view ≡ c.args.grip.now.view = ap (λ (x : Gripped). x.view) c.grip.view_is in
-    let number : ℕ = g.A.Asked.first in
-    let same : 129 * c.args.chunk + c.args.word ≡ number = sym c.requires.number ∙ sym c.requires.asked in (
+    let chunk : ℕ = g.A.Asked.first in
+    let w : ℕ = g.A.Asked.second in
+    let place : cell_place fixed (129 * c.args.chunk + c.args.word) ≡ cell_place fixed (129 * chunk + w) =
+    omega (arith, c.requires.asked.0, c.requires.asked.1) in (
         ap (λ (x : Gripped). x.table_id) c.grip.view_is ∙ c.requires.of.table_is,
         omega (arith, c.cell_place-place.ensures.within, words.count),
         at_code fixed words.table.shared.key words.key_is words.table.shared.table_id.slots seat.id seat.me c.grip.invariant.0
-            (cell_place fixed number) c.cell_place-place.result (c.cell_place-place.ensures.place ∙ ap (λ (k : ℕ). cell_place fixed k) same)
-            (λ n. n) (λ n. Copies number n) (λ s kept at small. copy_steps fixed s kept seat.id view at number),
+            (cell_place fixed (129 * chunk + w)) c.cell_place-place.result (c.cell_place-place.ensures.place ∙ place)
+            (λ n. n) (λ n. Copies chunk w n) (λ s kept at small. copy_steps fixed s kept seat.id view at chunk w (omega (arith, c.requires.asked.1, c.requires.word))),
       )

@@ -1,4 +1,4 @@
-use Rattle.std.proofs.Common.{◌≡◌, ◌<◌, ◌+◌, ◌*◌, ◌/◌, true, ℕ, sym, ap, subst, ◌∙◌, arith}
+use Rattle.std.proofs.Common.{◌≡◌, ◌<◌, ◌+◌, ◌*◌, true, ℕ, sym, ap, subst, ◌∙◌, arith}
 use Rattle.store_core.specs.declared.fixed.Fixed.{Fixed}
 use Rattle.store_core.specs.declared.view.SeatView.{SeatView}
 use Rattle.store_core.specs.Views.{seat_claims}
@@ -21,14 +21,17 @@ store-requires g c =
     let seat = c.grip.inside.seat in
     let view : SeatView = first_of seat.me.0 in
     let its : view ≡ c.args.grip.now.view = ap (λ (x : Gripped). x.view) c.grip.view_is in
-    let number : ℕ = g.A.Asked.first in
-    let same : 129 * c.args.chunk + c.args.word ≡ number = sym c.requires.number ∙ sym c.requires.asked in
-    let chunk : c.args.chunk ≡ number / 129 = omega (arith, same, c.requires.word) in
-    let ours : seat_claims view (number / 129) ≡ true =
-    subst (λ (v : SeatView). seat_claims v (number / 129) ≡ true) (sym its) (subst (λ (k : ℕ). seat_claims c.args.grip.now.view k ≡ true) chunk c.requires.claimed) in (
+    let chunk : ℕ = g.A.Asked.first in
+    let w : ℕ = g.A.Asked.second in
+    let place : cell_place fixed (129 * c.args.chunk + c.args.word) ≡ cell_place fixed (129 * chunk + w) =
+    omega (arith, c.requires.asked.0, c.requires.asked.1) in
+    let ours : seat_claims view chunk ≡ true =
+    subst (λ (v : SeatView). seat_claims v chunk ≡ true) (sym its)
+    (subst (λ (k : ℕ). seat_claims c.args.grip.now.view k ≡ true) (sym c.requires.asked.0) c.requires.claimed) in (
         ap (λ (x : Gripped). x.table_id) c.grip.view_is ∙ c.requires.of.table_is,
         omega (arith, c.cell_place-place.ensures.within, words.count),
         at_code fixed words.table.shared.key words.key_is words.table.shared.table_id.slots seat.id seat.me c.grip.invariant.0
-            (cell_place fixed number) c.cell_place-place.result (c.cell_place-place.ensures.place ∙ ap (λ (k : ℕ). cell_place fixed k) same)
-            (λ n. c.args.value) (λ n. Stores number c.args.value) (λ s kept at small. store_steps fixed s kept seat.id view at number c.args.value ours),
+            (cell_place fixed (129 * chunk + w)) c.cell_place-place.result (c.cell_place-place.ensures.place ∙ place)
+            (λ n. c.args.value) (λ n. Stores chunk w c.args.value) (λ s kept at small.
+            store_steps fixed s kept seat.id view at chunk w c.args.value (omega (arith, c.requires.asked.1, c.requires.word)) ours),
       )
