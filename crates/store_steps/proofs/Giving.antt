@@ -35,8 +35,8 @@ still_stored group mask (w ∷ words) number value h = elim (cases_Bool (in_mask
   | inl gone ↦
       let rest = still_stored group mask words number value (rw gone at h) in
       let other : (w.number == number) ≡ false = false_from_ne_true _ (λ e.
-        let same : in_mask group mask (number / 129) ≡ true = subst (λ (n : ℕ). in_mask group mask (n / 129) ≡ true) (eqb-true w.number number e) gone in
-        both_ways _ rest.0 same) in
+      let same : in_mask group mask (number / 129) ≡ true = subst (λ (n : ℕ). in_mask group mask (n / 129) ≡ true) (eqb-true w.number number e) gone in
+      both_ways _ rest.0 same) in
       (rest.0, rw other rest.1)
   | inr stays ↦
       let there : stored (w ∷ without_chunks group mask words) number ≡ Some value = rw stays at h in
@@ -118,5 +118,5 @@ module _ (fixed : Fixed) (s : Table Unit (List SeatView)) (k : IsKept fixed s) (
     pub give_steps : Steps fixed s id (claim_place fixed group) (bit_and found (bit_not w64 given)) (λ new. Gives group mask given view new)
     give_steps = did_step fixed s k id view seat (Give group mask given) (claim_place fixed group) (bit_and found (bit_not w64 given)) right words
         (ended_written (after_call (names_of view) (Give group mask given) state) group given (claim_place fixed group)
-          (bit_and found (bit_not w64 given)) (omega (arith, there)) (λ c miss. ap (λ (b : Bool). if b then None else state.claim c) miss))
+        (bit_and found (bit_not w64 given)) (omega (arith, there)) (λ c miss. ap (λ (b : Bool). if b then None else state.claim c) miss))
         (λ number c never. cells_beside (claim_place fixed group) (bit_and found (bit_not w64 given)) number (omega (arith, there)))

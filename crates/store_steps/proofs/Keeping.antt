@@ -84,7 +84,7 @@ fits_on fixed history own words later view legal fits others same = record {
   written = λ number value is.
       let w = fits.written number value is in (
         ap (λ (s : State). claims (names_of view) s (number / 129)) (run-append empty history own)
-        ∙ claims_from fixed (state_after history) own (names_of view) (legal-append fixed empty history own legal).1 others (number / 129) ∙ w.0,
+            ∙ claims_from fixed (state_after history) own (names_of view) (legal-append fixed empty history own legal).1 others (number / 129) ∙ w.0,
         same number w.0 ∙ w.1,
       );
 }
@@ -128,9 +128,9 @@ module _ (fixed : Fixed) (s : Table Unit (List SeatView)) (k : IsKept fixed s) (
   fits_from own later by legal fits cells i j v (inr other) =
       let apart : share_name (names_of v) (names_of view) ≡ false = strangers i j v other.0 other.1 in
       let turned : share_name (names_of view) (names_of v) ≡ false = apart_from (names_of view) (names_of v) (λ name our their.
-        let place : (i, j) ≡ (id, 0) = sym (k.names.owned i j v other.1 name their) ∙ k.names.owned id 0 view its name our in
-        let away : i ≢ id = other.0 in
-        away (ap (λ (p : ℕ × ℕ). p.0) place)) in
+      let place : (i, j) ≡ (id, 0) = sym (k.names.owned i j v other.1 name their) ∙ k.names.owned id 0 view its name our in
+      let away : i ≢ id = other.0 in
+      away (ap (λ (p : ℕ × ℕ). p.0) place)) in
       fits_on fixed k.history own s.words later v legal (k.views i j v other.1) (others_by (names_of v) (names_of view) own apart by) (λ number c.
       cells number (claims-claimed (names_of v) (state_after k.history) (number / 129) c)
       (claims_apart (state_after k.history) (names_of view) (names_of v) (number / 129) turned c))

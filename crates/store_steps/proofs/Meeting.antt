@@ -44,7 +44,7 @@ at_two fixed key key_is slots id me one two is Told turns =
       λ first second e.
           let same : one ∷ two ∷ [] ≡ first ∷ second ∷ [] = sym is ∙ e in (
             subst (λ (u : SeatView). Told u second t.later) (ap (λ (vs : List SeatView). first_of vs) same)
-            (subst (λ (u : SeatView). Told one u t.later) (ap (λ (vs : List SeatView). first_of (rest_of vs)) same) t.told),
+                (subst (λ (u : SeatView). Told one u t.later) (ap (λ (vs : List SeatView). first_of (rest_of vs)) same) t.told),
             refl,
           ),
     ))

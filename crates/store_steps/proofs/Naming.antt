@@ -47,8 +47,11 @@ pub raised_cases : (names : List Named) → AreDistinct (plain names) → (one :
 raised_cases [] distinct one h = absurd (omega (arith, h.1))
 raised_cases (named ∷ names) distinct one h = elim (Contains-cons_cases names (raised named) one h) [
   | inl first ↦ inl first
-  | inr rest ↦ inr (Contains-tail names named one rest, λ same.
-      both_ways _ distinct.0 (subst (λ (n : Name). has_name (plain names) n ≡ true) same (name_there names one rest)))
+  | inr rest ↦ inr (
+    Contains-tail names named one rest,
+    λ same.
+        both_ways _ distinct.0 (subst (λ (n : Name). has_name (plain names) n ≡ true) same (name_there names one rest)),
+  )
 ]
 
 -- a name that goes on after another, where the one ends a number later

@@ -55,7 +55,7 @@ module _ (fixed : Fixed) (s : Table Unit (List SeatView)) (k : IsKept fixed s) (
         let value_is : value ≡ found = cc in (
           subst (λ (n : ℕ). claims (names_of view) state (n / 129) ≡ true) same claimed,
           ap (λ (n : ℕ). cell_at fixed later n) (sym same)
-          ∙ put s.words (cell_place fixed number) value (omega (arith, low, k.words.count)) ∙ value_is,
+              ∙ put s.words (cell_place fixed number) value (omega (arith, low, k.words.count)) ∙ value_is,
         )
     | inr differs ↦
         let w = (fitting fixed s k id view seat).written other found (rw differs at is) in (w.0, stays other differs ∙ w.1)

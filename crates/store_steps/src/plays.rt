@@ -13,8 +13,11 @@ pub(crate) trait Asked {
     ghost use Rattle.store_core.specs.declared.history.Piece.{Piece};
 
     ghost group: { ℕ };
+
     ghost first: { ℕ };
+
     ghost second: { ℕ };
+
     ghost piece: { Piece };
 }
 
@@ -22,8 +25,11 @@ impl Asked for Brand {
     ghost use Rattle.store_steps.specs.Plays.{no_piece};
 
     ghost group = { 0 };
+
     ghost first = { 0 };
+
     ghost second = { 0 };
+
     ghost piece = { no_piece };
 }
 

@@ -5,11 +5,10 @@ use crate::fault::NewFault;
 use crate::grip::Grip;
 use crate::joins::{Both, Entering, Leaving, Meeting, Merging, Parting, Parts};
 use crate::lengths::{length_in, settling};
-use crate::places::{
-    cell_place, chunks_below, claim_place, held_place, length_place, word_count,
-};
+use crate::places::{cell_place, chunks_below, claim_place, held_place, length_place, word_count};
 use crate::plays::{
-    Answering, Asked, Copying, Giving, Loading, Publishing, Settling as SettlingStep, Storing, Taking,
+    Answering, Asked, Copying, Giving, Loading, Publishing, Settling as SettlingStep, Storing,
+    Taking,
 };
 use crate::rule::Law;
 use atomic_table::Table;
@@ -56,7 +55,12 @@ impl Words {
     /// number of chunks.
     ///
     /// 801 `Memory` where there was none. Nothing is left behind.
-    pub fn new(alloc: Global, root: Hash, mode: Mode, capacity: u32) -> Result<(Words, Grip), NewFault>
+    pub fn new(
+        alloc: Global,
+        root: Hash,
+        mode: Mode,
+        capacity: u32,
+    ) -> Result<(Words, Grip), NewFault>
         requires { (0 < capacity) × (capacity ≤ 65536) }
         ensures of { IfOk result (λ made. IsOf made.0 made.1) }
         ensures fixed { IfOk result (λ made. fixed_of made.0 ≡ record { root = root; mode = mode; capacity = capacity }) }
@@ -77,7 +81,8 @@ impl Words {
     pub fn fixed(&self) -> Fixed
         ensures { result ≡ fixed_of self.now }
     {
-        self.fixed
+        let Words { fixed, .. } = self;
+        *fixed
     }
 
     /// Claims the wanted chunks of a group that are below the capacity and neither held nor claimed, and answers their
@@ -212,9 +217,7 @@ impl Words {
         ensures held { FindsHeld group result grip.new.view }
     {
         let place = held_place(&self.fixed, group);
-        self.table
-            .shared
-            .load::<Loading<A>>(&mut grip.seat, place)
+        self.table.shared.load::<Loading<A>>(&mut grip.seat, place)
     }
 
     /// A word of a chunk's cell. Where the grip has seen the chunk held it is the word of the chunk's bytes, as at
@@ -238,9 +241,7 @@ impl Words {
         ensures word { FindsWord chunk word result grip.old.view }
     {
         let place = cell_place(&self.fixed, chunk, word);
-        self.table
-            .shared
-            .load::<Copying<A>>(&mut grip.seat, place)
+        self.table.shared.load::<Copying<A>>(&mut grip.seat, place)
     }
 
     /// Records the length in bytes that a piece of this store's root and mode certifies, if none is recorded:
@@ -281,10 +282,7 @@ impl Words {
         ensures did { Did (Length result) grip.old.view grip.new.view }
     {
         let place = length_place(&self.fixed);
-        let found = self
-            .table
-            .shared
-            .load::<Answering>(&mut grip.seat, place);
+        let found = self.table.shared.load::<Answering>(&mut grip.seat, place);
         length_in(found)
     }
 
@@ -300,9 +298,7 @@ impl Words {
         ensures back { IfErr result (λ back. back ≡ grip) }
     {
         let Grip { mut seat } = grip;
-        self.table
-            .shared
-            .load::<Parting>(&mut seat, 0);
+        self.table.shared.load::<Parting>(&mut seat, 0);
         let other = self.table.shared.split_seat::<Parts>(&mut seat);
         Ok((Grip { seat }, Grip { seat: other }))
     }
@@ -318,9 +314,7 @@ impl Words {
         let Grip { mut seat } = first;
         let Grip { seat: other } = second;
         self.table.shared.join_seat::<Both>(&mut seat, other);
-        self.table
-            .shared
-            .load::<Merging>(&mut seat, 0);
+        self.table.shared.load::<Merging>(&mut seat, 0);
         Grip { seat }
     }
 
@@ -333,20 +327,10 @@ impl Words {
         ensures second { IsOf self.now second.new }
         ensures met { AreMet first.old.view second.old.view first.new.view second.new.view }
     {
-        let (_, spare) = self
-            .table
-            .shared
-            .load_new_seat::<Entering>(0);
+        let (_, spare) = self.table.shared.load_new_seat::<Entering>(0);
         let other = replace(&mut second.seat, spare);
-        self.table
-            .shared
-            .join_seat::<Both>(&mut first.seat, other);
-        self.table
-            .shared
-            .load::<Meeting>(&mut first.seat, 0);
-        second.seat = self
-            .table
-            .shared
-            .split_seat::<Leaving>(&mut first.seat);
+        self.table.shared.join_seat::<Both>(&mut first.seat, other);
+        self.table.shared.load::<Meeting>(&mut first.seat, 0);
+        second.seat = self.table.shared.split_seat::<Leaving>(&mut first.seat);
     }
 }

@@ -19,9 +19,9 @@ load-requires g c =
     let w : ℕ = g.A.Asked.second in
     let place : cell_place fixed (129 * c.args.chunk + c.args.word) ≡ cell_place fixed (129 * chunk + w) =
     omega (arith, c.requires.asked.0, c.requires.asked.1) in (
-        ap (λ (x : Gripped). x.table_id) c.grip.view_is ∙ c.requires.of.table_is,
-        omega (arith, c.cell_place-place.ensures.within, words.count),
-        at_code fixed words.table.shared.key words.key_is words.table.shared.table_id.slots seat.id seat.me c.grip.invariant.0
-            (cell_place fixed (129 * chunk + w)) c.cell_place-place.result (c.cell_place-place.ensures.place ∙ place)
-            (λ n. n) (λ n. Copies chunk w n) (λ s kept at small. copy_steps fixed s kept seat.id view at chunk w (omega (arith, c.requires.asked.1, c.requires.word))),
-      )
+      ap (λ (x : Gripped). x.table_id) c.grip.view_is ∙ c.requires.of.table_is,
+      omega (arith, c.cell_place-place.ensures.within, words.count),
+      at_code fixed words.table.shared.key words.key_is words.table.shared.table_id.slots seat.id seat.me c.grip.invariant.0
+          (cell_place fixed (129 * chunk + w)) c.cell_place-place.result (c.cell_place-place.ensures.place ∙ place)
+          (λ n. n) (λ n. Copies chunk w n) (λ s kept at small. copy_steps fixed s kept seat.id view at chunk w (omega (arith, c.requires.asked.1, c.requires.word))),
+    )

@@ -14,11 +14,10 @@ load-found-requires c =
     let fixed : Fixed = words.fixed in
     let seat = c.grip.inside.seat in
     let view : SeatView = first_of seat.me.0 in
-    let its : view ≡ c.args.grip.now.view = ap (λ (x : Gripped). x.view) c.grip.view_is in
-    (
-        ap (λ (x : Gripped). x.table_id) c.grip.view_is ∙ c.requires.of.table_is,
-        omega (arith, c.length_place-place.ensures.within, words.count),
-        at_code fixed words.table.shared.key words.key_is words.table.shared.table_id.slots seat.id seat.me c.grip.invariant.0
-            (length_place fixed) c.length_place-place.result c.length_place-place.ensures.place
-            (λ n. n) (λ n. Answers n) (λ s kept at small. length_steps fixed s kept seat.id view at),
-      )
+    let its : view ≡ c.args.grip.now.view = ap (λ (x : Gripped). x.view) c.grip.view_is in (
+      ap (λ (x : Gripped). x.table_id) c.grip.view_is ∙ c.requires.of.table_is,
+      omega (arith, c.length_place-place.ensures.within, words.count),
+      at_code fixed words.table.shared.key words.key_is words.table.shared.table_id.slots seat.id seat.me c.grip.invariant.0
+          (length_place fixed) c.length_place-place.result c.length_place-place.ensures.place
+          (λ n. n) (λ n. Answers n) (λ s kept at small. length_steps fixed s kept seat.id view at),
+    )

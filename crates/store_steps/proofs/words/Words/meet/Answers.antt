@@ -14,9 +14,9 @@ use Rattle.store_steps.proofs.words.Words.meet.Goals as goal
 pub load_new_seat-spare-requires : goal.load_new_seat-spare-requires
 load_new_seat-spare-requires c =
     let words = c.args.self.now in (
-        omega (arith, words.count),
-        enter_asks words.fixed words.table.shared.key words.key_is words.table.shared.table_id.slots 0,
-      )
+      omega (arith, words.count),
+      enter_asks words.fixed words.table.shared.key words.key_is words.table.shared.table_id.slots 0,
+    )
 
 pub join_seat-requires : goal.join_seat-requires
 join_seat-requires c =
@@ -26,12 +26,12 @@ join_seat-requires c =
     let me : other.me ≡ c.second.inside.seat.me = ap (λ x. x.me) c.replace-other.ensures.value in
     let one : other.me.0 ≡ first_of other.me.0 ∷ [] =
     subst (λ (m : Me Unit (List SeatView)). m.0 ≡ first_of m.0 ∷ []) (sym me) c.second.invariant.0 in (
-        ap (λ (x : Gripped). x.table_id) c.first.view_is ∙ c.requires.first.table_is,
-        ap (λ x. x.table_id) c.replace-other.ensures.value ∙ ap (λ (x : Gripped). x.table_id) c.second.view_is ∙ c.requires.second.table_is,
-        ap (λ (m : Me Unit (List SeatView)). m.1) me ∙ c.second.invariant.1,
-        omega (arith, words.count),
-        join_asks words.fixed words.table.shared.key words.key_is seat.id other.id seat.me.0 other.me.0 c.first.invariant.0 one,
-      )
+      ap (λ (x : Gripped). x.table_id) c.first.view_is ∙ c.requires.first.table_is,
+      ap (λ x. x.table_id) c.replace-other.ensures.value ∙ ap (λ (x : Gripped). x.table_id) c.second.view_is ∙ c.requires.second.table_is,
+      ap (λ (m : Me Unit (List SeatView)). m.1) me ∙ c.second.invariant.1,
+      omega (arith, words.count),
+      join_asks words.fixed words.table.shared.key words.key_is seat.id other.id seat.me.0 other.me.0 c.first.invariant.0 one,
+    )
 
 pub load-requires : goal.load-requires
 load-requires c =
@@ -44,11 +44,11 @@ load-requires c =
     ap (λ (m : Me Unit (List SeatView)). m.0) c.join_seat.ensures.2
     ∙ ap (λ (m : Me Unit (List SeatView)). c.first.inside.seat.me.0 ++ m.0) me
     ∙ two_of c.first.inside.seat.me.0 c.second.inside.seat.me.0 c.first.invariant.0 c.second.invariant.0 in (
-        c.join_seat.ensures.0 ∙ ap (λ (x : Gripped). x.table_id) c.first.view_is ∙ c.requires.first.table_is,
-        omega (arith, words.count),
-        at_two words.fixed words.table.shared.key words.key_is words.table.shared.table_id.slots both.id both.me one two is Meets
-            (λ s kept at. meet_turns words.fixed s kept both.id one two at),
-      )
+      c.join_seat.ensures.0 ∙ ap (λ (x : Gripped). x.table_id) c.first.view_is ∙ c.requires.first.table_is,
+      omega (arith, words.count),
+      at_two words.fixed words.table.shared.key words.key_is words.table.shared.table_id.slots both.id both.me one two is Meets
+          (λ s kept at. meet_turns words.fixed s kept both.id one two at),
+    )
 
 pub split_seat-requires : goal.split_seat-requires
 split_seat-requires c =
@@ -63,10 +63,10 @@ split_seat-requires c =
     ∙ two_of c.first.inside.seat.me.0 c.second.inside.seat.me.0 c.first.invariant.0 c.second.invariant.0 in
     let later = c.load.new.seat in
     let t = c.load.ensures.2 one two is in (
-        c.load.ensures.0 ∙ c.join_seat.ensures.0 ∙ ap (λ (x : Gripped). x.table_id) c.first.view_is ∙ c.requires.first.table_is,
-        omega (arith, words.count),
-        leave_asks words.fixed words.table.shared.key words.key_is later.id later.me.0 t.0.new_first t.0.new_second t.0.is,
-      )
+      c.load.ensures.0 ∙ c.join_seat.ensures.0 ∙ ap (λ (x : Gripped). x.table_id) c.first.view_is ∙ c.requires.first.table_is,
+      omega (arith, words.count),
+      leave_asks words.fixed words.table.shared.key words.key_is later.id later.me.0 t.0.new_first t.0.new_second t.0.is,
+    )
 
 pub invariant_of-first : goal.invariant_of-first
 invariant_of-first c =
@@ -81,10 +81,10 @@ invariant_of-first c =
     ∙ two_of c.first.inside.seat.me.0 c.second.inside.seat.me.0 c.first.invariant.0 c.second.invariant.0 in
     let later = c.load.new.seat in
     let t = c.load.ensures.2 one two is in (
-        only c.split_seat.new.seat.me.0 (first_of later.me.0) (ap (λ (m : Me Unit (List SeatView)). m.0) c.split_seat.ensures.2),
-        ap (λ (m : Me Unit (List SeatView)). m.1) c.split_seat.ensures.2 ∙ t.1
-        ∙ ap (λ (m : Me Unit (List SeatView)). m.1) c.join_seat.ensures.2 ∙ c.first.invariant.1,
-      )
+      only c.split_seat.new.seat.me.0 (first_of later.me.0) (ap (λ (m : Me Unit (List SeatView)). m.0) c.split_seat.ensures.2),
+      ap (λ (m : Me Unit (List SeatView)). m.1) c.split_seat.ensures.2 ∙ t.1
+          ∙ ap (λ (m : Me Unit (List SeatView)). m.1) c.join_seat.ensures.2 ∙ c.first.invariant.1,
+    )
 
 pub invariant_of-second : goal.invariant_of-second
 invariant_of-second c =
@@ -99,10 +99,10 @@ invariant_of-second c =
     ∙ two_of c.first.inside.seat.me.0 c.second.inside.seat.me.0 c.first.invariant.0 c.second.invariant.0 in
     let later = c.load.new.seat in
     let t = c.load.ensures.2 one two is in (
-        only c.split_seat.result.me.0 t.0.new_second
-            (ap (λ (m : Me Unit (List SeatView)). m.0) c.split_seat.ensures.4 ∙ ap (λ (vs : List SeatView). rest_of vs) t.0.is),
-        ap (λ (m : Me Unit (List SeatView)). m.1) c.split_seat.ensures.4,
-      )
+      only c.split_seat.result.me.0 t.0.new_second
+          (ap (λ (m : Me Unit (List SeatView)). m.0) c.split_seat.ensures.4 ∙ ap (λ (vs : List SeatView). rest_of vs) t.0.is),
+      ap (λ (m : Me Unit (List SeatView)). m.1) c.split_seat.ensures.4,
+    )
 
 pub returns-clause-met : goal.returns-clause-met
 returns-clause-met c =

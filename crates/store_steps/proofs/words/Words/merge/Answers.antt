@@ -14,12 +14,12 @@ join_seat-requires c =
     let words = c.args.self.now in
     let seat = c.first.inside.seat in
     let other = c.second.inside.seat in (
-        ap (λ (x : Gripped). x.table_id) c.first.view_is ∙ c.requires.first.table_is,
-        ap (λ (x : Gripped). x.table_id) c.second.view_is ∙ c.requires.second.table_is,
-        c.second.invariant.1,
-        omega (arith, words.count),
-        join_asks words.fixed words.table.shared.key words.key_is seat.id other.id seat.me.0 other.me.0 c.first.invariant.0 c.second.invariant.0,
-      )
+      ap (λ (x : Gripped). x.table_id) c.first.view_is ∙ c.requires.first.table_is,
+      ap (λ (x : Gripped). x.table_id) c.second.view_is ∙ c.requires.second.table_is,
+      c.second.invariant.1,
+      omega (arith, words.count),
+      join_asks words.fixed words.table.shared.key words.key_is seat.id other.id seat.me.0 other.me.0 c.first.invariant.0 c.second.invariant.0,
+    )
 
 pub load-requires : goal.load-requires
 load-requires c =
@@ -30,11 +30,11 @@ load-requires c =
     let is : both.me.0 ≡ one ∷ two ∷ [] =
     ap (λ (m : Me Unit (List SeatView)). m.0) c.join_seat.ensures.2
     ∙ two_of c.first.inside.seat.me.0 c.second.inside.seat.me.0 c.first.invariant.0 c.second.invariant.0 in (
-        c.join_seat.ensures.0 ∙ ap (λ (x : Gripped). x.table_id) c.first.view_is ∙ c.requires.first.table_is,
-        omega (arith, words.count),
-        at_two words.fixed words.table.shared.key words.key_is words.table.shared.table_id.slots both.id both.me one two is Merges
-            (λ s kept at. merge_turns words.fixed s kept both.id one two at),
-      )
+      c.join_seat.ensures.0 ∙ ap (λ (x : Gripped). x.table_id) c.first.view_is ∙ c.requires.first.table_is,
+      omega (arith, words.count),
+      at_two words.fixed words.table.shared.key words.key_is words.table.shared.table_id.slots both.id both.me one two is Merges
+          (λ s kept at. merge_turns words.fixed s kept both.id one two at),
+    )
 
 pub invariant_of-result : goal.invariant_of-result
 invariant_of-result c =
@@ -44,9 +44,9 @@ invariant_of-result c =
     ap (λ (m : Me Unit (List SeatView)). m.0) c.join_seat.ensures.2
     ∙ two_of c.first.inside.seat.me.0 c.second.inside.seat.me.0 c.first.invariant.0 c.second.invariant.0 in
     let t = c.load.ensures.2 one two is in (
-        only c.load.new.seat.me.0 t.0.view t.0.is,
-        t.1 ∙ ap (λ (m : Me Unit (List SeatView)). m.1) c.join_seat.ensures.2 ∙ c.first.invariant.1,
-      )
+      only c.load.new.seat.me.0 t.0.view t.0.is,
+      t.1 ∙ ap (λ (m : Me Unit (List SeatView)). m.1) c.join_seat.ensures.2 ∙ c.first.invariant.1,
+    )
 
 pub returns-clause-merged : goal.returns-clause-merged
 returns-clause-merged c =

@@ -29,12 +29,12 @@ fetch_or-requires g c =
     let written : AreWritten view.written group c.args.mask piece = subst (λ (v : SeatView). AreWritten v.written group c.args.mask piece) (sym its) c.requires.written in
     let call : Call = Commit g.A.Asked.group g.A.Asked.piece c.args.mask in
     let same : Commit group piece c.args.mask ≡ call = cc in (
-        ap (λ (x : Gripped). x.table_id) c.grip.view_is ∙ c.requires.of.table_is,
-        omega (arith, c.held_place-place.ensures.within, words.count),
-        at_code fixed words.table.shared.key words.key_is words.table.shared.table_id.slots seat.id seat.me c.grip.invariant.0
-            group c.held_place-place.result c.held_place-place.ensures.place
-            (λ n. bit_or n c.args.mask) (λ n old new. Did call old new) (λ s kept at small.
-            told_by fixed s seat.id group _ (λ new. Publishes group piece c.args.mask view new) (λ new. Did call view new)
-            (λ new t. subst (λ (x : Call). Did x view new) same t)
-            (publish_steps fixed s kept seat.id view at group c.args.mask piece c.requires.group accepted ours written)),
-      )
+      ap (λ (x : Gripped). x.table_id) c.grip.view_is ∙ c.requires.of.table_is,
+      omega (arith, c.held_place-place.ensures.within, words.count),
+      at_code fixed words.table.shared.key words.key_is words.table.shared.table_id.slots seat.id seat.me c.grip.invariant.0
+          group c.held_place-place.result c.held_place-place.ensures.place
+          (λ n. bit_or n c.args.mask) (λ n old new. Did call old new) (λ s kept at small.
+          told_by fixed s seat.id group _ (λ new. Publishes group piece c.args.mask view new) (λ new. Did call view new)
+          (λ new t. subst (λ (x : Call). Did x view new) same t)
+          (publish_steps fixed s kept seat.id view at group c.args.mask piece c.requires.group accepted ours written)),
+    )

@@ -27,17 +27,17 @@ compare_exchange-found-requires g c =
     let its : view ≡ c.args.grip.now.view = ap (λ (x : Gripped). x.view) c.grip.view_is in
     let piece : Piece = piece_of (tail_piece c.args.tail.now) in
     let accepted : IsAcceptedPiece fixed piece = accepted_piece fixed (tail_piece c.args.tail.now) c.is_last.ensures.bytes c.is_last.ensures.accepted c.requires.piece in (
-        ap (λ (x : Gripped). x.table_id) c.grip.view_is ∙ c.requires.of.table_is,
-        omega (arith, c.length_place-place.ensures.within, words.count),
-        at_code fixed words.table.shared.key words.key_is words.table.shared.table_id.slots seat.id seat.me c.grip.invariant.0
-            (length_place fixed) c.length_place-place.result c.length_place-place.ensures.place
-            (λ n. either (n == 0) (c.length-length.result + 1) n) (λ n. Settles g.A.Asked.piece n) (λ s kept at small.
-            let found : ℕ = slice_index s.words (length_place fixed) in
-            let t = settle_steps fixed s kept seat.id view at piece accepted c.is_last.ensures.last c.requires.fits in
-            told_by fixed s seat.id (length_place fixed) _ (λ new. Settles piece found view new) (λ new. Settles g.A.Asked.piece found view new)
-            (λ new t. subst (λ (p : Piece). Settles p found view new) (sym c.requires.asked) t)
-            (subst (λ (l : ℕ). Steps fixed s seat.id (length_place fixed) (either (found == 0) (l + 1) found) (λ new. Settles piece found view new)) (sym c.length-length.ensures.value) t)),
-      )
+      ap (λ (x : Gripped). x.table_id) c.grip.view_is ∙ c.requires.of.table_is,
+      omega (arith, c.length_place-place.ensures.within, words.count),
+      at_code fixed words.table.shared.key words.key_is words.table.shared.table_id.slots seat.id seat.me c.grip.invariant.0
+          (length_place fixed) c.length_place-place.result c.length_place-place.ensures.place
+          (λ n. either (n == 0) (c.length-length.result + 1) n) (λ n. Settles g.A.Asked.piece n) (λ s kept at small.
+          let found : ℕ = slice_index s.words (length_place fixed) in
+          let t = settle_steps fixed s kept seat.id view at piece accepted c.is_last.ensures.last c.requires.fits in
+          told_by fixed s seat.id (length_place fixed) _ (λ new. Settles piece found view new) (λ new. Settles g.A.Asked.piece found view new)
+          (λ new t. subst (λ (p : Piece). Settles p found view new) (sym c.requires.asked) t)
+          (subst (λ (l : ℕ). Steps fixed s seat.id (length_place fixed) (either (found == 0) (l + 1) found) (λ new. Settles piece found view new)) (sym c.length-length.ensures.value) t)),
+    )
 
 pub returns-clause-did : goal.returns-clause-did
 returns-clause-did g c =

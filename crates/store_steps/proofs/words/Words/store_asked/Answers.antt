@@ -28,10 +28,10 @@ store-requires g c =
     let ours : seat_claims view chunk ≡ true =
     subst (λ (v : SeatView). seat_claims v chunk ≡ true) (sym its)
     (subst (λ (k : ℕ). seat_claims c.args.grip.now.view k ≡ true) (sym c.requires.asked.0) c.requires.claimed) in (
-        ap (λ (x : Gripped). x.table_id) c.grip.view_is ∙ c.requires.of.table_is,
-        omega (arith, c.cell_place-place.ensures.within, words.count),
-        at_code fixed words.table.shared.key words.key_is words.table.shared.table_id.slots seat.id seat.me c.grip.invariant.0
-            (cell_place fixed (129 * chunk + w)) c.cell_place-place.result (c.cell_place-place.ensures.place ∙ place)
-            (λ n. c.args.value) (λ n. Stores chunk w c.args.value) (λ s kept at small.
-            store_steps fixed s kept seat.id view at chunk w c.args.value (omega (arith, c.requires.asked.1, c.requires.word)) ours),
-      )
+      ap (λ (x : Gripped). x.table_id) c.grip.view_is ∙ c.requires.of.table_is,
+      omega (arith, c.cell_place-place.ensures.within, words.count),
+      at_code fixed words.table.shared.key words.key_is words.table.shared.table_id.slots seat.id seat.me c.grip.invariant.0
+          (cell_place fixed (129 * chunk + w)) c.cell_place-place.result (c.cell_place-place.ensures.place ∙ place)
+          (λ n. c.args.value) (λ n. Stores chunk w c.args.value) (λ s kept at small.
+          store_steps fixed s kept seat.id view at chunk w c.args.value (omega (arith, c.requires.asked.1, c.requires.word)) ours),
+    )
