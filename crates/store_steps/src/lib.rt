@@ -4,6 +4,7 @@
 
 pub use fault::NewFault;
 pub use grip::Grip;
+pub use places::CELL_LEN;
 pub use words::Words;
 
 mod fault;
@@ -13,4 +14,6 @@ mod lengths;
 mod places;
 mod plays;
 mod rule;
+#[cfg(test)]
+mod tests;
 mod words;
