@@ -1,8 +1,8 @@
 -- What the tests of masks, names and claims tell.
-use Rattle.std.proofs.Common.{◌≡◌, ℕ, ◌+◌, ◌*◌, ◌/◌, ◌%◌, ◌<◌, nat_lt, ◌==◌, Bool, true, false, not, ◌||◌, List, [], ◌∷◌, Option, None, Some, is_some, refl, sym, subst, ◌∙◌, arith, inl, inr, eqb-true}
+use Rattle.std.proofs.Common.{◌≡◌, ℕ, ◌+◌, ◌*◌, ◌/◌, ◌%◌, ◌<◌, nat_lt, ◌==◌, Bool, true, false, not, ◌||◌, List, [], ◌∷◌, Option, None, Some, is_some, refl, sym, subst, ◌∙◌, arith, inl, inr, eq-eqb, eqb-true}
 use Rattle.std.specs.Int.{bit_at}
 use Rattle.std.specs.List.{list_any}
-use Rattle.std.proofs.lemmas.Bool.{and_parts, both_ways, false_from_ne_true, not-true, or_cases, or_left, or_parts, or_right}
+use Rattle.std.proofs.lemmas.Bool.{and_from, and_parts, cases_Bool, both_ways, false_from_ne_true, not-true, or_cases, or_left, or_parts, or_right}
 use Rattle.std.proofs.lemmas.Bool.Decides.{nat_tests}
 use Rattle.std.proofs.lemmas.Nat.Bits.{bit_at-lt, same_from_bits_below}
 use Rattle.store_core.specs.declared.fixed.Fixed.{Fixed}
@@ -43,6 +43,20 @@ same_name-true (x ∷ xs) (y ∷ ys) h =
     let head : x ≡ y = eqb-true x y parts.0 in
     let tail : xs ≡ ys = same_name-true xs ys parts.1 in
     cc
+
+pub same_name-refl : (name : Name) → same_name name name ≡ true
+same_name-refl [] = refl
+same_name-refl (x ∷ xs) = and_from _ _ (eq-eqb x x refl) (same_name-refl xs)
+
+pub same_name-turned : (one other : Name) → same_name one other ≡ same_name other one
+same_name-turned one other = elim (cases_Bool (same_name one other)) [
+  | inl same ↦
+      let e : one ≡ other = same_name-true one other same in
+      same ∙ sym (subst (λ (n : Name). same_name other n ≡ true) (sym e) (same_name-refl other))
+  | inr differ ↦ differ ∙ sym (false_from_ne_true _ (λ same.
+      let e : other ≡ one = same_name-true other one same in
+      both_ways _ differ (subst (λ (n : Name). same_name one n ≡ true) (sym e) (same_name-refl one))))
+]
 
 -- a name of both sets is a common one
 pub common_name : (ours theirs : List Name) (name : Name) → has_name ours name ≡ true → has_name theirs name ≡ true → share_name ours theirs ≡ true

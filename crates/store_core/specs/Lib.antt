@@ -13,3 +13,4 @@ pub mod Slots
 pub mod Reached
 pub mod Stores
 pub mod Laws
+pub mod Orders
