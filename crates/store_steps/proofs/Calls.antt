@@ -11,8 +11,9 @@ use Rattle.store_core.specs.Masks.{in_mask}
 use Rattle.store_core.specs.Names.{Name, least_name, share_name}
 use Rattle.store_core.specs.States.{State, claims, is_among}
 use Rattle.store_core.proofs.Joining.{plain}
+use Rattle.store_core.proofs.Tells.{same_name-refl}
 use Rattle.store_steps.specs.Tells.{claims_after}
-use Rattle.store_steps.proofs.Lists.{AreBy, same_name-refl}
+use Rattle.store_steps.proofs.Lists.{AreBy}
 
 -- a set of names shares one with itself
 pub shares_itself : (names : List Named) → 0 < length names → share_name (plain names) (plain names) ≡ true

@@ -15,3 +15,4 @@ pub mod Naming
 pub mod Regrouping
 pub mod Parting
 pub mod Meeting
+pub mod Going

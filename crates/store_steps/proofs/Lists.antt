@@ -1,6 +1,6 @@
 -- Views of seats, names among them, and events of others.
-use Rattle.std.proofs.Common.{eq-eqb, ◌==◌, ◌≡◌, ℕ, zero, suc, true, false, List, [], ◌∷◌, ◌++◌, Contains, refl, sym, ap, ◌∙◌, inl, inr}
-use Rattle.std.proofs.lemmas.Bool.{and_from, false_from_ne_true, or_cases, or_left, or_right}
+use Rattle.std.proofs.Common.{◌≡◌, ℕ, zero, suc, true, false, List, [], ◌∷◌, ◌++◌, Contains, refl, sym, ap, ◌∙◌, inl, inr}
+use Rattle.std.proofs.lemmas.Bool.{false_from_ne_true, or_cases, or_left, or_right}
 use Rattle.std.proofs.lemmas.List.Elements.{filter-append}
 use mathlib.Core.Option.{some, some-injective, some-ne-none}
 use lib.ListN.{get_elem?}
@@ -12,12 +12,7 @@ use Rattle.store_core.specs.Histories.{AreOfOthers, events_of, is_by}
 use Rattle.store_core.specs.Names.{Name, has_name, same_name, share_name}
 use Rattle.store_core.proofs.Joining.{plain}
 use Rattle.store_steps.specs.Grips.{first_of}
-use Rattle.store_core.proofs.Tells.{same_name-true}
-
--- a name is itself
-pub same_name-refl : (name : Name) → same_name name name ≡ true
-same_name-refl [] = refl
-same_name-refl (x ∷ xs) = let head : (x == x) ≡ true = eq-eqb x x refl in and_from (x == x) (same_name xs xs) head (same_name-refl xs)
+use Rattle.store_core.proofs.Tells.{same_name-true, same_name-refl}
 
 -- a common name of two sets
 pub shared : (ours theirs : List Name) → share_name ours theirs ≡ true → (name : Name) × (has_name ours name ≡ true) × (has_name theirs name ≡ true)

@@ -1,14 +1,13 @@
 -- Names of splits, and of merged sets.
 use Rattle.std.proofs.Common.{◌≡◌, ◌⊎◌, ℕ, ◌+◌, ◌<◌, Bool, true, false, ◌||◌, List, [], ◌∷◌, ◌++◌, length, Contains, refl, sym, ap, subst, ◌∙◌, arith, inl, inr, append_assoc, length-append}
-use Rattle.std.proofs.lemmas.Bool.{both_ways, cases_Bool, false_from_ne_true, or_left, or_parts, or_right}
+use Rattle.std.proofs.lemmas.Bool.{both_ways, cases_Bool, or_left, or_parts, or_right}
 use Rattle.bao_check.proofs.Lists.{Contains-cons_cases, Contains-head, Contains-tail}
 use Rattle.store_core.specs.declared.view.Named.{Named}
 use Rattle.store_core.specs.Names.{Name, has_name, name_le, same_name}
 use Rattle.store_core.specs.Views.{merge_names, new_names, put_name, raise_least}
 use Rattle.store_core.proofs.Joining.{merge-has, plain, put-has}
-use Rattle.store_core.proofs.Tells.{same_name-true}
+use Rattle.store_core.proofs.Tells.{same_name-refl, same_name-turned}
 use Rattle.store_steps.specs.Rule.{AreDistinct, IsLater}
-use Rattle.store_steps.proofs.Lists.{same_name-refl}
 
 -- the entry that splits, and what it leaves
 abbrev pub first_entry : List Named → Named
@@ -121,17 +120,6 @@ put-some named (other ∷ others) = elim (cases_Bool (name_le named.name other.n
 pub merge-some : (ours theirs : List Named) → 0 < length theirs → 0 < length (merge_names ours theirs)
 merge-some [] theirs more = more
 merge-some (named ∷ ours) theirs more = put-some named (merge_names ours theirs)
-
--- a name is another's equal both ways
-same_name-turned : (one other : Name) → same_name one other ≡ same_name other one
-same_name-turned one other = elim (cases_Bool (same_name one other)) [
-  | inl same ↦
-      let e : one ≡ other = same_name-true one other same in
-      same ∙ sym (subst (λ (n : Name). same_name other n ≡ true) (sym e) (same_name-refl other))
-  | inr differ ↦ differ ∙ sym (false_from_ne_true _ (λ same.
-      let e : other ≡ one = same_name-true other one same in
-      both_ways _ differ (subst (λ (n : Name). same_name one n ≡ true) (sym e) (same_name-refl one))))
-]
 
 put-distinct : (named : Named) (others : List Named) → AreDistinct (plain others) → has_name (plain others) named.name ≡ false
     → AreDistinct (plain (put_name named others))

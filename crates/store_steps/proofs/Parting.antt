@@ -16,7 +16,7 @@ use Rattle.store_core.specs.States.{claims, empty}
 use Rattle.store_core.specs.Views.{names_of, split_first, split_second}
 use Rattle.store_core.proofs.Joining.{plain, split_keeps}
 use Rattle.store_core.proofs.Lasting.{claims_from, legal-append}
-use Rattle.store_core.proofs.Tells.{same_name-true}
+use Rattle.store_core.proofs.Tells.{same_name-true, same_name-refl}
 use Rattle.store_steps.specs.Layout.{cell_at}
 use Rattle.store_steps.specs.Parts.{ArePartsOf}
 use Rattle.store_steps.specs.Rule.{AreDistinct, Fits, HasView, IsKept, IsLater, IsNamed}
@@ -25,7 +25,7 @@ use Rattle.store_steps.specs.Grips.{first_of}
 use Rattle.store_steps.specs.Plays.{Parts}
 use Rattle.store_steps.proofs.Stepping.{Steps, still_step}
 use Rattle.store_steps.proofs.Keeping.{its, single}
-use Rattle.store_steps.proofs.Lists.{entry_of, one_part, same_name-refl}
+use Rattle.store_steps.proofs.Lists.{entry_of, one_part}
 use Rattle.store_steps.proofs.Naming.{child, child_later, first_entry, first_there, later_cases, later_child, later_raised, name_there, new_names-are, raise-length, raised, raised_cases, same_rest}
 use Rattle.store_steps.proofs.Regrouping.{at_end, at_other, rekept}
 
