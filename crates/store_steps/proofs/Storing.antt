@@ -12,8 +12,8 @@ use Rattle.store_core.specs.States.{State, claims}
 use Rattle.store_core.specs.Views.{names_of, seat_claims, stored}
 use Rattle.store_core.proofs.Lasting.{legal_is_sound}
 use Rattle.store_core.proofs.Tells.{claims-claimed}
+use Rattle.store_steps.specs.Tells.{Stores}
 use Rattle.store_steps.specs.Layout.{cell_at, cell_place}
-use Rattle.store_steps.specs.Plays.{Stores}
 use Rattle.store_steps.specs.Rule.{IsKept}
 use Rattle.store_steps.proofs.Giving.{not_held}
 use Rattle.store_steps.proofs.Standing.{cells_stand, left, put}

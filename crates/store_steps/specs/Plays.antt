@@ -1,20 +1,16 @@
 -- What each kind of step tells, as the table asks it: of the step, the seat before, the number found and the seat after.
-use Rattle.std.specs.Prelude.{◌*◌, ◌+◌, ◌≡◌, ℕ, ◌-◌, ◌/◌, ◌%◌, ◌==◌, if◌then◌else◌, List, [], ◌∷◌, Option, None, Some, bit_and}
+use Rattle.std.specs.Prelude.{◌≡◌, ℕ, ◌-◌, ◌==◌, if◌then◌else◌, List, [], ◌∷◌, Option, None, Some, bit_and}
 use Rattle.std.specs.Int.{w64, bit_not}
 use Rattle.atomic_table.specs.Table.{Me}
 use Rattle.store_core.specs.declared.history.Call.TheVariants.{Commit, Give, Length, Settle, Take}
 use Rattle.store_core.specs.declared.history.Piece.{Piece}
 use Rattle.store_core.specs.declared.view.SeatView.{SeatView}
-use Rattle.store_core.specs.Cells.{cell_word}
 use Rattle.store_core.specs.Events.{settling}
-use Rattle.store_core.specs.Histories.{state_after}
-use Rattle.store_core.specs.Masks.{has_bit}
 use Rattle.store_core.specs.Pieces.{length_of}
-use Rattle.store_core.specs.States.{is_held}
 use Rattle.store_core.specs.Views.{split_first, split_second}
 use Rattle.store_steps.specs.Parts.{AreMet, ArePartsOf, IsMerged}
 use Rattle.store_steps.specs.Reads.{read_events}
-use Rattle.store_steps.specs.Tells.{Did, Looked}
+use Rattle.store_steps.specs.Tells.{Did, FindsHeld, FindsWord, Looked}
 
 -- a seat with one view has one afterwards, of which this is told
 abbrev pub OfOne : (SeatView → SeatView → Type 0) → Me Unit (List SeatView) → Me Unit (List SeatView) → Type 0
@@ -32,24 +28,12 @@ Takes group want asked found old new = Did (Take group want (bit_and asked (bit_
 abbrev pub Gives : ℕ → ℕ → ℕ → SeatView → SeatView → Type 0
 Gives group mask given old new = Did (Give group mask given) old new
 
--- word w of the chunk's cell counts as stored, and nothing else changes
-abbrev pub Stores : ℕ → ℕ → ℕ → SeatView → SeatView → Type 0
-Stores chunk w value old new = new ≡ record old { written = record { number = 129 * chunk + w; value = value } ∷ old.written }
-
 abbrev pub Publishes : ℕ → Piece → ℕ → SeatView → SeatView → Type 0
 Publishes group piece mask old new = Did (Commit group piece mask) old new
-
--- the word found shows which chunks of the group are held
-abbrev pub FindsHeld : ℕ → ℕ → SeatView → Type 0
-FindsHeld group found view = (c : ℕ) → c / 64 ≡ group → has_bit found (c % 64) ≡ is_held (state_after view.seen) c
 
 pub record Loads (group at len found : ℕ) (old new : SeatView) : Type 0 where
   pub looked : Looked (read_events old group at len) old new
   pub finds : FindsHeld group found new
-
--- where the seat has seen the chunk held, the word found is word w of its cell
-abbrev pub FindsWord : ℕ → ℕ → ℕ → SeatView → Type 0
-FindsWord chunk w found view = (bytes : List ℕ) → (state_after view.seen).held chunk ≡ Some bytes → found ≡ cell_word bytes w
 
 pub record Copies (chunk w found : ℕ) (old new : SeatView) : Type 0 where
   pub same : new ≡ old

@@ -33,7 +33,8 @@ pub record HasView (views : List (List SeatView)) (seat part : ℕ) (view : Seat
   pub is_part : get_elem? parts part ≡ some view
 
 -- A view fits the history: it is of this store, what it has seen begins the history, and all that follows are others'
--- calls. The words that it stored stand in the cells of chunks that it claims.
+-- calls. So its calls in the history are those that it has seen, and the state after the history gives it the claims
+-- that it knows of. The words that it stored stand in the cells of chunks that it claims.
 pub record Fits (fixed : Fixed) (history : List Event) (words : List ℕ) (view : SeatView) : Type 0 where
   pub fixed_is : view.fixed ≡ fixed
   pub continues : Continues view history

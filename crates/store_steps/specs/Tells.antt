@@ -1,12 +1,13 @@
 -- What a step tells of its seat: how its view goes on, and which call of its own stands there.
-use Rattle.std.specs.Prelude.{◌≡◌, ℕ, Bool, not, ◌&&◌, ◌||◌, List, [], ◌∷◌, ◌++◌}
+use Rattle.std.specs.Prelude.{◌+◌, ◌*◌, ◌/◌, ◌%◌, Some, ◌≡◌, ℕ, Bool, not, ◌&&◌, ◌||◌, List, [], ◌∷◌, ◌++◌}
 use Rattle.store_core.specs.declared.history.Call.{Call}
 use Rattle.store_core.specs.declared.history.Call.TheVariants.{Commit, Give, Length, Read, Settle, Take}
 use Rattle.store_core.specs.declared.history.Event.{Event}
 use Rattle.store_core.specs.declared.view.SeatView.{SeatView}
+use Rattle.store_core.specs.Cells.{cell_word}
 use Rattle.store_core.specs.Histories.{AreOfOthers, IsLegal, state_after}
-use Rattle.store_core.specs.Masks.{in_mask}
-use Rattle.store_core.specs.States.{State}
+use Rattle.store_core.specs.Masks.{has_bit, in_mask}
+use Rattle.store_core.specs.States.{State, is_held}
 use Rattle.store_core.specs.Views.{mine, names_of, seat_claims, written_after}
 
 -- What is seen begins with all that had been seen. After that come others' calls, and last the seat's own, which are
@@ -48,3 +49,15 @@ pub record Looked (events : State → List Event) (old new : SeatView) : Type 0 
   pub goes_on : GoesOn old new between (events (state_after (old.seen ++ between)))
   pub claims_are : (c : ℕ) → seat_claims new c ≡ seat_claims old c
   pub written_are : new.written ≡ old.written
+
+-- word w of the chunk's cell counts as stored, and nothing else changes
+abbrev pub Stores : ℕ → ℕ → ℕ → SeatView → SeatView → Type 0
+Stores chunk w value old new = new ≡ record old { written = record { number = 129 * chunk + w; value = value } ∷ old.written }
+
+-- the word found shows which chunks of the group are held
+abbrev pub FindsHeld : ℕ → ℕ → SeatView → Type 0
+FindsHeld group found view = (c : ℕ) → c / 64 ≡ group → has_bit found (c % 64) ≡ is_held (state_after view.seen) c
+
+-- where the seat has seen the chunk held, the word found is word w of its cell
+abbrev pub FindsWord : ℕ → ℕ → ℕ → SeatView → Type 0
+FindsWord chunk w found view = (bytes : List ℕ) → (state_after view.seen).held chunk ≡ Some bytes → found ≡ cell_word bytes w

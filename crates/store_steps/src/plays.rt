@@ -61,7 +61,8 @@ pub(crate) struct Storing<A> {
 }
 
 impl<A: Asked> Play<(), LinkedList<SeatView>> for Storing<A> {
-    ghost use Rattle.store_steps.specs.Plays.{OfOne, Stores};
+    ghost use Rattle.store_steps.specs.Plays.{OfOne};
+    ghost use Rattle.store_steps.specs.Tells.{Stores};
 
     ghost then = { λ step me found later. OfOne (Stores A.first A.second found) me later };
 }

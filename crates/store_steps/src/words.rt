@@ -46,9 +46,8 @@ impl Words {
     ghost use Rattle.store_steps.specs.Asks.{AreClaimed, AreHeldClaims, AreWritten};
     ghost use Rattle.store_steps.specs.Grips.{opening_view};
     ghost use Rattle.store_steps.specs.Parts.{AreMet, ArePartsOf, IsMerged};
-    ghost use Rattle.store_steps.specs.Plays.{FindsHeld, FindsWord, Stores};
     ghost use Rattle.store_steps.specs.Reads.{read_events};
-    ghost use Rattle.store_steps.specs.Tells.{Did, Looked};
+    ghost use Rattle.store_steps.specs.Tells.{Did, FindsHeld, FindsWord, Looked, Stores};
     ghost use Rattle.store_steps.specs.Words.{HasGroup, IsOf, fixed_of};
 
     /// Words of which none is held, claimed or recorded, and their first grip, which has seen nothing. `capacity` is a

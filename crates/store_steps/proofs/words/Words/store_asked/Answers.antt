@@ -2,9 +2,9 @@ use Rattle.std.proofs.Common.{◌≡◌, ◌<◌, ◌+◌, ◌*◌, true, ℕ, s
 use Rattle.store_core.specs.declared.fixed.Fixed.{Fixed}
 use Rattle.store_core.specs.declared.view.SeatView.{SeatView}
 use Rattle.store_core.specs.Views.{seat_claims}
+use Rattle.store_steps.specs.Tells.{Stores}
 use Rattle.store_steps.specs.Grips.{Gripped, first_of}
 use Rattle.store_steps.specs.Layout.{cell_place}
-use Rattle.store_steps.specs.Plays.{Stores}
 use Rattle.store_steps.proofs.Stepping.{at_code, claimed_low}
 use Rattle.store_steps.proofs.Storing.{store_steps}
 use Rattle.store_steps.proofs.words.Words.store_asked.Goals as goal
