@@ -16,3 +16,4 @@ pub mod Regrouping
 pub mod Parting
 pub mod Meeting
 pub mod Going
+pub mod OneByte
