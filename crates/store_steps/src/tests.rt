@@ -3,7 +3,7 @@ ghost use Rattle.store_core.specs.Cells.{cell_word};
 ghost use Rattle.store_core.specs.Views.{seat_claims, stored};
 ghost use Rattle.store_steps.specs.Words.{HasGroup, IsOf, fixed_of};
 
-use crate::{CELL_LEN, Grip, Words};
+use crate::{CELL_LEN, Grip, NewFault, Words};
 use b3tree::{CHUNK_LEN, Hash, Mode};
 use bao_check::{Checked, check_combined};
 use bao_text::combined;
@@ -167,5 +167,17 @@ fn a_byte_is_published_and_seen(rt: HostRuntime) -> Result<(), Fail> {
     assert_eq!(rt; words.copy(&mut two, 0, 1), 107);
     assert_eq!(rt; words.copy(&mut two, 0, 2), 0);
     assert_eq!(rt; words.take(&mut two, 0, 1), 0);
+    Ok(())
+}
+
+#[test]
+fn faults_are_printed(rt: HostRuntime) -> Result<(), Fail> {
+    for (fault, code, line) in [
+        (NewFault::Memory, 801, "801 memory"),
+        (NewFault::Capacity, 802, "802 capacity"),
+    ] {
+        assert_eq!(rt; fault.code(), code);
+        assert_eq!(rt; format!(in rt.alloc(); "{fault}")?.as_str(), line);
+    }
     Ok(())
 }
