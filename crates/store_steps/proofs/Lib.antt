@@ -16,4 +16,5 @@ pub mod Regrouping
 pub mod Parting
 pub mod Meeting
 pub mod Going
+pub mod LastLoad
 pub mod OneByte
