@@ -1,5 +1,5 @@
 -- The claims that a seat keeps stay those of its view.
-use Rattle.std.proofs.Common.{◌≡◌, ◌≢◌, ℕ, ◌/◌, ◌%◌, ◌<◌, ◌==◌, Bool, true, false, ◌&&◌, ◌||◌, List, length, replicate, set, slice_index, refl, sym, ap, subst, ◌∙◌, arith, inl, inr, eq-eqb, ne_eqb}
+use Rattle.std.proofs.Common.{◌≡◌, ◌≢◌, ℕ, ◌/◌, ◌%◌, ◌<◌, Bool, true, false, ◌&&◌, ◌||◌, List, replicate, set, slice_index, refl, sym, ap, subst, ◌∙◌, arith, inl, inr, eq-eqb, ne_eqb}
 use Rattle.std.proofs.lemmas.Bool.{cases_eq}
 use Rattle.std.proofs.lemmas.List.{get_or-replicate, length-replicate, length-set}
 use Rattle.std.specs.Int.Bits.{bit_or}
@@ -7,11 +7,11 @@ use Rattle.store_core.specs.declared.fixed.Fixed.{Fixed}
 use Rattle.store_core.specs.declared.history.Call.TheVariants.{Take}
 use Rattle.store_core.specs.declared.view.SeatView.{SeatView}
 use Rattle.store_core.specs.Machine.{groups}
-use Rattle.store_core.specs.Masks.{has_bit, in_mask}
-use Rattle.store_core.specs.Histories.{IsLegal, state_after}
+use Rattle.store_core.specs.Masks.{has_bit}
+use Rattle.store_core.specs.Histories.{state_after}
 use Rattle.store_core.specs.Names.{Name}
 use Rattle.store_core.specs.States.{claims}
-use Rattle.store_core.specs.Views.{Continues, seat_claims, split_first, split_second}
+use Rattle.store_core.specs.Views.{seat_claims, split_first}
 use Rattle.store_core.proofs.Joining.{claims_continued, split_keeps}
 use Rattle.store_steps.specs.Grips.{opening_view}
 use Rattle.store_steps.specs.Parts.{AreMet, ArePartsOf}
