@@ -4,6 +4,7 @@ use Rattle.clap.specs.Words.{App, IsAmong, Rule, Text, app_of, fault_of, new_app
 use Rattle.clap.specs.declared.builder.command.Command.{Command}
 use Rattle.clap.specs.declared.builder.command.Command.TheViews.{out-Command}
 use Rattle.clap.specs.Lexer.{usize_max}
+use Rattle.clap.specs.declared.builder.action.ArgAction.TheVariants.{SetTrue}
 use Rattle.clap.specs.declared.builder.value_parser.ValueParser.{ValueParser}
 use Rattle.clap.specs.declared.builder.value_parser.ValueParser.TheVariants.{Signed, Unsigned}
 use Rattle.clap.specs.declared.error.kind.ErrorKind.{ErrorKind}
@@ -86,9 +87,13 @@ with_slice_rules app = with_mode_rules (with_rule (with_rule app slice_rule) out
 abbrev pub decode_slice_app : App
 decode_slice_app = with_slice_rules (with_range_rules (new_app (codes "decode-slice")))
 
--- how many workers gather: one, for now
+-- how many workers gather
 abbrev pub workers_rule : Rule
-workers_rule = record (option_rule (codes "workers")) { parser = Some (Signed (pos 1) (pos 1)); defaults = codes "1" ∷ [] }
+workers_rule = record (option_rule (codes "workers")) { parser = Some (Signed (pos 1) (pos 64)); defaults = codes "4" ∷ [] }
+
+-- whether the blob's combined encoding is written in its place: an option `--encode` without a value
+abbrev pub encode_rule : Rule
+encode_rule = record (new_rule (codes "encode")) { long = Some (codes "encode"); action = Some SetTrue }
 
 -- the most chunks of a blob
 abbrev pub capacity_rule : Rule
@@ -102,7 +107,7 @@ abbrev pub with_holders_rules : App → App
 with_holders_rules app = with_mode_rules (with_rule (with_rule (with_rule app root_rule) out_rule) files_rule)
 
 abbrev pub gather_app : App
-gather_app = with_holders_rules (with_rule (with_rule (new_app (codes "gather")) workers_rule) capacity_rule)
+gather_app = with_holders_rules (with_rule (with_rule (with_rule (new_app (codes "gather")) workers_rule) capacity_rule) encode_rule)
 
 abbrev pub script_rule : Rule
 script_rule = place_rule (codes "SCRIPT")

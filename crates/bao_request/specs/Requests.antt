@@ -1,6 +1,6 @@
 -- what the words ask for: a request, from the rows that clap has of a subcommand's words (an
 -- option's or a place's name, with its text)
-use Rattle.std.specs.Prelude.{◌≡◌, ℕ, List, Option, Some, None, codes, map}
+use Rattle.std.specs.Prelude.{◌≡◌, ◌↔◌, ℕ, Bool, true, List, Option, Some, None, codes, map}
 use Rattle.std.specs.Option.{option_copied}
 use Rattle.std.specs.Str.Parse.{digits_value, without_leading_plus}
 use Rattle.std.specs.Borrow.{Bor}
@@ -24,6 +24,10 @@ GivesTexts rows id texts = all_of id rows ≡ Some (map (λ text. text.now) text
 -- the row of this name has decimal digits of this value
 abbrev pub GivesNumber : List Row → Text → ℕ → Type 0
 GivesNumber rows id n = (text : Text) × (one_of id rows ≡ Some text) × (n ≡ digits_value 10 (without_leading_plus text))
+
+-- the row of this name has the text `true`, or it hasn't
+abbrev pub GivesFlag : List Row → Text → Bool → Type 0
+GivesFlag rows id flag = (flag ≡ true) ↔ (first_of id rows ≡ Some (codes "true"))
 
 -- the rows START and LEN have these numbers
 abbrev pub GivesRange : List Row → ℕ → ℕ → Type 0
@@ -49,8 +53,8 @@ GivesTask name rows (Encode encoding file out) =
     GivesEncoding name rows encoding × GivesText rows (codes "FILE") file.now × GivesText rows (codes "OUT") out.now
 GivesTask name rows (Decode root part file out) =
     GivesPart name rows part file.now × GivesText rows (codes "ROOT") root.now × GivesText rows (codes "OUT") out.now
-GivesTask name rows (Gather root capacity files out) =
-    (name ≡ codes "gather") × GivesNumber rows (codes "capacity") capacity × GivesText rows (codes "ROOT") root.now × GivesTexts rows (codes "FILE") files.items × GivesText rows (codes "OUT") out.now
+GivesTask name rows (Gather root workers capacity encode files out) =
+    (name ≡ codes "gather") × GivesNumber rows (codes "workers") workers × GivesNumber rows (codes "capacity") capacity × GivesFlag rows (codes "encode") encode × GivesText rows (codes "ROOT") root.now × GivesTexts rows (codes "FILE") files.items × GivesText rows (codes "OUT") out.now
 GivesTask name rows (Replay root capacity script files) =
     (name ≡ codes "replay") × GivesNumber rows (codes "capacity") capacity × GivesText rows (codes "ROOT") root.now × GivesText rows (codes "SCRIPT") script.now × GivesTexts rows (codes "FILE") files.items
 

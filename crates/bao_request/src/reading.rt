@@ -2,7 +2,7 @@ ghost use Rattle.std.specs.Prelude.{◌≡◌, IfErr, IfOk, IfSome, Some, codes,
 ghost use Rattle.std.specs.Option.{option_copied};
 ghost use Rattle.clap.specs.Words.{first_of, found_of, kind_of, rows_of, subcommand_of, subcommand_rows_of};
 ghost use Rattle.bao_request.specs.CommandLine.{AsksFor, AsksForHelp, IsHelp, program_app};
-ghost use Rattle.bao_request.specs.Requests.{GivesEncoding, GivesNumber, GivesRange, GivesRequest, GivesTask, GivesText, GivesTexts};
+ghost use Rattle.bao_request.specs.Requests.{GivesEncoding, GivesFlag, GivesNumber, GivesRange, GivesRequest, GivesTask, GivesText, GivesTexts};
 
 use crate::rules::program;
 use crate::tasks::{Encoding, Part, Request, Task};
@@ -78,6 +78,13 @@ fn decode_of<'a>(name: &str, words: &ArgMatches<'a>) -> Option<Task<'a>>
     }
 }
 
+// Whether the option `id`, which has no value, is given.
+fn flag(words: &ArgMatches<'_>, id: &str) -> bool
+    ensures { GivesFlag (rows_of (found_of words.now)) id.now result }
+{
+    matches!(text(words, id), Some("true"))
+}
+
 // The texts of the word `id`, all of them.
 fn texts<'m, 'a>(words: &'m ArgMatches<'a>, id: &str) -> Option<&'m [&'a str]>
     ensures { IfSome result (λ texts. GivesTexts (rows_of (found_of words.now)) id.now texts.now) }
@@ -89,8 +96,9 @@ fn texts<'m, 'a>(words: &'m ArgMatches<'a>, id: &str) -> Option<&'m [&'a str]>
 fn gather_of<'a>(alloc: Global, words: &ArgMatches<'a>) -> Result<Option<Task<'a>>, AllocError>
     ensures { IfOk result (λ task. IfSome task (GivesTask (codes "gather") (rows_of (found_of words.now)))) }
 {
-    let (Some(root), Some(capacity), Some(files), Some(out)) = (
+    let (Some(root), Some(workers), Some(capacity), Some(files), Some(out)) = (
         text(words, "ROOT"),
+        count(words, "workers"),
         count(words, "capacity"),
         texts(words, "FILE"),
         text(words, "OUT"),
@@ -99,7 +107,9 @@ fn gather_of<'a>(alloc: Global, words: &ArgMatches<'a>) -> Result<Option<Task<'a
     };
     Ok(Some(Task::Gather {
         root,
+        workers,
         capacity,
+        encode: flag(words, "encode"),
         files: files.to_vec(alloc)?,
         out,
     }))

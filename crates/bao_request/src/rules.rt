@@ -1,7 +1,7 @@
 ghost use Rattle.std.specs.Prelude.{◌≡◌, IfOk, Some, false};
 ghost use Rattle.clap.specs.Words.{app_of, rule_of};
 ghost use Rattle.clap.specs.declared.builder.command.Command.TheViews.{out-Command};
-ghost use Rattle.bao_request.specs.CommandLine.{IsApp, any_number, at_rule, capacity_rule, checkers_app, decode_app, decode_slice_app, encode_app, files_rule, gather_app, hash_app, length_rule, option_rule, outboard_app, place_rule, program_app, replay_app, slice_app, with_file_rules, with_holders_rules, with_mode_rules, with_range_rules, with_script_rules, with_slice_rules, workers_rule, writers_app};
+ghost use Rattle.bao_request.specs.CommandLine.{IsApp, any_number, at_rule, capacity_rule, checkers_app, decode_app, decode_slice_app, encode_app, encode_rule, files_rule, gather_app, hash_app, length_rule, option_rule, outboard_app, place_rule, program_app, replay_app, slice_app, with_file_rules, with_holders_rules, with_mode_rules, with_range_rules, with_script_rules, with_slice_rules, workers_rule, writers_app};
 
 use clap::{Arg, ArgAction, Command, value_parser};
 use std::alloc::{AllocError, Global};
@@ -11,6 +11,9 @@ const MOST_OUTPUT: i64 = 65_536;
 
 // The most chunks of a blob that is gathered.
 const MOST_CHUNKS: i64 = 65_536;
+
+// The most workers that gather.
+const MOST_WORKERS: i64 = 64;
 
 // The option `--id NAME`.
 fn option<'a>(alloc: Global, id: &'a str, name: &'a str) -> Arg<'a>
@@ -162,9 +165,19 @@ fn workers_option<'a>(alloc: Global) -> Arg<'a>
     ensures global { result.global ≡ false }
 {
     option(alloc, "workers", "N")
-        .value_parser(value_parser!(u32).range(1..=1))
-        .default_value("1")
-        .help("How many workers gather, which is 1")
+        .value_parser(value_parser!(u32).range(1..=MOST_WORKERS))
+        .default_value("4")
+        .help("How many workers gather, 1 to 64")
+}
+
+fn encode_flag<'a>(alloc: Global) -> Arg<'a>
+    ensures rule { rule_of result ≡ encode_rule }
+    ensures global { result.global ≡ false }
+{
+    Arg::new(alloc, "encode")
+        .long("encode")
+        .action(ArgAction::SetTrue)
+        .help("Writes the blob's combined Bao encoding in place of the blob")
 }
 
 fn capacity_option<'a>(alloc: Global) -> Arg<'a>
@@ -203,7 +216,8 @@ fn gather_command<'a>(alloc: Global) -> Result<Command<'a>, AllocError>
     let command = Command::new(alloc, "gather")
         .about("Gathers the blob with a root out of combined Bao encodings, and writes it")
         .arg(workers_option(alloc))?
-        .arg(capacity_option(alloc))?;
+        .arg(capacity_option(alloc))?
+        .arg(encode_flag(alloc))?;
     with_holders(alloc, command)
 }
 

@@ -30,11 +30,13 @@ pub enum Task<'a> {
         file: &'a str,
         out: &'a str,
     },
-    /// The blob with this root, of at most `capacity` chunks, 1 to 65,536, out of the files, one or more, to
-    /// the file `out`.
+    /// The blob with this root, of at most `capacity` chunks, 1 to 65,536, gathered by 1 to 64 workers out of the
+    /// files, one or more, to the file `out`: its bytes, or with `encode` its combined encoding.
     Gather {
         root: &'a str,
+        workers: u32,
         capacity: u32,
+        encode: bool,
         files: Vec<&'a str>,
         out: &'a str,
     },
