@@ -36,7 +36,7 @@ abbrev pub line_of : Mode → Task → List ℕ → List ℕ
 line_of mode (Hash at length file) bytes = digits_line (stream mode bytes at length)
 line_of mode (Encode encoding file out) bytes = digits_line (hash mode bytes)
 line_of mode (Decode root part file out) bytes = part_line part bytes
-line_of mode (Collect root capacity files out) bytes = ok_line (length bytes)
+line_of mode (Collect root workers capacity encode files out) bytes = ok_line (length bytes)
 line_of mode (Rerun root capacity script files) bytes = bytes
 
 -- the task's root, where it has one, is 64 hexadecimal digits
@@ -44,7 +44,7 @@ abbrev pub HasRoot : Task → Type 0
 HasRoot (Hash at length file) = Unit {0}
 HasRoot (Encode encoding file out) = Unit {0}
 HasRoot (Decode root part file out) = IsDigits root.now
-HasRoot (Collect root capacity files out) = IsDigits root.now
+HasRoot (Collect root workers capacity encode files out) = IsDigits root.now
 HasRoot (Rerun root capacity script files) = IsDigits root.now
 
 -- the text of a part of the blob with this root, in hexadecimal digits, is accepted
@@ -62,7 +62,7 @@ abbrev pub IsRight : Mode → Task → List ℕ → Type 0
 IsRight mode (Hash at length file) bytes = Unit {0}
 IsRight mode (Encode encoding file out) bytes = Unit {0}
 IsRight mode (Decode root part file out) bytes = IsRightPart mode root.now part bytes
-IsRight mode (Collect root capacity files out) bytes = (length files.items ≤ 64) × HasHash mode root.now bytes
+IsRight mode (Collect root workers capacity encode files out) bytes = (length files.items ≤ 64) × HasHash mode root.now bytes
 IsRight mode (Rerun root capacity script files) bytes = (length files.items ≤ 64) × IsReplay mode root.now capacity (length files.items) bytes
 
 -- the text that goes to OUT

@@ -11,7 +11,7 @@ ghost use Rattle.bao_command.specs.Tasks.{Answers, HasRoot, IsRight, line_of};
 use crate::decode::decode_file;
 use crate::digits::print_digits;
 use crate::fault::Fault;
-use crate::gathering::gather_files;
+use crate::gathering::{Gathering, gather_files};
 use crate::input::{open_file, read_file, shared_len};
 use crate::mode::{bytes_of_digits, mode_of};
 use crate::once::Once;
@@ -102,10 +102,19 @@ fn serve_task<'a, R: Files<File = File> + AllocGlobal + Threads + Sync, O: Write
         } => decode_file(rt, mode, root, part, file, path, out),
         Task::Gather {
             root,
+            workers,
             capacity,
+            encode,
             files,
             out: path,
-        } => gather_files(rt, mode, root, *capacity, files.as_slice(), path, out),
+        } => {
+            let how = Gathering {
+                workers: *workers,
+                capacity: *capacity,
+                encode: *encode,
+            };
+            gather_files(rt, mode, root, how, files.as_slice(), path, out)
+        }
         Task::Replay {
             root,
             capacity,

@@ -1,7 +1,9 @@
 ghost use Rattle.std.specs.Borrow.{Bor};
 ghost use Rattle.std.specs.Prelude.{◌≡◌, ◌⊎◌, ◌<◌, ◌≤◌, ℕ, List, IfErr, IfOk, IsErrAnd, OnOk, Some, length, slice_get};
 ghost use Rattle.bao_command.specs.declared.fault.Fault.TheVariants as Fault;
-ghost use Rattle.bao_command.specs.Gathered.{LeavesBlob, WritesBlob};
+ghost use Rattle.bao_command.specs.Gathered.{LeavesBlob, WritesBlob, gathered_text};
+ghost use Rattle.bao_text.specs.Faults.{WroteOnly};
+ghost use Rattle.std.specs.Io.KnownBytes.{Appends};
 ghost use Rattle.bao_command.specs.Printed.{IsQuiet, NamesFirst, Prints};
 ghost use Rattle.bao_command.specs.Tasks.{HasHash, ok_line};
 
@@ -11,7 +13,7 @@ use crate::input::read_file;
 use crate::mode::bytes_of_digits;
 use crate::output::LateFile;
 use b3tree::{Hash, Mode};
-use bao_text::write_text;
+use bao_text::{WriteFault, write_combined, write_text};
 use gather::gather_texts;
 use std::alloc::Global;
 use std::io::Write;
@@ -42,41 +44,76 @@ fn read_files<'a, R: Files + AllocGlobal>(
     }
 }
 
+/// How a blob is gathered, and what is written of it.
+#[derive(Clone, Copy, Debug)]
+pub struct Gathering {
+    /// How many workers gather, 1 to 64: a number beyond counts as the nearest.
+    pub workers: u32,
+    /// The most chunks that the blob may have.
+    pub capacity: u32,
+    /// Whether the blob's combined encoding is written in its place.
+    pub encode: bool,
+}
+
+// Writes the blob, or its combined encoding.
+fn write_blob<W: Write>(
+    alloc: Global,
+    mode: &Mode,
+    encode: bool,
+    blob: &[u8],
+    out: &mut W,
+) -> Result<(), WriteFault>
+    ensures text { OnOk result (Appends (W.contents out.old) (W.contents out.new) (gathered_text encode mode.now blob.now)) }
+    ensures err { IfErr result (WroteOnly (W.contents out.old) (W.contents out.new) (gathered_text encode mode.now blob.now)) }
+{
+    if encode {
+        write_combined(alloc, mode, blob, out)?;
+        Ok(())
+    } else {
+        write_text(blob, out)
+    }
+}
+
 /// Gathers the blob with this root out of the texts, each a combined encoding from a holder that nobody trusts,
-/// writes it to `out`, which is flushed, and answers how many bytes it has.
+/// writes it, or its combined encoding, to `out`, which is flushed, and answers how many bytes the blob has.
 ///
 /// Nothing is written before the blob was verified. After `Gather`, where no blob with this root and at most
-/// `capacity` chunks came together, nothing was written; after `Write` with the path a beginning of the blob may
-/// stand.
+/// `capacity` chunks came together, and after `Encoding`, where there was no memory for the encoding, nothing was
+/// written; after `Write` with the path a beginning of the text may stand.
 pub fn write_gathered<'a, W: Write>(
     alloc: Global,
     mode: &Mode,
     root: &Hash,
-    capacity: u32,
+    how: Gathering,
     texts: &[Vec<u8>],
     path: &'a str,
     out: &mut W,
 ) -> Result<u64, Fault<'a>>
-    ensures blob { IfOk result (WritesBlob mode.now root.now.0 (W.contents out.old) (W.contents out.new)) }
-    ensures fault { IfErr result (LeavesBlob mode.now root.now.0 path.entry (W.contents out.old) (W.contents out.new)) }
+    ensures blob { IfOk result (WritesBlob how.encode mode.now root.now.0 (W.contents out.old) (W.contents out.new)) }
+    ensures fault { IfErr result (LeavesBlob how.encode mode.now root.now.0 path.entry (W.contents out.old) (W.contents out.new)) }
 {
-    let blob = match gather_texts(alloc, *root, *mode, capacity, texts) {
+    let blob = match gather_texts(alloc, *root, *mode, how.capacity, texts) {
         Ok(blob) => blob,
         Err(fault) => return Err(Fault::Gather(fault)),
     };
-    if write_text(blob.as_slice(), out).is_err() || out.flush().is_err() {
+    match write_blob(alloc, mode, how.encode, blob.as_slice(), out) {
+        Ok(()) => {}
+        Err(WriteFault::Memory) => return Err(Fault::Encoding),
+        Err(WriteFault::Writer { .. }) => return Err(Fault::Write(path)),
+    }
+    if out.flush().is_err() {
         return Err(Fault::Write(path));
     }
     Ok(blob.len() as u64)
 }
 
-// Gathers the blob out of the files, writes it to the file at `path`, which is made once the blob was verified, and
-// answers how many bytes that is.
+// Gathers the blob out of the files, writes it, or its combined encoding, to the file at `path`, which is made once
+// the blob was verified, and answers how many bytes the blob has.
 fn gather<'a, R: Files + AllocGlobal>(
     rt: &R,
     mode: &Mode,
     root: &str,
-    capacity: u32,
+    how: Gathering,
     files: &[&'a str],
     path: &'a str,
 ) -> Result<u64, Fault<'a>>
@@ -94,7 +131,7 @@ fn gather<'a, R: Files + AllocGlobal>(
         rt.alloc(),
         mode,
         &root,
-        capacity,
+        how,
         texts.as_slice(),
         path,
         &mut out,
@@ -102,17 +139,17 @@ fn gather<'a, R: Files + AllocGlobal>(
 }
 
 /// Gathers the blob with this root, of at most `capacity` chunks, out of the files, each a combined encoding from a
-/// holder that nobody trusts, writes it to the file at `path`, made anew once the blob was verified, and prints `ok`
-/// and how many bytes that is. A file that can't be read is left out.
+/// holder that nobody trusts, writes it, or its combined encoding, to the file at `path`, made anew once the blob was
+/// verified, and prints `ok` and how many bytes the blob has. A file that can't be read is left out.
 ///
 /// Refuses more than 64 files (`TooManyFiles`), a root that is no text of 64 hexadecimal digits (`Root`), files of
-/// which none can be read (`Read` of the first), a blob that did not come together (`Gather`), and an output that
-/// can't be made or written (`Write`).
+/// which none can be read (`Read` of the first), a blob that did not come together (`Gather`), one for whose encoding
+/// there was no memory (`Encoding`), and an output that can't be made or written (`Write`).
 pub fn gather_files<'a, R: Files + AllocGlobal, O: Write>(
     rt: &R,
     mode: &Mode,
     root: &str,
-    capacity: u32,
+    how: Gathering,
     files: &[&'a str],
     path: &'a str,
     out: &mut O,
@@ -126,6 +163,6 @@ pub fn gather_files<'a, R: Files + AllocGlobal, O: Write>(
     if files.len() > MOST_FILES {
         return Err(Fault::TooManyFiles);
     }
-    let count = gather(rt, mode, root, capacity, files, path)?;
+    let count = gather(rt, mode, root, how, files, path)?;
     print_count(rt.alloc(), count, out)
 }
