@@ -17,7 +17,7 @@ use Rattle.store_core.specs.Views.{names_of}
 use Rattle.store_core.proofs.Lasting.{legal-append}
 use Rattle.store_steps.specs.Grips.{Gripped}
 use Rattle.store_steps.specs.Tells.{Did, event_of}
-use Rattle.store_shared.specs.Calls.{Called, MaySettle, Settles}
+use Rattle.store_shared.specs.Calls.{MaySettle, Settles}
 
 pub called : (call : Call) (old new : SeatView) → Did call old new → Called call old new
 called call old new did = record { between = did.between; goes_on = did.goes_on; claims_are = did.claims_are }

@@ -1,26 +1,14 @@
 -- Calls of a shared store: each is an event of its history.
-use Rattle.std.specs.Prelude.{◌≡◌, ℕ, ◌*◌, ◌<◌, ◌≤◌, List, [], ◌∷◌}
+use Rattle.std.specs.Prelude.{◌≡◌, ◌*◌, ◌<◌, ◌≤◌}
 use Rattle.bao_check.specs.declared.checked.Checked.{Checked}
 use Rattle.store_core.specs.declared.fixed.Fixed.{Fixed}
-use Rattle.store_core.specs.declared.history.Call.{Call}
 use Rattle.store_core.specs.declared.history.Call.TheVariants.{Settle}
-use Rattle.store_core.specs.declared.history.Event.{Event}
 use Rattle.store_core.specs.declared.history.Settling.{Settling}
 use Rattle.store_core.specs.declared.history.Settling.TheVariants.{Settled, Known, Differs, OtherRoot, TooLarge}
-use Rattle.store_core.specs.declared.view.SeatView.{SeatView}
 use Rattle.store_core.specs.Pieces.{length_of, piece_of}
 use Rattle.store_core.specs.Stores.{IsOf}
-use Rattle.store_core.specs.Views.{seat_claims}
 use Rattle.store_steps.specs.Grips.{Gripped}
-use Rattle.store_steps.specs.Tells.{GoesOn, claims_after, event_of}
-
--- The call, with its reply, is an event of the store. The history that the seat has seen afterwards is legal. It begins
--- with all that the seat had seen, goes on with calls of others, and ends with this call: so of the seat's calls each is
--- in it once, in order. The seat claims what the call leaves of its claims.
-pub record Called (call : Call) (old new : SeatView) : Type 0 where
-  pub between : List Event
-  pub goes_on : GoesOn old new between (event_of old call ∷ [])
-  pub claims_are : (c : ℕ) → seat_claims new c ≡ claims_after call (seat_claims old) c
+use Rattle.store_steps.specs.Tells.{Called}
 
 -- the piece is of the store's root and mode, and the store has room for the length that it certifies
 pub record MaySettle (fixed : Fixed) (piece : Checked) : Type 0 where

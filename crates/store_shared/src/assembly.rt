@@ -29,10 +29,11 @@ impl Assembly {
     ghost use Rattle.bao_check.specs.Tail.{tail_piece};
     ghost use Rattle.store_core.specs.declared.history.Call.TheVariants.{Length, Take};
     ghost use Rattle.store_core.specs.Machine.{groups};
-    ghost use Rattle.store_shared.specs.Calls.{Called, Settles};
+    ghost use Rattle.store_shared.specs.Calls.{Settles};
     ghost use Rattle.store_shared.specs.Seats.{HasGroup, IsSeatOf, fixed_of};
     ghost use Rattle.store_steps.specs.Grips.{opening_view};
     ghost use Rattle.store_steps.specs.Parts.{AreMet, ArePartsOf};
+    ghost use Rattle.store_steps.specs.Tells.{Called};
 
     /// A store that holds, claims and records nothing, and its first seat, which has seen nothing. `capacity` is a number
     /// of chunks.

@@ -42,6 +42,14 @@ pub record Did (call : Call) (old new : SeatView) : Type 0 where
   pub claims_are : (c : ℕ) → seat_claims new c ≡ claims_after call (seat_claims old) c
   pub written_are : new.written ≡ written_after call old.written
 
+-- The call, made in one step or in several, is an event of the store. The history that the seat has seen afterwards is legal. It begins
+-- with all that the seat had seen, goes on with calls of others, and ends with this call: so of the seat's calls each is
+-- in it once, in order. The seat claims what the call leaves of its claims.
+pub record Called (call : Call) (old new : SeatView) : Type 0 where
+  pub between : List Event
+  pub goes_on : GoesOn old new between (event_of old call ∷ [])
+  pub claims_are : (c : ℕ) → seat_claims new c ≡ claims_after call (seat_claims old) c
+
 -- The step sees the history so far, and has the events that the state there gives: none, or a call of the seat's that
 -- leaves the state.
 pub record Looked (events : State → List Event) (old new : SeatView) : Type 0 where
