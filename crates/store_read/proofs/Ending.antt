@@ -27,6 +27,7 @@ use Rattle.store_steps.proofs.Going.{goes_on_then}
 use Rattle.store_steps.proofs.LastLoad.{is_last-false, is_last-true}
 use Rattle.store_read.specs.Filled.{IsFilled, Stops}
 use Rattle.store_read.specs.Reading.{DidRead, ReadBinds}
+use Rattle.store_read.proofs.Filling.{filled_then}
 
 -- The seat has seen more, of others alone, and claims what it claimed.
 pub record IsGoing (first view : SeatView) : Type 0 where
@@ -186,47 +187,66 @@ read_nothing first new at old missing legal looked none answer =
     ])
     (λ taken. answer)
 
--- A read over groups.
-module _ (fixed : Fixed) (first view new : SeatView) (group at done : ℕ) (old out : List ℕ) (fixed_is : view.fixed ≡ fixed) (going : IsGoing first view)
-    (looked : Looked (read_events view group at (length old)) view new) (filled : IsFilled (state_after new.seen) at 0 done old out)
-    (stops : Stops (state_after new.seen) (at + done) (group_end group) done (length old)) where
+-- A read over groups: one load of it, and what is then copied of the group.
+module _ (fixed : Fixed) (first view new : SeatView) (group at from done len : ℕ) (old mid out : List ℕ) (fixed_is : view.fixed ≡ fixed) (going : IsGoing first view)
+    (before : IsFilled (state_after view.seen) at 0 from old mid) (len_is : len ≡ length mid)
+    (looked : Looked (read_events view group at len) view new) (more : IsFilled (state_after new.seen) at from done mid out)
+    (ends : Stops (state_after new.seen) (at + done) (group_end group) done (length mid)) where
   abbrev seen_state : State
   seen_state = state_after new.seen
 
+  asked : len ≡ length old
+  asked = len_is ∙ before.size
+
+  pub filled_now : IsFilled seen_state at 0 done old out
+  filled_now = filled_then seen_state at 0 from done old mid out (filled_later view new (read_events view group at len) at from old mid looked before) more
+
+  stops : Stops seen_state (at + done) (group_end group) done (length old)
+  stops = subst (λ (n : ℕ). Stops seen_state (at + done) (group_end group) done n) before.size ends
+
+  looks : Looked (read_events view group at (length old)) view new
+  looks = subst (λ (n : ℕ). Looked (read_events view group at n) view new) asked looked
+
   limit_is : 1024 * view.fixed.capacity ≡ 1024 * fixed.capacity
   limit_is = ap (λ (f : Fixed). 1024 * f.capacity) fixed_is
+
+  limit_new : 1024 * new.fixed.capacity ≡ 1024 * fixed.capacity
+  limit_new = ap (λ (f : Fixed). 1024 * f.capacity) (looked.goes_on.fixed_is ∙ fixed_is)
 
   ended : (missing : Option ℕ)
       → (read_end view.fixed at (length old) ≤ at) ⊎ ((read_end view.fixed at (length old) ≤ group_end group) ⊎ (at + length (read_bytes seen_state at (length old)) < group_end group))
       → (done < length old → byte_at seen_state (at + done) ≡ None)
       → (length (take done out) ≡ done → Answers at (length old) (take done out) missing) → DidRead first new at old out missing
-  ended missing why ends answers =
+  ended missing why gap answers =
       did_read first new at done old out missing
-      (was_last first view new group at (length old) going looked (is_last-true view.fixed group at (length old) seen_state why)) filled ends answers
+      (was_last first view new group at (length old) going looks (is_last-true view.fixed group at (length old) seen_state why)) filled_now gap answers
 
   -- the buffer is full
   pub read_whole : done ≡ length old → DidRead first new at old out None
-  read_whole whole = ended None (inr (inl (omega (arith, whole, stops.within)))) (λ more. absurd (omega (arith, more, whole))) (λ taken. taken ∙ whole)
+  read_whole whole =
+      ended None (inr (inl (omega (arith, whole, stops.within)))) (λ some. absurd (omega (arith, some, whole))) (λ taken. taken ∙ whole)
 
   -- there is no room for more
-  pub read_limit : done < length old → 1024 * fixed.capacity ≤ at + done → DidRead first new at old out (Some (at + done))
+  read_limit : done < length old → 1024 * fixed.capacity ≤ at + done → DidRead first new at old out (Some (at + done))
   read_limit less past =
-      let same : 1024 * new.fixed.capacity ≡ 1024 * fixed.capacity = ap (λ (f : Fixed). 1024 * f.capacity) (looked.goes_on.fixed_is ∙ fixed_is) in
       ended (Some (at + done)) (inr (inl (omega (arith, past, stops.within, limit_is))))
-      (λ more. past_none new.fixed seen_state (at + done) (legal_is_sound new.fixed new.seen looked.goes_on.legal) (omega (arith, past, same)))
+      (λ some. past_none new.fixed seen_state (at + done) (legal_is_sound new.fixed new.seen looked.goes_on.legal) (omega (arith, past, limit_new)))
       (λ taken. (omega (arith, taken, less), omega (arith, taken)))
 
   -- a position of the group isn't held
-  pub read_gap : done < length old → at + done < group_end group → DidRead first new at old out (Some (at + done))
+  read_gap : done < length old → at + done < group_end group → DidRead first new at old out (Some (at + done))
   read_gap less inside =
       let gap : byte_at seen_state (at + done) ≡ None = elim stops.why [
         | inl full ↦ absurd (omega (arith, full, less))
         | inr other ↦ elim other [ inl end ↦ absurd (omega (arith, end, inside)) | inr none ↦ none ]
       ] in
-      let bytes : take done out ≡ read_bytes seen_state at (length old) = bytes_read seen_state at done old out filled (λ more. gap) in
+      let bytes : take done out ≡ read_bytes seen_state at (length old) = bytes_read seen_state at done old out filled_now (λ some. gap) in
       let count : length (read_bytes seen_state at (length old)) ≡ done =
-      ap (λ (xs : List ℕ). length xs) (sym bytes) ∙ length_taken out done (omega (arith, filled.within, filled.size)) in
-      ended (Some (at + done)) (inr (inr (omega (arith, count, inside)))) (λ more. gap) (λ taken. (omega (arith, taken, less), omega (arith, taken)))
+      ap (λ (xs : List ℕ). length xs) (sym bytes) ∙ length_taken out done (omega (arith, filled_now.within, filled_now.size)) in
+      ended (Some (at + done)) (inr (inr (omega (arith, count, inside)))) (λ some. gap) (λ taken. (omega (arith, taken, less), omega (arith, taken)))
+
+  pub read_less : done < length old → (at + done < group_end group) ⊎ (1024 * fixed.capacity ≤ at + done) → DidRead first new at old out (Some (at + done))
+  read_less less why = elim why [ inl inside ↦ read_gap less inside | inr past ↦ read_limit less past ]
 
   -- all is held up to the group's end, and the read goes on
   pub read_on : done < length old → group_end group ≤ at + done → at + done < 1024 * fixed.capacity → IsGoing first new
@@ -237,10 +257,10 @@ module _ (fixed : Fixed) (first view new : SeatView) (group at done : ℕ) (old 
         | inr enough ↦ enough
         | inl short ↦
             let none : byte_at seen_state (at + length bytes) ≡ None = read.missing (omega (arith, short, less)) in
-            let some : byte_at seen_state (at + length bytes) ≡ Some (slice_index out (length bytes)) = filled.bytes (length bytes) (omega arith) short in
+            let some : byte_at seen_state (at + length bytes) ≡ Some (slice_index out (length bytes)) = filled_now.bytes (length bytes) (omega arith) short in
             cc
       ] in
-      was_not first view new group at (length old) going looked
+      was_not first view new group at (length old) going looks
       (is_last-false view.fixed group at (length old) seen_state (omega (arith, less, below, limit_is)) (omega (arith, less, end, below, stops.within, limit_is)) (omega (arith, held, end)))
 
 -- What a read filled in is the blob's, or a pair is named.
