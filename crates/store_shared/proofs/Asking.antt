@@ -16,7 +16,7 @@ use Rattle.store_core.specs.States.{empty}
 use Rattle.store_core.specs.Views.{names_of}
 use Rattle.store_core.proofs.Lasting.{legal-append}
 use Rattle.store_steps.specs.Grips.{Gripped}
-use Rattle.store_steps.specs.Tells.{Did, event_of}
+use Rattle.store_steps.specs.Tells.{Called, Did, event_of}
 use Rattle.store_shared.specs.Calls.{MaySettle, Settles}
 
 pub called : (call : Call) (old new : SeatView) → Did call old new → Called call old new

@@ -1,22 +1,24 @@
 -- The claims that a seat keeps stay those of its view.
-use Rattle.std.proofs.Common.{◌≡◌, ◌≢◌, ℕ, ◌/◌, ◌%◌, ◌<◌, Bool, true, false, ◌&&◌, ◌||◌, List, replicate, set, slice_index, refl, sym, ap, subst, ◌∙◌, arith, inl, inr, eq-eqb, ne_eqb}
+use Rattle.std.proofs.Common.{◌≡◌, ◌≢◌, ℕ, ◌/◌, ◌%◌, ◌^◌, ◌+◌, ◌<◌, ◌≤◌, Bool, true, false, not, ◌&&◌, ◌||◌, List, length, replicate, set, slice_index, refl, sym, ap, subst, ◌∙◌, arith, inl, inr, eq-eqb, ne_eqb}
 use Rattle.std.proofs.lemmas.Bool.{cases_eq}
 use Rattle.std.proofs.lemmas.List.{get_or-replicate, length-replicate, length-set}
-use Rattle.std.specs.Int.Bits.{bit_or}
+use Rattle.std.specs.Int.{w64, bit_not}
+use Rattle.std.specs.Int.Bits.{bit_and, bit_or}
 use Rattle.store_core.specs.declared.fixed.Fixed.{Fixed}
 use Rattle.store_core.specs.declared.history.Call.TheVariants.{Take}
 use Rattle.store_core.specs.declared.view.SeatView.{SeatView}
 use Rattle.store_core.specs.Machine.{groups}
-use Rattle.store_core.specs.Masks.{has_bit}
+use Rattle.store_core.specs.Masks.{IsMaskOf, has_bit, in_mask}
 use Rattle.store_core.specs.Histories.{state_after}
 use Rattle.store_core.specs.Names.{Name}
 use Rattle.store_core.specs.States.{claims}
 use Rattle.store_core.specs.Views.{seat_claims, split_first}
-use Rattle.store_core.proofs.Joining.{claims_continued, split_keeps}
+use Rattle.store_core.proofs.Joining.{claims_continued, join_keeps, split_keeps}
+use Rattle.store_steps.specs.Asks.{AreClaimed}
 use Rattle.store_steps.specs.Grips.{opening_view}
-use Rattle.store_steps.specs.Parts.{AreMet, ArePartsOf}
+use Rattle.store_steps.specs.Parts.{AreMet, ArePartsOf, IsMerged}
 use Rattle.store_steps.specs.Tells.{Did}
-use Rattle.store_steps.proofs.Bits.{has_bit-or, has_bit-zero}
+use Rattle.store_steps.proofs.Bits.{and_small, has_bit-and, has_bit-not, has_bit-or, has_bit-zero}
 use Rattle.store_steps.proofs.Standing.{left, put}
 use Rattle.store_shared.specs.Seats.{AreClaims}
 
@@ -105,3 +107,84 @@ pub part_second : (old first second : SeatView) (count : ℕ) (zeros : List ℕ)
 part_second old first second count zeros size parts is =
     subst (λ (xs : List ℕ). AreClaims second xs) (sym is)
     (none_claimed second count (size ∙ ap (λ (v : SeatView). groups v.fixed) (sym parts.second_is)) parts.no_claims)
+
+swap_and : (a b : Bool) → (a && b) ≡ (b && a)
+swap_and true true = refl
+swap_and true false = refl
+swap_and false true = refl
+swap_and false false = refl
+
+-- the word of a group is the mask of the chunks that are claimed
+pub claimed_mask : (view : SeatView) (claims : List ℕ) (group word : ℕ) → AreClaims view claims → group < groups view.fixed → word ≡ slice_index claims group
+    → word < 2 ^ 64 → IsMaskOf group word (λ c. seat_claims view c)
+claimed_mask view claims group word kept within is small = record {
+  small = small;
+  bits = λ c at. ap (λ (w : ℕ). has_bit w (c % 64)) is ∙ claimed_bits view claims group c kept within at;
+}
+
+-- and with another mask of those of its chunks
+pub claimed_among : (view : SeatView) (claims : List ℕ) (group mask word : ℕ) → AreClaims view claims → group < groups view.fixed
+    → word ≡ slice_index claims group → word < 2 ^ 64 → AreClaimed view group mask (bit_and word mask)
+claimed_among view claims group mask word kept within is small = record {
+  small = and_small word mask small;
+  bits = λ c at.
+      has_bit-and word mask (c % 64)
+      ∙ ap (λ (b : Bool). b && has_bit mask (c % 64)) ((claimed_mask view claims group word kept within is small).bits c at)
+      ∙ swap_and (seat_claims view c) (has_bit mask (c % 64));
+}
+
+-- claims of a group's chunks end, and the others stay
+pub claims_ended : (old new : SeatView) (claims : List ℕ) (group ended word : ℕ) → AreClaims old claims → new.fixed ≡ old.fixed → group < groups old.fixed
+    → word ≡ slice_index claims group → ended < 2 ^ 64
+    → ((c : ℕ) → seat_claims new c ≡ (not (in_mask group ended c) && seat_claims old c))
+    → AreClaims new (set claims group (bit_and word (bit_not w64 ended)))
+claims_ended old new claims group ended word kept same within is small left =
+    claims_put old new claims group (bit_and word (bit_not w64 ended)) kept same within
+    (λ c at.
+    let mine : has_bit word (c % 64) ≡ seat_claims old c = ap (λ (w : ℕ). has_bit w (c % 64)) is ∙ claimed_bits old claims group c kept within at in
+    has_bit-and word (bit_not w64 ended) (c % 64) ∙ ap (λ (b : Bool). b && has_bit (bit_not w64 ended) (c % 64)) mine
+    ∙ ap (λ (b : Bool). seat_claims old c && b) (has_bit-not ended (c % 64) small (omega arith))
+    ∙ swap_and (seat_claims old c) (not (has_bit ended (c % 64)))
+    ∙ sym (ap (λ (b : Bool). not (b && has_bit ended (c % 64)) && seat_claims old c) (eq-eqb (c / 64) group at)) ∙ sym (left c))
+    (λ c other. left c ∙ ap (λ (b : Bool). not (b && has_bit ended (c % 64)) && seat_claims old c) (ne_eqb (c / 64) group other))
+
+-- each mask has the bits of both with its index
+pub record HaveBoth (ours theirs both : List ℕ) : Type 0 where
+  pub count : length both ≡ length ours
+  pub bits : (k : ℕ) → k < length ours → slice_index both k ≡ bit_or (slice_index ours k) (slice_index theirs k)
+
+-- a joined seat has the claims of both
+pub claims_joined : (first second joined : SeatView) (ours theirs both : List ℕ) → AreClaims first ours → AreClaims second theirs → IsMerged first second joined
+    → HaveBoth ours theirs both → AreClaims joined both
+claims_joined first second joined ours theirs both one two merged put =
+    let of_first : groups joined.fixed ≡ groups first.fixed = ap (λ (f : Fixed). groups f) merged.joined.fixed_first in
+    let of_second : groups joined.fixed ≡ groups second.fixed = ap (λ (f : Fixed). groups f) merged.joined.fixed_second in
+    record {
+      count = put.count ∙ one.count ∙ sym of_first;
+      bits = λ c below.
+          ap (λ (w : ℕ). has_bit w (c % 64)) (put.bits (c / 64) (omega (arith, below, one.count, of_first)))
+          ∙ has_bit-or (slice_index ours (c / 64)) (slice_index theirs (c / 64)) (c % 64)
+          ∙ ap (λ (b : Bool). b || has_bit (slice_index theirs (c / 64)) (c % 64)) (one.bits c (omega (arith, below, of_first)))
+          ∙ ap (λ (b : Bool). seat_claims first c || b) (two.bits c (omega (arith, below, of_second)))
+          ∙ sym ((join_keeps first second joined merged.joined).3 merged.legal c);
+    }
+
+-- of the first k masks each has the bits of both
+pub record ArePut (old others : List ℕ) (k : ℕ) (new : List ℕ) : Type 0 where
+  pub count : length new ≡ length old
+  pub below : (i : ℕ) → i < k → slice_index new i ≡ bit_or (slice_index old i) (slice_index others i)
+  pub above : (i : ℕ) → k ≤ i → slice_index new i ≡ slice_index old i
+
+pub put_more : (old others : List ℕ) (k : ℕ) (masks : List ℕ) (mask : ℕ) → ArePut old others k masks → k < length old
+    → mask ≡ bit_or (slice_index masks k) (slice_index others k) → ArePut old others (k + 1) (set masks k mask)
+put_more old others k masks mask so_far within is = record {
+  count = length-set masks k mask ∙ so_far.count;
+  below = λ i low. elim (cases_eq i k) [
+    | inl at ↦
+        ap (λ (j : ℕ). slice_index (set masks k mask) j) at ∙ put masks k mask (omega (arith, within, so_far.count)) ∙ is
+        ∙ ap (λ (w : ℕ). bit_or w (slice_index others k)) (so_far.above k (omega arith))
+        ∙ ap (λ (j : ℕ). bit_or (slice_index old j) (slice_index others j)) (sym at)
+    | inr other ↦ left masks k mask i other ∙ so_far.below i (omega (arith, low, other))
+  ];
+  above = λ i high. left masks k mask i (λ e. omega (arith, e, high)) ∙ so_far.above i (omega (arith, high));
+}

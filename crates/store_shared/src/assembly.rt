@@ -1,6 +1,7 @@
 ghost use Rattle.std.specs.Prelude.{◌≡◌, ◌↔◌, ◌<◌, ◌≤◌, ◌*◌, IfErr, IfOk, IsOk, IsErrOf, OnErr};
 
 use crate::fault::{NoGroup, SplitFault};
+use crate::masks::put_masks;
 use crate::seat::Seat;
 use b3tree::{CHUNK_LEN, Hash, Mode};
 use bao_check::Tail;
@@ -27,12 +28,12 @@ pub struct Assembly {
 
 impl Assembly {
     ghost use Rattle.bao_check.specs.Tail.{tail_piece};
-    ghost use Rattle.store_core.specs.declared.history.Call.TheVariants.{Length, Take};
+    ghost use Rattle.store_core.specs.declared.history.Call.TheVariants.{Give, Length, Take};
     ghost use Rattle.store_core.specs.Machine.{groups};
     ghost use Rattle.store_shared.specs.Calls.{Settles};
     ghost use Rattle.store_shared.specs.Seats.{HasGroup, IsSeatOf, fixed_of};
     ghost use Rattle.store_steps.specs.Grips.{opening_view};
-    ghost use Rattle.store_steps.specs.Parts.{AreMet, ArePartsOf};
+    ghost use Rattle.store_steps.specs.Parts.{AreMet, ArePartsOf, IsMerged};
     ghost use Rattle.store_steps.specs.Tells.{Called};
 
     /// A store that holds, claims and records nothing, and its first seat, which has seen nothing. `capacity` is a number
@@ -116,6 +117,24 @@ impl Assembly {
         }
     }
 
+    /// Joins two seats to one, with the claims and the calls of both. What it has seen begins with what each had seen. It
+    /// takes no memory.
+    pub fn join(&self, first: Seat, second: Seat) -> Seat
+        requires first { IsSeatOf self.now first }
+        requires second { IsSeatOf self.now second }
+        ensures of { IsSeatOf self.now result }
+        ensures merged { IsMerged first.view second.view result.view }
+    {
+        let Seat { grip, mut claims } = first;
+        let Seat {
+            grip: other,
+            claims: others,
+        } = second;
+        put_masks(claims.as_mut_slice(), others.as_slice());
+        let grip = self.words.merge(grip, other);
+        Seat { grip, claims }
+    }
+
     /// Lets two seats meet: afterwards both have seen one history, which begins with what each had seen. Their calls and
     /// claims stay as they are. It takes no memory.
     pub fn meet(&self, first: &mut Seat, second: &mut Seat)
@@ -145,6 +164,23 @@ impl Assembly {
         let granted = self.words.take(&mut seat.grip, group, want);
         seat.claims[group as usize] |= granted;
         Ok(granted)
+    }
+
+    /// Ends the seat's claims among the mask of a group, and answers the mask of those that it had: 0 for a group that
+    /// isn't there. It takes no memory.
+    pub fn give(&self, seat: &mut Seat, group: u32, mask: u64) -> u64
+        requires of { IsSeatOf self.now seat.old }
+        ensures of { IsSeatOf self.now seat.new }
+        ensures called { Called (Give group mask result) seat.old.view seat.new.view }
+    {
+        if group >= self.groups() {
+            self.words.give_none(&mut seat.grip, group, mask);
+            return 0;
+        }
+        let given = seat.claims[group as usize] & mask;
+        self.words.give(&mut seat.grip, group, mask, given);
+        seat.claims[group as usize] &= !given;
+        given
     }
 
     /// Records the length in bytes that a piece with the last chunk certifies, if none is recorded: `Settled`. Else it

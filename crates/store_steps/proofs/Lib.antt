@@ -9,6 +9,7 @@ pub mod Taking
 pub mod Giving
 pub mod Storing
 pub mod Publishing
+pub mod Absent
 pub mod Looking
 pub mod Settling
 pub mod Naming

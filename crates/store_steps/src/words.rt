@@ -137,6 +137,26 @@ impl Words {
             .fetch_and::<Giving<A>>(&mut grip.seat, place, !given);
     }
 
+    /// A give of a group that isn't there: no claim ends. One load, which changes nothing.
+    pub fn give_none(&self, grip: &mut Grip, group: u32, mask: u64)
+        requires of { IsOf self.now grip.old }
+        requires group { ¬ HasGroup self.now group }
+        ensures of { IsOf self.now grip.new }
+        ensures did { Did (Give group mask 0) grip.old.view grip.new.view }
+    {
+        self.give_none_asked::<Brand>(grip, group, mask);
+    }
+
+    fn give_none_asked<A: Asked>(&self, grip: &mut Grip, group: u32, mask: u64)
+        requires of { IsOf self.now grip.old }
+        requires group { ¬ HasGroup self.now group }
+        requires asked { (A.group ≡ group) × (A.first ≡ mask) × (A.second ≡ 0) }
+        ensures of { IsOf self.now grip.new }
+        ensures did { Did (Give group mask 0) grip.old.view grip.new.view }
+    {
+        self.table.shared.load::<Giving<A>>(&mut grip.seat, 0);
+    }
+
     /// Stores a word of the cell of a chunk that the grip claims: word 0 is the chunk's size in bytes, words 1 to 128
     /// its data. One store, of which no reader learns before the chunk is published.
     pub fn store(&self, grip: &mut Grip, chunk: u32, word: u8, value: u64)
@@ -193,6 +213,29 @@ impl Words {
         self.table
             .shared
             .fetch_or::<Publishing<A>>(&mut grip.seat, place, mask);
+    }
+
+    /// A commit to a group that isn't there: nothing is published, and no claim ends. One load, which changes nothing.
+    pub fn publish_none(&self, grip: &mut Grip, group: u32, piece: &Checked<'_>)
+        requires of { IsOf self.now grip.old }
+        requires group { ¬ HasGroup self.now group }
+        requires piece { IsOfStore (fixed_of self.now) piece.now }
+        ensures of { IsOf self.now grip.new }
+        ensures did { Did (Commit group (piece_of piece.now) 0) grip.old.view grip.new.view }
+    {
+        self.publish_none_asked::<Brand>(grip, group, piece);
+    }
+
+    fn publish_none_asked<A: Asked>(&self, grip: &mut Grip, group: u32, piece: &Checked<'_>)
+        requires of { IsOf self.now grip.old }
+        requires group { ¬ HasGroup self.now group }
+        requires piece { IsOfStore (fixed_of self.now) piece.now }
+        requires asked { (A.group ≡ group) × (A.piece ≡ piece_of piece.now) }
+        ensures of { IsOf self.now grip.new }
+        ensures did { Did (Commit group (piece_of piece.now) 0) grip.old.view grip.new.view }
+    {
+        piece.is_accepted();
+        self.table.shared.load::<Publishing<A>>(&mut grip.seat, 0);
     }
 
     /// The held word of a group: bit j is set exactly where chunk 64 * group + j is held. It is a load of a read of
