@@ -1,3 +1,5 @@
 pub mod Seats
 pub mod Going
 pub mod Crews
+pub mod Runs
+pub mod Finished

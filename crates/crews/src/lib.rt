@@ -4,6 +4,12 @@
 
 pub use b3par::{Gate, Open};
 pub use crew::Crew;
+pub use finish::finish;
+pub use run::run;
 
 mod crew;
+mod finish;
+mod pending;
 mod rounds;
+mod run;
+mod shared;
