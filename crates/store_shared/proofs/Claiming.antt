@@ -1,17 +1,19 @@
 -- The claims that a seat keeps stay those of its view.
-use Rattle.std.proofs.Common.{◌≡◌, ◌≢◌, ℕ, ◌/◌, ◌%◌, ◌^◌, ◌+◌, ◌<◌, ◌≤◌, Bool, true, false, not, ◌&&◌, ◌||◌, List, length, replicate, set, slice_index, refl, sym, ap, subst, ◌∙◌, arith, inl, inr, eq-eqb, ne_eqb}
-use Rattle.std.proofs.lemmas.Bool.{cases_eq}
+use Rattle.std.proofs.Common.{◌≡◌, ◌≢◌, ℕ, ◌/◌, ◌%◌, ◌^◌, ◌+◌, ◌<◌, ◌≤◌, ◌==◌, Bool, true, false, not, ◌&&◌, ◌||◌, List, length, replicate, set, slice_index, refl, sym, ap, subst, ◌∙◌, arith, inl, inr, eq-eqb, ne_eqb}
+use Rattle.std.proofs.lemmas.Bool.{both_ways, cases_eq}
 use Rattle.std.proofs.lemmas.List.{get_or-replicate, length-replicate, length-set}
 use Rattle.std.specs.Int.{w64, bit_not}
 use Rattle.std.specs.Int.Bits.{bit_and, bit_or}
 use Rattle.store_core.specs.declared.fixed.Fixed.{Fixed}
 use Rattle.store_core.specs.declared.history.Call.TheVariants.{Take}
+use Rattle.store_core.specs.declared.history.Piece.{Piece}
 use Rattle.store_core.specs.declared.view.SeatView.{SeatView}
 use Rattle.store_core.specs.Machine.{groups}
 use Rattle.store_core.specs.Masks.{IsMaskOf, has_bit, in_mask}
 use Rattle.store_core.specs.Histories.{state_after}
 use Rattle.store_core.specs.Names.{Name}
 use Rattle.store_core.specs.States.{claims}
+use Rattle.store_core.specs.Stores.{ChunksBind}
 use Rattle.store_core.specs.Views.{seat_claims, split_first}
 use Rattle.store_core.proofs.Joining.{claims_continued, join_keeps, split_keeps}
 use Rattle.store_steps.specs.Asks.{AreClaimed}
@@ -147,6 +149,14 @@ claims_ended old new claims group ended word kept same within is small left =
     ∙ swap_and (seat_claims old c) (not (has_bit ended (c % 64)))
     ∙ sym (ap (λ (b : Bool). not (b && has_bit ended (c % 64)) && seat_claims old c) (eq-eqb (c / 64) group at)) ∙ sym (left c))
     (λ c other. left c ∙ ap (λ (b : Bool). not (b && has_bit ended (c % 64)) && seat_claims old c) (ne_eqb (c / 64) group other))
+
+no_chunk : (group c : ℕ) → in_mask group 0 c ≡ false
+no_chunk group c =
+    swap_and (c / 64 == group) (has_bit 0 (c % 64)) ∙ ap (λ (b : Bool). b && (c / 64 == group)) (has_bit-zero (c % 64))
+
+-- no chunk is committed, so none is bound
+pub none_bind : (fixed : Fixed) (piece : Piece) (group : ℕ) → ChunksBind fixed piece group 0
+none_bind fixed piece group blob is c bytes hit has = absurd (both_ways (in_mask group 0 c) (no_chunk group c) hit)
 
 -- each mask has the bits of both with its index
 pub record HaveBoth (ours theirs both : List ℕ) : Type 0 where

@@ -1,12 +1,14 @@
-ghost use Rattle.std.specs.Prelude.{◌≡◌, ◌↔◌, ◌<◌, ◌≤◌, ◌*◌, IfErr, IfOk, IsOk, IsErrOf, OnErr};
+ghost use Rattle.std.specs.Prelude.{◌≡◌, ◌↔◌, ◌<◌, ◌≤◌, ◌*◌, IfErr, IfOk, IsOk, IsErrOf, OnErr, length};
 
-use crate::fault::{NoGroup, SplitFault};
+use crate::fault::{NoGroup, OtherRoot, SplitFault};
 use crate::masks::put_masks;
 use crate::seat::Seat;
 use b3tree::{CHUNK_LEN, Hash, Mode};
-use bao_check::Tail;
+use bao_check::{Checked, Tail};
 use std::alloc::Global;
-use store_core::{MAX_CAPACITY, Settling};
+use store_commit::commit;
+use store_core::{MAX_CAPACITY, Missing, Settling};
+use store_read::read;
 use store_steps::{NewFault, Words};
 
 // How many chunks a group has.
@@ -28,8 +30,11 @@ pub struct Assembly {
 
 impl Assembly {
     ghost use Rattle.bao_check.specs.Tail.{tail_piece};
-    ghost use Rattle.store_core.specs.declared.history.Call.TheVariants.{Give, Length, Take};
+    ghost use Rattle.store_core.specs.declared.history.Call.TheVariants.{Commit, Give, Length, Take};
     ghost use Rattle.store_core.specs.Machine.{groups};
+    ghost use Rattle.store_core.specs.Pieces.{piece_of};
+    ghost use Rattle.store_core.specs.Stores.{ChunksBind, IsOf, filled_count, missing_in};
+    ghost use Rattle.store_read.specs.Reading.{DidRead, ReadBinds};
     ghost use Rattle.store_shared.specs.Calls.{Settles};
     ghost use Rattle.store_shared.specs.Seats.{HasGroup, IsSeatOf, fixed_of};
     ghost use Rattle.store_steps.specs.Grips.{opening_view};
@@ -183,6 +188,34 @@ impl Assembly {
         given
     }
 
+    /// Stores exactly the chunks of a group that the seat claims and the piece holds, ends these claims, and answers
+    /// their mask: 0 for a group that isn't there. It takes no memory.
+    ///
+    /// 804 `OtherRoot`, asked before all else, where the piece is of another root or mode. Nothing is then asked.
+    ///
+    /// For each blob with the store's root, each chunk stored is the blob's chunk of that number; or two different
+    /// inputs with one chaining value are named, one of the blob's and one of the piece's.
+    pub fn commit(&self, seat: &mut Seat, group: u32, piece: &Checked<'_>) -> Result<u64, OtherRoot>
+        requires of { IsSeatOf self.now seat.old }
+        ensures of { IsSeatOf self.now seat.new }
+        ensures root { IsOk result ↔ IsOf (fixed_of self.now) piece.now }
+        ensures called { IfOk result (λ committed. Called (Commit group (piece_of piece.now) committed) seat.old.view seat.new.view) }
+        ensures same { OnErr result (seat.new ≡ seat.old) }
+        ensures binds { IfOk result (λ committed. ChunksBind (fixed_of self.now) (piece_of piece.now) group committed) }
+    {
+        if !self.words.fixed().is_of(&piece.root(), &piece.mode()) {
+            return Err(OtherRoot);
+        }
+        if group >= self.groups() {
+            self.words.publish_none(&mut seat.grip, group, piece);
+            return Ok(0);
+        }
+        let claimed = seat.claims[group as usize];
+        let committed = commit(&self.words, &mut seat.grip, group, piece, claimed);
+        seat.claims[group as usize] &= !committed;
+        Ok(committed)
+    }
+
     /// Records the length in bytes that a piece with the last chunk certifies, if none is recorded: `Settled`. Else it
     /// says whether the same was recorded, `Known`, or another, `Differs`. It takes no memory.
     ///
@@ -210,5 +243,21 @@ impl Assembly {
         ensures called { Called (Length result) seat.old.view seat.new.view }
     {
         self.words.length(&mut seat.grip)
+    }
+    /// Fills `out` with the bytes from position `at` on, in bytes. It takes no memory.
+    ///
+    /// `Missing(p)`: p is the least position of the range that isn't held. The bytes before it are filled in, and the
+    /// rest of `out` is unchanged. A position is held if its chunk is and has more bytes than come before it there;
+    /// none at or above 1,024 times the capacity is. An empty buffer is Ok.
+    ///
+    /// For each blob with the store's root, each byte filled in is the blob's byte there; or two different inputs
+    /// with one chaining value are named, one of the blob's and one of a piece's that was committed.
+    pub fn read(&self, seat: &mut Seat, at: u64, out: &mut [u8]) -> Result<(), Missing>
+        requires of { IsSeatOf self.now seat.old }
+        ensures of { IsSeatOf self.now seat.new }
+        ensures event { DidRead seat.old.view seat.new.view at out.old out.new (missing_in result) }
+        ensures binds { ReadBinds seat.new.view at out.new (filled_count at (length out.old) (missing_in result)) }
+    {
+        read(&self.words, &mut seat.grip, at, out)
     }
 }
