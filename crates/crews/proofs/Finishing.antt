@@ -4,7 +4,7 @@ use Rattle.std.proofs.lemmas.List.{drop_all}
 use Rattle.std.proofs.lemmas.Slice.Eq.{bytes_eq-Decides}
 use Rattle.b3tree.specs.Hashing.{hash}
 use Rattle.b3tree.specs.Valid.{IsKeyed}
-use Rattle.crews.specs.Finished.{Asks, AsksBytes, BindsNone, PairCommitted, PairSettled}
+use Rattle.crews.specs.Finished.{Asks, BindsNone, PairCommitted}
 use Rattle.gather.proofs.Binding.{both_same, same_bytes}
 use Rattle.gather.specs.Finished.{IsWhole, LacksByte}
 use Rattle.store_core.specs.declared.fixed.Fixed.{Fixed}
@@ -15,7 +15,7 @@ use Rattle.store_core.specs.declared.view.SeatView.{SeatView}
 use Rattle.store_core.specs.Events.{after_call}
 use Rattle.store_core.specs.Histories.{IsLegal, state_after}
 use Rattle.store_core.specs.Laws.{IsRead}
-use Rattle.store_core.specs.States.{State, byte_at, empty, read_bytes}
+use Rattle.store_core.specs.States.{State, empty, read_bytes}
 use Rattle.store_core.specs.Views.{names_of}
 use Rattle.store_core.proofs.Bound.{byte_binds, record_binds}
 use Rattle.store_core.proofs.Lasting.{record_lasts, run-append}
@@ -108,3 +108,7 @@ binds_none fixed history bytes keyed legal whole other blob is =
         | inl same ↦ absurd (other (subst (λ (xs : List ℕ). hash fixed.mode xs ≡ fixed.root.0) (same_bytes blob bytes long same) is.root))
       ]
     ]
+
+-- a recorded length is one
+pub no_none : (recorded : Option ℕ) (l : ℕ) → recorded ≡ Some l → recorded ≡ None → ⊥
+no_none recorded l is none = let no : Some l ≡ None = sym is ∙ none in cc

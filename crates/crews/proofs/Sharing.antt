@@ -1,5 +1,5 @@
 -- What a call of a shared store gains, and which claims it leaves.
-use Rattle.std.proofs.Common.{◌≡◌, ℕ, ◌*◌, ◌/◌, ◌%◌, ◌<◌, ◌==◌, Bool, true, false, not, ◌&&◌, ◌||◌, List, [], ◌∷◌, ◌++◌, append_assoc, arith, eqb-true, inl, inr, refl, subst, sym, ◌∙◌}
+use Rattle.std.proofs.Common.{count_ones, Err, IfOk, MatchResult, Ok, OnErr, Result, is_ok, ◌≡◌, ℕ, ◌/◌, ◌%◌, ◌==◌, true, false, not, ◌&&◌, ◌||◌, List, [], ◌∷◌, ◌++◌, append_assoc, arith, eqb-true, inl, inr, subst, sym, ◌∙◌}
 use Rattle.std.proofs.lemmas.Bool.{and_from, and_parts, both_ways, cases_Bool}
 use Rattle.b3tree.specs.declared.mode.Mode.{Mode}
 use Rattle.b3tree.specs.declared.values.Hash.{Hash}
@@ -28,6 +28,9 @@ use Rattle.store_core.specs.Views.{names_of}
 use Rattle.store_core.proofs.Lasting.{claims_last, legal-append}
 use Rattle.store_steps.specs.Grips.{Gripped}
 use Rattle.store_steps.specs.Tells.{Called, event_of}
+use Rattle.store_core.specs.declared.fault.StoreFault.{StoreFault}
+use Rattle.store_shared.specs.declared.fault.NoGroup.{NoGroup}
+use Rattle.store_shared.specs.declared.fault.OtherRoot.{OtherRoot as OtherRootFault}
 use Rattle.store_shared.specs.Calls.{Settles}
 use Rattle.store_shared.proofs.Asking.{right_there}
 
@@ -123,3 +126,18 @@ settles_large fixed old new piece TooLarge bytes accepted last settles is = reco
   ends = last;
   above = settles.1;
 }
+
+pub take_gains : (old new : Gripped) (group want : ℕ) (result : Result ℕ NoGroup) → IfOk result (λ granted. Called (Take group want granted) old.view new.view)
+    → OnErr result (new ≡ old) → GoneOn old new 0
+take_gains old new group want (Ok granted) called same = goes_on old new (Take group want granted) called
+take_gains old new group want (Err fault) called same = stays_same old new same
+
+pub commit_gains : (old new : Gripped) (group : ℕ) (piece : Piece) (result : Result ℕ OtherRootFault) (answer : Result ℕ StoreFault) (Q : OtherRootFault → Type 0)
+    → MatchResult result (λ committed. answer ≡ Ok committed) Q → is_ok answer ≡ is_ok result
+    → IfOk result (λ committed. Called (Commit group piece committed) old.view new.view) → OnErr result (new ≡ old)
+    → MatchResult answer (λ committed. GoneOn old new (count_ones committed)) (λ _. GoneOn old new 0)
+commit_gains old new group piece (Ok committed) answer Q cases variant called same =
+    subst (λ (r : Result ℕ StoreFault). MatchResult r (λ committed. GoneOn old new (count_ones committed)) (λ _. GoneOn old new 0)) (sym cases)
+    (goes_on old new (Commit group piece committed) called)
+commit_gains old new group piece (Err fault) (Ok committed) Q cases variant called same = cc
+commit_gains old new group piece (Err fault) (Err other) Q cases variant called same = stays_same old new same

@@ -1,8 +1,12 @@
 -- A worker's seat of a shared store: what it claims, and how what it has seen goes on.
-use Rattle.std.specs.Prelude.{◌≡◌, ℕ, Bool, List, ◌++◌}
+use Rattle.std.specs.Prelude.{◌≡◌, ◌⊎◌, ℕ, Bool, List, ◌++◌, Some}
+use Rattle.bao_check.specs.Pieces.{chunk_of}
 use Rattle.gather.specs.Worked.{chunks_in}
 use Rattle.store_core.specs.declared.fixed.Fixed.{Fixed}
 use Rattle.store_core.specs.declared.history.Event.{Event}
+use Rattle.store_core.specs.declared.view.SeatView.{SeatView}
+use Rattle.store_core.specs.Histories.{state_after}
+use Rattle.store_core.specs.Laws.{IsBlob, IsCommitted, PairNamed}
 use Rattle.store_core.specs.Views.{mine, seat_claims}
 use Rattle.store_steps.specs.Grips.{Gripped}
 
@@ -24,3 +28,9 @@ pub record GoneOn (old new : Gripped) (chunks : ℕ) : Type 0 where
   pub own : List Event
   pub mine_is : mine new.view ≡ mine old.view ++ own
   pub counts : chunks ≡ chunks_in own
+
+-- Each chunk that is held after all that was seen is the one of that number of each blob with the root; or a pair is
+-- named from that blob and from the piece by which the chunk was committed.
+abbrev pub SeenBinds : SeatView → Type 0
+SeenBinds view = (blob : List ℕ) → IsBlob view.fixed blob → (c : ℕ) (bytes : List ℕ) → (state_after view.seen).held c ≡ Some bytes
+    → (chunk_of blob c ≡ Some bytes) ⊎ ((from : IsCommitted view.fixed view.seen c bytes) × PairNamed view.fixed blob from.piece)

@@ -3,13 +3,12 @@
 #![tactic(auto)]
 
 pub use b3par::{Gate, Open};
+pub use blob::finish;
 pub use crew::Crew;
-pub use finish::finish;
-pub use run::run;
+pub use runs::run;
 
+mod blob;
 mod crew;
-mod finish;
-mod pending;
 mod rounds;
-mod run;
+mod runs;
 mod shared;

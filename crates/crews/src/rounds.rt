@@ -1,25 +1,26 @@
 ghost use Rattle.std.specs.Prelude.{◌≡◌, ◌<◌, ◌≤◌, length, All};
-ghost use Rattle.gather.specs.Counts.{no_counts};
+ghost use Rattle.store_shared.specs.Seats.{IsSeatOf};
 ghost use Rattle.crews.specs.Crews.{Each, Worked, WorkedOn, all_of};
 
 use crate::crew::Crew;
+use crate::shared::Shared;
 use b3par::Gate;
-use gather::{Holder, Place, Report, Shelf, work};
+use gather::{Holder, Place, Report, work};
 use std::alloc::Global;
 use std::thread::{Threads, for_each_mut};
-use store_shared::Seat;
+use store_shared::Assembly;
 
 // One crew's round, with which its report goes on. It is the crew with this number, from 0.
-fn go_round<S: Shelf<Seat = Seat>, H: Holder>(
+fn go_round<H: Holder>(
     alloc: Global,
-    shelf: &S,
+    assembly: &Assembly,
     number: usize,
     crews: usize,
     crew: &mut Crew<H>,
 )
-    requires has { S.has shelf.now crew.old.seat }
+    requires of { IsSeatOf assembly.now crew.old.seat }
     requires number { (number < crews) × (crews ≤ 64) }
-    ensures { WorkedOn (S.has shelf.now) S.fixed_of S.gained S.claims H.count crew.old crew.new }
+    ensures { WorkedOn assembly.now H.count crew.old crew.new }
 {
     let place = Place {
         number: number as u32,
@@ -27,7 +28,7 @@ fn go_round<S: Shelf<Seat = Seat>, H: Holder>(
     };
     work(
         alloc,
-        shelf,
+        &Shared(assembly),
         &mut crew.seat,
         crew.holders.as_mut_slice(),
         place,
@@ -36,55 +37,53 @@ fn go_round<S: Shelf<Seat = Seat>, H: Holder>(
 }
 
 // One crew's first round: it passes the gate, and begins its report anew.
-fn begin<S: Shelf<Seat = Seat>, H: Holder, G: Gate>(
+fn begin<H: Holder, G: Gate>(
     alloc: Global,
-    shelf: &S,
+    assembly: &Assembly,
     gate: &G,
     number: usize,
     crews: usize,
     crew: &mut Crew<H>,
 )
-    requires has { S.has shelf.now crew.old.seat }
+    requires of { IsSeatOf assembly.now crew.old.seat }
     requires number { (number < crews) × (crews ≤ 64) }
-    ensures { Worked (S.has shelf.now) S.fixed_of S.gained S.claims H.count no_counts crew.old crew.new }
+    ensures { Worked assembly.now H.count crew.old crew.new }
 {
     gate.pass(number);
     crew.report = Report::new();
-    go_round(alloc, shelf, number, crews, crew);
+    go_round(alloc, assembly, number, crews, crew);
 }
 
 // All crews' first rounds, at once.
-fn first_round<
-    R: Threads + Sync,
-    S: Shelf<Seat = Seat> + Sync,
-    H: Holder + Send,
-    G: Gate + Sync,
->(
+fn first_round<R: Threads + Sync, H: Holder + Send, G: Gate + Sync>(
     rt: &R,
     alloc: Global,
-    shelf: &S,
+    assembly: &Assembly,
     crews: &mut [Crew<H>],
     gate: &G,
 )
     requires count { (0 < length crews.old) × (length crews.old ≤ 64) }
-    requires has { All (λ crew. S.has shelf.now crew.seat) crews.old }
-    ensures { Each (Worked (S.has shelf.now) S.fixed_of S.gained S.claims H.count no_counts) crews.old crews.new }
+    requires of { All (λ crew. IsSeatOf assembly.now crew.seat) crews.old }
+    ensures { Each (Worked assembly.now H.count) crews.old crews.new }
 {
     let workers = crews.len();
-    for_each_mut(rt, crews, workers, &|number, crew| {
-        begin(alloc, shelf, gate, number, workers, crew)
-    });
+    for_each_mut(
+        rt,
+        crews,
+        workers,
+        &|number, crew| { begin(alloc, assembly, gate, number, workers, crew) },
+    );
 }
 
 // The closing round, each crew in turn.
-fn last_round<S: Shelf<Seat = Seat>, H: Holder>(alloc: Global, shelf: &S, crews: &mut [Crew<H>])
+fn last_round<H: Holder>(alloc: Global, assembly: &Assembly, crews: &mut [Crew<H>])
     requires count { length crews.old ≤ 64 }
-    requires has { All (λ crew. S.has shelf.now crew.seat) crews.old }
-    ensures { Each (WorkedOn (S.has shelf.now) S.fixed_of S.gained S.claims H.count) crews.old crews.new }
+    requires of { All (λ crew. IsSeatOf assembly.now crew.seat) crews.old }
+    ensures { Each (WorkedOn assembly.now H.count) crews.old crews.new }
 {
     let workers = crews.len();
     for number in 0..workers {
-        go_round(alloc, shelf, number, workers, &mut crews[number]);
+        go_round(alloc, assembly, number, workers, &mut crews[number]);
     }
 }
 
@@ -106,24 +105,19 @@ fn all_reports<H>(crews: &[Crew<H>]) -> Report
 }
 
 /// Both rounds of all crews, and the sums of their reports.
-pub(crate) fn both_rounds<
-    R: Threads + Sync,
-    S: Shelf<Seat = Seat> + Sync,
-    H: Holder + Send,
-    G: Gate + Sync,
->(
+pub(crate) fn both_rounds<R: Threads + Sync, H: Holder + Send, G: Gate + Sync>(
     rt: &R,
     alloc: Global,
-    shelf: &S,
+    assembly: &Assembly,
     crews: &mut [Crew<H>],
     gate: &G,
 ) -> Report
     requires count { (0 < length crews.old) × (length crews.old ≤ 64) }
-    requires has { All (λ crew. S.has shelf.now crew.seat) crews.old }
-    ensures each { Each (Worked (S.has shelf.now) S.fixed_of S.gained S.claims H.count no_counts) crews.old crews.new }
+    requires of { All (λ crew. IsSeatOf assembly.now crew.seat) crews.old }
+    ensures each { Each (Worked assembly.now H.count) crews.old crews.new }
     ensures all { result ≡ all_of crews.new }
 {
-    first_round(rt, alloc, shelf, crews, gate);
-    last_round(alloc, shelf, crews);
+    first_round(rt, alloc, assembly, crews, gate);
+    last_round(alloc, assembly, crews);
     all_reports(crews)
 }

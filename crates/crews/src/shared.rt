@@ -40,13 +40,9 @@ impl Shelf for Shared<'_> {
         self.0.give(seat, group, mask)
     }
 
-    fn commit(
-        &self,
-        seat: &mut Seat,
-        group: u32,
-        piece: &Checked<'_>,
-    ) -> Result<u64, StoreFault> {
-        crate::pending::commit(self.0, seat, group, piece)
+    fn commit(&self, seat: &mut Seat, group: u32, piece: &Checked<'_>) -> Result<u64, StoreFault> {
+        self.0
+            .commit(seat, group, piece)
             .map_err(|_| StoreFault::OtherRoot)
     }
 

@@ -9,7 +9,6 @@ ghost use Rattle.crews.specs.Finished.{Asks, BindsNone};
 use b3tree::hash;
 use gather::FinishFault;
 use std::alloc::Global;
-use store_core::{held_binds, held_lasts, read_means};
 use store_shared::{Assembly, Seat};
 
 /// The blob of a shared store: all bytes below the recorded length, once their hash in the mode is its root.
@@ -19,11 +18,7 @@ use store_shared::{Assembly, Seat};
 /// the seat asks for the length, and then at most once reads. At `NotTheRoot`, for each blob with the root two different
 /// inputs with one chaining value are named, one of the blob's and one of a piece's that the history which the seat has
 /// seen committed, or by which it settled the length.
-pub fn finish(
-    alloc: Global,
-    assembly: &Assembly,
-    seat: &mut Seat,
-) -> Result<Vec<u8>, FinishFault>
+pub fn finish(alloc: Global, assembly: &Assembly, seat: &mut Seat) -> Result<Vec<u8>, FinishFault>
     requires of { IsSeatOf assembly.now seat.old }
     ensures of { IsSeatOf assembly.now seat.new }
     ensures asks { Asks seat.old.view seat.new.view }
@@ -36,15 +31,12 @@ pub fn finish(
 {
     let mode = assembly.mode();
     mode.is_keyed();
-    read_means();
-    held_binds();
-    held_lasts();
     let length = match assembly.length(seat) {
         Some(length) => length,
         None => return Err(FinishFault::Unfinished),
     };
     let mut blob = vec![in alloc; 0u8; length as usize]?;
-    crate::pending::read(assembly, seat, 0, blob.as_mut_slice())?;
+    assembly.read(seat, 0, blob.as_mut_slice())?;
     if hash(&mode, blob.as_slice()) != assembly.root() {
         return Err(FinishFault::NotTheRoot);
     }

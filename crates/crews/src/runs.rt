@@ -2,18 +2,15 @@ ghost use Rattle.std.specs.Prelude.{◌≡◌, ◌<◌, ◌≤◌, ◌+◌, IsTr
 ghost use Rattle.gather.specs.Counts.{IsAnswered};
 ghost use Rattle.gather.specs.Large.{AreLonger, IsTooLarge};
 ghost use Rattle.store_shared.specs.Seats.{IsSeatOf, fixed_of};
-ghost use Rattle.crews.specs.Crews.{Each, all_faults, all_of};
-ghost use Rattle.crews.specs.Runs.{SeenBinds, HasWorked};
+ghost use Rattle.crews.specs.Crews.{Each, Worked, all_faults, all_of};
+ghost use Rattle.crews.specs.Seats.{SeenBinds};
 
 use crate::crew::Crew;
 use crate::rounds::both_rounds;
-use crate::shared::Shared;
 use b3par::Gate;
-use bao_check::accepted_binds;
 use gather::{Holder, Report};
 use std::alloc::Global;
 use std::thread::Threads;
-use store_core::held_binds;
 use store_shared::Assembly;
 
 /// Gathers what a shared store still lacks of its blob from holders that nobody trusts: one worker a crew, all at once.
@@ -46,7 +43,7 @@ pub fn run<R: Threads + Sync, H: Holder + Send, G: Gate + Sync>(
 ) -> Report
     requires count { (0 < length crews.old) × (length crews.old ≤ 64) }
     requires of { All (λ crew. IsSeatOf assembly.now crew.seat) crews.old }
-    ensures each { Each (HasWorked assembly.now H.count) crews.old crews.new }
+    ensures each { Each (Worked assembly.now H.count) crews.old crews.new }
     ensures all { result ≡ all_of crews.new }
     ensures binds { All (λ crew. SeenBinds crew.seat.view) crews.new }
     ensures failed { result.failed + all_faults H.count crews.old ≤ all_faults H.count crews.new }
@@ -55,7 +52,5 @@ pub fn run<R: Threads + Sync, H: Holder + Send, G: Gate + Sync>(
     ensures longer { IsTrue result.too_large → AreLonger (fixed_of assembly.now) }
 {
     assembly.mode().is_keyed();
-    accepted_binds();
-    held_binds();
-    both_rounds(rt, alloc, &Shared(assembly), crews, gate)
+    both_rounds(rt, alloc, assembly, crews, gate)
 }
