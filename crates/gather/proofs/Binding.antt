@@ -46,7 +46,7 @@ are_longer law fixed keyed large blob is =
     ]
 
 -- the bytes read are the blob's up to some number, or there is a pair
-both_same : (blob bytes : List ℕ) (P : Type 0) (n : ℕ) → ((i : ℕ) → i < n → slice_get blob (0 + i) ≡ Some (slice_index bytes i)) ⊎ P
+pub both_same : (blob bytes : List ℕ) (P : Type 0) (n : ℕ) → ((i : ℕ) → i < n → slice_get blob (0 + i) ≡ Some (slice_index bytes i)) ⊎ P
     → (slice_get blob (0 + n) ≡ Some (slice_index bytes n)) ⊎ P → ((i : ℕ) → i < suc n → slice_get blob (0 + i) ≡ Some (slice_index bytes i)) ⊎ P
 both_same blob bytes P n (inl before) (inl here) = inl (λ i below. below_more _ _ before here i (omega (arith, below)))
 both_same blob bytes P n (inl before) (inr pair) = inr pair
@@ -58,7 +58,7 @@ all_same blob bytes P zero each = ∣ inl (λ i below. absurd (omega (arith, bel
 all_same blob bytes P (suc n) each =
     ∥∥₁_map₂ (all_same blob bytes P n (λ i below. each i (omega (arith, below)))) (each n (omega arith)) (both_same blob bytes P n)
 
-same_bytes : (blob bytes : List ℕ) → length bytes ≡ length blob → ((i : ℕ) → i < length bytes → slice_get blob (0 + i) ≡ Some (slice_index bytes i)) → blob ≡ bytes
+pub same_bytes : (blob bytes : List ℕ) → length bytes ≡ length blob → ((i : ℕ) → i < length bytes → slice_get blob (0 + i) ≡ Some (slice_index bytes i)) → blob ≡ bytes
 same_bytes blob bytes long each =
     ext_get_or 0 blob bytes (sym long) (λ i below.
     let here : 0 + i ≡ i = omega arith in

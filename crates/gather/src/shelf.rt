@@ -8,8 +8,12 @@ ghost use Rattle.gather.specs.Large.{IsTooLarge};
 use bao_check::{Checked, Tail};
 use store_core::{Fixed, Settling, StoreFault};
 
-/// A store as one of its workers sees it. The worker's own part of it is its seat.
-pub(crate) trait Shelf {
+/// A store as one of its workers sees it: what [`work`](crate::work) asks of it. The worker's own part of the store is
+/// its seat, and a seat that is handed to a call is one of this store's.
+///
+/// A group is 64 chunks, a mask is of the chunks of a group: bit j stands for chunk 64 * group + j.
+pub trait Shelf {
+    /// One worker's part of the store.
     type Seat;
 
     // The seat is one of this store.
@@ -24,25 +28,30 @@ pub(crate) trait Shelf {
     // The seat's own calls led from the one to the other, and stored so many chunks.
     ghost gained: { Self.Seat → Self.Seat → ℕ → Type 0 };
 
-    // The root and the mode of the store's blob, and how many chunks it has room for.
+    /// The root and the mode of the store's blob, and how many chunks it has room for.
     fn fixed(&self, seat: &Self::Seat) -> Fixed
+        requires { has self.now seat.now }
         ensures { result ≡ fixed_of seat.now };
 
-    // Claims the wanted chunks of a group that may be granted, and answers their mask.
+    /// Claims the wanted chunks of a group that may be granted, and answers their mask.
+    ///
+    /// At a fault nothing more is claimed: 701 where there was no memory, 803 where there is no such group.
     fn take(&self, seat: &mut Self::Seat, group: u32, want: u64) -> Result<u64, StoreFault>
         requires { has self.now seat.old }
         ensures has { has self.now seat.new }
         ensures gained { gained seat.old seat.new 0 }
         ensures claims { MatchResult result (λ granted. AmongAnd (claims seat.old) group granted (claims seat.new)) (λ _. Among (claims seat.old) (claims seat.new)) };
 
-    // Ends the seat's claims among the mask.
+    /// Ends the seat's claims among the mask of a group, and answers the mask of those that it had.
     fn give(&self, seat: &mut Self::Seat, group: u32, mask: u64) -> u64
         requires { has self.now seat.old }
         ensures has { has self.now seat.new }
         ensures gained { gained seat.old seat.new 0 }
         ensures claims { Without (claims seat.old) group mask (claims seat.new) };
 
-    // Stores the chunks of a group that the seat claims and the piece holds, and answers their mask.
+    /// Stores the chunks of a group that the seat claims and the piece holds, ends these claims, and answers their mask.
+    ///
+    /// At a fault nothing is stored: 701 where there was no memory, 804 where the piece is of another root or mode.
     fn commit(
         &self,
         seat: &mut Self::Seat,
@@ -54,14 +63,14 @@ pub(crate) trait Shelf {
         ensures gained { MatchResult result (λ committed. gained seat.old seat.new (count_ones committed)) (λ _. gained seat.old seat.new 0) }
         ensures claims { MatchResult result (λ committed. Without (claims seat.old) group committed (claims seat.new)) (λ _. Among (claims seat.old) (claims seat.new)) };
 
-    // Records the length that a piece with the last chunk certifies, if none is recorded.
+    /// Records the length in bytes that a piece with the last chunk certifies, if none is recorded.
     fn settle(&self, seat: &mut Self::Seat, tail: &Tail<'_>) -> Settling
         requires { has self.now seat.old }
         ensures has { has self.now seat.new }
         ensures still { Still gained claims seat.old seat.new }
         ensures large { result ≡ TooLarge → IsTooLarge (fixed_of seat.old) };
 
-    // The recorded length, if there is one.
+    /// The recorded length in bytes, if there is one.
     fn length(&self, seat: &mut Self::Seat) -> Option<u64>
         requires { has self.now seat.old }
         ensures has { has self.now seat.new }

@@ -18,11 +18,11 @@ const GROUP_BYTES: u64 = GROUP_LEN * CHUNK_LEN;
 // The most groups that a store has.
 const MAX_GROUPS: u64 = MAX_CAPACITY as u64 / GROUP_LEN;
 
-// A worker's number among so many.
+/// A worker's number among so many, from 0 on.
 #[derive(Clone, Copy, Debug)]
-pub(crate) struct Place {
-    pub(crate) number: u32,
-    pub(crate) workers: u32,
+pub struct Place {
+    pub number: u32,
+    pub workers: u32,
 }
 
 // One fetch of a text, with its counts.
@@ -213,9 +213,17 @@ fn work_group<S: Shelf, H: Holder>(
     shelf.give(seat, group, left);
 }
 
-// A worker's work: it sees to it that a length is recorded, and goes round all groups that the length needs once,
-// from its own part of them on. No claim is left that it took.
-pub(crate) fn work<S: Shelf, H: Holder>(
+/// A worker's work: it sees to it that a length is recorded, and goes round all groups that the length needs once,
+/// from its own part of them on. No claim is left that it took.
+///
+/// If no length is recorded, it asks its holders in order for the last chunk and settles the length that an accepted
+/// text certifies, until one is recorded; it ends where none comes, or where one is above what the store has room for.
+/// With K groups it begins at group number * K / workers. It takes a group's chunks, and asks its holders in order, each
+/// once, for those bytes, checks each text and commits from it, until none of the chunks granted is left; those that
+/// are it gives back.
+///
+/// It refuses nothing. The report goes on from what it was: what the worker stored, asked and met is added to it.
+pub fn work<S: Shelf, H: Holder>(
     alloc: Global,
     shelf: &S,
     seat: &mut S::Seat,

@@ -34,7 +34,7 @@ or_assoc : (a b c : Bool) → (a || (b || c)) ≡ ((a || b) || c)
 or_assoc true b c = refl
 or_assoc false b c = refl
 
-put-has : (named : Named) (others : List Named) (name : Name)
+pub put-has : (named : Named) (others : List Named) (name : Name)
     → has_name (plain (put_name named others)) name ≡ (same_name name named.name || has_name (plain others) name)
 put-has named [] name = refl
 put-has named (other ∷ others) name = elim (cases_Bool (name_le named.name other.name)) [
@@ -51,7 +51,7 @@ merge-has (named ∷ ours) theirs name = put-has named (merge_names ours theirs)
     ∙ or_assoc (same_name name named.name) (has_name (plain ours) name) (has_name (plain theirs) name)
 
 -- what follows is of others, so a seat's own calls are the same
-continued : (view : SeatView) (history : List Event) → Continues view history → events_of (names_of view) history ≡ mine view
+pub continued : (view : SeatView) (history : List Event) → Continues view history → events_of (names_of view) history ≡ mine view
 continued view history k =
     ap (λ (h : List Event). events_of (names_of view) h) k.is
     ∙ filter-append (is_by (names_of view)) view.seen k.between
@@ -59,7 +59,7 @@ continued view history k =
     ∙ append-nil (mine view)
 
 -- and so are its claims
-claims_continued : (fixed : Fixed) (view : SeatView) (history : List Event) → Continues view history → IsLegal fixed history
+pub claims_continued : (fixed : Fixed) (view : SeatView) (history : List Event) → Continues view history → IsLegal fixed history
     → (c : ℕ) → claims (names_of view) (state_after history) c ≡ seat_claims view c
 claims_continued fixed view history k legal c =
     ap (λ (h : List Event). claims (names_of view) (state_after h) c) k.is

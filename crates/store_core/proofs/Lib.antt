@@ -6,6 +6,7 @@ pub mod Origins
 pub mod ReadLaws
 pub mod Bound
 pub mod Joining
+pub mod Ordering
 pub mod SameRoot
 pub mod Copying
 pub mod Stored

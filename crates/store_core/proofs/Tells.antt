@@ -1,8 +1,8 @@
 -- What the tests of masks, names and claims tell.
-use Rattle.std.proofs.Common.{◌≡◌, ℕ, ◌+◌, ◌*◌, ◌/◌, ◌%◌, ◌<◌, nat_lt, ◌==◌, Bool, true, false, not, ◌||◌, List, [], ◌∷◌, Option, None, Some, is_some, refl, sym, subst, ◌∙◌, arith, inl, inr, eqb-true}
+use Rattle.std.proofs.Common.{◌≡◌, ℕ, ◌+◌, ◌*◌, ◌/◌, ◌%◌, ◌<◌, nat_lt, ◌==◌, Bool, true, false, not, ◌||◌, List, [], ◌∷◌, Option, None, Some, is_some, refl, sym, subst, ◌∙◌, arith, inl, inr, eq-eqb, eqb-true}
 use Rattle.std.specs.Int.{bit_at}
 use Rattle.std.specs.List.{list_any}
-use Rattle.std.proofs.lemmas.Bool.{and_parts, both_ways, false_from_ne_true, not-true, or_cases, or_left, or_parts, or_right}
+use Rattle.std.proofs.lemmas.Bool.{and_from, and_parts, cases_Bool, both_ways, false_from_ne_true, not-true, or_cases, or_left, or_parts, or_right}
 use Rattle.std.proofs.lemmas.Bool.Decides.{nat_tests}
 use Rattle.std.proofs.lemmas.Nat.Bits.{bit_at-lt, same_from_bits_below}
 use Rattle.store_core.specs.declared.fixed.Fixed.{Fixed}
@@ -34,7 +34,7 @@ mask_unique group m n test right also = same_from_bits_below 64 m n right.small 
     has_bit-same m n j (subst (λ (k : ℕ). has_bit m k ≡ has_bit n k) bit same))
 
 -- names that the test calls one are one
-same_name-true : (one other : Name) → same_name one other ≡ true → one ≡ other
+pub same_name-true : (one other : Name) → same_name one other ≡ true → one ≡ other
 same_name-true [] [] h = refl
 same_name-true [] (y ∷ ys) h = cc
 same_name-true (x ∷ xs) [] h = cc
@@ -44,15 +44,29 @@ same_name-true (x ∷ xs) (y ∷ ys) h =
     let tail : xs ≡ ys = same_name-true xs ys parts.1 in
     cc
 
+pub same_name-refl : (name : Name) → same_name name name ≡ true
+same_name-refl [] = refl
+same_name-refl (x ∷ xs) = and_from _ _ (eq-eqb x x refl) (same_name-refl xs)
+
+pub same_name-turned : (one other : Name) → same_name one other ≡ same_name other one
+same_name-turned one other = elim (cases_Bool (same_name one other)) [
+  | inl same ↦
+      let e : one ≡ other = same_name-true one other same in
+      same ∙ sym (subst (λ (n : Name). same_name other n ≡ true) (sym e) (same_name-refl other))
+  | inr differ ↦ differ ∙ sym (false_from_ne_true _ (λ same.
+      let e : other ≡ one = same_name-true other one same in
+      both_ways _ differ (subst (λ (n : Name). same_name one n ≡ true) (sym e) (same_name-refl one))))
+]
+
 -- a name of both sets is a common one
-common_name : (ours theirs : List Name) (name : Name) → has_name ours name ≡ true → has_name theirs name ≡ true → share_name ours theirs ≡ true
+pub common_name : (ours theirs : List Name) (name : Name) → has_name ours name ≡ true → has_name theirs name ≡ true → share_name ours theirs ≡ true
 common_name ours [] name our their = cc
 common_name ours (other ∷ theirs) name our their = elim (or_cases (same_name name other) (list_any (same_name name) theirs) their) [
   | inl same ↦ or_left _ _ (subst (λ (n : Name). has_name ours n ≡ true) (same_name-true name other same) our)
   | inr rest ↦ or_right _ _ (common_name ours theirs name our rest)
 ]
 
-among_apart : (ours theirs : List Name) (o : Option Name) → share_name ours theirs ≡ false → is_among theirs o ≡ true → is_among ours o ≡ false
+pub among_apart : (ours theirs : List Name) (o : Option Name) → share_name ours theirs ≡ false → is_among theirs o ≡ true → is_among ours o ≡ false
 among_apart ours theirs None apart h = refl
 among_apart ours theirs (Some name) apart h =
     false_from_ne_true _ (λ our. both_ways _ apart (common_name ours theirs name our h))

@@ -16,3 +16,4 @@ pub mod Laws
 pub mod Served
 pub mod Replays
 pub mod Stages
+pub mod Orders

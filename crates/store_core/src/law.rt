@@ -1,4 +1,5 @@
 ghost use Rattle.store_core.specs.Laws.{ByteBinds, ClaimsApart, ClaimsLast, CommittedOnce, HeldBinds, HeldIsCommitted, HeldLasts, JoinKeeps, LegalIsSound, ReadMeans, RecordBinds, RecordIsSettled, RecordLasts, RunsAreLegal, RunsAreOne, SplitKeeps, StateDetermines};
+ghost use Rattle.store_core.specs.Orders.{JoinKeepsOrder, SplitKeepsOrder};
 
 /// The state after a history determines every reply. A law: nothing runs.
 pub fn state_determines()
@@ -48,6 +49,13 @@ pub fn held_binds()
 pub fn join_keeps()
     ensures split { SplitKeeps }
     ensures join { JoinKeeps }
+{}
+
+/// A seat's names stay in dictionary order, each once, where it splits and where two seats without a common name are
+/// joined: so its least name stands first. A law: nothing runs.
+pub fn names_stay_in_order()
+    ensures split { SplitKeepsOrder }
+    ensures join { JoinKeepsOrder }
 {}
 
 /// A schedule that runs from the start, each step legal where it stands, is a legal history of the store, and its

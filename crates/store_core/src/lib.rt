@@ -5,8 +5,8 @@ pub use fault::{BadCapacity, Missing, ReplayFault, StoreFault};
 pub use fixed::Fixed;
 pub use history::{Call, Event, Piece, Settling};
 pub use law::{
-    claims_apart, held_binds, held_is_committed, held_lasts, join_keeps, read_means,
-    runs_are_legal, state_determines,
+    claims_apart, held_binds, held_is_committed, held_lasts, join_keeps, names_stay_in_order,
+    read_means, runs_are_legal, state_determines,
 };
 pub use micro::{MicroStep, ReadBytes, Reply};
 pub use schedule::replay;

@@ -1,0 +1,114 @@
+-- What finishing a blob found, in the state after all that its seat has seen.
+use Rattle.std.proofs.Common.{bytes_eq, true, false, not, ◌≡◌, ◌⊎◌, zero, suc, ℕ, ◌+◌, ◌/◌, ◌<◌, List, [], ◌∷◌, ◌++◌, append_assoc, append-nil, length, drop, slice_get, slice_index, Option, None, Some, refl, sym, ap, subst, ◌∙◌, arith, inl, inr}
+use Rattle.std.proofs.lemmas.List.{drop_all}
+use Rattle.std.proofs.lemmas.Slice.Eq.{bytes_eq-Decides}
+use Rattle.b3tree.specs.Hashing.{hash}
+use Rattle.b3tree.specs.Valid.{IsKeyed}
+use Rattle.crews.specs.Finished.{Asks, BindsNone, PairCommitted}
+use Rattle.gather.proofs.Binding.{both_same, same_bytes}
+use Rattle.gather.specs.Finished.{IsWhole, LacksByte}
+use Rattle.store_core.specs.declared.fixed.Fixed.{Fixed}
+use Rattle.store_core.specs.declared.history.Call.{Call}
+use Rattle.store_core.specs.declared.history.Call.TheVariants.{Length, Read}
+use Rattle.store_core.specs.declared.history.Event.{Event}
+use Rattle.store_core.specs.declared.view.SeatView.{SeatView}
+use Rattle.store_core.specs.Events.{after_call}
+use Rattle.store_core.specs.Histories.{IsLegal, state_after}
+use Rattle.store_core.specs.Laws.{IsRead}
+use Rattle.store_core.specs.States.{State, empty, read_bytes}
+use Rattle.store_core.specs.Views.{names_of}
+use Rattle.store_core.proofs.Bound.{byte_binds, record_binds}
+use Rattle.store_core.proofs.Lasting.{record_lasts, run-append}
+use Rattle.store_core.proofs.ReadLaws.{read_means}
+use Rattle.store_read.specs.Reading.{DidRead}
+use Rattle.store_steps.specs.Tells.{Called, event_of}
+use Rattle.store_shared.proofs.Asking.{right_there}
+
+-- a call that changes nothing leaves the state in which it stands
+same_there : (call : Call) (old new : SeatView) (called : Called call old new) → ((s : State) → after_call (names_of old) call s ≡ s)
+    → state_after new.seen ≡ state_after (old.seen ++ called.between)
+same_there call old new called same =
+    ap state_after called.goes_on.seen_is ∙ run-append empty (old.seen ++ called.between) (event_of old call ∷ [])
+    ∙ same (state_after (old.seen ++ called.between))
+
+pub length_there : (old new : SeatView) (recorded : Option ℕ) → Called (Length recorded) old new → (state_after new.seen).recorded ≡ recorded
+length_there old new recorded called =
+    ap (λ (s : State). s.recorded) (same_there (Length recorded) old new called (λ s. refl)) ∙ sym (right_there (Length recorded) old new called)
+
+read_there : (old new : SeatView) (at len : ℕ) (bytes : List ℕ) → Called (Read at len bytes) old new → bytes ≡ read_bytes (state_after new.seen) at len
+read_there old new at len bytes called =
+    right_there (Read at len bytes) old new called ∙ ap (λ (s : State). read_bytes s at len) (sym (same_there (Read at len bytes) old new called (λ s. refl)))
+
+-- the length stays recorded
+pub recorded_then : (old then new : SeatView) (l at len : ℕ) (bytes : List ℕ) → Called (Length (Some l)) old then → Called (Read at len bytes) then new
+    → (state_after new.seen).recorded ≡ Some l
+recorded_then old then new l at len bytes asked read =
+    let more : List Event = read.between ++ event_of then (Read at len bytes) ∷ [] in
+    let is : new.seen ≡ then.seen ++ more = read.goes_on.seen_is ∙ append_assoc then.seen read.between (event_of then (Read at len bytes) ∷ []) in
+    let legal : IsLegal new.fixed (then.seen ++ more) = subst (λ (h : List Event). IsLegal new.fixed h) is read.goes_on.legal in
+    subst (λ (h : List Event). (state_after h).recorded ≡ Some l) (sym is)
+    (record_lasts new.fixed then.seen more l legal (length_there old then (Some l) asked))
+
+filled_whole : (bytes old new : List ℕ) → new ≡ bytes ++ drop (length bytes) old → length bytes ≡ length old → new ≡ bytes
+filled_whole bytes old new filled all =
+    filled ∙ ap (λ (rest : List ℕ). bytes ++ rest) (drop_all (length bytes) old (omega (arith, all))) ∙ append-nil bytes
+
+pub read_whole : (old then new : SeatView) (before after : List ℕ) (l : ℕ) → length before ≡ l → Called (Length (Some l)) old then
+    → DidRead then new 0 before after None → IsWhole (state_after new.seen) after
+read_whole old then new before after l long asked read =
+    let is : after ≡ read.bytes = filled_whole read.bytes before after read.filled read.answer in
+    let len : length before ≡ length after = sym read.answer ∙ ap length (sym is) in
+    record {
+      recorded = recorded_then old then new l 0 (length before) read.bytes asked read.called ∙ ap (λ (k : ℕ). Some k) (sym long ∙ len);
+      held = ap (λ (k : ℕ). read_bytes (state_after new.seen) 0 k) (sym len) ∙ sym (read_there then new 0 (length before) read.bytes read.called) ∙ sym is;
+    }
+
+pub read_lacks : (old then new : SeatView) (before after : List ℕ) (p l : ℕ) → length before ≡ l → Called (Length (Some l)) old then
+    → DidRead then new 0 before after (Some p) → LacksByte (state_after new.seen)
+read_lacks old then new before after p l long asked read =
+    let is : IsRead (state_after new.seen) 0 (length before) read.bytes =
+    (read_means (state_after new.seen) 0 (length before) read.bytes).0 (read_there then new 0 (length before) read.bytes read.called) in
+    record {
+      len = length before;
+      recorded = recorded_then old then new l 0 (length before) read.bytes asked read.called ∙ ap (λ (k : ℕ). Some k) (sym long);
+      position = 0 + length read.bytes;
+      below = omega (arith, read.answer.0);
+      missing = is.missing read.answer.0;
+    }
+
+pub asks_both : (old then new : SeatView) (before after : List ℕ) (l : ℕ) (missing : Option ℕ) → length before ≡ l → Called (Length (Some l)) old then
+    → DidRead then new 0 before after missing → Asks old new
+asks_both old then new before after l missing long asked read =
+    inr (record { len = l; then = then; length = asked; bytes = read.bytes; read = subst (λ (k : ℕ). Called (Read 0 k read.bytes) then new) long read.called })
+
+-- bytes that a test tells apart
+pub differs : (xs ys : List ℕ) → true ≡ not (bytes_eq xs ys) → xs ≡ ys → ⊥
+differs xs ys apart same = let alike : bytes_eq xs ys ≡ true = (bytes_eq-Decides xs ys).1 same in let no : true ≡ false = rw alike at apart in cc
+
+-- the bytes are the blob's, or there is a pair
+each_same : (blob bytes : List ℕ) (P : Type 0) (n : ℕ) → ((i : ℕ) → i < n → (slice_get blob (0 + i) ≡ Some (slice_index bytes i)) ⊎ P)
+    → ((i : ℕ) → i < n → slice_get blob (0 + i) ≡ Some (slice_index bytes i)) ⊎ P
+each_same blob bytes P zero each = inl (λ i below. absurd (omega (arith, below)))
+each_same blob bytes P (suc n) each = both_same blob bytes P n (each_same blob bytes P n (λ i below. each i (omega (arith, below)))) (each n (omega arith))
+
+-- bytes whose hash isn't the root are no blob's with the root, so that a pair is named
+pub binds_none : (fixed : Fixed) (history : List Event) (bytes : List ℕ) → IsKeyed fixed.mode → IsLegal fixed history → IsWhole (state_after history) bytes
+    → (hash fixed.mode bytes ≡ fixed.root.0 → ⊥) → BindsNone fixed history
+binds_none fixed history bytes keyed legal whole other blob is =
+    let held : IsRead (state_after history) 0 (length bytes) bytes = (read_means (state_after history) 0 (length bytes) bytes).0 (sym whole.held) in
+    let each : (i : ℕ) → i < length bytes → (slice_get blob (0 + i) ≡ Some (slice_index bytes i)) ⊎ PairCommitted fixed history blob = λ i below.
+    elim (byte_binds fixed history blob (0 + i) (slice_index bytes i) keyed is legal (held.held i below)) [
+      | inl same ↦ inl same
+      | inr from ↦ inr (record { chunk = (0 + i) / 1024; bytes = from.0.bytes; committed = from.0.chunk; pair = from.1 })
+    ] in
+    elim (record_binds fixed history blob (length bytes) keyed is legal whole.recorded) [
+      | inr settled ↦ inr (record { recorded = length bytes; settled = settled.0; pair = settled.1 })
+      | inl long ↦ elim (each_same blob bytes (PairCommitted fixed history blob) (length bytes) each) [
+        | inr pair ↦ inl pair
+        | inl same ↦ absurd (other (subst (λ (xs : List ℕ). hash fixed.mode xs ≡ fixed.root.0) (same_bytes blob bytes long same) is.root))
+      ]
+    ]
+
+-- a recorded length is one
+pub no_none : (recorded : Option ℕ) (l : ℕ) → recorded ≡ Some l → recorded ≡ None → ⊥
+no_none recorded l is none = let no : Some l ≡ None = sym is ∙ none in cc

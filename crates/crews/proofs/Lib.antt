@@ -1,0 +1,5 @@
+pub mod Following
+pub mod Summing
+pub mod Sharing
+pub mod Running
+pub mod Finishing

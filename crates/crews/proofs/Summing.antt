@@ -1,0 +1,69 @@
+-- What all crews did, by what each did.
+use Rattle.std.proofs.Common.{subst, ◌≡◌, ℕ, suc, ◌+◌, ◌-◌, ◌^◌, ◌≤◌, true, false, IsTrue, List, [], ◌∷◌, min, arith, inl, inr}
+use Rattle.std.proofs.lemmas.Bool.{cases_Bool}
+use Rattle.std.proofs.lemmas.List.Sums.{sum_by-cons}
+use Rattle.std.specs.List.{All, sum_by}
+use Rattle.crews.specs.declared.crew.Crew.{Crew}
+use Rattle.crews.specs.Crews.{Each, Worked, all_of, all_faults, faults_of}
+use Rattle.gather.specs.Counts.{IsAnswered}
+use Rattle.gather.specs.Large.{IsTooLarge}
+use Rattle.store_core.specs.declared.fixed.Fixed.{Fixed}
+use Rattle.store_shared.specs.declared.assembly.Assembly.{Assembly}
+use Rattle.store_shared.specs.Seats.{IsSeatOf, fixed_of as fixed_of_store}
+
+each_first : {C : Type 0} (R : C → C → Type 0) (x y : C) (xs ys : List C) → Each R (x ∷ xs) (y ∷ ys) → R x y
+each_first R x y xs ys each = each.each 0 x (omega arith)
+
+each_rest : {C : Type 0} (R : C → C → Type 0) (x y : C) (xs ys : List C) → Each R (x ∷ xs) (y ∷ ys) → Each R xs ys
+each_rest R x y xs ys each = record {
+  len = omega (arith, each.len);
+  each = λ i d below. each.each (suc i) d (omega (arith, below));
+}
+
+-- what each of the second list has by the first's
+pub all_each : {C : Type 0} (R : C → C → Type 0) {P : C → Type 0} (old new : List C) → ((x y : C) → R x y → P y) → Each R old new → All P new
+all_each R old new gives each = λ k d below. gives _ _ (each.each k d (omega (arith, below, each.len)))
+
+module _ {H : Type 0} (assembly : Assembly) (count : H → ℕ) where
+  failed_sum : (xs ys : List (Crew H)) → Each (Worked assembly count) xs ys
+      → sum_by (λ (crew : Crew H). crew.report.failed) ys + all_faults count xs ≤ all_faults count ys
+  failed_sum [] [] each = omega arith
+  failed_sum [] (y ∷ ys) each = absurd (omega (arith, each.len))
+  failed_sum (x ∷ xs) [] each = absurd (omega (arith, each.len))
+  failed_sum (x ∷ xs) (y ∷ ys) each =
+      let one = (each_first (Worked assembly count) x y xs ys each).reports.failed in
+      let rest = failed_sum xs ys (each_rest (Worked assembly count) x y xs ys each) in
+      omega (arith, one, rest, sum_by-cons (λ (crew : Crew H). crew.report.failed) y ys, sum_by-cons (faults_of count) x xs, sum_by-cons (faults_of count) y ys)
+
+  pub failed_all : (xs ys : List (Crew H)) → Each (Worked assembly count) xs ys → (all_of ys).failed + all_faults count xs ≤ all_faults count ys
+  failed_all xs ys each = omega (arith, failed_sum xs ys each)
+
+  answered_sum : (xs ys : List (Crew H)) → Each (Worked assembly count) xs ys
+      → min (sum_by (λ (crew : Crew H). crew.report.refused) ys + sum_by (λ (crew : Crew H). crew.report.failed) ys) (2 ^ 64 - 1)
+      ≤ sum_by (λ (crew : Crew H). crew.report.asked) ys
+  answered_sum [] [] each = omega arith
+  answered_sum [] (y ∷ ys) each = absurd (omega (arith, each.len))
+  answered_sum (x ∷ xs) [] each = absurd (omega (arith, each.len))
+  answered_sum (x ∷ xs) (y ∷ ys) each =
+      let one : IsAnswered y.report = (each_first (Worked assembly count) x y xs ys each).reports.answered (omega arith) in
+      let rest = answered_sum xs ys (each_rest (Worked assembly count) x y xs ys each) in
+      omega (arith, one, rest, sum_by-cons (λ (crew : Crew H). crew.report.refused) y ys, sum_by-cons (λ (crew : Crew H). crew.report.failed) y ys, sum_by-cons (λ (crew : Crew H). crew.report.asked) y ys)
+
+  pub answered_all : (xs ys : List (Crew H)) → Each (Worked assembly count) xs ys → IsAnswered (all_of ys)
+  answered_all xs ys each = omega (arith, answered_sum xs ys each)
+
+  -- one of them met a length above what the store has room for
+  pub large_all : (xs ys : List (Crew H)) → All (λ (crew : Crew H). IsSeatOf assembly crew.seat) xs → Each (Worked assembly count) xs ys
+      → IsTrue (all_of ys).too_large → IsTooLarge (fixed_of_store assembly)
+  large_all [] [] of each large = let no : false ≡ true = large in cc
+  large_all [] (y ∷ ys) of each large = absurd (omega (arith, each.len))
+  large_all (x ∷ xs) [] of each large = absurd (omega (arith, each.len))
+  large_all (x ∷ xs) (y ∷ ys) of each large = elim (cases_Bool y.report.too_large) [
+    | inl here ↦ elim ((each_first (Worked assembly count) x y xs ys each).reports.too_large here) [
+      | inl before ↦ let no : false ≡ true = before in cc
+      | inr is ↦ subst (λ (f : Fixed). IsTooLarge f) (of 0 x (omega arith)).fixed_is is
+    ]
+    | inr not_here ↦
+        let rest : IsTrue (all_of ys).too_large = rw not_here at large in
+        large_all xs ys (λ k d below. of (suc k) d (omega (arith, below))) (each_rest (Worked assembly count) x y xs ys each) rest
+  ]

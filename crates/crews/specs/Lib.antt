@@ -1,0 +1,4 @@
+pub mod Seats
+pub mod Going
+pub mod Crews
+pub mod Finished

@@ -1,0 +1,36 @@
+-- A worker's seat of a shared store: what it claims, and how what it has seen goes on.
+use Rattle.std.specs.Prelude.{◌≡◌, ◌⊎◌, ℕ, Bool, List, ◌++◌, Some}
+use Rattle.bao_check.specs.Pieces.{chunk_of}
+use Rattle.gather.specs.Worked.{chunks_in}
+use Rattle.store_core.specs.declared.fixed.Fixed.{Fixed}
+use Rattle.store_core.specs.declared.history.Event.{Event}
+use Rattle.store_core.specs.declared.view.SeatView.{SeatView}
+use Rattle.store_core.specs.Histories.{state_after}
+use Rattle.store_core.specs.Laws.{IsBlob, IsCommitted, PairNamed}
+use Rattle.store_core.specs.Views.{mine, seat_claims}
+use Rattle.store_steps.specs.Grips.{Gripped}
+
+-- the root and the mode of the store's blob, and how many chunks it has room for
+abbrev pub fixed_of : Gripped → Fixed
+fixed_of seat = seat.view.fixed
+
+-- whether the seat claims a chunk
+abbrev pub claims_of : Gripped → ℕ → Bool
+claims_of seat c = seat_claims seat.view c
+
+-- A seat went on, with the same names in the same store. It has seen all that it had seen, and more after it. Of its own
+-- calls there are so many more, and their commits are of so many chunks.
+pub record GoneOn (old new : Gripped) (chunks : ℕ) : Type 0 where
+  pub fixed_is : fixed_of new ≡ fixed_of old
+  pub names_are : new.view.names ≡ old.view.names
+  pub more : List Event
+  pub seen_is : new.view.seen ≡ old.view.seen ++ more
+  pub own : List Event
+  pub mine_is : mine new.view ≡ mine old.view ++ own
+  pub counts : chunks ≡ chunks_in own
+
+-- Each chunk that is held after all that was seen is the one of that number of each blob with the root; or a pair is
+-- named from that blob and from the piece by which the chunk was committed.
+abbrev pub SeenBinds : SeatView → Type 0
+SeenBinds view = (blob : List ℕ) → IsBlob view.fixed blob → (c : ℕ) (bytes : List ℕ) → (state_after view.seen).held c ≡ Some bytes
+    → (chunk_of blob c ≡ Some bytes) ⊎ ((from : IsCommitted view.fixed view.seen c bytes) × PairNamed view.fixed blob from.piece)

@@ -1,0 +1,44 @@
+ghost use Rattle.std.specs.Prelude.{◌≡◌, Err, IfOk, IsErrOf, None};
+ghost use Rattle.b3tree.specs.Hashing.{hash};
+ghost use Rattle.gather.specs.declared.fault.FinishFault.TheVariants.{NotTheRoot, Unfinished};
+ghost use Rattle.gather.specs.Finished.{IsOther, IsUnfinished, IsWhole};
+ghost use Rattle.store_core.specs.Histories.{state_after};
+ghost use Rattle.store_shared.specs.Seats.{IsSeatOf, fixed_of};
+ghost use Rattle.crews.specs.Finished.{Asks, BindsNone};
+
+use b3tree::hash;
+use gather::FinishFault;
+use std::alloc::Global;
+use store_shared::{Assembly, Seat};
+
+/// The blob of a shared store: all bytes below the recorded length, once their hash in the mode is its root.
+///
+/// The seat is one of this store's. In this order: 901 `Unfinished` where no length is recorded; 903 `Memory`; 901 where a
+/// byte below the length isn't held; 902 `NotTheRoot` where the hash of the bytes isn't the root. The store is unchanged:
+/// the seat asks for the length, and then at most once reads. At `NotTheRoot`, for each blob with the root two different
+/// inputs with one chaining value are named, one of the blob's and one of a piece's that the history which the seat has
+/// seen committed, or by which it settled the length.
+pub fn finish(alloc: Global, assembly: &Assembly, seat: &mut Seat) -> Result<Vec<u8>, FinishFault>
+    requires of { IsSeatOf assembly.now seat.old }
+    ensures of { IsSeatOf assembly.now seat.new }
+    ensures asks { Asks seat.old.view seat.new.view }
+    ensures root { IfOk result (λ blob. hash (fixed_of assembly.now).mode blob.items ≡ (fixed_of assembly.now).root.0) }
+    ensures whole { IfOk result (λ blob. IsWhole (state_after seat.new.view.seen) blob.items) }
+    ensures no_length { (state_after seat.new.view.seen).recorded ≡ None → result ≡ Err Unfinished }
+    ensures unfinished { IsErrOf result Unfinished → IsUnfinished (state_after seat.new.view.seen) }
+    ensures other { IsErrOf result NotTheRoot → IsOther (fixed_of assembly.now) (state_after seat.new.view.seen) }
+    ensures none { IsErrOf result NotTheRoot → BindsNone (fixed_of assembly.now) seat.new.view.seen }
+{
+    let mode = assembly.mode();
+    mode.is_keyed();
+    let length = match assembly.length(seat) {
+        Some(length) => length,
+        None => return Err(FinishFault::Unfinished),
+    };
+    let mut blob = vec![in alloc; 0u8; length as usize]?;
+    assembly.read(seat, 0, blob.as_mut_slice())?;
+    if hash(&mode, blob.as_slice()) != assembly.root() {
+        return Err(FinishFault::NotTheRoot);
+    }
+    Ok(blob)
+}

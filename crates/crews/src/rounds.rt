@@ -1,0 +1,123 @@
+ghost use Rattle.std.specs.Prelude.{◌≡◌, ◌<◌, ◌≤◌, length, All};
+ghost use Rattle.store_shared.specs.Seats.{IsSeatOf};
+ghost use Rattle.crews.specs.Crews.{Each, Worked, WorkedOn, all_of};
+
+use crate::crew::Crew;
+use crate::shared::Shared;
+use b3par::Gate;
+use gather::{Holder, Place, Report, work};
+use std::alloc::Global;
+use std::thread::{Threads, for_each_mut};
+use store_shared::Assembly;
+
+// One crew's round, with which its report goes on. It is the crew with this number, from 0.
+fn go_round<H: Holder>(
+    alloc: Global,
+    assembly: &Assembly,
+    number: usize,
+    crews: usize,
+    crew: &mut Crew<H>,
+)
+    requires of { IsSeatOf assembly.now crew.old.seat }
+    requires number { (number < crews) × (crews ≤ 64) }
+    ensures { WorkedOn assembly.now H.count crew.old crew.new }
+{
+    let place = Place {
+        number: number as u32,
+        workers: crews as u32,
+    };
+    work(
+        alloc,
+        &Shared(assembly),
+        &mut crew.seat,
+        crew.holders.as_mut_slice(),
+        place,
+        &mut crew.report,
+    );
+}
+
+// One crew's first round: it passes the gate, and begins its report anew.
+fn begin<H: Holder, G: Gate>(
+    alloc: Global,
+    assembly: &Assembly,
+    gate: &G,
+    number: usize,
+    crews: usize,
+    crew: &mut Crew<H>,
+)
+    requires of { IsSeatOf assembly.now crew.old.seat }
+    requires number { (number < crews) × (crews ≤ 64) }
+    ensures { Worked assembly.now H.count crew.old crew.new }
+{
+    gate.pass(number);
+    crew.report = Report::new();
+    go_round(alloc, assembly, number, crews, crew);
+}
+
+// All crews' first rounds, at once.
+fn first_round<R: Threads + Sync, H: Holder + Send, G: Gate + Sync>(
+    rt: &R,
+    alloc: Global,
+    assembly: &Assembly,
+    crews: &mut [Crew<H>],
+    gate: &G,
+)
+    requires count { (0 < length crews.old) × (length crews.old ≤ 64) }
+    requires of { All (λ crew. IsSeatOf assembly.now crew.seat) crews.old }
+    ensures { Each (Worked assembly.now H.count) crews.old crews.new }
+{
+    let workers = crews.len();
+    for_each_mut(
+        rt,
+        crews,
+        workers,
+        &|number, crew| { begin(alloc, assembly, gate, number, workers, crew) },
+    );
+}
+
+// The closing round, each crew in turn.
+fn last_round<H: Holder>(alloc: Global, assembly: &Assembly, crews: &mut [Crew<H>])
+    requires count { length crews.old ≤ 64 }
+    requires of { All (λ crew. IsSeatOf assembly.now crew.seat) crews.old }
+    ensures { Each (WorkedOn assembly.now H.count) crews.old crews.new }
+{
+    let workers = crews.len();
+    for number in 0..workers {
+        go_round(alloc, assembly, number, workers, &mut crews[number]);
+    }
+}
+
+// The sums of the crews' reports.
+fn all_reports<H>(crews: &[Crew<H>]) -> Report
+    ensures { result ≡ all_of crews.now }
+{
+    let mut all = Report::new();
+    for crew in crews {
+        let report = &crew.report;
+        all.committed = all.committed.saturating_add(report.committed);
+        all.asked = all.asked.saturating_add(report.asked);
+        all.refused = all.refused.saturating_add(report.refused);
+        all.failed = all.failed.saturating_add(report.failed);
+        all.memory = all.memory.saturating_add(report.memory);
+        all.too_large |= report.too_large;
+    }
+    all
+}
+
+/// Both rounds of all crews, and the sums of their reports.
+pub(crate) fn both_rounds<R: Threads + Sync, H: Holder + Send, G: Gate + Sync>(
+    rt: &R,
+    alloc: Global,
+    assembly: &Assembly,
+    crews: &mut [Crew<H>],
+    gate: &G,
+) -> Report
+    requires count { (0 < length crews.old) × (length crews.old ≤ 64) }
+    requires of { All (λ crew. IsSeatOf assembly.now crew.seat) crews.old }
+    ensures each { Each (Worked assembly.now H.count) crews.old crews.new }
+    ensures all { result ≡ all_of crews.new }
+{
+    first_round(rt, alloc, assembly, crews, gate);
+    last_round(alloc, assembly, crews);
+    all_reports(crews)
+}

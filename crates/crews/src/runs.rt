@@ -1,0 +1,56 @@
+ghost use Rattle.std.specs.Prelude.{◌≡◌, ◌<◌, ◌≤◌, ◌+◌, IsTrue, length, All};
+ghost use Rattle.gather.specs.Counts.{IsAnswered};
+ghost use Rattle.gather.specs.Large.{AreLonger, IsTooLarge};
+ghost use Rattle.store_shared.specs.Seats.{IsSeatOf, fixed_of};
+ghost use Rattle.crews.specs.Crews.{Each, Worked, all_faults, all_of};
+ghost use Rattle.crews.specs.Seats.{SeenBinds};
+
+use crate::crew::Crew;
+use crate::rounds::both_rounds;
+use b3par::Gate;
+use gather::{Holder, Report};
+use std::alloc::Global;
+use std::thread::Threads;
+use store_shared::Assembly;
+
+/// Gathers what a shared store still lacks of its blob from holders that nobody trusts: one worker a crew, all at once.
+///
+/// There are 1 to 64 crews, and each crew's seat is one of this store's. Each worker first calls `pass` of the gate, once,
+/// with its crew's number from 0. If no length is recorded, it asks its holders in order for the last chunk, checks each
+/// text, and settles the length that it certifies, until one is recorded; it ends where none comes, or where one is above
+/// what the store has room for. Then it goes once round the groups of 64 chunks that the length needs: with C crews and
+/// K groups the worker with the number w begins at group w * K / C. It takes a group's chunks, and asks its holders in
+/// order, each once, for those bytes, checks each text and commits from it, until none of the chunks granted is left;
+/// those that are it gives back. After all workers ended, each crew in turn makes one more such round, without the gate.
+///
+/// It refuses nothing. Each worker's report, begun anew, stands in its crew, and the answer has their sums, which stay at
+/// 2^64 - 1 once there. Refused memory is counted there; the next holder is then asked. Where a thread can't be started,
+/// its work runs on another thread of the call. Texts are checked under the store's root and in its mode.
+///
+/// What a crew's seat has seen goes on from what it had seen, and is a legal history of the store. A report's `committed`
+/// is the number of chunks in the commits that the crew's own calls added to it, and the crew claims no more than it
+/// did. For each blob with the root, each chunk seen held is the blob's of that number, or two different inputs with one
+/// chaining value are named, one of the blob's and one of the piece's by which it was committed.
+///
+/// `failed` is at most what the holders' counts rose together, and `too_large` is set only where an accepted text
+/// certifies a length above what the store has room for: each blob with the root is then longer, or such a pair is named.
+pub fn run<R: Threads + Sync, H: Holder + Send, G: Gate + Sync>(
+    rt: &R,
+    alloc: Global,
+    assembly: &Assembly,
+    crews: &mut [Crew<H>],
+    gate: &G,
+) -> Report
+    requires count { (0 < length crews.old) × (length crews.old ≤ 64) }
+    requires of { All (λ crew. IsSeatOf assembly.now crew.seat) crews.old }
+    ensures each { Each (Worked assembly.now H.count) crews.old crews.new }
+    ensures all { result ≡ all_of crews.new }
+    ensures binds { All (λ crew. SeenBinds crew.seat.view) crews.new }
+    ensures failed { result.failed + all_faults H.count crews.old ≤ all_faults H.count crews.new }
+    ensures answered { IsAnswered result }
+    ensures too_large { IsTrue result.too_large → IsTooLarge (fixed_of assembly.now) }
+    ensures longer { IsTrue result.too_large → AreLonger (fixed_of assembly.now) }
+{
+    assembly.mode().is_keyed();
+    both_rounds(rt, alloc, assembly, crews, gate)
+}

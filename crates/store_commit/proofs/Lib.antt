@@ -1,0 +1,3 @@
+pub mod Eights
+pub mod Storing
+pub mod Committing

@@ -1,0 +1,22 @@
+-- The names of a seat stand in dictionary order, each once, and so its least name stands first.
+use Rattle.std.specs.Prelude.{◌≡◌, true, false, List, [], ◌∷◌}
+use Rattle.store_core.specs.declared.view.SeatView.{SeatView}
+use Rattle.store_core.specs.Names.{Name, name_le, same_name, share_name}
+use Rattle.store_core.specs.Views.{IsJoined, names_of, split_first, split_second}
+
+-- a name comes before all of these
+abbrev pub ComesBefore : Name → List Name → Type 0
+ComesBefore name [] = Unit {0}
+ComesBefore name (other ∷ others) = (name_le name other ≡ true) × (same_name name other ≡ false) × ComesBefore name others
+
+abbrev pub AreInOrder : List Name → Type 0
+AreInOrder [] = Unit {0}
+AreInOrder (name ∷ names) = ComesBefore name names × AreInOrder names
+
+-- They do so after a split, and after a join of two seats that have no name in common.
+abbrev pub SplitKeepsOrder : Type 0
+SplitKeepsOrder = (view : SeatView) → AreInOrder (names_of view) → AreInOrder (names_of (split_first view)) × AreInOrder (names_of (split_second view))
+
+abbrev pub JoinKeepsOrder : Type 0
+JoinKeepsOrder = (first second joined : SeatView) → IsJoined first second joined → share_name (names_of first) (names_of second) ≡ false
+    → AreInOrder (names_of first) → AreInOrder (names_of second) → AreInOrder (names_of joined)

@@ -1,0 +1,53 @@
+-- What a settled length meets is one of the answers of the store.
+use Rattle.std.proofs.Common.{◌≡◌, ℕ, ◌==◌, List, [], ◌∷◌, ◌++◌, Option, None, Some, inl, inr, subst}
+use Rattle.std.proofs.lemmas.Bool.{cases_Bool}
+use Rattle.bao_check.specs.declared.checked.Checked.{Checked}
+use Rattle.store_core.specs.declared.fixed.Fixed.{Fixed}
+use Rattle.store_core.specs.declared.history.Call.{Call}
+use Rattle.store_core.specs.declared.history.Call.TheVariants.{Settle}
+use Rattle.store_core.specs.declared.history.Event.{Event}
+use Rattle.store_core.specs.declared.history.Settling.{Settling}
+use Rattle.store_core.specs.declared.history.Settling.TheVariants.{Settled, Known, Differs, OtherRoot, TooLarge}
+use Rattle.store_core.specs.declared.view.SeatView.{SeatView}
+use Rattle.store_core.specs.Events.{IsRight, settling}
+use Rattle.store_core.specs.Histories.{IsLegal, state_after}
+use Rattle.store_core.specs.Pieces.{length_of, piece_of}
+use Rattle.store_core.specs.States.{empty}
+use Rattle.store_core.specs.Views.{names_of}
+use Rattle.store_core.proofs.Lasting.{legal-append}
+use Rattle.store_steps.specs.Grips.{Gripped}
+use Rattle.store_steps.specs.Tells.{Called, Did, event_of}
+use Rattle.store_shared.specs.Calls.{MaySettle, Settles}
+
+pub called : (call : Call) (old new : SeatView) → Did call old new → Called call old new
+called call old new did = record { between = did.between; goes_on = did.goes_on; claims_are = did.claims_are }
+
+-- a call's reply is the right one at its place
+pub right_there : (call : Call) (old new : SeatView) (d : Called call old new) → IsRight new.fixed (state_after (old.seen ++ d.between)) (names_of old) call
+right_there call old new d =
+    (legal-append new.fixed empty (old.seen ++ d.between) (event_of old call ∷ [])
+    (subst (λ (h : List Event). IsLegal new.fixed h) d.goes_on.seen_is d.goes_on.legal)).1.0
+
+never_other : (o : Option ℕ) (l : ℕ) → OtherRoot ≡ settling o l → ⊥
+never_other None l e = cc
+never_other (Some m) l e = elim (cases_Bool (m == l)) [
+  | inl same ↦ let is : OtherRoot ≡ Known = rw same at e in cc
+  | inr other ↦ let is : OtherRoot ≡ Differs = rw other at e in cc
+]
+
+never_large : (o : Option ℕ) (l : ℕ) → TooLarge ≡ settling o l → ⊥
+never_large None l e = cc
+never_large (Some m) l e = elim (cases_Bool (m == l)) [
+  | inl same ↦ let is : TooLarge ≡ Known = rw same at e in cc
+  | inr other ↦ let is : TooLarge ≡ Differs = rw other at e in cc
+]
+
+pub settled : (fixed : Fixed) (old new : Gripped) (piece : Checked) (answer : Settling) → MaySettle fixed piece
+    → Called (Settle (piece_of piece) answer) old.view new.view → Settles fixed old new piece answer
+settled fixed old new piece Settled may did = (may, did)
+settled fixed old new piece Known may did = (may, did)
+settled fixed old new piece Differs may did = (may, did)
+settled fixed old new piece OtherRoot may did =
+    absurd (never_other (state_after (old.view.seen ++ did.between)).recorded (length_of (piece_of piece)) (right_there (Settle (piece_of piece) OtherRoot) old.view new.view did).3)
+settled fixed old new piece TooLarge may did =
+    absurd (never_large (state_after (old.view.seen ++ did.between)).recorded (length_of (piece_of piece)) (right_there (Settle (piece_of piece) TooLarge) old.view new.view did).3)

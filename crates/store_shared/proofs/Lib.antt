@@ -1,0 +1,3 @@
+pub mod Claiming
+pub mod Asking
+pub mod Mirroring

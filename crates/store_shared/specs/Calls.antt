@@ -1,0 +1,24 @@
+-- Calls of a shared store: each is an event of its history.
+use Rattle.std.specs.Prelude.{◌≡◌, ◌*◌, ◌<◌, ◌≤◌}
+use Rattle.bao_check.specs.declared.checked.Checked.{Checked}
+use Rattle.store_core.specs.declared.fixed.Fixed.{Fixed}
+use Rattle.store_core.specs.declared.history.Call.TheVariants.{Settle}
+use Rattle.store_core.specs.declared.history.Settling.{Settling}
+use Rattle.store_core.specs.declared.history.Settling.TheVariants.{Settled, Known, Differs, OtherRoot, TooLarge}
+use Rattle.store_core.specs.Pieces.{length_of, piece_of}
+use Rattle.store_core.specs.Stores.{IsOf}
+use Rattle.store_steps.specs.Grips.{Gripped}
+use Rattle.store_steps.specs.Tells.{Called}
+
+-- the piece is of the store's root and mode, and the store has room for the length that it certifies
+pub record MaySettle (fixed : Fixed) (piece : Checked) : Type 0 where
+  pub of : IsOf fixed piece
+  pub fits : length_of (piece_of piece) ≤ 1024 * fixed.capacity
+
+-- What a settled length meets. Where the piece is of another root or mode, or the length is too large, nothing is asked.
+abbrev pub Settles : Fixed → Gripped → Gripped → Checked → Settling → Type 0
+Settles fixed old new piece OtherRoot = (¬ IsOf fixed piece) × (new ≡ old)
+Settles fixed old new piece TooLarge = IsOf fixed piece × (1024 * fixed.capacity < length_of (piece_of piece)) × (new ≡ old)
+Settles fixed old new piece Settled = MaySettle fixed piece × Called (Settle (piece_of piece) Settled) old.view new.view
+Settles fixed old new piece Known = MaySettle fixed piece × Called (Settle (piece_of piece) Known) old.view new.view
+Settles fixed old new piece Differs = MaySettle fixed piece × Called (Settle (piece_of piece) Differs) old.view new.view

@@ -1,0 +1,27 @@
+-- Seats of a shared store: what they keep of their claims, and which store they are of.
+use Rattle.std.specs.Prelude.{◌≡◌, ℕ, ◌/◌, ◌%◌, ◌<◌, List, length, slice_index}
+use Rattle.store_core.specs.declared.fixed.Fixed.{Fixed}
+use Rattle.store_core.specs.declared.view.SeatView.{SeatView}
+use Rattle.store_core.specs.Machine.{groups}
+use Rattle.store_core.specs.Masks.{has_bit}
+use Rattle.store_core.specs.Views.{seat_claims}
+use Rattle.store_shared.specs.declared.assembly.Assembly.{Assembly}
+use Rattle.store_steps.specs.Grips.{Gripped}
+use Rattle.store_steps.specs.Words.{HasGroup as WordsHaveGroup, IsOf, fixed_of as fixed_of_words}
+
+-- one word a group, with the bits of exactly the chunks that the seat claims
+pub record AreClaims (view : SeatView) (claims : List ℕ) : Type 0 where
+  pub count : length claims ≡ groups view.fixed
+  pub bits : (c : ℕ) → c / 64 < groups view.fixed → has_bit (slice_index claims (c / 64)) (c % 64) ≡ seat_claims view c
+
+-- the root, mode and capacity
+abbrev pub fixed_of : Assembly → Fixed
+fixed_of assembly = fixed_of_words assembly.words
+
+-- The seat is one of this store's, and what it has seen is a legal history of it.
+abbrev pub IsSeatOf : Assembly → Gripped → Type 0
+IsSeatOf assembly seat = IsOf assembly.words seat
+
+-- there is such a group
+abbrev pub HasGroup : Assembly → ℕ → Type 0
+HasGroup assembly group = WordsHaveGroup assembly.words group

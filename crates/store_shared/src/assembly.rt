@@ -1,0 +1,263 @@
+ghost use Rattle.std.specs.Prelude.{◌≡◌, ◌↔◌, ◌<◌, ◌≤◌, ◌*◌, IfErr, IfOk, IsOk, IsErrOf, OnErr, length};
+
+use crate::fault::{NoGroup, OtherRoot, SplitFault};
+use crate::masks::put_masks;
+use crate::seat::Seat;
+use b3tree::{CHUNK_LEN, Hash, Mode};
+use bao_check::{Checked, Tail};
+use std::alloc::Global;
+use store_commit::commit;
+use store_core::{MAX_CAPACITY, Missing, Settling};
+use store_read::read;
+use store_steps::{NewFault, Words};
+
+// How many chunks a group has.
+const GROUP_LEN: u32 = 64;
+
+/// A store of one blob's chunks, shared by reference: which are held, which seat claims which, and the blob's length once
+/// it is known. Nothing is taken on anybody's word: what it holds comes from texts accepted under its root.
+///
+/// A seat that is handed to a call is one of this store's. A mask is of the chunks of a group: bit j stands for chunk
+/// 64 * group + j.
+///
+/// Each call that is not refused is an event of one history of the store, legal at its place. A seat has seen a history
+/// that begins with all that it had seen before, and in which each of its own calls stands once.
+#[derive(Drop)]
+pub struct Assembly {
+    words: Words,
+    alloc: Global,
+}
+
+impl Assembly {
+    ghost use Rattle.bao_check.specs.Tail.{tail_piece};
+    ghost use Rattle.store_core.specs.declared.history.Call.TheVariants.{Commit, Give, Length, Take};
+    ghost use Rattle.store_core.specs.Machine.{groups};
+    ghost use Rattle.store_core.specs.Pieces.{piece_of};
+    ghost use Rattle.store_core.specs.Stores.{ChunksBind, IsOf, filled_count, missing_in};
+    ghost use Rattle.store_read.specs.Reading.{DidRead, ReadBinds};
+    ghost use Rattle.store_shared.specs.Calls.{Settles};
+    ghost use Rattle.store_shared.specs.Seats.{HasGroup, IsSeatOf, fixed_of};
+    ghost use Rattle.store_steps.specs.Grips.{opening_view};
+    ghost use Rattle.store_steps.specs.Parts.{AreMet, ArePartsOf, IsMerged};
+    ghost use Rattle.store_steps.specs.Tells.{Called};
+
+    /// A store that holds, claims and records nothing, and its first seat, which has seen nothing. `capacity` is a number
+    /// of chunks.
+    ///
+    /// 802 `Capacity` unless it is 1 to 65,536, asked before all else, and 801 `Memory`. Nothing is left behind.
+    pub fn new(
+        alloc: Global,
+        root: Hash,
+        mode: Mode,
+        capacity: u32,
+    ) -> Result<(Assembly, Seat), NewFault>
+        ensures capacity { IsErrOf result NewFault.Capacity ↔ (¬ ((0 < capacity) × (capacity ≤ 65536))) }
+        ensures fixed { IfOk result (λ made. fixed_of made.0 ≡ record { root = root; mode = mode; capacity = capacity }) }
+        ensures of { IfOk result (λ made. IsSeatOf made.0 made.1) }
+        ensures view { IfOk result (λ made. made.1.view ≡ opening_view (fixed_of made.0)) }
+    {
+        if capacity == 0 || capacity > MAX_CAPACITY {
+            return Err(NewFault::Capacity);
+        }
+        let (words, grip) = Words::new(alloc, root, mode, capacity)?;
+        let claims = vec![in alloc; 0u64; capacity.div_ceil(GROUP_LEN) as usize]?;
+        Ok((Assembly { words, alloc }, Seat { grip, claims }))
+    }
+
+    /// The root of the blob.
+    pub fn root(&self) -> Hash
+        ensures { result ≡ (fixed_of self.now).root }
+    {
+        self.words.fixed().root
+    }
+
+    /// The mode of the blob.
+    pub fn mode(&self) -> Mode
+        ensures { result ≡ (fixed_of self.now).mode }
+    {
+        self.words.fixed().mode
+    }
+
+    /// How many chunks the store has room for.
+    pub fn capacity(&self) -> u32
+        ensures { result ≡ (fixed_of self.now).capacity }
+    {
+        self.words.fixed().capacity
+    }
+
+    /// How many groups of 64 chunks there are; the last may have less.
+    pub fn groups(&self) -> u32
+        ensures { result ≡ groups (fixed_of self.now) }
+    {
+        self.capacity().div_ceil(GROUP_LEN)
+    }
+
+    /// Splits a seat in two. The first keeps its claims and its calls. The second has seen the same and has neither.
+    ///
+    /// 806 where there is no memory: the seat comes back as it was.
+    pub fn split(&self, seat: Seat) -> Result<(Seat, Seat), SplitFault>
+        requires of { IsSeatOf self.now seat }
+        ensures of { IfOk result (λ parts. IsSeatOf self.now parts.0 × IsSeatOf self.now parts.1) }
+        ensures parts { IfOk result (λ parts. ArePartsOf seat.view parts.0.view parts.1.view) }
+        ensures back { IfErr result (λ fault. fault.seat ≡ seat) }
+    {
+        let Ok(none) = vec![in self.alloc; 0u64; self.groups() as usize] else {
+            return Err(SplitFault { seat });
+        };
+        let Seat { grip, claims } = seat;
+        match self.words.part(grip) {
+            Ok((first, second)) => Ok((
+                Seat {
+                    grip: first,
+                    claims,
+                },
+                Seat {
+                    grip: second,
+                    claims: none,
+                },
+            )),
+            Err(grip) => Err(SplitFault {
+                seat: Seat { grip, claims },
+            }),
+        }
+    }
+
+    /// Joins two seats to one, with the claims and the calls of both. What it has seen begins with what each had seen. It
+    /// takes no memory.
+    pub fn join(&self, first: Seat, second: Seat) -> Seat
+        requires first { IsSeatOf self.now first }
+        requires second { IsSeatOf self.now second }
+        ensures of { IsSeatOf self.now result }
+        ensures merged { IsMerged first.view second.view result.view }
+    {
+        let Seat { grip, mut claims } = first;
+        let Seat {
+            grip: other,
+            claims: others,
+        } = second;
+        put_masks(claims.as_mut_slice(), others.as_slice());
+        let grip = self.words.merge(grip, other);
+        Seat { grip, claims }
+    }
+
+    /// Lets two seats meet: afterwards both have seen one history, which begins with what each had seen. Their calls and
+    /// claims stay as they are. It takes no memory.
+    pub fn meet(&self, first: &mut Seat, second: &mut Seat)
+        requires first { IsSeatOf self.now first.old }
+        requires second { IsSeatOf self.now second.old }
+        ensures first { IsSeatOf self.now first.new }
+        ensures second { IsSeatOf self.now second.new }
+        ensures met { AreMet first.old.view second.old.view first.new.view second.new.view }
+    {
+        self.words.meet(&mut first.grip, &mut second.grip);
+    }
+
+    /// Claims the wanted chunks of a group that are below the capacity and neither held nor claimed, and answers their
+    /// mask. A chunk that the seat claims already isn't granted again. It takes no memory.
+    ///
+    /// 803 `NoGroup` where there is no such group. Nothing is then asked.
+    pub fn take(&self, seat: &mut Seat, group: u32, want: u64) -> Result<u64, NoGroup>
+        requires of { IsSeatOf self.now seat.old }
+        ensures of { IsSeatOf self.now seat.new }
+        ensures group { IsOk result ↔ HasGroup self.now group }
+        ensures called { IfOk result (λ granted. Called (Take group want granted) seat.old.view seat.new.view) }
+        ensures same { OnErr result (seat.new ≡ seat.old) }
+    {
+        if group >= self.groups() {
+            return Err(NoGroup);
+        }
+        let granted = self.words.take(&mut seat.grip, group, want);
+        seat.claims[group as usize] |= granted;
+        Ok(granted)
+    }
+
+    /// Ends the seat's claims among the mask of a group, and answers the mask of those that it had: 0 for a group that
+    /// isn't there. It takes no memory.
+    pub fn give(&self, seat: &mut Seat, group: u32, mask: u64) -> u64
+        requires of { IsSeatOf self.now seat.old }
+        ensures of { IsSeatOf self.now seat.new }
+        ensures called { Called (Give group mask result) seat.old.view seat.new.view }
+    {
+        if group >= self.groups() {
+            self.words.give_none(&mut seat.grip, group, mask);
+            return 0;
+        }
+        let given = seat.claims[group as usize] & mask;
+        self.words.give(&mut seat.grip, group, mask, given);
+        seat.claims[group as usize] &= !given;
+        given
+    }
+
+    /// Stores exactly the chunks of a group that the seat claims and the piece holds, ends these claims, and answers
+    /// their mask: 0 for a group that isn't there. It takes no memory.
+    ///
+    /// 804 `OtherRoot`, asked before all else, where the piece is of another root or mode. Nothing is then asked.
+    ///
+    /// For each blob with the store's root, each chunk stored is the blob's chunk of that number; or two different
+    /// inputs with one chaining value are named, one of the blob's and one of the piece's.
+    pub fn commit(&self, seat: &mut Seat, group: u32, piece: &Checked<'_>) -> Result<u64, OtherRoot>
+        requires of { IsSeatOf self.now seat.old }
+        ensures of { IsSeatOf self.now seat.new }
+        ensures root { IsOk result ↔ IsOf (fixed_of self.now) piece.now }
+        ensures called { IfOk result (λ committed. Called (Commit group (piece_of piece.now) committed) seat.old.view seat.new.view) }
+        ensures same { OnErr result (seat.new ≡ seat.old) }
+        ensures binds { IfOk result (λ committed. ChunksBind (fixed_of self.now) (piece_of piece.now) group committed) }
+    {
+        if !self.words.fixed().is_of(&piece.root(), &piece.mode()) {
+            return Err(OtherRoot);
+        }
+        if group >= self.groups() {
+            self.words.publish_none(&mut seat.grip, group, piece);
+            return Ok(0);
+        }
+        let claimed = seat.claims[group as usize];
+        let committed = commit(&self.words, &mut seat.grip, group, piece, claimed);
+        seat.claims[group as usize] &= !committed;
+        Ok(committed)
+    }
+
+    /// Records the length in bytes that a piece with the last chunk certifies, if none is recorded: `Settled`. Else it
+    /// says whether the same was recorded, `Known`, or another, `Differs`. It takes no memory.
+    ///
+    /// 804 `OtherRoot`, asked before all else, where the piece is of another root or mode, and 805 `TooLarge` where the
+    /// length is above 1,024 times the capacity. Nothing is then asked.
+    pub fn settle(&self, seat: &mut Seat, tail: &Tail<'_>) -> Settling
+        requires of { IsSeatOf self.now seat.old }
+        ensures of { IsSeatOf self.now seat.new }
+        ensures settles { Settles (fixed_of self.now) seat.old seat.new (tail_piece tail.now) result }
+    {
+        let fixed = self.words.fixed();
+        if !fixed.is_of(&tail.root(), &tail.mode()) {
+            return Settling::OtherRoot;
+        }
+        if tail.length() > CHUNK_LEN as u64 * u64::from(fixed.capacity) {
+            return Settling::TooLarge;
+        }
+        self.words.settle(&mut seat.grip, tail)
+    }
+
+    /// The recorded length in bytes, if there is one. It takes no memory.
+    pub fn length(&self, seat: &mut Seat) -> Option<u64>
+        requires of { IsSeatOf self.now seat.old }
+        ensures of { IsSeatOf self.now seat.new }
+        ensures called { Called (Length result) seat.old.view seat.new.view }
+    {
+        self.words.length(&mut seat.grip)
+    }
+    /// Fills `out` with the bytes from position `at` on, in bytes. It takes no memory.
+    ///
+    /// `Missing(p)`: p is the least position of the range that isn't held. The bytes before it are filled in, and the
+    /// rest of `out` is unchanged. A position is held if its chunk is and has more bytes than come before it there;
+    /// none at or above 1,024 times the capacity is. An empty buffer is Ok.
+    ///
+    /// For each blob with the store's root, each byte filled in is the blob's byte there; or two different inputs
+    /// with one chaining value are named, one of the blob's and one of a piece's that was committed.
+    pub fn read(&self, seat: &mut Seat, at: u64, out: &mut [u8]) -> Result<(), Missing>
+        requires of { IsSeatOf self.now seat.old }
+        ensures of { IsSeatOf self.now seat.new }
+        ensures event { DidRead seat.old.view seat.new.view at out.old out.new (missing_in result) }
+        ensures binds { ReadBinds seat.new.view at out.new (filled_count at (length out.old) (missing_in result)) }
+    {
+        read(&self.words, &mut seat.grip, at, out)
+    }
+}

@@ -1,0 +1,47 @@
+ghost use Rattle.std.specs.Prelude.{◌≡◌};
+
+use crate::seat::Seat;
+use thiserror::Error;
+
+/// The store has no such group. Number 803.
+#[derive(Clone, Copy, Debug, PartialEq, Eq, Error)]
+#[error("803 no group")]
+pub struct NoGroup;
+
+impl NoGroup {
+    /// The fault's number: 803.
+    pub fn code(&self) -> u16
+        ensures { result ≡ 803 }
+    {
+        803
+    }
+}
+
+/// The piece is of another root or mode. Number 804.
+#[derive(Clone, Copy, Debug, PartialEq, Eq, Error)]
+#[error("804 other root")]
+pub struct OtherRoot;
+
+impl OtherRoot {
+    /// The fault's number: 804.
+    pub fn code(&self) -> u16
+        ensures { result ≡ 804 }
+    {
+        804
+    }
+}
+
+/// There was no memory to split a seat, which is given back as it was. Number 806.
+#[derive(Drop)]
+pub struct SplitFault {
+    pub seat: Seat,
+}
+
+impl SplitFault {
+    /// The fault's number: 806.
+    pub fn code(&self) -> u16
+        ensures { result ≡ 806 }
+    {
+        806
+    }
+}

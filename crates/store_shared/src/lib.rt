@@ -1,0 +1,15 @@
+//! A store of one blob's chunks that many threads share, each with a seat of its own.
+#![tactic(auto)]
+
+pub use assembly::Assembly;
+pub use fault::{NoGroup, OtherRoot, SplitFault};
+pub use law::replies_are_the_stores;
+pub use seat::Seat;
+pub use store_core::{Missing, Settling};
+pub use store_steps::NewFault;
+
+mod assembly;
+mod fault;
+mod law;
+mod masks;
+mod seat;

@@ -1,0 +1,21 @@
+use std::marker::Model;
+use store_steps::Grip;
+
+/// A seat of a shared store: one thread's token, with which it makes its calls. Contracts see which store it is of and
+/// its view, what it knows. It keeps which chunks it claims, one word a group.
+#[derive(Drop)]
+pub struct Seat {
+    pub(crate) grip: Grip,
+    pub(crate) claims: Vec<u64>,
+}
+
+impl Model for Seat {
+    ghost use Rattle.store_shared.specs.Seats.{AreClaims};
+    ghost use Rattle.store_steps.specs.Grips.{Gripped};
+
+    ghost Value = { Gripped };
+
+    ghost view = { λ s. s.grip };
+
+    ghost invariant = { λ s. AreClaims s.grip.view s.claims.items };
+}

@@ -1,0 +1,122 @@
+-- Give: one and on the claim word.
+use Rattle.std.proofs.Common.{◌≡◌, ◌≢◌, ℕ, ◌*◌, ◌/◌, ◌%◌, ◌^◌, ◌<◌, ◌==◌, Bool, true, false, not, ◌&&◌, ◌||◌, if◌then◌else◌, List, [], ◌∷◌, Option, None, Some, is_some, slice_index, set, refl, sym, ap, subst, ◌∙◌, arith, inl, inr, ne_eqb, eq-eqb, eqb-true}
+use Rattle.std.specs.Int.{w64, bit_not}
+use Rattle.std.specs.Int.Bits.{bit_and}
+use Rattle.std.proofs.lemmas.Bool.{and_left, and_parts, both_ways, cases_Bool, false_from_ne_true}
+use mathlib.Core.Option.{some}
+use lib.ListN.{get_elem?}
+use Rattle.atomic_table.specs.Table.{State as Table}
+use Rattle.store_core.specs.declared.fixed.Fixed.{Fixed}
+use Rattle.store_core.specs.declared.history.Call.TheVariants.{Give}
+use Rattle.store_core.specs.declared.view.SeatView.{SeatView}
+use Rattle.store_core.specs.declared.view.StoredWord.{StoredWord}
+use Rattle.store_core.specs.Events.{IsRight, after_call}
+use Rattle.store_core.specs.Histories.{state_after}
+use Rattle.store_core.specs.Machine.{groups}
+use Rattle.store_core.specs.Masks.{has_bit, in_mask}
+use Rattle.store_core.specs.Names.{Name}
+use Rattle.store_core.specs.States.{State, claims, is_among, is_claimed, is_held}
+use Rattle.store_core.specs.Views.{names_of, stored, without_chunks}
+use Rattle.store_core.proofs.Lasting.{legal_is_sound}
+use Rattle.store_core.proofs.Tells.{claims-claimed, masked}
+use Rattle.store_steps.specs.Asks.{AreClaimed}
+use Rattle.store_steps.specs.Layout.{cell_at, cell_place, claim_place, claim_word}
+use Rattle.store_steps.specs.Plays.{Gives}
+use Rattle.store_steps.specs.Rule.{IsKept, StandFor}
+use Rattle.store_steps.proofs.Bits.{has_bit-and, has_bit-not}
+use Rattle.store_steps.proofs.Standing.{claims_stand, left}
+use Rattle.store_steps.proofs.Stepping.{Steps, did_step, fitting, claims_now}
+
+-- a word that still counts as stored did so before, and is of none of the mask's chunks
+pub still_stored : (group mask : ℕ) (words : List StoredWord) (number value : ℕ) → stored (without_chunks group mask words) number ≡ Some value
+    → (in_mask group mask (number / 129) ≡ false) × (stored words number ≡ Some value)
+still_stored group mask [] number value h = cc
+still_stored group mask (w ∷ words) number value h = elim (cases_Bool (in_mask group mask (w.number / 129))) [
+  | inl gone ↦
+      let rest = still_stored group mask words number value (rw gone at h) in
+      let other : (w.number == number) ≡ false = false_from_ne_true _ (λ e.
+      let same : in_mask group mask (number / 129) ≡ true = subst (λ (n : ℕ). in_mask group mask (n / 129) ≡ true) (eqb-true w.number number e) gone in
+      both_ways _ rest.0 same) in
+      (rest.0, rw other rest.1)
+  | inr stays ↦
+      let there : stored (w ∷ without_chunks group mask words) number ≡ Some value = rw stays at h in
+      elim (cases_Bool (w.number == number)) [
+        | inl here ↦ (subst (λ (n : ℕ). in_mask group mask (n / 129) ≡ false) (eqb-true w.number number here) stays, rw here (rw here at there))
+        | inr other ↦ let rest = still_stored group mask words number value (rw other at there) in (rest.0, rw other rest.1)
+      ]
+]
+
+give_bit : (held claimed given : Bool) (old : Option Name) → claimed ≡ is_some old → (given ≡ true → held ≡ false)
+    → ((held || claimed) && not given) ≡ (held || is_some (if given then None else old))
+give_bit true claimed true old is free = let never : true ≡ false = free refl in cc
+give_bit true claimed false old is free = refl
+give_bit false true true old is free = refl
+give_bit false true false old is free = is
+give_bit false false true old is free = refl
+give_bit false false false old is free = is
+
+module _ (fixed : Fixed) (s : Table Unit (List SeatView)) (k : IsKept fixed s) (id : ℕ) (view : SeatView) (seat : get_elem? s.views id ≡ some (view ∷ [])) where
+  -- what it claims isn't held
+  pub not_held : (c : ℕ) → claims (names_of view) (state_after k.history) c ≡ true → is_held (state_after k.history) c ≡ false
+  not_held c ours = false_from_ne_true _ (λ shown.
+      both_ways _ ((legal_is_sound fixed k.history k.legal).apart c shown) (claims-claimed (names_of view) (state_after k.history) c ours))
+
+  -- words of cells are left where another kind of word is written
+  pub cells_beside : (place n number : ℕ) → place < 2 * groups fixed → cell_at fixed (set s.words place n) number ≡ cell_at fixed s.words number
+  cells_beside place n number below = left s.words place n (cell_place fixed number) (λ e. omega (arith, e, below))
+
+  -- Claims of a mask's chunks end: what counts as stored stands in cells of claims that go on.
+  pub ended_written : (t : State) (group mask place n : ℕ) → place < 2 * groups fixed
+      → ((c : ℕ) → in_mask group mask c ≡ false → t.claim c ≡ (state_after k.history).claim c)
+      → (number value : ℕ) → stored (without_chunks group mask view.written) number ≡ Some value
+      → (claims (names_of view) t (number / 129) ≡ true) × (cell_at fixed (set s.words place n) number ≡ value)
+  ended_written t group mask place n below same number value is =
+      let old = still_stored group mask view.written number value is in
+      let w = (fitting fixed s k id view seat).written number value old.1 in (
+        ap (λ (o : Option Name). is_among (names_of view) o) (same (number / 129) old.0) ∙ w.0,
+        cells_beside place n number below ∙ w.1,
+      )
+
+  module _ (group mask given : ℕ) (there : group < groups fixed) (ours : AreClaimed view group mask given)
+      (small : slice_index s.words (claim_place fixed group) < 2 ^ 64) where
+    abbrev found : ℕ
+    found = slice_index s.words (claim_place fixed group)
+
+    abbrev state : State
+    state = state_after k.history
+
+    right : IsRight fixed state (names_of view) (Give group mask given)
+    right = record { small = ours.small; bits = λ c here. ours.bits c here ∙ ap (λ (b : Bool). has_bit mask (c % 64) && b) (sym (claims_now fixed s k id view seat c)) }
+
+    -- a chunk of the mask is claimed, and so not held
+    free : (c : ℕ) → in_mask group given c ≡ true → is_held state c ≡ false
+    free c hit = not_held c (and_parts (has_bit mask (c % 64)) (claims (names_of view) state c)
+        (masked group given (λ c. has_bit mask (c % 64) && claims (names_of view) state c) c right hit)).1
+
+    in_here : (c : ℕ) → c / 64 ≡ group → in_mask group given c ≡ has_bit given (c % 64)
+    in_here c here = ap (λ (b : Bool). b && has_bit given (c % 64)) (eq-eqb (c / 64) group here)
+
+    in_other : (c : ℕ) → c / 64 ≢ group → in_mask group given c ≡ false
+    in_other c other = and_left _ _ (ne_eqb (c / 64) group other)
+
+    abbrev claim_then : ℕ → Option Name
+    claim_then c = if in_mask group given c then None else state.claim c
+
+    word_bit : (c : ℕ) → c / 64 ≡ group → has_bit (bit_and found (bit_not w64 given)) (c % 64) ≡ (is_held state c || is_some (claim_then c))
+    word_bit c here =
+        let old : has_bit found (c % 64) ≡ (is_held state c || is_claimed state c) =
+        ap (λ (g : ℕ). has_bit (claim_word fixed s.words g) (c % 64)) (sym here) ∙ k.words.claimed c (omega (arith, here, there)) in
+        has_bit-and found (bit_not w64 given) (c % 64)
+        ∙ ap (λ (b : Bool). b && has_bit (bit_not w64 given) (c % 64)) old
+        ∙ ap (λ (b : Bool). (is_held state c || is_claimed state c) && b) (has_bit-not given (c % 64) ours.small (omega arith) ∙ ap (λ (b : Bool). not b) (sym (in_here c here)))
+        ∙ give_bit (is_held state c) (is_claimed state c) (in_mask group given c) (state.claim c) refl (free c)
+
+    words : StandFor fixed (set s.words (claim_place fixed group) (bit_and found (bit_not w64 given))) (after_call (names_of view) (Give group mask given) state)
+    words = claims_stand fixed s.words state k.words claim_then group (bit_and found (bit_not w64 given)) there word_bit
+        (λ c other. ap (λ (b : Bool). if b then None else state.claim c) (in_other c other))
+
+    pub give_steps : Steps fixed s id (claim_place fixed group) (bit_and found (bit_not w64 given)) (λ new. Gives group mask given view new)
+    give_steps = did_step fixed s k id view seat (Give group mask given) (claim_place fixed group) (bit_and found (bit_not w64 given)) right words
+        (ended_written (after_call (names_of view) (Give group mask given) state) group given (claim_place fixed group)
+        (bit_and found (bit_not w64 given)) (omega (arith, there)) (λ c miss. ap (λ (b : Bool). if b then None else state.claim c) miss))
+        (λ number c never. cells_beside (claim_place fixed group) (bit_and found (bit_not w64 given)) number (omega (arith, there)))

@@ -1,0 +1,188 @@
+-- Views that move from seat to seat: the words, the history and each view are as they were.
+use Rattle.std.proofs.Common.{◌≡◌, ◌≢◌, ◌⊎◌, ℕ, zero, suc, ◌==◌, if◌then◌else◌, List, [], ◌∷◌, ◌++◌, length, set, refl, sym, ap, subst, ◌∙◌, inl, inr, ne_eqb, eq-eqb}
+use mathlib.Core.Option.{some, some-injective, some-ne-none}
+use lib.ListN.{get_elem?}
+use Rattle.atomic_table.specs.Table.{State as Table}
+use Rattle.atomic_table.proofs.Lists.{at_set}
+use Rattle.store_core.specs.declared.fixed.Fixed.{Fixed}
+use Rattle.store_core.specs.declared.view.Named.{Named}
+use Rattle.store_core.specs.declared.view.SeatView.{SeatView}
+use Rattle.store_core.specs.Histories.{state_after}
+use Rattle.store_steps.specs.Rule.{AreApart, Fits, HasView, IsKept, IsNamed, StandFor}
+use Rattle.atomic_table.specs.Table.{Enters, Joins, Splits}
+use Rattle.store_steps.specs.Grips.{first_of}
+use Rattle.store_steps.specs.Plays.{rest_of}
+use Rattle.store_steps.proofs.Lists.{one_part}
+
+-- the rule of another table with the same words, whose views fit and whose names are apart
+pub rekept : (fixed : Fixed) (s t : Table Unit (List SeatView)) → t.words ≡ s.words → (k : IsKept fixed s)
+    → ((seat part : ℕ) (view : SeatView) → HasView t.views seat part view → Fits fixed k.history s.words view)
+    → AreApart t.views k.history → IsKept fixed t
+rekept fixed s t same k fits names = record {
+  history = k.history;
+  legal = k.legal;
+  words = subst (λ (words : List ℕ). StandFor fixed words (state_after k.history)) (sym same) k.words;
+  views = λ seat part view h. subst (λ (words : List ℕ). Fits fixed k.history words view) (sym same) (fits seat part view h);
+  names = names;
+}
+
+-- a view that stood at a place, and where it stands now
+pub record Moved (views : List (List SeatView)) (to : ℕ × ℕ → ℕ × ℕ) (seat part : ℕ) (view : SeatView) : Type 0 where
+  pub old_seat : ℕ
+  pub old_part : ℕ
+  pub has : HasView views old_seat old_part view
+  pub is : to (old_seat, old_part) ≡ (seat, part)
+
+moved_named : (views later : List (List SeatView)) (to : ℕ × ℕ → ℕ × ℕ)
+    → ((seat part : ℕ) (view : SeatView) → HasView later seat part view → Moved views to seat part view)
+    → (named : Named) → IsNamed later named → IsNamed views named
+moved_named views later to moved named k =
+    let m = moved k.seat k.part k.view k.has in
+    record { seat = m.old_seat; part = m.old_part; view = k.view; has = m.has; among = k.among }
+
+pub regroup : (fixed : Fixed) (s t : Table Unit (List SeatView)) → t.words ≡ s.words → IsKept fixed s → (to : ℕ × ℕ → ℕ × ℕ)
+    → ((seat part : ℕ) (view : SeatView) → HasView t.views seat part view → Moved s.views to seat part view) → IsKept fixed t
+regroup fixed s t same k to moved = rekept fixed s t same k
+    (λ seat part view h. let m = moved seat part view h in k.views m.old_seat m.old_part view m.has)
+    (record {
+      owner = λ name. to (k.names.owner name);
+      owned = λ seat part view h name ours.
+          let m = moved seat part view h in
+          ap (λ (p : ℕ × ℕ). to p) (k.names.owned m.old_seat m.old_part view m.has name ours) ∙ m.is;
+      named = λ seat part view h. let m = moved seat part view h in k.names.named m.old_seat m.old_part view m.has;
+      distinct = λ seat part view h. let m = moved seat part view h in k.names.distinct m.old_seat m.old_part view m.has;
+      new_to_views = λ one other a b. k.names.new_to_views one other (moved_named s.views t.views to moved one a) (moved_named s.views t.views to moved other b);
+      new_to_calls = λ named is. k.names.new_to_calls named (moved_named s.views t.views to moved named is);
+    })
+
+-- places of a list with one more at its end
+pub at_end : {A : Type 0} (xs : List A) (x y : A) (i : ℕ) → get_elem? (xs ++ x ∷ []) i ≡ some y → (get_elem? xs i ≡ some y) ⊎ ((i ≡ length xs) × (x ≡ y))
+at_end [] x y zero h = inr (refl, some-injective x y h)
+at_end [] x y (suc i) h = absurd (some-ne-none y (sym h))
+at_end (z ∷ xs) x y zero h = inl h
+at_end (z ∷ xs) x y (suc i) h = elim (at_end xs x y i h) [
+  | inl before ↦ inl before
+  | inr last ↦ let place : suc i ≡ suc (length xs) = ap (λ (n : ℕ). suc n) last.0 in inr (place, last.1)
+]
+
+-- a seat with no view has none
+pub no_part : (view : SeatView) (part : ℕ) → get_elem? [] part ≡ some view → ⊥
+no_part view zero h = some-ne-none view (sym h)
+no_part view (suc part) h = some-ne-none view (sym h)
+
+-- of two views
+pub two_parts : (one two view : SeatView) (part : ℕ) → get_elem? (one ∷ two ∷ []) part ≡ some view → ((part ≡ 0) × (view ≡ one)) ⊎ ((part ≡ 1) × (view ≡ two))
+two_parts one two view zero h = inl (refl, sym (some-injective one view h))
+two_parts one two view (suc zero) h = inr (refl, sym (some-injective two view h))
+two_parts one two view (suc (suc part)) h = absurd (some-ne-none view (sym h))
+
+module _ (views : List (List SeatView)) (id : ℕ) where
+  -- the views of a table where one seat has others
+  pub at_other : (parts : List SeatView) (i j : ℕ) (v : SeatView) → HasView (set views id parts) i j v
+      → ((i ≡ id) × (get_elem? parts j ≡ some v)) ⊎ ((i ≢ id) × HasView views i j v)
+  at_other parts i j v h = elim (at_set views id i parts h.parts h.is_seat) [
+    | inl here ↦ inl (here.0, subst (λ (ps : List SeatView). get_elem? ps j ≡ some v) (sym here.1) h.is_part)
+    | inr other ↦ inr (other.0, record { parts = h.parts; is_seat = other.1; is_part = h.is_part })
+  ]
+
+-- a place is another where the seats are
+pub other_place : (i id : ℕ) (place other : ℕ × ℕ) → i ≢ id → (if i == id then place else other) ≡ other
+other_place i id place other differ = rw (ne_eqb i id differ) refl
+
+pub same_place : (i id : ℕ) (place other : ℕ × ℕ) → i ≡ id → (if i == id then place else other) ≡ place
+same_place i id place other same = rw (eq-eqb i id same) refl
+
+-- A seat takes in another's view: it has both.
+pub joined_kept : (fixed : Fixed) (s : Table Unit (List SeatView)) → IsKept fixed s → (id other : ℕ) (one two : SeatView)
+    → get_elem? s.views id ≡ some (one ∷ []) → other ≢ id → get_elem? (set s.views id (one ∷ two ∷ [])) other ≡ some (two ∷ [])
+    → IsKept fixed (record { words = s.words; homes = s.homes; views = set (set s.views id (one ∷ two ∷ [])) other [] })
+joined_kept fixed s k id other one two at differ at_two =
+    let both : List (List SeatView) = set s.views id (one ∷ two ∷ []) in
+    let to : ℕ × ℕ → ℕ × ℕ = λ p. if p.0 == other then (id, 1) else p in
+    let two_there : HasView s.views other 0 two =
+    elim (at_set s.views id other (one ∷ two ∷ []) (two ∷ []) at_two) [
+      | inl here ↦ absurd (differ here.0)
+      | inr there ↦ record { parts = two ∷ []; is_seat = there.1; is_part = refl }
+    ] in
+    regroup fixed s (record { words = s.words; homes = s.homes; views = set both other [] }) refl k to (λ i j v h.
+    elim (at_other both other [] i j v h) [
+      | inl spent ↦ absurd (no_part v j spent.1)
+      | inr away ↦ elim (at_other s.views id (one ∷ two ∷ []) i j v away.1) [
+        | inl here ↦ elim (two_parts one two v j here.1) [
+          | inl first ↦ record {
+            old_seat = id;
+            old_part = 0;
+            has = subst (λ (u : SeatView). HasView s.views id 0 u) (sym first.1) (record { parts = one ∷ []; is_seat = at; is_part = refl });
+            is = other_place id other (id, 1) (id, 0) (λ e. differ (sym e)) ∙ (λ x. (sym here.0 x, sym first.0 x));
+          }
+          | inr second ↦ record {
+            old_seat = other;
+            old_part = 0;
+            has = subst (λ (u : SeatView). HasView s.views other 0 u) (sym second.1) two_there;
+            is = same_place other other (id, 1) (other, 0) refl ∙ (λ x. (sym here.0 x, sym second.0 x));
+          }
+        ]
+        | inr there ↦ record { old_seat = i; old_part = j; has = there.1; is = other_place i other (id, 1) (i, j) away.0 }
+      ]
+    ])
+
+-- A new seat with no view comes in.
+pub entered_kept : (fixed : Fixed) (s : Table Unit (List SeatView)) → IsKept fixed s
+    → IsKept fixed (record { words = s.words; homes = s.homes; views = s.views ++ [] ∷ [] })
+entered_kept fixed s k = regroup fixed s (record { words = s.words; homes = s.homes; views = s.views ++ [] ∷ [] }) refl k (λ p. p) (λ i j v h.
+    elim (at_end s.views [] h.parts i h.is_seat) [
+      | inl there ↦ record { old_seat = i; old_part = j; has = record { parts = h.parts; is_seat = there; is_part = h.is_part }; is = refl }
+      | inr last ↦ absurd (no_part v j (subst (λ (ps : List SeatView). get_elem? ps j ≡ some v) (sym last.1) h.is_part))
+    ])
+
+-- A seat with two views leaves the second to a new one.
+pub left_kept : (fixed : Fixed) (s : Table Unit (List SeatView)) → IsKept fixed s → (id : ℕ) (one two : SeatView)
+    → get_elem? s.views id ≡ some (one ∷ two ∷ [])
+    → IsKept fixed (record { words = s.words; homes = s.homes; views = set s.views id (one ∷ []) ++ (two ∷ []) ∷ [] })
+left_kept fixed s k id one two at =
+    let first : List (List SeatView) = set s.views id (one ∷ []) in
+    let to : ℕ × ℕ → ℕ × ℕ = λ p. if p.0 == id then (if p.1 == 0 then p else (length first, 0)) else p in
+    let seat : (j : ℕ) (v : SeatView) → get_elem? (one ∷ two ∷ []) j ≡ some v → HasView s.views id j v =
+    λ j v h. record { parts = one ∷ two ∷ []; is_seat = at; is_part = h } in
+    regroup fixed s (record { words = s.words; homes = s.homes; views = first ++ (two ∷ []) ∷ [] }) refl k to (λ i j v h.
+    elim (at_end first (two ∷ []) h.parts i h.is_seat) [
+      | inl there ↦ elim (at_other s.views id (one ∷ []) i j v (record { parts = h.parts; is_seat = there; is_part = h.is_part })) [
+        | inl here ↦
+            let only = one_part one v j here.1 in
+            record {
+              old_seat = id;
+              old_part = 0;
+              has = subst (λ (u : SeatView). HasView s.views id 0 u) (sym only.1) (seat 0 one refl);
+              is = same_place id id (id, 0) (id, 0) refl ∙ (λ x. (sym here.0 x, sym only.0 x));
+            }
+        | inr other ↦ record { old_seat = i; old_part = j; has = other.1; is = other_place i id (if j == 0 then (i, j) else (length first, 0)) (i, j) other.0 }
+      ]
+      | inr last ↦
+          let only = one_part two v j (subst (λ (ps : List SeatView). get_elem? ps j ≡ some v) (sym last.1) h.is_part) in
+          record {
+            old_seat = id;
+            old_part = 1;
+            has = subst (λ (u : SeatView). HasView s.views id 1 u) (sym only.1) (seat 1 two refl);
+            is = same_place id id (length first, 0) (id, 1) refl ∙ (λ x. (sym last.0 x, sym only.0 x));
+          }
+    ])
+
+-- What the table asks of these.
+pub join_asks : (fixed key : Fixed) → key ≡ fixed → (id other : ℕ) (ours theirs : List SeatView) → ours ≡ first_of ours ∷ [] → theirs ≡ first_of theirs ∷ []
+    → Joins (IsKept key) id ours other theirs (ours ++ theirs) []
+join_asks fixed key key_is id other ours theirs one two =
+    subst (λ (f : Fixed). Joins (IsKept f) id ours other theirs (ours ++ theirs) []) (sym key_is)
+    (subst (λ (xs : List SeatView). Joins (IsKept fixed) id xs other theirs (xs ++ theirs) []) (sym one)
+    (subst (λ (ys : List SeatView). Joins (IsKept fixed) id (first_of ours ∷ []) other ys ((first_of ours ∷ []) ++ ys) []) (sym two)
+    (λ s k at differ at_other. joined_kept fixed s k id other (first_of ours) (first_of theirs) at differ at_other)))
+
+pub enter_asks : (fixed key : Fixed) → key ≡ fixed → (slots i : ℕ) → Enters (IsKept key) slots i (λ n views. views ≡ [])
+enter_asks fixed key key_is slots i =
+    subst (λ (f : Fixed). Enters (IsKept f) slots i (λ n views. views ≡ [])) (sym key_is) (λ s k homes small. ([], entered_kept fixed s k, refl))
+
+pub leave_asks : (fixed key : Fixed) → key ≡ fixed → (id : ℕ) (views : List SeatView) (one two : SeatView) → views ≡ one ∷ two ∷ []
+    → Splits (IsKept key) id views (first_of views ∷ []) (rest_of views)
+leave_asks fixed key key_is id views one two both =
+    subst (λ (f : Fixed). Splits (IsKept f) id views (first_of views ∷ []) (rest_of views)) (sym key_is)
+    (subst (λ (vs : List SeatView). Splits (IsKept fixed) id vs (first_of vs ∷ []) (rest_of vs)) (sym both)
+    (λ s k at. left_kept fixed s k id one two at))

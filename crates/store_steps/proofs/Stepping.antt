@@ -1,0 +1,192 @@
+-- What a step comes to: a new view with which the rule holds, of which the step tells.
+use Rattle.std.proofs.Common.{◌≡◌, ℕ, ◌/◌, ◌^◌, ◌<◌, true, false, List, [], ◌∷◌, ◌++◌, length, Some, slice_index, set, refl, sym, ap, subst, ◌∙◌}
+use mathlib.Core.Option.{some}
+use lib.ListN.{get_elem?}
+use Rattle.std.proofs.lemmas.List.{append-nil, set-get_or}
+use Rattle.std.proofs.lemmas.List.Elements.{filter-append}
+use Rattle.atomic_table.specs.Table.{Allows, Me, State as Table, keeps, stepped}
+use Rattle.store_core.specs.declared.fixed.Fixed.{Fixed}
+use Rattle.store_core.specs.declared.history.Call.{Call}
+use Rattle.store_core.specs.declared.history.Event.{Event}
+use Rattle.store_core.specs.declared.view.SeatView.{SeatView}
+use Rattle.store_core.specs.declared.view.StoredWord.{StoredWord}
+use Rattle.store_core.specs.Events.{IsRight, after_call}
+use Rattle.store_core.specs.Histories.{AreLegalFrom, IsLegal, events_of, is_by, run, state_after}
+use Rattle.store_core.specs.States.{State, claims, empty, is_claimed}
+use Rattle.store_core.specs.Views.{mine, names_of, seat_claims, stored, written_after}
+use Rattle.store_core.proofs.Joining.{claims_continued, continued}
+use Rattle.store_core.proofs.Tells.{claims-claimed}
+use Rattle.store_core.proofs.Lasting.{legal_is_sound, legal-join, run-append}
+use Rattle.store_steps.specs.Grips.{first_of}
+use Rattle.store_steps.specs.Layout.{cell_at}
+use Rattle.store_steps.specs.Plays.{OfOne}
+use Rattle.store_steps.specs.Rule.{Fits, IsKept, StandFor}
+use Rattle.store_steps.specs.Tells.{Did, GoesOn, Looked, event_of}
+use Rattle.store_steps.proofs.Calls.{claims_after-same, claims_then, least_among, own_all, shares_itself}
+use Rattle.store_steps.proofs.Keeping.{its, kept_step}
+use Rattle.store_steps.proofs.Lists.{AreBy}
+
+pub record Steps (fixed : Fixed) (s : Table Unit (List SeatView)) (id i n : ℕ) (Told : SeatView → Type 0) : Type 0 where
+  pub new : SeatView
+  pub kept : IsKept fixed (stepped s i n id [] (new ∷ []) keeps)
+  pub told : Told new
+
+-- that is what the table asks of a step, at the code's place, view and key
+pub at_code : (fixed key : Fixed) → key ≡ fixed → (slots id : ℕ) (me : Me Unit (List SeatView)) → me.0 ≡ first_of me.0 ∷ [] → (place i : ℕ) → i ≡ place
+    → (f : ℕ → ℕ) (Told : ℕ → SeatView → SeatView → Type 0)
+    → ((s : Table Unit (List SeatView)) → IsKept fixed s → get_elem? s.views id ≡ some (first_of me.0 ∷ []) → slice_index s.words place < 2 ^ 64
+    → Steps fixed s id place (f (slice_index s.words place)) (λ new. Told (slice_index s.words place) (first_of me.0) new))
+    → Allows (IsKept key) slots id me i f (λ n later. OfOne (Told n) me later)
+at_code fixed key key_is slots id me one place i place_is f Told steps =
+    subst (λ (k : Fixed). Allows (IsKept k) slots id me i f (λ n later. OfOne (Told n) me later)) (sym key_is)
+    (subst (λ (p : ℕ). Allows (IsKept fixed) slots id me p f (λ n later. OfOne (Told n) me later)) (sym place_is) (λ s kept homes seat small.
+    let t = steps s kept (seat ∙ ap (λ (vs : List SeatView). some vs) one) small in (
+      t.new ∷ [],
+      keeps,
+      tt,
+      t.kept,
+      λ view e.
+          (t.new, refl, refl, subst (λ (v : SeatView). Told (slice_index s.words place) v t.new) (ap (λ (vs : List SeatView). first_of vs) e) t.told),
+    )))
+
+module _ (fixed : Fixed) (s : Table Unit (List SeatView)) (k : IsKept fixed s) (id : ℕ) (view : SeatView) (seat : get_elem? s.views id ≡ some (view ∷ [])) where
+  -- the state after the history, and how the view fits it
+  abbrev pub now : State
+  now = state_after k.history
+
+  pub fitting : Fits fixed k.history s.words view
+  fitting = k.views id 0 view (its fixed s k id view view seat refl)
+
+  -- what the seat has seen and what others called since
+  pub seen_is : (own : List Event) → k.history ++ own ≡ (view.seen ++ fitting.continues.between) ++ own
+  seen_is own = ap (λ (h : List Event). h ++ own) fitting.continues.is
+
+  -- the view after events of its own, with all that happened before
+  abbrev pub after_own : List Event → SeatView
+  after_own own = record view { seen = k.history ++ own }
+
+  -- what the seat knows of its claims is so
+  pub claims_now : (c : ℕ) → claims (names_of view) now c ≡ seat_claims view c
+  claims_now c = claims_continued fixed view k.history fitting.continues k.legal c
+
+  -- it has a name
+  pub some_names : 0 < length view.names
+  some_names = k.names.named id 0 view (its fixed s k id view view seat refl)
+
+  pub goes_on : (own : List Event) → AreLegalFrom fixed now own → AreBy (names_of view) own → GoesOn view (after_own own) fitting.continues.between own
+  goes_on own legal by = record {
+    fixed_is = refl;
+    names_are = refl;
+    seen_is = seen_is own;
+    others = fitting.continues.others;
+    mine_is = filter-append (is_by (names_of view)) k.history own
+        ∙ ap (λ (events : List Event). events ++ events_of (names_of view) own) (continued view k.history fitting.continues)
+        ∙ ap (λ (events : List Event). mine view ++ events) (own_all (names_of view) own (shares_itself view.names some_names) by);
+    legal = subst (λ (f : Fixed). IsLegal f (k.history ++ own)) (sym fitting.fixed_is) (legal-join fixed empty k.history own k.legal legal);
+  }
+
+  -- A call of the seat's, whose reply is right: the words stand for the state after it, the words that count as stored
+  -- stand in cells of its claims, and the cells of others' claims are left.
+  pub did_step : (call : Call) (i n : ℕ) → IsRight fixed now (names_of view) call
+      → StandFor fixed (set s.words i n) (after_call (names_of view) call now)
+      → ((number value : ℕ) → stored (written_after call view.written) number ≡ Some value
+      → (claims (names_of view) (after_call (names_of view) call now) (number / 129) ≡ true) × (cell_at fixed (set s.words i n) number ≡ value))
+      → ((number : ℕ) → is_claimed now (number / 129) ≡ true → claims (names_of view) now (number / 129) ≡ false
+      → cell_at fixed (set s.words i n) number ≡ cell_at fixed s.words number)
+      → Steps fixed s id i n (λ new. Did call view new)
+  did_step call i n right words written cells =
+      let own : List Event = event_of view call ∷ [] in
+      let then : state_after (k.history ++ own) ≡ after_call (names_of view) call now = run-append empty k.history own in
+      let new : SeatView = record (after_own own) { written = written_after call view.written } in
+      let legal : IsLegal fixed (k.history ++ own) = legal-join fixed empty k.history own k.legal (right, tt) in
+      let on : GoesOn view (after_own own) fitting.continues.between own = goes_on own (right, tt) (refl, tt) in
+      record {
+        new = new;
+        kept = kept_step fixed s k id view new seat refl own i n (refl, tt) legal
+            (subst (λ (t : State). StandFor fixed (set s.words i n) t) (sym then) words)
+            (record {
+              fixed_is = fitting.fixed_is;
+              continues = record { between = []; is = sym (append-nil (k.history ++ own)); others = refl };
+              written = λ number value is.
+                  let w = written number value is in (ap (λ (t : State). claims (names_of view) t (number / 129)) then ∙ w.0, w.1);
+            })
+            cells;
+        told = record {
+          between = fitting.continues.between;
+          goes_on = record { fixed_is = on.fixed_is; names_are = on.names_are; seen_is = on.seen_is; others = on.others; mine_is = on.mine_is; legal = on.legal };
+          claims_are = λ c.
+              ap (λ (t : State). claims (names_of view) t c) then ∙ claims_then (names_of view) call now c (least_among view.names some_names)
+              ∙ claims_after-same call (λ d. claims (names_of view) now d) (seat_claims view) c (claims_now c);
+          written_are = refl;
+        };
+      }
+
+  -- A step with no event: the seat sees nothing new, and what it stored changes at most.
+  pub silent_step : (written : List StoredWord) (i n : ℕ) → StandFor fixed (set s.words i n) now
+      → ((number value : ℕ) → stored written number ≡ Some value → (claims (names_of view) now (number / 129) ≡ true) × (cell_at fixed (set s.words i n) number ≡ value))
+      → ((number : ℕ) → is_claimed now (number / 129) ≡ true → claims (names_of view) now (number / 129) ≡ false
+      → cell_at fixed (set s.words i n) number ≡ cell_at fixed s.words number)
+      → IsKept fixed (stepped s i n id [] (record view { written = written } ∷ []) keeps)
+  silent_step written i n words stand cells =
+      let whole : k.history ++ [] ≡ k.history = append-nil k.history in
+      kept_step fixed s k id view (record view { written = written }) seat refl [] i n tt (subst (λ (h : List Event). IsLegal fixed h) (sym whole) k.legal)
+      (subst (λ (h : List Event). StandFor fixed (set s.words i n) (state_after h)) (sym whole) words)
+      (subst (λ (h : List Event). Fits fixed h (set s.words i n) (record view { written = written })) (sym whole) (record {
+        fixed_is = fitting.fixed_is;
+        continues = record { between = fitting.continues.between; is = fitting.continues.is; others = fitting.continues.others };
+        written = stand;
+      }))
+      cells
+
+  -- a load that changes nothing
+  pub still_step : (i : ℕ) → IsKept fixed (stepped s i (slice_index s.words i) id [] (view ∷ []) keeps)
+  still_step i =
+      let same : set s.words i (slice_index s.words i) ≡ s.words = set-get_or s.words i 0 in
+      silent_step view.written i (slice_index s.words i) (subst (λ (words : List ℕ). StandFor fixed words now) (sym same) k.words)
+      (λ other value is. let w = fitting.written other value is in (w.0, ap (λ (words : List ℕ). cell_at fixed words other) same ∙ w.1))
+      (λ other c theirs. ap (λ (words : List ℕ). cell_at fixed words other) same)
+
+  -- A load: its word is left. The seat sees all that happened, and has the events that the state gives: they leave it.
+  pub look_step : (events : State → List Event) (i : ℕ) → AreLegalFrom fixed now (events now) → run now (events now) ≡ now → AreBy (names_of view) (events now)
+      → Steps fixed s id i (slice_index s.words i) (λ new. Looked events view new × (state_after new.seen ≡ now))
+  look_step events i legal quiet by =
+      let own : List Event = events now in
+      let then : state_after (k.history ++ own) ≡ now = run-append empty k.history own ∙ quiet in
+      let same : set s.words i (slice_index s.words i) ≡ s.words = set-get_or s.words i 0 in
+      let on : GoesOn view (after_own own) fitting.continues.between own = goes_on own legal by in
+      let state : now ≡ state_after (view.seen ++ fitting.continues.between) = ap (λ (h : List Event). state_after h) fitting.continues.is in
+      record {
+        new = after_own own;
+        kept = kept_step fixed s k id view (after_own own) seat refl own i (slice_index s.words i) by (legal-join fixed empty k.history own k.legal legal)
+            (subst (λ (t : State). StandFor fixed (set s.words i (slice_index s.words i)) t) (sym then)
+            (subst (λ (words : List ℕ). StandFor fixed words now) (sym same) k.words))
+            (record {
+              fixed_is = fitting.fixed_is;
+              continues = record { between = []; is = sym (append-nil (k.history ++ own)); others = refl };
+              written = λ number value is.
+                  let w = fitting.written number value is in (
+                    ap (λ (t : State). claims (names_of view) t (number / 129)) then ∙ w.0,
+                    ap (λ (words : List ℕ). cell_at fixed words number) same ∙ w.1,
+                  );
+            })
+            (λ number c others. ap (λ (words : List ℕ). cell_at fixed words number) same);
+        told = (
+          record {
+            between = fitting.continues.between;
+            goes_on = subst (λ (t : State). GoesOn view (after_own own) fitting.continues.between (events t)) state on;
+            claims_are = λ c. ap (λ (t : State). claims (names_of view) t c) then ∙ claims_now c;
+            written_are = refl;
+          },
+          then,
+        );
+      }
+
+-- a step that tells more tells this
+pub told_by : (fixed : Fixed) (s : Table Unit (List SeatView)) (id i n : ℕ) (Told Less : SeatView → Type 0) → ((new : SeatView) → Told new → Less new)
+    → Steps fixed s id i n Told → Steps fixed s id i n Less
+told_by fixed s id i n Told Less less t = record { new = t.new; kept = t.kept; told = less t.new t.told }
+
+-- what a view claims lies below the capacity
+pub claimed_low : (view : SeatView) → IsLegal view.fixed view.seen → (c : ℕ) → seat_claims view c ≡ true → c < view.fixed.capacity
+claimed_low view legal c ours =
+    (legal_is_sound view.fixed view.seen legal).claimed_below c (claims-claimed (names_of view) (state_after view.seen) c ours)

@@ -1,0 +1,10 @@
+pub mod Layout
+pub mod Rule
+pub mod Grips
+pub mod Tells
+pub mod Reads
+pub mod Parts
+pub mod Plays
+pub mod Asks
+pub mod Words
+pub mod Faults

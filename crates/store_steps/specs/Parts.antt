@@ -1,0 +1,33 @@
+-- How seats part, merge and meet.
+use Rattle.std.specs.Prelude.{◌≡◌, ℕ, false, List}
+use Rattle.store_core.specs.declared.history.Event.{Event}
+use Rattle.store_core.specs.declared.view.SeatView.{SeatView}
+use Rattle.store_core.specs.Histories.{AreOfOthers, IsLegal}
+use Rattle.store_core.specs.Names.{share_name}
+use Rattle.store_core.specs.Views.{Continues, IsJoined, names_of, seat_claims, split_first, split_second}
+
+-- The first keeps all but the count of its splits. The second has seen the same, and its new name has neither calls nor
+-- claims.
+pub record ArePartsOf (old first second : SeatView) : Type 0 where
+  pub first_is : first ≡ split_first old
+  pub second_is : second ≡ split_second old
+  pub no_calls : AreOfOthers (names_of second) second.seen
+  pub no_claims : (c : ℕ) → seat_claims second c ≡ false
+
+-- Two seats have no name in common, so none of their claims overlap, and the third is both of them. What it has seen is
+-- a legal history.
+pub record IsMerged (first second merged : SeatView) : Type 0 where
+  pub apart : share_name (names_of first) (names_of second) ≡ false
+  pub joined : IsJoined first second merged
+  pub legal : IsLegal merged.fixed merged.seen
+
+-- Both have seen one legal history, which begins with all that each had seen, and of each one's calls it has no other.
+-- Nothing else changes. They have no name in common, so none of their claims overlap.
+pub record AreMet (first second new_first new_second : SeatView) : Type 0 where
+  pub history : List Event
+  pub first_is : new_first ≡ record first { seen = history }
+  pub second_is : new_second ≡ record second { seen = history }
+  pub after_first : Continues first history
+  pub after_second : Continues second history
+  pub legal : IsLegal first.fixed history
+  pub apart : share_name (names_of first) (names_of second) ≡ false

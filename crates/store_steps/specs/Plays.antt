@@ -1,0 +1,75 @@
+-- What each kind of step tells, as the table asks it: of the step, the seat before, the number found and the seat after.
+use Rattle.std.specs.Prelude.{◌≡◌, ℕ, ◌-◌, ◌==◌, if◌then◌else◌, List, [], ◌∷◌, Option, None, Some, bit_and}
+use Rattle.std.specs.Int.{w64, bit_not}
+use Rattle.atomic_table.specs.Table.{Me}
+use Rattle.store_core.specs.declared.history.Call.TheVariants.{Commit, Give, Length, Settle, Take}
+use Rattle.store_core.specs.declared.history.Piece.{Piece}
+use Rattle.store_core.specs.declared.view.SeatView.{SeatView}
+use Rattle.store_core.specs.Events.{settling}
+use Rattle.store_core.specs.Pieces.{length_of}
+use Rattle.store_core.specs.Views.{split_first, split_second}
+use Rattle.store_steps.specs.Parts.{AreMet, ArePartsOf, IsMerged}
+use Rattle.store_steps.specs.Reads.{read_events}
+use Rattle.store_steps.specs.Tells.{Did, FindsHeld, FindsWord, Looked}
+
+-- a seat with one view has one afterwards, of which this is told
+abbrev pub OfOne : (SeatView → SeatView → Type 0) → Me Unit (List SeatView) → Me Unit (List SeatView) → Type 0
+OfOne Told me later = (view : SeatView) → me.0 ≡ view ∷ []
+    → (new : SeatView) × (later.0 ≡ new ∷ []) × (later.1 ≡ me.1) × Told view new
+
+-- a piece that nobody has
+abbrev pub no_piece : Piece
+no_piece = record { start = 0; len = 0; text = [] }
+
+-- `asked` are the wanted chunks below the capacity, of which those are granted whose bit wasn't set
+abbrev pub Takes : ℕ → ℕ → ℕ → ℕ → SeatView → SeatView → Type 0
+Takes group want asked found old new = Did (Take group want (bit_and asked (bit_not w64 found))) old new
+
+abbrev pub Gives : ℕ → ℕ → ℕ → SeatView → SeatView → Type 0
+Gives group mask given old new = Did (Give group mask given) old new
+
+abbrev pub Publishes : ℕ → Piece → ℕ → SeatView → SeatView → Type 0
+Publishes group piece mask old new = Did (Commit group piece mask) old new
+
+pub record Loads (group at len found : ℕ) (old new : SeatView) : Type 0 where
+  pub looked : Looked (read_events old group at len) old new
+  pub finds : FindsHeld group found new
+
+pub record Copies (chunk w found : ℕ) (old new : SeatView) : Type 0 where
+  pub same : new ≡ old
+  pub finds : FindsWord chunk w found old
+
+-- the length that a word stands for
+abbrev pub length_in : ℕ → Option ℕ
+length_in word = if word == 0 then None else Some (word - 1)
+
+abbrev pub Settles : Piece → ℕ → SeatView → SeatView → Type 0
+Settles piece found old new = Did (Settle piece (settling (length_in found) (length_of piece))) old new
+
+abbrev pub Answers : ℕ → SeatView → SeatView → Type 0
+Answers found old new = Did (Length (length_in found)) old new
+
+-- the loads of a split, a join and a meeting
+pub record Parts (old new : SeatView) : Type 0 where
+  pub same : new ≡ old
+  pub parts : ArePartsOf old (split_first old) (split_second old)
+
+-- a seat with two views tells this of what it has afterwards
+abbrev pub OfTwo : (SeatView → SeatView → List SeatView → Type 0) → Me Unit (List SeatView) → Me Unit (List SeatView) → Type 0
+OfTwo Told me later = (first second : SeatView) → me.0 ≡ first ∷ second ∷ [] → Told first second later.0 × (later.1 ≡ me.1)
+
+pub record Merges (first second : SeatView) (later : List SeatView) : Type 0 where
+  pub view : SeatView
+  pub is : later ≡ view ∷ []
+  pub merged : IsMerged first second view
+
+pub record Meets (first second : SeatView) (later : List SeatView) : Type 0 where
+  pub new_first : SeatView
+  pub new_second : SeatView
+  pub is : later ≡ new_first ∷ new_second ∷ []
+  pub met : AreMet first second new_first new_second
+
+-- the second of a seat's views, and those after the first
+abbrev pub rest_of : List SeatView → List SeatView
+rest_of [] = []
+rest_of (view ∷ views) = views

@@ -1,0 +1,80 @@
+-- The rule over the words of a store and all seats' views, which each step keeps.
+use Rattle.std.specs.Prelude.{◌≡◌, ℕ, ◌+◌, ◌*◌, ◌/◌, ◌%◌, ◌<◌, true, false, ◌||◌, List, [], ◌∷◌, ◌++◌, length, Some, Contains}
+use mathlib.Core.Option.{some}
+use lib.ListN.{get_elem?}
+use Rattle.atomic_table.specs.Table.{State as Table}
+use Rattle.store_core.specs.declared.fixed.Fixed.{Fixed}
+use Rattle.store_core.specs.declared.history.Event.{Event}
+use Rattle.store_core.specs.declared.view.Named.{Named}
+use Rattle.store_core.specs.declared.view.SeatView.{SeatView}
+use Rattle.store_core.specs.Cells.{cell_word}
+use Rattle.store_core.specs.Histories.{AreOfOthers, IsLegal, state_after}
+use Rattle.store_core.specs.Machine.{groups}
+use Rattle.store_core.specs.Masks.{has_bit}
+use Rattle.store_core.specs.Names.{Name, has_name}
+use Rattle.store_core.specs.States.{State, claims, is_claimed, is_held}
+use Rattle.store_core.specs.Views.{Continues, names_of, stored}
+use Rattle.store_steps.specs.Layout.{cell_at, claim_word, held_word, length_code, length_word, word_count}
+
+-- The words stand for a state. A held word has the bits of the chunks that are held, and a claim word those of the
+-- chunks that are claimed or held. The cell of a held chunk has its size and bytes.
+pub record StandFor (fixed : Fixed) (words : List ℕ) (s : State) : Type 0 where
+  pub count : length words ≡ word_count fixed
+  pub held : (c : ℕ) → c / 64 < groups fixed → has_bit (held_word words (c / 64)) (c % 64) ≡ is_held s c
+  pub claimed : (c : ℕ) → c / 64 < groups fixed → has_bit (claim_word fixed words (c / 64)) (c % 64) ≡ (is_held s c || is_claimed s c)
+  pub cells : (c w : ℕ) (bytes : List ℕ) → s.held c ≡ Some bytes → w < 129 → cell_at fixed words (129 * c + w) ≡ cell_word bytes w
+  pub recorded : length_word fixed words ≡ length_code s.recorded
+
+-- seat `seat` has this view as its part `part`: one that a join spent has none, and two that meet are for a while one
+-- seat with two
+pub record HasView (views : List (List SeatView)) (seat part : ℕ) (view : SeatView) : Type 0 where
+  pub parts : List SeatView
+  pub is_seat : get_elem? views seat ≡ some parts
+  pub is_part : get_elem? parts part ≡ some view
+
+-- A view fits the history: it is of this store, what it has seen begins the history, and all that follows are others'
+-- calls. So its calls in the history are those that it has seen, and the state after the history gives it the claims
+-- that it knows of. The words that it stored stand in the cells of chunks that it claims.
+pub record Fits (fixed : Fixed) (history : List Event) (words : List ℕ) (view : SeatView) : Type 0 where
+  pub fixed_is : view.fixed ≡ fixed
+  pub continues : Continues view history
+  pub written : (number value : ℕ) → stored view.written number ≡ Some value
+      → (claims (names_of view) (state_after history) (number / 129) ≡ true) × (cell_at fixed words number ≡ value)
+
+-- some view has the name, with the count of its splits
+pub record IsNamed (views : List (List SeatView)) (named : Named) : Type 0 where
+  pub seat : ℕ
+  pub part : ℕ
+  pub view : SeatView
+  pub has : HasView views seat part view
+  pub among : Contains view.names named
+
+-- a name that a later split gives, or one that comes of it
+pub record IsLater (named : Named) (name : Name) : Type 0 where
+  pub number : ℕ
+  pub rest : Name
+  pub is : name ≡ named.name ++ (named.splits + number) ∷ rest
+
+-- no name stands twice
+abbrev pub AreDistinct : List Name → Type 0
+AreDistinct [] = Unit {0}
+AreDistinct (name ∷ names) = (has_name names name ≡ false) × AreDistinct names
+
+-- Each view has a name, and each name one view: its owner is the place of that view. No name that a later split gives
+-- is another view's or has called.
+pub record AreApart (views : List (List SeatView)) (history : List Event) : Type 0 where
+  pub owner : Name → ℕ × ℕ
+  pub owned : (seat part : ℕ) (view : SeatView) → HasView views seat part view → (name : Name) → has_name (names_of view) name ≡ true
+      → owner name ≡ (seat, part)
+  pub named : (seat part : ℕ) (view : SeatView) → HasView views seat part view → 0 < length view.names
+  pub distinct : (seat part : ℕ) (view : SeatView) → HasView views seat part view → AreDistinct (names_of view)
+  pub new_to_views : (one other : Named) → IsNamed views one → IsNamed views other → IsLater one other.name → ⊥
+  pub new_to_calls : (named : Named) → IsNamed views named → (name : Name) → IsLater named name → AreOfOthers (name ∷ []) history
+
+-- There is one legal history. The words stand for the state after it, each view fits it, and the views' names are apart.
+pub record IsKept (fixed : Fixed) (table : Table Unit (List SeatView)) : Type 0 where
+  pub history : List Event
+  pub legal : IsLegal fixed history
+  pub words : StandFor fixed table.words (state_after history)
+  pub views : (seat part : ℕ) (view : SeatView) → HasView table.views seat part view → Fits fixed history table.words view
+  pub names : AreApart table.views history

@@ -1,0 +1,19 @@
+//! The words of a store that many threads share, the rule over them and over what each seat knows, and one call for each
+//! atomic step.
+#![tactic(auto)]
+
+pub use fault::NewFault;
+pub use grip::Grip;
+pub use places::CELL_LEN;
+pub use words::Words;
+
+mod fault;
+mod grip;
+mod joins;
+mod lengths;
+mod places;
+mod plays;
+mod rule;
+#[cfg(test)]
+mod tests;
+mod words;

@@ -1,0 +1,78 @@
+ghost use Rattle.std.specs.Prelude.{◌≡◌, ◌+◌, ◌*◌, ◌<◌, ◌≤◌, ◌^◌, ◌%◌, ◌/◌, ℕ, nat_lt};
+ghost use Rattle.store_core.specs.Machine.{groups};
+ghost use Rattle.store_core.specs.Masks.{has_bit};
+ghost use Rattle.store_steps.specs.Layout.{cell_place, claim_place, length_place, word_count};
+
+use store_core::Fixed;
+
+/// How many words a chunk's cell has: the size, then 128 words of data.
+pub const CELL_LEN: usize = 129;
+
+// How many chunks a group has.
+const GROUP_LEN: u32 = 64;
+
+// How many groups a store has.
+fn groups(fixed: &Fixed) -> usize
+    ensures count { result ≡ groups fixed.now }
+    ensures few { result ≤ 2 ^ 26 }
+{
+    fixed.capacity.div_ceil(GROUP_LEN) as usize
+}
+
+// How many words a store has.
+pub(crate) fn word_count(fixed: &Fixed) -> usize
+    ensures { result ≡ word_count fixed.now }
+{
+    length_place(fixed) + 1
+}
+
+// Where the held word of a group stands.
+pub(crate) fn held_place(fixed: &Fixed, group: u32) -> usize
+    requires { group < groups fixed.now }
+    ensures place { result ≡ group }
+    ensures within { result < word_count fixed.now }
+{
+    let _ = fixed;
+    group as usize
+}
+
+// Where the claim word of a group stands.
+pub(crate) fn claim_place(fixed: &Fixed, group: u32) -> usize
+    requires { group < groups fixed.now }
+    ensures place { result ≡ claim_place fixed.now group }
+    ensures within { result < word_count fixed.now }
+{
+    groups(fixed) + group as usize
+}
+
+// Where a word of a chunk's cell stands.
+pub(crate) fn cell_place(fixed: &Fixed, chunk: u32, word: u8) -> usize
+    requires chunk { chunk < fixed.now.capacity }
+    requires word { word < 129 }
+    ensures place { result ≡ cell_place fixed.now (129 * chunk + word) }
+    ensures within { result < word_count fixed.now }
+{
+    2 * groups(fixed) + CELL_LEN * chunk as usize + word as usize
+}
+
+// Where the length word stands.
+pub(crate) fn length_place(fixed: &Fixed) -> usize
+    ensures place { result ≡ length_place fixed.now }
+    ensures within { result < word_count fixed.now }
+    ensures small { result < 2 ^ 40 }
+{
+    2 * groups(fixed) + CELL_LEN * fixed.capacity as usize
+}
+
+// The mask of the group's chunks that are below the capacity.
+pub(crate) fn chunks_below(fixed: &Fixed, group: u32) -> u64
+    requires { group < groups fixed.now }
+    ensures { (c : ℕ) → c / 64 ≡ group → has_bit result (c % 64) ≡ nat_lt c fixed.now.capacity }
+{
+    let rest = fixed.capacity - GROUP_LEN * group;
+    if rest < GROUP_LEN {
+        (1 << rest) - 1
+    } else {
+        u64::MAX
+    }
+}

@@ -1,0 +1,120 @@
+ghost use Rattle.std.specs.Prelude.{ℕ};
+ghost use Rattle.store_core.specs.declared.history.Piece.{Piece};
+
+use atomic_table::Play;
+use std::collections::LinkedList;
+use std::marker::{Brand, PhantomData};
+use store_core::SeatView;
+
+// What a call was asked for beside the words' own operands, which alone a `Play` reads: picked at each call from its
+// arguments.
+pub(crate) trait Asked {
+    ghost use Rattle.std.specs.Prelude.{ℕ};
+    ghost use Rattle.store_core.specs.declared.history.Piece.{Piece};
+
+    ghost group: { ℕ };
+
+    ghost first: { ℕ };
+
+    ghost second: { ℕ };
+
+    ghost piece: { Piece };
+}
+
+impl Asked for Brand {
+    ghost use Rattle.store_steps.specs.Plays.{no_piece};
+
+    ghost group = { 0 };
+
+    ghost first = { 0 };
+
+    ghost second = { 0 };
+
+    ghost piece = { no_piece };
+}
+
+// `group`, and `first` for the wanted mask.
+pub(crate) struct Taking<A> {
+    asked: PhantomData<A>,
+}
+
+impl<A: Asked> Play<(), LinkedList<SeatView>> for Taking<A> {
+    ghost use Rattle.store_steps.specs.Plays.{OfOne, Takes};
+
+    ghost then = { λ step me found later. OfOne (Takes A.group A.first step.first found) me later };
+}
+
+// `group`, `first` for the mask and `second` for that of the chunks given.
+pub(crate) struct Giving<A> {
+    asked: PhantomData<A>,
+}
+
+impl<A: Asked> Play<(), LinkedList<SeatView>> for Giving<A> {
+    ghost use Rattle.store_steps.specs.Plays.{OfOne, Gives};
+
+    ghost then = { λ step me found later. OfOne (Gives A.group A.first A.second) me later };
+}
+
+// `first` for the chunk and `second` for the word of its cell.
+pub(crate) struct Storing<A> {
+    asked: PhantomData<A>,
+}
+
+impl<A: Asked> Play<(), LinkedList<SeatView>> for Storing<A> {
+    ghost use Rattle.store_steps.specs.Plays.{OfOne};
+    ghost use Rattle.store_steps.specs.Tells.{Stores};
+
+    ghost then = { λ step me found later. OfOne (Stores A.first A.second found) me later };
+}
+
+// `group`, and `piece`.
+pub(crate) struct Publishing<A> {
+    asked: PhantomData<A>,
+}
+
+impl<A: Asked> Play<(), LinkedList<SeatView>> for Publishing<A> {
+    ghost use Rattle.store_steps.specs.Plays.{OfOne, Publishes};
+
+    ghost then = { λ step me found later. OfOne (Publishes A.group A.piece step.first) me later };
+}
+
+// `group`, `first` for the position and `second` for the length of a read.
+pub(crate) struct Loading<A> {
+    asked: PhantomData<A>,
+}
+
+impl<A: Asked> Play<(), LinkedList<SeatView>> for Loading<A> {
+    ghost use Rattle.store_steps.specs.Plays.{OfOne, Loads};
+
+    ghost then = { λ step me found later. OfOne (Loads A.group A.first A.second found) me later };
+}
+
+// `first` for the chunk and `second` for the word of its cell.
+pub(crate) struct Copying<A> {
+    asked: PhantomData<A>,
+}
+
+impl<A: Asked> Play<(), LinkedList<SeatView>> for Copying<A> {
+    ghost use Rattle.store_steps.specs.Plays.{OfOne, Copies};
+
+    ghost then = { λ step me found later. OfOne (Copies A.first A.second found) me later };
+}
+
+// `piece`.
+pub(crate) struct Settling<A> {
+    asked: PhantomData<A>,
+}
+
+impl<A: Asked> Play<(), LinkedList<SeatView>> for Settling<A> {
+    ghost use Rattle.store_steps.specs.Plays.{OfOne, Settles};
+
+    ghost then = { λ step me found later. OfOne (Settles A.piece found) me later };
+}
+
+pub(crate) struct Answering;
+
+impl Play<(), LinkedList<SeatView>> for Answering {
+    ghost use Rattle.store_steps.specs.Plays.{Answers, OfOne};
+
+    ghost then = { λ step me found later. OfOne (Answers found) me later };
+}

@@ -1,0 +1,378 @@
+ghost use Rattle.std.specs.Prelude.{◌≡◌, ◌+◌, ◌*◌, ◌/◌, ◌<◌, ◌≤◌, ℕ, true, IfErr, IfOk, IsErrOf, IsOk, OnErr};
+ghost use Rattle.store_steps.specs.Layout.{word_count};
+
+use crate::fault::NewFault;
+use crate::grip::Grip;
+use crate::joins::{Both, Entering, Leaving, Meeting, Merging, Parting, Parts};
+use crate::lengths::{length_in, settling};
+use crate::places::{cell_place, chunks_below, claim_place, held_place, length_place, word_count};
+use crate::plays::{
+    Answering, Asked, Copying, Giving, Loading, Publishing, Settling as SettlingStep, Storing,
+    Taking,
+};
+use crate::rule::Law;
+use atomic_table::Table;
+use b3tree::{Hash, Mode};
+use bao_check::{Checked, Tail};
+use std::alloc::Global;
+use std::collections::LinkedList;
+use std::marker::Brand;
+use std::mem::replace;
+use store_core::{Fixed, SeatView, Settling};
+
+/// The words of a store that many threads share: of each group of 64 chunks a held word and a claim word, of each chunk
+/// a cell of 129 words, and the length word. Each call makes steps on one word at a time, so that no thread waits for
+/// another. All but `new` take no memory and return.
+///
+/// A grip that is handed to a call is one of these words. A mask is of the chunks of a group: bit j stands for chunk
+/// 64 * group + j.
+#[derive(Drop)]
+pub struct Words {
+    table: Table<(), LinkedList<SeatView>, Fixed, Law, Global>,
+    fixed: Fixed,
+    ghost key_is: { table.shared.key ≡ fixed },
+    ghost count: { table.shared.table_id.words ≡ word_count fixed },
+    ghost some: { 0 < fixed.capacity },
+    ghost limit: { fixed.capacity ≤ 65536 },
+}
+
+impl Words {
+    ghost use Rattle.bao_check.specs.Checked.{piece_claimed};
+    ghost use Rattle.bao_check.specs.Tail.{tail_piece};
+    ghost use Rattle.store_core.specs.declared.history.Call.TheVariants.{Commit, Give, Length, Settle, Take};
+    ghost use Rattle.store_core.specs.Pieces.{piece_of};
+    ghost use Rattle.store_core.specs.Stores.{IsOf as IsOfStore};
+    ghost use Rattle.store_core.specs.Views.{seat_claims};
+    ghost use Rattle.store_steps.specs.Asks.{AreClaimed, AreHeldClaims, AreWritten};
+    ghost use Rattle.store_steps.specs.Grips.{opening_view};
+    ghost use Rattle.store_steps.specs.Parts.{AreMet, ArePartsOf, IsMerged};
+    ghost use Rattle.store_steps.specs.Reads.{read_events};
+    ghost use Rattle.store_steps.specs.Tells.{Did, FindsHeld, FindsWord, Looked, Stores};
+    ghost use Rattle.store_steps.specs.Words.{HasGroup, IsOf, fixed_of};
+
+    /// Words of which none is held, claimed or recorded, and their first grip, which has seen nothing. `capacity` is a
+    /// number of chunks.
+    ///
+    /// 801 `Memory` where there was none. Nothing is left behind.
+    pub fn new(
+        alloc: Global,
+        root: Hash,
+        mode: Mode,
+        capacity: u32,
+    ) -> Result<(Words, Grip), NewFault>
+        requires { (0 < capacity) × (capacity ≤ 65536) }
+        ensures of { IfOk result (λ made. IsOf made.0 made.1) }
+        ensures fixed { IfOk result (λ made. fixed_of made.0 ≡ record { root = root; mode = mode; capacity = capacity }) }
+        ensures view { IfOk result (λ made. made.1.view ≡ opening_view (fixed_of made.0)) }
+        ensures memory { OnErr result (IsErrOf result NewFault.Memory) }
+    {
+        let fixed = Fixed {
+            root,
+            mode,
+            capacity,
+        };
+        let zeros = vec![in alloc; 0u64; word_count(&fixed)]?;
+        let (table, seat) = Table::of_words(alloc, zeros.as_slice(), &fixed)?;
+        Ok((Words { table, fixed }, Grip { seat }))
+    }
+
+    /// The root, the mode and the capacity in chunks, which never change.
+    pub fn fixed(&self) -> Fixed
+        ensures { result ≡ fixed_of self.now }
+    {
+        let Words { fixed, .. } = self;
+        *fixed
+    }
+
+    /// Claims the wanted chunks of a group that are below the capacity and neither held nor claimed, and answers their
+    /// mask. A chunk that the grip claims already isn't granted again. One `fetch_or` on the claim word.
+    pub fn take(&self, grip: &mut Grip, group: u32, want: u64) -> u64
+        requires of { IsOf self.now grip.old }
+        requires group { HasGroup self.now group }
+        ensures of { IsOf self.now grip.new }
+        ensures did { Did (Take group want result) grip.old.view grip.new.view }
+    {
+        self.take_asked::<Brand>(grip, group, want)
+    }
+
+    fn take_asked<A: Asked>(&self, grip: &mut Grip, group: u32, want: u64) -> u64
+        requires of { IsOf self.now grip.old }
+        requires group { HasGroup self.now group }
+        requires asked { (A.group ≡ group) × (A.first ≡ want) }
+        ensures of { IsOf self.now grip.new }
+        ensures did { Did (Take group want result) grip.old.view grip.new.view }
+    {
+        let mask = want & chunks_below(&self.fixed, group);
+        let place = claim_place(&self.fixed, group);
+        let found = self
+            .table
+            .shared
+            .fetch_or::<Taking<A>>(&mut grip.seat, place, mask);
+        mask & !found
+    }
+
+    /// Ends claims: of the mask's chunks those that the grip claims, which are `given`. One `fetch_and` on the claim
+    /// word.
+    pub fn give(&self, grip: &mut Grip, group: u32, mask: u64, given: u64)
+        requires of { IsOf self.now grip.old }
+        requires group { HasGroup self.now group }
+        requires given { AreClaimed grip.old.view group mask given }
+        ensures of { IsOf self.now grip.new }
+        ensures did { Did (Give group mask given) grip.old.view grip.new.view }
+    {
+        self.give_asked::<Brand>(grip, group, mask, given);
+    }
+
+    fn give_asked<A: Asked>(&self, grip: &mut Grip, group: u32, mask: u64, given: u64)
+        requires of { IsOf self.now grip.old }
+        requires group { HasGroup self.now group }
+        requires given { AreClaimed grip.old.view group mask given }
+        requires asked { (A.group ≡ group) × (A.first ≡ mask) × (A.second ≡ given) }
+        ensures of { IsOf self.now grip.new }
+        ensures did { Did (Give group mask given) grip.old.view grip.new.view }
+    {
+        let place = claim_place(&self.fixed, group);
+        self.table
+            .shared
+            .fetch_and::<Giving<A>>(&mut grip.seat, place, !given);
+    }
+
+    /// A give of a group that isn't there: no claim ends. One load, which changes nothing.
+    pub fn give_none(&self, grip: &mut Grip, group: u32, mask: u64)
+        requires of { IsOf self.now grip.old }
+        requires group { ¬ HasGroup self.now group }
+        ensures of { IsOf self.now grip.new }
+        ensures did { Did (Give group mask 0) grip.old.view grip.new.view }
+    {
+        self.give_none_asked::<Brand>(grip, group, mask);
+    }
+
+    fn give_none_asked<A: Asked>(&self, grip: &mut Grip, group: u32, mask: u64)
+        requires of { IsOf self.now grip.old }
+        requires group { ¬ HasGroup self.now group }
+        requires asked { (A.group ≡ group) × (A.first ≡ mask) × (A.second ≡ 0) }
+        ensures of { IsOf self.now grip.new }
+        ensures did { Did (Give group mask 0) grip.old.view grip.new.view }
+    {
+        self.table.shared.load::<Giving<A>>(&mut grip.seat, 0);
+    }
+
+    /// Stores a word of the cell of a chunk that the grip claims: word 0 is the chunk's size in bytes, words 1 to 128
+    /// its data. One store, of which no reader learns before the chunk is published.
+    pub fn store(&self, grip: &mut Grip, chunk: u32, word: u8, value: u64)
+        requires of { IsOf self.now grip.old }
+        requires claimed { seat_claims grip.old.view chunk ≡ true }
+        requires word { word < 129 }
+        ensures of { IsOf self.now grip.new }
+        ensures stored { Stores chunk word value grip.old.view grip.new.view }
+    {
+        self.store_asked::<Brand>(grip, chunk, word, value);
+    }
+
+    fn store_asked<A: Asked>(&self, grip: &mut Grip, chunk: u32, word: u8, value: u64)
+        requires of { IsOf self.now grip.old }
+        requires claimed { seat_claims grip.old.view chunk ≡ true }
+        requires word { word < 129 }
+        requires asked { (A.first ≡ chunk) × (A.second ≡ word) }
+        ensures of { IsOf self.now grip.new }
+        ensures stored { Stores chunk word value grip.old.view grip.new.view }
+    {
+        let place = cell_place(&self.fixed, chunk, word);
+        self.table
+            .shared
+            .store::<Storing<A>>(&mut grip.seat, place, value);
+    }
+
+    /// Publishes chunks of a piece of this store's root and mode, all of whose words the grip stored: they are held, and
+    /// their claims end. `mask` is of the chunks that the grip claims and the piece holds. One `fetch_or` on the held
+    /// word, also where the mask is 0.
+    pub fn publish(&self, grip: &mut Grip, group: u32, piece: &Checked<'_>, mask: u64)
+        requires of { IsOf self.now grip.old }
+        requires group { HasGroup self.now group }
+        requires piece { IsOfStore (fixed_of self.now) piece.now }
+        requires mask { AreHeldClaims grip.old.view group (piece_of piece.now) mask }
+        requires written { AreWritten grip.old.view.written group mask (piece_of piece.now) }
+        ensures of { IsOf self.now grip.new }
+        ensures did { Did (Commit group (piece_of piece.now) mask) grip.old.view grip.new.view }
+    {
+        self.publish_asked::<Brand>(grip, group, piece, mask);
+    }
+
+    fn publish_asked<A: Asked>(&self, grip: &mut Grip, group: u32, piece: &Checked<'_>, mask: u64)
+        requires of { IsOf self.now grip.old }
+        requires group { HasGroup self.now group }
+        requires piece { IsOfStore (fixed_of self.now) piece.now }
+        requires mask { AreHeldClaims grip.old.view group (piece_of piece.now) mask }
+        requires written { AreWritten grip.old.view.written group mask (piece_of piece.now) }
+        requires asked { (A.group ≡ group) × (A.piece ≡ piece_of piece.now) }
+        ensures of { IsOf self.now grip.new }
+        ensures did { Did (Commit group (piece_of piece.now) mask) grip.old.view grip.new.view }
+    {
+        piece.is_accepted();
+        let place = held_place(&self.fixed, group);
+        self.table
+            .shared
+            .fetch_or::<Publishing<A>>(&mut grip.seat, place, mask);
+    }
+
+    /// A commit to a group that isn't there: nothing is published, and no claim ends. One load, which changes nothing.
+    pub fn publish_none(&self, grip: &mut Grip, group: u32, piece: &Checked<'_>)
+        requires of { IsOf self.now grip.old }
+        requires group { ¬ HasGroup self.now group }
+        requires piece { IsOfStore (fixed_of self.now) piece.now }
+        ensures of { IsOf self.now grip.new }
+        ensures did { Did (Commit group (piece_of piece.now) 0) grip.old.view grip.new.view }
+    {
+        self.publish_none_asked::<Brand>(grip, group, piece);
+    }
+
+    fn publish_none_asked<A: Asked>(&self, grip: &mut Grip, group: u32, piece: &Checked<'_>)
+        requires of { IsOf self.now grip.old }
+        requires group { ¬ HasGroup self.now group }
+        requires piece { IsOfStore (fixed_of self.now) piece.now }
+        requires asked { (A.group ≡ group) × (A.piece ≡ piece_of piece.now) }
+        ensures of { IsOf self.now grip.new }
+        ensures did { Did (Commit group (piece_of piece.now) 0) grip.old.view grip.new.view }
+    {
+        piece.is_accepted();
+        self.table.shared.load::<Publishing<A>>(&mut grip.seat, 0);
+    }
+
+    /// The held word of a group: bit j is set exactly where chunk 64 * group + j is held. It is a load of a read of
+    /// `len` bytes from position `at` on, and the read's event where it is its last.
+    pub fn load(&self, grip: &mut Grip, group: u32, at: u64, len: u64) -> u64
+        requires of { IsOf self.now grip.old }
+        requires group { HasGroup self.now group }
+        ensures of { IsOf self.now grip.new }
+        ensures looked { Looked (read_events grip.old.view group at len) grip.old.view grip.new.view }
+        ensures held { FindsHeld group result grip.new.view }
+    {
+        self.load_asked::<Brand>(grip, group, at, len)
+    }
+
+    fn load_asked<A: Asked>(&self, grip: &mut Grip, group: u32, at: u64, len: u64) -> u64
+        requires of { IsOf self.now grip.old }
+        requires group { HasGroup self.now group }
+        requires asked { (A.group ≡ group) × (A.first ≡ at) × (A.second ≡ len) }
+        ensures of { IsOf self.now grip.new }
+        ensures looked { Looked (read_events grip.old.view group at len) grip.old.view grip.new.view }
+        ensures held { FindsHeld group result grip.new.view }
+    {
+        let place = held_place(&self.fixed, group);
+        self.table.shared.load::<Loading<A>>(&mut grip.seat, place)
+    }
+
+    /// A word of a chunk's cell. Where the grip has seen the chunk held it is the word of the chunk's bytes, as at
+    /// `store`. One load, which changes nothing.
+    pub fn copy(&self, grip: &mut Grip, chunk: u32, word: u8) -> u64
+        requires of { IsOf self.now grip.old }
+        requires chunk { chunk < (fixed_of self.now).capacity }
+        requires word { word < 129 }
+        ensures same { grip.new ≡ grip.old }
+        ensures word { FindsWord chunk word result grip.old.view }
+    {
+        self.copy_asked::<Brand>(grip, chunk, word)
+    }
+
+    fn copy_asked<A: Asked>(&self, grip: &mut Grip, chunk: u32, word: u8) -> u64
+        requires of { IsOf self.now grip.old }
+        requires chunk { chunk < (fixed_of self.now).capacity }
+        requires word { word < 129 }
+        requires asked { (A.first ≡ chunk) × (A.second ≡ word) }
+        ensures same { grip.new ≡ grip.old }
+        ensures word { FindsWord chunk word result grip.old.view }
+    {
+        let place = cell_place(&self.fixed, chunk, word);
+        self.table.shared.load::<Copying<A>>(&mut grip.seat, place)
+    }
+
+    /// Records the length in bytes that a piece of this store's root and mode certifies, if none is recorded:
+    /// `Settled`. Else it says whether the same is, `Known`, or another, `Differs`. The length is one that the store has
+    /// room for. One `compare_exchange` on the length word.
+    pub fn settle(&self, grip: &mut Grip, tail: &Tail<'_>) -> Settling
+        requires of { IsOf self.now grip.old }
+        requires piece { IsOfStore (fixed_of self.now) (tail_piece tail.now) }
+        requires fits { piece_claimed (tail_piece tail.now) ≤ 1024 * (fixed_of self.now).capacity }
+        ensures of { IsOf self.now grip.new }
+        ensures did { Did (Settle (piece_of (tail_piece tail.now)) result) grip.old.view grip.new.view }
+    {
+        self.settle_asked::<Brand>(grip, tail)
+    }
+
+    fn settle_asked<A: Asked>(&self, grip: &mut Grip, tail: &Tail<'_>) -> Settling
+        requires of { IsOf self.now grip.old }
+        requires piece { IsOfStore (fixed_of self.now) (tail_piece tail.now) }
+        requires fits { piece_claimed (tail_piece tail.now) ≤ 1024 * (fixed_of self.now).capacity }
+        requires asked { A.piece ≡ piece_of (tail_piece tail.now) }
+        ensures of { IsOf self.now grip.new }
+        ensures did { Did (Settle (piece_of (tail_piece tail.now)) result) grip.old.view grip.new.view }
+    {
+        tail.is_last();
+        let length = tail.length();
+        let place = length_place(&self.fixed);
+        let found = self
+            .table
+            .shared
+            .compare_exchange::<SettlingStep<A>>(&mut grip.seat, place, 0, length + 1);
+        settling(length_in(found), length)
+    }
+
+    /// The recorded length in bytes, if there is one. One load of the length word.
+    pub fn length(&self, grip: &mut Grip) -> Option<u64>
+        requires of { IsOf self.now grip.old }
+        ensures of { IsOf self.now grip.new }
+        ensures did { Did (Length result) grip.old.view grip.new.view }
+    {
+        let place = length_place(&self.fixed);
+        let found = self.table.shared.load::<Answering>(&mut grip.seat, place);
+        length_in(found)
+    }
+
+    /// Parts a grip in two. The first keeps its calls and its claims. The second has seen the same and has neither: its
+    /// name is one that no grip had before, a dropped one neither.
+    ///
+    /// It needs no memory today, so that it always answers `Ok`. An `Err` would give the grip back as it was.
+    pub fn part(&self, grip: Grip) -> Result<(Grip, Grip), Grip>
+        requires of { IsOf self.now grip }
+        ensures ok { IsOk result }
+        ensures of { IfOk result (λ parts. IsOf self.now parts.0 × IsOf self.now parts.1) }
+        ensures parts { IfOk result (λ parts. ArePartsOf grip.view parts.0.view parts.1.view) }
+        ensures back { IfErr result (λ back. back ≡ grip) }
+    {
+        let Grip { mut seat } = grip;
+        self.table.shared.load::<Parting>(&mut seat, 0);
+        let other = self.table.shared.split_seat::<Parts>(&mut seat);
+        Ok((Grip { seat }, Grip { seat: other }))
+    }
+
+    /// Merges two grips to one, with the calls, the claims and the stored words of both. What it has seen begins with
+    /// what each had seen.
+    pub fn merge(&self, first: Grip, second: Grip) -> Grip
+        requires first { IsOf self.now first }
+        requires second { IsOf self.now second }
+        ensures of { IsOf self.now result }
+        ensures merged { IsMerged first.view second.view result.view }
+    {
+        let Grip { mut seat } = first;
+        let Grip { seat: other } = second;
+        self.table.shared.join_seat::<Both>(&mut seat, other);
+        self.table.shared.load::<Merging>(&mut seat, 0);
+        Grip { seat }
+    }
+
+    /// Lets two grips meet: afterwards both have seen one history, which begins with what each had seen. Their calls,
+    /// claims and stored words stay as they are.
+    pub fn meet(&self, first: &mut Grip, second: &mut Grip)
+        requires first { IsOf self.now first.old }
+        requires second { IsOf self.now second.old }
+        ensures first { IsOf self.now first.new }
+        ensures second { IsOf self.now second.new }
+        ensures met { AreMet first.old.view second.old.view first.new.view second.new.view }
+    {
+        let (_, spare) = self.table.shared.load_new_seat::<Entering>(0);
+        let other = replace(&mut second.seat, spare);
+        self.table.shared.join_seat::<Both>(&mut first.seat, other);
+        self.table.shared.load::<Meeting>(&mut first.seat, 0);
+        second.seat = self.table.shared.split_seat::<Leaving>(&mut first.seat);
+    }
+}
