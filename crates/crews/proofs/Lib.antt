@@ -3,3 +3,4 @@ pub mod Summing
 pub mod Sharing
 pub mod Running
 pub mod Finishing
+pub mod OfNone

@@ -2,3 +2,4 @@ pub mod Seats
 pub mod Going
 pub mod Crews
 pub mod Finished
+pub mod Faults

@@ -5,10 +5,14 @@
 pub use b3par::{Gate, Open};
 pub use blob::finish;
 pub use crew::Crew;
+pub use fault::CrewsFault;
 pub use runs::run;
+pub use texts::gather_texts;
 
 mod blob;
 mod crew;
+mod fault;
 mod rounds;
 mod runs;
 mod shared;
+mod texts;

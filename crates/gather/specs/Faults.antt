@@ -19,6 +19,6 @@ number_of_gather gather.NotTheRoot = 902
 number_of_gather gather.Memory = 903
 number_of_gather gather.Starved = 911
 
--- why a worker with this report left a blob unfinished
+-- why workers with this report left a blob unfinished
 abbrev pub cause_of : Report → GatherFault
 cause_of report = if nat_lt 0 report.memory then gather.Starved else if report.too_large then gather.TooLarge else gather.Unfinished

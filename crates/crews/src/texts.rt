@@ -1,0 +1,98 @@
+ghost use Rattle.std.specs.Prelude.{◌≡◌, ◌↔◌, ◌⊎◌, ◌<◌, All, Err, IfErr, IfOk, IsErrOf, vec_len};
+ghost use Rattle.b3tree.specs.Hashing.{hash};
+ghost use Rattle.gather.specs.Large.{AreLonger, IsOfNone, IsTooLarge, fixed_as};
+ghost use Rattle.crews.specs.declared.fault.CrewsFault.TheVariants.{Gather};
+ghost use Rattle.gather.specs.declared.texts.GatherFault.TheVariants.{Capacity, NotTheRoot, Starved, TooLarge};
+ghost use Rattle.store_shared.specs.Seats.{IsSeatOf};
+
+use crate::blob::finish;
+use crate::crew::Crew;
+use crate::fault::CrewsFault;
+use crate::runs::run;
+use b3par::Open;
+use b3tree::{Hash, Mode};
+use gather::{Encoded, FinishFault, GatherFault, cause};
+use std::alloc::{AllocError, Global};
+use std::thread::Threads;
+use store_shared::{Assembly, Seat};
+
+// The most workers that gather.
+const MOST_WORKERS: u32 = 64;
+
+// A holder over each text.
+fn holders_over<'a>(alloc: Global, texts: &'a [Vec<u8>]) -> Result<Vec<Encoded<'a>>, AllocError> {
+    let mut holders = Vec::with_capacity(alloc, texts.len())?;
+    for text in texts {
+        holders.push(Encoded::new(alloc, text.as_slice()))?;
+    }
+    Ok(holders)
+}
+
+// So many crews, each with a seat of its own that is split off the seat, and all texts; and the seat that stays.
+fn crews_over<'a>(
+    alloc: Global,
+    assembly: &Assembly,
+    seat: Seat,
+    workers: u32,
+    texts: &'a [Vec<u8>],
+) -> Result<(Vec<Crew<Encoded<'a>>>, Seat), CrewsFault>
+    requires { IsSeatOf assembly.now seat }
+    ensures of { IfOk result (λ made. All (λ crew. IsSeatOf assembly.now crew.seat) made.0.items) }
+    ensures count { IfOk result (λ made. vec_len made.0 ≡ workers) }
+    ensures stays { IfOk result (λ made. IsSeatOf assembly.now made.1) }
+    ensures fault { IfErr result (λ fault. (fault ≡ CrewsFault.Seat) ⊎ (fault ≡ Gather Starved)) }
+{
+    let starved = CrewsFault::Gather(GatherFault::Starved);
+    let mut crews = Vec::with_capacity(alloc, workers as usize).map_err(|_| starved)?;
+    let mut stays = seat;
+    for _ in 0..workers {
+        let (kept, own) = match assembly.split(stays) {
+            Ok(parts) => parts,
+            Err(_) => return Err(CrewsFault::Seat),
+        };
+        stays = kept;
+        let holders = holders_over(alloc, texts).map_err(|_| starved)?;
+        crews.push(Crew::new(own, holders)).map_err(|_| starved)?;
+    }
+    Ok((crews, stays))
+}
+
+/// The blob with this root in this mode, out of texts that nobody trusts: each may be its combined encoding, or any
+/// bytes. So many workers, at least 1 and at most 64, fill a shared store with room for `capacity` chunks, as `run`
+/// says, each with a seat of its own and all texts in their order; the store is let go at the end. The texts are not
+/// copied.
+///
+/// 802 `Capacity` unless `capacity` is 1 to 65,536, asked before all else; 801 where there is no memory for the store,
+/// 806 for a worker's seat, and 911 `Starved` for the crews and their lists of texts. Then the blob is answered only
+/// once its hash is the root: 902 `NotTheRoot` where it isn't, 903 `Memory` where there is no memory for the blob. An
+/// unfinished blob is 911 where a worker met a want of memory, else 805 `TooLarge` where one met a length above 1,024
+/// times the capacity, else 901 `Unfinished`.
+///
+/// At 805 each blob with the root is longer than the capacity, and at 902 there is none; or two different inputs with
+/// one chaining value are named, one of the blob's and one of a text's that is accepted under the root.
+pub fn gather_texts<R: Threads + Sync>(
+    rt: &R,
+    alloc: Global,
+    root: Hash,
+    mode: Mode,
+    capacity: u32,
+    workers: u32,
+    texts: &[Vec<u8>],
+) -> Result<Vec<u8>, CrewsFault>
+    ensures root { IfOk result (λ blob. hash mode blob.items ≡ root.0) }
+    ensures capacity { (result ≡ Err (Gather Capacity)) ↔ ((capacity ≡ 0) ⊎ (65536 < capacity)) }
+    ensures too_large { IsErrOf result (Gather TooLarge) → IsTooLarge (fixed_as root mode capacity) }
+    ensures longer { IsErrOf result (Gather TooLarge) → AreLonger (fixed_as root mode capacity) }
+    ensures none { IsErrOf result (Gather NotTheRoot) → IsOfNone (fixed_as root mode capacity) }
+{
+    let (assembly, seat) = Assembly::new(alloc, root, mode, capacity)?;
+    let workers = workers.clamp(1, MOST_WORKERS);
+    let (mut crews, mut seat) = crews_over(alloc, &assembly, seat, workers, texts)?;
+    let report = run(rt, alloc, &assembly, crews.as_mut_slice(), &Open);
+    match finish(alloc, &assembly, &mut seat) {
+        Ok(blob) => Ok(blob),
+        Err(FinishFault::Unfinished) => Err(CrewsFault::Gather(cause(&report))),
+        Err(FinishFault::NotTheRoot) => Err(CrewsFault::Gather(GatherFault::NotTheRoot)),
+        Err(FinishFault::Memory) => Err(CrewsFault::Gather(GatherFault::Memory)),
+    }
+}
