@@ -19,3 +19,7 @@ pub mod Meeting
 pub mod Going
 pub mod LastLoad
 pub mod OneByte
+pub mod Simulating
+pub mod ClaimSteps
+pub mod CellSteps
+pub mod LengthSteps

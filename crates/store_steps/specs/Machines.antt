@@ -1,0 +1,116 @@
+-- Which machine of schedules a table stands for, and that each step on its words is the machine's step of its name.
+use Rattle.std.specs.Prelude.{◌≡◌, ℕ, ◌+◌, ◌*◌, ◌/◌, ◌%◌, ◌^◌, ◌<◌, ◌≤◌, ◌↔◌, nat_lt, ◌==◌, true, ◌&&◌, ◌||◌, List, [], ◌∷◌, Option, None, Some, is_some, bit_and, bit_or}
+use Rattle.std.specs.Int.{w64, bit_not}
+use mathlib.Core.Option.{some}
+use lib.ListN.{get_elem?}
+use prog.Atomic.{either}
+use Rattle.atomic_table.specs.Table.{State as Table, keeps, stepped}
+use Rattle.bao_check.specs.declared.checked.Checked.{Checked}
+use Rattle.store_core.specs.declared.fixed.Fixed.{Fixed}
+use Rattle.store_core.specs.declared.history.Piece.{Piece}
+use Rattle.store_core.specs.declared.micro.MicroStep.{MicroStep}
+use Rattle.store_core.specs.declared.micro.MicroStep.TheVariants.{Claim, GiveBack, Length, Publish, Settle, Write}
+use Rattle.store_core.specs.declared.micro.Reply.{Reply}
+use Rattle.store_core.specs.declared.micro.Reply.TheVariants.{Committed, Given, Granted, LengthIs, Settling}
+use Rattle.store_core.specs.declared.view.SeatView.{SeatView}
+use Rattle.store_core.specs.Cells.{cell_word}
+use Rattle.store_core.specs.Events.{settling}
+use Rattle.store_core.specs.Machine.{Machine, current_bytes, current_holds, groups, is_shown}
+use Rattle.store_core.specs.Masks.{IsMaskOf, has_bit}
+use Rattle.store_core.specs.Pieces.{EndsBlob, length_of}
+use Rattle.store_core.specs.Schedules.{AreTexts, IsLegalStep, IsReply, IsWritten, after_step}
+use Rattle.store_core.specs.Served.{IsServed}
+use Rattle.store_core.specs.Views.{seat_claims, stored}
+use Rattle.store_steps.specs.Asks.{AreClaimed, AreHeldClaims, AreWritten}
+use Rattle.store_steps.specs.Layout.{cell_at, cell_place, claim_place, claim_word, held_word, length_code, length_place, length_word}
+use Rattle.store_steps.specs.Plays.{Answers, Gives, Publishes, Settles, Takes, length_in}
+use Rattle.store_steps.specs.Rule.{HasView, IsKept}
+use Rattle.store_steps.specs.Tells.{Stores}
+
+-- a view of the seat claims the chunk
+pub record HasClaim (views : List (List SeatView)) (seat c : ℕ) : Type 0 where
+  pub part : ℕ
+  pub view : SeatView
+  pub has : HasView views seat part view
+  pub claims : seat_claims view c ≡ true
+
+-- a view of the seat has the value stored under the number
+pub record HasStored (views : List (List SeatView)) (seat number value : ℕ) : Type 0 where
+  pub part : ℕ
+  pub view : SeatView
+  pub has : HasView views seat part view
+  pub is : stored view.written number ≡ Some value
+
+-- The words are the machine's, and a claim word has the bits of the chunks that are shown or claimed. The machine's seat
+-- n is the table's seat n, and claims what a view of it claims, so that two views that were joined count as one seat. Of
+-- a chunk that it claims each word that the machine has as written was stored.
+pub record StandsForMachine (fixed : Fixed) (table : Table Unit (List SeatView)) (m : Machine) : Type 0 where
+  pub served : IsServed fixed m
+  pub cells : (c w : ℕ) → c < fixed.capacity → w < 129 → cell_at fixed table.words (129 * c + w) ≡ m.cell c w
+  pub held : (group : ℕ) → group < groups fixed → held_word table.words group ≡ m.held_word group
+  pub claimed : (c : ℕ) → c / 64 < groups fixed → has_bit (claim_word fixed table.words (c / 64)) (c % 64) ≡ (is_shown m c || is_some (m.claim c))
+  pub recorded : length_word fixed table.words ≡ length_code m.recorded
+  pub claims : (seat c : ℕ) → (m.claim c ≡ Some seat) ↔ HasClaim table.views seat c
+  pub written : (seat c w : ℕ) → (m.seat seat).written c w ≡ true → m.claim c ≡ Some seat → w < 129 → HasStored table.views seat (129 * c + w) (m.cell c w)
+
+-- Seat `seat`, which has one view, makes a step: word `place` becomes `word`, and `new` is its view. It is the machine's
+-- step: legal there, with this reply, and the table afterwards stands for the machine after it.
+pub record IsMachineStep (fixed : Fixed) (pieces : List Checked) (table : Table Unit (List SeatView)) (place word seat : ℕ) (new : SeatView)
+    (m : Machine) (step : MicroStep) (reply : Option Reply) : Type 0 where
+  pub legal : IsLegalStep fixed pieces m step
+  pub right : IsReply fixed m step reply
+  pub stands : StandsForMachine fixed (stepped table place word seat [] (new ∷ []) keeps) (after_step fixed pieces m step reply)
+
+-- a seat with one view, in a table that keeps the rule and stands for a machine
+pub record IsAtMachine (fixed : Fixed) (pieces : List Checked) (table : Table Unit (List SeatView)) (m : Machine) (seat : ℕ) (view : SeatView) : Type 0 where
+  pub texts : AreTexts pieces
+  pub kept : IsKept fixed table
+  pub stands : StandsForMachine fixed table m
+  pub is_seat : get_elem? table.views seat ≡ some (view ∷ [])
+
+-- Take is Claim: an or on the claim word with the wanted chunks below the capacity.
+abbrev pub TakeIsClaim : Type 0
+TakeIsClaim = (fixed : Fixed) (pieces : List Checked) (table : Table Unit (List SeatView)) (m : Machine) (seat group want asked : ℕ) (view new : SeatView)
+    → IsAtMachine fixed pieces table m seat view → group < groups fixed → IsMaskOf group asked (λ c. has_bit want (c % 64) && nat_lt c fixed.capacity)
+    → claim_word fixed table.words group < 2 ^ 64 → Takes group want asked (claim_word fixed table.words group) view new
+    → IsMachineStep fixed pieces table (claim_place fixed group) (bit_or (claim_word fixed table.words group) asked) seat new m
+    (Claim seat group want) (Some (Granted (bit_and asked (bit_not w64 (claim_word fixed table.words group)))))
+
+-- Give is GiveBack: an and on the claim word.
+abbrev pub GiveIsGiveBack : Type 0
+GiveIsGiveBack = (fixed : Fixed) (pieces : List Checked) (table : Table Unit (List SeatView)) (m : Machine) (seat group mask given : ℕ) (view new : SeatView)
+    → IsAtMachine fixed pieces table m seat view → group < groups fixed → AreClaimed view group mask given
+    → claim_word fixed table.words group < 2 ^ 64 → Gives group mask given view new
+    → IsMachineStep fixed pieces table (claim_place fixed group) (bit_and (claim_word fixed table.words group) (bit_not w64 given)) seat new m
+    (GiveBack seat group mask) (Some (Given given))
+
+-- A store of the word that the seat's current piece has there is Write.
+abbrev pub StoreIsWrite : Type 0
+StoreIsWrite = (fixed : Fixed) (pieces : List Checked) (table : Table Unit (List SeatView)) (m : Machine) (seat c w value : ℕ) (view new : SeatView)
+    → IsAtMachine fixed pieces table m seat view → w < 129 → seat_claims view c ≡ true → current_holds (m.seat seat).piece c ≡ true
+    → value ≡ cell_word (current_bytes (m.seat seat).piece c) w → Stores c w value view new
+    → IsMachineStep fixed pieces table (cell_place fixed (129 * c + w)) value seat new m (Write seat c w) None
+
+-- Publish, of the seat's current piece, all of whose words were written: an or on the held word. So all were stored.
+abbrev pub PublishIsPublish : Type 0
+PublishIsPublish = (fixed : Fixed) (pieces : List Checked) (table : Table Unit (List SeatView)) (m : Machine) (seat group mask : ℕ) (piece : Piece) (view new : SeatView)
+    → IsAtMachine fixed pieces table m seat view → group < groups fixed → (m.seat seat).piece ≡ Some piece → IsWritten m seat group
+    → AreHeldClaims view group piece mask → Publishes group piece mask view new
+    → AreWritten view.written group mask piece
+    × IsMachineStep fixed pieces table group (bit_or (held_word table.words group) mask) seat new m (Publish seat group) (Some (Committed mask))
+
+-- Settle, by the seat's current piece, whose length the store has room for: an exchange of the length word where it is 0.
+abbrev pub SettleIsSettle : Type 0
+SettleIsSettle = (fixed : Fixed) (pieces : List Checked) (table : Table Unit (List SeatView)) (m : Machine) (seat : ℕ) (piece : Piece) (view new : SeatView)
+    → IsAtMachine fixed pieces table m seat view → (m.seat seat).piece ≡ Some piece → EndsBlob piece → length_of piece ≤ 1024 * fixed.capacity
+    → Settles piece (length_word fixed table.words) view new
+    → IsMachineStep fixed pieces table (length_place fixed)
+    (either (length_word fixed table.words == 0) (length_of piece + 1) (length_word fixed table.words)) seat new m
+    (Settle seat) (Some (Settling (settling (length_in (length_word fixed table.words)) (length_of piece))))
+
+-- Length is Length: a load of the length word.
+abbrev pub LengthIsLength : Type 0
+LengthIsLength = (fixed : Fixed) (pieces : List Checked) (table : Table Unit (List SeatView)) (m : Machine) (seat : ℕ) (view new : SeatView)
+    → IsAtMachine fixed pieces table m seat view → Answers (length_word fixed table.words) view new
+    → IsMachineStep fixed pieces table (length_place fixed) (length_word fixed table.words) seat new m
+    (Length seat) (Some (LengthIs (length_in (length_word fixed table.words))))
