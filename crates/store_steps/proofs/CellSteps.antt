@@ -1,7 +1,12 @@
 -- A store of a piece's word and a publish are the machine's Write and Publish.
-use Rattle.std.proofs.Common.{◌≡◌, ◌≢◌, ℕ, ◌+◌, ◌*◌, ◌/◌, ◌%◌, ◌<◌, ◌==◌, Bool, true, false, not, ◌&&◌, ◌||◌, if◌then◌else◌, List, ◌∷◌, Option, None, Some, is_some, set, slice_index, refl, sym, ap, subst, ◌∙◌, arith, inl, inr, eq-eqb, eqb-true}
+use Rattle.std.proofs.Common.{[], List, ◌≡◌, ◌≢◌, ℕ, ◌+◌, ◌*◌, ◌/◌, ◌%◌, ◌<◌, ◌==◌, Bool, true, false, not, ◌&&◌, ◌||◌, if◌then◌else◌, ◌∷◌, Option, None, Some, is_some, set, slice_index, refl, sym, ap, subst, ◌∙◌, arith, inl, inr, eq-eqb, eqb-true, append-nil}
 use Rattle.std.specs.Int.Bits.{bit_or}
 use Rattle.std.proofs.lemmas.Bool.{and_from, and_parts, both_ways, cases_Bool, cases_eq, false_from_ne_true, ne_eqb}
+use mathlib.Core.Option.{some}
+use lib.ListN.{get_elem?}
+use Rattle.atomic_table.specs.Table.{State as Table}
+use Rattle.store_core.specs.declared.fixed.Fixed.{Fixed}
+use Rattle.store_core.specs.declared.history.Event.{Event}
 use Rattle.store_core.specs.declared.history.Piece.{Piece}
 use Rattle.store_core.specs.declared.micro.MicroStep.{MicroStep}
 use Rattle.store_core.specs.declared.micro.MicroStep.TheVariants.{Publish, Write}
@@ -10,11 +15,14 @@ use Rattle.store_core.specs.declared.micro.Reply.TheVariants.{Committed}
 use Rattle.store_core.specs.declared.view.SeatView.{SeatView}
 use Rattle.store_core.specs.declared.view.StoredWord.{StoredWord}
 use Rattle.store_core.specs.Cells.{cell_word}
+use Rattle.store_core.specs.Histories.{IsLegal}
 use Rattle.store_core.specs.Machine.{Machine, bytes_or_none, current_bytes, current_holds, is_shown, seat_has}
 use Rattle.store_core.specs.Masks.{has_bit, in_mask}
 use Rattle.store_core.specs.Pieces.{holds_chunk}
 use Rattle.store_core.specs.Schedules.{IsLegalStep, IsReply, after_step}
+use Rattle.store_core.specs.States.{empty}
 use Rattle.store_core.specs.Views.{seat_claims, stored}
+use Rattle.store_core.proofs.Lasting.{legal-append}
 use Rattle.store_core.proofs.Running.{one_step}
 use Rattle.store_core.proofs.Served.{seat_claim}
 use Rattle.store_core.proofs.Stepping.{shown_or}
@@ -22,9 +30,19 @@ use Rattle.store_core.proofs.Tells.{masked}
 use Rattle.store_steps.specs.Asks.{AreWritten}
 use Rattle.store_steps.specs.Layout.{cell_at, cell_place, claim_place, held_word, length_place}
 use Rattle.store_steps.specs.Machines.{PublishIsPublish, StoreIsWrite}
+use Rattle.store_steps.specs.Rule.{Fits, IsKept}
 use Rattle.store_steps.proofs.ClaimSteps.{claims_less}
-use Rattle.store_steps.proofs.Simulating.{low, others_not, seat_is, stands_after, stays_stored, stored_is}
+use Rattle.store_steps.proofs.Simulating.{low, others_not, read_on, seat_is, stands_after, stays_stored, still_read, stored_is}
 use Rattle.store_steps.proofs.Standing.{left, put}
+use Rattle.store_steps.proofs.Stepping.{fitting}
+
+-- what a seat has seen is legal
+seen_legal : (fixed : Fixed) (s : Table Unit (List SeatView)) (k : IsKept fixed s) (id : ℕ) (view : SeatView) → get_elem? s.views id ≡ some (view ∷ [])
+    → IsLegal view.fixed view.seen
+seen_legal fixed s k id view seat =
+    let fits : Fits fixed k.history s.words view = fitting fixed s k id view seat in
+    subst (λ (f : Fixed). IsLegal f view.seen) (sym fits.fixed_is)
+    (legal-append fixed empty view.seen fits.continues.between (subst (λ (h : List Event). IsLegal fixed h) fits.continues.is k.legal)).0
 
 pub store_is_write : StoreIsWrite
 store_is_write fixed pieces s m id c w value view new here below ours holds value_is stores =
@@ -79,7 +97,11 @@ store_is_write fixed pieces s m id c w value view new here below ours holds valu
           let same : Some k ≡ Some id = sym by ∙ ap (λ (x : ℕ). m.claim x) chunk ∙ seat_claim id (m.claim c) has in
           let never : k ≡ id = cc in
           other never) in
-          (old, rw miss refl));
+          (old, rw miss refl))
+          (λ r is.
+          still_read fixed pieces s m id view here new [] (ap (λ (v : SeatView). v.fixed) stores) (ap (λ (v : SeatView). v.seen) stores ∙ sym (append-nil view.seen))
+          (subst (λ (v : SeatView). IsLegal v.fixed v.seen) (sym stores) (seen_legal fixed s here.kept id view here.is_seat)) r (rw (eq-eqb id id refl) at is))
+          (λ k other. rw (ne_eqb k id other) refl);
     }
 
 -- a bit of the claim word, which stays: chunks that are published were claimed
@@ -153,6 +175,7 @@ publish_is_publish fixed pieces s m id group mask piece view new here there curr
                   ∙ stays_stored group mask (129 * c + w) view.written (subst (λ (x : ℕ). in_mask group mask x ≡ false) same miss)
                   ∙ stored_is fixed pieces s m id view here c w wrote (rw miss at by) below
             ])
-            (λ k c w other wrote by below. (wrote, refl));
+            (λ k c w other wrote by below. (wrote, refl))
+            (read_on fixed pieces s m id view here new did.between _ did.goes_on) (λ k other. refl);
       },
     )

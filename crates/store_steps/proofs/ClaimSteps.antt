@@ -1,6 +1,6 @@
 -- Take and Give are the machine's Claim and GiveBack.
 use Rattle.std.proofs.Common.{◌≡◌, ◌≢◌, ℕ, ◌+◌, ◌*◌, ◌/◌, ◌%◌, nat_lt, Bool, true, false, not, ◌&&◌, ◌||◌, if◌then◌else◌, List, Option, None, Some, is_some, set, slice_index, refl, sym, ap, subst, ◌∙◌, arith, inl, inr, eq-eqb}
-use Rattle.std.specs.Int.{w64, bit_not}
+use Rattle.std.specs.Int.{bit_not, w64}
 use Rattle.std.specs.Int.Bits.{bit_and, bit_or}
 use Rattle.std.proofs.lemmas.Bool.{and_left, and_parts, both_ways, cases_Bool, cases_eq, ne_eqb, not-true, or_parts}
 use Rattle.store_core.specs.declared.micro.MicroStep.{MicroStep}
@@ -18,7 +18,7 @@ use Rattle.store_core.proofs.Tells.{masked}
 use Rattle.store_steps.specs.Layout.{cell_place, claim_place, claim_word, length_place}
 use Rattle.store_steps.specs.Machines.{GiveIsGiveBack, TakeIsClaim}
 use Rattle.store_steps.proofs.Bits.{and_small, has_bit-and, has_bit-not, has_bit-or}
-use Rattle.store_steps.proofs.Simulating.{hidden, others_not, seat_is, stands_after, stays_stored, stored_is}
+use Rattle.store_steps.proofs.Simulating.{hidden, others_not, read_on, seat_is, stands_after, stays_stored, stored_is}
 use Rattle.store_steps.proofs.Standing.{left, put}
 
 -- a mask's chunks, and those of other groups
@@ -133,7 +133,8 @@ take_is_claim fixed pieces s m id group want asked view new here there asks smal
                 ap (λ (words : List StoredWord). stored words (129 * c + w)) took.written_are
                 ∙ stored_is fixed pieces s m id view here c w wrote (rw miss at by) below
           ])
-          (λ k c w other wrote by below. (wrote, refl));
+          (λ k c w other wrote by below. (wrote, refl))
+          (read_on fixed pieces s m id view here new took.between _ took.goes_on) (λ k other. refl);
     }
 
 pub give_is_give_back : GiveIsGiveBack
@@ -192,5 +193,6 @@ give_is_give_back fixed pieces s m id group mask given view new here there ours 
                 ∙ stays_stored group given (129 * c + w) view.written (subst (λ (x : ℕ). in_mask group given x ≡ false) same miss)
                 ∙ stored_is fixed pieces s m id view here c w parts.1 (rw miss at by) below
           ])
-          (λ k c w other wrote by below. (rw (ne_eqb k id other) at wrote, refl));
+          (λ k c w other wrote by below. (rw (ne_eqb k id other) at wrote, refl))
+          (λ r is. read_on fixed pieces s m id view here new gave.between _ gave.goes_on r (rw (eq-eqb id id refl) at is)) (λ k other. rw (ne_eqb k id other) refl);
     }

@@ -1,8 +1,8 @@
 -- Settle and Length are the machine's.
 use Rattle.std.proofs.Common.{◌≡◌, ℕ, ◌+◌, ◌*◌, ◌/◌, ◌%◌, ◌==◌, if◌then◌else◌, List, Option, Some, set, refl, sym, ap, subst, ◌∙◌, arith}
-use prog.Atomic.{either}
 use Rattle.std.proofs.lemmas.Bool.{le-leb}
 use Rattle.std.proofs.lemmas.List.{set-get_or}
+use prog.Atomic.{either}
 use Rattle.store_core.specs.declared.history.Piece.{Piece}
 use Rattle.store_core.specs.declared.history.Settling.{Settling as Answer}
 use Rattle.store_core.specs.declared.history.Settling.TheVariants.{TooLarge}
@@ -23,7 +23,7 @@ use Rattle.store_steps.specs.Machines.{LengthIsLength, SettleIsSettle}
 use Rattle.store_steps.specs.Plays.{length_in}
 use Rattle.store_steps.proofs.Looking.{length_back}
 use Rattle.store_steps.proofs.Settling.{word_then}
-use Rattle.store_steps.proofs.Simulating.{seat_is, stands_after, stored_is}
+use Rattle.store_steps.proofs.Simulating.{read_on, seat_is, stands_after, stored_is}
 use Rattle.store_steps.proofs.Standing.{left, put}
 
 pub settle_is_settle : SettleIsSettle
@@ -58,7 +58,8 @@ settle_is_settle fixed pieces s m id piece view new here current ends fits did =
           ∙ ap (λ (a : Answer). length_code (recorded_after a len m.recorded)) (sym answer)
           ∙ ap (λ (l : ℕ). length_code (recorded_after (settle_answer fixed m id) l m.recorded)) (sym length_is))
           (λ c w wrote by below. ap (λ (words : List StoredWord). stored words (129 * c + w)) did.written_are ∙ stored_is fixed pieces s m id view here c w wrote by below)
-          (λ k c w other wrote by below. (wrote, refl));
+          (λ k c w other wrote by below. (wrote, refl))
+          (read_on fixed pieces s m id view here new did.between _ did.goes_on) (λ k other. refl);
     }
 
 pub length_is_length : LengthIsLength
@@ -78,5 +79,6 @@ length_is_length fixed pieces s m id view new here did =
           (λ c there. ap (λ (words : List ℕ). has_bit (claim_word fixed words (c / 64)) (c % 64)) same ∙ here.stands.claimed c there)
           (ap (λ (words : List ℕ). length_word fixed words) same ∙ here.stands.recorded)
           (λ c w wrote by below. ap (λ (words : List StoredWord). stored words (129 * c + w)) did.written_are ∙ stored_is fixed pieces s m id view here c w wrote by below)
-          (λ k c w other wrote by below. (wrote, refl));
+          (λ k c w other wrote by below. (wrote, refl))
+          (read_on fixed pieces s m id view here new did.between _ did.goes_on) (λ k other. refl);
     }

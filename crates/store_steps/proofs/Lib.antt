@@ -23,3 +23,4 @@ pub mod Simulating
 pub mod ClaimSteps
 pub mod CellSteps
 pub mod LengthSteps
+pub mod LoadSteps

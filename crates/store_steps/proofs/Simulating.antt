@@ -1,5 +1,5 @@
 -- What a step of a seat with one view changes, and that the table then stands for the machine after it.
-use Rattle.std.proofs.Common.{◌≡◌, ◌≢◌, ℕ, zero, suc, ◌+◌, ◌*◌, ◌/◌, ◌%◌, ◌<◌, ◌==◌, true, false, ◌||◌, List, [], ◌∷◌, Option, Some, is_some, option_map, set, refl, sym, ap, subst, ◌∙◌, inl, inr, eqb-true}
+use Rattle.std.proofs.Common.{◌≡◌, ◌≢◌, ℕ, zero, suc, ◌+◌, ◌*◌, ◌/◌, ◌%◌, ◌<◌, ◌==◌, true, false, ◌||◌, List, [], ◌∷◌, Option, Some, is_some, option_map, set, refl, sym, ap, subst, ◌∙◌, inl, inr, eqb-true, ◌++◌, append_assoc, slice_index}
 use Rattle.std.proofs.lemmas.Bool.{both_ways, cases_Bool, cases_eq, false_from_ne_true}
 use mathlib.Core.Option.{some, some-injective, some-ne-none}
 use lib.ListN.{get_elem?}
@@ -7,20 +7,25 @@ use Rattle.atomic_table.specs.Table.{State as Table, keeps, stepped}
 use Rattle.atomic_table.proofs.Lists.{set_else}
 use Rattle.bao_check.specs.declared.checked.Checked.{Checked}
 use Rattle.store_core.specs.declared.fixed.Fixed.{Fixed}
+use Rattle.store_core.specs.declared.history.Event.{Event}
 use Rattle.store_core.specs.declared.view.SeatView.{SeatView}
 use Rattle.store_core.specs.declared.view.StoredWord.{StoredWord}
-use Rattle.store_core.specs.Machine.{Machine, groups, is_number, is_shown, seat_has}
+use Rattle.store_core.specs.Histories.{IsLegal, state_after}
+use Rattle.store_core.specs.Machine.{Machine, Reading, groups, is_number, is_shown, seat_has}
 use Rattle.store_core.specs.Masks.{has_bit, in_mask}
 use Rattle.store_core.specs.Served.{IsServed}
+use Rattle.store_core.specs.States.{State, byte_at, empty}
 use Rattle.store_core.specs.Views.{seat_claims, stored, without_chunks}
-use Rattle.store_core.proofs.Served.{claim_seat, claimed_hidden, seat_claim}
+use Rattle.store_core.proofs.Lasting.{legal-append, legal_is_sound, run-append}
+use Rattle.store_core.proofs.Served.{byte_lasts, claim_seat, claimed_hidden, seat_claim}
 use Rattle.store_steps.specs.Layout.{cell_at, claim_word, held_word, length_code, length_word}
-use Rattle.store_steps.specs.Machines.{HasClaim, HasStored, IsAtMachine, StandsForMachine}
+use Rattle.store_steps.specs.Machines.{HasClaim, HasRead, HasStored, IsAtMachine, IsUnderWay, StandsForMachine}
 use Rattle.store_steps.specs.Rule.{HasView}
+use Rattle.store_steps.specs.Tells.{GoesOn}
 use Rattle.store_steps.proofs.Lists.{one_part}
 
 -- a seat that has other views
-set_at : {A : Type 0} (xs : List A) (i : ℕ) (x y : A) → get_elem? xs i ≡ some x → get_elem? (set xs i y) i ≡ some y
+pub set_at : {A : Type 0} (xs : List A) (i : ℕ) (x y : A) → get_elem? xs i ≡ some x → get_elem? (set xs i y) i ≡ some y
 set_at [] i x y h = absurd (some-ne-none x (sym h))
 set_at (z ∷ xs) zero x y h = refl
 set_at (z ∷ xs) (suc i) x y h = set_at xs i x y h
@@ -68,6 +73,33 @@ module _ (fixed : Fixed) (pieces : List Checked) (s : Table Unit (List SeatView)
   stored_is c w wrote ours below =
       let k : HasStored s.views id (129 * c + w) (m.cell c w) = here.stands.written id c w wrote ours below in
       subst (λ (v : SeatView). stored v.written (129 * c + w) ≡ Some (m.cell c w)) (the_view k.part k.view k.has) k.is
+
+  pub read_is_of : (r : Reading) → (m.seat id).reading ≡ Some r → IsUnderWay fixed view r
+  read_is_of r is =
+      let k : HasRead fixed s.views id r = here.stands.reads id r is in
+      subst (λ (v : SeatView). IsUnderWay fixed v r) (the_view k.part k.view k.has) k.under_way
+
+  -- it is so of what is seen later
+  pub still_read : (new : SeatView) (more : List Event) → new.fixed ≡ view.fixed → new.seen ≡ view.seen ++ more → IsLegal new.fixed new.seen
+      → (r : Reading) → (m.seat id).reading ≡ Some r → IsUnderWay fixed new r
+  still_read new more same is legal r reading =
+      let old : IsUnderWay fixed view r = read_is_of r reading in
+      let whole : IsLegal view.fixed (view.seen ++ more) = subst (λ (f : Fixed). IsLegal f (view.seen ++ more)) same (subst (λ (h : List Event). IsLegal new.fixed h) is legal) in
+      let parts = legal-append view.fixed empty view.seen more whole in
+      record {
+        part = record {
+          within = old.part.within;
+          held = λ i h.
+              ap (λ (t : List Event). byte_at (state_after t) (r.at + i)) is ∙ ap (λ (t : State). byte_at t (r.at + i)) (run-append empty view.seen more)
+              ∙ byte_lasts view.fixed (state_after view.seen) more (legal_is_sound view.fixed view.seen parts.0) parts.1 (r.at + i) (slice_index r.bytes i) (old.part.held i h);
+        };
+        more = old.more;
+        below = old.below;
+      }
+
+  pub read_on : (new : SeatView) (between own : List Event) → GoesOn view new between own → (r : Reading) → (m.seat id).reading ≡ Some r → IsUnderWay fixed new r
+  read_on new between own on r reading =
+      still_read new (between ++ own) on.fixed_is (on.seen_is ∙ append_assoc view.seen between own) on.legal r reading
 
   -- what it claims isn't shown, and lies below the capacity
   pub hidden : (c : ℕ) → seat_has m id c ≡ true → is_shown m c ≡ false
@@ -129,8 +161,10 @@ module _ (fixed : Fixed) (pieces : List Checked) (s : Table Unit (List SeatView)
           → length_word fixed (set s.words i n) ≡ length_code next.recorded
           → ((c w : ℕ) → (next.seat id).written c w ≡ true → next.claim c ≡ Some id → w < 129 → stored new.written (129 * c + w) ≡ Some (next.cell c w))
           → ((k c w : ℕ) → k ≢ id → (next.seat k).written c w ≡ true → m.claim c ≡ Some k → w < 129 → ((m.seat k).written c w ≡ true) × (next.cell c w ≡ m.cell c w))
+          → ((r : Reading) → (next.seat id).reading ≡ Some r → IsUnderWay fixed new r)
+          → ((k : ℕ) → k ≢ id → (next.seat k).reading ≡ (m.seat k).reading)
           → StandsForMachine fixed (stepped s i n id [] (new ∷ []) keeps) next
-      stands_after i n served cells held claimed recorded wrote theirs = record {
+      stands_after i n served cells held claimed recorded wrote theirs reads others_read = record {
         served = served;
         cells = cells;
         held = held;
@@ -150,5 +184,13 @@ module _ (fixed : Fixed) (pieces : List Checked) (s : Table Unit (List SeatView)
               let old = theirs k c w other is claim below in
               let had : HasStored s.views k (129 * c + w) (m.cell c w) = here.stands.written k c w old.0 claim below in
               record { part = had.part; view = had.view; has = other_has k had.part had.view other had.has; is = had.is ∙ ap (λ (x : ℕ). Some x) (sym old.1) }
+        ];
+        reads = λ k r is. elim (cases_eq k id) [
+          | inl its ↦
+              subst (λ (x : ℕ). HasRead fixed later x r) (sym its)
+              (record { part = 0; view = new; has = its_new; under_way = reads r (subst (λ (x : ℕ). (next.seat x).reading ≡ Some r) its is) })
+          | inr other ↦
+              let had : HasRead fixed s.views k r = here.stands.reads k r (sym (others_read k other) ∙ is) in
+              record { part = had.part; view = had.view; has = other_has k had.part had.view other had.has; under_way = had.under_way }
         ];
       }

@@ -1,31 +1,35 @@
 -- Which machine of schedules a table stands for, and that each step on its words is the machine's step of its name.
-use Rattle.std.specs.Prelude.{◌≡◌, ℕ, ◌+◌, ◌*◌, ◌/◌, ◌%◌, ◌^◌, ◌<◌, ◌≤◌, ◌↔◌, nat_lt, ◌==◌, true, ◌&&◌, ◌||◌, List, [], ◌∷◌, Option, None, Some, is_some, bit_and, bit_or}
-use Rattle.std.specs.Int.{w64, bit_not}
+use Rattle.std.specs.Prelude.{◌≡◌, ℕ, ◌+◌, ◌*◌, ◌/◌, ◌%◌, ◌^◌, ◌<◌, ◌≤◌, ◌↔◌, nat_lt, ◌==◌, true, ◌&&◌, ◌||◌, List, [], ◌∷◌, Option, None, Some, is_some, bit_and, bit_or, ◌++◌, length, if◌then◌else◌}
+use Rattle.std.specs.Int.{bit_not, w64}
 use mathlib.Core.Option.{some}
 use lib.ListN.{get_elem?}
 use prog.Atomic.{either}
 use Rattle.atomic_table.specs.Table.{State as Table, keeps, stepped}
 use Rattle.bao_check.specs.declared.checked.Checked.{Checked}
 use Rattle.store_core.specs.declared.fixed.Fixed.{Fixed}
+use Rattle.store_core.specs.declared.history.Call.TheVariants.{Read}
+use Rattle.store_core.specs.declared.history.Event.{Event}
 use Rattle.store_core.specs.declared.history.Piece.{Piece}
 use Rattle.store_core.specs.declared.micro.MicroStep.{MicroStep}
-use Rattle.store_core.specs.declared.micro.MicroStep.TheVariants.{Claim, GiveBack, Length, Publish, Settle, Write}
+use Rattle.store_core.specs.declared.micro.MicroStep.TheVariants.{Claim, GiveBack, Length, Load, Publish, Settle, Write}
 use Rattle.store_core.specs.declared.micro.Reply.{Reply}
 use Rattle.store_core.specs.declared.micro.Reply.TheVariants.{Committed, Given, Granted, LengthIs, Settling}
 use Rattle.store_core.specs.declared.view.SeatView.{SeatView}
 use Rattle.store_core.specs.Cells.{cell_word}
 use Rattle.store_core.specs.Events.{settling}
-use Rattle.store_core.specs.Machine.{Machine, current_bytes, current_holds, groups, is_shown}
+use Rattle.store_core.specs.Histories.{state_after}
+use Rattle.store_core.specs.Machine.{Machine, Reading, current_bytes, current_holds, groups, is_shown, loaded_group, position}
 use Rattle.store_core.specs.Masks.{IsMaskOf, has_bit}
 use Rattle.store_core.specs.Pieces.{EndsBlob, length_of}
-use Rattle.store_core.specs.Schedules.{AreTexts, IsLegalStep, IsReply, IsWritten, after_step}
-use Rattle.store_core.specs.Served.{IsServed}
+use Rattle.store_core.specs.Schedules.{AreTexts, IsLegalStep, IsReply, IsWritten, after_step, end_reply, is_last_load, read_after, read_before}
+use Rattle.store_core.specs.Served.{IsPart, IsServed}
 use Rattle.store_core.specs.Views.{seat_claims, stored}
 use Rattle.store_steps.specs.Asks.{AreClaimed, AreHeldClaims, AreWritten}
 use Rattle.store_steps.specs.Layout.{cell_at, cell_place, claim_place, claim_word, held_word, length_code, length_place, length_word}
-use Rattle.store_steps.specs.Plays.{Answers, Gives, Publishes, Settles, Takes, length_in}
+use Rattle.store_steps.specs.Plays.{Answers, Gives, Loads, Publishes, Settles, Takes, length_in}
+use Rattle.store_steps.specs.Reads.{read_events}
 use Rattle.store_steps.specs.Rule.{HasView, IsKept}
-use Rattle.store_steps.specs.Tells.{Stores}
+use Rattle.store_steps.specs.Tells.{Stores, event_of}
 
 -- a view of the seat claims the chunk
 pub record HasClaim (views : List (List SeatView)) (seat c : ℕ) : Type 0 where
@@ -41,9 +45,22 @@ pub record HasStored (views : List (List SeatView)) (seat number value : ℕ) : 
   pub has : HasView views seat part view
   pub is : stored view.written number ≡ Some value
 
+-- A read under way: its bytes were held in what the view has seen, and it goes on at a position that could be held.
+pub record IsUnderWay (fixed : Fixed) (view : SeatView) (r : Reading) : Type 0 where
+  pub part : IsPart (state_after view.seen) r
+  pub more : length r.bytes < r.len
+  pub below : position r < 1024 * fixed.capacity
+
+-- of a view of the seat
+pub record HasRead (fixed : Fixed) (views : List (List SeatView)) (seat : ℕ) (r : Reading) : Type 0 where
+  pub part : ℕ
+  pub view : SeatView
+  pub has : HasView views seat part view
+  pub under_way : IsUnderWay fixed view r
+
 -- The words are the machine's, and a claim word has the bits of the chunks that are shown or claimed. The machine's seat
 -- n is the table's seat n, and claims what a view of it claims, so that two views that were joined count as one seat. Of
--- a chunk that it claims each word that the machine has as written was stored.
+-- a chunk that it claims each word that the machine has as written was stored. Its read under way is a view's.
 pub record StandsForMachine (fixed : Fixed) (table : Table Unit (List SeatView)) (m : Machine) : Type 0 where
   pub served : IsServed fixed m
   pub cells : (c w : ℕ) → c < fixed.capacity → w < 129 → cell_at fixed table.words (129 * c + w) ≡ m.cell c w
@@ -52,6 +69,7 @@ pub record StandsForMachine (fixed : Fixed) (table : Table Unit (List SeatView))
   pub recorded : length_word fixed table.words ≡ length_code m.recorded
   pub claims : (seat c : ℕ) → (m.claim c ≡ Some seat) ↔ HasClaim table.views seat c
   pub written : (seat c w : ℕ) → (m.seat seat).written c w ≡ true → m.claim c ≡ Some seat → w < 129 → HasStored table.views seat (129 * c + w) (m.cell c w)
+  pub reads : (seat : ℕ) (r : Reading) → (m.seat seat).reading ≡ Some r → HasRead fixed table.views seat r
 
 -- Seat `seat`, which has one view, makes a step: word `place` becomes `word`, and `new` is its view. It is the machine's
 -- step: legal there, with this reply, and the table afterwards stands for the machine after it.
@@ -114,3 +132,19 @@ LengthIsLength = (fixed : Fixed) (pieces : List Checked) (table : Table Unit (Li
     → IsAtMachine fixed pieces table m seat view → Answers (length_word fixed table.words) view new
     → IsMachineStep fixed pieces table (length_place fixed) (length_word fixed table.words) seat new m
     (Length seat) (Some (LengthIs (length_in (length_word fixed table.words))))
+
+-- A load of the held word of the group where a read goes on is Load. It is the read's last where the machine's is, and
+-- then its event has the machine's bytes.
+abbrev pub load_reply : Fixed → Machine → ℕ → ℕ → ℕ → Option Reply
+load_reply fixed m seat at len = if is_last_load fixed m seat at len then Some (end_reply (read_after fixed m seat at len)) else None
+
+abbrev pub load_events : Fixed → Machine → ℕ → ℕ → ℕ → SeatView → List Event
+load_events fixed m seat at len view = if is_last_load fixed m seat at len then event_of view (Read at len (read_after fixed m seat at len).bytes) ∷ [] else []
+
+abbrev pub LoadIsLoad : Type 0
+LoadIsLoad = (fixed : Fixed) (pieces : List Checked) (table : Table Unit (List SeatView)) (m : Machine) (seat group at len : ℕ) (view new : SeatView)
+    → IsAtMachine fixed pieces table m seat view → group < groups fixed → IsLegalStep fixed pieces m (Load seat at len)
+    → group ≡ loaded_group fixed (read_before m seat at len) → (loads : Loads group at len (held_word table.words group) view new)
+    → IsKept fixed (stepped table group (held_word table.words group) seat [] (new ∷ []) keeps)
+    → IsMachineStep fixed pieces table group (held_word table.words group) seat new m (Load seat at len) (load_reply fixed m seat at len)
+    × (read_events view group at len (state_after (view.seen ++ loads.looked.between)) ≡ load_events fixed m seat at len view)

@@ -1,4 +1,4 @@
-ghost use Rattle.store_steps.specs.Machines.{GiveIsGiveBack, LengthIsLength, PublishIsPublish, SettleIsSettle, StoreIsWrite, TakeIsClaim};
+ghost use Rattle.store_steps.specs.Machines.{GiveIsGiveBack, LengthIsLength, LoadIsLoad, PublishIsPublish, SettleIsSettle, StoreIsWrite, TakeIsClaim};
 
 /// Each step on the words is the step of its name of the machine of schedules: where words and views stand for a machine,
 /// and the rule holds, the step is legal there, its reply is the machine's, and afterwards words and views stand for the
@@ -8,6 +8,7 @@ pub fn steps_are_the_machines()
     ensures give { GiveIsGiveBack }
     ensures store { StoreIsWrite }
     ensures publish { PublishIsPublish }
+    ensures load { LoadIsLoad }
     ensures settle { SettleIsSettle }
     ensures length { LengthIsLength }
 {}

@@ -1,6 +1,7 @@
 use Rattle.store_steps.proofs.CellSteps as cells
 use Rattle.store_steps.proofs.ClaimSteps as claims
 use Rattle.store_steps.proofs.LengthSteps as lengths
+use Rattle.store_steps.proofs.LoadSteps as loads
 use Rattle.store_steps.proofs.law.steps_are_the_machines.Goals as goal
 
 pub returns-clause-take : goal.returns-clause-take
@@ -20,3 +21,6 @@ returns-clause-settle c = lengths.settle_is_settle
 
 pub returns-clause-length : goal.returns-clause-length
 returns-clause-length c = lengths.length_is_length
+
+pub returns-clause-load : goal.returns-clause-load
+returns-clause-load c = loads.load_is_load
