@@ -37,7 +37,7 @@ use Rattle.store_steps.proofs.Standing.{left, put}
 use Rattle.store_steps.proofs.Stepping.{fitting}
 
 -- what a seat has seen is legal
-seen_legal : (fixed : Fixed) (s : Table Unit (List SeatView)) (k : IsKept fixed s) (id : ℕ) (view : SeatView) → get_elem? s.views id ≡ some (view ∷ [])
+pub seen_legal : (fixed : Fixed) (s : Table Unit (List SeatView)) (k : IsKept fixed s) (id : ℕ) (view : SeatView) → get_elem? s.views id ≡ some (view ∷ [])
     → IsLegal view.fixed view.seen
 seen_legal fixed s k id view seat =
     let fits : Fits fixed k.history s.words view = fitting fixed s k id view seat in

@@ -1,7 +1,6 @@
 -- Settle and Length are the machine's.
-use Rattle.std.proofs.Common.{◌≡◌, ℕ, ◌+◌, ◌*◌, ◌/◌, ◌%◌, ◌==◌, if◌then◌else◌, List, Option, Some, set, refl, sym, ap, subst, ◌∙◌, arith}
-use Rattle.std.proofs.lemmas.Bool.{le-leb}
-use Rattle.std.proofs.lemmas.List.{set-get_or}
+use Rattle.std.proofs.Common.{◌≡◌, ℕ, ◌+◌, ◌*◌, ◌/◌, ◌%◌, ◌==◌, if◌then◌else◌, List, Option, Some, refl, sym, ap, subst, ◌∙◌, arith}
+use Rattle.std.proofs.lemmas.Bool.{le-leb, lt-leb}
 use prog.Atomic.{either}
 use Rattle.store_core.specs.declared.history.Piece.{Piece}
 use Rattle.store_core.specs.declared.history.Settling.{Settling as Answer}
@@ -18,12 +17,12 @@ use Rattle.store_core.specs.Pieces.{length_of}
 use Rattle.store_core.specs.Schedules.{HasTail, IsLegalStep, IsReply, after_step, current_length, length_answer, settle_answer}
 use Rattle.store_core.specs.Views.{stored}
 use Rattle.store_core.proofs.Running.{one_step}
-use Rattle.store_steps.specs.Layout.{cell_at, cell_place, claim_place, claim_word, held_word, length_code, length_place, length_word}
-use Rattle.store_steps.specs.Machines.{LengthIsLength, SettleIsSettle}
+use Rattle.store_steps.specs.Layout.{cell_place, claim_place, length_code, length_place, length_word}
+use Rattle.store_steps.specs.Machines.{LengthIsLength, LookIsTooLarge, SettleIsSettle, StandsForMachine, after_load}
 use Rattle.store_steps.specs.Plays.{length_in}
 use Rattle.store_steps.proofs.Looking.{length_back}
 use Rattle.store_steps.proofs.Settling.{word_then}
-use Rattle.store_steps.proofs.Simulating.{read_on, seat_is, stands_after, stored_is}
+use Rattle.store_steps.proofs.Simulating.{read_on, seat_is, stands_after, stays_after, stored_is}
 use Rattle.store_steps.proofs.Standing.{left, put}
 
 pub settle_is_settle : SettleIsSettle
@@ -62,23 +61,32 @@ settle_is_settle fixed pieces s m id piece view new here current ends fits did =
           (read_on fixed pieces s m id view here new did.between _ did.goes_on) (λ k other. refl);
     }
 
+-- the machine after an answer to a Settle
+abbrev settled_machine : Machine → Answer → ℕ → Machine
+settled_machine m answer len = record m { recorded = recorded_after answer len m.recorded }
+
 pub length_is_length : LengthIsLength
 length_is_length fixed pieces s m id view new here did =
     let found : ℕ = length_word fixed s.words in
     let recorded : length_in found ≡ m.recorded = ap (λ (n : ℕ). length_in n) here.stands.recorded ∙ length_back m.recorded in
-    let same : set s.words (length_place fixed) found ≡ s.words = set-get_or s.words (length_place fixed) 0 in
     record {
       legal = tt;
       right = ap (λ (o : Option ℕ). Some (LengthIs o)) recorded;
-      stands = stands_after fixed pieces s m id view here new m
-          (λ c. seat_is fixed pieces s m id view here c ∙ sym (did.claims_are c))
-          (λ k c other. refl)
-          (length_place fixed) found here.stands.served
-          (λ c w below cell. ap (λ (words : List ℕ). cell_at fixed words (129 * c + w)) same ∙ here.stands.cells c w below cell)
-          (λ g there. ap (λ (words : List ℕ). held_word words g) same ∙ here.stands.held g there)
-          (λ c there. ap (λ (words : List ℕ). has_bit (claim_word fixed words (c / 64)) (c % 64)) same ∙ here.stands.claimed c there)
-          (ap (λ (words : List ℕ). length_word fixed words) same ∙ here.stands.recorded)
-          (λ c w wrote by below. ap (λ (words : List StoredWord). stored words (129 * c + w)) did.written_are ∙ stored_is fixed pieces s m id view here c w wrote by below)
-          (λ k c w other wrote by below. (wrote, refl))
-          (read_on fixed pieces s m id view here new did.between _ did.goes_on) (λ k other. refl);
+      stands = stays_after fixed pieces s m id view here new (length_place fixed) did.claims_are (λ n. ap (λ (words : List StoredWord). stored words n) did.written_are)
+          (read_on fixed pieces s m id view here new did.between _ did.goes_on);
+    }
+
+pub look_is_too_large : LookIsTooLarge
+look_is_too_large fixed pieces s m id place piece view new events here current ends large looked =
+    let answer : settle_answer fixed m id ≡ TooLarge =
+    ap (λ (l : ℕ). length_answer fixed m.recorded l) (ap (λ (o : Option Piece). current_length o) current)
+    ∙ ap (λ b. if b then settling m.recorded (length_of piece) else TooLarge) (lt-leb (length_of piece) (1024 * fixed.capacity) large) in
+    let next : settled_machine m (settle_answer fixed m id) (current_length (m.seat id).piece) ≡ m =
+    ap (λ (a : Answer). settled_machine m a (current_length (m.seat id).piece)) answer in
+    record {
+      legal = subst (λ (o : Option Piece). HasTail o) (sym current) ends;
+      right = ap (λ (a : Answer). Some (Settling a)) (sym answer);
+      stands = subst (λ (x : Machine). StandsForMachine fixed (after_load s place id new) x) (sym next)
+          (stays_after fixed pieces s m id view here new place looked.claims_are (λ n. ap (λ (words : List StoredWord). stored words n) looked.written_are)
+          (read_on fixed pieces s m id view here new looked.between _ looked.goes_on));
     }

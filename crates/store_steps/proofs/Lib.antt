@@ -24,3 +24,4 @@ pub mod ClaimSteps
 pub mod CellSteps
 pub mod LengthSteps
 pub mod LoadSteps
+pub mod SideSteps

@@ -1,6 +1,7 @@
 -- What a step of a seat with one view changes, and that the table then stands for the machine after it.
 use Rattle.std.proofs.Common.{◌≡◌, ◌≢◌, ℕ, zero, suc, ◌+◌, ◌*◌, ◌/◌, ◌%◌, ◌<◌, ◌==◌, true, false, ◌||◌, List, [], ◌∷◌, Option, Some, is_some, option_map, set, refl, sym, ap, subst, ◌∙◌, inl, inr, eqb-true, ◌++◌, append_assoc, slice_index}
 use Rattle.std.proofs.lemmas.Bool.{both_ways, cases_Bool, cases_eq, false_from_ne_true}
+use Rattle.std.proofs.lemmas.List.{set-get_or}
 use mathlib.Core.Option.{some, some-injective, some-ne-none}
 use lib.ListN.{get_elem?}
 use Rattle.atomic_table.specs.Table.{State as Table, keeps, stepped}
@@ -19,7 +20,7 @@ use Rattle.store_core.specs.Views.{seat_claims, stored, without_chunks}
 use Rattle.store_core.proofs.Lasting.{legal-append, legal_is_sound, run-append}
 use Rattle.store_core.proofs.Served.{byte_lasts, claim_seat, claimed_hidden, seat_claim}
 use Rattle.store_steps.specs.Layout.{cell_at, claim_word, held_word, length_code, length_word}
-use Rattle.store_steps.specs.Machines.{HasClaim, HasRead, HasStored, IsAtMachine, IsUnderWay, StandsForMachine}
+use Rattle.store_steps.specs.Machines.{HasClaim, HasRead, HasStored, IsAtMachine, IsUnderWay, StandsForMachine, after_load}
 use Rattle.store_steps.specs.Rule.{HasView}
 use Rattle.store_steps.specs.Tells.{GoesOn}
 use Rattle.store_steps.proofs.Lists.{one_part}
@@ -194,3 +195,18 @@ module _ (fixed : Fixed) (pieces : List Checked) (s : Table Unit (List SeatView)
               record { part = had.part; view = had.view; has = other_has k had.part had.view other had.has; under_way = had.under_way }
         ];
       }
+
+  -- a load leaves the words: the table stands for the same machine where the seat's claims and stored words stay
+  pub stays_after : (new : SeatView) (place : ℕ) → ((c : ℕ) → seat_claims new c ≡ seat_claims view c)
+      → ((number : ℕ) → stored new.written number ≡ stored view.written number)
+      → ((r : Reading) → (m.seat id).reading ≡ Some r → IsUnderWay fixed new r) → StandsForMachine fixed (after_load s place id new) m
+  stays_after new place claims written reads =
+      let same : set s.words place (slice_index s.words place) ≡ s.words = set-get_or s.words place 0 in
+      stands_after new m (λ c. seat_is c ∙ sym (claims c)) (λ k c other. refl) place (slice_index s.words place) here.stands.served
+      (λ c w below cell. ap (λ (words : List ℕ). cell_at fixed words (129 * c + w)) same ∙ here.stands.cells c w below cell)
+      (λ g there. ap (λ (words : List ℕ). held_word words g) same ∙ here.stands.held g there)
+      (λ c there. ap (λ (words : List ℕ). has_bit (claim_word fixed words (c / 64)) (c % 64)) same ∙ here.stands.claimed c there)
+      (ap (λ (words : List ℕ). length_word fixed words) same ∙ here.stands.recorded)
+      (λ c w wrote by below. written (129 * c + w) ∙ stored_is c w wrote by below)
+      (λ k c w other wrote by below. (wrote, refl))
+      reads (λ k other. refl)

@@ -1,35 +1,38 @@
 -- Which machine of schedules a table stands for, and that each step on its words is the machine's step of its name.
-use Rattle.std.specs.Prelude.{◌≡◌, ℕ, ◌+◌, ◌*◌, ◌/◌, ◌%◌, ◌^◌, ◌<◌, ◌≤◌, ◌↔◌, nat_lt, ◌==◌, true, ◌&&◌, ◌||◌, List, [], ◌∷◌, Option, None, Some, is_some, bit_and, bit_or, ◌++◌, length, if◌then◌else◌}
+use Rattle.std.specs.Prelude.{◌≡◌, ◌⊎◌, ℕ, ◌+◌, ◌*◌, ◌/◌, ◌%◌, ◌^◌, ◌<◌, ◌≤◌, ◌↔◌, nat_lt, ◌==◌, true, ◌&&◌, ◌||◌, List, [], ◌∷◌, Option, None, Some, is_some, bit_and, bit_or, ◌++◌, length, replicate, slice_index, if◌then◌else◌}
 use Rattle.std.specs.Int.{bit_not, w64}
 use mathlib.Core.Option.{some}
 use lib.ListN.{get_elem?}
 use prog.Atomic.{either}
-use Rattle.atomic_table.specs.Table.{State as Table, keeps, stepped}
+use Rattle.atomic_table.specs.Table.{State as Table, keeps, opening, stepped}
 use Rattle.bao_check.specs.declared.checked.Checked.{Checked}
 use Rattle.store_core.specs.declared.fixed.Fixed.{Fixed}
 use Rattle.store_core.specs.declared.history.Call.TheVariants.{Read}
 use Rattle.store_core.specs.declared.history.Event.{Event}
 use Rattle.store_core.specs.declared.history.Piece.{Piece}
+use Rattle.store_core.specs.declared.history.Settling.TheVariants.{TooLarge}
 use Rattle.store_core.specs.declared.micro.MicroStep.{MicroStep}
-use Rattle.store_core.specs.declared.micro.MicroStep.TheVariants.{Claim, GiveBack, Length, Load, Publish, Settle, Write}
+use Rattle.store_core.specs.declared.micro.MicroStep.TheVariants.{Claim, GiveBack, Hash, Length, Load, Publish, Settle, Write}
 use Rattle.store_core.specs.declared.micro.Reply.{Reply}
 use Rattle.store_core.specs.declared.micro.Reply.TheVariants.{Committed, Given, Granted, LengthIs, Settling}
 use Rattle.store_core.specs.declared.view.SeatView.{SeatView}
 use Rattle.store_core.specs.Cells.{cell_word}
 use Rattle.store_core.specs.Events.{settling}
 use Rattle.store_core.specs.Histories.{state_after}
-use Rattle.store_core.specs.Machine.{Machine, Reading, current_bytes, current_holds, groups, is_shown, loaded_group, position}
+use Rattle.store_core.specs.Machine.{Machine, Reading, current_bytes, current_holds, groups, is_shown, loaded_group, position, start}
 use Rattle.store_core.specs.Masks.{IsMaskOf, has_bit}
 use Rattle.store_core.specs.Pieces.{EndsBlob, length_of}
 use Rattle.store_core.specs.Schedules.{AreTexts, IsLegalStep, IsReply, IsWritten, after_step, end_reply, is_last_load, read_after, read_before}
 use Rattle.store_core.specs.Served.{IsPart, IsServed}
+use Rattle.store_core.specs.States.{State}
 use Rattle.store_core.specs.Views.{seat_claims, stored}
 use Rattle.store_steps.specs.Asks.{AreClaimed, AreHeldClaims, AreWritten}
-use Rattle.store_steps.specs.Layout.{cell_at, cell_place, claim_place, claim_word, held_word, length_code, length_place, length_word}
-use Rattle.store_steps.specs.Plays.{Answers, Gives, Loads, Publishes, Settles, Takes, length_in}
+use Rattle.store_steps.specs.Grips.{opening_view}
+use Rattle.store_steps.specs.Layout.{cell_at, cell_place, claim_place, claim_word, held_word, length_code, length_place, length_word, word_count}
+use Rattle.store_steps.specs.Plays.{Answers, Copies, Gives, Loads, Publishes, Settles, Takes, length_in}
 use Rattle.store_steps.specs.Reads.{read_events}
 use Rattle.store_steps.specs.Rule.{HasView, IsKept}
-use Rattle.store_steps.specs.Tells.{Stores, event_of}
+use Rattle.store_steps.specs.Tells.{Looked, Stores, event_of}
 
 -- a view of the seat claims the chunk
 pub record HasClaim (views : List (List SeatView)) (seat c : ℕ) : Type 0 where
@@ -148,3 +151,40 @@ LoadIsLoad = (fixed : Fixed) (pieces : List Checked) (table : Table Unit (List S
     → IsKept fixed (stepped table group (held_word table.words group) seat [] (new ∷ []) keeps)
     → IsMachineStep fixed pieces table group (held_word table.words group) seat new m (Load seat at len) (load_reply fixed m seat at len)
     × (read_events view group at len (state_after (view.seen ++ loads.looked.between)) ≡ load_events fixed m seat at len view)
+
+-- Words of zeros and the first seat's view stand for the machine's start.
+abbrev pub OpeningIsStart : Type 0
+OpeningIsStart = (fixed : Fixed) → StandsForMachine fixed (opening (replicate (word_count fixed) 0) [] (opening_view fixed ∷ [])) start
+
+-- Hash is no step on the words.
+abbrev pub HashIsNoStep : Type 0
+HashIsNoStep = (fixed : Fixed) (pieces : List Checked) (table : Table Unit (List SeatView)) (m : Machine) (seat i : ℕ) → AreTexts pieces
+    → StandsForMachine fixed table m → IsLegalStep fixed pieces m (Hash seat i) → StandsForMachine fixed table (after_step fixed pieces m (Hash seat i) None)
+
+-- The table after a load of a seat with one view: its words are left.
+abbrev pub after_load : Table Unit (List SeatView) → ℕ → ℕ → SeatView → Table Unit (List SeatView)
+after_load table place seat new = stepped table place (slice_index table.words place) seat [] (new ∷ []) keeps
+
+-- A load at which a seat sees the history leaves the machine, whatever events it has.
+abbrev pub LookStays : Type 0
+LookStays = (fixed : Fixed) (pieces : List Checked) (table : Table Unit (List SeatView)) (m : Machine) (seat place : ℕ) (view new : SeatView) (events : State → List Event)
+    → IsAtMachine fixed pieces table m seat view → Looked events view new → StandsForMachine fixed (after_load table place seat new) m
+
+-- It is Settle where the length is one that the store has no room for.
+abbrev pub LookIsTooLarge : Type 0
+LookIsTooLarge = (fixed : Fixed) (pieces : List Checked) (table : Table Unit (List SeatView)) (m : Machine) (seat place : ℕ) (piece : Piece) (view new : SeatView)
+    (events : State → List Event) → IsAtMachine fixed pieces table m seat view → (m.seat seat).piece ≡ Some piece → EndsBlob piece
+    → 1024 * fixed.capacity < length_of piece → Looked events view new
+    → IsMachineStep fixed pieces table place (slice_index table.words place) seat new m (Settle seat) (Some (Settling TooLarge))
+
+-- A copy leaves the machine, and finds its word.
+abbrev pub CopyStays : Type 0
+CopyStays = (fixed : Fixed) (pieces : List Checked) (table : Table Unit (List SeatView)) (m : Machine) (seat c w : ℕ) (view new : SeatView)
+    → IsAtMachine fixed pieces table m seat view → c < fixed.capacity → w < 129 → Copies c w (cell_at fixed table.words (129 * c + w)) view new
+    → (cell_at fixed table.words (129 * c + w) ≡ m.cell c w) × StandsForMachine fixed (after_load table (cell_place fixed (129 * c + w)) seat new) m
+
+-- So does a load that stands for a give or a commit of a group that isn't there.
+abbrev pub AbsentStays : Type 0
+AbsentStays = (fixed : Fixed) (pieces : List Checked) (table : Table Unit (List SeatView)) (m : Machine) (seat place group mask : ℕ) (piece : Piece) (view new : SeatView)
+    → IsAtMachine fixed pieces table m seat view → Gives group mask 0 view new ⊎ Publishes group piece 0 view new
+    → StandsForMachine fixed (after_load table place seat new) m

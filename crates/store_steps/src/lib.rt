@@ -4,7 +4,7 @@
 
 pub use fault::NewFault;
 pub use grip::Grip;
-pub use law::steps_are_the_machines;
+pub use law::{side_steps_stay, steps_are_the_machines};
 pub use places::CELL_LEN;
 pub use words::Words;
 

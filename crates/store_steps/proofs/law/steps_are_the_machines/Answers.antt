@@ -24,3 +24,6 @@ returns-clause-length c = lengths.length_is_length
 
 pub returns-clause-load : goal.returns-clause-load
 returns-clause-load c = loads.load_is_load
+
+pub returns-clause-too_large : goal.returns-clause-too_large
+returns-clause-too_large c = lengths.look_is_too_large
