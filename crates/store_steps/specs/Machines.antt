@@ -1,5 +1,5 @@
 -- Which machine of schedules a table stands for, and that each step on its words is the machine's step of its name.
-use Rattle.std.specs.Prelude.{◌≡◌, ◌⊎◌, ℕ, ◌+◌, ◌*◌, ◌/◌, ◌%◌, ◌^◌, ◌<◌, ◌≤◌, ◌↔◌, nat_lt, ◌==◌, true, ◌&&◌, ◌||◌, List, [], ◌∷◌, Option, None, Some, is_some, bit_and, bit_or, ◌++◌, length, replicate, slice_index, if◌then◌else◌}
+use Rattle.std.specs.Prelude.{◌≡◌, ◌⊎◌, ℕ, ◌+◌, ◌*◌, ◌/◌, ◌%◌, ◌^◌, ◌<◌, ◌≤◌, ◌↔◌, nat_lt, ◌==◌, true, ◌&&◌, ◌||◌, List, [], ◌∷◌, Option, None, Some, is_some, bit_and, bit_or, ◌++◌, length, replicate, slice_index, slice_set, if◌then◌else◌}
 use Rattle.std.specs.Int.{bit_not, w64}
 use mathlib.Core.Option.{some}
 use lib.ListN.{get_elem?}
@@ -25,11 +25,11 @@ use Rattle.store_core.specs.Pieces.{EndsBlob, length_of}
 use Rattle.store_core.specs.Schedules.{AreTexts, IsLegalStep, IsReply, IsWritten, after_step, end_reply, is_last_load, read_after, read_before}
 use Rattle.store_core.specs.Served.{IsPart, IsServed}
 use Rattle.store_core.specs.States.{State}
-use Rattle.store_core.specs.Views.{seat_claims, stored}
+use Rattle.store_core.specs.Views.{seat_claims, split_first, split_second, stored}
 use Rattle.store_steps.specs.Asks.{AreClaimed, AreHeldClaims, AreWritten}
 use Rattle.store_steps.specs.Grips.{opening_view}
 use Rattle.store_steps.specs.Layout.{cell_at, cell_place, claim_place, claim_word, held_word, length_code, length_place, length_word, word_count}
-use Rattle.store_steps.specs.Plays.{Answers, Copies, Gives, Loads, Publishes, Settles, Takes, length_in}
+use Rattle.store_steps.specs.Plays.{Answers, Copies, Gives, Loads, Parts, Publishes, Settles, Takes, length_in}
 use Rattle.store_steps.specs.Reads.{read_events}
 use Rattle.store_steps.specs.Rule.{HasView, IsKept}
 use Rattle.store_steps.specs.Tells.{Looked, Stores, event_of}
@@ -188,3 +188,17 @@ abbrev pub AbsentStays : Type 0
 AbsentStays = (fixed : Fixed) (pieces : List Checked) (table : Table Unit (List SeatView)) (m : Machine) (seat place group mask : ℕ) (piece : Piece) (view new : SeatView)
     → IsAtMachine fixed pieces table m seat view → Gives group mask 0 view new ⊎ Publishes group piece 0 view new
     → StandsForMachine fixed (after_load table place seat new) m
+
+-- The table after a seat with one view parted: a new seat has the second view.
+abbrev pub parted_table : Table Unit (List SeatView) → ℕ → SeatView → Table Unit (List SeatView)
+parted_table table seat view = record {
+  words = table.words;
+  homes = table.homes;
+  views = slice_set table.views seat (split_first view ∷ []) ++ (split_second view ∷ []) ∷ [];
+}
+
+-- A part leaves the machine, at its load and where the new seat comes: it claims nothing.
+abbrev pub PartStays : Type 0
+PartStays = (fixed : Fixed) (pieces : List Checked) (table : Table Unit (List SeatView)) (m : Machine) (seat place : ℕ) (view new : SeatView)
+    → IsAtMachine fixed pieces table m seat view → Parts view new
+    → StandsForMachine fixed (after_load table place seat new) m × StandsForMachine fixed (parted_table table seat view) m

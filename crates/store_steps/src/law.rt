@@ -1,4 +1,4 @@
-ghost use Rattle.store_steps.specs.Machines.{AbsentStays, CopyStays, GiveIsGiveBack, HashIsNoStep, LengthIsLength, LoadIsLoad, LookIsTooLarge, LookStays, OpeningIsStart, PublishIsPublish, SettleIsSettle, StoreIsWrite, TakeIsClaim};
+ghost use Rattle.store_steps.specs.Machines.{AbsentStays, CopyStays, GiveIsGiveBack, HashIsNoStep, LengthIsLength, LoadIsLoad, LookIsTooLarge, LookStays, OpeningIsStart, PartStays, PublishIsPublish, SettleIsSettle, StoreIsWrite, TakeIsClaim};
 
 /// Each step on the words is the step of its name of the machine of schedules: where words and views stand for a machine,
 /// and the rule holds, the step is legal there, its reply is the machine's, and afterwards words and views stand for the
@@ -15,11 +15,12 @@ pub fn steps_are_the_machines()
 {}
 
 /// New words stand for the machine's start. Its Hash is no step on the words, and loads that stand in for a step, copies,
-/// and calls for a group that isn't there leave the machine. A law: nothing runs.
+/// calls for a group that isn't there, and parts leave the machine. A law: nothing runs.
 pub fn side_steps_stay()
     ensures opening { OpeningIsStart }
     ensures hash { HashIsNoStep }
     ensures look { LookStays }
     ensures copy { CopyStays }
     ensures absent { AbsentStays }
+    ensures part { PartStays }
 {}

@@ -15,3 +15,6 @@ returns-clause-copy c = sides.copy_stays
 
 pub returns-clause-absent : goal.returns-clause-absent
 returns-clause-absent c = sides.absent_stays
+
+pub returns-clause-part : goal.returns-clause-part
+returns-clause-part c = sides.part_stays
