@@ -29,8 +29,8 @@ use Rattle.store_core.proofs.Stepping.{shown_or}
 use Rattle.store_core.proofs.Tells.{masked}
 use Rattle.store_steps.specs.Asks.{AreWritten}
 use Rattle.store_steps.specs.Layout.{cell_at, cell_place, claim_place, held_word, length_place}
-use Rattle.store_steps.specs.Machines.{PublishIsPublish, StoreIsWrite}
 use Rattle.store_steps.specs.Rule.{Fits, IsKept}
+use Rattle.store_steps.specs.Simulates.{PublishIsPublish, StoreIsWrite}
 use Rattle.store_steps.proofs.ClaimSteps.{claims_less}
 use Rattle.store_steps.proofs.Simulating.{low, others_not, read_on, seat_is, stands_after, stays_stored, still_read, stored_is}
 use Rattle.store_steps.proofs.Standing.{left, put}

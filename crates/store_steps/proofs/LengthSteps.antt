@@ -18,8 +18,9 @@ use Rattle.store_core.specs.Schedules.{HasTail, IsLegalStep, IsReply, after_step
 use Rattle.store_core.specs.Views.{stored}
 use Rattle.store_core.proofs.Running.{one_step}
 use Rattle.store_steps.specs.Layout.{cell_place, claim_place, length_code, length_place, length_word}
-use Rattle.store_steps.specs.Machines.{LengthIsLength, LookIsTooLarge, SettleIsSettle, StandsForMachine, after_load}
+use Rattle.store_steps.specs.Machines.{StandsForMachine}
 use Rattle.store_steps.specs.Plays.{length_in}
+use Rattle.store_steps.specs.Simulates.{LengthIsLength, LookIsTooLarge, SettleIsSettle, after_load}
 use Rattle.store_steps.proofs.Looking.{length_back}
 use Rattle.store_steps.proofs.Settling.{word_then}
 use Rattle.store_steps.proofs.Simulating.{read_on, seat_is, stands_after, stays_after, stored_is}

@@ -30,10 +30,11 @@ use Rattle.store_core.proofs.ReadLaws.{is_read, read_is}
 use Rattle.store_core.proofs.Running.{IsBefore, before_is, loaded_part, one_step, past_none}
 use Rattle.store_core.proofs.Served.{chunk_fits, chunk_valid}
 use Rattle.store_steps.specs.Layout.{cell_at, claim_word, held_word, length_word}
-use Rattle.store_steps.specs.Machines.{IsAtMachine, IsUnderWay, LoadIsLoad, load_events, load_reply}
+use Rattle.store_steps.specs.Machines.{IsAtMachine, IsUnderWay}
 use Rattle.store_steps.specs.Plays.{Loads}
 use Rattle.store_steps.specs.Reads.{group_end, is_last, read_events}
 use Rattle.store_steps.specs.Rule.{Fits, HasView, IsKept}
+use Rattle.store_steps.specs.Simulates.{LoadIsLoad, load_events, load_reply}
 use Rattle.store_steps.specs.Tells.{event_of}
 use Rattle.store_steps.proofs.LastLoad.{is_last-false, is_last-true}
 use Rattle.store_steps.proofs.Looking.{reads_quiet}

@@ -18,8 +18,9 @@ use Rattle.store_core.specs.Views.{seat_claims, split_first, split_second, store
 use Rattle.store_core.proofs.Joining.{split_keeps}
 use Rattle.store_core.proofs.Running.{one_step, start_served}
 use Rattle.store_steps.specs.Layout.{cell_place, claim_place, length_place, word_count}
-use Rattle.store_steps.specs.Machines.{AbsentStays, CopyStays, HashIsNoStep, LookStays, OpeningIsStart, PartStays, StandsForMachine, after_load}
+use Rattle.store_steps.specs.Machines.{StandsForMachine}
 use Rattle.store_steps.specs.Rule.{HasView}
+use Rattle.store_steps.specs.Simulates.{AbsentStays, CopyStays, HashIsNoStep, LookStays, OpeningIsStart, PartStays, after_load}
 use Rattle.store_steps.proofs.Bits.{has_bit-zero}
 use Rattle.store_steps.proofs.CellSteps.{seen_legal}
 use Rattle.store_steps.proofs.Lists.{one_part}

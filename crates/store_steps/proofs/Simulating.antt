@@ -20,8 +20,9 @@ use Rattle.store_core.specs.Views.{seat_claims, stored, without_chunks}
 use Rattle.store_core.proofs.Lasting.{legal-append, legal_is_sound, run-append}
 use Rattle.store_core.proofs.Served.{byte_lasts, claim_seat, claimed_hidden, seat_claim}
 use Rattle.store_steps.specs.Layout.{cell_at, claim_word, held_word, length_code, length_word}
-use Rattle.store_steps.specs.Machines.{HasClaim, HasRead, HasStored, IsAtMachine, IsUnderWay, StandsForMachine, after_load}
+use Rattle.store_steps.specs.Machines.{HasClaim, HasRead, HasStored, IsAtMachine, IsUnderWay, StandsForMachine}
 use Rattle.store_steps.specs.Rule.{HasView}
+use Rattle.store_steps.specs.Simulates.{after_load}
 use Rattle.store_steps.specs.Tells.{GoesOn}
 use Rattle.store_steps.proofs.Lists.{one_part}
 

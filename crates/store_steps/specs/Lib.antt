@@ -9,3 +9,4 @@ pub mod Asks
 pub mod Words
 pub mod Faults
 pub mod Machines
+pub mod Simulates

@@ -1,4 +1,4 @@
-ghost use Rattle.store_steps.specs.Machines.{AbsentStays, CopyStays, GiveIsGiveBack, HashIsNoStep, LengthIsLength, LoadIsLoad, LookIsTooLarge, LookStays, OpeningIsStart, PartStays, PublishIsPublish, SettleIsSettle, StoreIsWrite, TakeIsClaim};
+ghost use Rattle.store_steps.specs.Simulates.{AbsentStays, CopyStays, GiveIsGiveBack, HashIsNoStep, LengthIsLength, LoadIsLoad, LookIsTooLarge, LookStays, OpeningIsStart, PartStays, PublishIsPublish, SettleIsSettle, StoreIsWrite, TakeIsClaim};
 
 /// Each step on the words is the step of its name of the machine of schedules: where words and views stand for a machine,
 /// and the rule holds, the step is legal there, its reply is the machine's, and afterwards words and views stand for the
