@@ -19,3 +19,9 @@ pub mod Meeting
 pub mod Going
 pub mod LastLoad
 pub mod OneByte
+pub mod Simulating
+pub mod ClaimSteps
+pub mod CellSteps
+pub mod LengthSteps
+pub mod LoadSteps
+pub mod SideSteps

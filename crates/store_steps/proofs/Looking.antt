@@ -26,7 +26,7 @@ use Rattle.store_steps.proofs.Stepping.{Steps, fitting, look_step, still_step}
 reads_right : (fixed : Fixed) (view : SeatView) (group at len : ℕ) (s : State) → AreLegalFrom fixed s (read_events view group at len s)
 reads_right fixed view group at len s = elim (cases_Bool (is_last view.fixed group at len s)) [ inl last ↦ rw last (refl, tt) | inr more ↦ rw more tt ]
 
-reads_quiet : (view : SeatView) (group at len : ℕ) (s : State) → run s (read_events view group at len s) ≡ s
+pub reads_quiet : (view : SeatView) (group at len : ℕ) (s : State) → run s (read_events view group at len s) ≡ s
 reads_quiet view group at len s = elim (cases_Bool (is_last view.fixed group at len s)) [ inl last ↦ rw last refl | inr more ↦ rw more refl ]
 
 reads_by : (view : SeatView) (group at len : ℕ) (s : State) → AreBy (names_of view) (read_events view group at len s)

@@ -17,10 +17,10 @@ use Rattle.store_steps.specs.Rule.{AreDistinct, Fits, HasView, IsKept, IsNamed, 
 use Rattle.store_steps.proofs.Bits.{has_bit-zero}
 use Rattle.store_steps.proofs.Lists.{one_part}
 
-zero_at : (count i : ℕ) → i < count → slice_index (replicate count 0) i ≡ 0
+pub zero_at : (count i : ℕ) → i < count → slice_index (replicate count 0) i ≡ 0
 zero_at count i within = get_or-replicate count i 0 0 within
 
-zero_bit : (count i j : ℕ) → i < count → has_bit (slice_index (replicate count 0) i) j ≡ false
+pub zero_bit : (count i j : ℕ) → i < count → has_bit (slice_index (replicate count 0) i) j ≡ false
 zero_bit count i j within = ap (λ (w : ℕ). has_bit w j) (zero_at count i within) ∙ has_bit-zero j
 
 zeros_stand : (fixed : Fixed) → StandFor fixed (replicate (word_count fixed) 0) empty
@@ -33,7 +33,7 @@ zeros_stand fixed = record {
 }
 
 -- the only view is the first seat's
-the_view : (fixed : Fixed) (seat part : ℕ) (view : SeatView) → HasView ((opening_view fixed ∷ []) ∷ []) seat part view
+pub the_view : (fixed : Fixed) (seat part : ℕ) (view : SeatView) → HasView ((opening_view fixed ∷ []) ∷ []) seat part view
     → (seat ≡ 0) × (part ≡ 0) × (view ≡ opening_view fixed)
 the_view fixed zero part view h =
     let parts : opening_view fixed ∷ [] ≡ h.parts = some-injective (opening_view fixed ∷ []) h.parts h.is_seat in

@@ -26,7 +26,7 @@ use Rattle.store_steps.proofs.Standing.{left, length_stands}
 use Rattle.store_steps.proofs.Stepping.{Steps, did_step, fitting}
 
 -- the word after the exchange is that of the length recorded then
-word_then : (o : Option ℕ) (l : ℕ) → either (length_code o == 0) (l + 1) (length_code o) ≡ length_code (recorded_after (settling o l) l o)
+pub word_then : (o : Option ℕ) (l : ℕ) → either (length_code o == 0) (l + 1) (length_code o) ≡ length_code (recorded_after (settling o l) l o)
 word_then None l = refl
 word_then (Some m) l =
     let some : (m + 1 == 0) ≡ false = ne_eqb (m + 1) 0 (λ e. omega (arith, e)) in

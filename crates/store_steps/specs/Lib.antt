@@ -8,3 +8,5 @@ pub mod Plays
 pub mod Asks
 pub mod Words
 pub mod Faults
+pub mod Machines
+pub mod Simulates

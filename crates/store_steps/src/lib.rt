@@ -4,12 +4,14 @@
 
 pub use fault::NewFault;
 pub use grip::Grip;
+pub use law::{side_steps_stay, steps_are_the_machines};
 pub use places::CELL_LEN;
 pub use words::Words;
 
 mod fault;
 mod grip;
 mod joins;
+mod law;
 mod lengths;
 mod places;
 mod plays;

@@ -1,0 +1,213 @@
+-- What a step of a seat with one view changes, and that the table then stands for the machine after it.
+use Rattle.std.proofs.Common.{◌≡◌, ◌≢◌, ℕ, zero, suc, ◌+◌, ◌*◌, ◌/◌, ◌%◌, ◌<◌, ◌==◌, true, false, ◌||◌, List, [], ◌∷◌, Option, Some, is_some, option_map, set, refl, sym, ap, subst, ◌∙◌, inl, inr, eqb-true, ◌++◌, append_assoc, slice_index}
+use Rattle.std.proofs.lemmas.Bool.{both_ways, cases_Bool, cases_eq, false_from_ne_true}
+use Rattle.std.proofs.lemmas.List.{set-get_or}
+use mathlib.Core.Option.{some, some-injective, some-ne-none}
+use lib.ListN.{get_elem?}
+use Rattle.atomic_table.specs.Table.{State as Table, keeps, stepped}
+use Rattle.atomic_table.proofs.Lists.{set_else}
+use Rattle.bao_check.specs.declared.checked.Checked.{Checked}
+use Rattle.store_core.specs.declared.fixed.Fixed.{Fixed}
+use Rattle.store_core.specs.declared.history.Event.{Event}
+use Rattle.store_core.specs.declared.view.SeatView.{SeatView}
+use Rattle.store_core.specs.declared.view.StoredWord.{StoredWord}
+use Rattle.store_core.specs.Histories.{IsLegal, state_after}
+use Rattle.store_core.specs.Machine.{Machine, Reading, groups, is_number, is_shown, seat_has}
+use Rattle.store_core.specs.Masks.{has_bit, in_mask}
+use Rattle.store_core.specs.Served.{IsServed}
+use Rattle.store_core.specs.States.{State, byte_at, empty}
+use Rattle.store_core.specs.Views.{seat_claims, stored, without_chunks}
+use Rattle.store_core.proofs.Lasting.{legal-append, legal_is_sound, run-append}
+use Rattle.store_core.proofs.Served.{byte_lasts, claim_seat, claimed_hidden, seat_claim}
+use Rattle.store_steps.specs.Layout.{cell_at, claim_word, held_word, length_code, length_word}
+use Rattle.store_steps.specs.Machines.{HasClaim, HasRead, HasStored, IsAtMachine, IsUnderWay, StandsForMachine}
+use Rattle.store_steps.specs.Rule.{HasView}
+use Rattle.store_steps.specs.Simulates.{after_load}
+use Rattle.store_steps.specs.Tells.{GoesOn}
+use Rattle.store_steps.proofs.Lists.{one_part}
+
+-- a seat that has other views
+pub set_at : {A : Type 0} (xs : List A) (i : ℕ) (x y : A) → get_elem? xs i ≡ some x → get_elem? (set xs i y) i ≡ some y
+set_at [] i x y h = absurd (some-ne-none x (sym h))
+set_at (z ∷ xs) zero x y h = refl
+set_at (z ∷ xs) (suc i) x y h = set_at xs i x y h
+
+-- what still counts as stored of a chunk whose claim goes on
+pub stays_stored : (group mask number : ℕ) (words : List StoredWord) → in_mask group mask (number / 129) ≡ false
+    → stored (without_chunks group mask words) number ≡ stored words number
+stays_stored group mask number [] miss = refl
+stays_stored group mask number (w ∷ words) miss = elim (cases_Bool (in_mask group mask (w.number / 129))) [
+  | inl gone ↦
+      let other : (w.number == number) ≡ false = false_from_ne_true _ (λ e.
+      both_ways _ miss (subst (λ (n : ℕ). in_mask group mask (n / 129) ≡ true) (eqb-true w.number number e) gone)) in
+      rw (gone, other) (stays_stored group mask number words miss)
+  | inr stays ↦ elim (cases_Bool (w.number == number)) [
+    | inl here ↦ rw (stays, here) refl
+    | inr other ↦ rw (stays, other) (stays_stored group mask number words miss)
+  ]
+]
+
+-- a chunk that is claimed by the seat with this number
+pub claimer_of : (m : Machine) (n c : ℕ) → m.claim c ≡ Some n → seat_has m n c ≡ true
+claimer_of m n c is = ap (λ (o : Option ℕ). is_number n o) is ∙ claim_seat n
+
+module _ (fixed : Fixed) (pieces : List Checked) (s : Table Unit (List SeatView)) (m : Machine) (id : ℕ) (view : SeatView) (here : IsAtMachine fixed pieces s m id view) where
+  -- the seat's one view
+  the_view : (part : ℕ) (v : SeatView) → HasView s.views id part v → v ≡ view
+  the_view part v h =
+      let parts : h.parts ≡ view ∷ [] = some-injective h.parts (view ∷ []) (sym h.is_seat ∙ here.is_seat) in
+      (one_part view v part (subst (λ (vs : List SeatView). get_elem? vs part ≡ some v) parts h.is_part)).1
+
+  -- what it claims and what it stored
+  pub seat_is : (c : ℕ) → seat_has m id c ≡ seat_claims view c
+  seat_is c = elim (cases_Bool (seat_claims view c)) [
+    | inl ours ↦
+        let has : HasClaim s.views id c = record { part = 0; view = view; has = record { parts = view ∷ []; is_seat = here.is_seat; is_part = refl }; claims = ours } in
+        claimer_of m id c ((here.stands.claims id c).1 has) ∙ sym ours
+    | inr other ↦
+        false_from_ne_true _ (λ ours.
+        let k : HasClaim s.views id c = (here.stands.claims id c).0 (seat_claim id (m.claim c) ours) in
+        both_ways _ other (subst (λ (v : SeatView). seat_claims v c ≡ true) (the_view k.part k.view k.has) k.claims))
+        ∙ sym other
+  ]
+
+  pub stored_is : (c w : ℕ) → (m.seat id).written c w ≡ true → m.claim c ≡ Some id → w < 129 → stored view.written (129 * c + w) ≡ Some (m.cell c w)
+  stored_is c w wrote ours below =
+      let k : HasStored s.views id (129 * c + w) (m.cell c w) = here.stands.written id c w wrote ours below in
+      subst (λ (v : SeatView). stored v.written (129 * c + w) ≡ Some (m.cell c w)) (the_view k.part k.view k.has) k.is
+
+  pub read_is_of : (r : Reading) → (m.seat id).reading ≡ Some r → IsUnderWay fixed view r
+  read_is_of r is =
+      let k : HasRead fixed s.views id r = here.stands.reads id r is in
+      subst (λ (v : SeatView). IsUnderWay fixed v r) (the_view k.part k.view k.has) k.under_way
+
+  -- it is so of what is seen later
+  pub still_read : (new : SeatView) (more : List Event) → new.fixed ≡ view.fixed → new.seen ≡ view.seen ++ more → IsLegal new.fixed new.seen
+      → (r : Reading) → (m.seat id).reading ≡ Some r → IsUnderWay fixed new r
+  still_read new more same is legal r reading =
+      let old : IsUnderWay fixed view r = read_is_of r reading in
+      let whole : IsLegal view.fixed (view.seen ++ more) = subst (λ (f : Fixed). IsLegal f (view.seen ++ more)) same (subst (λ (h : List Event). IsLegal new.fixed h) is legal) in
+      let parts = legal-append view.fixed empty view.seen more whole in
+      record {
+        part = record {
+          within = old.part.within;
+          held = λ i h.
+              ap (λ (t : List Event). byte_at (state_after t) (r.at + i)) is ∙ ap (λ (t : State). byte_at t (r.at + i)) (run-append empty view.seen more)
+              ∙ byte_lasts view.fixed (state_after view.seen) more (legal_is_sound view.fixed view.seen parts.0) parts.1 (r.at + i) (slice_index r.bytes i) (old.part.held i h);
+        };
+        more = old.more;
+        below = old.below;
+      }
+
+  pub read_on : (new : SeatView) (between own : List Event) → GoesOn view new between own → (r : Reading) → (m.seat id).reading ≡ Some r → IsUnderWay fixed new r
+  read_on new between own on r reading =
+      still_read new (between ++ own) on.fixed_is (on.seen_is ∙ append_assoc view.seen between own) on.legal r reading
+
+  -- what it claims isn't shown, and lies below the capacity
+  pub hidden : (c : ℕ) → seat_has m id c ≡ true → is_shown m c ≡ false
+  hidden c ours = claimed_hidden fixed m id c here.stands.served.sound ours
+
+  pub low : (c : ℕ) → seat_has m id c ≡ true → c < fixed.capacity
+  low c ours = here.stands.served.sound.claimed_below c (ap (λ (o : Option ℕ). is_some (option_map (λ (n : ℕ). n ∷ []) o)) (seat_claim id (m.claim c) ours))
+
+  -- another seat doesn't claim what it does
+  pub others_not : (k c : ℕ) → k ≢ id → seat_has m id c ≡ true → seat_has m k c ≡ false
+  others_not k c other ours = false_from_ne_true _ (λ theirs.
+      let same : Some id ≡ Some k = sym (seat_claim id (m.claim c) ours) ∙ seat_claim k (m.claim c) theirs in
+      let never : k ≡ id = cc in
+      other never)
+
+  module _ (new : SeatView) where
+    abbrev later : List (List SeatView)
+    later = set s.views id (new ∷ [])
+
+    its_new : HasView later id 0 new
+    its_new = record { parts = new ∷ []; is_seat = set_at s.views id (view ∷ []) (new ∷ []) here.is_seat; is_part = refl }
+
+    new_view : (part : ℕ) (v : SeatView) → HasView later id part v → v ≡ new
+    new_view part v h =
+        let parts : h.parts ≡ new ∷ [] = some-injective h.parts (new ∷ []) (sym h.is_seat ∙ set_at s.views id (view ∷ []) (new ∷ []) here.is_seat) in
+        (one_part new v part (subst (λ (vs : List SeatView). get_elem? vs part ≡ some v) parts h.is_part)).1
+
+    other_has : (k part : ℕ) (v : SeatView) → k ≢ id → HasView s.views k part v → HasView later k part v
+    other_has k part v other h = record { parts = h.parts; is_seat = set_else s.views id k (new ∷ []) other ∙ h.is_seat; is_part = h.is_part }
+
+    other_had : (k part : ℕ) (v : SeatView) → k ≢ id → HasView later k part v → HasView s.views k part v
+    other_had k part v other h = record { parts = h.parts; is_seat = sym (set_else s.views id k (new ∷ []) other) ∙ h.is_seat; is_part = h.is_part }
+
+    module _ (next : Machine) (ours : (c : ℕ) → seat_has next id c ≡ seat_claims new c) (others : (k c : ℕ) → k ≢ id → seat_has next k c ≡ seat_has m k c) where
+      claimed_by : (k c : ℕ) → next.claim c ≡ Some k → HasClaim later k c
+      claimed_by k c is = elim (cases_eq k id) [
+        | inl its ↦
+            let has : seat_has next id c ≡ true = claimer_of next id c (is ∙ ap (λ (x : ℕ). Some x) its) in
+            subst (λ (x : ℕ). HasClaim later x c) (sym its) (record { part = 0; view = new; has = its_new; claims = sym (ours c) ∙ has })
+        | inr other ↦
+            let had : HasClaim s.views k c = (here.stands.claims k c).0 (seat_claim k (m.claim c) (sym (others k c other) ∙ claimer_of next k c is)) in
+            record { part = had.part; view = had.view; has = other_has k had.part had.view other had.has; claims = had.claims }
+      ]
+
+      claims_it : (k c : ℕ) → HasClaim later k c → next.claim c ≡ Some k
+      claims_it k c has = elim (cases_eq k id) [
+        | inl its ↦
+            let view_is : has.view ≡ new = new_view has.part has.view (subst (λ (x : ℕ). HasView later x has.part has.view) its has.has) in
+            seat_claim id (next.claim c) (ours c ∙ subst (λ (v : SeatView). seat_claims v c ≡ true) view_is has.claims) ∙ ap (λ (x : ℕ). Some x) (sym its)
+        | inr other ↦
+            let had : HasClaim s.views k c = record { part = has.part; view = has.view; has = other_had k has.part has.view other has.has; claims = has.claims } in
+            seat_claim k (next.claim c) (others k c other ∙ claimer_of m k c ((here.stands.claims k c).1 had))
+      ]
+
+      pub stands_after : (i n : ℕ) → IsServed fixed next
+          → ((c w : ℕ) → c < fixed.capacity → w < 129 → cell_at fixed (set s.words i n) (129 * c + w) ≡ next.cell c w)
+          → ((group : ℕ) → group < groups fixed → held_word (set s.words i n) group ≡ next.held_word group)
+          → ((c : ℕ) → c / 64 < groups fixed → has_bit (claim_word fixed (set s.words i n) (c / 64)) (c % 64) ≡ (is_shown next c || is_some (next.claim c)))
+          → length_word fixed (set s.words i n) ≡ length_code next.recorded
+          → ((c w : ℕ) → (next.seat id).written c w ≡ true → next.claim c ≡ Some id → w < 129 → stored new.written (129 * c + w) ≡ Some (next.cell c w))
+          → ((k c w : ℕ) → k ≢ id → (next.seat k).written c w ≡ true → m.claim c ≡ Some k → w < 129 → ((m.seat k).written c w ≡ true) × (next.cell c w ≡ m.cell c w))
+          → ((r : Reading) → (next.seat id).reading ≡ Some r → IsUnderWay fixed new r)
+          → ((k : ℕ) → k ≢ id → (next.seat k).reading ≡ (m.seat k).reading)
+          → StandsForMachine fixed (stepped s i n id [] (new ∷ []) keeps) next
+      stands_after i n served cells held claimed recorded wrote theirs reads others_read = record {
+        served = served;
+        cells = cells;
+        held = held;
+        claimed = claimed;
+        recorded = recorded;
+        claims = λ k c. (claimed_by k c, claims_it k c);
+        written = λ k c w is by below. elim (cases_eq k id) [
+          | inl its ↦
+              subst (λ (x : ℕ). HasStored later x (129 * c + w) (next.cell c w)) (sym its) (record {
+                part = 0;
+                view = new;
+                has = its_new;
+                is = wrote c w (subst (λ (x : ℕ). (next.seat x).written c w ≡ true) its is) (by ∙ ap (λ (x : ℕ). Some x) its) below;
+              })
+          | inr other ↦
+              let claim : m.claim c ≡ Some k = seat_claim k (m.claim c) (sym (others k c other) ∙ claimer_of next k c by) in
+              let old = theirs k c w other is claim below in
+              let had : HasStored s.views k (129 * c + w) (m.cell c w) = here.stands.written k c w old.0 claim below in
+              record { part = had.part; view = had.view; has = other_has k had.part had.view other had.has; is = had.is ∙ ap (λ (x : ℕ). Some x) (sym old.1) }
+        ];
+        reads = λ k r is. elim (cases_eq k id) [
+          | inl its ↦
+              subst (λ (x : ℕ). HasRead fixed later x r) (sym its)
+              (record { part = 0; view = new; has = its_new; under_way = reads r (subst (λ (x : ℕ). (next.seat x).reading ≡ Some r) its is) })
+          | inr other ↦
+              let had : HasRead fixed s.views k r = here.stands.reads k r (sym (others_read k other) ∙ is) in
+              record { part = had.part; view = had.view; has = other_has k had.part had.view other had.has; under_way = had.under_way }
+        ];
+      }
+
+  -- a load leaves the words: the table stands for the same machine where the seat's claims and stored words stay
+  pub stays_after : (new : SeatView) (place : ℕ) → ((c : ℕ) → seat_claims new c ≡ seat_claims view c)
+      → ((number : ℕ) → stored new.written number ≡ stored view.written number)
+      → ((r : Reading) → (m.seat id).reading ≡ Some r → IsUnderWay fixed new r) → StandsForMachine fixed (after_load s place id new) m
+  stays_after new place claims written reads =
+      let same : set s.words place (slice_index s.words place) ≡ s.words = set-get_or s.words place 0 in
+      stands_after new m (λ c. seat_is c ∙ sym (claims c)) (λ k c other. refl) place (slice_index s.words place) here.stands.served
+      (λ c w below cell. ap (λ (words : List ℕ). cell_at fixed words (129 * c + w)) same ∙ here.stands.cells c w below cell)
+      (λ g there. ap (λ (words : List ℕ). held_word words g) same ∙ here.stands.held g there)
+      (λ c there. ap (λ (words : List ℕ). has_bit (claim_word fixed words (c / 64)) (c % 64)) same ∙ here.stands.claimed c there)
+      (ap (λ (words : List ℕ). length_word fixed words) same ∙ here.stands.recorded)
+      (λ c w wrote by below. written (129 * c + w) ∙ stored_is c w wrote by below)
+      (λ k c w other wrote by below. (wrote, refl))
+      reads (λ k other. refl)

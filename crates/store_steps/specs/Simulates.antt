@@ -1,0 +1,146 @@
+-- Each step on the words is the machine's step of its name, and what is no step of the machine leaves it.
+use Rattle.std.specs.Prelude.{◌≡◌, ◌⊎◌, ℕ, ◌+◌, ◌*◌, ◌%◌, ◌^◌, ◌<◌, ◌≤◌, nat_lt, ◌==◌, true, ◌&&◌, List, [], ◌∷◌, Option, None, Some, bit_and, bit_or, ◌++◌, replicate, slice_index, slice_set, if◌then◌else◌}
+use Rattle.std.specs.Int.{bit_not, w64}
+use prog.Atomic.{either}
+use Rattle.atomic_table.specs.Table.{State as Table, keeps, opening, stepped}
+use Rattle.bao_check.specs.declared.checked.Checked.{Checked}
+use Rattle.store_core.specs.declared.fixed.Fixed.{Fixed}
+use Rattle.store_core.specs.declared.history.Call.TheVariants.{Read}
+use Rattle.store_core.specs.declared.history.Event.{Event}
+use Rattle.store_core.specs.declared.history.Piece.{Piece}
+use Rattle.store_core.specs.declared.history.Settling.TheVariants.{TooLarge}
+use Rattle.store_core.specs.declared.micro.MicroStep.TheVariants.{Claim, GiveBack, Hash, Length, Load, Publish, Settle, Write}
+use Rattle.store_core.specs.declared.micro.Reply.{Reply}
+use Rattle.store_core.specs.declared.micro.Reply.TheVariants.{Committed, Given, Granted, LengthIs, Settling}
+use Rattle.store_core.specs.declared.view.SeatView.{SeatView}
+use Rattle.store_core.specs.Cells.{cell_word}
+use Rattle.store_core.specs.Events.{settling}
+use Rattle.store_core.specs.Histories.{state_after}
+use Rattle.store_core.specs.Machine.{Machine, current_bytes, current_holds, groups, loaded_group, start}
+use Rattle.store_core.specs.Masks.{IsMaskOf, has_bit}
+use Rattle.store_core.specs.Pieces.{EndsBlob, length_of}
+use Rattle.store_core.specs.Schedules.{AreTexts, IsLegalStep, IsWritten, after_step, end_reply, is_last_load, read_after, read_before}
+use Rattle.store_core.specs.States.{State}
+use Rattle.store_core.specs.Views.{seat_claims, split_first, split_second}
+use Rattle.store_steps.specs.Asks.{AreClaimed, AreHeldClaims, AreWritten}
+use Rattle.store_steps.specs.Grips.{opening_view}
+use Rattle.store_steps.specs.Layout.{cell_at, cell_place, claim_place, claim_word, held_word, length_place, length_word, word_count}
+use Rattle.store_steps.specs.Machines.{IsAtMachine, IsMachineStep, StandsForMachine}
+use Rattle.store_steps.specs.Plays.{Answers, Copies, Gives, Loads, Parts, Publishes, Settles, Takes, length_in}
+use Rattle.store_steps.specs.Reads.{read_events}
+use Rattle.store_steps.specs.Rule.{IsKept}
+use Rattle.store_steps.specs.Tells.{Looked, Stores, event_of}
+
+-- Take is Claim: an or on the claim word with the wanted chunks below the capacity.
+abbrev pub TakeIsClaim : Type 0
+TakeIsClaim = (fixed : Fixed) (pieces : List Checked) (table : Table Unit (List SeatView)) (m : Machine) (seat group want asked : ℕ) (view new : SeatView)
+    → IsAtMachine fixed pieces table m seat view → group < groups fixed → IsMaskOf group asked (λ c. has_bit want (c % 64) && nat_lt c fixed.capacity)
+    → claim_word fixed table.words group < 2 ^ 64 → Takes group want asked (claim_word fixed table.words group) view new
+    → IsMachineStep fixed pieces table (claim_place fixed group) (bit_or (claim_word fixed table.words group) asked) seat new m
+    (Claim seat group want) (Some (Granted (bit_and asked (bit_not w64 (claim_word fixed table.words group)))))
+
+-- Give is GiveBack: an and on the claim word.
+abbrev pub GiveIsGiveBack : Type 0
+GiveIsGiveBack = (fixed : Fixed) (pieces : List Checked) (table : Table Unit (List SeatView)) (m : Machine) (seat group mask given : ℕ) (view new : SeatView)
+    → IsAtMachine fixed pieces table m seat view → group < groups fixed → AreClaimed view group mask given
+    → claim_word fixed table.words group < 2 ^ 64 → Gives group mask given view new
+    → IsMachineStep fixed pieces table (claim_place fixed group) (bit_and (claim_word fixed table.words group) (bit_not w64 given)) seat new m
+    (GiveBack seat group mask) (Some (Given given))
+
+-- A store of the word that the seat's current piece has there is Write.
+abbrev pub StoreIsWrite : Type 0
+StoreIsWrite = (fixed : Fixed) (pieces : List Checked) (table : Table Unit (List SeatView)) (m : Machine) (seat c w value : ℕ) (view new : SeatView)
+    → IsAtMachine fixed pieces table m seat view → w < 129 → seat_claims view c ≡ true → current_holds (m.seat seat).piece c ≡ true
+    → value ≡ cell_word (current_bytes (m.seat seat).piece c) w → Stores c w value view new
+    → IsMachineStep fixed pieces table (cell_place fixed (129 * c + w)) value seat new m (Write seat c w) None
+
+-- Publish, of the seat's current piece, all of whose words were written: an or on the held word. So all were stored.
+abbrev pub PublishIsPublish : Type 0
+PublishIsPublish = (fixed : Fixed) (pieces : List Checked) (table : Table Unit (List SeatView)) (m : Machine) (seat group mask : ℕ) (piece : Piece) (view new : SeatView)
+    → IsAtMachine fixed pieces table m seat view → group < groups fixed → (m.seat seat).piece ≡ Some piece → IsWritten m seat group
+    → AreHeldClaims view group piece mask → Publishes group piece mask view new
+    → AreWritten view.written group mask piece
+    × IsMachineStep fixed pieces table group (bit_or (held_word table.words group) mask) seat new m (Publish seat group) (Some (Committed mask))
+
+-- Settle, by the seat's current piece, whose length the store has room for: an exchange of the length word where it is 0.
+abbrev pub SettleIsSettle : Type 0
+SettleIsSettle = (fixed : Fixed) (pieces : List Checked) (table : Table Unit (List SeatView)) (m : Machine) (seat : ℕ) (piece : Piece) (view new : SeatView)
+    → IsAtMachine fixed pieces table m seat view → (m.seat seat).piece ≡ Some piece → EndsBlob piece → length_of piece ≤ 1024 * fixed.capacity
+    → Settles piece (length_word fixed table.words) view new
+    → IsMachineStep fixed pieces table (length_place fixed)
+    (either (length_word fixed table.words == 0) (length_of piece + 1) (length_word fixed table.words)) seat new m
+    (Settle seat) (Some (Settling (settling (length_in (length_word fixed table.words)) (length_of piece))))
+
+-- Length is Length: a load of the length word.
+abbrev pub LengthIsLength : Type 0
+LengthIsLength = (fixed : Fixed) (pieces : List Checked) (table : Table Unit (List SeatView)) (m : Machine) (seat : ℕ) (view new : SeatView)
+    → IsAtMachine fixed pieces table m seat view → Answers (length_word fixed table.words) view new
+    → IsMachineStep fixed pieces table (length_place fixed) (length_word fixed table.words) seat new m
+    (Length seat) (Some (LengthIs (length_in (length_word fixed table.words))))
+
+-- A load of the held word of the group where a read goes on is Load. It is the read's last where the machine's is, and
+-- then its event has the machine's bytes.
+abbrev pub load_reply : Fixed → Machine → ℕ → ℕ → ℕ → Option Reply
+load_reply fixed m seat at len = if is_last_load fixed m seat at len then Some (end_reply (read_after fixed m seat at len)) else None
+
+abbrev pub load_events : Fixed → Machine → ℕ → ℕ → ℕ → SeatView → List Event
+load_events fixed m seat at len view = if is_last_load fixed m seat at len then event_of view (Read at len (read_after fixed m seat at len).bytes) ∷ [] else []
+
+abbrev pub LoadIsLoad : Type 0
+LoadIsLoad = (fixed : Fixed) (pieces : List Checked) (table : Table Unit (List SeatView)) (m : Machine) (seat group at len : ℕ) (view new : SeatView)
+    → IsAtMachine fixed pieces table m seat view → group < groups fixed → IsLegalStep fixed pieces m (Load seat at len)
+    → group ≡ loaded_group fixed (read_before m seat at len) → (loads : Loads group at len (held_word table.words group) view new)
+    → IsKept fixed (stepped table group (held_word table.words group) seat [] (new ∷ []) keeps)
+    → IsMachineStep fixed pieces table group (held_word table.words group) seat new m (Load seat at len) (load_reply fixed m seat at len)
+    × (read_events view group at len (state_after (view.seen ++ loads.looked.between)) ≡ load_events fixed m seat at len view)
+
+-- Words of zeros and the first seat's view stand for the machine's start.
+abbrev pub OpeningIsStart : Type 0
+OpeningIsStart = (fixed : Fixed) → StandsForMachine fixed (opening (replicate (word_count fixed) 0) [] (opening_view fixed ∷ [])) start
+
+-- Hash is no step on the words.
+abbrev pub HashIsNoStep : Type 0
+HashIsNoStep = (fixed : Fixed) (pieces : List Checked) (table : Table Unit (List SeatView)) (m : Machine) (seat i : ℕ) → AreTexts pieces
+    → StandsForMachine fixed table m → IsLegalStep fixed pieces m (Hash seat i) → StandsForMachine fixed table (after_step fixed pieces m (Hash seat i) None)
+
+-- The table after a load of a seat with one view: its words are left.
+abbrev pub after_load : Table Unit (List SeatView) → ℕ → ℕ → SeatView → Table Unit (List SeatView)
+after_load table place seat new = stepped table place (slice_index table.words place) seat [] (new ∷ []) keeps
+
+-- A load at which a seat sees the history leaves the machine, whatever events it has.
+abbrev pub LookStays : Type 0
+LookStays = (fixed : Fixed) (pieces : List Checked) (table : Table Unit (List SeatView)) (m : Machine) (seat place : ℕ) (view new : SeatView) (events : State → List Event)
+    → IsAtMachine fixed pieces table m seat view → Looked events view new → StandsForMachine fixed (after_load table place seat new) m
+
+-- It is Settle where the length is one that the store has no room for.
+abbrev pub LookIsTooLarge : Type 0
+LookIsTooLarge = (fixed : Fixed) (pieces : List Checked) (table : Table Unit (List SeatView)) (m : Machine) (seat place : ℕ) (piece : Piece) (view new : SeatView)
+    (events : State → List Event) → IsAtMachine fixed pieces table m seat view → (m.seat seat).piece ≡ Some piece → EndsBlob piece
+    → 1024 * fixed.capacity < length_of piece → Looked events view new
+    → IsMachineStep fixed pieces table place (slice_index table.words place) seat new m (Settle seat) (Some (Settling TooLarge))
+
+-- A copy leaves the machine, and finds its word.
+abbrev pub CopyStays : Type 0
+CopyStays = (fixed : Fixed) (pieces : List Checked) (table : Table Unit (List SeatView)) (m : Machine) (seat c w : ℕ) (view new : SeatView)
+    → IsAtMachine fixed pieces table m seat view → c < fixed.capacity → w < 129 → Copies c w (cell_at fixed table.words (129 * c + w)) view new
+    → (cell_at fixed table.words (129 * c + w) ≡ m.cell c w) × StandsForMachine fixed (after_load table (cell_place fixed (129 * c + w)) seat new) m
+
+-- So does a load that stands for a give or a commit of a group that isn't there.
+abbrev pub AbsentStays : Type 0
+AbsentStays = (fixed : Fixed) (pieces : List Checked) (table : Table Unit (List SeatView)) (m : Machine) (seat place group mask : ℕ) (piece : Piece) (view new : SeatView)
+    → IsAtMachine fixed pieces table m seat view → Gives group mask 0 view new ⊎ Publishes group piece 0 view new
+    → StandsForMachine fixed (after_load table place seat new) m
+
+-- The table after a seat with one view parted: a new seat has the second view.
+abbrev pub parted_table : Table Unit (List SeatView) → ℕ → SeatView → Table Unit (List SeatView)
+parted_table table seat view = record {
+  words = table.words;
+  homes = table.homes;
+  views = slice_set table.views seat (split_first view ∷ []) ++ (split_second view ∷ []) ∷ [];
+}
+
+-- A part leaves the machine, at its load and where the new seat comes: it claims nothing.
+abbrev pub PartStays : Type 0
+PartStays = (fixed : Fixed) (pieces : List Checked) (table : Table Unit (List SeatView)) (m : Machine) (seat place : ℕ) (view new : SeatView)
+    → IsAtMachine fixed pieces table m seat view → Parts view new
+    → StandsForMachine fixed (after_load table place seat new) m × StandsForMachine fixed (parted_table table seat view) m

@@ -1,0 +1,26 @@
+ghost use Rattle.store_steps.specs.Simulates.{AbsentStays, CopyStays, GiveIsGiveBack, HashIsNoStep, LengthIsLength, LoadIsLoad, LookIsTooLarge, LookStays, OpeningIsStart, PartStays, PublishIsPublish, SettleIsSettle, StoreIsWrite, TakeIsClaim};
+
+/// Each step on the words is the step of its name of the machine of schedules: where words and views stand for a machine,
+/// and the rule holds, the step is legal there, its reply is the machine's, and afterwards words and views stand for the
+/// machine after it. A law: nothing runs.
+pub fn steps_are_the_machines()
+    ensures take { TakeIsClaim }
+    ensures give { GiveIsGiveBack }
+    ensures store { StoreIsWrite }
+    ensures publish { PublishIsPublish }
+    ensures load { LoadIsLoad }
+    ensures settle { SettleIsSettle }
+    ensures too_large { LookIsTooLarge }
+    ensures length { LengthIsLength }
+{}
+
+/// New words stand for the machine's start. Its Hash is no step on the words, and loads that stand in for a step, copies,
+/// calls for a group that isn't there, and parts leave the machine. A law: nothing runs.
+pub fn side_steps_stay()
+    ensures opening { OpeningIsStart }
+    ensures hash { HashIsNoStep }
+    ensures look { LookStays }
+    ensures copy { CopyStays }
+    ensures absent { AbsentStays }
+    ensures part { PartStays }
+{}
