@@ -1,5 +1,5 @@
 -- A buffer that is filled part by part.
-use Rattle.std.proofs.Common.{◌≡◌, ◌⊎◌, ℕ, ◌+◌, ◌-◌, ◌<◌, ◌≤◌, List, ◌++◌, length, take, drop, get_or, slice_index, Some, refl, sym, ap, subst, ◌∙◌, arith, inl, inr, append_assoc, length-take, length-drop, length-append, get_or-take, get_or-drop, get_or-append-add}
+use Rattle.std.proofs.Common.{◌≡◌, ℕ, ◌+◌, ◌-◌, ◌<◌, ◌≤◌, List, ◌++◌, length, take, drop, get_or, slice_index, Some, refl, sym, ap, subst, ◌∙◌, arith, inl, inr, append_assoc, length-take, length-drop, length-append, get_or-take, get_or-drop, get_or-append-add}
 use Rattle.std.proofs.lemmas.Bool.{cases_lt}
 use Rattle.std.proofs.lemmas.List.{get_or_append_left, get_or-append_right}
 use Rattle.store_core.specs.States.{State, byte_at}
