@@ -1,5 +1,5 @@
 -- What a read of several loads has come to, and how its last load ends it.
-use Rattle.std.proofs.Common.{◌≡◌, ◌⊎◌, ℕ, ◌+◌, ◌*◌, ◌-◌, ◌<◌, ◌≤◌, Bool, true, false, if◌then◌else◌, List, [], ◌∷◌, ◌++◌, length, take, drop, get_or, slice_get, slice_index, Option, None, Some, refl, sym, ap, subst, ◌∙◌, arith, inl, inr, append-nil, append_assoc, length-take, length-drop, get_or-take, get_or-drop, ext_get_or, take-append-drop}
+use Rattle.std.proofs.Common.{◌≡◌, ◌⊎◌, ℕ, ◌+◌, ◌*◌, ◌-◌, ◌<◌, ◌≤◌, Bool, true, false, if◌then◌else◌, List, [], ◌∷◌, ◌++◌, length, take, drop, get_or, slice_index, Option, None, Some, refl, sym, ap, subst, ◌∙◌, arith, inl, inr, append-nil, append_assoc, length-take, length-drop, get_or-take, get_or-drop, ext_get_or, take-append-drop}
 use Rattle.std.proofs.lemmas.Bool.{cases_lt}
 use Rattle.std.proofs.lemmas.List.{get_or_append_left}
 use Rattle.b3tree.specs.Valid.{IsKeyed}

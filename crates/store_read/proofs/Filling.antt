@@ -1,19 +1,9 @@
 -- A buffer that is filled part by part.
-use Rattle.std.proofs.Common.{◌≡◌, ◌⊎◌, ℕ, ◌+◌, ◌-◌, ◌<◌, ◌≤◌, List, ◌++◌, length, take, drop, get_or, slice_index, Some, refl, sym, ap, subst, ◌∙◌, arith, inl, inr, append_assoc, length-take, length-drop, length-append, get_or-take, get_or-drop, get_or-append-add}
+use Rattle.std.proofs.Common.{◌≡◌, ℕ, ◌+◌, ◌-◌, ◌<◌, ◌≤◌, List, ◌++◌, length, take, drop, get_or, slice_index, Some, sym, ap, subst, ◌∙◌, arith, inl, inr, append_assoc, length-take, length-drop, length-append, get_or-take, get_or-drop, get_or-append-add}
 use Rattle.std.proofs.lemmas.Bool.{cases_lt}
 use Rattle.std.proofs.lemmas.List.{get_or_append_left, get_or-append_right}
 use Rattle.store_core.specs.States.{State, byte_at}
 use Rattle.store_read.specs.Filled.{IsFilled}
-
--- nothing more
-pub filled_none : (s : State) (at from : ℕ) (out : List ℕ) → from ≤ length out → IsFilled s at from from out out
-filled_none s at from out room = record {
-  forward = omega arith;
-  within = room;
-  size = refl;
-  bytes = λ i low high. absurd (omega (arith, low, high));
-  others = λ i outside. refl;
-}
 
 -- one part and then another
 pub filled_then : (s : State) (at a b c : ℕ) (x y z : List ℕ) → IsFilled s at a b x y → IsFilled s at b c y z → IsFilled s at a c x z

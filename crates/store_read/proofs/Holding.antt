@@ -1,5 +1,5 @@
 -- What the words of a held chunk's cell say of its bytes.
-use Rattle.std.proofs.Common.{◌≡◌, ◌⊎◌, ℕ, ◌+◌, ◌-◌, ◌*◌, ◌/◌, ◌%◌, ◌<◌, ◌≤◌, min, Bool, true, false, if◌then◌else◌, List, [], ◌∷◌, ◌++◌, length, take, drop, get_or, slice_get, slice_index, Option, None, Some, is_some, option_and_then, refl, sym, ap, subst, ◌∙◌, arith, inl, inr, length-take, length-drop, get_or-take, get_or-drop}
+use Rattle.std.proofs.Common.{◌≡◌, ℕ, ◌+◌, ◌-◌, ◌*◌, ◌/◌, ◌%◌, ◌<◌, ◌≤◌, min, Bool, true, if◌then◌else◌, List, [], ◌++◌, length, take, drop, get_or, slice_get, slice_index, Option, None, Some, is_some, option_and_then, refl, sym, ap, subst, ◌∙◌, arith, inl, inr, length-take, length-drop, get_or-take, get_or-drop}
 use Rattle.std.specs.Int.{w64, to_le_bytes}
 use Rattle.std.specs.Option.{unwrap_or}
 use Rattle.std.proofs.lemmas.Bool.{cases_lt, lt-ltb}
@@ -70,13 +70,6 @@ none_past (Some bytes) k h = slice_get_past bytes k h
 
 pub unheld_past : (s : State) (q : ℕ) → held_size s (q / 1024) ≤ q % 1024 → byte_at s q ≡ None
 unheld_past s q h = none_past (s.held (q / 1024)) (q % 1024) h
-
-none_there : (o : Option (List ℕ)) (k : ℕ) → is_some o ≡ false → option_and_then (λ bytes. slice_get bytes k) o ≡ None
-none_there None k h = refl
-none_there (Some bytes) k h = cc
-
-pub unheld_chunk : (s : State) (q : ℕ) → is_held s (q / 1024) ≡ false → byte_at s q ≡ None
-unheld_chunk s q h = none_there (s.held (q / 1024)) (q % 1024) h
 
 -- the byte at a position is that of its word
 pub byte_is : (fixed : Fixed) (history : List Event) (q word : ℕ) → IsLegal fixed history → q % 1024 < held_size (state_after history) (q / 1024)

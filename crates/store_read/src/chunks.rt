@@ -20,14 +20,7 @@ fn put(out: &mut [u8], from: usize, bytes: &[u8])
 }
 
 // Copies `count` bytes of one word of a held chunk, or none: from the position of the buffer's index `from` on.
-fn copy_part(
-    words: &Words,
-    grip: &mut Grip,
-    at: u64,
-    out: &mut [u8],
-    from: usize,
-    count: usize,
-)
+fn copy_part(words: &Words, grip: &mut Grip, at: u64, out: &mut [u8], from: usize, count: usize)
     requires of { IsOf words.now grip.old }
     requires place { at + from ≤ 2 ^ 26 }
     requires word { (at + from) % 8 + count ≤ 8 }
@@ -48,14 +41,7 @@ fn copy_part(
 }
 
 // Copies `count` whole words of a held chunk: from the position of the buffer's index `from` on.
-fn copy_words(
-    words: &Words,
-    grip: &mut Grip,
-    at: u64,
-    out: &mut [u8],
-    from: usize,
-    count: usize,
-)
+fn copy_words(words: &Words, grip: &mut Grip, at: u64, out: &mut [u8], from: usize, count: usize)
     requires of { IsOf words.now grip.old }
     requires place { at + from ≤ 2 ^ 26 }
     requires word { 0 < count → (at + from) % 8 ≡ 0 }

@@ -65,7 +65,7 @@ fn read_event(words: &Words, grip: &mut Grip, at: u64, out: &mut [u8]) -> Result
 /// 1,024 times the capacity is. An empty buffer is Ok.
 ///
 /// The read is an event of the store at its last load of a held word, and right there: what was copied before is held
-/// there too, with the same bytes.
+/// there too, with the same bytes. The grip claims what it claimed before, and all that it had seen it still has.
 ///
 /// For each blob with the store's root, each byte filled in is the blob's byte there; or two different inputs with one
 /// chaining value are named, one of the blob's and one of a piece's that was committed.

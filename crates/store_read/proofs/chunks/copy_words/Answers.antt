@@ -1,7 +1,5 @@
-use Rattle.std.proofs.Common.{◌≡◌, ◌+◌, ◌*◌, ◌/◌, ◌%◌, ◌<◌, ◌≤◌, ℕ, refl, sym, subst, ◌∙◌, arith}
+use Rattle.std.proofs.Common.{◌+◌, ◌/◌, ◌%◌, ◌<◌, refl, sym, subst, ◌∙◌, arith}
 use Rattle.store_core.specs.declared.fixed.Fixed.{Fixed}
-use Rattle.store_core.specs.Histories.{state_after}
-use Rattle.store_read.specs.Filled.{held_size}
 use Rattle.store_read.proofs.Holding.{size_fits, sized_below, words_more}
 use Rattle.store_steps.specs.Grips.{Gripped}
 use Rattle.store_steps.specs.Tells.{FindsWord}
@@ -28,7 +26,7 @@ words-preserved c =
       c.copy.ensures.same ∙ c.words.invariant.0,
       subst (λ (g : Gripped). IsOf c.args.words.now g) (sym c.copy.ensures.same) c.words.invariant.1,
       words_more grip.view.fixed grip.view.seen c.args.at c.args.from c.words.i c.args.count _ _ c.copy.result c.args.out.now c.words.out c.put.new.out c.to_le_bytes-bytes.result
-      c.requires.of.legal c.requires.held c.requires.word c.words-test.true refl refl
-      (subst (λ (g : Gripped). FindsWord ((c.args.at + c.args.from) / 1024) ((c.args.at + c.args.from) % 1024 / 8 + 1 + c.words.i) c.copy.result g.view) c.words.invariant.0 c.copy.ensures.word)
-      c.to_le_bytes-bytes.ensures c.requires.room c.words.invariant.2 c.put.ensures,
+          c.requires.of.legal c.requires.held c.requires.word c.words-test.true refl refl
+          (subst (λ (g : Gripped). FindsWord ((c.args.at + c.args.from) / 1024) ((c.args.at + c.args.from) % 1024 / 8 + 1 + c.words.i) c.copy.result g.view) c.words.invariant.0 c.copy.ensures.word)
+          c.to_le_bytes-bytes.ensures c.requires.room c.words.invariant.2 c.put.ensures,
     )

@@ -1,4 +1,4 @@
-use Rattle.std.proofs.Common.{◌≡◌, ◌+◌, ◌*◌, ◌<◌, ◌≤◌, ◌==◌, false, length, ap, sym, ◌∙◌, arith, inr}
+use Rattle.std.proofs.Common.{◌≡◌, ◌*◌, ◌==◌, false, length, ap, sym, ◌∙◌, arith, inr}
 use Rattle.std.proofs.lemmas.Bool.Decides.{nat_tests}
 use Rattle.store_core.specs.declared.fixed.Fixed.{Fixed}
 use Rattle.store_read.proofs.Ending.{read_nothing}

@@ -1,4 +1,4 @@
-use Rattle.std.proofs.Common.{◌≡◌, ◌⊎◌, ◌+◌, ◌*◌, ◌<◌, ◌≤◌, ℕ, length, refl, sym, ap, subst, ◌∙◌, arith, inl, inr, None, Some}
+use Rattle.std.proofs.Common.{◌≡◌, ◌⊎◌, ◌+◌, ◌*◌, ◌<◌, ◌≤◌, length, refl, sym, ap, subst, ◌∙◌, arith, inl, inr, None, Some}
 use Rattle.store_core.specs.declared.fixed.Fixed.{Fixed}
 use Rattle.store_core.specs.Histories.{state_after}
 use Rattle.store_read.specs.Filled.{IsFilled}
@@ -42,13 +42,13 @@ groups-preserved c =
     let below : c.args.at + c.copy_group-next.result < 1024 * fixed.capacity = omega (arith, c.if-limit-position.false, limit) in (
       subst (λ (g : Gripped). IsOf c.args.words.now g) (sym copied.same) c.load-held.ensures.of,
       subst (λ (g : Gripped). IsGoing c.args.grip.now.view g.view) (sym copied.same)
-      (read_on fixed c.args.grip.now.view c.groups.grip.view c.load-held.new.grip.view c.groups.group c.args.at c.groups.done c.copy_group-next.result _
-      c.args.out.now c.groups.out c.copy_group-next.new.out c.groups.invariant.0.fixed_is c.groups.invariant.1 c.groups.invariant.2 refl c.load-held.ensures.looked
-      copied.filled copied.stops less end below),
+          (read_on fixed c.args.grip.now.view c.groups.grip.view c.load-held.new.grip.view c.groups.group c.args.at c.groups.done c.copy_group-next.result _
+          c.args.out.now c.groups.out c.copy_group-next.new.out c.groups.invariant.0.fixed_is c.groups.invariant.1 c.groups.invariant.2 refl c.load-held.ensures.looked
+          copied.filled copied.stops less end below),
       subst (λ (g : Gripped). IsFilled (state_after g.view.seen) c.args.at 0 c.copy_group-next.result c.args.out.now c.copy_group-next.new.out) (sym copied.same)
-      (filled_now fixed c.args.grip.now.view c.groups.grip.view c.load-held.new.grip.view c.groups.group c.args.at c.groups.done c.copy_group-next.result _
-      c.args.out.now c.groups.out c.copy_group-next.new.out c.groups.invariant.0.fixed_is c.groups.invariant.1 c.groups.invariant.2 refl c.load-held.ensures.looked
-      copied.filled copied.stops),
+          (filled_now fixed c.args.grip.now.view c.groups.grip.view c.load-held.new.grip.view c.groups.group c.args.at c.groups.done c.copy_group-next.result _
+          c.args.out.now c.groups.out c.copy_group-next.new.out c.groups.invariant.0.fixed_is c.groups.invariant.1 c.groups.invariant.2 refl c.load-held.ensures.looked
+          copied.filled copied.stops),
       omega (arith, end),
       omega (arith, copied.stops.within),
       below,
