@@ -1,6 +1,5 @@
-ghost use Rattle.std.specs.Prelude.{◌≡◌, ◌&&◌, ◌%◌, ℕ, true};
 ghost use Rattle.store_core.specs.declared.history.Call.TheVariants.{Commit};
-ghost use Rattle.store_core.specs.Masks.{IsMaskOf, in_mask};
+ghost use Rattle.store_core.specs.Masks.{IsMaskOf};
 ghost use Rattle.store_core.specs.Pieces.{holds_chunk, piece_of};
 ghost use Rattle.store_core.specs.Stores.{ChunksBind, IsOf as IsOfStore};
 ghost use Rattle.store_core.specs.Views.{seat_claims};
