@@ -1,4 +1,4 @@
-use Rattle.std.proofs.Common.{◌≡◌, ◌≤◌, ◌<◌, ℕ, List, Option, IsSome, is_some, true, false, nat_lt, sym, ◌∙◌, inl, inr, arith}
+use Rattle.std.proofs.Common.{◌≡◌, ◌≤◌, ◌<◌, ℕ, List, Option, IsSome, is_some, false, nat_lt, sym, ◌∙◌, inl, inr, arith}
 use Rattle.std.proofs.lemmas.Bool.{cases_Bool, cases_lt, le-ltb, lt-ltb, lt-leb}
 use Rattle.store_core.specs.Pieces.{chunk_bytes, piece_of}
 use Rattle.store_core.proofs.slot.is_in.Goals as goal
