@@ -72,6 +72,11 @@ impl<'a> Holder for Encoded<'a> {
         ensures cut { OnOk result (into.new.items ≡ into.old.items ++ cut_text (encoding self.old) start len) }
     {
         let text = cut_slice(self.alloc, self.text, start, len).map_err(|_| HolderFault::Memory)?;
+        if into.is_empty() {
+            // The vector itself is handed over: nothing is copied twice.
+            *into = text;
+            return Ok(());
+        }
         into.extend_from_slice(text.as_slice())
             .map_err(|_| HolderFault::Memory)
     }

@@ -1,5 +1,6 @@
 ghost use Rattle.std.specs.Prelude.{◌≡◌, ℕ, ◌<◌, ◌≤◌, ◌%◌, max, is_some, IfOk, OnOk, length, true, nat_lt, ◌&&◌, if◌then◌else◌};
 ghost use Rattle.store_core.specs.Masks.{IsMaskOf, has_bit, in_mask};
+ghost use Rattle.store_core.specs.Pieces.{holds_chunk, piece_of};
 ghost use Rattle.store_core.specs.Slots.{AreCopies, IsCopy, claimed_slot, held_in, is_of, picks, slot_at};
 
 use crate::masks::{GROUP_LEN, has_bit, with_bit};
@@ -39,6 +40,14 @@ impl Slot {
     }
 }
 
+// Whether the piece holds the chunk: it is among its numbers, so nothing of its tree is walked.
+fn is_in(piece: &Checked<'_>, chunk: u64) -> bool
+    ensures { result ≡ holds_chunk (piece_of piece.now) chunk }
+{
+    let (first, after) = piece.chunks();
+    first <= chunk && chunk < after
+}
+
 impl Pick<'_> {
     fn picks(&self, chunk: u64, slot: &Slot) -> bool
         ensures { result ≡ picks self.now chunk slot.now }
@@ -46,7 +55,7 @@ impl Pick<'_> {
         match self {
             Pick::Free => matches!(slot, Slot::Free),
             Pick::Claimed(seat) => slot.is_of(*seat),
-            Pick::InPiece(seat, piece) => slot.is_of(*seat) && piece.chunk(chunk).is_some(),
+            Pick::InPiece(seat, piece) => slot.is_of(*seat) && is_in(piece, chunk),
         }
     }
 }

@@ -1,4 +1,4 @@
-use Rattle.std.proofs.Common.{◌≡◌, ◌∙◌, ℕ, ◌+◌, ◌≤◌, suc, cond, Bool, true, false, ap, sym, add-one, arith}
+use Rattle.std.proofs.Common.{◌≡◌, ◌∙◌, ℕ, ◌+◌, cond, Bool, true, false, ap, sym, add-one, arith}
 use Rattle.std.specs.Option.{is_some}
 use Rattle.store_core.specs.Slots.{held_in, slot_at}
 use Rattle.store_core.specs.States.{State, held_count, is_held}
