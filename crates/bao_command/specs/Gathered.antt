@@ -5,7 +5,7 @@ use Rattle.std.specs.Io.KnownBytes.{Appends, Keeps}
 use Rattle.b3tree.specs.declared.mode.Mode.{Mode}
 use Rattle.b3tree.specs.Hashing.{hash}
 use Rattle.bao_text.specs.Texts.{combined_text}
-use Rattle.gather.specs.declared.texts.GatherFault.{GatherFault}
+use Rattle.crews.specs.declared.fault.CrewsFault.{CrewsFault}
 use Rattle.bao_command.specs.declared.fault.Fault.{Fault}
 use Rattle.bao_command.specs.declared.fault.Fault.TheVariants.{Encoding, Gather, Write}
 use Rattle.bao_command.specs.Printed.{AppendsBeginning}
@@ -26,6 +26,6 @@ BeginsBlob encode mode root old new = (blob : List ℕ) × (hash mode blob ≡ r
 -- no blob was gathered, or there was no memory to encode it, and nothing was written; or writing to this path failed
 abbrev pub LeavesBlob : Bool → Mode → List ℕ → Bor (List ℕ) → Option (List ℕ) → Option (List ℕ) → Fault → Type 0
 LeavesBlob encode mode root path old new fault =
-    (((cause : GatherFault) × (fault ≡ Gather cause)) × Keeps old new)
+    (((cause : CrewsFault) × (fault ≡ Gather cause)) × Keeps old new)
     ⊎ ((fault ≡ Encoding) × Keeps old new)
     ⊎ ((fault ≡ Write path) × BeginsBlob encode mode root old new)

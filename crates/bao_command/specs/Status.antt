@@ -4,7 +4,8 @@ use Rattle.bao_command.specs.declared.fault.Fault.{Fault}
 use Rattle.bao_command.specs.declared.fault.Fault.TheVariants.{Word, Root, Key, KeyAndContext, OutputRange, TooManyFiles, Script, Read, Write, Output, Encoding, Check, Gather, Replay, Memory}
 use Rattle.bao_check.specs.declared.fault.CheckFault.{CheckFault}
 use Rattle.bao_check.specs.declared.fault.CheckFault.TheVariants as check
-use Rattle.gather.specs.declared.texts.GatherFault.{GatherFault}
+use Rattle.crews.specs.declared.fault.CrewsFault.{CrewsFault}
+use Rattle.crews.specs.declared.fault.CrewsFault.TheVariants as crews
 use Rattle.gather.specs.declared.texts.GatherFault.TheVariants as gather
 use Rattle.bao_script.specs.declared.fault.ReplayScriptFault.{ReplayScriptFault}
 use Rattle.bao_script.specs.declared.fault.ReplayScriptFault.TheVariants as replay
@@ -16,13 +17,15 @@ check_status_of (check.Trailing at) = 1
 check_status_of check.Memory = 4
 check_status_of check.Reader = 3
 
-abbrev pub gather_status_of : GatherFault → ℕ
-gather_status_of gather.Capacity = 2
-gather_status_of gather.TooLarge = 1
-gather_status_of gather.Unfinished = 1
-gather_status_of gather.NotTheRoot = 1
-gather_status_of gather.Memory = 4
-gather_status_of gather.Starved = 4
+abbrev pub gather_status_of : CrewsFault → ℕ
+gather_status_of crews.Store = 4
+gather_status_of crews.Seat = 4
+gather_status_of (crews.Gather gather.Capacity) = 2
+gather_status_of (crews.Gather gather.TooLarge) = 1
+gather_status_of (crews.Gather gather.Unfinished) = 1
+gather_status_of (crews.Gather gather.NotTheRoot) = 1
+gather_status_of (crews.Gather gather.Memory) = 4
+gather_status_of (crews.Gather gather.Starved) = 4
 
 abbrev pub replay_status_of : ReplayScriptFault → ℕ
 replay_status_of (replay.Refused line fault) = check_status_of fault

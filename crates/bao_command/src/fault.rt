@@ -4,6 +4,7 @@ ghost use Rattle.bao_command.specs.Status.{check_status_of, gather_status_of, re
 use crate::once::Once;
 use bao_check::CheckFault;
 use bao_script::ReplayScriptFault;
+use crews::CrewsFault;
 use gather::GatherFault;
 use std::io::Write;
 use thiserror::Error;
@@ -50,7 +51,7 @@ pub enum Fault<'a> {
     Check(CheckFault),
     /// A blob was not gathered. Status 1, and 4 for want of memory.
     #[error("{0}")]
-    Gather(GatherFault),
+    Gather(CrewsFault),
     /// A schedule was not run to its end. Status 1, and 4 for want of memory.
     #[error("{0}")]
     Replay(ReplayScriptFault),
@@ -71,13 +72,16 @@ fn check_status(fault: CheckFault) -> u8
 }
 
 // The exit status of a fault of gathering.
-fn gather_status(fault: GatherFault) -> u8
+fn gather_status(fault: CrewsFault) -> u8
     ensures { result ≡ gather_status_of fault }
 {
     match fault {
-        GatherFault::TooLarge | GatherFault::Unfinished | GatherFault::NotTheRoot => 1,
-        GatherFault::Capacity => 2,
-        GatherFault::Memory | GatherFault::Starved => 4,
+        CrewsFault::Store | CrewsFault::Seat => 4,
+        CrewsFault::Gather(fault) => match fault {
+            GatherFault::TooLarge | GatherFault::Unfinished | GatherFault::NotTheRoot => 1,
+            GatherFault::Capacity => 2,
+            GatherFault::Memory | GatherFault::Starved => 4,
+        },
     }
 }
 

@@ -14,10 +14,11 @@ use crate::mode::bytes_of_digits;
 use crate::output::LateFile;
 use b3tree::{Hash, Mode};
 use bao_text::{WriteFault, write_combined, write_text};
-use gather::gather_texts;
+use crews::gather_texts;
 use std::alloc::Global;
 use std::io::Write;
 use std::rt::Files;
+use std::thread::Threads;
 
 // The most files that a task takes.
 pub(crate) const MOST_FILES: usize = 64;
@@ -80,8 +81,8 @@ fn write_blob<W: Write>(
 /// Nothing is written before the blob was verified. After `Gather`, where no blob with this root and at most
 /// `capacity` chunks came together, and after `Encoding`, where there was no memory for the encoding, nothing was
 /// written; after `Write` with the path a beginning of the text may stand.
-pub fn write_gathered<'a, W: Write>(
-    alloc: Global,
+pub fn write_gathered<'a, R: AllocGlobal + Threads + Sync, W: Write>(
+    rt: &R,
     mode: &Mode,
     root: &Hash,
     how: Gathering,
@@ -92,7 +93,9 @@ pub fn write_gathered<'a, W: Write>(
     ensures blob { IfOk result (WritesBlob how.encode mode.now root.now.0 (W.contents out.old) (W.contents out.new)) }
     ensures fault { IfErr result (LeavesBlob how.encode mode.now root.now.0 path.entry (W.contents out.old) (W.contents out.new)) }
 {
-    let blob = match gather_texts(alloc, *root, *mode, how.capacity, texts) {
+    let alloc = rt.alloc();
+    let gathered = gather_texts(rt, alloc, *root, *mode, how.capacity, how.workers, texts);
+    let blob = match gathered {
         Ok(blob) => blob,
         Err(fault) => return Err(Fault::Gather(fault)),
     };
@@ -109,7 +112,7 @@ pub fn write_gathered<'a, W: Write>(
 
 // Gathers the blob out of the files, writes it, or its combined encoding, to the file at `path`, which is made once
 // the blob was verified, and answers how many bytes the blob has.
-fn gather<'a, R: Files + AllocGlobal>(
+fn gather<'a, R: Files + AllocGlobal + Threads + Sync>(
     rt: &R,
     mode: &Mode,
     root: &str,
@@ -128,7 +131,7 @@ fn gather<'a, R: Files + AllocGlobal>(
     let texts = read_files(rt, files)?;
     let mut out = LateFile::new(rt, path);
     write_gathered(
-        rt.alloc(),
+        rt,
         mode,
         &root,
         how,
@@ -145,7 +148,7 @@ fn gather<'a, R: Files + AllocGlobal>(
 /// Refuses more than 64 files (`TooManyFiles`), a root that is no text of 64 hexadecimal digits (`Root`), files of
 /// which none can be read (`Read` of the first), a blob that did not come together (`Gather`), one for whose encoding
 /// there was no memory (`Encoding`), and an output that can't be made or written (`Write`).
-pub fn gather_files<'a, R: Files + AllocGlobal, O: Write>(
+pub fn gather_files<'a, R: Files + AllocGlobal + Threads + Sync, O: Write>(
     rt: &R,
     mode: &Mode,
     root: &str,

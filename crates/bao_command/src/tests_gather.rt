@@ -1,4 +1,4 @@
-use crate::gathering::write_gathered;
+use crate::gathering::{Gathering, write_gathered};
 use crate::tests::{Broken, CONTEXT, KEY, blob, expect, failing, path};
 use b3tree::{Cv, Hash, Mode, cv, parent_input, root_hash, rooted, subtree_cv};
 use bao_text::combined;
@@ -198,7 +198,35 @@ fn room_for_the_blob(rt: HostRuntime) -> Result<(), Fail> {
         let given = ["gather", "--capacity", capacity, ROOT, out, whole];
         gathered(&rt, &given, out)?;
     }
-    gathered(&rt, &["gather", ROOT, out, whole, "--workers", "1"], out)?;
+    remove(&rt, &holders)
+}
+
+// Any number of workers gathers the blob from two bad files and a whole one; without the whole one, none does. The
+// blob's encoding, in its place, is the whole file.
+#[test]
+fn workers_and_the_encoding(rt: HostRuntime) -> Result<(), Fail> {
+    let holders = make_holders(&rt, process::id(rt.process()), "workers", &Mode::hash())?;
+    let (cut, shorter) = (holders.cut.as_str(), holders.shorter.as_str());
+    let (whole, out) = (holders.whole.as_str(), holders.out.as_str());
+    for workers in ["1", "2", "4", "64"] {
+        let bad = ["gather", "--workers", workers, ROOT, out, cut, shorter];
+        refused(&rt, &bad, out, 1, UNFINISHED)?;
+        let all = [
+            "gather",
+            "--workers",
+            workers,
+            ROOT,
+            out,
+            cut,
+            shorter,
+            whole,
+        ];
+        gathered(&rt, &all, out)?;
+    }
+    let given = ["gather", "--encode", ROOT, out, cut, shorter, whole];
+    expect(&rt, &given, 0, "ok 3000\n", "")?;
+    assert_eq!(rt; fs::read(&rt, out)?.as_slice(), fs::read(&rt, whole)?.as_slice());
+    fs::remove_file(&rt, out)?;
     remove(&rt, &holders)
 }
 
@@ -278,12 +306,16 @@ For more information, try '--help'.
         let given = ["gather", "--capacity", capacity, ROOT, MISSING, MISSING];
         expect(&rt, &given, 2, "", line.as_str())?;
     }
-    let workers = "error: invalid value '2' for '--workers <N>': 2 is not in 1..=1
+    for workers in ["0", "65"] {
+        let line = format!(in rt.alloc();
+            "error: invalid value '{workers}' for '--workers <N>': {workers} is not in 1..=64
 
 For more information, try '--help'.
-";
-    let given = ["gather", "--workers", "2", "00", MISSING, MISSING];
-    expect(&rt, &given, 2, "", workers)?;
+"
+        )?;
+        let given = ["gather", "--workers", workers, "00", MISSING, MISSING];
+        expect(&rt, &given, 2, "", line.as_str())?;
+    }
     let root = "bao_gather: usage: root is not 64 hexadecimal digits\n";
     expect(&rt, &["gather", "00", MISSING, MISSING], 2, "", root)?;
     let help = "Gathers the blob with a root out of combined Bao encodings, and writes it
@@ -296,8 +328,9 @@ Arguments:
   <FILE>...  The holders' combined Bao encodings, 1 to 64 files
 
 Options:
-      --workers <N>     How many workers gather, which is 1 [default: 1]
+      --workers <N>     How many workers gather, 1 to 64 [default: 4]
       --capacity <N>    How many chunks of 1024 bytes the blob may have, 1 to 65536 [default: 65536]
+      --encode          Writes the blob's combined Bao encoding in place of the blob
       --key <HEX>       Hashes under this key, 64 hexadecimal digits
       --context <TEXT>  Derives keys for this context
   -h, --help            Print help
@@ -320,22 +353,30 @@ fn faults_of_writing_a_blob(rt: HostRuntime) -> Result<(), Fail> {
     remove(&rt, &holders)
 }
 
-// Writers that fail, after a beginning of the blob, and one that can't be flushed.
+// Writers that fail, after a beginning of the blob or of its encoding, and one that can't be flushed.
 #[test]
 fn blobs_to_writers(rt: HostRuntime) -> Result<(), Fail> {
     let bytes = blob(rt.alloc(), 2049)?;
     let (root, whole): (Hash, Vec<u8>) = combined(rt.alloc(), &Mode::hash(), bytes.as_slice())?;
+    let encoding = whole.clone()?;
     let texts = [whole];
-    for room in [0, 10, 2048] {
-        let mut out: Broken = failing(rt.alloc(), room, ErrorKind::Interrupted);
-        let fault = write_gathered(rt.alloc(), &Mode::hash(), &root, 3, &texts, "OUT", &mut out);
+    for (encode, text) in [(false, bytes.as_slice()), (true, encoding.as_slice())] {
+        let how = Gathering {
+            workers: 2,
+            capacity: 3,
+            encode,
+        };
+        for room in [0, 10, 2048] {
+            let mut out: Broken = failing(rt.alloc(), room, ErrorKind::Interrupted);
+            let fault = write_gathered(&rt, &Mode::hash(), &root, how, &texts, "OUT", &mut out);
+            assert!(rt; fault.is_err());
+            assert_eq!(rt; Some(out.held.as_slice()), text.get(..room));
+        }
+        let mut out: Broken = failing(rt.alloc(), usize::MAX, ErrorKind::Other);
+        out.stuck = true;
+        let fault = write_gathered(&rt, &Mode::hash(), &root, how, &texts, "OUT", &mut out);
         assert!(rt; fault.is_err());
-        assert_eq!(rt; Some(out.held.as_slice()), bytes.get(..room));
+        assert_eq!(rt; out.held.as_slice(), text);
     }
-    let mut out: Broken = failing(rt.alloc(), usize::MAX, ErrorKind::Other);
-    out.stuck = true;
-    let fault = write_gathered(rt.alloc(), &Mode::hash(), &root, 3, &texts, "OUT", &mut out);
-    assert!(rt; fault.is_err());
-    assert_eq!(rt; out.held.as_slice(), bytes.as_slice());
     Ok(())
 }
