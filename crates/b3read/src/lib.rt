@@ -3,6 +3,7 @@
 #![tactic(auto)]
 
 pub use fault::ReadFault;
+pub use pieces::{ends_at, fill};
 pub use ranges::{RANGES, hash_source};
 pub use source::Source;
 

@@ -5,8 +5,11 @@ use crate::fault::ReadFault;
 use crate::source::Source;
 use b3tree::{CHUNK_LEN, Cv, Input, Mode, cv, left_len, parent_input, top_input};
 
-// Fills `buf` with the source's bytes from `at` on. A read that answers none is a fault.
-fn fill<S: Source>(source: &S, at: u64, buf: &mut [u8]) -> Result<(), ReadFault>
+/// Fills `buf` with the source's bytes from the place `at` on, by as many reads as it takes.
+///
+/// Answers `Reader` (312) where a read answered a fault, one of the kind `Interrupted` too, which is not tried
+/// again, or no byte. What the buffer has then is not said.
+pub fn fill<S: Source>(source: &S, at: u64, buf: &mut [u8]) -> Result<(), ReadFault>
     requires { at + length buf.old ≤ 2 ^ 64 - 1 }
     ensures given { OnOk result (GivenAt (S.contents source.now) at buf.new) }
     ensures fault { IfErr result (λ fault. fault ≡ ReadFault.Reader) }
@@ -49,8 +52,8 @@ pub(crate) fn top_in_pieces<S: Source>(
     Ok(parent_input(mode, &Cv(cv(&left)), &Cv(cv(&right))))
 }
 
-// Whether the source has no byte at `len` and after it.
-pub(crate) fn ends_at<S: Source>(source: &S, len: u64) -> bool
+/// Whether the source has no byte at `len` and after it. Where the read fails, it isn't said to end there.
+pub fn ends_at<S: Source>(source: &S, len: u64) -> bool
     ensures { result ≡ true → IfSome (S.contents source.now) (λ s. length s ≤ len) }
 {
     matches!(source.read_at(&mut [0], len), Ok(0))

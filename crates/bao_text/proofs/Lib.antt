@@ -2,6 +2,7 @@ pub mod Cutting
 pub mod Everything
 pub mod Laws
 pub mod PieceTexts
+pub mod Places
 pub mod SubtreeNodes
 pub mod SubtreeText
 pub mod TextNodes

@@ -10,7 +10,7 @@ use b3tree::CHUNK_LEN;
 pub(crate) const LENGTH_LEN: usize = 8;
 
 /// The bytes of a parent: two chaining values.
-pub(crate) const PARENT_LEN: usize = 64;
+pub const PARENT_LEN: usize = 64;
 
 fn chunk_count(len: u64) -> u64
     ensures { result ≡ chunk_count len }

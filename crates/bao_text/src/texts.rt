@@ -40,12 +40,14 @@ pub(crate) fn parent_bytes(left: &Cv, right: &Cv) -> [u8; 64]
     bytes
 }
 
-// Writes a parent's bytes over those from `at` on.
-fn put_parent(text: &mut Vec<u8>, at: usize, parent: &[u8; 64])
+/// Writes the 64 bytes of the parent of two subtrees with these chaining values over those of `text` from
+/// place `at` on.
+pub fn put_parent(text: &mut Vec<u8>, at: usize, left: &Cv, right: &Cv)
     requires { at + 64 ≤ vec_len text.old }
-    ensures { text.new.items ≡ take at text.old.items ++ (parent.now ++ drop (at + 64) text.old.items) }
+    ensures { text.new.items ≡ take at text.old.items
+        ++ ((bytes_of left.now.0 ++ bytes_of right.now.0) ++ drop (at + 64) text.old.items) }
 {
-    text.as_mut_slice()[at..at + PARENT_LEN].copy_from_slice(parent);
+    text.as_mut_slice()[at..at + PARENT_LEN].copy_from_slice(&parent_bytes(left, right));
 }
 
 // Appends the text of the subtree over `bytes` from chunk `first` on, and answers the subtree's last
@@ -84,8 +86,27 @@ fn append(
     let right_first = first + left_len / CHUNK_LEN as u64;
     let left = Cv(cv(&append(choice, mode, first, left, text)?));
     let right = Cv(cv(&append(choice, mode, right_first, right, text)?));
-    put_parent(text, at, &parent_bytes(&left, &right));
+    put_parent(text, at, &left, &right);
     Ok(parent_input(mode, &left, &right))
+}
+
+/// Appends the parents of the subtree over `bytes`, whose first chunk has the number `first`, to `text`: the
+/// subtree's part of the outboard encoding of a blob of `total` bytes, in which the subtree lies. One chunk has
+/// none. Answers the subtree's last compression, as `top_input` does.
+///
+/// Answers `Memory` (401) where a growth was refused. What the text has then is not said.
+pub fn append_parents(
+    mode: &Mode,
+    total: u64,
+    first: u64,
+    bytes: &[u8],
+    text: &mut Vec<u8>,
+) -> Result<Input, Memory>
+    requires { 1024 * first + length bytes.now ≤ total }
+    ensures top { IfOk result (λ x. x ≡ top_input mode.now first bytes.now) }
+    ensures text { OnOk result (text.new.items ≡ text.old.items ++ subtree_text (of_outboard total) mode.now first bytes.now) }
+{
+    append(&Choice::of_outboard(total), mode, first, bytes, text)
 }
 
 // The text of `bytes` for a choice, with room for `room` bytes from the start, and the hash.

@@ -1,5 +1,5 @@
-use Rattle.std.proofs.Common.{◌≡◌, ◌+◌, ◌*◌, ◌/◌, List, ℕ, [], ◌++◌, length, take, drop, replicate, Vec, Global, true, ◌∙◌, refl, sym, ap, arith, length-append}
-use Rattle.std.proofs.lemmas.List.{append-nil, append_assoc, drop_at, take_at}
+use Rattle.std.proofs.Common.{◌≡◌, ◌+◌, ◌*◌, ◌/◌, List, ℕ, [], ◌++◌, length, take, drop, replicate, Vec, Global, true, ◌∙◌, refl, sym, ap, arith}
+use Rattle.std.proofs.lemmas.List.{append-nil}
 use Rattle.b3tree.specs.Bytes.{bytes_of}
 use Rattle.b3tree.specs.Compression.{cv}
 use Rattle.b3tree.specs.Tree.{left_len, parent_input, subtree_cv, top_input}
@@ -7,6 +7,7 @@ use Rattle.bao_text.specs.Choice.{wants}
 use Rattle.bao_text.specs.EightText.{eight_text}
 use Rattle.bao_text.specs.Texts.{chunk_text, parent_text, subtree_text}
 use Rattle.bao_text.proofs.EightChunks.{text-eight, top-eight}
+use Rattle.bao_text.proofs.Places.{parent_put}
 use Rattle.bao_text.proofs.SubtreeText.{subtree_text-leaf, subtree_text-parent, subtree_text-unwanted}
 use Rattle.bao_text.proofs.texts.+append.Goals as goal
 use Rattle.bao_text.proofs.texts.+append.Goals.{else-choice, then-choice+in_ok-extend}
@@ -49,16 +50,6 @@ returns-then-covers-clause-text t c =
     ∙ (λ i. old ++ eight_text choice (c.eight_parents-parents.ensures i) s)
     ∙ ap (λ (xs : List ℕ). old ++ xs) (text-eight choice c.args.mode.now c.args.first s size (covered.0, omega (arith, covered.1)))
 
--- the place kept free for a parent p, once the text of its parts stands behind it
-filled : (t zs a b p : List ℕ) → length zs ≡ 64 → take (length t) (((t ++ zs) ++ a) ++ b) ++ (p ++ drop (length t + 64) (((t ++ zs) ++ a) ++ b)) ≡ t ++ (p ++ (a ++ b))
-filled t zs a b p size =
-    let whole : ((t ++ zs) ++ a) ++ b ≡ t ++ (zs ++ (a ++ b)) = append_assoc (t ++ zs) a b ∙ append_assoc t zs (a ++ b) in
-    let split : ((t ++ zs) ++ a) ++ b ≡ (t ++ zs) ++ (a ++ b) = append_assoc (t ++ zs) a b in
-    let front : take (length t) (((t ++ zs) ++ a) ++ b) ≡ t = ap (take (length t)) whole ∙ take_at t (zs ++ (a ++ b)) (length t) refl in
-    let back : drop (length t + 64) (((t ++ zs) ++ a) ++ b) ≡ a ++ b =
-    ap (drop (length t + 64)) split ∙ drop_at (t ++ zs) (a ++ b) (length t + 64) (length-append t zs ∙ ap (λ (n : ℕ). length t + n) size) in
-    (λ i. front i ++ (p ++ back i))
-
 pub returns-clause-text : goal.returns-clause-text
 returns-clause-text t c =
     let choice = c.args.choice.now in
@@ -81,11 +72,10 @@ returns-clause-text t c =
     c.cv.ensures ∙ ap cv (c.in_ok-append.ensures.top ∙ (λ i. top_input mode first (front i))) in
     let right_cv : c.cv-2.result ≡ subtree_cv mode (first + l / 1024) (drop l s) =
     c.cv-2.ensures ∙ ap cv (c.in_ok-append-2.ensures.top ∙ (λ i. top_input mode (first + parted i / 1024) (back i))) in
-    let parent : c.parent_bytes.result ≡ parent_text mode first s =
-    c.parent_bytes.ensures ∙ (λ i. bytes_of (left_cv i) ++ bytes_of (right_cv i)) in
+    let parent : bytes_of c.cv.result ++ bytes_of c.cv-2.result ≡ parent_text mode first s = (λ i. bytes_of (left_cv i) ++ bytes_of (right_cv i)) in
     let wanted : wants choice (1024 * first) (length s) ≡ true = sym c.wants.ensures ∙ c.if-not-wants.false in
     let at : c.len-at.result ≡ length old = omega arith in
     c.put_parent.ensures
     ∙ (λ i. take (at i) (both i) ++ (parent i ++ drop (at i + 64) (both i)))
-    ∙ filled old zeros left_text right_text (parent_text mode first s) refl
+    ∙ parent_put old zeros left_text right_text (parent_text mode first s) refl
     ∙ ap (λ (xs : List ℕ). old ++ xs) (sym (subtree_text-parent choice mode first s wanted (omega arith)))

@@ -1,0 +1,37 @@
+ghost use Rattle.std.specs.Prelude.{ℕ, List, IfOk, IfSome};
+ghost use Rattle.bao_read.specs.Outboards.{IsOutboardOf};
+
+use crate::pieces::append_in_pieces;
+use b3read::{ReadFault, Source, ends_at};
+use b3tree::{Hash, Mode, root_hash, rooted};
+use bao_text::outboard_len;
+use std::alloc::Global;
+
+// The most bytes that are asked for at once: few enough to stay in a processor's cache.
+const PIECE_LEN: usize = 1 << 18;
+
+/// The outboard encoding of the `len` bytes of `source` in `mode`, and their hash. The bytes are read in pieces,
+/// so that the memory that this takes is the encoding's, a sixteenth of the bytes, and that of one piece, 256 KiB.
+///
+/// Answers `Memory` (311) where there was none for a piece or for the encoding, and `Reader` (312) where a read
+/// answered a fault, one of the kind `Interrupted` too, which is not tried again, and where the source has fewer
+/// or more than `len` bytes.
+pub fn outboard_source<S: Source>(
+    alloc: Global,
+    mode: &Mode,
+    source: &S,
+    len: u64,
+) -> Result<(Hash, Vec<u8>), ReadFault>
+    ensures all { IfOk result (λ made. IfSome (S.contents source.now) (λ bytes. IsOutboardOf mode.now len bytes made.0.0 made.1.items)) }
+    ensures some { IfOk result (λ made. (bytes : List ℕ) × IsOutboardOf mode.now len bytes made.0.0 made.1.items) }
+{
+    let room = usize::try_from(outboard_len(len)).map_err(|_| ReadFault::Memory)?;
+    let mut piece = vec![in alloc; 0u8; PIECE_LEN]?;
+    let mut text = Vec::with_capacity(alloc, room)?;
+    text.extend_from_slice(&len.to_le_bytes())?;
+    let top = append_in_pieces(mode, source, len, 0, len, piece.as_mut_slice(), &mut text)?;
+    if !ends_at(source, len) {
+        return Err(ReadFault::Reader);
+    }
+    Ok((root_hash(&rooted(&top)), text))
+}
