@@ -104,7 +104,7 @@ fn all_reports<H>(crews: &[Crew<H>]) -> Report
     all
 }
 
-/// Both rounds of all crews, and the sums of their reports.
+// Both rounds of all crews, and the sums of their reports.
 pub(crate) fn both_rounds<R: Threads + Sync, H: Holder + Send, G: Gate + Sync>(
     rt: &R,
     alloc: Global,
