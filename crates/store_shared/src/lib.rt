@@ -13,3 +13,5 @@ mod fault;
 mod law;
 mod masks;
 mod seat;
+#[cfg(test)]
+mod tests;
