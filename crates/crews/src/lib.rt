@@ -7,7 +7,7 @@ pub use blob::finish;
 pub use crew::Crew;
 pub use fault::CrewsFault;
 pub use runs::run;
-pub use texts::gather_texts;
+pub use texts::{crews_over, gather_texts};
 
 mod blob;
 mod crew;

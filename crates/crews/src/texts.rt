@@ -28,8 +28,12 @@ fn holders_over<'a>(alloc: Global, texts: &'a [Vec<u8>]) -> Result<Vec<Encoded<'
     Ok(holders)
 }
 
-// So many crews, each with a seat of its own that is split off the seat, and all texts; and the seat that stays.
-fn crews_over<'a>(
+/// So many crews, each with a seat of its own that is split off this one, and holders over all texts in their order;
+/// and the seat that stays. The texts are not copied.
+///
+/// 806 `Seat` where there was no memory for a seat, and 911 `Starved` for the crews and their lists of texts. The
+/// seats are let go then.
+pub fn crews_over<'a>(
     alloc: Global,
     assembly: &Assembly,
     seat: Seat,
