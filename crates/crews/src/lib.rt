@@ -12,3 +12,5 @@ mod crew;
 mod rounds;
 mod runs;
 mod shared;
+#[cfg(test)]
+mod tests;
