@@ -16,3 +16,5 @@ mod rounds;
 mod runs;
 mod shared;
 mod texts;
+#[cfg(test)]
+mod tests;

@@ -1,0 +1,489 @@
+ghost use Rattle.std.specs.Prelude.{IfOk};
+ghost use Rattle.store_shared.specs.Seats.{IsSeatOf};
+
+use crate::{Crew, Gate, Open, finish, run};
+use b3tree::{Cv, Hash, Mode, cv, hash, parent_input, root_hash, rooted, subtree_cv};
+use bao_check::{check_combined, check_slice};
+use bao_text::combined;
+use gather::{Encoded, FinishFault, Holder, HolderFault, Report, finish_one, run_one};
+use std::alloc::Global;
+use std::sync::atomic::{AtomicU64, Ordering};
+use std::test::Fail;
+use std::thread;
+use std::thread::Threads;
+use store_core::{Settling, Store};
+use store_shared::{Assembly, Seat};
+
+// The bytes i mod 251, as in BLAKE3's test vectors.
+fn blob(rt: &HostRuntime, len: usize) -> Result<Vec<u8>, Fail> {
+    let mut bytes = Vec::with_capacity(rt.alloc(), len)?;
+    for i in 0..len {
+        bytes.push((i % 251) as u8)?;
+    }
+    Ok(bytes)
+}
+
+fn shared(rt: &HostRuntime, root: Hash, capacity: u32) -> Result<(Assembly, Seat), Fail>
+    ensures { IfOk result (λ made. IsSeatOf made.0 made.1) }
+{
+    Ok(Assembly::new(rt.alloc(), root, Mode::hash(), capacity)?)
+}
+
+// A run with one crew for each list of holders. Each crew's seat is split off from the first, which comes back.
+fn run_lists<R: Threads + Sync, H: Holder + Drop + Send, G: Gate + Sync>(
+    rt: &R,
+    alloc: Global,
+    assembly: &Assembly,
+    mut seat: Seat,
+    lists: Vec<Vec<H>>,
+    gate: &G,
+) -> Result<(Seat, Report), Fail>
+    requires { IsSeatOf assembly.now seat }
+    ensures { IfOk result (λ done. IsSeatOf assembly.now done.0) }
+{
+    let mut crews = Vec::with_capacity(alloc, lists.len())?;
+    for holders in lists {
+        let Ok((stays, new)) = assembly.split(seat) else {
+            return Err(Fail::from("a seat was refused"));
+        };
+        seat = stays;
+        crews.push(Crew::new(new, holders))?;
+    }
+    if crews.is_empty() || crews.len() > 64 {
+        return Err(Fail::from("1 to 64 crews"));
+    }
+    let report = run(rt, alloc, assembly, crews.as_mut_slice(), gate);
+    Ok((seat, report))
+}
+
+// The same, where each worker has a holder for each of the texts, and no growth is refused.
+fn run_texts<R: Threads + Sync>(
+    rt: &R,
+    alloc: Global,
+    assembly: &Assembly,
+    seat: Seat,
+    workers: usize,
+    texts: &[&[u8]],
+) -> Result<(Seat, Report), Fail>
+    requires { IsSeatOf assembly.now seat }
+    ensures { IfOk result (λ done. IsSeatOf assembly.now done.0) }
+{
+    let mut lists = Vec::with_capacity(alloc, workers)?;
+    for _ in 0..workers {
+        let mut holders = Vec::with_capacity(alloc, texts.len())?;
+        for text in texts {
+            holders.push(Encoded::new(alloc, text))?;
+        }
+        lists.push(holders)?;
+    }
+    let (seat, report) = run_lists(rt, alloc, assembly, seat, lists, &Open)?;
+    if report.memory > 0 {
+        return Err(Fail::from("a growth was refused"));
+    }
+    Ok((seat, report))
+}
+
+// Why there is no blob, with ample memory.
+fn finish_fault(rt: &HostRuntime, assembly: &Assembly, seat: &mut Seat) -> Result<FinishFault, Fail>
+    requires { IsSeatOf assembly.now seat.old }
+    ensures { IsSeatOf assembly.now seat.new }
+{
+    match finish(rt.alloc(), assembly, seat) {
+        Ok(_) => Err(Fail::from("a blob")),
+        Err(FinishFault::Memory) => Err(Fail::from(FinishFault::Memory)),
+        Err(fault) => Ok(fault),
+    }
+}
+
+// Of 3,000 bytes: the first 1,000 bytes of their encoding, the encoding of 2,999 bytes, and the whole one.
+#[test]
+fn two_of_three_holders_are_bad(rt: HostRuntime) -> Result<(), Fail> {
+    let bytes = blob(&rt, 3000)?;
+    let (root, whole) = combined(rt.alloc(), &Mode::hash(), bytes.as_slice())?;
+    let (_, shorter) = combined(rt.alloc(), &Mode::hash(), blob(&rt, 2999)?.as_slice())?;
+    let cut = whole.as_slice().get(..1000).ok_or("cut")?;
+    let texts = [cut, shorter.as_slice(), whole.as_slice()];
+    for workers in [1, 2, 4, 64] {
+        let (assembly, seat) = shared(&rt, root, 3)?;
+        let (seat, report) = run_texts(&rt, rt.alloc(), &assembly, seat, workers, &texts[..2])?;
+        assert_eq!(rt; report.committed, 0);
+        let mut seat = seat;
+        assert_eq!(rt;
+            finish_fault(&rt, &assembly, &mut seat)?,
+            FinishFault::Unfinished
+        );
+        let (seat, report) = run_texts(&rt, rt.alloc(), &assembly, seat, workers, &texts)?;
+        assert_eq!(rt; report.committed, 3, "{workers}");
+        if workers == 1 {
+            assert_eq!(rt; (report.asked, report.refused, report.failed), (6, 4, 0));
+        }
+        let mut seat = seat;
+        let gathered = finish(rt.alloc(), &assembly, &mut seat)?;
+        assert_eq!(rt; gathered.as_slice(), bytes.as_slice());
+    }
+    Ok(())
+}
+
+#[test]
+fn four_workers_and_one_end_in_the_same(rt: HostRuntime) -> Result<(), Fail> {
+    let mode = Mode::hash();
+    let bytes = blob(&rt, 200_000)?;
+    let (root, whole) = combined(rt.alloc(), &mode, bytes.as_slice())?;
+    let (assembly, seat) = shared(&rt, root, 196)?;
+    let (mut seat, report) = run_texts(&rt, rt.alloc(), &assembly, seat, 4, &[whole.as_slice()])?;
+    assert_eq!(rt; (report.committed, report.refused), (196, 0));
+    let gathered = finish(rt.alloc(), &assembly, &mut seat)?;
+    let mut store = Store::new(rt.alloc(), root, mode, 196)?;
+    let mut holders = [Encoded::new(rt.alloc(), whole.as_slice())];
+    run_one(rt.alloc(), &mut store, &mut holders);
+    let alone = finish_one(rt.alloc(), &store)?;
+    assert_eq!(rt; gathered.as_slice(), alone.as_slice());
+    assert_eq!(rt; gathered.as_slice(), bytes.as_slice());
+    Ok(())
+}
+
+const TURNS: u32 = 1_000_000;
+
+// Whoever comes first is held until a second comes; after many turns it gives up.
+#[derive(Drop)]
+struct Meeting {
+    came: AtomicU64,
+    met: AtomicU64,
+}
+
+impl Meeting {
+    fn new() -> Meeting {
+        Meeting {
+            came: AtomicU64::new(0),
+            met: AtomicU64::new(0),
+        }
+    }
+
+    fn wait(&self) {
+        self.came.fetch_add(1, Ordering::SeqCst);
+        for _ in 0..TURNS {
+            if self.came.load(Ordering::SeqCst) >= 2 {
+                self.met.fetch_add(1, Ordering::SeqCst);
+                return;
+            }
+            thread::yield_now();
+        }
+    }
+}
+
+impl Gate for Meeting {
+    fn pass(&self, _worker: usize) {
+        self.wait();
+    }
+}
+
+// A holder over an encoding that waits before its first fetch.
+#[derive(Drop)]
+struct Late<'a> {
+    meeting: &'a Meeting,
+    waits: bool,
+    holder: Encoded<'a>,
+}
+
+impl Holder for Late<'_> {
+    ghost count = { λ _. 0 };
+
+    fn fetch(&mut self, start: u64, len: u64, into: &mut Vec<u8>) -> Result<(), HolderFault> {
+        if self.waits {
+            self.waits = false;
+            self.meeting.wait();
+        }
+        match self.holder.fetch(start, len, into) {
+            Ok(()) => Ok(()),
+            Err(_) => Err(HolderFault::Memory),
+        }
+    }
+
+    fn faults(&self) -> u64 {
+        0
+    }
+}
+
+// Each of two workers passes the gate while the other does.
+#[test]
+fn two_workers_pass_at_once(rt: HostRuntime) -> Result<(), Fail> {
+    let bytes = blob(&rt, 3000)?;
+    let (root, whole) = combined(rt.alloc(), &Mode::hash(), bytes.as_slice())?;
+    let (assembly, seat) = shared(&rt, root, 3)?;
+    let first = vec![in rt.alloc(); Encoded::new(rt.alloc(), whole.as_slice())]?;
+    let second = vec![in rt.alloc(); Encoded::new(rt.alloc(), whole.as_slice())]?;
+    let gate = Meeting::new();
+    let (mut seat, report) = run_lists(
+        &rt,
+        rt.alloc(),
+        &assembly,
+        seat,
+        vec![in rt.alloc(); first, second]?,
+        &gate,
+    )?;
+    assert_eq!(rt; gate.came.load(Ordering::SeqCst), 2);
+    assert_eq!(rt; gate.met.load(Ordering::SeqCst), 2);
+    assert_eq!(rt; report.committed, 3);
+    let gathered = finish(rt.alloc(), &assembly, &mut seat)?;
+    assert_eq!(rt; gathered.as_slice(), bytes.as_slice());
+    Ok(())
+}
+
+// Each of two workers asks its holder while the other does.
+#[test]
+fn two_workers_ask_at_once(rt: HostRuntime) -> Result<(), Fail> {
+    let bytes = blob(&rt, 3000)?;
+    let (root, whole) = combined(rt.alloc(), &Mode::hash(), bytes.as_slice())?;
+    let (assembly, seat) = shared(&rt, root, 3)?;
+    let meeting = Meeting::new();
+    let mut lists = Vec::new(rt.alloc());
+    for _ in 0..2 {
+        let late = Late {
+            meeting: &meeting,
+            waits: true,
+            holder: Encoded::new(rt.alloc(), whole.as_slice()),
+        };
+        lists.push(vec![in rt.alloc(); late]?)?;
+    }
+    let (mut seat, report) = run_lists(&rt, rt.alloc(), &assembly, seat, lists, &Open)?;
+    assert_eq!(rt; meeting.met.load(Ordering::SeqCst), 2);
+    assert_eq!(rt; report.committed, 3);
+    let gathered = finish(rt.alloc(), &assembly, &mut seat)?;
+    assert_eq!(rt; gathered.as_slice(), bytes.as_slice());
+    Ok(())
+}
+
+// A device that fails on every fetch, or a holder over an encoding.
+#[derive(Drop)]
+struct Peer<'a> {
+    faults: u64,
+    whole: Option<Encoded<'a>>,
+}
+
+impl Holder for Peer<'_> {
+    ghost count = { λ peer. peer.faults };
+
+    fn fetch(&mut self, start: u64, len: u64, into: &mut Vec<u8>) -> Result<(), HolderFault> {
+        match &mut self.whole {
+            None => {
+                if self.faults == u64::MAX {
+                    return Ok(());
+                }
+                self.faults += 1;
+                Err(HolderFault::Device)
+            }
+            Some(holder) => match holder.fetch(start, len, into) {
+                Ok(()) => Ok(()),
+                Err(_) => Err(HolderFault::Memory),
+            },
+        }
+    }
+
+    fn faults(&self) -> u64 {
+        self.faults
+    }
+}
+
+#[test]
+fn a_device_that_fails(rt: HostRuntime) -> Result<(), Fail> {
+    let bytes = blob(&rt, 3000)?;
+    let (root, whole) = combined(rt.alloc(), &Mode::hash(), bytes.as_slice())?;
+    let (assembly, seat) = shared(&rt, root, 3)?;
+    let broken = Peer {
+        faults: 0,
+        whole: None,
+    };
+    let good = Peer {
+        faults: 0,
+        whole: Some(Encoded::new(rt.alloc(), whole.as_slice())),
+    };
+    let holders = vec![in rt.alloc(); broken, good]?;
+    let (mut seat, report) = run_lists(
+        &rt,
+        rt.alloc(),
+        &assembly,
+        seat,
+        vec![in rt.alloc(); holders]?,
+        &Open,
+    )?;
+    let all = Report {
+        committed: 3,
+        asked: 4,
+        refused: 0,
+        failed: 2,
+        memory: 0,
+        too_large: false,
+    };
+    assert_eq!(rt; report, all);
+    let gathered = finish(rt.alloc(), &assembly, &mut seat)?;
+    assert_eq!(rt; gathered.as_slice(), bytes.as_slice());
+    Ok(())
+}
+
+// The encoding of 3,072 bytes with its length changed to 4,096, beside the true one.
+#[test]
+fn a_changed_length_is_refused(rt: HostRuntime) -> Result<(), Fail> {
+    let bytes = blob(&rt, 3072)?;
+    let (root, whole) = combined(rt.alloc(), &Mode::hash(), bytes.as_slice())?;
+    let mut changed = whole.clone()?;
+    changed
+        .as_mut_slice()
+        .get_mut(..8)
+        .ok_or("length")?
+        .copy_from_slice(&4096_u64.to_le_bytes());
+    let (assembly, seat) = shared(&rt, root, 64)?;
+    let (mut seat, report) = run_texts(
+        &rt,
+        rt.alloc(),
+        &assembly,
+        seat,
+        1,
+        &[changed.as_slice(), whole.as_slice()],
+    )?;
+    assert_eq!(rt; (report.committed, report.asked, report.refused), (3, 4, 2));
+    let gathered = finish(rt.alloc(), &assembly, &mut seat)?;
+    assert_eq!(rt; gathered.as_slice(), bytes.as_slice());
+    Ok(())
+}
+
+#[test]
+fn a_store_with_less_room(rt: HostRuntime) -> Result<(), Fail> {
+    let bytes = blob(&rt, 3072)?;
+    let (root, whole) = combined(rt.alloc(), &Mode::hash(), bytes.as_slice())?;
+    let (assembly, seat) = shared(&rt, root, 2)?;
+    let (mut seat, report) = run_texts(&rt, rt.alloc(), &assembly, seat, 2, &[whole.as_slice()])?;
+    assert!(rt; report.too_large);
+    assert_eq!(rt; (report.committed, report.refused), (0, 0));
+    assert_eq!(rt;
+        finish_fault(&rt, &assembly, &mut seat)?,
+        FinishFault::Unfinished
+    );
+    Ok(())
+}
+
+// A seat that is gone still holds its claim.
+#[test]
+fn a_claim_of_a_seat_that_is_gone(rt: HostRuntime) -> Result<(), Fail> {
+    let bytes = blob(&rt, 1000)?;
+    let (root, whole) = combined(rt.alloc(), &Mode::hash(), bytes.as_slice())?;
+    let (assembly, seat) = shared(&rt, root, 1)?;
+    let Ok((seat, mut other)) = assembly.split(seat) else {
+        return Err(Fail::from("a seat was refused"));
+    };
+    assert_eq!(rt; assembly.take(&mut other, 0, 1)?, 1);
+    drop(other);
+    let (mut seat, report) = run_texts(&rt, rt.alloc(), &assembly, seat, 2, &[whole.as_slice()])?;
+    assert_eq!(rt; report.committed, 0);
+    assert_eq!(rt;
+        finish_fault(&rt, &assembly, &mut seat)?,
+        FinishFault::Unfinished
+    );
+    Ok(())
+}
+
+// The length of 200,000 bytes is settled, and all holders have 199,999: no worker leaves a claim behind.
+#[test]
+fn no_claim_is_left(rt: HostRuntime) -> Result<(), Fail> {
+    let mode = Mode::hash();
+    let (root, whole) = combined(rt.alloc(), &mode, blob(&rt, 200_000)?.as_slice())?;
+    let (_, shorter) = combined(rt.alloc(), &mode, blob(&rt, 199_999)?.as_slice())?;
+    let (assembly, seat) = shared(&rt, root, 196)?;
+    let mut seat = seat;
+    let piece = check_combined(rt.alloc(), &mode, &root, whole.as_slice())?;
+    let settling = assembly.settle(&mut seat, &piece.tail().ok_or("tail")?);
+    assert_eq!(rt; settling, Settling::Settled);
+    let texts = [shorter.as_slice(), shorter.as_slice()];
+    let (mut seat, report) = run_texts(&rt, rt.alloc(), &assembly, seat, 4, &texts)?;
+    assert_eq!(rt; (report.committed, report.failed), (0, 0));
+    assert_eq!(rt; report.refused, report.asked);
+    let mut taken = 0u32;
+    for group in 0..4 {
+        let granted = assembly.take(&mut seat, group, u64::MAX)?;
+        taken = taken.saturating_add(granted.count_ones());
+    }
+    assert_eq!(rt; taken, 196);
+    Ok(())
+}
+
+// The text that claims `len` bytes and has these parts.
+fn text_of(rt: &HostRuntime, len: u64, parts: &[&[u8]]) -> Result<Vec<u8>, Fail> {
+    let mut text = Vec::new(rt.alloc());
+    text.extend_from_slice(&len.to_le_bytes())?;
+    for part in parts {
+        text.extend_from_slice(part)?;
+    }
+    Ok(text)
+}
+
+// The 64 bytes of a parent.
+fn parent_of(left: &Cv, right: &Cv) -> [u8; 64] {
+    let mut bytes = [0; 64];
+    bytes[..32].copy_from_slice(&left.to_bytes());
+    bytes[32..].copy_from_slice(&right.to_bytes());
+    bytes
+}
+
+// Under the hash of a parent that no blob has, two lengths are certified: the store is whole, and no blob comes out.
+#[test]
+fn a_root_of_no_blob(rt: HostRuntime) -> Result<(), Fail> {
+    let mode = Mode::hash();
+    let bytes = blob(&rt, 1500)?;
+    let (first, last) = bytes.as_slice().split_at_checked(1024).ok_or("chunks")?;
+    let u = subtree_cv(&mode, 0, first);
+    let v = subtree_cv(&mode, 1, last);
+    let p = Cv(cv(&parent_input(&mode, &u, &u)));
+    let root = root_hash(&rooted(&parent_input(&mode, &p, &v)));
+    let end_text = text_of(&rt, 1500, &[&parent_of(&p, &v), last])?;
+    let end = check_slice(rt.alloc(), &mode, &root, 1024, 1, end_text.as_slice())?;
+    let begin_text = text_of(&rt, 3072, &[&parent_of(&p, &v), &parent_of(&u, &u), first])?;
+    let begin = check_slice(rt.alloc(), &mode, &root, 0, 1, begin_text.as_slice())?;
+    let (assembly, seat) = shared(&rt, root, 3)?;
+    let mut seat = seat;
+    assert_eq!(rt; assembly.take(&mut seat, 0, 0b111)?, 0b111);
+    assert_eq!(rt; assembly.commit(&mut seat, 0, &begin)?, 0b001);
+    assert_eq!(rt; assembly.commit(&mut seat, 0, &end)?, 0b010);
+    let settling = assembly.settle(&mut seat, &end.tail().ok_or("tail")?);
+    assert_eq!(rt; settling, Settling::Settled);
+    assert_eq!(rt; assembly.read(&mut seat, 0, &mut [0; 1500]), Ok(()));
+    assert_eq!(rt;
+        finish_fault(&rt, &assembly, &mut seat)?,
+        FinishFault::NotTheRoot
+    );
+    Ok(())
+}
+
+#[test]
+fn an_empty_blob(rt: HostRuntime) -> Result<(), Fail> {
+    let (assembly, seat) = shared(&rt, hash(&Mode::hash(), b""), 1)?;
+    let (mut seat, report) = run_texts(&rt, rt.alloc(), &assembly, seat, 1, &[&[0; 8]])?;
+    assert_eq!(rt; (report.committed, report.asked), (1, 2));
+    assert_eq!(rt; finish(rt.alloc(), &assembly, &mut seat)?.len(), 0);
+    Ok(())
+}
+
+// Where a growth is refused, that is told, and a second call gives the blob: `rt try --test --fail-alloc N`.
+#[test]
+fn a_growth_that_is_refused(rt: HostRuntime) -> Result<(), Fail> {
+    let bytes = blob(&rt, 3000)?;
+    let (root, whole) = combined(rt.alloc(), &Mode::hash(), bytes.as_slice())?;
+    let (assembly, mut seat) = shared(&rt, root, 3)?;
+    let mut committed = 0u64;
+    for _ in 0..2 {
+        let holders = vec![in rt.alloc(); Encoded::new(rt.alloc(), whole.as_slice())]?;
+        let lists = vec![in rt.alloc(); holders]?;
+        let (stays, report) = run_lists(&rt, rt.alloc(), &assembly, seat, lists, &Open)?;
+        seat = stays;
+        committed = committed.saturating_add(report.committed);
+        assert!(rt; committed == 3 || report.memory > 0);
+    }
+    assert_eq!(rt; committed, 3);
+    let gathered = match finish(rt.alloc(), &assembly, &mut seat) {
+        Ok(gathered) => gathered,
+        Err(fault) => {
+            assert_eq!(rt; fault, FinishFault::Memory);
+            finish(rt.alloc(), &assembly, &mut seat)?
+        }
+    };
+    assert_eq!(rt; gathered.as_slice(), bytes.as_slice());
+    Ok(())
+}
