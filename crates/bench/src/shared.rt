@@ -1,4 +1,6 @@
-ghost use Rattle.std.specs.Prelude.{All, IfOk};
+ghost use Rattle.std.specs.Prelude.{◌≡◌, All, IfOk};
+ghost use Rattle.bench.specs.Shares.{IsSharedStill};
+ghost use Rattle.crews.specs.Crews.{Each};
 ghost use Rattle.store_shared.specs.Seats.{IsSeatOf};
 
 use crate::measure::print_row;
@@ -109,7 +111,28 @@ fn read_share(store: &Assembly, share: &mut Share)
     share.is_read = read.is_ok();
 }
 
-// So many shares of a blob of `len` bytes, one after another, and the seat that is left.
+// The share with this number among so many: a part of the groups of a blob of `len` bytes.
+fn share_of(alloc: Global, seat: Seat, number: u32, count: u32, len: usize) -> Result<Share>
+    ensures { IfOk result (λ share. share.seat ≡ seat) }
+{
+    let groups = u32::try_from(len.div_ceil(GROUP_LEN)).unwrap_or(u32::MAX);
+    let part = groups.div_ceil(count.max(1));
+    let first = part.saturating_mul(number).min(groups);
+    let end = first.saturating_add(part).min(groups);
+    let from = (first as usize).saturating_mul(GROUP_LEN).min(len);
+    let to = (end as usize).saturating_mul(GROUP_LEN).min(len);
+    let bytes = vec![in alloc; 0u8; to.saturating_sub(from)]?;
+    Ok(Share {
+        seat,
+        first,
+        end,
+        committed: 0,
+        bytes,
+        is_read: false,
+    })
+}
+
+// So many shares of a blob of `len` bytes, one after another.
 fn shares_of(
     alloc: Global,
     store: &Assembly,
@@ -120,30 +143,48 @@ fn shares_of(
     requires { IsSeatOf store.now seat }
     ensures { IfOk result (λ shares. All (λ share. IsSeatOf store.now share.seat) shares.items) }
 {
-    let groups = len.div_ceil(GROUP_LEN);
-    let part = groups.div_ceil(count.max(1) as usize);
     let mut shares = Vec::new(alloc);
     let mut left = seat;
-    for number in 0..count as usize {
-        let Ok((rest, own)) = store.split(left) else {
-            bail!("no memory for a seat");
+    for number in 0..count {
+        let (rest, own) = match store.split(left) {
+            Ok(parts) => parts,
+            Err(_) => bail!("no memory for a seat"),
         };
         left = rest;
-        let first = part.saturating_mul(number).min(groups);
-        let end = first.saturating_add(part).min(groups);
-        let from = first.saturating_mul(GROUP_LEN).min(len);
-        let to = end.saturating_mul(GROUP_LEN).min(len);
-        let share = Share {
-            seat: own,
-            first: first as u32,
-            end: end as u32,
-            committed: 0,
-            bytes: vec![in alloc; 0u8; to.saturating_sub(from)]?,
-            is_read: false,
-        };
+        let share = share_of(alloc, own, number, count, len)?;
         shares.push(share)?;
     }
     Ok(shares)
+}
+
+// All shares' groups are claimed, one share after another.
+fn take_all<R: Threads + Sync>(rt: &R, store: &Assembly, shares: &mut [Share])
+    requires { All (λ share. IsSeatOf store.now share.seat) shares.old }
+    ensures { Each (IsSharedStill store.now) shares.old shares.new }
+{
+    for_each_mut(rt, shares, 1, &|_, share| { take_share(store, share) });
+}
+
+// They are committed, each share by a thread of its own.
+fn commit_all<R: Threads + Sync>(
+    rt: &R,
+    store: &Assembly,
+    piece: &Checked<'_>,
+    shares: &mut [Share],
+)
+    requires { All (λ share. IsSeatOf store.now share.seat) shares.old }
+    ensures { Each (IsSharedStill store.now) shares.old shares.new }
+{
+    let threads = shares.len().max(1);
+    for_each_mut(rt, shares, threads, &|_, share| { commit_share(store, piece, share) });
+}
+
+// Their bytes are read, each share by a thread of its own.
+fn read_all<R: Threads + Sync>(rt: &R, store: &Assembly, shares: &mut [Share])
+    requires { All (λ share. IsSeatOf store.now share.seat) shares.old }
+{
+    let threads = shares.len().max(1);
+    for_each_mut(rt, shares, threads, &|_, share| { read_share(store, share) });
 }
 
 // How long so many seats, each on a thread of its own, take to commit the blob's chunks and to read its bytes.
@@ -156,18 +197,13 @@ fn timed_shares<R: Clock + AllocGlobal + Threads + Sync>(
 ) -> Result<ShareTimes> {
     let (store, seat) = Assembly::new(rt.alloc(), *root, Mode::hash(), MAX_CAPACITY)?;
     let mut shares = shares_of(rt.alloc(), &store, seat, count, blob.len())?;
-    for_each_mut(rt, shares.as_mut_slice(), 1, &|_, share| { take_share(&store, share) });
-    let threads = shares.len().max(1);
+    let all = shares.as_mut_slice();
+    take_all(rt, &store, all);
     let start = Instant::now(rt)?;
-    for_each_mut(
-        rt,
-        shares.as_mut_slice(),
-        threads,
-        &|_, share| { commit_share(&store, piece, share) },
-    );
+    commit_all(rt, &store, piece, all);
     let committed = start.elapsed(rt)?;
     let start = Instant::now(rt)?;
-    for_each_mut(rt, shares.as_mut_slice(), threads, &|_, share| { read_share(&store, share) });
+    read_all(rt, &store, all);
     let read = start.elapsed(rt)?;
     let mut rest = blob;
     let mut chunks = 0u64;
