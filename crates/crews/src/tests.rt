@@ -470,27 +470,33 @@ fn an_empty_blob(rt: HostRuntime) -> Result<(), Fail> {
     Ok(())
 }
 
+// The blob, at a second call where the first is refused a growth.
+fn finish_again(rt: &HostRuntime, assembly: &Assembly, seat: &mut Seat) -> Result<Vec<u8>, Fail>
+    requires { IsSeatOf assembly.now seat.old }
+    ensures { IsSeatOf assembly.now seat.new }
+{
+    match finish(rt.alloc(), assembly, seat) {
+        Ok(gathered) => Ok(gathered),
+        Err(FinishFault::Memory) => Ok(finish(rt.alloc(), assembly, seat)?),
+        Err(fault) => Err(Fail::from(fault)),
+    }
+}
+
 // Where a growth is refused, that is told, and a second call gives the blob: `rt try --test --fail-alloc N`.
 #[test]
 fn a_growth_that_is_refused(rt: HostRuntime) -> Result<(), Fail> {
     let bytes = blob(&rt, 3000)?;
     let (root, whole) = combined(rt.alloc(), &Mode::hash(), bytes.as_slice())?;
     let (assembly, seat) = shared(&rt, root, 3)?;
-    let holders = vec![in rt.alloc(); Encoded::new(rt.alloc(), whole.as_slice())]?;
-    let lists = vec![in rt.alloc(); holders]?;
+    let first = vec![in rt.alloc(); Encoded::new(rt.alloc(), whole.as_slice())]?;
+    let second = vec![in rt.alloc(); Encoded::new(rt.alloc(), whole.as_slice())]?;
+    let lists = vec![in rt.alloc(); first]?;
     let (seat, report) = run_lists(&rt, rt.alloc(), &assembly, seat, lists, &Open)?;
     assert!(rt; report.committed == 3 || report.memory > 0);
-    let holders = vec![in rt.alloc(); Encoded::new(rt.alloc(), whole.as_slice())]?;
-    let lists = vec![in rt.alloc(); holders]?;
+    let lists = vec![in rt.alloc(); second]?;
     let (mut seat, again) = run_lists(&rt, rt.alloc(), &assembly, seat, lists, &Open)?;
     assert_eq!(rt; report.committed.saturating_add(again.committed), 3);
-    let gathered = match finish(rt.alloc(), &assembly, &mut seat) {
-        Ok(gathered) => gathered,
-        Err(fault) => {
-            assert_eq!(rt; fault, FinishFault::Memory);
-            finish(rt.alloc(), &assembly, &mut seat)?
-        }
-    };
+    let gathered = finish_again(&rt, &assembly, &mut seat)?;
     assert_eq!(rt; gathered.as_slice(), bytes.as_slice());
     Ok(())
 }
