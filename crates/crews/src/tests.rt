@@ -381,6 +381,19 @@ fn a_claim_of_a_seat_that_is_gone(rt: HostRuntime) -> Result<(), Fail> {
     Ok(())
 }
 
+// How many chunks a seat can take.
+fn take_all(assembly: &Assembly, seat: &mut Seat, groups: u32) -> Result<u32, Fail>
+    requires { IsSeatOf assembly.now seat.old }
+    ensures { IsSeatOf assembly.now seat.new }
+{
+    let mut taken = 0u32;
+    for group in 0..groups {
+        let granted = assembly.take(seat, group, u64::MAX)?;
+        taken = taken.saturating_add(granted.count_ones());
+    }
+    Ok(taken)
+}
+
 // The length of 200,000 bytes is settled, and all holders have 199,999: no worker leaves a claim behind.
 #[test]
 fn no_claim_is_left(rt: HostRuntime) -> Result<(), Fail> {
@@ -396,11 +409,7 @@ fn no_claim_is_left(rt: HostRuntime) -> Result<(), Fail> {
     let (mut seat, report) = run_texts(&rt, rt.alloc(), &assembly, seat, 4, &texts)?;
     assert_eq!(rt; (report.committed, report.failed), (0, 0));
     assert_eq!(rt; report.refused, report.asked);
-    let mut taken = 0u32;
-    for group in 0..4 {
-        let granted = assembly.take(&mut seat, group, u64::MAX)?;
-        taken = taken.saturating_add(granted.count_ones());
-    }
+    let taken = take_all(&assembly, &mut seat, 4)?;
     assert_eq!(rt; taken, 196);
     Ok(())
 }
@@ -461,29 +470,33 @@ fn an_empty_blob(rt: HostRuntime) -> Result<(), Fail> {
     Ok(())
 }
 
+// The blob, at a second call where the first is refused a growth.
+fn finish_again(rt: &HostRuntime, assembly: &Assembly, seat: &mut Seat) -> Result<Vec<u8>, Fail>
+    requires { IsSeatOf assembly.now seat.old }
+    ensures { IsSeatOf assembly.now seat.new }
+{
+    match finish(rt.alloc(), assembly, seat) {
+        Ok(gathered) => Ok(gathered),
+        Err(FinishFault::Memory) => Ok(finish(rt.alloc(), assembly, seat)?),
+        Err(fault) => Err(Fail::from(fault)),
+    }
+}
+
 // Where a growth is refused, that is told, and a second call gives the blob: `rt try --test --fail-alloc N`.
 #[test]
 fn a_growth_that_is_refused(rt: HostRuntime) -> Result<(), Fail> {
     let bytes = blob(&rt, 3000)?;
     let (root, whole) = combined(rt.alloc(), &Mode::hash(), bytes.as_slice())?;
-    let (assembly, mut seat) = shared(&rt, root, 3)?;
-    let mut committed = 0u64;
-    for _ in 0..2 {
-        let holders = vec![in rt.alloc(); Encoded::new(rt.alloc(), whole.as_slice())]?;
-        let lists = vec![in rt.alloc(); holders]?;
-        let (stays, report) = run_lists(&rt, rt.alloc(), &assembly, seat, lists, &Open)?;
-        seat = stays;
-        committed = committed.saturating_add(report.committed);
-        assert!(rt; committed == 3 || report.memory > 0);
-    }
-    assert_eq!(rt; committed, 3);
-    let gathered = match finish(rt.alloc(), &assembly, &mut seat) {
-        Ok(gathered) => gathered,
-        Err(fault) => {
-            assert_eq!(rt; fault, FinishFault::Memory);
-            finish(rt.alloc(), &assembly, &mut seat)?
-        }
-    };
+    let (assembly, seat) = shared(&rt, root, 3)?;
+    let first = vec![in rt.alloc(); Encoded::new(rt.alloc(), whole.as_slice())]?;
+    let second = vec![in rt.alloc(); Encoded::new(rt.alloc(), whole.as_slice())]?;
+    let lists = vec![in rt.alloc(); first]?;
+    let (seat, report) = run_lists(&rt, rt.alloc(), &assembly, seat, lists, &Open)?;
+    assert!(rt; report.committed == 3 || report.memory > 0);
+    let lists = vec![in rt.alloc(); second]?;
+    let (mut seat, again) = run_lists(&rt, rt.alloc(), &assembly, seat, lists, &Open)?;
+    assert_eq!(rt; report.committed.saturating_add(again.committed), 3);
+    let gathered = finish_again(&rt, &assembly, &mut seat)?;
     assert_eq!(rt; gathered.as_slice(), bytes.as_slice());
     Ok(())
 }
