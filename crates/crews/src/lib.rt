@@ -15,6 +15,6 @@ mod fault;
 mod rounds;
 mod runs;
 mod shared;
-mod texts;
 #[cfg(test)]
 mod tests;
+mod texts;

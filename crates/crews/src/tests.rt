@@ -1,11 +1,11 @@
 ghost use Rattle.std.specs.Prelude.{IfOk};
 ghost use Rattle.store_shared.specs.Seats.{IsSeatOf};
 
-use crate::{Crew, Gate, Open, finish, run};
+use crate::{Crew, CrewsFault, Gate, Open, finish, gather_texts, run};
 use b3tree::{Cv, Hash, Mode, cv, hash, parent_input, root_hash, rooted, subtree_cv};
 use bao_check::{check_combined, check_slice};
 use bao_text::combined;
-use gather::{Encoded, FinishFault, Holder, HolderFault, Report, finish_one, run_one};
+use gather::{Encoded, FinishFault, GatherFault, Holder, HolderFault, Report, finish_one, run_one};
 use std::alloc::Global;
 use std::sync::atomic::{AtomicU64, Ordering};
 use std::test::Fail;
@@ -470,33 +470,41 @@ fn an_empty_blob(rt: HostRuntime) -> Result<(), Fail> {
     Ok(())
 }
 
-// The blob, at a second call where the first is refused a growth.
-fn finish_again(rt: &HostRuntime, assembly: &Assembly, seat: &mut Seat) -> Result<Vec<u8>, Fail>
-    requires { IsSeatOf assembly.now seat.old }
-    ensures { IsSeatOf assembly.now seat.new }
-{
-    match finish(rt.alloc(), assembly, seat) {
-        Ok(gathered) => Ok(gathered),
-        Err(FinishFault::Memory) => Ok(finish(rt.alloc(), assembly, seat)?),
-        Err(fault) => Err(Fail::from(fault)),
+// Three texts, of which one is cut and one is of a shorter blob: with the third any number of workers has the blob, and
+// without it none.
+#[test]
+fn texts_by_workers(rt: HostRuntime) -> Result<(), Fail> {
+    let (mode, bytes) = (Mode::hash(), blob(&rt, 3000)?);
+    let (root, whole) = combined(rt.alloc(), &mode, bytes.as_slice())?;
+    let mut cut = Vec::new(rt.alloc());
+    cut.extend_from_slice(whole.as_slice().get(..1000).ok_or("too short")?)?;
+    let (_, shorter) = combined(rt.alloc(), &mode, blob(&rt, 2999)?.as_slice())?;
+    let texts = [cut, shorter, whole];
+    let bad = texts.get(..2).ok_or("three texts")?;
+    for workers in [1, 2, 4, 64] {
+        let gathered = gather_texts(&rt, rt.alloc(), root, mode, 3, workers, &texts)?;
+        assert_eq!(rt; gathered.as_slice(), bytes.as_slice());
+        let none = gather_texts(&rt, rt.alloc(), root, mode, 3, workers, bad);
+        assert!(rt; matches!(none, Err(CrewsFault::Gather(GatherFault::Unfinished))));
+        let small = gather_texts(&rt, rt.alloc(), root, mode, 2, workers, &texts);
+        assert!(rt; matches!(small, Err(CrewsFault::Gather(GatherFault::TooLarge))));
     }
+    Ok(())
 }
 
-// Where a growth is refused, that is told, and a second call gives the blob: `rt try --test --fail-alloc N`.
 #[test]
-fn a_growth_that_is_refused(rt: HostRuntime) -> Result<(), Fail> {
-    let bytes = blob(&rt, 3000)?;
-    let (root, whole) = combined(rt.alloc(), &Mode::hash(), bytes.as_slice())?;
-    let (assembly, seat) = shared(&rt, root, 3)?;
-    let first = vec![in rt.alloc(); Encoded::new(rt.alloc(), whole.as_slice())]?;
-    let second = vec![in rt.alloc(); Encoded::new(rt.alloc(), whole.as_slice())]?;
-    let lists = vec![in rt.alloc(); first]?;
-    let (seat, report) = run_lists(&rt, rt.alloc(), &assembly, seat, lists, &Open)?;
-    assert!(rt; report.committed == 3 || report.memory > 0);
-    let lists = vec![in rt.alloc(); second]?;
-    let (mut seat, again) = run_lists(&rt, rt.alloc(), &assembly, seat, lists, &Open)?;
-    assert_eq!(rt; report.committed.saturating_add(again.committed), 3);
-    let gathered = finish_again(&rt, &assembly, &mut seat)?;
-    assert_eq!(rt; gathered.as_slice(), bytes.as_slice());
+fn each_fault_has_a_number_and_a_line(rt: HostRuntime) -> Result<(), Fail> {
+    for (fault, number, line) in [
+        (CrewsFault::Store, 801, "801 memory"),
+        (CrewsFault::Seat, 806, "806 memory"),
+        (
+            CrewsFault::Gather(GatherFault::Unfinished),
+            901,
+            "901 unfinished",
+        ),
+    ] {
+        assert_eq!(rt; fault.code(), number);
+        assert_eq!(rt; format!(in rt.alloc(); "{fault}")?.as_str(), line);
+    }
     Ok(())
 }
