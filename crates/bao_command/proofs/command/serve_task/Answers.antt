@@ -1,4 +1,4 @@
-use Rattle.std.proofs.Common.{◌≡◌, ◌≤◌, ℕ, List, length, OnOk, Result, Ok, Err, Bor, subst, sym}
+use Rattle.std.proofs.Common.{◌≤◌, ℕ, List, length, OnOk, Result, Ok, Err, Bor, subst, sym}
 use Rattle.bao_command.specs.declared.fault.Fault.{Fault}
 use Rattle.bao_command.specs.Printed.{Prints}
 use Rattle.bao_command.specs.Tasks.{IsRight, line_of}
