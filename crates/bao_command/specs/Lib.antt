@@ -4,6 +4,7 @@ pub mod Printed
 pub mod Reading
 pub mod Outcome
 pub mod Tasks
+pub mod Encoded
 pub mod Ranges
 pub mod Gathered
 pub mod Replayed

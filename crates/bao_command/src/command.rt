@@ -12,7 +12,7 @@ use crate::decode::decode_file;
 use crate::digits::print_digits;
 use crate::fault::Fault;
 use crate::gathering::{Gathering, gather_files};
-use crate::input::{open_file, read_file, shared_len};
+use crate::input::{open_file, shared_len};
 use crate::mode::{bytes_of_digits, mode_of};
 use crate::once::Once;
 use crate::output::encode_file;
@@ -90,8 +90,7 @@ fn serve_task<'a, R: Files<File = File> + AllocGlobal + Threads + Sync, O: Write
             file,
             out: path,
         } => {
-            let bytes = read_file(rt, file)?;
-            let hash = encode_file(rt, mode, *encoding, bytes.as_slice(), path)?;
+            let hash = encode_file(rt, mode, *encoding, file, path)?;
             print_digits(rt.alloc(), &hash.0, out)
         }
         Task::Decode {

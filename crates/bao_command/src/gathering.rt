@@ -130,15 +130,7 @@ fn gather<'a, R: Files + AllocGlobal + Threads + Sync>(
     };
     let texts = read_files(rt, files)?;
     let mut out = LateFile::new(rt, path);
-    write_gathered(
-        rt,
-        mode,
-        &root,
-        how,
-        texts.as_slice(),
-        path,
-        &mut out,
-    )
+    write_gathered(rt, mode, &root, how, texts.as_slice(), path, &mut out)
 }
 
 /// Gathers the blob with this root, of at most `capacity` chunks, out of the files, each a combined encoding from a

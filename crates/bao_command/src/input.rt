@@ -3,6 +3,7 @@ ghost use Rattle.std.specs.Io.KnownBytes.{Consumes, IsAtEnd, Keeps};
 ghost use Rattle.bao_command.specs.Reading.{Gains};
 
 use crate::fault::Fault;
+use std::alloc::Global;
 use std::fs;
 use std::fs::OpenFile;
 use std::io::Read;
@@ -11,8 +12,8 @@ use std::rt::Files;
 // The most bytes that one read asks for.
 const READ_LEN: usize = 1 << 18;
 
-// A file of fewer bytes isn't worth threads.
-const LEAST_SHARED_LEN: u64 = 4 << 20;
+// A file of fewer bytes is worth neither threads nor reads at places.
+pub(crate) const LEAST_SHARED_LEN: u64 = 4 << 20;
 
 /// Why a reader was not read to its end.
 #[derive(Clone, Copy, Debug, PartialEq, Eq)]
@@ -76,22 +77,35 @@ pub fn shared_len<F: OpenFile>(file: &F) -> Option<u64> {
     (metadata.is_file() && metadata.len() >= LEAST_SHARED_LEN).then_some(metadata.len())
 }
 
-/// All bytes of the file at `path`.
+/// All that `input`, the file at `path`, has from where it stands on.
 ///
-/// Where it can't be opened or read the fault is `Read`, and `Memory` where its bytes found no room. The size
-/// that the file claims is room for a start, so that bytes are moved at most once, and nothing more.
+/// Where a read answers a fault the fault is `Read`, and `Memory` where the bytes found no room. The `size` that
+/// the file claims is room for a start, so that bytes are moved at most once, and nothing more.
+pub fn read_input<'a, I: Read>(
+    alloc: Global,
+    input: &mut I,
+    size: u64,
+    path: &'a str,
+) -> Result<Vec<u8>, Fault<'a>>
+    ensures all { IfOk result (λ bytes. IfSome (I.remaining input.old) (λ left. bytes.items ≡ left)) }
+    ensures fault { IfErr result (λ fault. (fault ≡ Fault.Memory) ⊎ (fault ≡ Fault.Read path.entry)) }
+{
+    let room = usize::try_from(size)
+        .unwrap_or(usize::MAX)
+        .saturating_add(READ_LEN);
+    let mut bytes = Vec::with_capacity(alloc, room).map_err(|_| Fault::Memory)?;
+    match read_whole(input, &mut bytes) {
+        Ok(()) => Ok(bytes),
+        Err(ReadFault::Memory) => Err(Fault::Memory),
+        Err(ReadFault::Reader) => Err(Fault::Read(path)),
+    }
+}
+
+/// All bytes of the file at `path`: as `read_input`, and `Read` too where it can't be opened.
 pub fn read_file<'a, R: Files + AllocGlobal>(rt: &R, path: &'a str) -> Result<Vec<u8>, Fault<'a>>
     ensures { IfErr result (λ fault. (fault ≡ Fault.Memory) ⊎ (fault ≡ Fault.Read path.entry)) }
 {
     let mut file = open_file(rt, path)?;
     let size = file.metadata().map_err(|_| Fault::Read(path))?.len();
-    let room = usize::try_from(size)
-        .unwrap_or(usize::MAX)
-        .saturating_add(READ_LEN);
-    let mut bytes = Vec::with_capacity(rt.alloc(), room).map_err(|_| Fault::Memory)?;
-    match read_whole(&mut file, &mut bytes) {
-        Ok(()) => Ok(bytes),
-        Err(ReadFault::Memory) => Err(Fault::Memory),
-        Err(ReadFault::Reader) => Err(Fault::Read(path)),
-    }
+    read_input(rt.alloc(), &mut file, size, path)
 }

@@ -1,15 +1,22 @@
-ghost use Rattle.std.specs.Prelude.{◌≡◌, ◌⊎◌, IfErr, IfOk, OnOk};
+ghost use Rattle.std.specs.Prelude.{◌≡◌, ℕ, List, IfErr, IfOk, IfSome, OnOk, Some};
 ghost use Rattle.std.specs.Io.KnownBytes.{Appends};
 ghost use Rattle.b3tree.specs.Hashing.{hash};
 ghost use Rattle.bao_text.specs.Faults.{WroteOnly};
+ghost use Rattle.bao_read.specs.Outboards.{IsOutboardOf};
+ghost use Rattle.bao_command.specs.Encoded.{Encodes, answer_at_path};
+ghost use Rattle.bao_command.specs.Printed.{IsQuiet, NamesPaths};
 ghost use Rattle.bao_command.specs.Tasks.{encoding_text};
 
 use crate::fault::Fault;
+use crate::input::{LEAST_SHARED_LEN, open_file, read_input};
+use b3read::Source;
 use b3tree::{Hash, Mode};
+use bao_read::outboard_source;
 use bao_request::Encoding;
 use bao_text::{WriteFault, outboard, slice, write_combined, write_text};
 use std::alloc::Global;
-use std::io::Write;
+use std::fs::{File, OpenFile};
+use std::io::{Read, Write};
 use std::rt::Files;
 use std::{fs, io};
 
@@ -99,24 +106,95 @@ pub fn write_encoding<W: Write>(
     }
 }
 
-/// Writes this encoding of `bytes` in `mode` to the file at `path`, made anew, and answers their hash.
-///
-/// After `Encoding`, for want of memory, the path is as it was. After `Write` a beginning of the encoding may
-/// stand there.
-pub fn encode_file<'a, R: Files + AllocGlobal>(
-    rt: &R,
+// The outboard encoding of the bytes of an input that is said to have `size` of them, and their hash. Where they are
+// few or not so many, and where a read or memory fails, there is none. The input is read at places, so that it is left
+// where it stood.
+fn outboard_at_places<I: Source>(
+    alloc: Global,
     mode: &Mode,
-    encoding: Encoding,
-    bytes: &[u8],
-    path: &'a str,
-) -> Result<Hash, Fault<'a>>
-    ensures hash { IfOk result (λ h. h.0 ≡ hash mode.now bytes.now) }
-    ensures err { IfErr result (λ fault. (fault ≡ Fault.Encoding) ⊎ (fault ≡ Fault.Write path.entry)) }
+    input: &I,
+    size: u64,
+) -> Option<(Hash, Vec<u8>)>
+    ensures all { IfSome result (λ made. IfSome (I.contents input.now) (λ s. IsOutboardOf mode.now size s made.0.0 made.1.items)) }
+    ensures some { IfSome result (λ made. (bytes : List ℕ) × IsOutboardOf mode.now size bytes made.0.0 made.1.items) }
 {
-    let mut out = LateFile::new(rt, path);
-    match write_encoding(rt.alloc(), mode, encoding, bytes, &mut out) {
+    if size < LEAST_SHARED_LEN {
+        return None;
+    }
+    outboard_source(alloc, mode, input, size).ok()
+}
+
+// The answer of writing an encoding to the file at `path`, in the words of the program.
+fn answer_at<'a>(written: Result<Hash, WriteFault>, path: &'a str) -> Result<Hash, Fault<'a>>
+    ensures { result ≡ answer_at_path path.entry written }
+{
+    match written {
         Ok(hash) => Ok(hash),
         Err(WriteFault::Memory) => Err(Fault::Encoding),
         Err(WriteFault::Writer { .. }) => Err(Fault::Write(path)),
     }
+}
+
+/// Writes this encoding in `mode` of all that `input`, the file at `file`, has to `out`, the file at `path`, and
+/// answers the hash.
+///
+/// Where the input is said to have a `size` of at least 4 MiB and its outboard encoding is asked for, it is read at
+/// places and in pieces, so that the memory that this takes is the encoding's, a sixteenth of the bytes. If that gives
+/// no encoding, and for every other, it is read whole from where it stands, and what that meets is answered.
+///
+/// Nothing was written after `Read` with the input's path, where a read answered a fault, nor for want of memory, which
+/// is `Memory` for the input's bytes and `Encoding` for the text. After `Write` with the other path exactly a beginning
+/// of the text was written, and not all.
+pub fn encode_input<'a, I: Read + Source, W: Write>(
+    alloc: Global,
+    mode: &Mode,
+    encoding: Encoding,
+    input: &mut I,
+    size: u64,
+    file: &'a str,
+    out: &mut W,
+    path: &'a str,
+) -> Result<Hash, Fault<'a>>
+    ensures all { IfSome (I.contents input.old) (λ s. I.remaining input.old ≡ Some s
+        → Encodes mode.now encoding s file.entry path.entry (W.contents out.old) (W.contents out.new) result) }
+    ensures some { (bytes : List ℕ) × Encodes mode.now encoding bytes file.entry path.entry (W.contents out.old) (W.contents out.new) result }
+{
+    if let Encoding::Outboard = encoding {
+        if let Some(made) = outboard_at_places(alloc, mode, input, size) {
+            return answer_at(send(made, out), path);
+        }
+    }
+    let bytes = read_input(alloc, input, size, file)?;
+    let written = write_encoding(alloc, mode, encoding, bytes.as_slice(), out);
+    answer_at(written, path)
+}
+
+/// Writes this encoding in `mode` of the file at `file` to the file at `path`, made anew, and answers the hash.
+///
+/// After `Read`, where the file can't be opened or read, and after `Memory` and `Encoding`, for want of memory, the
+/// path is as it was. After `Write` a beginning of the encoding may stand there.
+pub fn encode_file<'a, R: Files<File = File> + AllocGlobal>(
+    rt: &R,
+    mode: &Mode,
+    encoding: Encoding,
+    file: &'a str,
+    path: &'a str,
+) -> Result<Hash, Fault<'a>>
+    ensures hash { IfOk result (λ h. (bytes : List ℕ) × (h.0 ≡ hash mode.now bytes)) }
+    ensures fault { IfErr result IsQuiet }
+    ensures paths { IfErr result (NamesPaths file.entry path.entry) }
+{
+    let mut input = open_file(rt, file)?;
+    let size = input.metadata().map_err(|_| Fault::Read(file))?.len();
+    let mut out = LateFile::new(rt, path);
+    encode_input(
+        rt.alloc(),
+        mode,
+        encoding,
+        &mut input,
+        size,
+        file,
+        &mut out,
+        path,
+    )
 }

@@ -19,9 +19,11 @@ const ABC: &str = "6437b3ac38465133ffb63b75273a8db548c558465d79db03fd359c6cd5bd9
 pub(crate) const LARGE: &str = "2f053cd7472cf0cd2f9adaf45c1180255b91b9a865404a63671a0ee5f792ed33\n";
 
 // The same of 5,000,001 such bytes, in two modes.
-const SHARED: &str = "f64c8ef65563cff7e1f2659717bf57b177401918900fe83d4f30f9540970a7ba\n";
+pub(crate) const SHARED: &str =
+    "f64c8ef65563cff7e1f2659717bf57b177401918900fe83d4f30f9540970a7ba\n";
 
-const SHARED_KEYED: &str = "b028562c0c6dd495ed42b4c6452323a666481f1ca4d5a2db5e1e1d68b68522c9\n";
+pub(crate) const SHARED_KEYED: &str =
+    "b028562c0c6dd495ed42b4c6452323a666481f1ca4d5a2db5e1e1d68b68522c9\n";
 
 const LINE: &str = "aa95faeede7041e63c6056bdcf10e6fbf709a355e539259da51a067e5dd27802\n";
 

@@ -225,7 +225,10 @@ fn workers_and_the_encoding(rt: HostRuntime) -> Result<(), Fail> {
     }
     let given = ["gather", "--encode", ROOT, out, cut, shorter, whole];
     expect(&rt, &given, 0, "ok 3000\n", "")?;
-    assert_eq!(rt; fs::read(&rt, out)?.as_slice(), fs::read(&rt, whole)?.as_slice());
+    assert_eq!(rt;
+        fs::read(&rt, out)?.as_slice(),
+        fs::read(&rt, whole)?.as_slice()
+    );
     fs::remove_file(&rt, out)?;
     remove(&rt, &holders)
 }

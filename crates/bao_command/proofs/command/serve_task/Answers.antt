@@ -1,4 +1,4 @@
-use Rattle.std.proofs.Common.{◌≡◌, ◌≤◌, ℕ, List, length, OnOk, Result, Ok, Err, Bor, subst, sym}
+use Rattle.std.proofs.Common.{◌≤◌, ℕ, List, length, OnOk, Result, Ok, Err, Bor, subst, sym}
 use Rattle.bao_command.specs.declared.fault.Fault.{Fault}
 use Rattle.bao_command.specs.Printed.{Prints}
 use Rattle.bao_command.specs.Tasks.{IsRight, line_of}
@@ -16,7 +16,7 @@ returns-in-Gather g c =
     let old = g.O.Write.contents c.args.out.now in
     let new = g.O.Write.contents c.gather_files.new.out in
     let few : OnOk result (length c.in-Gather.files.items ≤ 64) =
-    subst (λ (files : List (Bor (List ℕ))). OnOk result (length files ≤ 64)) c.as_slice-in-Gather.ensures.value c.gather_files.ensures.few in
+    subst (λ (files : List (Bor (List ℕ))). OnOk result (length files ≤ 64)) c.as_slice.ensures.value c.gather_files.ensures.few in
     let answer = c.gather_files.ensures.answer in
     subst (λ (task : Task). (bytes : List ℕ) × OnOk result (IsRight mode task bytes) × Prints (line_of mode task bytes) old new result) (sym c.in-Gather.is)
     (answer.0, both _ _ result few answer.1, answer.2)
