@@ -12,7 +12,6 @@ mod audits;
 mod checks;
 mod files;
 mod measure;
-mod shared;
 mod slices;
 mod stores;
 mod way;
@@ -51,8 +50,6 @@ fn run<R: Runtime + Files<File = File> + AllocGlobal + Threads + Sync>(rt: &R) -
     audits::print(rt, audit)?;
     let of_store = stores::least_times(rt, bytes.as_slice())?;
     stores::print(rt, &of_store)?;
-    let of_shared = shared::least_times(rt, bytes.as_slice())?;
-    shared::print(rt, &of_shared)?;
     let of_workers = workers::least_times(rt, bytes.as_slice())?;
     workers::print(rt, &of_workers)?;
     Ok(ExitCode::SUCCESS)
