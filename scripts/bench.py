@@ -50,7 +50,7 @@ def knows(command):
 
 
 class Times:
-    """The least time of each thing that was measured, by its name."""
+    """The least time of each thing that was measured, or the least memory, by its name."""
 
     def __init__(self):
         self.least = {}
@@ -68,10 +68,11 @@ class Times:
         return printed
 
     def run_in_process(self, path):
-        """Notes what the program bench measures within itself: lines such as `hash: 12.345 ms`."""
+        """Notes what the program bench measures within itself: lines such as `hash: 12.345 ms`, or of memory, in KiB."""
         for line in output([IN_PROCESS, path]).splitlines():
             name, _, rest = line.partition(": ")
-            self.note(name, float(rest.split()[0]) / 1000)
+            number, unit = rest.split()
+            self.note(name, int(number) * 1024 if unit == "KiB" else float(number) / 1000)
 
 
 # The whole programs: a name, the words, and whether they make a file. FILE and OUT stand for paths.
@@ -106,6 +107,14 @@ INTO_EMPTY = "a group into an empty store"
 INTO_FULL = "a group into a full store"
 OUT_OF_ONE = "a group out of a store of one"
 OUT_OF_FULL = "a group out of a full store"
+STORES = "stores of as many words"
+COMMITS_ONE = "commits by one seat"
+COMMITS_FOUR = "commits by four seats"
+COPY = "a plain copy"
+READS_ONE = "reads by one seat"
+READS_FOUR = "reads by four seats"
+TAKES_OF_ONE = "a group taken 1,000 times, of one"
+TAKES_OF_ALL = "a group taken 1,000 times, of 1,024"
 RUN_ONE = "run by one worker"
 RUN_FOUR = "run by four workers"
 
@@ -145,8 +154,22 @@ ROWS = [
     (INTO_FULL, "as before, where it holds 64 MiB"),
     (OUT_OF_ONE, "store_core's read of 64 chunks in one process, where the store holds no others"),
     (OUT_OF_FULL, "as before, where it holds 64 MiB"),
+    (STORES, "129 words for each chunk of the first 64 MiB, in one process, one thread, each store in one order for all threads"),
+    (COMMITS_ONE, "store_shared's commits of these chunks in one process, one seat on one thread, which claims them"),
+    (COMMITS_FOUR, "as before, four seats on a thread each"),
+    (COPY, "of the first 64 MiB, in one process, one thread"),
+    (READS_ONE, "store_shared's read of these bytes in one process, one seat on one thread"),
+    (READS_FOUR, "as before, four seats on a thread each, a quarter by each"),
+    (TAKES_OF_ONE, "store_shared's take and give in one process, one thread, in a store of one group"),
+    (TAKES_OF_ALL, "as before, in a store of 1,024 groups"),
     (RUN_ONE, "crews::run in one process, one worker, of the combined encoding of the first 64 MiB"),
     (RUN_FOUR, "as before, four workers"),
+]
+
+# The table of memory: a name, how it was measured, and what is wanted of it.
+MEMORY = [
+    ("a shared store keeps", "store_shared's Assembly::new with room for 65,536 chunks, in a process with little else", "below 70"),
+    ("a shared store takes at most", "as before, while it is made", "below 140"),
 ]
 
 # The ratios of two of those times: the first over the second, and what is wanted of it.
@@ -177,6 +200,11 @@ RATIOS = [
     ("as a user runs it", GATHER_TEN, GATHER, "at most 3"),
     ("one thread", INTO_FULL, INTO_EMPTY, "about 1: not with what the store holds"),
     ("one thread", OUT_OF_FULL, OUT_OF_ONE, "about 1: not with what the store holds"),
+    ("one thread", COMMITS_ONE, STORES, "at most 1.5"),
+    ("several threads", COMMITS_ONE, COMMITS_FOUR, "at least 2.5 on four processors"),
+    ("one thread", COPY, READS_ONE, "at least 0.3"),
+    ("several threads", READS_ONE, READS_FOUR, "at least 2.5 on four processors"),
+    ("one thread", TAKES_OF_ALL, TAKES_OF_ONE, "about 1: not with the store"),
     ("several threads", RUN_ONE, RUN_FOUR, "at least 2.5 on four processors"),
 ]
 
@@ -252,6 +280,10 @@ def main():
     for name, how in ROWS:
         if name in least:
             print(f"{least[name]:8.4f}  {name} ({how})")
+    print(f"\n{'MB':>8}  what")
+    for name, how, wanted in MEMORY:
+        if name in least:
+            print(f"{least[name] / 1e6:8.1f}  {name} ({how}; wanted: {wanted})")
     print(f"\n{'ratio':>8}  of which times")
     for how, first, second, wanted in RATIOS:
         if first in least and second in least:

@@ -12,6 +12,8 @@ mod audits;
 mod checks;
 mod files;
 mod measure;
+mod memory;
+mod shared;
 mod slices;
 mod stores;
 mod way;
@@ -36,6 +38,9 @@ fn run<R: Runtime + Files<File = File> + AllocGlobal + Threads + Sync>(rt: &R) -
         eprintln!(rt; "usage: bench FILE")?;
         return Ok(ExitCode::from(USAGE));
     };
+    // First, while the process has little memory.
+    let taken = memory::of_store(rt)?;
+    memory::print(rt, &taken)?;
     let bytes = fs::read(rt, path).context("reading the file")?;
     let times = measure::least_times(rt, bytes.as_slice())?;
     measure::print(rt, &times)?;
@@ -50,6 +55,8 @@ fn run<R: Runtime + Files<File = File> + AllocGlobal + Threads + Sync>(rt: &R) -
     audits::print(rt, audit)?;
     let of_store = stores::least_times(rt, bytes.as_slice())?;
     stores::print(rt, &of_store)?;
+    let of_shared = shared::least_times(rt, bytes.as_slice())?;
+    shared::print(rt, &of_shared)?;
     let of_workers = workers::least_times(rt, bytes.as_slice())?;
     workers::print(rt, &of_workers)?;
     Ok(ExitCode::SUCCESS)
