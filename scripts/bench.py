@@ -158,7 +158,7 @@ ROWS = [
     (COMMITS_ONE, "store_shared's commits of these chunks in one process, one seat on one thread, which claims them"),
     (COMMITS_FOUR, "as before, four seats on a thread each"),
     (COPY, "of the first 64 MiB, in one process, one thread"),
-    (READS_ONE, "store_shared's read of these bytes in one process, one seat on one thread"),
+    (READS_ONE, "store_shared's read of these bytes in one process, one seat on one thread, the mean of four reads"),
     (READS_FOUR, "as before, four seats on a thread each, a quarter by each"),
     (TAKES_OF_ONE, "store_shared's take and give in one process, one thread, in a store of one group"),
     (TAKES_OF_ALL, "as before, in a store of 1,024 groups"),

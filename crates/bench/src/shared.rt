@@ -32,6 +32,9 @@ const GROUP_LEN: usize = 1 << 16;
 // The words of a chunk's cell.
 const CELL_LEN: usize = 129;
 
+// How often a share is read, so that the start of its thread hardly counts.
+const READS: u32 = 4;
+
 // How often a group is taken and given back.
 const TAKES: u32 = 1000;
 
@@ -52,7 +55,7 @@ pub struct SharedTimes {
     pub taken_of_all: Duration,
 }
 
-/// How long the seats of a store take to commit a blob and to read it.
+/// How long the seats of a store take to commit a blob and to read it once.
 #[derive(Clone, Copy, Debug)]
 pub struct ShareTimes {
     pub committed: Duration,
@@ -117,14 +120,16 @@ fn commit_share(store: &Assembly, piece: &Checked<'_>, share: &mut Share)
     }
 }
 
-// Reads their bytes.
+// Reads their bytes, several times.
 fn read_share(store: &Assembly, share: &mut Share)
     requires { IsSeatOf store.now share.old.seat }
     ensures { IsSeatOf store.now share.new.seat }
 {
     let at = u64::from(share.first) * GROUP_LEN as u64;
-    let read = store.read(&mut share.seat, at, share.bytes.as_mut_slice());
-    share.is_read = read.is_ok();
+    for _ in 0..READS {
+        let read = store.read(&mut share.seat, at, share.bytes.as_mut_slice());
+        share.is_read = read.is_ok();
+    }
 }
 
 // The groups from the first up to the end that the share with this number has, of so many shares.
@@ -227,7 +232,7 @@ fn timed_shares<R: Clock + AllocGlobal + Threads + Sync>(
     let committed = start.elapsed(rt)?;
     let start = Instant::now(rt)?;
     read_all(rt, &store, all);
-    let read = start.elapsed(rt)?;
+    let read = start.elapsed(rt)? / READS;
     let mut rest = blob;
     let mut chunks = 0u64;
     for share in &shares {
