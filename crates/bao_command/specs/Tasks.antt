@@ -1,5 +1,5 @@
 -- what a task prints, and what it writes to its file OUT
-use Rattle.std.specs.Prelude.{◌≡◌, ◌≤◌, ℕ, ◌-◌, List, [], ◌∷◌, ◌++◌, length, Option, Result, Ok, Err, codes}
+use Rattle.std.specs.Prelude.{◌≡◌, ◌≤◌, ℕ, ◌-◌, ◌*◌, List, [], ◌∷◌, ◌++◌, length, Option, Result, Ok, Err, codes}
 use Rattle.std.specs.Fmt.{decimal}
 use Rattle.std.specs.Io.KnownBytes.{Appends, Keeps}
 use Rattle.std.specs.Option.{option_copied}
@@ -57,12 +57,14 @@ abbrev pub HasHash : Mode → List ℕ → List ℕ → Type 0
 HasHash mode root bytes = (key : List ℕ) × ((decode_of root ≡ Ok key) × (hash mode bytes ≡ key))
 
 -- what the bytes have to be: a text that is decoded is accepted under the root that the words give, and a blob
--- that is gathered, from at most 64 files, has that root; and a schedule's replies are those of its run
+-- that is gathered, from at most 64 files, has that root and no more chunks than the capacity; and a schedule's
+-- replies are those of its run
 abbrev pub IsRight : Mode → Task → List ℕ → Type 0
 IsRight mode (Hash at length file) bytes = Unit {0}
 IsRight mode (Encode encoding file out) bytes = Unit {0}
 IsRight mode (Decode root part file out) bytes = IsRightPart mode root.now part bytes
-IsRight mode (Collect root workers capacity encode files out) bytes = (length files.items ≤ 64) × HasHash mode root.now bytes
+IsRight mode (Collect root workers capacity encode files out) bytes =
+    (length files.items ≤ 64) × (HasHash mode root.now bytes × (length bytes ≤ 1024 * capacity))
 IsRight mode (Rerun root capacity script files) bytes = (length files.items ≤ 64) × IsReplay mode root.now capacity (length files.items) bytes
 
 -- the text that goes to OUT

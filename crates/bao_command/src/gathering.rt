@@ -1,5 +1,5 @@
 ghost use Rattle.std.specs.Borrow.{Bor};
-ghost use Rattle.std.specs.Prelude.{◌≡◌, ◌⊎◌, ◌<◌, ◌≤◌, ℕ, List, IfErr, IfOk, IsErrAnd, OnOk, Some, length, slice_get};
+ghost use Rattle.std.specs.Prelude.{◌≡◌, ◌⊎◌, ◌*◌, ◌<◌, ◌≤◌, ℕ, List, IfErr, IfOk, IsErrAnd, OnOk, Some, length, slice_get};
 ghost use Rattle.bao_command.specs.declared.fault.Fault.TheVariants as Fault;
 ghost use Rattle.bao_command.specs.Gathered.{LeavesBlob, WritesBlob, gathered_text};
 ghost use Rattle.bao_text.specs.Faults.{WroteOnly};
@@ -90,8 +90,8 @@ pub fn write_gathered<'a, R: AllocGlobal + Threads + Sync, W: Write>(
     path: &'a str,
     out: &mut W,
 ) -> Result<u64, Fault<'a>>
-    ensures blob { IfOk result (WritesBlob how.encode mode.now root.now.0 (W.contents out.old) (W.contents out.new)) }
-    ensures fault { IfErr result (LeavesBlob how.encode mode.now root.now.0 path.entry (W.contents out.old) (W.contents out.new)) }
+    ensures blob { IfOk result (WritesBlob how mode.now root.now.0 (W.contents out.old) (W.contents out.new)) }
+    ensures fault { IfErr result (LeavesBlob how mode.now root.now.0 path.entry (W.contents out.old) (W.contents out.new)) }
 {
     let alloc = rt.alloc();
     let gathered = gather_texts(rt, alloc, *root, *mode, how.capacity, how.workers, texts);
@@ -120,7 +120,7 @@ fn gather<'a, R: Files + AllocGlobal + Threads + Sync>(
     files: &[&'a str],
     path: &'a str,
 ) -> Result<u64, Fault<'a>>
-    ensures ok { IfOk result (λ count. (blob : List ℕ) × HasHash mode.now root.now blob × (count ≡ length blob)) }
+    ensures ok { IfOk result (λ count. (blob : List ℕ) × HasHash mode.now root.now blob × (length blob ≤ 1024 * how.capacity) × (count ≡ length blob)) }
     ensures err { IfErr result IsQuiet }
     ensures paths { IfErr result (NamesFirst files.now path.entry) }
 {
@@ -149,7 +149,7 @@ pub fn gather_files<'a, R: Files + AllocGlobal + Threads + Sync, O: Write>(
     path: &'a str,
     out: &mut O,
 ) -> Result<(), Fault<'a>>
-    ensures answer { (blob : List ℕ) × OnOk result (HasHash mode.now root.now blob)
+    ensures answer { (blob : List ℕ) × OnOk result (HasHash mode.now root.now blob × (length blob ≤ 1024 * how.capacity))
         × Prints (ok_line (length blob)) (O.contents out.old) (O.contents out.new) result }
     ensures few { OnOk result (length files.now ≤ 64) }
     ensures many { 64 < length files.now → IsErrAnd result (λ fault. fault ≡ Fault.TooManyFiles) }

@@ -1,5 +1,5 @@
 -- What finishing a blob found, in the state after all that its seat has seen.
-use Rattle.std.proofs.Common.{bytes_eq, true, false, not, ◌≡◌, ◌⊎◌, zero, suc, ℕ, ◌+◌, ◌/◌, ◌<◌, List, [], ◌∷◌, ◌++◌, append_assoc, append-nil, length, drop, slice_get, slice_index, Option, None, Some, refl, sym, ap, subst, ◌∙◌, arith, inl, inr}
+use Rattle.std.proofs.Common.{bytes_eq, true, false, not, ◌≡◌, ◌⊎◌, zero, suc, ℕ, ◌+◌, ◌*◌, ◌/◌, ◌<◌, ◌≤◌, List, [], ◌∷◌, ◌++◌, append_assoc, append-nil, length, drop, slice_get, slice_index, Option, None, Some, refl, sym, ap, subst, ◌∙◌, arith, inl, inr}
 use Rattle.std.proofs.lemmas.List.{drop_all}
 use Rattle.std.proofs.lemmas.Slice.Eq.{bytes_eq-Decides}
 use Rattle.b3tree.specs.Hashing.{hash}
@@ -14,11 +14,12 @@ use Rattle.store_core.specs.declared.history.Event.{Event}
 use Rattle.store_core.specs.declared.view.SeatView.{SeatView}
 use Rattle.store_core.specs.Events.{after_call}
 use Rattle.store_core.specs.Histories.{IsLegal, state_after}
-use Rattle.store_core.specs.Laws.{IsRead}
+use Rattle.store_core.specs.Laws.{IsRead, IsSettled}
 use Rattle.store_core.specs.States.{State, empty, read_bytes}
 use Rattle.store_core.specs.Views.{names_of}
 use Rattle.store_core.proofs.Bound.{byte_binds, record_binds}
 use Rattle.store_core.proofs.Lasting.{record_lasts, run-append}
+use Rattle.store_core.proofs.Origins.{record_is_settled}
 use Rattle.store_core.proofs.ReadLaws.{read_means}
 use Rattle.store_read.specs.Reading.{DidRead}
 use Rattle.store_steps.specs.Tells.{Called, event_of}
@@ -112,3 +113,10 @@ binds_none fixed history bytes keyed legal whole other blob is =
 -- a recorded length is one
 pub no_none : (recorded : Option ℕ) (l : ℕ) → recorded ≡ Some l → recorded ≡ None → ⊥
 no_none recorded l is none = let no : Some l ≡ None = sym is ∙ none in cc
+
+-- a recorded length is no longer than what the store has room for
+pub recorded_fits : (fixed : Fixed) (history : List Event) (bytes : List ℕ) → IsLegal fixed history → IsWhole (state_after history) bytes
+    → length bytes ≤ 1024 * fixed.capacity
+recorded_fits fixed history bytes legal whole =
+    let settled : IsSettled fixed history (length bytes) = record_is_settled fixed history (length bytes) legal whole.recorded in
+    subst (λ (l : ℕ). l ≤ 1024 * fixed.capacity) settled.is settled.fits

@@ -1,4 +1,4 @@
-ghost use Rattle.std.specs.Prelude.{◌≡◌, Err, IfOk, IsErrOf, None};
+ghost use Rattle.std.specs.Prelude.{◌≡◌, ◌*◌, ◌≤◌, Err, IfOk, IsErrOf, None, length};
 ghost use Rattle.b3tree.specs.Hashing.{hash};
 ghost use Rattle.gather.specs.declared.fault.FinishFault.TheVariants.{NotTheRoot, Unfinished};
 ghost use Rattle.gather.specs.Finished.{IsOther, IsUnfinished, IsWhole};
@@ -24,6 +24,7 @@ pub fn finish(alloc: Global, assembly: &Assembly, seat: &mut Seat) -> Result<Vec
     ensures asks { Asks seat.old.view seat.new.view }
     ensures root { IfOk result (λ blob. hash (fixed_of assembly.now).mode blob.items ≡ (fixed_of assembly.now).root.0) }
     ensures whole { IfOk result (λ blob. IsWhole (state_after seat.new.view.seen) blob.items) }
+    ensures fits { IfOk result (λ blob. length blob.items ≤ 1024 * (fixed_of assembly.now).capacity) }
     ensures no_length { (state_after seat.new.view.seen).recorded ≡ None → result ≡ Err Unfinished }
     ensures unfinished { IsErrOf result Unfinished → IsUnfinished (state_after seat.new.view.seen) }
     ensures other { IsErrOf result NotTheRoot → IsOther (fixed_of assembly.now) (state_after seat.new.view.seen) }

@@ -1,4 +1,4 @@
-ghost use Rattle.std.specs.Prelude.{◌≡◌, ◌↔◌, ◌⊎◌, ◌<◌, All, Err, IfErr, IfOk, IsErrOf, vec_len};
+ghost use Rattle.std.specs.Prelude.{◌≡◌, ◌↔◌, ◌⊎◌, ◌*◌, ◌<◌, ◌≤◌, All, Err, IfErr, IfOk, IsErrOf, length, vec_len};
 ghost use Rattle.b3tree.specs.Hashing.{hash};
 ghost use Rattle.gather.specs.Large.{AreLonger, IsOfNone, IsTooLarge, fixed_as};
 ghost use Rattle.crews.specs.declared.fault.CrewsFault.TheVariants.{Gather};
@@ -84,6 +84,7 @@ pub fn gather_texts<R: Threads + Sync>(
     texts: &[Vec<u8>],
 ) -> Result<Vec<u8>, CrewsFault>
     ensures root { IfOk result (λ blob. hash mode blob.items ≡ root.0) }
+    ensures fits { IfOk result (λ blob. length blob.items ≤ 1024 * capacity) }
     ensures capacity { (result ≡ Err (Gather Capacity)) ↔ ((capacity ≡ 0) ⊎ (65536 < capacity)) }
     ensures too_large { IsErrOf result (Gather TooLarge) → IsTooLarge (fixed_as root mode capacity) }
     ensures longer { IsErrOf result (Gather TooLarge) → AreLonger (fixed_as root mode capacity) }

@@ -1,4 +1,4 @@
-ghost use Rattle.std.specs.Prelude.{◌≡◌, ◌≢◌, ℕ, List, Err, IfOk, IsErrOf, None, Some, length};
+ghost use Rattle.std.specs.Prelude.{◌≡◌, ◌≢◌, ℕ, ◌*◌, ◌≤◌, List, Err, IfOk, IsErrOf, None, Some, length};
 ghost use Rattle.b3tree.specs.Hashing.{hash};
 ghost use Rattle.store_core.specs.Stores.{ReadBinds, fixed_of, state_of};
 ghost use Rattle.gather.specs.declared.fault.FinishFault.TheVariants.{NotTheRoot, Unfinished};
@@ -41,6 +41,7 @@ fn read_all(alloc: Global, store: &Store, end: u64) -> Result<Vec<u8>, FinishFau
 pub fn finish_one(alloc: Global, store: &Store) -> Result<Vec<u8>, FinishFault>
     ensures root { IfOk result (λ blob. hash (fixed_of store.now).mode blob.items ≡ (fixed_of store.now).root.0) }
     ensures whole { IfOk result (λ blob. IsWhole (state_of store.now) blob.items) }
+    ensures fits { IfOk result (λ blob. length blob.items ≤ 1024 * (fixed_of store.now).capacity) }
     ensures no_length { (state_of store.now).recorded ≡ None → result ≡ Err Unfinished }
     ensures unfinished { IsErrOf result Unfinished → IsUnfinished (state_of store.now) }
     ensures other { IsErrOf result NotTheRoot → IsOther (fixed_of store.now) (state_of store.now) }

@@ -1,4 +1,4 @@
-ghost use Rattle.std.specs.Prelude.{◌≡◌, ◌↔◌, ◌⊎◌, ◌<◌, Err, IfOk, IsErrOf};
+ghost use Rattle.std.specs.Prelude.{◌≡◌, ◌↔◌, ◌⊎◌, ◌*◌, ◌<◌, ◌≤◌, Err, IfOk, IsErrOf, length};
 ghost use Rattle.b3tree.specs.Hashing.{hash};
 ghost use Rattle.gather.specs.Faults.{cause_of, number_of_gather};
 ghost use Rattle.gather.specs.Large.{AreLonger, IsOfNone, IsTooLarge, fixed_as};
@@ -98,6 +98,7 @@ pub fn gather_texts(
     texts: &[Vec<u8>],
 ) -> Result<Vec<u8>, GatherFault>
     ensures root { IfOk result (λ blob. hash mode blob.items ≡ root.0) }
+    ensures fits { IfOk result (λ blob. length blob.items ≤ 1024 * capacity) }
     ensures capacity { (result ≡ Err Capacity) ↔ ((capacity ≡ 0) ⊎ (65536 < capacity)) }
     ensures too_large { IsErrOf result TooLarge → IsTooLarge (fixed_as root mode capacity) }
     ensures longer { IsErrOf result TooLarge → AreLonger (fixed_as root mode capacity) }

@@ -1,10 +1,11 @@
 -- What a store reads is the blob's, or a pair is named: its invariant has the history that this needs.
-use Rattle.std.proofs.Common.{◌≡◌, ◌⊎◌, ℕ, List, length, Option, None, Some, IfSome, slice_get, refl, sym, subst, inl, inr}
-use Rattle.std.proofs.Math.Logic.{∥∥₁_map}
+use Rattle.std.proofs.Common.{◌≡◌, ◌⊎◌, ℕ, ◌*◌, ◌≤◌, List, length, Option, None, Some, IfSome, slice_get, refl, sym, subst, inl, inr}
+use Rattle.std.proofs.Math.Bridge.{le_prop}
+use Rattle.std.proofs.Math.Logic.{∥∥₁_elim, ∥∥₁_map}
 use Rattle.b3tree.specs.Valid.{IsKeyed}
 use Rattle.store_core.specs.declared.fixed.Fixed.{Fixed}
 use Rattle.store_core.specs.declared.slot.Slot.{Slot}
-use Rattle.store_core.specs.Laws.{IsBlob}
+use Rattle.store_core.specs.Laws.{IsBlob, IsSettled}
 use Rattle.store_core.specs.Reached.{IsReached}
 use Rattle.store_core.specs.Slots.{slot_byte, state_in}
 use Rattle.store_core.specs.States.{State, byte_at}
@@ -13,6 +14,7 @@ use Rattle.store_core.specs.declared.history.Piece.{Piece}
 use Rattle.store_core.specs.Pieces.{IsAcceptedPiece}
 use Rattle.store_core.specs.Stores.{ChunksBind, PairCommitted, PairSettled}
 use Rattle.store_core.proofs.Bound.{byte_binds, record_binds}
+use Rattle.store_core.proofs.Origins.{record_is_settled}
 
 byte_reached : (fixed : Fixed) (s : State) (blob : List ℕ) (q x : ℕ) → IsKeyed fixed.mode → IsBlob fixed blob → byte_at s q ≡ Some x → IsReached fixed s
     → (slice_get blob q ≡ Some x) ⊎ PairCommitted fixed s blob
@@ -37,6 +39,14 @@ record_reached fixed s blob l keyed is h r =
 pub length_binds : (fixed : Fixed) (slots : List Slot) (o : Option ℕ) (blob : List ℕ) (l : ℕ) → IsKeyed fixed.mode → IsBlob fixed blob
     → ∥ IsReached fixed (state_in slots o) ∥₁ → o ≡ Some l → ∥ (l ≡ length blob) ⊎ PairSettled fixed (state_in slots o) blob ∥₁
 length_binds fixed slots o blob l keyed is reached h = ∥∥₁_map reached (record_reached fixed (state_in slots o) blob l keyed is h)
+
+fits_reached : (fixed : Fixed) (s : State) (l : ℕ) → s.recorded ≡ Some l → IsReached fixed s → l ≤ 1024 * fixed.capacity
+fits_reached fixed s l h r =
+    let settled : IsSettled fixed r.history l = record_is_settled fixed r.history l r.legal (subst (λ (t : State). t.recorded ≡ Some l) (sym r.is) h) in
+    subst (λ (n : ℕ). n ≤ 1024 * fixed.capacity) settled.is settled.fits
+
+pub length_fits : (fixed : Fixed) (slots : List Slot) (o : Option ℕ) (l : ℕ) → ∥ IsReached fixed (state_in slots o) ∥₁ → o ≡ Some l → l ≤ 1024 * fixed.capacity
+length_fits fixed slots o l reached h = ∥∥₁_elim reached le_prop (fits_reached fixed (state_in slots o) l h)
 
 -- what holds of the value in an option
 pub if_some : (o : Option ℕ) (P : ℕ → Type 0) → ((l : ℕ) → o ≡ Some l → P l) → IfSome o P

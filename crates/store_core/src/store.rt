@@ -168,6 +168,7 @@ impl Store {
     pub fn length(&self) -> Option<u64>
         ensures event { (who : List Name) → IsEvent self.now self.now who (Length result) }
         ensures binds { IfSome result (λ l. LengthBinds self.now l) }
+        ensures fits { IfSome result (λ l. l ≤ 1024 * (fixed_of self.now).capacity) }
     {
         self.fixed.mode.is_keyed();
         self.recorded

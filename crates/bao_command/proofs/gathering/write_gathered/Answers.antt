@@ -14,4 +14,4 @@ returns-then-is_err-clause-fault g c =
     let new = g.W.Write.contents c.flush.new.self in
     let written : Appends old mid text = search rules in
     let whole : take (length text) text ≡ text = take_all (length text) text (omega arith) in
-    inr (inr (refl, (blob, c.in-Ok.ensures.root, (length text, subst (Appends old new) (sym whole) (Appends-kept old mid new text written c.flush.ensures.bytes)))))
+    inr (inr (refl, (blob, (c.in-Ok.ensures.root, c.in-Ok.ensures.fits), (length text, subst (Appends old new) (sym whole) (Appends-kept old mid new text written c.flush.ensures.bytes)))))

@@ -1,10 +1,10 @@
-use Rattle.std.proofs.Common.{◌≡◌, ℕ, List, length, ap, arith, inl, inr, subst, sym, ◌∙◌}
+use Rattle.std.proofs.Common.{◌≡◌, ◌*◌, ◌≤◌, ℕ, List, length, ap, arith, inl, inr, subst, sym, ◌∙◌}
 use Rattle.std.proofs.lemmas.List.{with_items_is}
 use Rattle.b3tree.specs.declared.mode.Mode.{Mode}
 use Rattle.b3tree.specs.declared.values.Hash.{Hash}
 use Rattle.b3tree.specs.Hashing.{hash}
 use Rattle.b3tree.specs.Valid.{IsKeyed}
-use Rattle.crews.proofs.Finishing.{asks_both, binds_none, differs, length_there, no_none, read_lacks, read_whole, recorded_then}
+use Rattle.crews.proofs.Finishing.{asks_both, binds_none, differs, length_there, no_none, read_lacks, read_whole, recorded_fits, recorded_then}
 use Rattle.crews.proofs.blob.finish.Goals as goal
 use Rattle.gather.specs.Finished.{IsWhole}
 use Rattle.store_core.specs.declared.fixed.Fixed.{Fixed}
@@ -77,6 +77,17 @@ returns-clause-whole c =
     read_whole _ _ _ c.as_mut_slice.result.now c.read.new.out c.in-Some.length long c.in-Some.ensures.called c.in_ok-read.ensures.event in
     let put = with_items_is c.in_ok-blob.blob c.read.new.out (omega (arith, c.read.auto.out, ap length c.as_mut_slice.ensures.value)) in
     subst (λ (xs : List ℕ). IsWhole (state_after c.read.new.seat.view.seen) xs) (sym put) whole
+
+pub returns-clause-fits : goal.returns-clause-fits
+returns-clause-fits c =
+    let long : length c.as_mut_slice.result.now ≡ c.in-Some.length = omega (arith, ap length c.as_mut_slice.ensures.value, c.in_ok-blob.ensures.len, c.in_ok-blob.blob.ok.0) in
+    let whole : IsWhole (state_after c.read.new.seat.view.seen) c.read.new.out =
+    read_whole _ _ _ c.as_mut_slice.result.now c.read.new.out c.in-Some.length long c.in-Some.ensures.called c.in_ok-read.ensures.event in
+    let put = with_items_is c.in_ok-blob.blob c.read.new.out (omega (arith, c.read.auto.out, ap length c.as_mut_slice.ensures.value)) in
+    let legal : IsLegal (fixed_of c.args.assembly.now) c.read.new.seat.view.seen =
+    subst (λ (fixed : Fixed). IsLegal fixed c.read.new.seat.view.seen) c.in_ok-read.ensures.of.fixed_is c.in_ok-read.ensures.of.legal in
+    subst (λ (xs : List ℕ). length xs ≤ 1024 * (fixed_of c.args.assembly.now).capacity) (sym put)
+    (recorded_fits (fixed_of c.args.assembly.now) c.read.new.seat.view.seen c.read.new.out legal whole)
 
 pub returns-clause-no_length : goal.returns-clause-no_length
 returns-clause-no_length c = λ none.

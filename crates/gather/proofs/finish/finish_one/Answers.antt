@@ -1,4 +1,4 @@
-use Rattle.std.proofs.Common.{◌≡◌, ℕ, List, [], length, sym, subst, ◌∙◌, inl}
+use Rattle.std.proofs.Common.{◌≡◌, ◌*◌, ◌≤◌, ℕ, List, [], length, sym, subst, ◌∙◌, inl}
 use Rattle.b3tree.specs.Hashing.{hash}
 use Rattle.store_core.specs.declared.fixed.Fixed.{Fixed}
 use Rattle.store_core.specs.Stores.{LengthBinds, fixed_of, state_of}
@@ -38,3 +38,8 @@ returns-then-ne-clause-none c = λ _.
     (λ same. differs c.hash.result.0 c.fixed-fixed.result.root.0 c.if-ne.ensures (c.hash.ensures.value
     ∙ subst (λ (fixed : Fixed). hash fixed.mode c.as_slice.result.now ≡ fixed.root.0) (sym c.fixed-fixed.ensures)
     (subst (λ (xs : List ℕ). hash (fixed_of store).mode xs ≡ (fixed_of store).root.0) (sym c.as_slice.ensures.value) same)))
+
+pub returns-clause-fits : goal.returns-clause-fits
+returns-clause-fits c =
+    let long : c.in-Some.length ≡ length c.in_ok-blob.blob.items = some_same _ _ ((c.in-Some.ensures.event []).right ∙ c.in_ok-blob.ensures.whole.recorded) in
+    subst (λ (l : ℕ). l ≤ 1024 * (fixed_of c.args.store.now).capacity) long c.in-Some.ensures.fits
