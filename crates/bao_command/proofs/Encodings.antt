@@ -9,9 +9,8 @@ use Rattle.b3tree.specs.Hashing.{hash}
 use Rattle.bao_text.specs.declared.fault.WriteFault.{WriteFault}
 use Rattle.bao_text.specs.declared.fault.WriteFault.TheVariants.{Memory, Writer}
 use Rattle.bao_text.specs.Faults.{WroteOnly}
-use Rattle.bao_read.specs.Outboards.{IsOutboardOf}
+use Rattle.b3read.specs.Given.{IsHashOf}
 use Rattle.bao_request.specs.declared.tasks.Encoding.{Encoding}
-use Rattle.bao_request.specs.declared.tasks.Encoding.TheVariants.{Outboard}
 use Rattle.bao_command.specs.declared.fault.Fault.{Fault}
 use Rattle.bao_command.specs.Encoded.{Encodes, answer_at_path}
 use Rattle.bao_command.specs.Tasks.{encoding_text}
@@ -29,13 +28,13 @@ encodes mode kind bytes file path old new (Err Memory) answer is hash_is text fa
 encodes mode kind bytes file path old new (Err (Writer written)) answer is hash_is text fault =
     subst (Encodes mode kind bytes file path old new) (sym is) (inr (refl, (written, fault.0, fault.1)))
 
--- the same of an outboard encoding that was made at places
-pub encodes_made : (mode : Mode) (size : ℕ) (bytes : List ℕ) (file path : Bor (List ℕ)) (old new : Option (List ℕ)) (made : Hash) (text : List ℕ)
+-- the same of an encoding that was made at places
+pub encodes_made : (mode : Mode) (kind : Encoding) (size : ℕ) (bytes : List ℕ) (file path : Bor (List ℕ)) (old new : Option (List ℕ)) (made : Hash) (text : List ℕ)
     (written : Result Hash WriteFault) (answer : Result Hash Fault) → answer ≡ answer_at_path path written
     → IfOk written (λ h. h ≡ made) → OnOk written (Appends old new text) → IfErr written (WroteOnly old new text)
-    → IsOutboardOf mode size bytes made.0 text → Encodes mode Outboard bytes file path old new answer
-encodes_made mode size bytes file path old new made text written answer is same sent fault outboard =
-    encodes mode Outboard bytes file path old new written answer is
-    (with_right written (λ h. h ≡ made) (λ h at. ap (λ (g : Hash). g.0) at ∙ outboard.hash_is.hash_is) same)
-    (subst (λ (t : List ℕ). OnOk written (Appends old new t)) outboard.text_is sent)
-    (subst (λ (t : List ℕ). IfErr written (WroteOnly old new t)) outboard.text_is fault)
+    → IsHashOf mode size bytes made.0 → text ≡ encoding_text mode kind bytes → Encodes mode kind bytes file path old new answer
+encodes_made mode kind size bytes file path old new made text written answer is same sent fault hash_is text_is =
+    encodes mode kind bytes file path old new written answer is
+    (with_right written (λ h. h ≡ made) (λ h at. ap (λ (g : Hash). g.0) at ∙ hash_is.hash_is) same)
+    (subst (λ (t : List ℕ). OnOk written (Appends old new t)) text_is sent)
+    (subst (λ (t : List ℕ). IfErr written (WroteOnly old new t)) text_is fault)

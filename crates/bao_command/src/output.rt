@@ -2,22 +2,24 @@ ghost use Rattle.std.specs.Prelude.{◌≡◌, ℕ, List, IfErr, IfOk, IfSome, O
 ghost use Rattle.std.specs.Io.KnownBytes.{Appends};
 ghost use Rattle.b3tree.specs.Hashing.{hash};
 ghost use Rattle.bao_text.specs.Faults.{WroteOnly};
-ghost use Rattle.bao_read.specs.Outboards.{IsOutboardOf};
+ghost use Rattle.bao_text.specs.Texts.{joined};
+ghost use Rattle.bao_read.specs.Encodings.{IsCombinedOf, IsOutboardOf};
 ghost use Rattle.bao_command.specs.Encoded.{Encodes, answer_at_path};
 ghost use Rattle.bao_command.specs.Printed.{IsQuiet, NamesPaths};
 ghost use Rattle.bao_command.specs.Tasks.{encoding_text};
 
 use crate::fault::Fault;
 use crate::input::{LEAST_SHARED_LEN, open_file, read_input};
-use b3read::Source;
+use b3read::{RANGES, Source};
 use b3tree::{Hash, Mode};
-use bao_read::outboard_source;
+use bao_read::{combined_source, outboard_source};
 use bao_request::Encoding;
-use bao_text::{WriteFault, outboard, slice, write_combined, write_text};
+use bao_text::{WriteFault, outboard, slice, write_combined, write_text, write_texts};
 use std::alloc::Global;
 use std::fs::{File, OpenFile};
 use std::io::{Read, Write};
 use std::rt::Files;
+use std::thread::Threads;
 use std::{fs, io};
 
 /// A file that is made anew by the first write to it, or by a flush where none came: before, the path is as it
@@ -84,6 +86,17 @@ fn send<W: Write>(made: (Hash, Vec<u8>), out: &mut W) -> Result<Hash, WriteFault
     Ok(hash)
 }
 
+// The same of a text that was made in parts.
+fn send_all<W: Write>(made: (Hash, Vec<Vec<u8>>), out: &mut W) -> Result<Hash, WriteFault>
+    ensures hash { IfOk result (λ h. h ≡ made.0) }
+    ensures text { OnOk result (Appends (W.contents out.old) (W.contents out.new) (joined made.1.items)) }
+    ensures err { IfErr result (WroteOnly (W.contents out.old) (W.contents out.new) (joined made.1.items)) }
+{
+    let (hash, texts) = made;
+    write_texts(texts.as_slice(), out)?;
+    Ok(hash)
+}
+
 /// Writes this encoding of `bytes` in `mode` to `out`, and answers their hash.
 ///
 /// Answers `Memory` (401) where a growth was refused, with nothing written, and `Writer` (402) only where a
@@ -124,6 +137,23 @@ fn outboard_at_places<I: Source>(
     outboard_source(alloc, mode, input, size).ok()
 }
 
+// The combined encoding, in the same way, by several threads at once.
+fn combined_at_places<R: Threads + Sync, I: Source + Sync>(
+    rt: &R,
+    alloc: Global,
+    mode: &Mode,
+    input: &I,
+    size: u64,
+) -> Option<(Hash, Vec<Vec<u8>>)>
+    ensures all { IfSome result (λ made. IfSome (I.contents input.now) (λ s. IsCombinedOf mode.now size s made.0.0 (joined made.1.items))) }
+    ensures some { IfSome result (λ made. (bytes : List ℕ) × IsCombinedOf mode.now size bytes made.0.0 (joined made.1.items)) }
+{
+    if size < LEAST_SHARED_LEN {
+        return None;
+    }
+    combined_source(rt, alloc, mode, input, size, RANGES).ok()
+}
+
 // The answer of writing an encoding to the file at `path`, in the words of the program.
 fn answer_at<'a>(written: Result<Hash, WriteFault>, path: &'a str) -> Result<Hash, Fault<'a>>
     ensures { result ≡ answer_at_path path.entry written }
@@ -138,15 +168,16 @@ fn answer_at<'a>(written: Result<Hash, WriteFault>, path: &'a str) -> Result<Has
 /// Writes this encoding in `mode` of all that `input`, the file at `file`, has to `out`, the file at `path`, and
 /// answers the hash.
 ///
-/// Where the input is said to have a `size` of at least 4 MiB and its outboard encoding is asked for, it is read at
-/// places and in pieces, so that the memory that this takes is the encoding's, a sixteenth of the bytes. If that gives
-/// no encoding, and for every other, it is read whole from where it stands, and what that meets is answered.
+/// Where the input is said to have a `size` of at least 4 MiB and its combined or its outboard encoding is asked for,
+/// it is read at places and in pieces, so that the memory that this takes is the encoding's: 17/16 of the bytes, and a
+/// sixteenth. The combined one is made by several threads. If that gives no encoding, and for a slice, the input is read
+/// whole from where it stands, and what that meets is answered.
 ///
 /// Nothing was written after `Read` with the input's path, where a read answered a fault, nor for want of memory, which
 /// is `Memory` for the input's bytes and `Encoding` for the text. After `Write` with the other path exactly a beginning
 /// of the text was written, and not all.
-pub fn encode_input<'a, I: Read + Source, W: Write>(
-    alloc: Global,
+pub fn encode_input<'a, R: Threads + Sync + AllocGlobal, I: Read + Source + Sync, W: Write>(
+    rt: &R,
     mode: &Mode,
     encoding: Encoding,
     input: &mut I,
@@ -159,6 +190,12 @@ pub fn encode_input<'a, I: Read + Source, W: Write>(
         → Encodes mode.now encoding s file.entry path.entry (W.contents out.old) (W.contents out.new) result) }
     ensures some { (bytes : List ℕ) × Encodes mode.now encoding bytes file.entry path.entry (W.contents out.old) (W.contents out.new) result }
 {
+    let alloc = rt.alloc();
+    if let Encoding::Combined = encoding {
+        if let Some(made) = combined_at_places(rt, alloc, mode, input, size) {
+            return answer_at(send_all(made, out), path);
+        }
+    }
     if let Encoding::Outboard = encoding {
         if let Some(made) = outboard_at_places(alloc, mode, input, size) {
             return answer_at(send(made, out), path);
@@ -173,7 +210,7 @@ pub fn encode_input<'a, I: Read + Source, W: Write>(
 ///
 /// After `Read`, where the file can't be opened or read, and after `Memory` and `Encoding`, for want of memory, the
 /// path is as it was. After `Write` a beginning of the encoding may stand there.
-pub fn encode_file<'a, R: Files<File = File> + AllocGlobal>(
+pub fn encode_file<'a, R: Files<File = File> + AllocGlobal + Threads + Sync>(
     rt: &R,
     mode: &Mode,
     encoding: Encoding,
@@ -187,14 +224,5 @@ pub fn encode_file<'a, R: Files<File = File> + AllocGlobal>(
     let mut input = open_file(rt, file)?;
     let size = input.metadata().map_err(|_| Fault::Read(file))?.len();
     let mut out = LateFile::new(rt, path);
-    encode_input(
-        rt.alloc(),
-        mode,
-        encoding,
-        &mut input,
-        size,
-        file,
-        &mut out,
-        path,
-    )
+    encode_input(rt, mode, encoding, &mut input, size, file, &mut out, path)
 }

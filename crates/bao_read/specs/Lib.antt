@@ -1,1 +1,1 @@
-pub mod Outboards
+pub mod Encodings

@@ -1,14 +1,11 @@
 ghost use Rattle.std.specs.Prelude.{ℕ, List, IfOk, IfSome};
-ghost use Rattle.bao_read.specs.Outboards.{IsOutboardOf};
+ghost use Rattle.bao_read.specs.Encodings.{IsOutboardOf};
 
-use crate::pieces::append_in_pieces;
+use crate::pieces::{PIECE_LEN, append_in_pieces};
 use b3read::{ReadFault, Source, ends_at};
 use b3tree::{Hash, Mode, root_hash, rooted};
-use bao_text::outboard_len;
+use bao_text::{Choice, outboard_len};
 use std::alloc::Global;
-
-// The most bytes that are asked for at once: few enough to stay in a processor's cache.
-const PIECE_LEN: usize = 1 << 18;
 
 /// The outboard encoding of the `len` bytes of `source` in `mode`, and their hash. The bytes are read in pieces,
 /// so that the memory that this takes is the encoding's, a sixteenth of the bytes, and that of one piece, 256 KiB.
@@ -29,7 +26,16 @@ pub fn outboard_source<S: Source>(
     let mut piece = vec![in alloc; 0u8; PIECE_LEN]?;
     let mut text = Vec::with_capacity(alloc, room)?;
     text.extend_from_slice(&len.to_le_bytes())?;
-    let top = append_in_pieces(mode, source, len, 0, len, piece.as_mut_slice(), &mut text)?;
+    let choice = Choice::of_outboard(len);
+    let top = append_in_pieces(
+        &choice,
+        mode,
+        source,
+        0,
+        len,
+        piece.as_mut_slice(),
+        &mut text,
+    )?;
     if !ends_at(source, len) {
         return Err(ReadFault::Reader);
     }

@@ -1,9 +1,11 @@
-use crate::outboard_source;
-use b3read::{ReadFault, Source};
-use b3tree::Mode;
+use crate::{combined_source, outboard_source};
+use b3read::{RANGES, ReadFault, Source};
+use b3tree::{Hash, Mode};
+use bao_text::write_texts;
 use std::alloc::Global;
 use std::io::ErrorKind;
 use std::test::Fail;
+use std::thread::Threads;
 use std::{fs, io, process};
 
 const KEY: [u8; 32] = *b"whats the Elvish word for friend";
@@ -76,6 +78,47 @@ const DERIVED: Figures = Figures {
     text_hash: "ffc3a2e60e06e386d7062d11d4d16ab122818e6301b2bf83226c14cabf1ff81c",
 };
 
+// The same of combined encodings. Ranges are of at least 1,048,576 bytes, so that 2,500,000 are in three.
+const COMBINED: [Figures; 5] = [
+    Figures {
+        len: 0,
+        hash: "af1349b9f5f9a1a6a0404dea36dcc9499bcb25c9adc112b7cc9a93cae41f3262",
+        text_len: 8,
+        text_hash: "71e0a99173564931c0b8acc52d2685a8e39c64dc52e3d02390fdac2a12b155cb",
+    },
+    Figures {
+        len: 1,
+        hash: "2d3adedff11b61f14c886e35afa036736dcd87a74d27b5c1510225d0f592e213",
+        text_len: 9,
+        text_hash: "9b779f74b305adc3ec513485085d52e95f9ce4fbaf9e56cb02d38a07e19353df",
+    },
+    Figures {
+        len: 200_000,
+        hash: "55409142cced2ec79897459f170b6d22565daf883710b4ad7aeeddaef54244b4",
+        text_len: 212_488,
+        text_hash: "2423bd759c5ff331d700208d9fc0cf806fe3d904f413de895fc991efd63b14cf",
+    },
+    Figures {
+        len: 1_048_577,
+        hash: "2f053cd7472cf0cd2f9adaf45c1180255b91b9a865404a63671a0ee5f792ed33",
+        text_len: 1_114_121,
+        text_hash: "250536017cb0012bd25b2e7a7d9c06f661e6856fe94ae53b7dcf7ec92db341dc",
+    },
+    Figures {
+        len: 2_500_000,
+        hash: "a4052902f59677aa7a01889796008376578c68b85bed14769ffecc3632bdbc35",
+        text_len: 2_656_232,
+        text_hash: "19ddc9ef3886dc796d256f87d842be94bce2a8f5ad92f4dfa4c3f7b1a77a342c",
+    },
+];
+
+const COMBINED_KEYED: Figures = Figures {
+    len: 2_500_000,
+    hash: "9eb0b55fd8c8b5cc7f040baad506ca698069fbd90d5eacbd2d4572d8e5055854",
+    text_len: 2_656_232,
+    text_hash: "8fc298316b186358c44b098a17788075ba5f87535b41acb5de35a49f59b0044b",
+};
+
 // The bytes i mod 251, as in BLAKE3's test vectors.
 fn blob(alloc: Global, len: usize) -> Result<Vec<u8>, Fail> {
     let mut bytes = Vec::with_capacity(alloc, len)?;
@@ -93,7 +136,17 @@ fn digits(alloc: Global, hash: &[u8; 32]) -> Result<String, Fail> {
     Ok(text)
 }
 
-// Whether the source's encoding in the mode and its hash are those of the figures.
+// Whether the hash and the text are those of the figures.
+fn are_figures(alloc: Global, hash: &Hash, text: &[u8], figures: &Figures) -> Result<bool, Fail> {
+    let text_hash = b3tree::hash(&Mode::hash(), text);
+    Ok(
+        digits(alloc, &hash.0)?.as_str() == figures.hash
+            && text.len() == figures.text_len
+            && digits(alloc, &text_hash.0)?.as_str() == figures.text_hash,
+    )
+}
+
+// Whether the source's outboard encoding in the mode and its hash are those of the figures.
 fn has_figures<S: Source>(
     alloc: Global,
     mode: &Mode,
@@ -101,12 +154,21 @@ fn has_figures<S: Source>(
     figures: &Figures,
 ) -> Result<bool, Fail> {
     let (hash, text) = outboard_source(alloc, mode, source, figures.len as u64)?;
-    let text_hash = b3tree::hash(&Mode::hash(), text.as_slice());
-    Ok(
-        digits(alloc, &hash.0)?.as_str() == figures.hash
-            && text.len() == figures.text_len
-            && digits(alloc, &text_hash.0)?.as_str() == figures.text_hash,
-    )
+    are_figures(alloc, &hash, text.as_slice(), figures)
+}
+
+// The same of its combined encoding.
+fn has_combined<R: Threads + Sync, S: Source + Sync>(
+    rt: &R,
+    alloc: Global,
+    mode: &Mode,
+    source: &S,
+    figures: &Figures,
+) -> Result<bool, Fail> {
+    let (hash, texts) = combined_source(rt, alloc, mode, source, figures.len as u64, RANGES)?;
+    let mut text = Vec::new(alloc);
+    write_texts(texts.as_slice(), &mut text).map_err(|_| "a write")?;
+    are_figures(alloc, &hash, text.as_slice(), figures)
 }
 
 #[test]
@@ -140,6 +202,34 @@ fn encodings_in_each_mode(rt: HostRuntime) -> Result<(), Fail> {
     for (mode, figures) in [(Mode::keyed(KEY), KEYED), (Mode::derive(CONTEXT), DERIVED)] {
         assert!(rt; has_figures(rt.alloc(), &mode, &bytes.as_slice(), &figures)?);
     }
+    Ok(())
+}
+
+#[test]
+fn combined_encodings_of_bytes_and_of_a_file(rt: HostRuntime) -> Result<(), Fail> {
+    let id = process::id(rt.process());
+    let path = format!(in rt.alloc(); "/tmp/bao_read-combined-{id}")?;
+    let path = path.as_str();
+    let mode = Mode::hash();
+    for figures in COMBINED {
+        let bytes = blob(rt.alloc(), figures.len)?;
+        fs::write(&rt, path, bytes.as_slice())?;
+        let file = fs::open(&rt, path)?;
+        assert!(rt;
+            has_combined(&rt, rt.alloc(), &mode, &bytes.as_slice(), &figures)?,
+            "{}",
+            figures.len
+        );
+        assert!(rt;
+            has_combined(&rt, rt.alloc(), &mode, &file, &figures)?,
+            "{}",
+            figures.len
+        );
+    }
+    fs::remove_file(&rt, path)?;
+    let bytes = blob(rt.alloc(), COMBINED_KEYED.len)?;
+    let mode = Mode::keyed(KEY);
+    assert!(rt; has_combined(&rt, rt.alloc(), &mode, &bytes.as_slice(), &COMBINED_KEYED)?);
     Ok(())
 }
 
@@ -181,6 +271,14 @@ fn short_reads_give_the_same(rt: HostRuntime) -> Result<(), Fail> {
             "{most}"
         );
     }
+    let figures = COMBINED[4];
+    let bytes = blob(rt.alloc(), figures.len)?;
+    let source = Dealing {
+        bytes: bytes.as_slice(),
+        most: 100_000,
+        fails: u64::MAX,
+    };
+    assert!(rt; has_combined(&rt, rt.alloc(), &Mode::hash(), &source, &figures)?);
     Ok(())
 }
 
@@ -200,11 +298,32 @@ fn a_fault_of_a_read_is_the_answer(rt: HostRuntime) -> Result<(), Fail> {
     Ok(())
 }
 
+// The same in each range.
+#[test]
+fn a_fault_of_a_read_in_a_range_is_the_answer(rt: HostRuntime) -> Result<(), Fail> {
+    let bytes = blob(rt.alloc(), 2_500_000)?;
+    for fails in [0, 1_048_576, 1_310_719, 2_097_152, 2_499_999, 2_500_000] {
+        let source = Dealing {
+            bytes: bytes.as_slice(),
+            most: 100_000,
+            fails,
+        };
+        let got = combined_source(&rt, rt.alloc(), &Mode::hash(), &source, 2_500_000, RANGES);
+        assert_eq!(rt; got.err(), Some(ReadFault::Reader), "{fails}");
+    }
+    Ok(())
+}
+
 #[test]
 fn another_length_is_refused(rt: HostRuntime) -> Result<(), Fail> {
     let bytes = blob(rt.alloc(), 600_000)?;
     for wrong in [0, 1, 262_144, 524_288, 599_999, 600_001, 1_000_000] {
         let got = outboard_source(rt.alloc(), &Mode::hash(), &bytes.as_slice(), wrong);
+        assert_eq!(rt; got.err(), Some(ReadFault::Reader), "{wrong}");
+    }
+    let bytes = blob(rt.alloc(), 1_500_000)?;
+    for wrong in [0, 1, 1_048_576, 1_499_999, 1_500_001, 2_500_000] {
+        let got = combined_source(&rt, rt.alloc(), &Mode::hash(), &bytes.as_slice(), wrong, 16);
         assert_eq!(rt; got.err(), Some(ReadFault::Reader), "{wrong}");
     }
     Ok(())

@@ -1,5 +1,7 @@
 -- The texts of a blob: combined encoding, outboard encoding and slices (Bao specification).
-use Rattle.std.specs.Prelude.{ℕ, zero, suc, ◌+◌, ◌*◌, ◌/◌, List, [], ◌++◌, length, take, drop, nat_le, if◌then◌else◌}
+use Rattle.std.specs.Prelude.{Vec, ℕ, zero, suc, ◌+◌, ◌*◌, ◌/◌, List, [], ◌++◌, length, take, drop, nat_le, if◌then◌else◌}
+use Rattle.std.specs.Global.{Global}
+use Rattle.std.specs.List.{flat_map}
 use Rattle.std.specs.Int.{w64, to_le_bytes}
 use Rattle.b3tree.specs.declared.mode.Mode.{Mode}
 use Rattle.b3tree.specs.Bytes.{bytes_of}
@@ -57,3 +59,7 @@ node_span blob node = take node.len (drop (1024 * node.number) blob)
 -- the bytes of a node in the texts of the blob
 abbrev pub node_text : Mode → List ℕ → Node → List ℕ
 node_text mode blob node = if node.is_chunk then node_span blob node else parent_text mode node.number (node_span blob node)
+
+-- several texts, one after another
+abbrev pub joined : List (Vec ℕ Global) → List ℕ
+joined texts = flat_map (λ text. text.items) texts

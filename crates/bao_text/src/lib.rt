@@ -5,8 +5,8 @@ pub use choice::Choice;
 pub use cut::cut_slice;
 pub use fault::{Memory, WriteFault};
 pub use sizes::{PARENT_LEN, encoded_len, outboard_len};
-pub use texts::{append_parents, combined, outboard, put_parent, slice};
-pub use writer::{write_combined, write_text};
+pub use texts::{append_subtree, combined, outboard, put_parent, slice};
+pub use writer::{write_combined, write_text, write_texts};
 
 mod choice;
 mod cut;

@@ -50,10 +50,12 @@ pub fn put_parent(text: &mut Vec<u8>, at: usize, left: &Cv, right: &Cv)
     text.as_mut_slice()[at..at + PARENT_LEN].copy_from_slice(&parent_bytes(left, right));
 }
 
-// Appends the text of the subtree over `bytes` from chunk `first` on, and answers the subtree's last
-// compression. A parent's place is kept free until the values of its parts are there; eight whole chunks
-// go by lanes.
-fn append(
+/// Appends the text of the subtree over `bytes`, whose first chunk has the number `first`, to `text`: what the
+/// choice wants of it, as it stands in the text of the blob in which the subtree lies. Answers the subtree's last
+/// compression, as `top_input` does.
+///
+/// Answers `Memory` (401) where a growth was refused. What the text has then is not said.
+pub fn append_subtree(
     choice: &Choice,
     mode: &Mode,
     first: u64,
@@ -79,34 +81,16 @@ fn append(
         append_eight(choice, &parents, bytes, text)?;
         return Ok(parent_input(mode, &parents.top.left, &parents.top.right));
     }
+    // The parent's place is kept free until the values of its parts are there.
     let at = text.len();
     extend(text, &[0; PARENT_LEN])?;
     let left_len = left_len(len);
     let (left, right) = bytes.split_at(left_len as usize);
     let right_first = first + left_len / CHUNK_LEN as u64;
-    let left = Cv(cv(&append(choice, mode, first, left, text)?));
-    let right = Cv(cv(&append(choice, mode, right_first, right, text)?));
+    let left = Cv(cv(&append_subtree(choice, mode, first, left, text)?));
+    let right = Cv(cv(&append_subtree(choice, mode, right_first, right, text)?));
     put_parent(text, at, &left, &right);
     Ok(parent_input(mode, &left, &right))
-}
-
-/// Appends the parents of the subtree over `bytes`, whose first chunk has the number `first`, to `text`: the
-/// subtree's part of the outboard encoding of a blob of `total` bytes, in which the subtree lies. One chunk has
-/// none. Answers the subtree's last compression, as `top_input` does.
-///
-/// Answers `Memory` (401) where a growth was refused. What the text has then is not said.
-pub fn append_parents(
-    mode: &Mode,
-    total: u64,
-    first: u64,
-    bytes: &[u8],
-    text: &mut Vec<u8>,
-) -> Result<Input, Memory>
-    requires { 1024 * first + length bytes.now ≤ total }
-    ensures top { IfOk result (λ x. x ≡ top_input mode.now first bytes.now) }
-    ensures text { OnOk result (text.new.items ≡ text.old.items ++ subtree_text (of_outboard total) mode.now first bytes.now) }
-{
-    append(&Choice::of_outboard(total), mode, first, bytes, text)
 }
 
 // The text of `bytes` for a choice, with room for `room` bytes from the start, and the hash.
@@ -126,7 +110,7 @@ fn chosen(
     let room = usize::try_from(room).map_err(|_| Memory)?;
     let mut text = Vec::with_capacity(alloc, room).map_err(|_| Memory)?;
     extend(&mut text, &(bytes.len() as u64).to_le_bytes())?;
-    let top = append(choice, mode, 0, bytes, &mut text)?;
+    let top = append_subtree(choice, mode, 0, bytes, &mut text)?;
     Ok((root_hash(&rooted(&top)), text))
 }
 

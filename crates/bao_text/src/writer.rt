@@ -4,7 +4,7 @@ ghost use Rattle.b3tree.specs.declared.mode.Mode.{Mode};
 ghost use Rattle.b3tree.specs.Hashing.{hash};
 ghost use Rattle.bao_text.specs.Choice.{chunk_count};
 ghost use Rattle.bao_text.specs.Faults.{Writes, WroteOnly};
-ghost use Rattle.bao_text.specs.Texts.{combined_text, outboard_text};
+ghost use Rattle.bao_text.specs.Texts.{combined_text, joined, outboard_text};
 
 use crate::fault::WriteFault;
 use crate::pieces::{LEVELS, ROOM_LEN, Subtree, write_subtree};
@@ -49,6 +49,21 @@ pub fn write_text<W: Write>(text: &[u8], out: &mut W) -> Result<(), WriteFault>
     ensures no_memory { IfErr result (λ fault. fault ≢ WriteFault.Memory) }
 {
     write_after(0, text, out)
+}
+
+/// Writes all of `texts` to `out`, one after another, as `write_text` writes one: its faults are of the text that
+/// they make together.
+pub fn write_texts<W: Write>(texts: &[Vec<u8>], out: &mut W) -> Result<(), WriteFault>
+    ensures text { OnOk result (Appends (W.contents out.old) (W.contents out.new) (joined texts.now)) }
+    ensures err { IfErr result (WroteOnly (W.contents out.old) (W.contents out.new) (joined texts.now)) }
+    ensures no_memory { IfErr result (λ fault. fault ≢ WriteFault.Memory) }
+{
+    let mut before = 0;
+    for text in texts {
+        write_after(before, text.as_slice(), out)?;
+        before += text.len() as u128;
+    }
+    Ok(())
 }
 
 // Writes the combined encoding of `bytes` beside their outboard encoding, in pieces that are put together in

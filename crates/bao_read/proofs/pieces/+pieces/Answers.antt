@@ -1,9 +1,9 @@
-use Rattle.std.proofs.Common.{rules, ◌≡◌, ◌*◌, ◌/◌, ◌≤◌, ◌++◌, ℕ, List, length, replicate, refl, arith}
-use Rattle.bao_read.proofs.Parents.{parents_joined}
+use Rattle.std.proofs.Common.{rules, ◌≡◌, ◌++◌, ℕ, List, length, replicate, refl, arith}
+use Rattle.bao_read.proofs.Parents.{SplitsAt, text_put}
 use Rattle.bao_read.proofs.pieces.+pieces.Goals as goal
 
-pub returns-then-len-piece-clause-parents : goal.returns-then-len-piece-clause-parents
-returns-then-len-piece-clause-parents g t c =
+pub returns-then-len-piece-clause-text : goal.returns-then-len-piece-clause-text
+returns-then-len-piece-clause-text g t c =
     let size : length c.fill.new.buf ≡ c.args.len = search rules in
     record {
       top = record {
@@ -15,17 +15,21 @@ returns-then-len-piece-clause-parents g t c =
       text = search rules;
     }
 
-pub returns-clause-parents : goal.returns-clause-parents
-returns-clause-parents g t c =
+pub returns-clause-text : goal.returns-clause-text
+returns-clause-text g t c =
     let contents = g.S.Source.contents c.args.source.now in
     let mode = c.args.mode.now in
     let l = c.left_len-left_len.result in
     let old : List ℕ = c.args.text.now.items in
-    let whole : 1024 * (l / 1024) ≡ l = omega (arith, c.left_len-left_len.ensures.largest.form.1) in
-    let within : l ≤ c.args.len = omega (arith, c.left_len-left_len.ensures.largest.below) in
     let free : c.extend_from_slice.new.self.items ≡ old ++ replicate 64 0 = search rules in
-    let joined = parents_joined contents mode c.args.total c.args.first c.args.len l c.in_ok-left.left c.in_ok-right.right old (replicate 64 0)
-    c.append_in_pieces.new.text.items c.append_in_pieces-2.new.text.items c.put_parent.new.text.items
-    (c.left_len-left_len.ensures.parts mode c.args.first) c.left_len-left_len.ensures.value whole within (omega arith) c.requires.range refl
-    (search rules) c.in_ok-right.ensures.parents (search rules) in
-    rw (c.parent_input.ensures, c.cv.ensures, c.cv-2.ensures) joined
+    let splits : SplitsAt mode c.args.first c.args.len l = record {
+      parts = c.left_len-left_len.ensures.parts mode c.args.first;
+      value = c.left_len-left_len.ensures.value;
+      whole = omega (arith, c.left_len-left_len.ensures.largest.form.1);
+      within = omega (arith, c.left_len-left_len.ensures.largest.below);
+      more = omega arith;
+    } in
+    let put = text_put contents c.args.choice.now mode c.args.first c.args.len l c.in_ok-left.left c.in_ok-right.right old (replicate 64 0)
+    c.append_in_pieces.new.text.items c.append_in_pieces-2.new.text.items c.put_parent.new.text.items splits c.requires.start c.requires.end refl
+    (search rules) c.in_ok-right.ensures.text (search rules) in
+    rw (c.parent_input.ensures, c.cv.ensures, c.cv-2.ensures) put

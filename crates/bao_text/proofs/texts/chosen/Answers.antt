@@ -5,5 +5,5 @@ use Rattle.bao_text.proofs.texts.chosen.Goals as goal
 
 pub returns-clause-nodes : goal.returns-clause-nodes
 returns-clause-nodes c =
-    let text : c.append.new.text.items ≡ chosen_text c.args.choice.now c.args.mode.now c.args.bytes.now = search rules in
+    let text : c.append_subtree.new.text.items ≡ chosen_text c.args.choice.now c.args.mode.now c.args.bytes.now = search rules in
     text ∙ chosen_text-nodes c.args.choice.now c.args.mode.now c.args.bytes.now

@@ -9,8 +9,8 @@ use Rattle.bao_text.specs.Texts.{chunk_text, parent_text, subtree_text}
 use Rattle.bao_text.proofs.EightChunks.{text-eight, top-eight}
 use Rattle.bao_text.proofs.Places.{parent_put}
 use Rattle.bao_text.proofs.SubtreeText.{subtree_text-leaf, subtree_text-parent, subtree_text-unwanted}
-use Rattle.bao_text.proofs.texts.+append.Goals as goal
-use Rattle.bao_text.proofs.texts.+append.Goals.{else-choice, then-choice+in_ok-extend}
+use Rattle.bao_text.proofs.texts.+append_subtree.Goals as goal
+use Rattle.bao_text.proofs.texts.+append_subtree.Goals.{else-choice, then-choice+in_ok-extend}
 
 pub returns-then-not-wants-clause-text : goal.returns-then-not-wants-clause-text
 returns-then-not-wants-clause-text t c =
@@ -64,14 +64,14 @@ returns-clause-text t c =
     let right_text : List ℕ = subtree_text choice mode (first + l / 1024) (drop l s) in
     let front : c.split_at.result.0.now ≡ take l s = c.split_at.ensures.front ∙ (λ i. take (parted i) s) in
     let back : c.split_at.result.1.now ≡ drop l s = c.split_at.ensures.back ∙ (λ i. drop (parted i) s) in
-    let left : c.append.new.text.items ≡ (old ++ zeros) ++ left_text =
-    c.in_ok-append.ensures.text ∙ (λ i. c.in_ok-extend-2.ensures.ok i ++ subtree_text choice mode first (front i)) in
-    let both : c.append-2.new.text.items ≡ ((old ++ zeros) ++ left_text) ++ right_text =
-    c.in_ok-append-2.ensures.text ∙ (λ i. left i ++ subtree_text choice mode (first + parted i / 1024) (back i)) in
+    let left : c.append_subtree.new.text.items ≡ (old ++ zeros) ++ left_text =
+    c.in_ok-append_subtree.ensures.text ∙ (λ i. c.in_ok-extend-2.ensures.ok i ++ subtree_text choice mode first (front i)) in
+    let both : c.append_subtree-2.new.text.items ≡ ((old ++ zeros) ++ left_text) ++ right_text =
+    c.in_ok-append_subtree-2.ensures.text ∙ (λ i. left i ++ subtree_text choice mode (first + parted i / 1024) (back i)) in
     let left_cv : c.cv.result ≡ subtree_cv mode first (take l s) =
-    c.cv.ensures ∙ ap cv (c.in_ok-append.ensures.top ∙ (λ i. top_input mode first (front i))) in
+    c.cv.ensures ∙ ap cv (c.in_ok-append_subtree.ensures.top ∙ (λ i. top_input mode first (front i))) in
     let right_cv : c.cv-2.result ≡ subtree_cv mode (first + l / 1024) (drop l s) =
-    c.cv-2.ensures ∙ ap cv (c.in_ok-append-2.ensures.top ∙ (λ i. top_input mode (first + parted i / 1024) (back i))) in
+    c.cv-2.ensures ∙ ap cv (c.in_ok-append_subtree-2.ensures.top ∙ (λ i. top_input mode (first + parted i / 1024) (back i))) in
     let parent : bytes_of c.cv.result ++ bytes_of c.cv-2.result ≡ parent_text mode first s = (λ i. bytes_of (left_cv i) ++ bytes_of (right_cv i)) in
     let wanted : wants choice (1024 * first) (length s) ≡ true = sym c.wants.ensures ∙ c.if-not-wants.false in
     let at : c.len-at.result ≡ length old = omega arith in
