@@ -18,6 +18,8 @@ mod tests;
 #[cfg(test)]
 mod tests_decode;
 #[cfg(test)]
+mod tests_encode;
+#[cfg(test)]
 mod tests_gather;
 #[cfg(test)]
 mod tests_reading;
