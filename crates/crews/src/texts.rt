@@ -1,5 +1,6 @@
-ghost use Rattle.std.specs.Prelude.{◌≡◌, ◌↔◌, ◌⊎◌, ◌*◌, ◌<◌, ◌≤◌, All, Err, IfErr, IfOk, IsErrOf, length, vec_len};
+ghost use Rattle.std.specs.Prelude.{◌≡◌, ◌↔◌, ◌⊎◌, ◌*◌, ◌<◌, ◌≤◌, All, Err, IfErr, IfOk, IsErrOf, length, map, vec_items, vec_len};
 ghost use Rattle.b3tree.specs.Hashing.{hash};
+ghost use Rattle.gather.specs.Encodings.{encoding};
 ghost use Rattle.gather.specs.Large.{AreLonger, IsOfNone, IsTooLarge, fixed_as};
 ghost use Rattle.crews.specs.declared.fault.CrewsFault.TheVariants.{Gather};
 ghost use Rattle.gather.specs.declared.texts.GatherFault.TheVariants.{Capacity, NotTheRoot, Starved, TooLarge};
@@ -20,7 +21,9 @@ use store_shared::{Assembly, Seat};
 const MOST_WORKERS: u32 = 64;
 
 // A holder over each text.
-fn holders_over<'a>(alloc: Global, texts: &'a [Vec<u8>]) -> Result<Vec<Encoded<'a>>, AllocError> {
+fn holders_over<'a>(alloc: Global, texts: &'a [Vec<u8>]) -> Result<Vec<Encoded<'a>>, AllocError>
+    ensures { IfOk result (λ holders. map encoding holders.items ≡ map vec_items texts.now) }
+{
     let mut holders = Vec::with_capacity(alloc, texts.len())?;
     for text in texts {
         holders.push(Encoded::new(alloc, text.as_slice()))?;
@@ -43,6 +46,7 @@ pub fn crews_over<'a>(
     requires { IsSeatOf assembly.now seat }
     ensures of { IfOk result (λ made. All (λ crew. IsSeatOf assembly.now crew.seat) made.0.items) }
     ensures count { IfOk result (λ made. vec_len made.0 ≡ workers) }
+    ensures holders { IfOk result (λ made. All (λ crew. map encoding crew.holders.items ≡ map vec_items texts.now) made.0.items) }
     ensures stays { IfOk result (λ made. IsSeatOf assembly.now made.1) }
     ensures fault { IfErr result (λ fault. (fault ≡ CrewsFault.Seat) ⊎ (fault ≡ Gather Starved)) }
 {
