@@ -59,9 +59,10 @@ class Times:
         self.least[name] = min(seconds, self.least.get(name, seconds))
 
     def run(self, name, words, made=None):
-        """Times the command. The file that it makes is not there before."""
+        """Times the command. The file that it makes is not there before, and no earlier file waits for the disk."""
         if made and os.path.exists(made):
             os.remove(made)
+        os.sync()
         start = time.perf_counter()
         printed = output(words)
         self.note(name, time.perf_counter() - start)
@@ -128,7 +129,7 @@ ROWS = [
     (B3SUM_ONE, "whole program, one thread"),
     (B3SUM_READ_ONE, "whole program, one thread, reads in pieces"),
     (OUTBOARD, "whole program, one thread, writes a file"),
-    (ENCODE, "whole program, one thread, writes a file"),
+    (ENCODE, "whole program, several threads, writes a file"),
     (DECODE, "whole program, one thread, checks the file's combined encoding, writes the file"),
     (HASH_GATHERED, "whole program, as a user runs it, of the first 64 MiB"),
     (GATHER, "whole program, four workers, of the combined encoding of the first 64 MiB"),
@@ -188,7 +189,7 @@ RATIOS = [
     ("one thread", SMALL_PIECES, "hash", "at most 1.3"),
     ("one thread", LARGE_PIECES, "hash", "at most 1.1"),
     ("one thread", OUTBOARD, HASH_ONE, "at most 1.5"),
-    ("one thread", ENCODE, HASH_ONE, "at most 2.2"),
+    ("several threads", ENCODE, HASH_ONE, "at most 2.2"),
     ("one thread", DECODE, HASH_ONE, ""),
     ("one thread", SLICE, SLICE_OF_SIXTEENTH, "about 1: not with the encoding"),
     ("one thread", LARGER_SLICE, SLICE, "about 8: with the slice"),
