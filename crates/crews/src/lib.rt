@@ -17,4 +17,6 @@ mod runs;
 mod shared;
 #[cfg(test)]
 mod tests;
+#[cfg(test)]
+mod tests_memory;
 mod texts;

@@ -15,7 +15,7 @@ use store_core::{Settling, Store};
 use store_shared::{Assembly, Seat};
 
 // The bytes i mod 251, as in BLAKE3's test vectors.
-fn blob(rt: &HostRuntime, len: usize) -> Result<Vec<u8>, Fail> {
+pub(crate) fn blob(rt: &HostRuntime, len: usize) -> Result<Vec<u8>, Fail> {
     let mut bytes = Vec::with_capacity(rt.alloc(), len)?;
     for i in 0..len {
         bytes.push((i % 251) as u8)?;
@@ -23,14 +23,25 @@ fn blob(rt: &HostRuntime, len: usize) -> Result<Vec<u8>, Fail> {
     Ok(bytes)
 }
 
-fn shared(rt: &HostRuntime, root: Hash, capacity: u32) -> Result<(Assembly, Seat), Fail>
+pub(crate) fn shared(rt: &HostRuntime, root: Hash, capacity: u32) -> Result<(Assembly, Seat), Fail>
     ensures { IfOk result (λ made. IsSeatOf made.0 made.1) }
 {
     Ok(Assembly::new(rt.alloc(), root, Mode::hash(), capacity)?)
 }
 
+// A second seat, split off this one.
+fn split(assembly: &Assembly, seat: Seat) -> Result<(Seat, Seat), Fail>
+    requires { IsSeatOf assembly.now seat }
+    ensures { IfOk result (λ seats. IsSeatOf assembly.now seats.0 × IsSeatOf assembly.now seats.1) }
+{
+    match assembly.split(seat) {
+        Ok(seats) => Ok(seats),
+        Err(_) => Err(Fail::from("a seat was refused")),
+    }
+}
+
 // A run with one crew for each list of holders. Each crew's seat is split off from the first, which comes back.
-fn run_lists<R: Threads + Sync, H: Holder + Drop + Send, G: Gate + Sync>(
+pub(crate) fn run_lists<R: Threads + Sync, H: Holder + Drop + Send, G: Gate + Sync>(
     rt: &R,
     alloc: Global,
     assembly: &Assembly,
@@ -43,9 +54,7 @@ fn run_lists<R: Threads + Sync, H: Holder + Drop + Send, G: Gate + Sync>(
 {
     let mut crews = Vec::with_capacity(alloc, lists.len())?;
     for holders in lists {
-        let Ok((stays, new)) = assembly.split(seat) else {
-            return Err(Fail::from("a seat was refused"));
-        };
+        let (stays, new) = split(assembly, seat)?;
         seat = stays;
         crews.push(Crew::new(new, holders))?;
     }
@@ -57,7 +66,7 @@ fn run_lists<R: Threads + Sync, H: Holder + Drop + Send, G: Gate + Sync>(
 }
 
 // The same, where each worker has a holder for each of the texts, and no growth is refused.
-fn run_texts<R: Threads + Sync>(
+pub(crate) fn run_texts<R: Threads + Sync>(
     rt: &R,
     alloc: Global,
     assembly: &Assembly,
@@ -306,6 +315,9 @@ fn a_device_that_fails(rt: HostRuntime) -> Result<(), Fail> {
         vec![in rt.alloc(); holders]?,
         &Open,
     )?;
+    if report.memory > 0 {
+        return Err(Fail::from("a growth was refused"));
+    }
     let all = Report {
         committed: 3,
         asked: 4,
@@ -367,9 +379,7 @@ fn a_claim_of_a_seat_that_is_gone(rt: HostRuntime) -> Result<(), Fail> {
     let bytes = blob(&rt, 1000)?;
     let (root, whole) = combined(rt.alloc(), &Mode::hash(), bytes.as_slice())?;
     let (assembly, seat) = shared(&rt, root, 1)?;
-    let Ok((seat, mut other)) = assembly.split(seat) else {
-        return Err(Fail::from("a seat was refused"));
-    };
+    let (seat, mut other) = split(&assembly, seat)?;
     assert_eq!(rt; assembly.take(&mut other, 0, 1)?, 1);
     drop(other);
     let (mut seat, report) = run_texts(&rt, rt.alloc(), &assembly, seat, 2, &[whole.as_slice()])?;

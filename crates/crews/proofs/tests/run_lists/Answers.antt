@@ -10,5 +10,5 @@ pub loop-holders-preserved : goal.loop-holders-preserved
 loop-holders-preserved g c =
     let P : Crew g.row.H.Denot → Type 0 = λ crew. IsSeatOf c.args.assembly.now crew.seat in
     let all : c.push.new.self.items ≡ c.loop-holders.crews.items ++ c.new.result ∷ [] = c.in_ok-push.ensures.items in
-    let new : IsSeatOf c.args.assembly.now c.new.result.seat = subst (λ (seat : Gripped). IsSeatOf c.args.assembly.now seat) (sym c.new.ensures.seat) c.in-Ok.ensures.of.1 in
-    (c.in-Ok.ensures.of.0, subst (λ (crews : List (Crew g.row.H.Denot)). All P crews) (sym all) (All-push P _ _ c.loop-holders.invariant.1 new))
+    let new : IsSeatOf c.args.assembly.now c.new.result.seat = subst (λ (seat : Gripped). IsSeatOf c.args.assembly.now seat) (sym c.new.ensures.seat) c.in_ok-stays.ensures.1 in
+    (c.in_ok-stays.ensures.0, subst (λ (crews : List (Crew g.row.H.Denot)). All P crews) (sym all) (All-push P _ _ c.loop-holders.invariant.1 new))
