@@ -1,7 +1,7 @@
 #!/usr/bin/env python3
 """Times the programs of this repository, as `make bench` built them, beside b3sum, and prints a table.
 
-Every command is run several times, in turns, and its least time counts. No time is judged: this fails only where a
+Every command is run several times, in turns and twice in a row, and its least time counts. No time is judged: this fails only where a
 program fails, or where two of them print different hashes."""
 import argparse
 import os
@@ -59,13 +59,15 @@ class Times:
         self.least[name] = min(seconds, self.least.get(name, seconds))
 
     def run(self, name, words, made=None):
-        """Times the command. The file that it makes is not there before, and no earlier file waits for the disk."""
-        if made and os.path.exists(made):
-            os.remove(made)
-        os.sync()
-        start = time.perf_counter()
-        printed = output(words)
-        self.note(name, time.perf_counter() - start)
+        """Times the command, twice in a row, since a virtual machine may have to lend memory anew after a pause. The file
+        that it makes is not there before, and no earlier file waits for the disk."""
+        for _ in range(2):
+            if made and os.path.exists(made):
+                os.remove(made)
+            os.sync()
+            start = time.perf_counter()
+            printed = output(words)
+            self.note(name, time.perf_counter() - start)
         return printed
 
     def run_in_process(self, path):
