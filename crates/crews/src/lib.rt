@@ -19,4 +19,6 @@ mod shared;
 mod tests;
 #[cfg(test)]
 mod tests_memory;
+#[cfg(test)]
+mod tests_readers;
 mod texts;

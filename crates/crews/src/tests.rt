@@ -30,7 +30,7 @@ pub(crate) fn shared(rt: &HostRuntime, root: Hash, capacity: u32) -> Result<(Ass
 }
 
 // A second seat, split off this one.
-fn split(assembly: &Assembly, seat: Seat) -> Result<(Seat, Seat), Fail>
+pub(crate) fn split(assembly: &Assembly, seat: Seat) -> Result<(Seat, Seat), Fail>
     requires { IsSeatOf assembly.now seat }
     ensures { IfOk result (λ seats. IsSeatOf assembly.now seats.0 × IsSeatOf assembly.now seats.1) }
 {
@@ -153,25 +153,27 @@ fn four_workers_and_one_end_in_the_same(rt: HostRuntime) -> Result<(), Fail> {
 
 const TURNS: u32 = 1_000_000;
 
-// Whoever comes first is held until a second comes; after many turns it gives up.
+// Whoever comes is held until this number came; after many turns it gives up.
 #[derive(Drop)]
-struct Meeting {
+pub(crate) struct Meeting {
+    number: u64,
     came: AtomicU64,
-    met: AtomicU64,
+    pub(crate) met: AtomicU64,
 }
 
 impl Meeting {
-    fn new() -> Meeting {
+    pub(crate) fn of(number: u64) -> Meeting {
         Meeting {
+            number,
             came: AtomicU64::new(0),
             met: AtomicU64::new(0),
         }
     }
 
-    fn wait(&self) {
+    pub(crate) fn wait(&self) {
         self.came.fetch_add(1, Ordering::SeqCst);
         for _ in 0..TURNS {
-            if self.came.load(Ordering::SeqCst) >= 2 {
+            if self.came.load(Ordering::SeqCst) >= self.number {
                 self.met.fetch_add(1, Ordering::SeqCst);
                 return;
             }
@@ -221,7 +223,7 @@ fn two_workers_pass_at_once(rt: HostRuntime) -> Result<(), Fail> {
     let (assembly, seat) = shared(&rt, root, 3)?;
     let first = vec![in rt.alloc(); Encoded::new(rt.alloc(), whole.as_slice())]?;
     let second = vec![in rt.alloc(); Encoded::new(rt.alloc(), whole.as_slice())]?;
-    let gate = Meeting::new();
+    let gate = Meeting::of(2);
     let (mut seat, report) = run_lists(
         &rt,
         rt.alloc(),
@@ -244,7 +246,7 @@ fn two_workers_ask_at_once(rt: HostRuntime) -> Result<(), Fail> {
     let bytes = blob(&rt, 3000)?;
     let (root, whole) = combined(rt.alloc(), &Mode::hash(), bytes.as_slice())?;
     let (assembly, seat) = shared(&rt, root, 3)?;
-    let meeting = Meeting::new();
+    let meeting = Meeting::of(2);
     let mut lists = Vec::new(rt.alloc());
     for _ in 0..2 {
         let late = Late {
