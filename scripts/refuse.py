@@ -42,11 +42,11 @@ void *realloc(void *old, size_t size) {
 }
 """
 
-NAMES = ("", "401 ", "504 ", "903 ", "911 ")
+NAMES = ("", "401 ", "504 ", "801 ", "806 ", "903 ", "911 ")
 MEMORY = {name.strip(): f"bao_gather: {name}memory\n".encode() for name in NAMES}
 
 # The faults of memory that a task has of its own.
-OWN = {"hash": [""], "decode": ["504"], "decode-slice": ["504"], "gather": ["903", "911"]}
+OWN = {"hash": [""], "decode": ["504"], "decode-slice": ["504"], "gather": ["801", "806", "903", "911"]}
 
 # After how many runs in a row that ended well the last allocation is behind: a worker that gathers goes on after a
 # refusal.
