@@ -96,6 +96,8 @@ SLICE_OF_SIXTEENTH = "cut_slice of 1 MiB, a sixteenth of the file"
 LARGER_SLICE = "cut_slice of 8 MiB"
 POOL_ONE = "hash_pool, 1 worker"
 POOL_FOUR = "hash_pool, 4 workers"
+PIECES_ONE = "hashes of 16 KiB by one thread"
+PIECES_FOUR = "hashes of 16 KiB by four threads"
 SMALL_PIECES = "Hasher, pieces of 64 KiB"
 LARGE_PIECES = "Hasher, pieces of 1 MiB"
 FILE_ONE = "hash_source, 1 range"
@@ -140,6 +142,8 @@ ROWS = [
     ("hash_join", "b3par::hash_join in one process, several threads"),
     (POOL_ONE, "b3par::hash_pool in one process, one worker"),
     (POOL_FOUR, "b3par::hash_pool in one process, four workers"),
+    (PIECES_ONE, "b3tree::hash of one piece in one process, one thread, as often as the file has such pieces"),
+    (PIECES_FOUR, "as before, by four threads, which share a count of how often, and nothing else"),
     (SMALL_PIECES, "b3tree::Hasher in one process, one thread"),
     (LARGE_PIECES, "b3tree::Hasher in one process, one thread"),
     (FILE_ONE, "b3read::hash_source in one process, one thread, reads the file in pieces"),
@@ -187,6 +191,7 @@ RATIOS = [
     ("several threads", "hash", "hash_join", "at least 2.5 on four processors"),
     ("one thread", "hash", POOL_ONE, ""),
     ("several threads", "hash", POOL_FOUR, "at least 3.0 on four processors"),
+    ("several threads", PIECES_ONE, PIECES_FOUR, "4 on four processors of their own: what threads are worth on this machine"),
     ("several threads", FILE_ONE, FILE_RANGES, ""),
     ("one thread", SMALL_PIECES, "hash", "at most 1.3"),
     ("one thread", LARGE_PIECES, "hash", "at most 1.1"),

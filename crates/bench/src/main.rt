@@ -16,6 +16,7 @@ mod memory;
 mod shared;
 mod slices;
 mod stores;
+mod threads;
 mod way;
 mod workers;
 
@@ -44,6 +45,8 @@ fn run<R: Runtime + Files<File = File> + AllocGlobal + Threads + Sync>(rt: &R) -
     let bytes = fs::read(rt, path).context("reading the file")?;
     let times = measure::least_times(rt, bytes.as_slice())?;
     measure::print(rt, &times)?;
+    let of_threads = threads::least_times(rt, bytes.as_slice())?;
+    threads::print(rt, &of_threads)?;
     let file = fs::open(rt, path).context("opening the file")?;
     let of_file = files::least_times(rt, &file, bytes.as_slice())?;
     files::print(rt, &of_file)?;
