@@ -1,5 +1,5 @@
 -- What reads at places give of a source.
-use Rattle.std.specs.Prelude.{◌≡◌, ℕ, ◌*◌, ◌<◌, ◌≤◌, List, Option, IfSome, length, take}
+use Rattle.std.specs.Prelude.{◌≡◌, ◌≢◌, ℕ, ◌*◌, ◌<◌, ◌≤◌, List, Option, IfSome, length, take}
 use Rattle.b3word.specs.declared.input.Input.{Input}
 use Rattle.b3tree.specs.declared.mode.Mode.{Mode}
 use Rattle.b3tree.specs.Hashing.{hash, stream}
@@ -14,6 +14,14 @@ ReadsAt contents at n buf = IfSome contents (λ s. (take n buf ≡ piece s at n)
 -- the bytes are those of the contents from `at` on, where these are known
 abbrev pub GivenAt : Option (List ℕ) → ℕ → List ℕ → Type 0
 GivenAt contents at bytes = IfSome contents (λ s. bytes ≡ piece s at (length bytes))
+
+-- a source that has these contents, and is faultless or not, lacks a byte before the place `end`, as far as is known
+abbrev pub Lacks : Option (List ℕ) → Type 0 → ℕ → Type 0
+Lacks contents faultless end = IfSome contents (λ s. faultless → length s < end)
+
+-- it has fewer or more than so many bytes, as far as is known
+abbrev pub HasOther : Option (List ℕ) → Type 0 → ℕ → Type 0
+HasOther contents faultless len = IfSome contents (λ s. faultless → length s ≢ len)
 
 -- the input is the top of the tree over `len` bytes of the contents, which begin with chunk `first`
 pub record IsTopOf (contents : Option (List ℕ)) (mode : Mode) (first len : ℕ) (input : Input) : Type 0 where

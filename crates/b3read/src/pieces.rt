@@ -1,5 +1,5 @@
 ghost use Rattle.std.specs.Prelude.{◌≡◌, true, ◌+◌, ◌-◌, ◌*◌, ◌^◌, ◌≤◌, length, IfErr, IfOk, IfSome, OnOk};
-ghost use Rattle.b3read.specs.Given.{GivenAt, IsTopOf};
+ghost use Rattle.b3read.specs.Given.{GivenAt, IsTopOf, Lacks};
 
 use crate::fault::ReadFault;
 use crate::source::Source;
@@ -13,6 +13,7 @@ pub fn fill<S: Source>(source: &S, at: u64, buf: &mut [u8]) -> Result<(), ReadFa
     requires { at + length buf.old ≤ 2 ^ 64 - 1 }
     ensures given { OnOk result (GivenAt (S.contents source.now) at buf.new) }
     ensures fault { IfErr result (λ fault. fault ≡ ReadFault.Reader) }
+    ensures lacks { IfErr result (λ _. Lacks (S.contents source.now) (S.faultless source.now) (at + length buf.old)) }
 {
     let mut filled = 0;
     'reads: while filled < buf.len() {
@@ -38,7 +39,7 @@ pub(crate) fn top_in_pieces<S: Source>(
     requires range { 1024 * first + len ≤ 2 ^ 64 - 1 }
     ensures room { length piece.new ≡ length piece.old }
     ensures top { IfOk result (λ input. IsTopOf (S.contents source.now) mode.now first len input) }
-    ensures fault { IfErr result (λ fault. fault ≡ ReadFault.Reader) }
+    ensures fault { IfErr result (λ fault. fault ≡ ReadFault.Reader → Lacks (S.contents source.now) (S.faultless source.now) (1024 * first + len)) }
 {
     if len <= piece.len() as u64 {
         let part = &mut piece[..len as usize];
@@ -54,7 +55,8 @@ pub(crate) fn top_in_pieces<S: Source>(
 
 /// Whether the source has no byte at `len` and after it. Where the read fails, it isn't said to end there.
 pub fn ends_at<S: Source>(source: &S, len: u64) -> bool
-    ensures { result ≡ true → IfSome (S.contents source.now) (λ s. length s ≤ len) }
+    ensures ends { result ≡ true → IfSome (S.contents source.now) (λ s. length s ≤ len) }
+    ensures found { S.faultless source.now → IfSome (S.contents source.now) (λ s. length s ≤ len → result ≡ true) }
 {
     matches!(source.read_at(&mut [0], len), Ok(0))
 }

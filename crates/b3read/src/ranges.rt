@@ -1,6 +1,6 @@
-ghost use Rattle.std.specs.Prelude.{◌≡◌, ℕ, List, ◌+◌, ◌-◌, ◌*◌, ◌^◌, ◌<◌, ◌≤◌, length, IfOk, IfSome};
+ghost use Rattle.std.specs.Prelude.{◌≡◌, ℕ, List, ◌+◌, ◌-◌, ◌*◌, ◌^◌, ◌<◌, ◌≤◌, length, IfErr, IfOk, IfSome};
 ghost use Rattle.std.specs.Thread.{IsSync};
-ghost use Rattle.b3read.specs.Given.{IsHashOf, IsTopOf};
+ghost use Rattle.b3read.specs.Given.{HasOther, IsHashOf, IsTopOf, Lacks};
 
 use crate::fault::ReadFault;
 use crate::pieces::{ends_at, top_in_pieces};
@@ -27,7 +27,8 @@ fn top_alone<S: Source>(
     len: u64,
 ) -> Result<Input, ReadFault>
     requires range { 1024 * first + len ≤ 2 ^ 64 - 1 }
-    ensures { IfOk result (λ input. IsTopOf (S.contents source.now) mode.now first len input) }
+    ensures top { IfOk result (λ input. IsTopOf (S.contents source.now) mode.now first len input) }
+    ensures fault { IfErr result (λ fault. fault ≡ ReadFault.Reader → Lacks (S.contents source.now) (S.faultless source.now) (1024 * first + len)) }
 {
     let mut piece = vec![in alloc; 0u8; PIECE_LEN]?;
     top_in_pieces(mode, source, first, len, piece.as_mut_slice())
@@ -47,7 +48,8 @@ fn top_in_ranges<R: Threads + Sync, S: Source + Sync>(
 ) -> Result<Input, ReadFault>
     requires most { 1024 ≤ most }
     requires range { 1024 * first + len ≤ 2 ^ 64 - 1 }
-    ensures { IfOk result (λ input. IsTopOf (S.contents source.now) mode.now first len input) }
+    ensures top { IfOk result (λ input. IsTopOf (S.contents source.now) mode.now first len input) }
+    ensures fault { IfErr result (λ fault. fault ≡ ReadFault.Reader → Lacks (S.contents source.now) (S.faultless source.now) (1024 * first + len)) }
 {
     if len <= most {
         return top_alone(alloc, mode, source, first, len);
@@ -59,11 +61,13 @@ fn top_in_ranges<R: Threads + Sync, S: Source + Sync>(
         rt,
         move || -> Result<Input, ReadFault>
             requires { IsSync R.row × IsSync S.row × (1024 ≤ most) × (1024 * first + left_len ≤ 2 ^ 64 - 1) }
-            ensures { IfOk result (λ input. IsTopOf (S.contents source.entry.now) mode.entry.now first left_len input) }
+            ensures { IfOk result (λ input. IsTopOf (S.contents source.entry.now) mode.entry.now first left_len input)
+                × IfErr result (λ fault. fault ≡ ReadFault.Reader → Lacks (S.contents source.entry.now) (S.faultless source.entry.now) (1024 * first + left_len)) }
         { top_in_ranges(rt, alloc, mode, source, first, left_len, most) },
         move || -> Result<Input, ReadFault>
             requires { IsSync R.row × IsSync S.row × (1024 ≤ most) × (1024 * right_first + right_len ≤ 2 ^ 64 - 1) }
-            ensures { IfOk result (λ input. IsTopOf (S.contents source.entry.now) mode.entry.now right_first right_len input) }
+            ensures { IfOk result (λ input. IsTopOf (S.contents source.entry.now) mode.entry.now right_first right_len input)
+                × IfErr result (λ fault. fault ≡ ReadFault.Reader → Lacks (S.contents source.entry.now) (S.faultless source.entry.now) (1024 * right_first + right_len)) }
         { top_in_ranges(rt, alloc, mode, source, right_first, right_len, most) },
     );
     let left = left?;
@@ -90,6 +94,7 @@ pub fn hash_source<R: Threads + Sync, S: Source + Sync>(
     requires ranges { (1 ≤ ranges) × (ranges ≤ 64) }
     ensures all { IfOk result (λ answer. IfSome (S.contents source.now) (λ bytes. IsHashOf mode.now len bytes answer.0)) }
     ensures some { IfOk result (λ answer. (bytes : List ℕ) × IsHashOf mode.now len bytes answer.0) }
+    ensures fault { IfErr result (λ fault. fault ≡ ReadFault.Reader → HasOther (S.contents source.now) (S.faultless source.now) len) }
 {
     let most = len.div_ceil(ranges).max(LEAST_RANGE_LEN);
     let top = top_in_ranges(rt, alloc, mode, source, 0, len, most)?;

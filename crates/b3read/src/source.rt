@@ -1,4 +1,4 @@
-ghost use Rattle.std.specs.Prelude.{ℕ, List, Option, None, IfOk};
+ghost use Rattle.std.specs.Prelude.{ℕ, List, Option, None, IfOk, IsOk};
 ghost use Rattle.std.specs.Io.{ReadsAtMost};
 ghost use Rattle.b3read.specs.Given.{ReadsAt};
 
@@ -11,11 +11,15 @@ pub trait Source {
     // The bytes, where they are known.
     ghost contents: { Self → Option (List ℕ) } = { λ _. None };
 
+    // That no read of it answers a fault.
+    ghost faultless: { Self → Type 0 } = { λ _. ⊥ };
+
     /// Reads bytes from the place `at` on to the front of `buf`, and answers how many: none only past the
     /// end, or where `buf` is empty.
     fn read_at(&self, buf: &mut [u8], at: u64) -> io::Result<usize>
         ensures bound { ReadsAtMost result buf.new }
-        ensures bytes { IfOk result (λ count. ReadsAt (contents self.now) at count buf.new) };
+        ensures bytes { IfOk result (λ count. ReadsAt (contents self.now) at count buf.new) }
+        ensures fault { faultless self.now → IsOk result };
 }
 
 /// The position of the file is neither used nor moved.
@@ -26,9 +30,11 @@ impl Source for File {
 }
 
 impl Source for &[u8] {
-    ghost use Rattle.std.specs.Prelude.{Some};
+    ghost use Rattle.std.specs.Prelude.{Some, ⊤};
 
     ghost contents = { λ bytes. Some bytes.now };
+
+    ghost faultless = { λ _. ⊤ };
 
     fn read_at(&self, buf: &mut [u8], at: u64) -> io::Result<usize> {
         let start = usize::try_from(at).unwrap_or(usize::MAX).min(self.len());

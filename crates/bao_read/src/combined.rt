@@ -1,6 +1,7 @@
-ghost use Rattle.std.specs.Prelude.{◌≡◌, ℕ, List, [], ◌+◌, ◌-◌, ◌*◌, ◌^◌, ◌≤◌, ◌++◌, IfOk, IfSome};
+ghost use Rattle.std.specs.Prelude.{◌≡◌, ℕ, List, [], ◌+◌, ◌-◌, ◌*◌, ◌^◌, ◌≤◌, ◌++◌, IfErr, IfOk, IfSome};
 ghost use Rattle.std.specs.Thread.{IsSync};
 ghost use Rattle.b3word.specs.Compression.{cv};
+ghost use Rattle.b3read.specs.Given.{HasOther, Lacks};
 ghost use Rattle.b3tree.specs.Bytes.{bytes_of};
 ghost use Rattle.b3tree.specs.Tree.{parent_input};
 ghost use Rattle.bao_text.specs.Texts.{joined};
@@ -35,7 +36,8 @@ fn made_alone<S: Source>(
     requires start { choice.now.start ≡ 0 }
     requires end { 1024 * first + len ≤ choice.now.end }
     requires range { 1024 * first + len ≤ 2 ^ 64 - 1 }
-    ensures { IfOk result (λ made. GainsText (S.contents source.now) choice.now mode.now first len [] (joined made.texts.items) made.top) }
+    ensures text { IfOk result (λ made. GainsText (S.contents source.now) choice.now mode.now first len [] (joined made.texts.items) made.top) }
+    ensures fault { IfErr result (λ fault. fault ≡ ReadFault.Reader → Lacks (S.contents source.now) (S.faultless source.now) (1024 * first + len)) }
 {
     let room = usize::try_from(encoded_len(len)).map_err(|_| ReadFault::Memory)?;
     let mut piece = vec![in alloc; 0u8; PIECE_LEN]?;
@@ -50,7 +52,7 @@ fn made_alone<S: Source>(
         &mut text,
     )?;
     let mut texts = Vec::new(alloc);
-    texts.push(text).map_err(|_| ReadFault::Memory)?;
+    texts.push(text)?;
     Ok(Made { top, texts })
 }
 
@@ -59,6 +61,7 @@ fn made_of_parts(alloc: Global, mode: &Mode, left: Made, right: Made) -> Result<
     ensures top { IfOk result (λ made. made.top ≡ parent_input mode.now (cv left.top) (cv right.top)) }
     ensures texts { IfOk result (λ made. joined made.texts.items
         ≡ (bytes_of (cv left.top) ++ bytes_of (cv right.top)) ++ (joined left.texts.items ++ joined right.texts.items)) }
+    ensures fault { IfErr result (λ fault. fault ≡ ReadFault.Memory) }
 {
     let Made {
         top,
@@ -73,7 +76,7 @@ fn made_of_parts(alloc: Global, mode: &Mode, left: Made, right: Made) -> Result<
     let mut parent = vec![in alloc; 0u8; PARENT_LEN]?;
     put_parent(&mut parent, 0, &left, &right);
     let mut texts = Vec::new(alloc);
-    texts.push(parent).map_err(|_| ReadFault::Memory)?;
+    texts.push(parent)?;
     texts.append(&mut near)?;
     texts.append(&mut far)?;
     Ok(Made {
@@ -99,7 +102,8 @@ fn made_in_ranges<R: Threads + Sync, S: Source + Sync>(
     requires start { choice.now.start ≡ 0 }
     requires end { 1024 * first + len ≤ choice.now.end }
     requires range { 1024 * first + len ≤ 2 ^ 64 - 1 }
-    ensures { IfOk result (λ made. GainsText (S.contents source.now) choice.now mode.now first len [] (joined made.texts.items) made.top) }
+    ensures text { IfOk result (λ made. GainsText (S.contents source.now) choice.now mode.now first len [] (joined made.texts.items) made.top) }
+    ensures fault { IfErr result (λ fault. fault ≡ ReadFault.Reader → Lacks (S.contents source.now) (S.faultless source.now) (1024 * first + len)) }
 {
     if len <= most {
         return made_alone(alloc, choice, mode, source, first, len);
@@ -112,12 +116,14 @@ fn made_in_ranges<R: Threads + Sync, S: Source + Sync>(
         move || -> Result<Made, ReadFault>
             requires { IsSync R.row × IsSync S.row × (1024 ≤ most) × (choice.now.start ≡ 0)
                 × (1024 * first + left_len ≤ choice.now.end) × (1024 * first + left_len ≤ 2 ^ 64 - 1) }
-            ensures { IfOk result (λ made. GainsText (S.contents source.entry.now) choice.entry.now mode.entry.now first left_len [] (joined made.texts.items) made.top) }
+            ensures { IfOk result (λ made. GainsText (S.contents source.entry.now) choice.entry.now mode.entry.now first left_len [] (joined made.texts.items) made.top)
+                × IfErr result (λ fault. fault ≡ ReadFault.Reader → Lacks (S.contents source.entry.now) (S.faultless source.entry.now) (1024 * first + left_len)) }
         { made_in_ranges(rt, alloc, choice, mode, source, first, left_len, most) },
         move || -> Result<Made, ReadFault>
             requires { IsSync R.row × IsSync S.row × (1024 ≤ most) × (choice.now.start ≡ 0)
                 × (1024 * right_first + right_len ≤ choice.now.end) × (1024 * right_first + right_len ≤ 2 ^ 64 - 1) }
-            ensures { IfOk result (λ made. GainsText (S.contents source.entry.now) choice.entry.now mode.entry.now right_first right_len [] (joined made.texts.items) made.top) }
+            ensures { IfOk result (λ made. GainsText (S.contents source.entry.now) choice.entry.now mode.entry.now right_first right_len [] (joined made.texts.items) made.top)
+                × IfErr result (λ fault. fault ≡ ReadFault.Reader → Lacks (S.contents source.entry.now) (S.faultless source.entry.now) (1024 * right_first + right_len)) }
         {
             made_in_ranges(
                 rt,
@@ -156,11 +162,12 @@ pub fn combined_source<R: Threads + Sync, S: Source + Sync>(
     requires ranges { (1 ≤ ranges) × (ranges ≤ 64) }
     ensures all { IfOk result (λ made. IfSome (S.contents source.now) (λ bytes. IsCombinedOf mode.now len bytes made.0.0 (joined made.1.items))) }
     ensures some { IfOk result (λ made. (bytes : List ℕ) × IsCombinedOf mode.now len bytes made.0.0 (joined made.1.items)) }
+    ensures fault { IfErr result (λ fault. fault ≡ ReadFault.Reader → HasOther (S.contents source.now) (S.faultless source.now) len) }
 {
     let mut length = Vec::new(alloc);
     length.extend_from_slice(&len.to_le_bytes())?;
     let mut texts = Vec::new(alloc);
-    texts.push(length).map_err(|_| ReadFault::Memory)?;
+    texts.push(length)?;
     let most = len.div_ceil(ranges).max(LEAST_RANGE_LEN);
     let choice = Choice::of_combined(len);
     let made = made_in_ranges(rt, alloc, &choice, mode, source, 0, len, most)?;

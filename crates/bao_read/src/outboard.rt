@@ -1,4 +1,5 @@
-ghost use Rattle.std.specs.Prelude.{ℕ, List, IfOk, IfSome};
+ghost use Rattle.std.specs.Prelude.{◌≡◌, ℕ, List, IfErr, IfOk, IfSome};
+ghost use Rattle.b3read.specs.Given.{HasOther};
 ghost use Rattle.bao_read.specs.Encodings.{IsOutboardOf};
 
 use crate::pieces::{PIECE_LEN, append_in_pieces};
@@ -21,6 +22,7 @@ pub fn outboard_source<S: Source>(
 ) -> Result<(Hash, Vec<u8>), ReadFault>
     ensures all { IfOk result (λ made. IfSome (S.contents source.now) (λ bytes. IsOutboardOf mode.now len bytes made.0.0 made.1.items)) }
     ensures some { IfOk result (λ made. (bytes : List ℕ) × IsOutboardOf mode.now len bytes made.0.0 made.1.items) }
+    ensures fault { IfErr result (λ fault. fault ≡ ReadFault.Reader → HasOther (S.contents source.now) (S.faultless source.now) len) }
 {
     let room = usize::try_from(outboard_len(len)).map_err(|_| ReadFault::Memory)?;
     let mut piece = vec![in alloc; 0u8; PIECE_LEN]?;

@@ -1,4 +1,5 @@
-ghost use Rattle.std.specs.Prelude.{◌≡◌, ◌+◌, ◌-◌, ◌*◌, ◌^◌, ◌≤◌, length, IfOk};
+ghost use Rattle.std.specs.Prelude.{◌≡◌, ◌+◌, ◌-◌, ◌*◌, ◌^◌, ◌≤◌, length, IfErr, IfOk};
+ghost use Rattle.b3read.specs.Given.{Lacks};
 ghost use Rattle.bao_read.specs.Encodings.{GainsText};
 
 use b3read::{ReadFault, Source, fill};
@@ -27,6 +28,7 @@ pub(crate) fn append_in_pieces<S: Source>(
     requires range { 1024 * first + len ≤ 2 ^ 64 - 1 }
     ensures room { length piece.new ≡ length piece.old }
     ensures text { IfOk result (λ top. GainsText (S.contents source.now) choice.now mode.now first len text.old.items text.new.items top) }
+    ensures fault { IfErr result (λ fault. fault ≡ ReadFault.Reader → Lacks (S.contents source.now) (S.faultless source.now) (1024 * first + len)) }
 {
     if len <= piece.len() as u64 {
         let part = &mut piece[..len as usize];

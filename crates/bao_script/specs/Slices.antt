@@ -45,6 +45,10 @@ ArePieces mode root [] pieces = pieces ≡ []
 ArePieces mode root (slice ∷ slices) pieces =
     (piece : Checked) × (rest : List Checked) × (pieces ≡ piece ∷ rest) × IsPieceOf mode root slice piece × ArePieces mode root slices rest
 
+-- the slices are all accepted
+abbrev pub AreAccepted : Mode → List ℕ → List Slice → Type 0
+AreAccepted mode root slices = (pieces : List Checked) × ArePieces mode root slices pieces
+
 -- The slice of the line with this number is the first that is refused, with this fault: those before it are accepted.
 pub record IsRefusedSlice (mode : Mode) (root : List ℕ) (slices : List Slice) (number : ℕ) (fault : CheckFault) : Type 0 where
   pub before : List Slice

@@ -1,8 +1,8 @@
-ghost use Rattle.std.specs.Prelude.{◌≡◌, ◌⊎◌, ℕ, ◌<◌, length, map, IfOk, IsErrOf};
+ghost use Rattle.std.specs.Prelude.{◌≡◌, ◌⊎◌, ℕ, ◌<◌, ◌≤◌, length, map, IfOk, IsErrOf, IsOk};
 ghost use Rattle.bao_check.specs.declared.fault.CheckFault.{CheckFault};
 ghost use Rattle.bao_script.specs.declared.fault.ReplayScriptFault.TheVariants.{Capacity, Illegal, Refused};
 ghost use Rattle.bao_script.specs.Printouts.{IsPrinted, IsStopped};
-ghost use Rattle.bao_script.specs.Slices.{IsRefusedSlice, NameFiles, slices_of};
+ghost use Rattle.bao_script.specs.Slices.{AreAccepted, IsRefusedSlice, NameFiles, slices_of};
 
 use crate::answers::print_answers;
 use crate::fault::ReplayScriptFault;
@@ -35,7 +35,9 @@ pub fn replay_script(
         → IsStopped (record { root = root; mode = mode; capacity = capacity }) (map (λ file. file.items) files.now) script.now number }
     ensures refused { (number : ℕ) (fault : CheckFault) → IsErrOf result (Refused number fault)
         → IsRefusedSlice mode root.0 (slices_of (map (λ file. file.items) files.now) script.now) number fault }
-    ensures capacity { IsErrOf result Capacity → (capacity ≡ 0) ⊎ (65536 < capacity) }
+    ensures capacity { IsErrOf result Capacity → ((capacity ≡ 0) ⊎ (65536 < capacity)) × AreAccepted mode root.0 (slices_of (map (λ file. file.items) files.now) script.now) }
+    ensures within { IsOk result → (0 < capacity) × (capacity ≤ 65536) }
+    ensures illegal_within { (number : ℕ) → IsErrOf result (Illegal number) → (0 < capacity) × (capacity ≤ 65536) }
 {
     let lines = script.lines();
     let slices = cut_slices(alloc, files, lines)?;

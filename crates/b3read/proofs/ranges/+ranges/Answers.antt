@@ -3,8 +3,8 @@ use Rattle.b3read.specs.Given.{IsTopOf}
 use Rattle.b3read.proofs.Parts.{top_joined}
 use Rattle.b3read.proofs.ranges.+ranges.Goals as goal
 
-pub returns : goal.returns
-returns g t c =
+pub returns-clause-top : goal.returns-clause-top
+returns-clause-top g t c =
     let l = c.left_len-left_len.result in
     let first = c.args.first in
     let contents = g.S.Source.contents c.args.source.now in

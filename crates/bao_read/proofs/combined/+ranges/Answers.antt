@@ -8,8 +8,8 @@ with_both : {X E : Type 0} {R : X → Type 0} (result : Result X E) (P Q : X →
 with_both (Ok x) P Q follows p q = follows x p q
 with_both (Err e) P Q follows p q = tt
 
-pub returns : goal.returns
-returns g t c =
+pub returns-clause-text : goal.returns-clause-text
+returns-clause-text g t c =
     let contents = g.S.Source.contents c.args.source.now in
     let choice = c.args.choice.now in
     let mode = c.args.mode.now in
