@@ -27,7 +27,9 @@ const THREADS: usize = 4;
 /// a count and nothing else, so this is what they are worth on this machine.
 #[derive(Clone, Copy, Debug)]
 pub struct ThreadTimes {
+    /// On one thread.
     pub by_one: Duration,
+    /// On four threads.
     pub by_four: Duration,
 }
 
