@@ -1,10 +1,10 @@
-# Needs rt (Rattle's command) on the PATH, make and bash; bench also needs python3.
+# Needs rt (Rattle's command) on the PATH, make, bash and python3.
 
 SHELL := bash
 .SHELLFLAGS := -eu -o pipefail -c
 .DEFAULT_GOAL := help
 .DELETE_ON_ERROR:
-.PHONY: help build run install test bench refuse fmt FORCE
+.PHONY: help build run install test wrong-bodies bench refuse fmt FORCE
 
 PREFIX ?= /usr/local
 
@@ -24,10 +24,11 @@ help:
 	@echo 'make run ARGS="WORD .."   builds where something changed, and runs bao_gather on the words'
 	@echo 'make install PREFIX=DIR   copies bao_gather to DIR/bin (PREFIX is /usr/local if left out; DESTDIR goes before it)'
 	@echo 'make test                 the gate, rt ci: every proof from nothing, the must-fail edits, the tests and the programs'
+	@echo 'make wrong-bodies         tries the wrong bodies that the gate leaves out, of all crates or of CRATES="NAME .."'
 	@echo 'make bench                measures times and prints them with their ratios, beside b3sum where it is installed'
 	@echo 'make refuse               runs the program with one allocation refused after another (needs cc)'
 	@echo 'make fmt                  lays out the files of each crate'
-	@echo 'CPU=x86-64 or CPU=x86-64-v3 picks the processor level, which is $(CPU) if left out; JOBS=N is the number of jobs of a proof'
+	@echo 'CPU=x86-64 or CPU=x86-64-v3 picks the processor level, which is $(CPU) if left out; JOBS=N is the number of jobs of a proof, or of wrong bodies at a time'
 
 build: out/bao_gather
 
@@ -38,7 +39,11 @@ install: out/bao_gather
 	install -D -m 755 out/bao_gather '$(DESTDIR)$(PREFIX)/bin/bao_gather'
 
 test:
+	@python3 scripts/wrong_bodies.py --read
 	rt ci
+
+wrong-bodies:
+	@python3 scripts/wrong_bodies.py $(if $(JOBS),--jobs $(JOBS)) $(CRATES)
 
 bench: out/bao_gather out/bench
 	@python3 scripts/bench.py
