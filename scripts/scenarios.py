@@ -11,7 +11,6 @@ import sys
 
 import definitions as bao
 
-KEY_LEN = 32
 # How many words of a reply's digest are printed.
 SHORT = 16
 
@@ -179,7 +178,484 @@ class Texts:
         return "agrees"
 
 
-SCENARIOS = {"text_scenarios": Texts}
+GROUP_LEN = 64
+MAX_CAPACITY = 65536
+# A byte that a buffer for a read has before.
+UNREAD = 9
+
+
+class Piece:
+    """An accepted slice of a blob, with its chunks and the length that it certifies, if it does."""
+
+    def __init__(self, mode, blob, start, count):
+        self.mode, self.root, self.start, self.count = mode, mode.hash(blob), start, count
+        self.read(bao.slice_text(mode, blob, start, count))
+
+    def read(self, text):
+        self.text = text
+        self.length, found, _ = bao.checked(self.mode, self.root, text, lambda length: bao.slice_nodes(length, self.start, self.count))
+        self.chunks = {it.number: text[it.offset : it.offset + it.size] for it in found if not it.is_parent}
+        self.is_last = bao.chunks_of(self.length) - 1 in self.chunks
+
+
+class Draw:
+    """Numbers by a linear congruence."""
+
+    def __init__(self, seed):
+        self.state = seed
+
+    def word(self):
+        self.state = (self.state * 6364136223846793005 + 1442695040888963407) % 2**64
+        return self.state >> 32
+
+    def below(self, end):
+        return self.word() % end
+
+    def mask(self):
+        """Each bit is set in one of four."""
+        return (self.word() << 32 | self.word()) & (self.word() << 32 | self.word())
+
+
+class Stores:
+    """A store of one blob's chunks: which are held, which seat claims which, and the length once it is known."""
+
+    def __init__(self):
+        self.mode, self.blob, self.pieces = bao.Mode(), b"", {}
+        self.capacity = 0
+
+    def open(self, capacity):
+        if not 1 <= capacity <= MAX_CAPACITY:
+            return "802 capacity"
+        self.capacity, self.of, self.root = capacity, self.mode, self.mode.hash(self.blob)
+        self.held, self.claims, self.length, self.seats = {}, {}, None, 1
+        return f"groups {self.groups()}"
+
+    def groups(self):
+        return -(-self.capacity // GROUP_LEN)
+
+    def chunks(self, group, mask):
+        """The chunks of a mask that the store has room for."""
+        first = GROUP_LEN * group
+        return [first + j for j in range(GROUP_LEN) if mask >> j & 1 and first + j < self.capacity]
+
+    def mask(self, group, chunks):
+        return sum(1 << it - GROUP_LEN * group for it in chunks)
+
+    def take(self, seat, group, want):
+        if group >= self.groups():
+            return "803 no group"
+        free = [it for it in self.chunks(group, want) if it not in self.held and it not in self.claims]
+        self.claims.update((it, seat) for it in free)
+        return f"granted {self.mask(group, free):x}"
+
+    def give(self, seat, group, mask):
+        given = [it for it in self.chunks(group, mask) if self.claims.get(it) == seat]
+        for it in given:
+            del self.claims[it]
+        return f"given {self.mask(group, given):x}"
+
+    def commit(self, seat, group, piece):
+        if (piece.root, piece.mode) != (self.root, self.of):
+            return "804 other root"
+        stored = [it for it in self.chunks(group, 2**64 - 1) if self.claims.get(it) == seat and it in piece.chunks]
+        for it in stored:
+            del self.claims[it]
+            self.held[it] = piece.chunks[it]
+        return f"committed {self.mask(group, stored):x}"
+
+    def settle(self, piece):
+        if not piece.is_last:
+            return "no tail"
+        if (piece.root, piece.mode) != (self.root, self.of):
+            return "other root"
+        if piece.length > bao.CHUNK_LEN * self.capacity:
+            return "too large"
+        if self.length is None:
+            self.length = piece.length
+            return "settled"
+        return "known" if self.length == piece.length else "differs"
+
+    def read(self, at, count):
+        made = b""
+        while len(made) < count:
+            chunk, rest = divmod(at + len(made), bao.CHUNK_LEN)
+            part = self.held.get(chunk, b"")[rest:]
+            if not part:
+                break
+            made += part[: count - len(made)]
+        said = told(made + bytes([UNREAD]) * (count - len(made)))
+        return said if len(made) == count else f"missing {at + len(made)}, {said}"
+
+    def recorded(self):
+        return "no length" if self.length is None else f"length {self.length}"
+
+    def drawn(self, seed, calls):
+        """Calls of all seats with all pieces, drawn; the replies are told by their hash."""
+        draw, replies, pieces = Draw(seed), [], list(self.pieces.values())
+        for _ in range(calls):
+            seat, group, mask, kind = draw.below(self.seats), draw.below(self.groups() + 1), draw.mask(), draw.below(6)
+            if kind == 0:
+                replies.append(self.take(seat, group, mask))
+            elif kind == 1:
+                replies.append(self.give(seat, group, mask))
+            elif kind == 2:
+                replies.append(self.recorded())
+            elif kind == 3:
+                replies.append(self.read(draw.below(bao.CHUNK_LEN * self.capacity), draw.below(3000)))
+            elif kind == 4:
+                replies.append(self.commit(seat, group, pieces[draw.below(len(pieces))]))
+            else:
+                replies.append(self.settle(pieces[draw.below(len(pieces))]))
+        return f"{calls} replies {digest(''.join(f'{it}{chr(10)}' for it in replies).encode())}"
+
+    def do(self, name, rest):
+        words = rest.split(" ") if rest else []
+        numbers = [int(it) for it in words if it.isdigit()]
+        match name:
+            case "mode":
+                self.mode = mode_of(rest)
+                return []
+            case "blob":
+                self.blob = blob_of(numbers[0])
+                return []
+            case "bytes":
+                self.blob = bytes.fromhex(rest)
+                return []
+            case "store":
+                return [self.open(numbers[0])]
+            case "piece":
+                self.pieces[words[0]] = Piece(self.mode, self.blob, int(words[1]), int(words[2]))
+                return [told(self.pieces[words[0]].text)]
+            case "claim":
+                piece = self.pieces[words[0]]
+                piece.read(int(words[1]).to_bytes(8, "little") + piece.text[8:])
+                return [f"accepted: claims {piece.length}"]
+            case "split":
+                self.seats += 1
+                return [f"seat {self.seats - 1}"]
+            case "join":
+                first, second = numbers
+                self.claims = {it: first if seat == second else seat for it, seat in self.claims.items()}
+                return []
+            case "meet" | "drop":
+                return []
+            case "take":
+                return [self.take(int(words[0]), int(words[1]), int(words[2], 16))]
+            case "give":
+                return [self.give(int(words[0]), int(words[1]), int(words[2], 16))]
+            case "commit":
+                return [self.commit(int(words[0]), int(words[1]), self.pieces[words[2]])]
+            case "settle":
+                return [self.settle(self.pieces[words[1]])]
+            case "length":
+                return [self.recorded()]
+            case "read":
+                return [self.read(numbers[1], numbers[2])]
+            case "held":
+                return [f"held {len(self.held)}"]
+            case "drawn":
+                return [self.drawn(*numbers)]
+            case _:
+                sys.exit(f"scenarios: no command {name}")
+
+
+class Refused(Exception):
+    """Why the program ends without its result: its status, and what it says."""
+
+    def __init__(self, status, said):
+        super().__init__(said)
+        self.status = status
+
+
+class Schedule:
+    """A schedule of steps on a store's words, by seats that claim chunks, write their cells, publish them and read."""
+
+    CELL_LEN, MOST_READ = 129, 65536
+    FORMS = {"claim": "nnm", "hash": "nfmm", "write": "nnb", "fill": "nn", "publish": "nn", "give": "nnm", "load": "nmn", "settle": "n", "length": "n"}
+    BITS = {"n": 32, "m": 64, "b": 8, "f": 64}
+
+    def __init__(self, mode, root, capacity, script, files):
+        self.mode, self.root, self.capacity, self.files = mode, root, capacity, files
+        self.lines = [(k, self.line(k, it)) for k, it in enumerate(script.split(b"\n"), 1) if it]
+        self.pieces = {k: self.piece(k, *numbers[1:]) for k, (name, numbers) in self.lines if name == "hash"}
+        self.current, self.written, self.reads = {}, {}, {}
+        self.store = Stores()
+        self.store.capacity, self.store.of, self.store.root = capacity, mode, root
+        self.store.held, self.store.claims, self.store.length = {}, {}, None
+
+    def line(self, k, line):
+        name, *words = line.decode("latin-1").split(" ")
+        form = self.FORMS.get(name)
+        if form is None or len(form) != len(words) or not all(it.isascii() and it.isdigit() for it in words):
+            raise Refused(2, f"usage: script line {k}")
+        numbers = [int(it) for it in words]
+        if any(it >> self.BITS[kind] for kind, it in zip(form, numbers)) or name == "hash" and numbers[1] >= len(self.files):
+            raise Refused(2, f"usage: script line {k}")
+        return name, numbers
+
+    def piece(self, k, file, start, count):
+        made = object.__new__(Piece)
+        made.mode, made.root, made.start, made.count = self.mode, self.root, start, count
+        try:
+            made.read(bao.cut(self.files[file], start, count))
+        except bao.Fault as fault:
+            raise Refused(1, f"line {k}: {fault}") from None
+        return made
+
+    def has_group(self, group):
+        return group < self.store.groups()
+
+    def publishable(self, seat, group):
+        """The chunks of the group that the seat claims and its piece holds."""
+        chunks = self.store.chunks(group, 2**64 - 1)
+        return [it for it in chunks if self.store.claims.get(it) == seat and it in self.current[seat].chunks]
+
+    def step(self, name, numbers, k):
+        """The reply of a step, None where it has none, or False where it isn't legal."""
+        store, seat = self.store, numbers[0]
+        written = self.written.setdefault(seat, set())
+        if name == "claim":
+            return self.has_group(numbers[1]) and store.take(seat, numbers[1], numbers[2])
+        if name == "hash":
+            self.current[seat] = self.pieces[k]
+            written.clear()
+            return None
+        if name in ("write", "fill"):
+            chunk, places = numbers[1], range(self.CELL_LEN) if name == "fill" else [numbers[2]]
+            is_own = store.claims.get(chunk) == seat and seat in self.current and chunk in self.current[seat].chunks
+            if not is_own or places[0] >= self.CELL_LEN:
+                return False
+            written.update((chunk, it) for it in places)
+            return None
+        if name == "publish":
+            if not self.has_group(numbers[1]) or seat not in self.current:
+                return False
+            if any((chunk, it) not in written for chunk in self.publishable(seat, numbers[1]) for it in range(self.CELL_LEN)):
+                return False
+            return store.commit(seat, numbers[1], self.current[seat])
+        if name == "give":
+            if not self.has_group(numbers[1]):
+                return False
+            had = set(store.claims)
+            said = store.give(seat, numbers[1], numbers[2])
+            gone = had - set(store.claims)
+            self.written[seat] = {it for it in written if it[0] not in gone}
+            return said
+        if name == "load":
+            return self.load(seat, numbers[1], numbers[2])
+        if name == "settle":
+            return seat in self.current and self.current[seat].is_last and store.settle(self.current[seat])
+        return store.recorded()
+
+    def load(self, seat, at, count):
+        """One load of a read: it copies what is held in the group of its place."""
+        if count > self.MOST_READ or seat in self.reads and self.reads[seat][:2] != (at, count):
+            return False
+        made = self.reads.pop(seat, (at, count, b""))[2]
+        end = self.store.capacity * bao.CHUNK_LEN
+        group = (at + len(made)) // bao.CHUNK_LEN // GROUP_LEN
+        while len(made) < count:
+            chunk, rest = divmod(at + len(made), bao.CHUNK_LEN)
+            if at + len(made) < end and chunk // GROUP_LEN != group:
+                self.reads[seat] = (at, count, made)
+                return None
+            part = self.store.held.get(chunk, b"")[rest:]
+            if not part:
+                return f"missing {at + len(made)}"
+            made += part[: min(count - len(made), GROUP_LEN * bao.CHUNK_LEN * (group + 1) - at - len(made))]
+        return f"bytes {made.hex()}".strip()
+
+    def run(self):
+        said = []
+        for k, (name, numbers) in self.lines:
+            reply = self.step(name, numbers, k)
+            if reply is False:
+                raise Refused(1, f"702 illegal step at line {k}")
+            if reply is not None:
+                said.append(f"{k} {self.worded(reply)}")
+        return "".join(f"{it}\n" for it in [*said, f"held {len(self.store.held)}"])
+
+    def worded(self, reply):
+        """The reply as a schedule's text has it: masks are decimal."""
+        name, _, rest = reply.partition(" ")
+        if name in ("granted", "given", "committed"):
+            return f"{name} {int(rest, 16)}"
+        return {"no length": "length none", "too large": "toolarge"}.get(reply, reply)
+
+
+class Programs:
+    """The program `bao_gather` over files, by its words."""
+
+    CONTEXT_SPACE, MOST_FILES = "_", 64
+
+    def __init__(self):
+        self.files, self.digits = {}, ""
+
+    def read(self, file):
+        if file not in self.files:
+            raise Refused(3, f"cannot read {file}")
+        return self.files[file]
+
+    def write(self, file, data):
+        if "/" in file:
+            raise Refused(3, f"cannot write {file}")
+        self.files[file] = data
+
+    def root_of(self, digits):
+        if len(digits) != 64 or not set(digits) <= set("0123456789abcdefABCDEF"):
+            raise Refused(2, "usage: root is not 64 hexadecimal digits")
+        return bytes.fromhex(digits)
+
+    def mode_of(self, key, context):
+        if key is not None and (len(key) != 64 or not set(key) <= set("0123456789abcdefABCDEF")):
+            raise Refused(2, "usage: key is not 64 hexadecimal digits")
+        if key is not None and context is not None:
+            raise Refused(2, "usage: key and context exclude each other")
+        if key is not None:
+            return bao.Mode.keyed(bytes.fromhex(key))
+        return bao.Mode() if context is None else bao.Mode.derived(context.encode())
+
+    def run(self, words):
+        """What the program prints on its two streams, after its status."""
+        options, plain, words = {"--at": "0", "--length": "32", "--workers": "4", "--capacity": "65536"}, [], list(words)
+        while words:
+            word = words.pop(0)
+            if word == "--encode":
+                options[word] = ""
+            elif word.startswith("--"):
+                options[word] = words.pop(0)
+            else:
+                plain.append(word)
+        name, *given = plain
+        try:
+            root = self.root_of(given[0]) if name in ("decode", "decode-slice", "gather", "replay") else None
+            mode = self.mode_of(options.get("--key"), options.get("--context"))
+            return [f"status {0}", *(f"out: {it}" for it in getattr(self, name.replace("-", "_"))(mode, root, options, given).splitlines())]
+        except Refused as fault:
+            return [f"status {fault.status}", f"err: bao_gather: {fault}"]
+
+    def hash(self, mode, root, options, given):
+        at, length = int(options["--at"]), int(options["--length"])
+        if at + length > 2**64 - 1:
+            raise Refused(2, "usage: output range too large")
+        return mode.output(self.read(given[0]), at, length).hex()
+
+    def encoded(self, mode, file, out, make):
+        blob = self.read(file)
+        self.write(out, make(blob))
+        return mode.hash(blob).hex()
+
+    def encode(self, mode, root, options, given):
+        return self.encoded(mode, *given, lambda blob: bao.combined(mode, blob))
+
+    def outboard(self, mode, root, options, given):
+        return self.encoded(mode, *given, lambda blob: bao.outboard(mode, blob))
+
+    def slice(self, mode, root, options, given):
+        start, count, file, out = given
+        return self.encoded(mode, file, out, lambda blob: bao.slice_text(mode, blob, int(start), int(count)))
+
+    def decode(self, mode, root, options, given):
+        return self.decoded(mode, root, 0, None, *given[1:])
+
+    def decode_slice(self, mode, root, options, given):
+        return self.decoded(mode, root, int(given[1]), int(given[2]), *given[3:])
+
+    def decoded(self, mode, root, start, count, file, out):
+        text, asked = self.read(file), 2**64 - 1 if count is None else count
+        try:
+            length, found, _ = bao.checked(mode, root, text, lambda length: bao.slice_nodes(length, start, asked))
+        except bao.Fault as fault:
+            raise Refused(1, str(fault)) from None
+        first, last = (0, length) if count is None else (min(start, length), min(start + count, length))
+        made = b""
+        for it in found:
+            if not it.is_parent:
+                at = it.number * bao.CHUNK_LEN
+                made += text[it.offset + max(first - at, 0) : it.offset + max(0, min(last - at, it.size))]
+        self.write(out, made)
+        return f"ok {last - first}"
+
+    def gather(self, mode, root, options, given):
+        out, files = given[1], given[2:]
+        if len(files) > self.MOST_FILES:
+            raise Refused(2, "usage: too many files")
+        texts = [self.files[it] for it in files if it in self.files]
+        if not texts:
+            raise Refused(3, f"cannot read {files[0]}")
+        capacity, held, length = int(options["--capacity"]), {}, None
+        for piece in self.pieces(mode, root, texts, 2**64 - 1, 1):
+            if piece.length > bao.CHUNK_LEN * capacity:
+                raise Refused(1, "805 too large")
+            length = piece.length
+            break
+        if length is None:
+            raise Refused(1, "901 unfinished")
+        group_bytes = GROUP_LEN * bao.CHUNK_LEN
+        for group in range(-(-bao.chunks_of(length) // GROUP_LEN)):
+            for piece in self.pieces(mode, root, texts, group_bytes * group, group_bytes):
+                held.update(piece.chunks)
+                break
+        blob = b"".join(held.get(k, b"") for k in range(bao.chunks_of(length)))
+        if len(blob) != length:
+            raise Refused(1, "901 unfinished")
+        if mode.hash(blob) != root:
+            raise Refused(1, "902 not the root")
+        self.write(out, bao.combined(mode, blob) if "--encode" in options else blob)
+        return f"ok {length}"
+
+    def pieces(self, mode, root, texts, start, count):
+        """The accepted slices of these texts."""
+        for text in texts:
+            made = object.__new__(Piece)
+            made.mode, made.root, made.start, made.count = mode, root, start, count
+            try:
+                made.read(bao.cut(text, start, count))
+            except bao.Fault:
+                continue
+            yield made
+
+    def replay(self, mode, root, options, given):
+        if len(given) - 2 > self.MOST_FILES:
+            raise Refused(2, "usage: too many files")
+        script, *files = [self.read(it) for it in given[1:]]
+        return Schedule(mode, root, int(options["--capacity"]), script, files).run()
+
+    def do(self, name, rest):
+        words = rest.split(" ") if rest else []
+        file = words[0]
+        match name:
+            case "blob":
+                self.files[file] = blob_of(int(words[1]))
+            case "bytes":
+                self.files[file] = bytes.fromhex(words[1] if len(words) > 1 else "")
+            case "line":
+                self.files[file] = self.files.get(file, b"") + rest.partition(" ")[2].encode() + b"\n"
+            case "copy":
+                self.files[words[1]] = self.files[file][: int(words[2])]
+            case "flip":
+                at, data = int(words[1]), self.files[file]
+                self.files[file] = data[:at] + bytes([data[at] ^ 1]) + data[at + 1 :]
+            case "append":
+                self.files[file] += bytes.fromhex(words[1])
+            case "claim":
+                self.files[file] = int(words[1]).to_bytes(8, "little") + self.files[file][8:]
+            case "remove":
+                for it in words:
+                    del self.files[it]
+            case "show":
+                return [told(self.files[file]) if file in self.files else "none"]
+            case "run":
+                replies = self.run([(self.digits if it == "$" else it).replace(self.CONTEXT_SPACE, " ") for it in words])
+                printed = replies[1][5:] if len(replies) > 1 and replies[1].startswith("out: ") else ""
+                self.digits = printed if len(printed) == 64 else self.digits
+                return replies
+            case _:
+                sys.exit(f"scenarios: no command {name}")
+        return []
+
+
+SCENARIOS = {"text_scenarios": Texts, "store_scenarios": Stores, "program_scenarios": Programs}
 
 
 def replies(kind, script):

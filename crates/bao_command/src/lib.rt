@@ -1,7 +1,7 @@
 //! The program `bao_gather` as a function of its words, its files and its standard output and error.
 #![tactic(auto)]
 
-mod command;
+mod commands;
 mod decode;
 mod digits;
 mod fault;
@@ -27,4 +27,5 @@ mod tests_reading;
 mod tests_replay;
 mod words;
 
+pub use commands::command;
 pub use program::run;

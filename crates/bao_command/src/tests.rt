@@ -1,4 +1,4 @@
-use crate::command::command;
+use crate::commands::command;
 use crate::input::{ReadFault, read_whole};
 use crate::words::own_words;
 use std::alloc::Global;

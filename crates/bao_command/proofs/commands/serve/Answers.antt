@@ -7,7 +7,7 @@ use Rattle.bao_command.specs.Printed.{Prints}
 use Rattle.std.specs.Option.{option_copied}
 use Rattle.bao_command.specs.ModeWords.{GivesMode}
 use Rattle.bao_command.specs.Tasks.{Answers, HasMode, IsRight, line_of}
-use Rattle.bao_command.proofs.command.serve.Goals as goal
+use Rattle.bao_command.proofs.commands.serve.Goals as goal
 
 -- what was printed of the line in the request's mode answers the request
 answers : (request : Request) (mode : Mode) (bytes : List ℕ) (old new : Option (List ℕ)) (result : Result Unit Fault) →

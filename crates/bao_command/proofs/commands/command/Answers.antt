@@ -6,7 +6,7 @@ use Rattle.bao_command.specs.declared.fault.Fault.{Fault}
 use Rattle.bao_command.specs.declared.fault.Fault.TheVariants.{Word, Root, Key, KeyAndContext, OutputRange, TooManyFiles, Script, Read, Write, Output, Encoding, Check, Gather, Replay, Memory}
 use Rattle.bao_command.specs.Outcome.{Begun}
 use Rattle.bao_command.specs.Tasks.{LeavesOf}
-use Rattle.bao_command.proofs.command.command.Goals as goal
+use Rattle.bao_command.proofs.commands.command.Goals as goal
 
 -- a fault leaves a beginning of the request's line at most
 begun : (words : List Text) (request : Request) (old new : Option (List ℕ)) (fault : Fault) → AsksFor words request → LeavesOf request old new fault → Begun words old new

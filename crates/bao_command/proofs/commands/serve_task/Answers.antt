@@ -3,7 +3,7 @@ use Rattle.bao_command.specs.declared.fault.Fault.{Fault}
 use Rattle.bao_command.specs.Printed.{Prints}
 use Rattle.bao_command.specs.Tasks.{IsRight, line_of}
 use Rattle.bao_request.specs.declared.tasks.Task.{Task}
-use Rattle.bao_command.proofs.command.serve_task.Goals as goal
+use Rattle.bao_command.proofs.commands.serve_task.Goals as goal
 
 both : (P Q : Type 0) (result : Result Unit Fault) → OnOk result P → OnOk result Q → OnOk result (P × Q)
 both P Q (Ok done) p q = (p, q)
