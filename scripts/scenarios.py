@@ -629,8 +629,12 @@ class Programs:
                 self.files[file] = blob_of(int(words[1]))
             case "bytes":
                 self.files[file] = bytes.fromhex(words[1] if len(words) > 1 else "")
-            case "line":
-                self.files[file] = self.files.get(file, b"") + rest.partition(" ")[2].encode() + b"\n"
+            case "steps":
+                self.files[file] = rest.partition(" ")[2].replace(";", "\n").encode()
+            case "add":
+                self.files[file] += rest.partition(" ")[2].replace(";", "\n").encode()
+            case "fills":
+                self.files[file] += b"".join(b"\nfill %d %d" % (int(words[1]), k) for k in range(int(words[2]))) + b"\n"
             case "copy":
                 self.files[words[1]] = self.files[file][: int(words[2])]
             case "flip":

@@ -37,14 +37,36 @@ pub fn make<R: Files + AllocGlobal>(rt: &R, name: &str, words: &[&str]) -> Resul
     Ok(())
 }
 
-// Adds a line to a file, which may not be there yet.
-pub fn add_line<R: Files + AllocGlobal>(rt: &R, file: &str, line: &str) -> Result<()> {
-    let mut bytes = match fs::metadata(rt, file) {
-        Ok(_) => fs::read(rt, file)?,
-        Err(_) => Vec::new(rt.alloc()),
+// The lines of a schedule, which ';' parts.
+fn lines(alloc: Global, text: &str) -> Result<String> {
+    let mut made = String::new(alloc);
+    for c in text.chars() {
+        made.push(if c == ';' { '\n' } else { c })?;
+    }
+    Ok(made)
+}
+
+// Writes a schedule, or adds to one: these lines, or the steps that fill so many chunks.
+pub fn write_steps<R: Files + AllocGlobal>(
+    rt: &R,
+    name: &str,
+    file: &str,
+    text: &str,
+) -> Result<()> {
+    let alloc = rt.alloc();
+    let mut bytes = match name {
+        "steps" => Vec::new(alloc),
+        _ => fs::read(rt, file)?,
     };
-    bytes.extend_from_slice(line.as_bytes())?;
-    bytes.push(b'\n')?;
+    match (name, text.split_once(' ')) {
+        ("fills", Some((seat, count))) => {
+            for chunk in 0..number(count)? {
+                bytes.extend_from_slice(format!(in alloc; "\nfill {seat} {chunk}")?.as_bytes())?;
+            }
+            bytes.push(b'\n')?;
+        }
+        _ => bytes.extend_from_slice(lines(alloc, text)?.as_bytes())?,
+    }
     Ok(fs::write(rt, file, bytes.as_slice())?)
 }
 

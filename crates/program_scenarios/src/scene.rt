@@ -1,4 +1,4 @@
-use crate::files::{add_line, change, make, told};
+use crate::files::{change, make, told, write_steps};
 use anyhow::Result;
 use bao_command::command;
 use std::alloc::Global;
@@ -55,7 +55,10 @@ impl Scene {
         match (name, words.as_slice()) {
             ("run", words) => return self.run(rt, words),
             ("show", [file]) => return told(rt, file),
-            ("line", [file, ..]) => add_line(rt, file, rest.split_once(' ').unwrap_or(("", "")).1)?,
+            ("steps" | "add" | "fills", [file, ..]) => {
+                let text = rest.split_once(' ').unwrap_or(("", "")).1;
+                write_steps(rt, name, file, text)?;
+            }
             ("flip" | "append", [file, word]) => change(rt, name, file, word)?,
             ("remove", files) => {
                 for file in files {
