@@ -6,6 +6,7 @@
 ghost use Rattle.std.specs.Prelude.{IfOk};
 
 mod draw;
+mod faults;
 mod line;
 mod piece;
 mod places;
@@ -29,8 +30,8 @@ fn run<R: Input + Print + AllocGlobal>(rt: &R) -> Result<()> {
             .reply(rt.alloc(), &mut room, line.as_str())
             .context(format_args!("{line}"))?;
         writeln!(out, "{line}")?;
-        if !said.is_empty() {
-            writeln!(out, "    {said}")?;
+        for reply in said.as_str().lines() {
+            writeln!(out, "    {reply}")?;
         }
     }
     out.flush()?;

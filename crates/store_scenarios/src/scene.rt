@@ -1,3 +1,4 @@
+use crate::faults::faults;
 use crate::line::{mask, mode, number, short, words};
 use crate::piece::Piece;
 use crate::room::{Room, told};
@@ -155,6 +156,7 @@ impl Scene {
             ("meet", [first, second]) => room.meet(short(first)?, short(second)?)?,
             ("drop", [seat]) => room.leave(short(seat)?)?,
             ("held", _) => return room.held(alloc),
+            ("faults", _) => return faults(alloc),
             ("drawn", [seed, calls]) => return room.draw(
                 alloc,
                 number(seed)?,

@@ -4,6 +4,7 @@
 #![tactic(auto)]
 
 mod changes;
+mod faults;
 mod line;
 mod scene;
 mod trickle;

@@ -1,8 +1,9 @@
 use crate::changes::{change, flip};
+use crate::faults::faults;
 use crate::line::{digest, mode, one, two};
 use crate::verdict::{Form, verdict};
 use anyhow::{Context, Result, bail};
-use b3tree::{Hash, Mode, hash, xof, xof_fits};
+use b3tree::{Hash, Hasher, Mode, hash, xof, xof_fits};
 use bao_bind::{Verdict, audit};
 use bao_check::{Checked, check_combined, check_outboard, check_slice};
 use bao_text::{combined, cut_slice, encoded_len, outboard, outboard_len, slice};
@@ -71,8 +72,9 @@ impl Scene {
         match name {
             "mode" | "blob" | "bytes" | "root" => self.set(alloc, name, words),
             "combined" | "outboard" | "slice" | "cut" => self.make(alloc, name, words),
-            "hash" | "output" | "sizes" => self.figures(alloc, name, words),
+            "hash" | "pieces" | "output" | "sizes" => self.figures(alloc, name, words),
             "check" | "cuts" | "flips" => self.check(alloc, name, words),
+            "faults" => faults(alloc),
             _ => self.ask(alloc, name, words),
         }
     }
@@ -114,6 +116,14 @@ impl Scene {
     fn figures(&self, alloc: Global, name: &str, words: &str) -> Result<String> {
         match name {
             "hash" => Ok(hex::encode(alloc, hash(&self.mode, self.blob.as_slice()).0)?),
+            "pieces" => {
+                let size = one(alloc, words)?.clamp(1, 1 << 20) as usize;
+                let mut hasher = Hasher::new(&self.mode);
+                for piece in self.blob.as_slice().chunks(size) {
+                    hasher.update(piece)?;
+                }
+                Ok(hex::encode(alloc, hasher.finalize().0)?)
+            }
             "output" => {
                 let (at, len) = two(alloc, words)?;
                 if len > MOST_OUTPUT || !xof_fits(at, len) {
