@@ -3,7 +3,8 @@ use Rattle.clap.specs.Words.{Text}
 use Rattle.bao_request.specs.declared.tasks.Request.{Request}
 use Rattle.bao_request.specs.CommandLine.{AsksFor}
 use Rattle.bao_command.specs.declared.fault.Fault.{Fault}
-use Rattle.bao_command.specs.declared.fault.Fault.TheVariants.{Word, Root, Key, KeyAndContext, OutputRange, TooManyFiles, Script, Read, Write, Output, Encoding, Check, Gather, Replay, Memory}
+use Rattle.bao_command.specs.declared.fault.Fault.TheVariants.{Word, Root, Key, KeyAndContext, OutputRange, TooManyFiles, File, Decode, Gather, Replay}
+use Rattle.bao_files.specs.declared.fault.FileFault.TheVariants as file
 use Rattle.bao_command.specs.Outcome.{Begun}
 use Rattle.bao_command.specs.Tasks.{LeavesOf}
 use Rattle.bao_command.proofs.commands.command.Goals as goal
@@ -16,15 +17,14 @@ begun words request old new Key asks leaves = inl leaves
 begun words request old new KeyAndContext asks leaves = inl leaves
 begun words request old new OutputRange asks leaves = inl leaves
 begun words request old new TooManyFiles asks leaves = inl leaves
-begun words request old new (Script number) asks leaves = inl leaves
-begun words request old new (Read path) asks leaves = inl leaves
-begun words request old new (Write path) asks leaves = inl leaves
-begun words request old new Output asks leaves = inr (inr (request, asks, leaves))
-begun words request old new Encoding asks leaves = inl leaves
-begun words request old new (Check fault) asks leaves = inl leaves
+begun words request old new (File (file.Read path)) asks leaves = inl leaves
+begun words request old new (File (file.Write path)) asks leaves = inl leaves
+begun words request old new (File file.Output) asks leaves = inr (inr (request, asks, leaves))
+begun words request old new (File file.Encoding) asks leaves = inl leaves
+begun words request old new (File file.Memory) asks leaves = inl leaves
+begun words request old new (Decode fault) asks leaves = inl leaves
 begun words request old new (Gather fault) asks leaves = inl leaves
 begun words request old new (Replay fault) asks leaves = inl leaves
-begun words request old new Memory asks leaves = inl leaves
 
 pub returns-in-Ok-clause-file_fault : goal.returns-in-Ok-clause-file_fault
 returns-in-Ok-clause-file_fault g c = λ _.

@@ -1,7 +1,8 @@
 use Rattle.std.proofs.Common.{OnOk, ℕ, List, Option, Result, Ok, Err, subst}
 use Rattle.b3tree.specs.declared.mode.Mode.{Mode}
 use Rattle.bao_command.specs.declared.fault.Fault.{Fault}
-use Rattle.bao_command.specs.declared.fault.Fault.TheVariants.{Word, Root, Key, KeyAndContext, OutputRange, TooManyFiles, Script, Read, Write, Output, Encoding, Check, Gather, Replay, Memory}
+use Rattle.bao_command.specs.declared.fault.Fault.TheVariants.{Word, Root, Key, KeyAndContext, OutputRange, TooManyFiles, File, Decode, Gather, Replay}
+use Rattle.bao_files.specs.declared.fault.FileFault.TheVariants as file
 use Rattle.bao_request.specs.declared.tasks.Request.{Request}
 use Rattle.bao_command.specs.Printed.{Prints}
 use Rattle.std.specs.Option.{option_copied}
@@ -19,17 +20,15 @@ answers request mode bytes old new (Err Key) has right prints = prints
 answers request mode bytes old new (Err KeyAndContext) has right prints = prints
 answers request mode bytes old new (Err OutputRange) has right prints = prints
 answers request mode bytes old new (Err TooManyFiles) has right prints = prints
-answers request mode bytes old new (Err (Script number)) has right prints = prints
-answers request mode bytes old new (Err (Read path)) has right prints = prints
-answers request mode bytes old new (Err (Write path)) has right prints = prints
-answers request mode bytes old new (Err Output) has right prints = (mode, bytes, has, prints)
-answers request mode bytes old new (Err Encoding) has right prints = prints
-answers request mode bytes old new (Err (Check fault)) has right prints = prints
+answers request mode bytes old new (Err (File (file.Read path))) has right prints = prints
+answers request mode bytes old new (Err (File (file.Write path))) has right prints = prints
+answers request mode bytes old new (Err (File file.Output)) has right prints = (mode, bytes, has, prints)
+answers request mode bytes old new (Err (File file.Encoding)) has right prints = prints
+answers request mode bytes old new (Err (File file.Memory)) has right prints = prints
+answers request mode bytes old new (Err (Decode fault)) has right prints = prints
 answers request mode bytes old new (Err (Gather fault)) has right prints = prints
 answers request mode bytes old new (Err (Replay fault)) has right prints = prints
-answers request mode bytes old new (Err Memory) has right prints = prints
 
--- src/command.rt:52:1
 pub returns-clause-answer : goal.returns-clause-answer
 returns-clause-answer g c =
     let request = c.args.request.now in
