@@ -2,12 +2,12 @@
 #![tactic(auto)]
 
 pub use commands::command;
+pub use fault::Fault;
 pub use program::run;
+pub use words::own_words;
 
 mod commands;
 mod fault;
 mod mode;
 mod program;
-#[cfg(test)]
-mod tests;
 mod words;

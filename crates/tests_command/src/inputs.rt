@@ -1,36 +1,15 @@
-use crate::fault::Fault;
-use crate::output::encode_input;
-use crate::tests::{KEY, SHARED, SHARED_KEYED, blob, expect, failing, path};
+use crate::streams::{blob, failing};
 use b3read::Source;
 use b3tree::{Hash, Mode};
-use bao_request::Encoding;
+use bao_files::{Encoding, FileFault, encode_input};
 use bao_text::{combined, outboard, slice};
 use std::alloc::Global;
-use std::fs::File;
+use std::io;
 use std::io::{ErrorKind, Read};
-use std::process::Abort;
-use std::rt::Files;
 use std::test::Fail;
-use std::thread::Threads;
-use std::{fs, io, process};
 
-// How many of the bytes i mod 251 the figures are of, and how many bytes their outboard and their combined encoding
-// have.
-const LEN: usize = 5_000_001;
-
-const PARENTS_LEN: u64 = 312_456;
-
-const WHOLE_LEN: u64 = 5_312_457;
-
-// The hashes of these encodings, and of those under `KEY`, by a program that was written in Python from the
-// definitions of BLAKE3 and Bao alone.
-const PARENTS: &str = "a5c205991b816f4c85fb4f772af44b507491495b9923fc072982087b8970e95b\n";
-
-const PARENTS_KEYED: &str = "019e965b711076066ba5efeea79682e36019d41bfce5701f46682ee600cdd7d8\n";
-
-const WHOLE: &str = "d24376a95bad93f87c16ec880c51c0a2702827fb92fa867480b7f7a195758e73\n";
-
-const WHOLE_KEYED: &str = "c317b280af8404dff27795ce03d8d0322906aabdb6883b62e228b6cb74594b6b\n";
+// How many bytes i mod 251: enough for threads.
+const LEN: usize = 4_200_001;
 
 // Bytes that are given to reads in order, where these don't fail, and to none at places.
 #[derive(Drop)]
@@ -56,53 +35,6 @@ impl Source for InOrder<'_> {
     fn read_at(&self, _buf: &mut [u8], _at: u64) -> io::Result<usize> {
         Err(io::Error::from(ErrorKind::Other))
     }
-}
-
-// Has FILE encoded by the task, and expects a text of so many bytes with this hash in OUT.
-fn expect_text<'a, R: Files<File = File> + AllocGlobal + Threads + Sync + Abort>(
-    rt: &R,
-    task: &'a str,
-    file: &'a str,
-    out: &'a str,
-    len: u64,
-    hash: &str,
-) -> Result<(), Fail> {
-    expect(rt, &[task, file, out], 0, SHARED, "")?;
-    assert_eq!(rt; fs::metadata(rt, out)?.len(), len);
-    expect(rt, &["hash", out], 0, hash, "")
-}
-
-// The same under `KEY`.
-fn expect_keyed<'a, R: Files<File = File> + AllocGlobal + Threads + Sync + Abort>(
-    rt: &R,
-    task: &'a str,
-    file: &'a str,
-    out: &'a str,
-    hash: &str,
-) -> Result<(), Fail> {
-    expect(rt, &[task, "--key", KEY, file, out], 0, SHARED_KEYED, "")?;
-    expect(rt, &["hash", out], 0, hash, "")
-}
-
-// In the end OUT is FILE, which is read before it is made anew.
-#[test]
-fn long_files_are_encoded_in_pieces(rt: HostRuntime) -> Result<(), Fail> {
-    let process = process::id(rt.process());
-    let file = path(rt.alloc(), process, "pieces")?;
-    let out = path(rt.alloc(), process, "encoded")?;
-    let (file, out) = (file.as_str(), out.as_str());
-    let bytes = blob(rt.alloc(), LEN)?;
-    fs::write(&rt, file, bytes.as_slice())?;
-    expect_text(&rt, "outboard", file, out, PARENTS_LEN, PARENTS)?;
-    expect_keyed(&rt, "outboard", file, out, PARENTS_KEYED)?;
-    expect_text(&rt, "encode", file, out, WHOLE_LEN, WHOLE)?;
-    expect_keyed(&rt, "encode", file, out, WHOLE_KEYED)?;
-    expect_text(&rt, "outboard", file, file, PARENTS_LEN, PARENTS)?;
-    fs::write(&rt, file, bytes.as_slice())?;
-    expect_text(&rt, "encode", file, file, WHOLE_LEN, WHOLE)?;
-    fs::remove_file(&rt, file)?;
-    fs::remove_file(&rt, out)?;
-    Ok(())
 }
 
 // What a task makes of the bytes by the functions over bytes, which aren't read at places.
@@ -184,7 +116,7 @@ fn nothing_is_encoded_after_a_fault_of_reading(rt: HostRuntime) -> Result<(), Fa
             &mut written,
             "out",
         );
-        let Err(Fault::Read(path)) = got else {
+        let Err(FileFault::Read(path)) = got else {
             return Err("a fault of reading".into());
         };
         assert_eq!(rt; path, "file");
@@ -212,7 +144,7 @@ fn a_write_that_fails_is_the_last(rt: HostRuntime) -> Result<(), Fail> {
                 &mut out,
                 "out",
             );
-            let Err(Fault::Write(path)) = got else {
+            let Err(FileFault::Write(path)) = got else {
                 return Err("a fault of writing".into());
             };
             assert_eq!(rt; path, "out");

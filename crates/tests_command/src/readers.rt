@@ -1,7 +1,6 @@
-use crate::fault::Fault;
-use crate::reading::{print_input, print_reader};
-use crate::tests::{LARGE, blob};
+use crate::streams::{LARGE, blob};
 use b3tree::Mode;
+use bao_files::{FileFault, print_input, print_reader};
 use std::io;
 use std::io::{ErrorKind, Read};
 use std::test::Fail;
@@ -89,7 +88,7 @@ fn nothing_is_printed_after_a_fault_of_reading(rt: HostRuntime) -> Result<(), Fa
                 32,
                 &mut printed,
             );
-            let Err(Fault::Read(path)) = got else {
+            let Err(FileFault::Read(path)) = got else {
                 return Err("a fault of reading".into());
             };
             assert_eq!(rt; path, "file");
