@@ -1,4 +1,4 @@
-ghost use Rattle.std.specs.Prelude.{◌≡◌, ◌≢◌, ◌+◌, ◌-◌, ◌*◌, ◌^◌, ◌≤◌, ℕ, List, length, map, string_bytes, IfErr, IfOk, IsErrAnd, OnOk};
+ghost use Rattle.std.specs.Prelude.{◌≡◌, ◌≢◌, ◌+◌, ◌-◌, ◌*◌, ◌^◌, ◌<◌, ◌≤◌, ℕ, List, length, map, string_bytes, IfErr, IfOk, IsErrAnd, OnOk};
 ghost use Rattle.bao_command.specs.declared.fault.Fault.TheVariants as Fault;
 ghost use Rattle.std.specs.Io.KnownBytes.{Keeps};
 ghost use Rattle.b3tree.specs.Hashing.{hash as hash_of, stream};
@@ -163,11 +163,12 @@ fn gather<'a, R: Files + AllocGlobal + Threads + Sync, O: Write>(
     ensures answer { (blob : List ℕ) × OnOk result (HasHash mode.now digits.now blob × (length blob ≤ 1024 * how.capacity))
         × Prints (ok_line (length blob)) (O.contents out.old) (O.contents out.new) result }
     ensures few { OnOk result (length files.now ≤ 64) }
+    ensures many { 64 < length files.now → IsErrAnd result (λ fault. fault ≡ Fault.TooManyFiles) }
 {
-    let root = root_of(digits)?;
     if files.len() > MOST_FILES {
         return Err(Fault::TooManyFiles);
     }
+    let root = root_of(digits)?;
     match gather_files(rt, mode, &root, how, files, path) {
         Ok(count) => told(print_count(rt.alloc(), count, out)),
         Err(fault) => Err(Fault::Gather(fault)),
@@ -187,11 +188,12 @@ fn replay<'a, R: Files + AllocGlobal, O: Write>(
     ensures answer { (text : List ℕ) × OnOk result (IsReplay mode.now digits.now capacity (length files.now) text)
         × Prints text (O.contents out.old) (O.contents out.new) result }
     ensures few { OnOk result (length files.now ≤ 64) }
+    ensures many { 64 < length files.now → IsErrAnd result (λ fault. fault ≡ Fault.TooManyFiles) }
 {
-    let root = root_of(digits)?;
     if files.len() > MOST_FILES {
         return Err(Fault::TooManyFiles);
     }
+    let root = root_of(digits)?;
     match replay_files(rt, mode, &root, capacity, script, files) {
         Ok(text) => told(print_text(text.as_slice(), out)),
         Err(fault) => Err(Fault::Replay(fault)),
