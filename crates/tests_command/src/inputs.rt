@@ -133,7 +133,7 @@ fn a_write_that_fails_is_the_last(rt: HostRuntime) -> Result<(), Fail> {
         let (_, text) = plainly(rt.alloc(), encoding, bytes.as_slice())?;
         for size in [0, LEN] {
             let mut input = bytes.as_slice();
-            let mut out = failing(rt.alloc(), 300_000, ErrorKind::Interrupted);
+            let mut out = failing(rt.alloc(), 200_000, ErrorKind::Interrupted);
             let got = encode_input(
                 &rt,
                 &Mode::hash(),
@@ -148,7 +148,7 @@ fn a_write_that_fails_is_the_last(rt: HostRuntime) -> Result<(), Fail> {
                 return Err("a fault of writing".into());
             };
             assert_eq!(rt; path, "out");
-            assert_eq!(rt; Some(out.held.as_slice()), text.get(..300_000));
+            assert_eq!(rt; Some(out.held.as_slice()), text.get(..200_000));
         }
     }
     Ok(())
