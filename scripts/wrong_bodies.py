@@ -12,7 +12,7 @@ tried again from nothing, so the verdict on an edit is that of `rt must-fail`.
 Prints a line for each edit and last 'N refused, M not refused'. The exit status is 1 where one isn't refused.
 Where all of a crate's are refused, its file wrong-bodies/TRIED says so, with a sum of the crate's text and these edits.
 --read proves nothing and takes a second: it fails on an edit of either folder that can't be applied any more, or that
-stands in both, and names each crate that has changed since its wrong bodies were tried. With --strict it fails on those too.
+stands in both, and names each crate on which they were never tried so, or that has changed since. With --strict it fails on those too.
 """
 import argparse
 import copy
@@ -86,7 +86,7 @@ def read_alone(rt, crates, is_strict):
         if ours[0] and told[-1:] != [sum_of(rt, crate.folder, ours[0])]:
             stale.append(crate.name)
     if stale:
-        print(f"changed since their wrong bodies were tried: make wrong-bodies CRATES='{' '.join(stale)}'")
+        print(f"wrong bodies not tried on these crates as they stand: make wrong-bodies CRATES='{' '.join(stale)}'")
     print(f"wrong bodies: {unread} that can't be applied, {len(stale)} crates to try")
     return 1 if unread or is_strict and stale else 0
 
