@@ -4,7 +4,7 @@ SHELL := bash
 .SHELLFLAGS := -eu -o pipefail -c
 .DEFAULT_GOAL := help
 .DELETE_ON_ERROR:
-.PHONY: help build run install test wrong-bodies bench refuse fmt FORCE
+.PHONY: help build run try install sum test wrong-bodies scenarios bench refuse fmt FORCE
 
 PREFIX ?= /usr/local
 
@@ -15,16 +15,22 @@ V3_NEEDS := abm avx2 bmi1 bmi2 f16c fma movbe
 CPU := $(if $(filter-out $(sort $(shell cat /proc/cpuinfo 2>/dev/null)),$(V3_NEEDS)),x86-64,x86-64-v3)
 endif
 
+# Crates of which nothing goes into the program.
+ASIDE := bao_bind bao_refused bench text_scenarios store_scenarios program_scenarios tests_b3 tests_text tests_store tests_crews tests_command
+
 # The files and folders whose change asks for a new proof. With the folders, a file that was taken
 # away is seen too.
-SOURCES := crates.txt HANDLES $(shell shopt -s globstar nullglob; echo crates/*/{src,specs,proofs}/**)
+SOURCES := crates.txt HANDLES $(filter-out $(foreach it,$(ASIDE),crates/$(it)/%),$(shell shopt -s globstar nullglob; echo crates/*/{src,specs,proofs}/**))
 
 help:
 	@echo 'make build                proves the program bao_gather and builds it, as out/bao_gather'
 	@echo 'make run ARGS="WORD .."   builds where something changed, and runs bao_gather on the words'
+	@echo 'make try ARGS="WORD .."   runs bao_gather on the words within a minute, unproved'
+	@echo 'make sum                  prints the checksum of the built bao_gather'
 	@echo 'make install PREFIX=DIR   copies bao_gather to DIR/bin (PREFIX is /usr/local if left out; DESTDIR goes before it)'
 	@echo 'make test                 the gate, rt ci: every proof from nothing, the must-fail edits, the tests and the programs'
 	@echo 'make wrong-bodies         tries the wrong bodies that the gate leaves out, of all crates or of CRATES="NAME .."'
+	@echo 'make scenarios            holds what the programs of scenarios have to print to replies made by the definitions alone'
 	@echo 'make bench                measures times and prints them with their ratios, beside b3sum where it is installed'
 	@echo 'make refuse               runs the program with one allocation refused after another (needs cc)'
 	@echo 'make fmt                  lays out the files of each crate'
@@ -35,6 +41,13 @@ build: out/bao_gather
 run: out/bao_gather
 	@out/bao_gather $(ARGS)
 
+try:
+	@echo 'Not proved: for a first look.' >&2
+	@cd crates/bao_gather && rt try -- $(ARGS)
+
+sum: out/bao_gather
+	@sha256sum out/bao_gather
+
 install: out/bao_gather
 	install -D -m 755 out/bao_gather '$(DESTDIR)$(PREFIX)/bin/bao_gather'
 
@@ -44,6 +57,9 @@ test:
 
 wrong-bodies:
 	@python3 scripts/wrong_bodies.py $(if $(JOBS),--jobs $(JOBS)) $(CRATES)
+
+scenarios:
+	@python3 scripts/scenarios.py
 
 bench: out/bao_gather out/bench
 	@python3 scripts/bench.py
@@ -63,14 +79,15 @@ out/cpu: FORCE
 # and runs it once on WORDS, in the crate's folder. What rt prints goes to out/CRATE.log.
 define built
 @echo 'Proving and building $1 for $(CPU). The first time takes minutes (out/$1.log tells more).' >&2
+@$(if $(JOBS),RT_JOBS=$(JOBS)) python3 scripts/prove_lanes.py $1 >&2
 @(cd crates/$1 && rt run --cpu=$(CPU) $(if $(JOBS),--jobs $(JOBS)) -- $2) > out/$1.log 2>&1 \
     || { cat out/$1.log >&2; echo '$1 was not proved and built.' >&2; exit 1; }
 @install -m 755 crates/$1/out/$1 out/$1
 endef
 
 # Nothing of the program comes from crates/bench.
-out/bao_gather: out/cpu $(filter-out crates/bench/%,$(SOURCES))
+out/bao_gather: out/cpu $(SOURCES)
 	$(call built,bao_gather,--version)
 
-out/bench: out/cpu $(SOURCES)
+out/bench: out/cpu $(SOURCES) $(wildcard crates/bench/src/* crates/bao_bind/src/*)
 	$(call built,bench,src/main.rt)

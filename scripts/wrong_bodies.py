@@ -17,8 +17,6 @@ stands in both, and names each crate on which they were never tried so, or that 
 import argparse
 import copy
 import hashlib
-import importlib.machinery
-import importlib.util
 import os
 import queue
 import re
@@ -28,22 +26,13 @@ import tempfile
 import threading
 import time
 
+sys.dont_write_bytecode = True
+import rt_module
+
 OURS, GATES = "wrong-bodies", "must-fail"
 EDIT = re.compile(r"[A-Za-z0-9_-][A-Za-z0-9_.-]*\.edit")
 # What `rt check` doesn't read.
 TESTS = re.compile(r"src/tests[^/]*(/.*)?")
-
-
-def rt_module():
-    """Returns rt's own functions, which `rt must-fail` uses."""
-    file = shutil.which("rt")
-    if not file:
-        sys.exit("wrong-bodies: rt is not on the PATH")
-    sys.dont_write_bytecode = True
-    loader = importlib.machinery.SourceFileLoader("rt", os.path.realpath(file))
-    made = importlib.util.module_from_spec(importlib.util.spec_from_loader("rt", loader))
-    loader.exec_module(made)
-    return made
 
 
 def edits_of(crate, part):
@@ -195,7 +184,7 @@ def main():
     asked.add_argument("--strict", action="store_true", help="with --read: fail where a crate is to be tried")
     asked.add_argument("crates", nargs="*", metavar="CRATE")
     asked = asked.parse_args()
-    rt = rt_module()
+    rt = rt_module.load()
     crates = {it.name: it for it in rt.rtlib.crates_below(os.getcwd())}
     unknown = [it for it in asked.crates if it not in crates]
     if unknown:

@@ -12,6 +12,4 @@ mod gate;
 mod jobs;
 mod join;
 mod pool;
-#[cfg(test)]
-mod tests;
 mod values;

@@ -11,5 +11,3 @@ mod fault;
 mod pieces;
 mod ranges;
 mod source;
-#[cfg(test)]
-mod tests;

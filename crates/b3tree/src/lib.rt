@@ -23,7 +23,5 @@ mod lanes;
 mod mode;
 mod output;
 mod stack;
-#[cfg(test)]
-mod tests;
 mod tree;
 mod values;

@@ -13,7 +13,5 @@ mod parents;
 mod part;
 mod search;
 #[cfg(test)]
-mod tests;
-#[cfg(test)]
 mod tests_walk;
 mod verdict;

@@ -24,12 +24,4 @@ mod read;
 mod source;
 mod stream;
 mod tail;
-#[cfg(test)]
-mod tests;
-#[cfg(test)]
-mod tests_outline;
-#[cfg(test)]
-mod tests_parent;
-#[cfg(test)]
-mod tests_stream;
 mod walk;

@@ -1,10 +1,5 @@
 pub mod Status
 pub mod ModeWords
 pub mod Printed
-pub mod Reading
 pub mod Outcome
 pub mod Tasks
-pub mod Encoded
-pub mod Ranges
-pub mod Gathered
-pub mod Replayed

@@ -1,16 +1,12 @@
 -- what the words --key and --context say
-use Rattle.std.specs.Prelude.{◌≡◌, ◌⊎◌, ℕ, List, Option, Some, None, Result, Ok, MatchResult, length}
-use Rattle.std.specs.List.{AllPass}
-use Rattle.hex.specs.Hex.{decode_of, is_hex_digit}
+use Rattle.std.specs.Prelude.{◌≡◌, ◌⊎◌, ℕ, List, Option, Some, None, Result, Ok, MatchResult}
+use Rattle.hex.specs.Hex.{decode_of}
+use Rattle.bao_files.specs.Printed.{IsDigits}
 use Rattle.b3tree.specs.declared.mode.Mode.{Mode}
 use Rattle.b3tree.specs.Modes.{keyed, plain}
 use Rattle.b3tree.specs.Hashing.{derived}
 use Rattle.bao_command.specs.declared.fault.Fault.{Fault}
 use Rattle.bao_command.specs.declared.fault.Fault.TheVariants.{Key, KeyAndContext}
-
--- 64 hexadecimal digits
-abbrev pub IsDigits : List ℕ → Type 0
-IsDigits text = (length text ≡ 64) × AllPass is_hex_digit text
 
 -- the answer for a key's text and a context's text, each there or not
 abbrev pub GivesMode : Option (List ℕ) → Option (List ℕ) → Result Mode Fault → Type 0

@@ -1,14 +1,29 @@
 -- the exit status of each fault: 1 for a text or a blob that is refused, 2 for usage, 3 for a file, 4 for want of memory
 use Rattle.std.specs.Prelude.{ℕ}
 use Rattle.bao_command.specs.declared.fault.Fault.{Fault}
-use Rattle.bao_command.specs.declared.fault.Fault.TheVariants.{Word, Root, Key, KeyAndContext, OutputRange, TooManyFiles, Script, Read, Write, Output, Encoding, Check, Gather, Replay, Memory}
+use Rattle.bao_command.specs.declared.fault.Fault.TheVariants.{Word, Root, Key, KeyAndContext, OutputRange, TooManyFiles, File, Decode, Gather, Replay}
 use Rattle.bao_check.specs.declared.fault.CheckFault.{CheckFault}
 use Rattle.bao_check.specs.declared.fault.CheckFault.TheVariants as check
+use Rattle.bao_decode.specs.declared.fault.DecodeFault.{DecodeFault}
+use Rattle.bao_decode.specs.declared.fault.DecodeFault.TheVariants as decode
+use Rattle.bao_files.specs.declared.fault.FileFault.{FileFault}
+use Rattle.bao_files.specs.declared.fault.FileFault.TheVariants as file
+use Rattle.bao_gathered.specs.declared.fault.GatheredFault.{GatheredFault}
+use Rattle.bao_gathered.specs.declared.fault.GatheredFault.TheVariants as gathered
+use Rattle.bao_replay.specs.declared.fault.RerunFault.{RerunFault}
+use Rattle.bao_replay.specs.declared.fault.RerunFault.TheVariants as rerun
 use Rattle.crews.specs.declared.fault.CrewsFault.{CrewsFault}
 use Rattle.crews.specs.declared.fault.CrewsFault.TheVariants as crews
 use Rattle.gather.specs.declared.texts.GatherFault.TheVariants as gather
 use Rattle.bao_script.specs.declared.fault.ReplayScriptFault.{ReplayScriptFault}
 use Rattle.bao_script.specs.declared.fault.ReplayScriptFault.TheVariants as replay
+
+abbrev pub file_status_of : FileFault → ℕ
+file_status_of (file.Read path) = 3
+file_status_of (file.Write path) = 3
+file_status_of file.Output = 3
+file_status_of file.Encoding = 4
+file_status_of file.Memory = 4
 
 abbrev pub check_status_of : CheckFault → ℕ
 check_status_of (check.Short at) = 1
@@ -16,6 +31,10 @@ check_status_of (check.Mismatch at) = 1
 check_status_of (check.Trailing at) = 1
 check_status_of check.Memory = 4
 check_status_of check.Reader = 3
+
+abbrev pub decode_status_of : DecodeFault → ℕ
+decode_status_of (decode.File fault) = file_status_of fault
+decode_status_of (decode.Check fault) = check_status_of fault
 
 abbrev pub gather_status_of : CrewsFault → ℕ
 gather_status_of crews.Store = 4
@@ -27,6 +46,10 @@ gather_status_of (crews.Gather gather.NotTheRoot) = 1
 gather_status_of (crews.Gather gather.Memory) = 4
 gather_status_of (crews.Gather gather.Starved) = 4
 
+abbrev pub gathered_status_of : GatheredFault → ℕ
+gathered_status_of (gathered.File fault) = file_status_of fault
+gathered_status_of (gathered.Gather fault) = gather_status_of fault
+
 abbrev pub replay_status_of : ReplayScriptFault → ℕ
 replay_status_of (replay.Refused line fault) = check_status_of fault
 replay_status_of (replay.Illegal line) = 1
@@ -35,6 +58,11 @@ replay_status_of replay.Cutting = 4
 replay_status_of replay.Replaying = 4
 replay_status_of replay.Memory = 4
 
+abbrev pub rerun_status_of : RerunFault → ℕ
+rerun_status_of (rerun.File fault) = file_status_of fault
+rerun_status_of (rerun.Script line) = 2
+rerun_status_of (rerun.Replay fault) = replay_status_of fault
+
 abbrev pub status_of : Fault → ℕ
 status_of Word = 2
 status_of Root = 2
@@ -42,12 +70,7 @@ status_of Key = 2
 status_of KeyAndContext = 2
 status_of OutputRange = 2
 status_of TooManyFiles = 2
-status_of (Script line) = 2
-status_of (Read path) = 3
-status_of (Write path) = 3
-status_of Output = 3
-status_of Encoding = 4
-status_of (Check fault) = check_status_of fault
-status_of (Gather fault) = gather_status_of fault
-status_of (Replay fault) = replay_status_of fault
-status_of Memory = 4
+status_of (File fault) = file_status_of fault
+status_of (Decode fault) = decode_status_of fault
+status_of (Gather fault) = gathered_status_of fault
+status_of (Replay fault) = rerun_status_of fault

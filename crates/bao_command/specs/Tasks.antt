@@ -1,34 +1,27 @@
 -- what a task prints, and what it writes to its file OUT
-use Rattle.std.specs.Prelude.{◌≡◌, ◌≤◌, ℕ, ◌-◌, ◌*◌, List, [], ◌∷◌, ◌++◌, length, Option, Result, Ok, Err, codes}
-use Rattle.std.specs.Fmt.{decimal}
+use Rattle.std.specs.Prelude.{◌≡◌, ◌≤◌, ℕ, ◌*◌, List, length, Option, Result, Ok, Err}
 use Rattle.std.specs.Io.KnownBytes.{Appends, Keeps}
 use Rattle.std.specs.Option.{option_copied}
 use Rattle.b3tree.specs.declared.mode.Mode.{Mode}
+use Rattle.b3tree.specs.declared.values.Hash.{Hash as Root32}
 use Rattle.b3tree.specs.Hashing.{hash, stream}
-use Rattle.bao_text.specs.Texts.{combined_text, outboard_text, slice_text}
 use Rattle.bao_command.specs.declared.fault.Fault.{Fault}
-use Rattle.bao_command.specs.declared.fault.Fault.TheVariants.{Word, Root, Key, KeyAndContext, OutputRange, TooManyFiles, Script, Read, Write, Output, Encoding, Check, Gather, Replay, Memory}
+use Rattle.bao_command.specs.declared.fault.Fault.TheVariants.{Word, Root, Key, KeyAndContext, OutputRange, TooManyFiles, File, Decode as Undecoded, Gather as Ungathered, Replay as Unreplayed}
+use Rattle.bao_files.specs.declared.fault.FileFault.{FileFault}
+use Rattle.bao_files.specs.declared.fault.FileFault.TheVariants as file
+use Rattle.bao_files.specs.declared.kinds.Part.{Part}
+use Rattle.bao_files.specs.Printed.{AppendsBeginning, IsDigits, digits_line, ok_line}
+use Rattle.bao_decode.specs.Ranges.{IsPartText, written_count}
+use Rattle.bao_replay.specs.Replayed.{IsReplayOf}
 use Rattle.bao_request.specs.declared.tasks.Request.{Request}
-use Rattle.bao_request.specs.declared.tasks.Encoding.{Encoding as Kind}
-use Rattle.bao_request.specs.declared.tasks.Encoding.TheVariants.{Combined, Outboard, Slice}
-use Rattle.bao_request.specs.declared.tasks.Part.{Part}
 use Rattle.bao_request.specs.declared.tasks.Task.{Task}
-use Rattle.bao_request.specs.declared.tasks.Task.TheVariants.{Hash, Encode, Decode, Gather as Collect, Replay as Rerun}
-use Rattle.bao_command.specs.Ranges.{first_written, last_written, part_len, part_start}
-use Rattle.bao_text.specs.Cut.{claimed}
-use Rattle.bao_check.specs.Accepted.{IsAccepted, slice_nodes}
+use Rattle.bao_request.specs.declared.tasks.Task.TheVariants.{Hash, Encode, Decode, Gather, Replay}
 use Rattle.hex.specs.Hex.{decode_of}
-use Rattle.bao_command.specs.ModeWords.{GivesMode, IsDigits}
-use Rattle.bao_command.specs.Printed.{AppendsBeginning, digits_line}
-use Rattle.bao_command.specs.Replayed.{IsReplay}
-
--- the line of n bytes that were written
-abbrev pub ok_line : ℕ → List ℕ
-ok_line n = codes "ok " ++ decimal n ++ 10 ∷ []
+use Rattle.bao_command.specs.ModeWords.{GivesMode}
 
 -- that of a part of a text
 abbrev pub part_line : Part → List ℕ → List ℕ
-part_line part bytes = ok_line (last_written part (claimed bytes) - first_written part (claimed bytes))
+part_line part bytes = ok_line (written_count part bytes)
 
 -- the line of a task on these bytes, of a file or of the blob that was gathered: the digits of the output
 -- asked for, or of the hash, or how many bytes were written; and the whole text of a schedule's replies
@@ -36,21 +29,24 @@ abbrev pub line_of : Mode → Task → List ℕ → List ℕ
 line_of mode (Hash at length file) bytes = digits_line (stream mode bytes at length)
 line_of mode (Encode encoding file out) bytes = digits_line (hash mode bytes)
 line_of mode (Decode root part file out) bytes = part_line part bytes
-line_of mode (Collect root workers capacity encode files out) bytes = ok_line (length bytes)
-line_of mode (Rerun root capacity script files) bytes = bytes
+line_of mode (Gather root workers capacity encode files out) bytes = ok_line (length bytes)
+line_of mode (Replay root capacity script files) bytes = bytes
 
 -- the task's root, where it has one, is 64 hexadecimal digits
 abbrev pub HasRoot : Task → Type 0
 HasRoot (Hash at length file) = Unit {0}
 HasRoot (Encode encoding file out) = Unit {0}
 HasRoot (Decode root part file out) = IsDigits root.now
-HasRoot (Collect root workers capacity encode files out) = IsDigits root.now
-HasRoot (Rerun root capacity script files) = IsDigits root.now
+HasRoot (Gather root workers capacity encode files out) = IsDigits root.now
+HasRoot (Replay root capacity script files) = IsDigits root.now
 
 -- the text of a part of the blob with this root, in hexadecimal digits, is accepted
 abbrev pub IsRightPart : Mode → List ℕ → Part → List ℕ → Type 0
-IsRightPart mode root part bytes =
-    (key : List ℕ) × ((decode_of root ≡ Ok key) × IsAccepted mode key bytes (slice_nodes bytes (part_start part) (part_len part)))
+IsRightPart mode root part bytes = (key : List ℕ) × ((decode_of root ≡ Ok key) × IsPartText mode key part bytes)
+
+-- the text is that of a schedule's run over so many files, under this root, in hexadecimal digits
+abbrev pub IsReplay : Mode → List ℕ → ℕ → ℕ → List ℕ → Type 0
+IsReplay mode digits capacity count text = (root : Root32) × ((decode_of digits ≡ Ok root.0) × IsReplayOf mode root capacity count text)
 
 -- these bytes have this root, in hexadecimal digits
 abbrev pub HasHash : Mode → List ℕ → List ℕ → Type 0
@@ -63,15 +59,9 @@ abbrev pub IsRight : Mode → Task → List ℕ → Type 0
 IsRight mode (Hash at length file) bytes = Unit {0}
 IsRight mode (Encode encoding file out) bytes = Unit {0}
 IsRight mode (Decode root part file out) bytes = IsRightPart mode root.now part bytes
-IsRight mode (Collect root workers capacity encode files out) bytes =
+IsRight mode (Gather root workers capacity encode files out) bytes =
     (length files.items ≤ 64) × (HasHash mode root.now bytes × (length bytes ≤ 1024 * capacity))
-IsRight mode (Rerun root capacity script files) bytes = (length files.items ≤ 64) × IsReplay mode root.now capacity (length files.items) bytes
-
--- the text that goes to OUT
-abbrev pub encoding_text : Mode → Kind → List ℕ → List ℕ
-encoding_text mode Combined bytes = combined_text mode bytes
-encoding_text mode Outboard bytes = outboard_text mode bytes
-encoding_text mode (Slice start len) bytes = slice_text mode bytes start len
+IsRight mode (Replay root capacity script files) bytes = (length files.items ≤ 64) × IsReplay mode root.now capacity (length files.items) bytes
 
 -- the mode that the request's key and context give
 abbrev pub HasMode : Request → Mode → Type 0
@@ -87,6 +77,13 @@ abbrev pub PrintsBeginning : Request → Option (List ℕ) → Option (List ℕ)
 PrintsBeginning request old new = (mode : Mode) × (bytes : List ℕ) × HasMode request mode × AppendsBeginning old new (line_of mode request.task bytes)
 
 -- what standard output holds after a fault of the request
+abbrev pub LeavesOfFile : Request → Option (List ℕ) → Option (List ℕ) → FileFault → Type 0
+LeavesOfFile request old new (file.Read path) = Keeps old new
+LeavesOfFile request old new (file.Write path) = Keeps old new
+LeavesOfFile request old new file.Output = PrintsBeginning request old new
+LeavesOfFile request old new file.Encoding = Keeps old new
+LeavesOfFile request old new file.Memory = Keeps old new
+
 abbrev pub LeavesOf : Request → Option (List ℕ) → Option (List ℕ) → Fault → Type 0
 LeavesOf request old new Word = Keeps old new
 LeavesOf request old new Root = Keeps old new
@@ -94,15 +91,10 @@ LeavesOf request old new Key = Keeps old new
 LeavesOf request old new KeyAndContext = Keeps old new
 LeavesOf request old new OutputRange = Keeps old new
 LeavesOf request old new TooManyFiles = Keeps old new
-LeavesOf request old new (Script number) = Keeps old new
-LeavesOf request old new (Read path) = Keeps old new
-LeavesOf request old new (Write path) = Keeps old new
-LeavesOf request old new Output = PrintsBeginning request old new
-LeavesOf request old new Encoding = Keeps old new
-LeavesOf request old new (Check fault) = Keeps old new
-LeavesOf request old new (Gather fault) = Keeps old new
-LeavesOf request old new (Replay fault) = Keeps old new
-LeavesOf request old new Memory = Keeps old new
+LeavesOf request old new (File fault) = LeavesOfFile request old new fault
+LeavesOf request old new (Undecoded fault) = Keeps old new
+LeavesOf request old new (Ungathered fault) = Keeps old new
+LeavesOf request old new (Unreplayed fault) = Keeps old new
 
 -- the answer to the request
 abbrev pub Answers : Request → Option (List ℕ) → Option (List ℕ) → Result Unit Fault → Type 0

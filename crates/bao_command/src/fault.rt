@@ -1,8 +1,11 @@
 ghost use Rattle.std.specs.Prelude.{◌≡◌};
-ghost use Rattle.bao_command.specs.Status.{check_status_of, gather_status_of, replay_status_of, status_of};
+ghost use Rattle.bao_command.specs.Status.{check_status_of, decode_status_of, file_status_of, gather_status_of, gathered_status_of, replay_status_of, rerun_status_of, status_of};
 
-use crate::once::Once;
 use bao_check::CheckFault;
+use bao_decode::DecodeFault;
+use bao_files::{FileFault, Once};
+use bao_gathered::GatheredFault;
+use bao_replay::RerunFault;
 use bao_script::ReplayScriptFault;
 use crews::CrewsFault;
 use gather::GatherFault;
@@ -31,33 +34,28 @@ pub enum Fault<'a> {
     /// More than 64 files are given. Status 2.
     #[error("usage: too many files")]
     TooManyFiles,
-    /// The line of a schedule with this number, counted from 1, has no form. Status 2.
-    #[error("usage: script line {0}")]
-    Script(u64),
-    /// An input file can't be opened or read. Status 3.
-    #[error("cannot read {0}")]
-    Read(&'a str),
-    /// An output file can't be created or written. Status 3.
-    #[error("cannot write {0}")]
-    Write(&'a str),
-    /// Standard output can't be written. Status 3.
-    #[error("cannot write output")]
-    Output,
-    /// There was no memory for an encoding. Status 4.
-    #[error("401 memory")]
-    Encoding,
-    /// A text was not accepted: its first fault. Status 1, and 4 for want of memory.
+    /// A file or standard output was not read or written. Status 3, and 4 for want of memory.
     #[error("{0}")]
-    Check(CheckFault),
-    /// A blob was not gathered. Status 1, and 4 for want of memory.
+    File(FileFault<'a>),
+    /// A text was not decoded. Status 1, 3 for a file, and 4 for want of memory.
     #[error("{0}")]
-    Gather(CrewsFault),
-    /// A schedule was not run to its end. Status 1, and 4 for want of memory.
+    Decode(DecodeFault<'a>),
+    /// A blob was not gathered. Status 1, 3 for a file, and 4 for want of memory.
     #[error("{0}")]
-    Replay(ReplayScriptFault),
-    /// The program found no memory. Status 4.
-    #[error("memory")]
-    Memory,
+    Gather(GatheredFault<'a>),
+    /// A schedule was not run to its end. Status 1, 2 for a line without a form, 3 for a file, and 4 for want of memory.
+    #[error("{0}")]
+    Replay(RerunFault<'a>),
+}
+
+// The exit status of a file's fault.
+fn file_status(fault: FileFault<'_>) -> u8
+    ensures { result ≡ file_status_of fault.entry }
+{
+    match fault {
+        FileFault::Read(_) | FileFault::Write(_) | FileFault::Output => 3,
+        FileFault::Encoding | FileFault::Memory => 4,
+    }
 }
 
 // The exit status of a text's fault.
@@ -71,7 +69,17 @@ fn check_status(fault: CheckFault) -> u8
     }
 }
 
-// The exit status of a fault of gathering.
+// The exit status of a fault of decoding.
+fn decode_status(fault: DecodeFault<'_>) -> u8
+    ensures { result ≡ decode_status_of fault.entry }
+{
+    match fault {
+        DecodeFault::File(fault) => file_status(fault),
+        DecodeFault::Check(fault) => check_status(fault),
+    }
+}
+
+// The exit status of a fault of workers.
 fn gather_status(fault: CrewsFault) -> u8
     ensures { result ≡ gather_status_of fault }
 {
@@ -85,7 +93,17 @@ fn gather_status(fault: CrewsFault) -> u8
     }
 }
 
-// The exit status of a schedule's fault.
+// The exit status of a fault of gathering.
+fn gathered_status(fault: GatheredFault<'_>) -> u8
+    ensures { result ≡ gathered_status_of fault.entry }
+{
+    match fault {
+        GatheredFault::File(fault) => file_status(fault),
+        GatheredFault::Gather(fault) => gather_status(fault),
+    }
+}
+
+// The exit status of a fault of a schedule's run.
 fn replay_status(fault: ReplayScriptFault) -> u8
     ensures { result ≡ replay_status_of fault }
 {
@@ -94,6 +112,17 @@ fn replay_status(fault: ReplayScriptFault) -> u8
         ReplayScriptFault::Illegal { .. } => 1,
         ReplayScriptFault::Capacity => 2,
         ReplayScriptFault::Cutting | ReplayScriptFault::Replaying | ReplayScriptFault::Memory => 4,
+    }
+}
+
+// The exit status of a schedule's fault.
+fn rerun_status(fault: RerunFault<'_>) -> u8
+    ensures { result ≡ rerun_status_of fault.entry }
+{
+    match fault {
+        RerunFault::File(fault) => file_status(fault),
+        RerunFault::Script(_) => 2,
+        RerunFault::Replay(fault) => replay_status(fault),
     }
 }
 
@@ -108,13 +137,11 @@ impl Fault<'_> {
             | Fault::Key
             | Fault::KeyAndContext
             | Fault::OutputRange
-            | Fault::Script(_)
             | Fault::TooManyFiles => 2,
-            Fault::Check(fault) => check_status(fault),
-            Fault::Gather(fault) => gather_status(fault),
-            Fault::Replay(fault) => replay_status(fault),
-            Fault::Read(_) | Fault::Write(_) | Fault::Output => 3,
-            Fault::Encoding | Fault::Memory => 4,
+            Fault::File(fault) => file_status(fault),
+            Fault::Decode(fault) => decode_status(fault),
+            Fault::Gather(fault) => gathered_status(fault),
+            Fault::Replay(fault) => rerun_status(fault),
         }
     }
 

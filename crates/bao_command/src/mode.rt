@@ -1,19 +1,9 @@
-ghost use Rattle.std.specs.Prelude.{◌≡◌, ◌↔◌, IsSome, IfSome};
 ghost use Rattle.std.specs.Option.{option_copied};
-ghost use Rattle.hex.specs.Hex.{decode_of};
-ghost use Rattle.bao_command.specs.ModeWords.{GivesMode, IsDigits};
+ghost use Rattle.bao_command.specs.ModeWords.{GivesMode};
 
 use crate::fault::Fault;
 use b3tree::Mode;
-use hex::FromHex;
-
-/// The 32 bytes that `text` gives as 64 hexadecimal digits of either case.
-pub fn bytes_of_digits(text: &str) -> Option<[u8; 32]>
-    ensures value { IfSome result (λ bytes. decode_of text.now ≡ Ok bytes) }
-    ensures found { IsSome result ↔ IsDigits text.now }
-{
-    <[u8; 32] as FromHex>::from_hex(text).ok()
-}
+use bao_files::bytes_of_digits;
 
 /// The mode that `--key` and `--context` ask for: hash mode where neither is there.
 ///

@@ -2,7 +2,7 @@ ghost use Rattle.std.specs.Prelude.{◌≡◌, ◌≤◌, ℕ, List};
 ghost use Rattle.std.specs.Process.{exit_status};
 ghost use Rattle.bao_command.specs.Outcome.{Ends};
 
-use crate::command::command;
+use crate::commands::command;
 use crate::fault::Fault;
 use crate::words::own_words;
 use std::fs::File;

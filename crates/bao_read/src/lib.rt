@@ -7,5 +7,3 @@ pub use outboard::outboard_source;
 mod combined;
 mod outboard;
 mod pieces;
-#[cfg(test)]
-mod tests;

@@ -5,7 +5,8 @@ ghost use Rattle.bao_request.specs.CommandLine.{AsksFor, AsksForHelp, IsHelp, pr
 ghost use Rattle.bao_request.specs.Requests.{GivesEncoding, GivesFlag, GivesNumber, GivesRange, GivesRequest, GivesTask, GivesText, GivesTexts};
 
 use crate::rules::program;
-use crate::tasks::{Encoding, Part, Request, Task};
+use crate::tasks::{Request, Task};
+use bao_files::{Encoding, Part};
 use clap::error::ErrorKind;
 use clap::{ArgMatches, Error};
 use std::alloc::{AllocError, Global};

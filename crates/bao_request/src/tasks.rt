@@ -1,3 +1,5 @@
+use bao_files::{Encoding, Part};
+
 /// What the words ask for.
 #[derive(Debug, Drop)]
 pub struct Request<'a> {
@@ -48,24 +50,4 @@ pub enum Task<'a> {
         script: &'a str,
         files: Vec<&'a str>,
     },
-}
-
-/// Which part of a blob a text that is checked is of.
-#[derive(Clone, Copy, Debug)]
-pub enum Part {
-    /// All of it: a combined encoding.
-    Whole,
-    /// A slice: `len` bytes from byte `start` on.
-    Slice { start: u64, len: u64 },
-}
-
-/// Which text of a blob is written.
-#[derive(Clone, Copy, Debug)]
-pub enum Encoding {
-    /// The combined encoding.
-    Combined,
-    /// The outboard encoding.
-    Outboard,
-    /// The slice for `len` bytes from `start` on.
-    Slice { start: u64, len: u64 },
 }

@@ -11,10 +11,6 @@ mod replay;
 mod script;
 mod slice;
 mod steps;
-#[cfg(test)]
-mod tests;
-#[cfg(test)]
-mod tests_replay;
 mod words;
 
 pub use fault::{ReplayScriptFault, ScriptFault};

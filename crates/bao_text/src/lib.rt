@@ -14,7 +14,5 @@ mod eight;
 mod fault;
 mod pieces;
 mod sizes;
-#[cfg(test)]
-mod tests;
 mod texts;
 mod writer;

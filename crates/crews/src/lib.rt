@@ -15,10 +15,4 @@ mod fault;
 mod rounds;
 mod runs;
 mod shared;
-#[cfg(test)]
-mod tests;
-#[cfg(test)]
-mod tests_memory;
-#[cfg(test)]
-mod tests_readers;
 mod texts;

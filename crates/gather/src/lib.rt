@@ -17,7 +17,5 @@ mod masks;
 mod one;
 mod report;
 mod shelf;
-#[cfg(test)]
-mod tests;
 mod texts;
 mod worker;

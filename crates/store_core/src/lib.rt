@@ -24,6 +24,4 @@ mod reading;
 mod schedule;
 mod slot;
 mod store;
-#[cfg(test)]
-mod tests;
 mod view;

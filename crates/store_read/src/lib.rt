@@ -6,5 +6,3 @@ pub use reading::read;
 mod chunks;
 mod groups;
 mod reading;
-#[cfg(test)]
-mod tests;

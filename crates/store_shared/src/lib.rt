@@ -13,5 +13,3 @@ mod fault;
 mod law;
 mod masks;
 mod seat;
-#[cfg(test)]
-mod tests;

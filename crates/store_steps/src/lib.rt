@@ -16,6 +16,4 @@ mod lengths;
 mod places;
 mod plays;
 mod rule;
-#[cfg(test)]
-mod tests;
 mod words;

@@ -1,7 +1,8 @@
 use Rattle.std.proofs.Common.{arith, ◌≡◌, ◌≢◌, ◌⊎◌, ℕ, ◌∙◌, map, string_bytes, List, [], Option, sym, ap, inl, inr}
 use Rattle.std.specs.Process.{exit_status}
 use Rattle.bao_command.specs.declared.fault.Fault.{Fault}
-use Rattle.bao_command.specs.declared.fault.Fault.TheVariants.{Word, Memory}
+use Rattle.bao_command.specs.declared.fault.Fault.TheVariants.{Word, File}
+use Rattle.bao_files.specs.declared.fault.FileFault.TheVariants.{Memory}
 use Rattle.bao_command.specs.Outcome.{Ends}
 use Rattle.bao_command.specs.Status.{status_of}
 use Rattle.std.proofs.KnownBytes.{Keeps-refl}
@@ -15,7 +16,7 @@ ends old status n is some other = record {
   fault = λ _ _. Keeps-refl old;
 }
 
-unread : (fault : Fault) (old : Option (List ℕ)) (status : ℕ) → status ≡ status_of fault → (fault ≡ Word) ⊎ (fault ≡ Memory) → Ends [] old old status
+unread : (fault : Fault) (old : Option (List ℕ)) (status : ℕ) → status ≡ status_of fault → (fault ≡ Word) ⊎ (fault ≡ File Memory) → Ends [] old old status
 unread fault old status is (inl word) = ends old status 2 (is ∙ ap status_of word) (omega arith) (omega arith)
 unread fault old status is (inr memory) = ends old status 4 (is ∙ ap status_of memory) (omega arith) (omega arith)
 

@@ -1,0 +1,37 @@
+use Rattle.std.proofs.Common.{◌≤◌, ℕ, List, length, OnOk, Result, Ok, Err, Bor, subst, sym}
+use Rattle.bao_command.specs.declared.fault.Fault.{Fault}
+use Rattle.bao_command.specs.Printed.{Prints}
+use Rattle.bao_command.specs.Tasks.{IsReplay, IsRight, line_of}
+use Rattle.bao_request.specs.declared.tasks.Task.{Task}
+use Rattle.bao_command.proofs.commands.serve_task.Goals as goal
+
+both : (P Q : Type 0) (result : Result Unit Fault) → OnOk result P → OnOk result Q → OnOk result (P × Q)
+both P Q (Ok done) p q = (p, q)
+both P Q (Err fault) p q = tt
+
+pub returns-in-Gather : goal.returns-in-Gather
+returns-in-Gather g c =
+    let result : Result Unit Fault = c.gather.result in
+    let mode = c.args.mode.now in
+    let old = g.O.Write.contents c.args.out.now in
+    let new = g.O.Write.contents c.gather.new.out in
+    let few : OnOk result (length c.in-Gather.files.items ≤ 64) =
+    subst (λ (files : List (Bor (List ℕ))). OnOk result (length files ≤ 64)) c.as_slice.ensures.value c.gather.ensures.few in
+    let answer = c.gather.ensures.answer in
+    subst (λ (task : Task). (bytes : List ℕ) × OnOk result (IsRight mode task bytes) × Prints (line_of mode task bytes) old new result) (sym c.in-Gather.is)
+    (answer.0, both _ _ result few answer.1, answer.2)
+
+pub returns-in-Replay : goal.returns-in-Replay
+returns-in-Replay g c =
+    let result : Result Unit Fault = c.replay.result in
+    let mode = c.args.mode.now in
+    let old = g.O.Write.contents c.args.out.now in
+    let new = g.O.Write.contents c.replay.new.out in
+    let answer = c.replay.ensures.answer in
+    let right : OnOk result ((length c.in-Replay.files.items ≤ 64) × IsReplay mode c.in-Replay.root.now c.in-Replay.capacity (length c.in-Replay.files.items) answer.0) =
+    subst
+    (λ (files : List (Bor (List ℕ))). OnOk result ((length files ≤ 64) × IsReplay mode c.in-Replay.root.now c.in-Replay.capacity (length files) answer.0))
+    c.as_slice-in-Replay.ensures.value
+    (both _ _ result c.replay.ensures.few answer.1) in
+    subst (λ (task : Task). (bytes : List ℕ) × OnOk result (IsRight mode task bytes) × Prints (line_of mode task bytes) old new result) (sym c.in-Replay.is)
+    (answer.0, right, answer.2)

@@ -1,0 +1,284 @@
+ghost use Rattle.std.specs.Prelude.{◌≡◌, ◌≢◌, ◌+◌, ◌-◌, ◌*◌, ◌^◌, ◌<◌, ◌≤◌, ℕ, List, length, map, string_bytes, IfErr, IfOk, IsErrAnd, OnOk};
+ghost use Rattle.bao_command.specs.declared.fault.Fault.TheVariants as Fault;
+ghost use Rattle.std.specs.Io.KnownBytes.{Keeps};
+ghost use Rattle.b3tree.specs.Hashing.{hash as hash_of, stream};
+ghost use Rattle.clap.specs.Words.{kind_of};
+ghost use Rattle.hex.specs.Hex.{decode_of};
+ghost use Rattle.bao_request.specs.CommandLine.{IsHelp};
+ghost use Rattle.bao_files.specs.Printed.{digits_line, ok_line};
+ghost use Rattle.bao_command.specs.Outcome.{Begun, Done};
+ghost use Rattle.bao_command.specs.Printed.{Prints, told_of};
+ghost use Rattle.bao_command.specs.Tasks.{Answers, HasHash, HasRoot, IsReplay, IsRight, IsRightPart, line_of, part_line};
+
+use crate::fault::Fault;
+use crate::mode::mode_of;
+use b3tree::{Hash, Mode, xof_fits};
+use bao_decode::decode_file;
+use bao_files::{
+    Encoding, FileFault, Once, Part, bytes_of_digits, encode_file, open_file, print_count,
+    print_digits, print_input, print_text, shared_len,
+};
+use bao_gathered::{Gathering, gather_files};
+use bao_replay::replay_files;
+use bao_request::{Request, Task, parse};
+use clap::error::ErrorKind;
+use std::fs::File;
+use std::io::Write;
+use std::rt::Files;
+use std::thread::Threads;
+
+// The most files that a task takes.
+const MOST_FILES: usize = 64;
+
+/// Runs the program on `words`, its name first, with `out` and `err` as its standard output and error,
+/// and answers the exit status: 0 done, 1 a text or a blob that is refused, 2 wrong words, 3 a file fault, 4 want of
+/// memory.
+///
+/// At status 0 `out` has the line of the request that the words make, on the file's bytes or the gathered blob, or
+/// where they ask for it help or the version. At 3 it has a beginning at most, and after other faults nothing.
+pub fn command<R: Files<File = File> + AllocGlobal + Threads + Sync, O: Write, E: Write>(
+    rt: &R,
+    words: &[String],
+    out: &mut O,
+    err: &mut E,
+) -> u8
+    ensures status { result ≤ 4 }
+    ensures done { result ≡ 0 → Done (map string_bytes words.now) (O.contents out.old) (O.contents out.new) }
+    ensures file_fault { result ≡ 3 → Begun (map string_bytes words.now) (O.contents out.old) (O.contents out.new) }
+    ensures fault { result ≢ 0 → result ≢ 3 → Keeps (O.contents out.old) (O.contents out.new) }
+{
+    match parse(rt.alloc(), words) {
+        Ok(request) => match serve(rt, &request, out) {
+            Ok(()) => 0,
+            Err(fault) => fault.report(err),
+        },
+        Err(error) => answer_clap(&error, out, err),
+    }
+}
+
+// Does what the request asks for.
+fn serve<'a, R: Files<File = File> + AllocGlobal + Threads + Sync, O: Write>(
+    rt: &R,
+    request: &Request<'a>,
+    out: &mut O,
+) -> Result<(), Fault<'a>>
+    ensures answer { Answers request.now (O.contents out.old) (O.contents out.new) result }
+    ensures root { ¬ HasRoot request.now.task → IsErrAnd result (λ fault. fault ≡ Fault.Root) }
+{
+    check_root(&request.task)?;
+    let mode = mode_of(request.key, request.context)?;
+    serve_task(rt, &mode, &request.task, out)
+}
+
+// The answer of printing, as a fault of the program.
+fn told<'a>(printed: Result<(), FileFault<'a>>) -> Result<(), Fault<'a>>
+    ensures { result ≡ told_of printed.entry }
+{
+    match printed {
+        Ok(()) => Ok(()),
+        Err(fault) => Err(Fault::File(fault)),
+    }
+}
+
+// The root that the digits give.
+fn root_of<'a>(digits: &str) -> Result<Hash, Fault<'a>>
+    ensures ok { IfOk result (λ root. decode_of digits.now ≡ Ok root.0) }
+    ensures err { IfErr result (λ fault. fault ≡ Fault.Root) }
+{
+    match bytes_of_digits(digits) {
+        Some(root) => Ok(Hash(root)),
+        None => Err(Fault::Root),
+    }
+}
+
+// Prints output of the file.
+fn hash<'a, R: Files<File = File> + AllocGlobal + Threads + Sync, O: Write>(
+    rt: &R,
+    mode: &Mode,
+    at: u64,
+    len: u32,
+    file: &'a str,
+    out: &mut O,
+) -> Result<(), Fault<'a>>
+    ensures { (bytes : List ℕ) × Prints (digits_line (stream mode.now bytes at len)) (O.contents out.old) (O.contents out.new) result }
+{
+    if !xof_fits(at, u64::from(len)) {
+        return Err(Fault::OutputRange);
+    }
+    let mut input = match open_file(rt, file) {
+        Ok(input) => input,
+        Err(fault) => return Err(Fault::File(fault)),
+    };
+    let hint = shared_len(&input);
+    told(print_input(rt, mode, &mut input, hint, file, at, len, out))
+}
+
+// Encodes the file, and prints the hash.
+fn encode<'a, R: Files<File = File> + AllocGlobal + Threads + Sync, O: Write>(
+    rt: &R,
+    mode: &Mode,
+    encoding: Encoding,
+    file: &'a str,
+    path: &'a str,
+    out: &mut O,
+) -> Result<(), Fault<'a>>
+    ensures { (bytes : List ℕ) × Prints (digits_line (hash_of mode.now bytes)) (O.contents out.old) (O.contents out.new) result }
+{
+    match encode_file(rt, mode, encoding, file, path) {
+        Ok(hash) => told(print_digits(rt.alloc(), &hash.0, out)),
+        Err(fault) => Err(Fault::File(fault)),
+    }
+}
+
+// Decodes the file, and prints how many bytes were written.
+fn decode<'a, R: Files + AllocGlobal, O: Write>(
+    rt: &R,
+    mode: &Mode,
+    digits: &str,
+    part: &Part,
+    file: &'a str,
+    path: &'a str,
+    out: &mut O,
+) -> Result<(), Fault<'a>>
+    ensures { (bytes : List ℕ) × OnOk result (IsRightPart mode.now digits.now part.now bytes)
+        × Prints (part_line part.now bytes) (O.contents out.old) (O.contents out.new) result }
+{
+    let root = root_of(digits)?;
+    match decode_file(rt, mode, &root, part, file, path) {
+        Ok(count) => told(print_count(rt.alloc(), count, out)),
+        Err(fault) => Err(Fault::Decode(fault)),
+    }
+}
+
+// Gathers the blob out of the files, and prints how many bytes it has.
+fn gather<'a, R: Files + AllocGlobal + Threads + Sync, O: Write>(
+    rt: &R,
+    mode: &Mode,
+    digits: &str,
+    how: Gathering,
+    files: &[&'a str],
+    path: &'a str,
+    out: &mut O,
+) -> Result<(), Fault<'a>>
+    ensures answer { (blob : List ℕ) × OnOk result (HasHash mode.now digits.now blob × (length blob ≤ 1024 * how.capacity))
+        × Prints (ok_line (length blob)) (O.contents out.old) (O.contents out.new) result }
+    ensures few { OnOk result (length files.now ≤ 64) }
+    ensures many { 64 < length files.now → IsErrAnd result (λ fault. fault ≡ Fault.TooManyFiles) }
+{
+    if files.len() > MOST_FILES {
+        return Err(Fault::TooManyFiles);
+    }
+    let root = root_of(digits)?;
+    match gather_files(rt, mode, &root, how, files, path) {
+        Ok(count) => told(print_count(rt.alloc(), count, out)),
+        Err(fault) => Err(Fault::Gather(fault)),
+    }
+}
+
+// Runs the schedule over the files, and prints the replies.
+fn replay<'a, R: Files + AllocGlobal, O: Write>(
+    rt: &R,
+    mode: &Mode,
+    digits: &str,
+    capacity: u32,
+    script: &'a str,
+    files: &[&'a str],
+    out: &mut O,
+) -> Result<(), Fault<'a>>
+    ensures answer { (text : List ℕ) × OnOk result (IsReplay mode.now digits.now capacity (length files.now) text)
+        × Prints text (O.contents out.old) (O.contents out.new) result }
+    ensures few { OnOk result (length files.now ≤ 64) }
+    ensures many { 64 < length files.now → IsErrAnd result (λ fault. fault ≡ Fault.TooManyFiles) }
+{
+    if files.len() > MOST_FILES {
+        return Err(Fault::TooManyFiles);
+    }
+    let root = root_of(digits)?;
+    match replay_files(rt, mode, &root, capacity, script, files) {
+        Ok(text) => told(print_text(text.as_slice(), out)),
+        Err(fault) => Err(Fault::Replay(fault)),
+    }
+}
+
+// Does the task on the files' bytes, whatever these are.
+fn serve_task<'a, R: Files<File = File> + AllocGlobal + Threads + Sync, O: Write>(
+    rt: &R,
+    mode: &Mode,
+    task: &Task<'a>,
+    out: &mut O,
+) -> Result<(), Fault<'a>>
+    ensures { (bytes : List ℕ) × OnOk result (IsRight mode.now task.now bytes)
+        × Prints (line_of mode.now task.now bytes) (O.contents out.old) (O.contents out.new) result }
+{
+    match task {
+        Task::Hash { at, length, file } => hash(rt, mode, *at, *length, file, out),
+        Task::Encode {
+            encoding,
+            file,
+            out: path,
+        } => encode(rt, mode, *encoding, file, path, out),
+        Task::Decode {
+            root,
+            part,
+            file,
+            out: path,
+        } => decode(rt, mode, root, part, file, path, out),
+        Task::Gather {
+            root,
+            workers,
+            capacity,
+            encode,
+            files,
+            out: path,
+        } => {
+            let how = Gathering {
+                workers: *workers,
+                capacity: *capacity,
+                encode: *encode,
+            };
+            gather(rt, mode, root, how, files.as_slice(), path, out)
+        }
+        Task::Replay {
+            root,
+            capacity,
+            script,
+            files,
+        } => replay(rt, mode, root, *capacity, script, files.as_slice(), out),
+    }
+}
+
+// A root that is no text of 64 hexadecimal digits is the first fault.
+fn check_root<'a>(task: &Task<'a>) -> Result<(), Fault<'a>>
+    ensures ok { OnOk result (HasRoot task.now) }
+    ensures err { IfErr result (λ fault. (fault ≡ Fault.Root) × ¬ HasRoot task.now) }
+{
+    let root = match task {
+        Task::Decode { root, .. } | Task::Gather { root, .. } | Task::Replay { root, .. } => root,
+        Task::Hash { .. } | Task::Encode { .. } => return Ok(()),
+    };
+    match bytes_of_digits(root) {
+        Some(_) => Ok(()),
+        None => Err(Fault::Root),
+    }
+}
+
+// Prints what `clap` has to say: help and the version on `out`, a refusal on `err`.
+fn answer_clap<O: Write, E: Write>(error: &clap::Error, out: &mut O, err: &mut E) -> u8
+    ensures status { result ≤ 4 }
+    ensures done { result ≡ 0 → IsHelp (kind_of error.now) }
+    ensures file_fault { result ≡ 3 → IsHelp (kind_of error.now) }
+    ensures fault { result ≢ 0 → result ≢ 3 → Keeps (O.contents out.old) (O.contents out.new) }
+{
+    if error.kind() == ErrorKind::OutOfMemory {
+        return Fault::File(FileFault::Memory).report(err);
+    }
+    if error.use_stderr() {
+        let _ = write!(Once(err), "{error}");
+        return 2;
+    }
+    let shown = write!(Once(out), "{error}");
+    if shown.is_err() || out.flush().is_err() {
+        return Fault::File(FileFault::Output).report(err);
+    }
+    0
+}

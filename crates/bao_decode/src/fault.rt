@@ -1,0 +1,25 @@
+use bao_check::CheckFault;
+use bao_files::FileFault;
+use thiserror::Error;
+
+/// Why a file was not decoded, with the text that the program prints of it.
+#[derive(Clone, Copy, Debug, Error)]
+pub enum DecodeFault<'a> {
+    /// A file was not read or written.
+    #[error("{0}")]
+    File(FileFault<'a>),
+    /// The text was not accepted: its first fault.
+    #[error("{0}")]
+    Check(CheckFault),
+}
+
+impl<'a> From<FileFault<'a>> for DecodeFault<'a> {
+    ghost use Rattle.std.specs.Prelude.{◌≡◌};
+    ghost use Rattle.bao_decode.specs.declared.fault.DecodeFault.TheVariants as DecodeFault;
+
+    ghost from_gives = { λ file fault. fault ≡ DecodeFault.File file };
+
+    fn from(file: FileFault<'a>) -> Self {
+        DecodeFault::File(file)
+    }
+}

@@ -1,0 +1,33 @@
+use std::alloc::AllocError;
+use thiserror::Error;
+
+/// Why a file or a stream was not read or written, with the text that the program prints of it.
+#[derive(Clone, Copy, Debug, Error)]
+pub enum FileFault<'a> {
+    /// An input file can't be opened or read.
+    #[error("cannot read {0}")]
+    Read(&'a str),
+    /// An output file can't be created or written.
+    #[error("cannot write {0}")]
+    Write(&'a str),
+    /// Standard output can't be written.
+    #[error("cannot write output")]
+    Output,
+    /// There was no memory for an encoding.
+    #[error("401 memory")]
+    Encoding,
+    /// There was no memory for something else.
+    #[error("memory")]
+    Memory,
+}
+
+impl From<AllocError> for FileFault<'_> {
+    ghost use Rattle.std.specs.Prelude.{◌≡◌};
+    ghost use Rattle.bao_files.specs.declared.fault.FileFault.TheVariants as FileFault;
+
+    ghost from_gives = { λ _ fault. fault ≡ FileFault.Memory };
+
+    fn from(_memory: AllocError) -> Self {
+        FileFault::Memory
+    }
+}

@@ -1,0 +1,127 @@
+ghost use Rattle.std.specs.Prelude.{◌≡◌, ℕ, List, [], ◌++◌, ◌⊎◌, length, IfErr, IfOk, IfSome, OnErr, OnOk};
+ghost use Rattle.std.specs.Io.KnownBytes.{Consumes, IsAtEnd, Keeps};
+ghost use Rattle.bao_files.specs.Reading.{Gains};
+
+use crate::fault::FileFault;
+use std::alloc::Global;
+use std::fs;
+use std::fs::OpenFile;
+use std::io::Read;
+use std::rt::Files;
+
+// The most bytes that one read asks for.
+const READ_LEN: usize = 1 << 18;
+
+// A file of fewer bytes is worth neither threads nor reads at places.
+pub(crate) const LEAST_SHARED_LEN: u64 = 4 << 20;
+
+/// Why a reader was not read to its end.
+#[derive(Clone, Copy, Debug, PartialEq, Eq)]
+pub enum ReadFault {
+    /// A growth was refused.
+    Memory,
+    /// A read answered a fault, of whatever kind.
+    Reader,
+}
+
+// Appends what one read gives, and answers how many bytes that is: none only at the reader's end. A fault
+// leaves the bytes as they were.
+fn read_some<R: Read>(reader: &mut R, bytes: &mut Vec<u8>) -> Result<usize, ReadFault>
+    ensures ok { IfOk result (λ count. (taken : List ℕ) × (length taken ≡ count)
+        × Gains (R.remaining reader.old) (R.remaining reader.new) bytes.old.items bytes.new.items taken) }
+    ensures end { IfOk result (λ count. count ≡ 0 → IsAtEnd (R.remaining reader.new)) }
+    ensures err { OnErr result (Gains (R.remaining reader.old) (R.remaining reader.new) bytes.old.items bytes.new.items []) }
+{
+    let start = bytes.len();
+    if bytes.resize(start.saturating_add(READ_LEN), 0).is_err() {
+        return Err(ReadFault::Memory);
+    }
+    match reader.read(&mut bytes.as_mut_slice()[start..]) {
+        Ok(count) => {
+            bytes.truncate(start + count);
+            Ok(count)
+        }
+        Err(_) => {
+            bytes.truncate(start);
+            Err(ReadFault::Reader)
+        }
+    }
+}
+
+/// Appends all that `reader` has left to `bytes`, which grow geometrically.
+///
+/// Answers `Memory` where a growth was refused, and `Reader` where a read answered a fault, one of the kind
+/// `Interrupted` too, which is not tried again: then the bytes have what was read.
+pub fn read_whole<R: Read>(reader: &mut R, bytes: &mut Vec<u8>) -> Result<(), ReadFault>
+    ensures all { OnOk result (IfSome (R.remaining reader.old) (λ left. bytes.new.items ≡ bytes.old.items ++ left)) }
+    ensures end { OnOk result (IsAtEnd (R.remaining reader.new)) }
+    ensures read { (taken : List ℕ) × Gains (R.remaining reader.old) (R.remaining reader.new) bytes.old.items bytes.new.items taken }
+{
+    'reads: loop {
+        if read_some(reader, bytes)? == 0 {
+            return Ok(());
+        }
+    }
+}
+
+/// The file at `path`, to be read. Where it can't be opened the fault is `Read`.
+pub fn open_file<'a, R: Files>(rt: &R, path: &'a str) -> Result<R::File, FileFault<'a>>
+    ensures { IfErr result (λ fault. fault ≡ FileFault.Read path.entry) }
+{
+    match fs::open(rt, path) {
+        Ok(file) => Ok(file),
+        Err(_) => Err(FileFault::Read(path)),
+    }
+}
+
+// How many bytes the file at `path` says it has.
+pub(crate) fn size_of<'a, F: OpenFile>(file: &F, path: &'a str) -> Result<u64, FileFault<'a>>
+    ensures { IfErr result (λ fault. fault ≡ FileFault.Read path.entry) }
+{
+    match file.metadata() {
+        Ok(metadata) => Ok(metadata.len()),
+        Err(_) => Err(FileFault::Read(path)),
+    }
+}
+
+/// How many bytes a regular file says it has, where they are enough to be worth threads.
+pub fn shared_len<F: OpenFile>(file: &F) -> Option<u64> {
+    let metadata = file.metadata().ok()?;
+    (metadata.is_file() && metadata.len() >= LEAST_SHARED_LEN).then_some(metadata.len())
+}
+
+/// All that `input`, the file at `path`, has from where it stands on.
+///
+/// Where a read answers a fault the fault is `Read`, and `Memory` where the bytes found no room. The `size` that
+/// the file claims is room for a start, so that bytes are moved at most once, and nothing more.
+pub fn read_input<'a, I: Read>(
+    alloc: Global,
+    input: &mut I,
+    size: u64,
+    path: &'a str,
+) -> Result<Vec<u8>, FileFault<'a>>
+    ensures all { IfOk result (λ bytes. IfSome (I.remaining input.old) (λ left. bytes.items ≡ left)) }
+    ensures fault { IfErr result (λ fault. (fault ≡ FileFault.Memory) ⊎ (fault ≡ FileFault.Read path.entry)) }
+{
+    let room = usize::try_from(size)
+        .unwrap_or(usize::MAX)
+        .saturating_add(READ_LEN);
+    let mut bytes = Vec::with_capacity(alloc, room)?;
+    match read_whole(input, &mut bytes) {
+        Ok(()) => Ok(bytes),
+        Err(ReadFault::Memory) => Err(FileFault::Memory),
+        Err(ReadFault::Reader) => Err(FileFault::Read(path)),
+    }
+}
+
+/// All bytes of the file at `path`: as `read_input`, and `Read` too where it can't be opened.
+pub fn read_file<'a, R: Files + AllocGlobal>(
+    rt: &R,
+    path: &'a str,
+) -> Result<Vec<u8>, FileFault<'a>>
+    ensures { IfErr result (λ fault. (fault ≡ FileFault.Memory) ⊎ (fault ≡ FileFault.Read path.entry)) }
+{
+    let mut file = open_file(rt, path)?;
+    let size = size_of(&file, path)?;
+    read_input(rt.alloc(), &mut file, size, path)
+}

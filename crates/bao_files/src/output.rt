@@ -1,0 +1,227 @@
+ghost use Rattle.std.specs.Prelude.{◌≡◌, ℕ, List, IfErr, IfOk, IfSome, OnOk, Some};
+ghost use Rattle.std.specs.Io.KnownBytes.{Appends};
+ghost use Rattle.b3tree.specs.Hashing.{hash};
+ghost use Rattle.bao_text.specs.Faults.{WroteOnly};
+ghost use Rattle.bao_text.specs.Texts.{joined};
+ghost use Rattle.bao_read.specs.Encodings.{IsCombinedOf, IsOutboardOf};
+ghost use Rattle.bao_files.specs.Encoded.{Encodes, answer_at_path, encoding_text};
+ghost use Rattle.bao_files.specs.Printed.{IsQuiet, NamesPaths};
+
+use crate::fault::FileFault;
+use crate::input::{LEAST_SHARED_LEN, open_file, read_input, size_of};
+use crate::kinds::Encoding;
+use b3read::{RANGES, Source};
+use b3tree::{Hash, Mode};
+use bao_read::{combined_source, outboard_source};
+use bao_text::{WriteFault, outboard, slice, write_combined, write_text, write_texts};
+use std::alloc::Global;
+use std::fs::File;
+use std::io::{Read, Write};
+use std::rt::Files;
+use std::thread::Threads;
+use std::{fs, io};
+
+/// A file that is made anew by the first write to it, or by a flush where none came: before, the path is as it
+/// was.
+pub struct LateFile<'a, R: Files> {
+    rt: &'a R,
+    path: &'a str,
+    file: Option<R::File>,
+}
+
+impl<R: Files> Drop for LateFile<'_, R> {
+    fn drop(self) {
+        let LateFile {
+            rt: _,
+            path: _,
+            file: _,
+        } = self;
+    }
+}
+
+impl<'a, R: Files> LateFile<'a, R> {
+    /// The file at `path`, which is not made yet.
+    pub fn new(rt: &'a R, path: &'a str) -> LateFile<'a, R>
+        ensures { result.path ≡ path.entry }
+    {
+        LateFile {
+            rt,
+            path,
+            file: None,
+        }
+    }
+}
+
+impl<R: Files> Write for LateFile<'_, R> {
+    fn write(&mut self, buf: &[u8]) -> io::Result<usize> {
+        if self.file.is_none() {
+            self.file = Some(fs::create(self.rt, self.path)?);
+        }
+        match &mut self.file {
+            Some(file) => file.write(buf),
+            None => Ok(0),
+        }
+    }
+
+    fn flush(&mut self) -> io::Result<()> {
+        if self.file.is_none() {
+            self.file = Some(fs::create(self.rt, self.path)?);
+        }
+        match &mut self.file {
+            Some(file) => file.flush(),
+            None => Ok(()),
+        }
+    }
+}
+
+// Writes a text that was made, and answers the hash that was made with it.
+fn send<W: Write>(made: (Hash, Vec<u8>), out: &mut W) -> Result<Hash, WriteFault>
+    ensures hash { IfOk result (λ h. h ≡ made.0) }
+    ensures text { OnOk result (Appends (W.contents out.old) (W.contents out.new) made.1.items) }
+    ensures err { IfErr result (WroteOnly (W.contents out.old) (W.contents out.new) made.1.items) }
+{
+    let (hash, text) = made;
+    write_text(text.as_slice(), out)?;
+    Ok(hash)
+}
+
+// The same of a text that was made in parts.
+fn send_all<W: Write>(made: (Hash, Vec<Vec<u8>>), out: &mut W) -> Result<Hash, WriteFault>
+    ensures hash { IfOk result (λ h. h ≡ made.0) }
+    ensures text { OnOk result (Appends (W.contents out.old) (W.contents out.new) (joined made.1.items)) }
+    ensures err { IfErr result (WroteOnly (W.contents out.old) (W.contents out.new) (joined made.1.items)) }
+{
+    let (hash, texts) = made;
+    write_texts(texts.as_slice(), out)?;
+    Ok(hash)
+}
+
+/// Writes this encoding of `bytes` in `mode` to `out`, and answers their hash.
+///
+/// Answers `Memory` (401) where a growth was refused, with nothing written, and `Writer` (402) only where a
+/// write answered a fault or took no byte: then exactly the first `written` bytes of the text went out.
+pub fn write_encoding<W: Write>(
+    alloc: Global,
+    mode: &Mode,
+    encoding: Encoding,
+    bytes: &[u8],
+    out: &mut W,
+) -> Result<Hash, WriteFault>
+    ensures hash { IfOk result (λ h. h.0 ≡ hash mode.now bytes.now) }
+    ensures text { OnOk result (Appends (W.contents out.old) (W.contents out.new) (encoding_text mode.now encoding bytes.now)) }
+    ensures err { IfErr result (WroteOnly (W.contents out.old) (W.contents out.new) (encoding_text mode.now encoding bytes.now)) }
+{
+    match encoding {
+        Encoding::Combined => write_combined(alloc, mode, bytes, out),
+        Encoding::Outboard => send(outboard(alloc, mode, bytes)?, out),
+        Encoding::Slice { start, len } => send(slice(alloc, mode, bytes, start, len)?, out),
+    }
+}
+
+// The outboard encoding of the bytes of an input that is said to have `size` of them, and their hash. Where they are
+// few or not so many, and where a read or memory fails, there is none. The input is read at places, so that it is left
+// where it stood.
+fn outboard_at_places<I: Source>(
+    alloc: Global,
+    mode: &Mode,
+    input: &I,
+    size: u64,
+) -> Option<(Hash, Vec<u8>)>
+    ensures all { IfSome result (λ made. IfSome (I.contents input.now) (λ s. IsOutboardOf mode.now size s made.0.0 made.1.items)) }
+    ensures some { IfSome result (λ made. (bytes : List ℕ) × IsOutboardOf mode.now size bytes made.0.0 made.1.items) }
+{
+    if size < LEAST_SHARED_LEN {
+        return None;
+    }
+    outboard_source(alloc, mode, input, size).ok()
+}
+
+// The combined encoding, in the same way, by several threads at once.
+fn combined_at_places<R: Threads + Sync, I: Source + Sync>(
+    rt: &R,
+    alloc: Global,
+    mode: &Mode,
+    input: &I,
+    size: u64,
+) -> Option<(Hash, Vec<Vec<u8>>)>
+    ensures all { IfSome result (λ made. IfSome (I.contents input.now) (λ s. IsCombinedOf mode.now size s made.0.0 (joined made.1.items))) }
+    ensures some { IfSome result (λ made. (bytes : List ℕ) × IsCombinedOf mode.now size bytes made.0.0 (joined made.1.items)) }
+{
+    if size < LEAST_SHARED_LEN {
+        return None;
+    }
+    combined_source(rt, alloc, mode, input, size, RANGES).ok()
+}
+
+// The answer of writing an encoding to the file at `path`, in the words of the program.
+fn answer_at<'a>(written: Result<Hash, WriteFault>, path: &'a str) -> Result<Hash, FileFault<'a>>
+    ensures { result ≡ answer_at_path path.entry written }
+{
+    match written {
+        Ok(hash) => Ok(hash),
+        Err(WriteFault::Memory) => Err(FileFault::Encoding),
+        Err(WriteFault::Writer { .. }) => Err(FileFault::Write(path)),
+    }
+}
+
+/// Writes this encoding in `mode` of all that `input`, the file at `file`, has to `out`, the file at `path`, and
+/// answers the hash.
+///
+/// Where the input is said to have a `size` of at least 4 MiB and its combined or its outboard encoding is asked for,
+/// it is read at places and in pieces, so that the memory that this takes is the encoding's: 17/16 of the bytes, and a
+/// sixteenth. The combined one is made by several threads. If that gives no encoding, and for a slice, the input is read
+/// whole from where it stands, and what that meets is answered.
+///
+/// Nothing was written after `Read` with the input's path, where a read answered a fault, nor for want of memory, which
+/// is `Memory` for the input's bytes and `Encoding` for the text. After `Write` with the other path exactly a beginning
+/// of the text was written, and not all.
+pub fn encode_input<'a, R: Threads + Sync + AllocGlobal, I: Read + Source + Sync, W: Write>(
+    rt: &R,
+    mode: &Mode,
+    encoding: Encoding,
+    input: &mut I,
+    size: u64,
+    file: &'a str,
+    out: &mut W,
+    path: &'a str,
+) -> Result<Hash, FileFault<'a>>
+    ensures all { IfSome (I.contents input.old) (λ s. I.remaining input.old ≡ Some s
+        → Encodes mode.now encoding s file.entry path.entry (W.contents out.old) (W.contents out.new) result) }
+    ensures some { (bytes : List ℕ) × Encodes mode.now encoding bytes file.entry path.entry (W.contents out.old) (W.contents out.new) result }
+{
+    let alloc = rt.alloc();
+    if let Encoding::Combined = encoding {
+        if let Some(made) = combined_at_places(rt, alloc, mode, input, size) {
+            return answer_at(send_all(made, out), path);
+        }
+    }
+    if let Encoding::Outboard = encoding {
+        if let Some(made) = outboard_at_places(alloc, mode, input, size) {
+            return answer_at(send(made, out), path);
+        }
+    }
+    let bytes = read_input(alloc, input, size, file)?;
+    let written = write_encoding(alloc, mode, encoding, bytes.as_slice(), out);
+    answer_at(written, path)
+}
+
+/// Writes this encoding in `mode` of the file at `file` to the file at `path`, made anew, and answers the hash.
+///
+/// After `Read`, where the file can't be opened or read, and after `Memory` and `Encoding`, for want of memory, the
+/// path is as it was. After `Write` a beginning of the encoding may stand there.
+pub fn encode_file<'a, R: Files<File = File> + AllocGlobal + Threads + Sync>(
+    rt: &R,
+    mode: &Mode,
+    encoding: Encoding,
+    file: &'a str,
+    path: &'a str,
+) -> Result<Hash, FileFault<'a>>
+    ensures hash { IfOk result (λ h. (bytes : List ℕ) × (h.0 ≡ hash mode.now bytes)) }
+    ensures fault { IfErr result IsQuiet }
+    ensures paths { IfErr result (NamesPaths file.entry path.entry) }
+{
+    let mut input = open_file(rt, file)?;
+    let size = size_of(&input, file)?;
+    let mut out = LateFile::new(rt, path);
+    encode_input(rt, mode, encoding, &mut input, size, file, &mut out, path)
+}

@@ -1,0 +1,139 @@
+ghost use Rattle.std.specs.Prelude.{◌≡◌, ◌⊎◌, ◌+◌, ◌-◌, ◌^◌, ◌<◌, ◌≤◌, ℕ, List, ◌++◌, length, IfErr, IfOk, IfSome, OnOk, Some};
+ghost use Rattle.std.specs.Io.KnownBytes.{Consumes, IsAtEnd};
+ghost use Rattle.b3tree.specs.declared.mode.Mode.{Mode};
+ghost use Rattle.b3tree.specs.Hashing.{stream};
+ghost use Rattle.b3tree.specs.Taken.{Holds};
+ghost use Rattle.bao_files.specs.Printed.{Prints, digits_line};
+
+use crate::digits::{print_digits, print_output};
+use crate::fault::FileFault;
+use crate::input::ReadFault;
+use b3read::{RANGES, Source, hash_source};
+use b3tree::{Hash, Hasher, Mode};
+use std::alloc::Global;
+use std::io::{Read, Write};
+use std::thread::Threads;
+
+// The most bytes that one read asks for: few enough to stay in a processor's cache.
+const PIECE_LEN: usize = 1 << 20;
+
+// The bytes of a hash, as far as extended output goes.
+const HASH_LEN: u32 = 32;
+
+// Has the hasher take in what one read gives, and answers how many bytes that is: none only at the reader's
+// end.
+fn hash_some<R: Read>(
+    reader: &mut R,
+    hasher: &mut Hasher,
+    piece: &mut [u8],
+) -> Result<usize, ReadFault>
+    requires { 0 < length piece.old }
+    ensures room { length piece.new ≡ length piece.old }
+    ensures taken { IfOk result (λ count. (taken : List ℕ) × Consumes (R.remaining reader.old) (R.remaining reader.new) taken
+        × ((mode : Mode) (s : List ℕ) → Holds hasher.old mode s → Holds hasher.new mode (s ++ taken))) }
+    ensures end { IfOk result (λ count. count ≡ 0 → IsAtEnd (R.remaining reader.new)) }
+    ensures fault { IfErr result (λ fault. fault ≡ ReadFault.Reader) }
+{
+    let count = match reader.read(piece) {
+        Ok(count) => count,
+        Err(_) => return Err(ReadFault::Reader),
+    };
+    match hasher.update(&piece[..count]) {
+        Ok(()) => Ok(count),
+        Err(_) => Err(ReadFault::Reader),
+    }
+}
+
+/// A hasher of `mode` that has taken in all that `reader` has left, which comes in pieces through `piece`.
+///
+/// Answers `Reader` where a read answered a fault, one of the kind `Interrupted` too, which is not tried
+/// again, and where more than 2^64 - 1 bytes came.
+pub fn hash_reader<R: Read>(
+    mode: &Mode,
+    reader: &mut R,
+    piece: &mut [u8],
+) -> Result<Hasher, ReadFault>
+    requires { 0 < length piece.old }
+    ensures all { IfOk result (λ hasher. IfSome (R.remaining reader.old) (λ left. Holds hasher mode.now left)) }
+    ensures some { IfOk result (λ hasher. (bytes : List ℕ) × Holds hasher mode.now bytes) }
+    ensures end { OnOk result (IsAtEnd (R.remaining reader.new)) }
+    ensures fault { IfErr result (λ fault. fault ≡ ReadFault.Reader) }
+{
+    let mut hasher = Hasher::new(mode);
+    'reads: for _ in 0..u64::MAX {
+        if hash_some(reader, &mut hasher, piece)? == 0 {
+            return Ok(hasher);
+        }
+    }
+    Err(ReadFault::Reader)
+}
+
+/// Writes `len` bytes of the extended output of all that `reader` has left in `mode`, from byte `at` on, to
+/// `out`: their lower-case hexadecimal digits and a line end. At 0 the first 32 are the hash.
+///
+/// The memory that this takes is the same for every number of bytes. Nothing is written after `Memory`, nor
+/// after `Read` with the path, where the reader was not read to its end. After `Output` the writer may hold a
+/// beginning of the line.
+pub fn print_reader<'a, R: Read, W: Write>(
+    alloc: Global,
+    mode: &Mode,
+    reader: &mut R,
+    path: &'a str,
+    at: u64,
+    len: u32,
+    out: &mut W,
+) -> Result<(), FileFault<'a>>
+    requires { at + len ≤ 2 ^ 64 - 1 }
+    ensures all { IfSome (R.remaining reader.old) (λ left.
+        Prints (digits_line (stream mode.now left at len)) (W.contents out.old) (W.contents out.new) result) }
+    ensures some { (bytes : List ℕ) × Prints (digits_line (stream mode.now bytes at len)) (W.contents out.old) (W.contents out.new) result }
+    ensures end { OnOk result (IsAtEnd (R.remaining reader.new)) }
+    ensures fault { IfErr result (λ fault. (fault ≡ FileFault.Memory) ⊎ (fault ≡ FileFault.Output) ⊎ (fault ≡ FileFault.Read path.entry)) }
+{
+    let mut piece = vec![in alloc; 0u8; PIECE_LEN].map_err(|_| FileFault::Memory)?;
+    match hash_reader(mode, reader, piece.as_mut_slice()) {
+        Ok(hasher) => print_output(alloc, &hasher, at, len, out),
+        Err(_) => Err(FileFault::Read(path)),
+    }
+}
+
+// The hash of the bytes of an input that is said to have `len` of them, on several threads. Where it hasn't, and
+// where a read or memory fails, there is none. The input is read at places, so that it is left where it stood.
+fn shared_hash<R: AllocGlobal + Threads + Sync, I: Source + Sync>(
+    rt: &R,
+    mode: &Mode,
+    input: &I,
+    len: Option<u64>,
+) -> Option<Hash>
+    ensures all { IfSome result (λ hash. IfSome (I.contents input.now) (λ s. hash.0 ≡ stream mode.now s 0 32)) }
+    ensures some { IfSome result (λ hash. (bytes : List ℕ) × (hash.0 ≡ stream mode.now bytes 0 32)) }
+{
+    hash_source(rt, rt.alloc(), mode, input, len?, RANGES).ok()
+}
+
+/// As `print_reader`, of an input that can also be read at places. Where it is said to have `len_hint` bytes and its
+/// hash is asked for, it is read on several threads first, each in pieces of its own. If that gives no hash, it is
+/// read from where it stands on one thread, and what that meets is answered.
+pub fn print_input<'a, R: AllocGlobal + Threads + Sync, I: Read + Source + Sync, W: Write>(
+    rt: &R,
+    mode: &Mode,
+    input: &mut I,
+    len_hint: Option<u64>,
+    path: &'a str,
+    at: u64,
+    len: u32,
+    out: &mut W,
+) -> Result<(), FileFault<'a>>
+    requires { at + len ≤ 2 ^ 64 - 1 }
+    ensures all { IfSome (I.contents input.old) (λ s. I.remaining input.old ≡ Some s
+        → Prints (digits_line (stream mode.now s at len)) (W.contents out.old) (W.contents out.new) result) }
+    ensures some { (bytes : List ℕ) × Prints (digits_line (stream mode.now bytes at len)) (W.contents out.old) (W.contents out.new) result }
+    ensures fault { IfErr result (λ fault. (fault ≡ FileFault.Memory) ⊎ (fault ≡ FileFault.Output) ⊎ (fault ≡ FileFault.Read path.entry)) }
+{
+    if at == 0 && len == HASH_LEN {
+        if let Some(hash) = shared_hash(rt, mode, input, len_hint) {
+            return print_digits(rt.alloc(), &hash.0, out);
+        }
+    }
+    print_reader(rt.alloc(), mode, input, path, at, len, out)
+}

@@ -1,0 +1,20 @@
+-- what a fault of gathering says
+use Rattle.std.specs.Borrow.{Bor}
+use Rattle.std.specs.Prelude.{◌≡◌, ℕ, List, Some, slice_get}
+use Rattle.bao_files.specs.Printed as file
+use Rattle.bao_gathered.specs.declared.fault.GatheredFault.{GatheredFault}
+use Rattle.bao_gathered.specs.declared.fault.GatheredFault.TheVariants.{File, Gather}
+
+-- it isn't one of standard output
+abbrev pub IsQuiet : GatheredFault → Type 0
+IsQuiet (File fault) = file.IsQuiet fault
+IsQuiet (Gather fault) = Unit {0}
+
+-- a fault of reading names the one path, and a fault of writing the other
+abbrev pub NamesPaths : Bor (List ℕ) → Bor (List ℕ) → GatheredFault → Type 0
+NamesPaths input output (File fault) = file.NamesPaths input output fault
+NamesPaths input output (Gather fault) = Unit {0}
+
+-- the same, where the first of the inputs is named
+abbrev pub NamesFirst : List (Bor (List ℕ)) → Bor (List ℕ) → GatheredFault → Type 0
+NamesFirst inputs output fault = (first : Bor (List ℕ)) → slice_get inputs 0 ≡ Some first → NamesPaths first output fault

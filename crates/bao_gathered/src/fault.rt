@@ -1,0 +1,25 @@
+use bao_files::FileFault;
+use crews::CrewsFault;
+use thiserror::Error;
+
+/// Why a blob was not gathered and written, with the text that the program prints of it.
+#[derive(Clone, Copy, Debug, Error)]
+pub enum GatheredFault<'a> {
+    /// A file was not read or written.
+    #[error("{0}")]
+    File(FileFault<'a>),
+    /// No blob came together.
+    #[error("{0}")]
+    Gather(CrewsFault),
+}
+
+impl<'a> From<FileFault<'a>> for GatheredFault<'a> {
+    ghost use Rattle.std.specs.Prelude.{◌≡◌};
+    ghost use Rattle.bao_gathered.specs.declared.fault.GatheredFault.TheVariants as GatheredFault;
+
+    ghost from_gives = { λ file fault. fault ≡ GatheredFault.File file };
+
+    fn from(file: FileFault<'a>) -> Self {
+        GatheredFault::File(file)
+    }
+}

@@ -1,0 +1,132 @@
+ghost use Rattle.std.specs.Borrow.{Bor};
+ghost use Rattle.std.specs.Prelude.{◌≡◌, ◌⊎◌, ℕ, List, IfErr, IfOk, OnOk, Some, length, slice_get};
+ghost use Rattle.std.specs.Io.KnownBytes.{Appends};
+ghost use Rattle.bao_text.specs.Faults.{WroteOnly};
+ghost use Rattle.bao_files.specs.declared.fault.FileFault.TheVariants as FileFault;
+ghost use Rattle.bao_gathered.specs.Faults.{IsQuiet, NamesFirst};
+ghost use Rattle.bao_gathered.specs.Gathered.{IsGathered, LeavesBlob, WritesBlob, gathered_text};
+
+use crate::fault::GatheredFault;
+use b3tree::{Hash, Mode};
+use bao_files::{FileFault, LateFile, read_file};
+use bao_text::{WriteFault, write_combined, write_text};
+use crews::gather_texts;
+use std::alloc::Global;
+use std::io::Write;
+use std::rt::Files;
+use std::thread::Threads;
+
+// The bytes of those files that can be read, in the order of the paths. Where none can, the fault names the first.
+fn read_files<'a, R: Files + AllocGlobal>(
+    rt: &R,
+    paths: &[&'a str],
+) -> Result<Vec<Vec<u8>>, FileFault<'a>>
+    ensures { IfErr result (λ fault. (fault ≡ FileFault.Memory)
+        ⊎ ((first : Bor (List ℕ)) × (slice_get paths.now 0 ≡ Some first) × (fault ≡ FileFault.Read first))) }
+{
+    let mut texts = Vec::with_capacity(rt.alloc(), paths.len())?;
+    'files: for path in paths {
+        match read_file(rt, path) {
+            Ok(text) => {
+                if texts.push(text).is_err() {
+                    return Err(FileFault::Memory);
+                }
+            }
+            Err(FileFault::Memory) => return Err(FileFault::Memory),
+            Err(_) => {}
+        }
+    }
+    match paths.first() {
+        Some(first) if texts.is_empty() => Err(FileFault::Read(first)),
+        _ => Ok(texts),
+    }
+}
+
+/// How a blob is gathered, and what is written of it.
+#[derive(Clone, Copy, Debug)]
+pub struct Gathering {
+    /// How many workers gather, 1 to 64: a number beyond counts as the nearest.
+    pub workers: u32,
+    /// The most chunks that the blob may have.
+    pub capacity: u32,
+    /// Whether the blob's combined encoding is written in its place.
+    pub encode: bool,
+}
+
+// Writes the blob, or its combined encoding.
+fn write_blob<W: Write>(
+    alloc: Global,
+    mode: &Mode,
+    encode: bool,
+    blob: &[u8],
+    out: &mut W,
+) -> Result<(), WriteFault>
+    ensures text { OnOk result (Appends (W.contents out.old) (W.contents out.new) (gathered_text encode mode.now blob.now)) }
+    ensures err { IfErr result (WroteOnly (W.contents out.old) (W.contents out.new) (gathered_text encode mode.now blob.now)) }
+{
+    if encode {
+        write_combined(alloc, mode, blob, out)?;
+        Ok(())
+    } else {
+        write_text(blob, out)
+    }
+}
+
+/// Gathers the blob with this root out of the texts, each a combined encoding from a holder that nobody trusts,
+/// writes it, or its combined encoding, to `out`, which is flushed, and answers how many bytes the blob has.
+///
+/// Nothing is written before the blob was verified. After `Gather`, where no blob with this root and at most
+/// `capacity` chunks came together, and after `File` with `Encoding`, where there was no memory for the encoding, nothing was
+/// written; after `File` with `Write` and the path a beginning of the text may stand.
+pub fn write_gathered<'a, R: AllocGlobal + Threads + Sync, W: Write>(
+    rt: &R,
+    mode: &Mode,
+    root: &Hash,
+    how: Gathering,
+    texts: &[Vec<u8>],
+    path: &'a str,
+    out: &mut W,
+) -> Result<u64, GatheredFault<'a>>
+    ensures blob { IfOk result (WritesBlob how mode.now root.now.0 (W.contents out.old) (W.contents out.new)) }
+    ensures fault { IfErr result (LeavesBlob how mode.now root.now.0 path.entry (W.contents out.old) (W.contents out.new)) }
+{
+    let alloc = rt.alloc();
+    let gathered = gather_texts(rt, alloc, *root, *mode, how.capacity, how.workers, texts);
+    let blob = match gathered {
+        Ok(blob) => blob,
+        Err(fault) => return Err(GatheredFault::Gather(fault)),
+    };
+    match write_blob(alloc, mode, how.encode, blob.as_slice(), out) {
+        Ok(()) => {}
+        Err(WriteFault::Memory) => return Err(GatheredFault::File(FileFault::Encoding)),
+        Err(WriteFault::Writer { .. }) => return Err(GatheredFault::File(FileFault::Write(path))),
+    }
+    if out.flush().is_err() {
+        return Err(GatheredFault::File(FileFault::Write(path)));
+    }
+    Ok(blob.len() as u64)
+}
+
+/// Gathers the blob with this root, of at most `capacity` chunks, out of the files, each a combined encoding from a
+/// holder that nobody trusts, writes it, or its combined encoding, to the file at `path`, made anew once the blob was
+/// verified, and answers how many bytes the blob has. A file that can't be read is left out.
+///
+/// Refuses files of which none can be read (`File` with `Read` of the first), a blob that did not come together (`Gather`),
+/// one for whose encoding there was no memory (`File` with `Encoding`), and an output that can't be made or written (`File`
+/// with `Write`).
+pub fn gather_files<'a, R: Files + AllocGlobal + Threads + Sync>(
+    rt: &R,
+    mode: &Mode,
+    root: &Hash,
+    how: Gathering,
+    files: &[&'a str],
+    path: &'a str,
+) -> Result<u64, GatheredFault<'a>>
+    ensures ok { IfOk result (λ count. (blob : List ℕ) × IsGathered how mode.now root.now.0 blob × (count ≡ length blob)) }
+    ensures err { IfErr result IsQuiet }
+    ensures paths { IfErr result (NamesFirst files.now path.entry) }
+{
+    let texts = read_files(rt, files)?;
+    let mut out = LateFile::new(rt, path);
+    write_gathered(rt, mode, root, how, texts.as_slice(), path, &mut out)
+}

@@ -1,0 +1,37 @@
+use anyhow::Result;
+use std::alloc::Global;
+use std::fmt::Display;
+use store_core::{BadCapacity, ReplayFault, StoreFault};
+use store_shared::{NewFault, NoGroup, OtherRoot};
+
+// A line with a fault's number and its text.
+fn tell<F: Display + Drop>(said: &mut String, number: u16, fault: F) -> Result<()> {
+    write!(said, "{number} {fault}\n")?;
+    Ok(())
+}
+
+// Each fault of the stores.
+pub fn faults(alloc: Global) -> Result<String> {
+    let mut said = String::new(alloc);
+    for fault in [
+        StoreFault::Memory,
+        StoreFault::NoGroup,
+        StoreFault::OtherRoot,
+    ] {
+        tell(&mut said, fault.code(), fault)?;
+    }
+    tell(&mut said, BadCapacity.code(), BadCapacity)?;
+    for fault in [
+        ReplayFault::Memory,
+        ReplayFault::Illegal { step: 7 },
+        ReplayFault::Capacity,
+    ] {
+        write!(said, "{fault}\n")?;
+    }
+    for fault in [NewFault::Memory, NewFault::Capacity] {
+        tell(&mut said, fault.code(), fault)?;
+    }
+    tell(&mut said, NoGroup.code(), NoGroup)?;
+    tell(&mut said, OtherRoot.code(), OtherRoot)?;
+    Ok(said)
+}

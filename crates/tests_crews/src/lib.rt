@@ -1,0 +1,9 @@
+//! Tests of many workers over one shared store: `crews`.
+#![tactic(auto)]
+
+#[cfg(test)]
+mod memory;
+#[cfg(test)]
+mod readers;
+#[cfg(test)]
+mod workers;

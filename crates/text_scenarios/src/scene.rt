@@ -1,0 +1,266 @@
+use crate::changes::{change, flip};
+use crate::faults::faults;
+use crate::line::{digest, mode, one, two};
+use crate::verdict::{Form, verdict};
+use anyhow::{Context, Result, bail};
+use b3tree::{Hash, Hasher, Mode, hash, xof, xof_fits};
+use bao_bind::{Verdict, audit};
+use bao_check::{Checked, check_combined, check_outboard, check_slice};
+use bao_text::{combined, cut_slice, encoded_len, outboard, outboard_len, slice};
+use std::alloc::Global;
+
+// How many bytes of a digest tell texts apart.
+const SHORT: usize = 8;
+
+// The most bytes of output that a line may ask for.
+const MOST_OUTPUT: u64 = 1 << 16;
+
+// What the lines before have made.
+#[derive(Drop)]
+pub struct Scene {
+    mode: Mode,
+    blob: Vec<u8>,
+    text: Vec<u8>,
+    root: Hash,
+    form: Form,
+}
+
+// How many bytes these are, and the first bytes of their plain hash.
+fn told(alloc: Global, bytes: &[u8]) -> Result<String> {
+    let count = bytes.len();
+    let digits = hex::encode(alloc, &hash(&Mode::hash(), bytes).0[..SHORT])?;
+    Ok(format!(in alloc; "{count} bytes {digits}")?)
+}
+
+// The same of bytes that may not be there.
+fn told_if(alloc: Global, bytes: Option<&[u8]>) -> Result<String> {
+    match bytes {
+        Some(bytes) => told(alloc, bytes),
+        None => Ok(String::from_str(alloc, "none")?),
+    }
+}
+
+// The bytes i mod 251.
+fn counted(alloc: Global, len: u64) -> Result<Vec<u8>> {
+    let mut bytes = Vec::new(alloc);
+    for i in 0..len {
+        bytes.push((i % 251) as u8)?;
+    }
+    Ok(bytes)
+}
+
+impl Scene {
+    pub fn new(alloc: Global) -> Scene {
+        Scene {
+            mode: Mode::hash(),
+            blob: Vec::new(alloc),
+            text: Vec::new(alloc),
+            root: Hash([0; 32]),
+            form: Form::Combined,
+        }
+    }
+
+    // Does what a line says, and answers the reply, a line or several.
+    pub fn reply(&mut self, alloc: Global, line: &str) -> Result<String> {
+        if line.is_empty() || line.starts_with('#') {
+            return Ok(String::new(alloc));
+        }
+        let (name, words) = line.split_once(' ').unwrap_or((line, ""));
+        if change(alloc, name, words, &mut self.text)? {
+            return told(alloc, self.text.as_slice());
+        }
+        match name {
+            "mode" | "blob" | "bytes" | "root" => self.set(alloc, name, words),
+            "combined" | "outboard" | "slice" | "cut" => self.make(alloc, name, words),
+            "hash" | "pieces" | "output" | "sizes" => self.figures(alloc, name, words),
+            "check" | "cuts" | "flips" => self.check(alloc, name, words),
+            "faults" => faults(alloc),
+            _ => self.ask(alloc, name, words),
+        }
+    }
+
+    fn set(&mut self, alloc: Global, name: &str, words: &str) -> Result<String> {
+        match name {
+            "mode" => self.mode = mode(words)?,
+            "blob" => self.blob = counted(alloc, one(alloc, words)?)?,
+            "bytes" => self.blob = hex::decode(alloc, words)?,
+            _ if words == "blob" => self.root = hash(&self.mode, self.blob.as_slice()),
+            _ => self.root = Hash(digest(words)?),
+        }
+        Ok(String::new(alloc))
+    }
+
+    // Makes a text of the blob, whose hash is then the root, or cuts one out of the text.
+    fn make(&mut self, alloc: Global, name: &str, words: &str) -> Result<String> {
+        let blob = self.blob.as_slice();
+        let (root, text) = match name {
+            "combined" => combined(alloc, &self.mode, blob)?,
+            "outboard" => outboard(alloc, &self.mode, blob)?,
+            "slice" => {
+                let (start, len) = two(alloc, words)?;
+                slice(alloc, &self.mode, blob, start, len)?
+            }
+            _ => {
+                let (start, len) = two(alloc, words)?;
+                self.text = cut_slice(alloc, self.text.as_slice(), start, len)?;
+                return told(alloc, self.text.as_slice());
+            }
+        };
+        self.root = root;
+        self.text = text;
+        let digits = hex::encode(alloc, self.root.0)?;
+        let said = told(alloc, self.text.as_slice())?;
+        Ok(format!(in alloc; "{digits}\n{said}")?)
+    }
+
+    fn figures(&self, alloc: Global, name: &str, words: &str) -> Result<String> {
+        match name {
+            "hash" => Ok(hex::encode(alloc, hash(&self.mode, self.blob.as_slice()).0)?),
+            "pieces" => {
+                let size = one(alloc, words)?.clamp(1, 1 << 20) as usize;
+                let mut hasher = Hasher::new(&self.mode);
+                for piece in self.blob.as_slice().chunks(size) {
+                    hasher.update(piece)?;
+                }
+                Ok(hex::encode(alloc, hasher.finalize().0)?)
+            }
+            "output" => {
+                let (at, len) = two(alloc, words)?;
+                if len > MOST_OUTPUT || !xof_fits(at, len) {
+                    bail!("a range of output");
+                }
+                let mut output = vec![in alloc; 0u8; len as usize]?;
+                xof(&self.mode, self.blob.as_slice(), at, output.as_mut_slice());
+                Ok(hex::encode(alloc, output.as_slice())?)
+            }
+            _ => {
+                let len = one(alloc, words)?;
+                let (whole, without) = (encoded_len(len), outboard_len(len));
+                Ok(format!(in alloc; "combined {whole}, outboard {without}")?)
+            }
+        }
+    }
+
+    fn check(&mut self, alloc: Global, name: &str, words: &str) -> Result<String> {
+        match name {
+            "check" => {
+                self.form = Form::read(alloc, words)?;
+                self.verdict_of(alloc, self.text.as_slice())
+            }
+            "cuts" => self.cuts(alloc),
+            _ => self.flips(alloc),
+        }
+    }
+
+    fn verdict_of(&self, alloc: Global, text: &[u8]) -> Result<String> {
+        verdict(alloc, &self.mode, &self.root, self.form, text)
+    }
+
+    // The verdicts on the text cut after each number of bytes.
+    fn cuts(&self, alloc: Global) -> Result<String> {
+        let mut runs = Runs::new(alloc);
+        let text = self.text.as_slice();
+        for len in 0..text.len() {
+            runs.add(self.verdict_of(alloc, &text[..len])?)?;
+        }
+        runs.end()
+    }
+
+    // The verdicts on the text with the lowest bit of each byte changed.
+    fn flips(&self, alloc: Global) -> Result<String> {
+        let mut runs = Runs::new(alloc);
+        let mut text = self.text.clone()?;
+        for at in 0..text.len() {
+            flip(text.as_mut_slice(), at)?;
+            runs.add(self.verdict_of(alloc, text.as_slice())?)?;
+            flip(text.as_mut_slice(), at)?;
+        }
+        runs.end()
+    }
+
+    // The piece that the text was checked as.
+    fn piece(&self, alloc: Global) -> Result<Checked<'_>> {
+        let text = self.text.as_slice();
+        match self.form {
+            Form::Combined => Ok(check_combined(alloc, &self.mode, &self.root, text)?),
+            Form::Slice { start, len } | Form::Stream { start, len, .. } => {
+                Ok(check_slice(alloc, &self.mode, &self.root, start, len, text)?)
+            }
+            Form::Outboard => bail!("a text with chunks"),
+        }
+    }
+
+    fn ask(&self, alloc: Global, name: &str, words: &str) -> Result<String> {
+        match name {
+            "chunk" => told_if(alloc, self.piece(alloc)?.chunk(one(alloc, words)?)),
+            "parent" => told_if(alloc, self.piece(alloc)?.parent(one(alloc, words)?)),
+            "leaf" => {
+                let text = self.text.as_slice();
+                let outline = check_outboard(alloc, &self.mode, &self.root, text)?;
+                match outline.leaf(one(alloc, words)?) {
+                    Some(value) => Ok(hex::encode(alloc, value.to_bytes())?),
+                    None => Ok(String::from_str(alloc, "none")?),
+                }
+            }
+            "audit" => match audit(self.blob.as_slice(), &self.piece(alloc)?) {
+                Ok(Verdict::Agrees) => Ok(String::from_str(alloc, "agrees")?),
+                Ok(Verdict::Collision { .. }) => Ok(String::from_str(alloc, "collision")?),
+                Err(fault) => Ok(format!(in alloc; "{fault}")?),
+            },
+            _ => bail!("a command"),
+        }
+    }
+}
+
+// Replies, of which equal ones that follow one another are told once.
+#[derive(Drop)]
+struct Runs {
+    said: String,
+    last: Option<String>,
+    first: u64,
+    count: u64,
+}
+
+impl Runs {
+    fn new(alloc: Global) -> Runs {
+        Runs {
+            said: String::new(alloc),
+            last: None,
+            first: 0,
+            count: 0,
+        }
+    }
+
+    fn add(&mut self, reply: String) -> Result<()> {
+        let is_same = match &self.last {
+            Some(last) => last.as_str() == reply.as_str(),
+            None => false,
+        };
+        if !is_same {
+            self.tell()?;
+            self.first = self.count;
+            self.last = Some(reply);
+        }
+        self.count = self.count.saturating_add(1);
+        Ok(())
+    }
+
+    fn tell(&mut self) -> Result<()> {
+        if let Some(last) = &self.last {
+            let (first, after) = (self.first, self.count.saturating_sub(1));
+            write!(self.said, "{first} to {after}: {last}\n")?;
+        }
+        Ok(())
+    }
+
+    fn end(mut self) -> Result<String> {
+        self.tell()?;
+        let Runs {
+            said,
+            last: _,
+            first: _,
+            count: _,
+        } = self;
+        Ok(said)
+    }
+}

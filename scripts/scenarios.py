@@ -1,0 +1,744 @@
+#!/usr/bin/env python3
+"""Makes the replies that the scenarios of crates/*_scenarios have to get, by the definitions alone.
+
+usage: python3 scripts/scenarios.py [--write]
+
+At the top of the repository. A scenario is a program's file stdin: a command a line, with empty lines and lines that begin
+with '#' between them. What the program has to print, its file stdout, is the same lines with a reply, indented, below each
+command. Compares these files with the replies made here, and says where they differ; with --write writes them.
+"""
+import os
+import sys
+
+import definitions as bao
+
+# How many words of a reply's digest are printed.
+SHORT = 16
+
+
+def blob_of(length):
+    """The bytes i mod 251, as in BLAKE3's test vectors."""
+    return bytes(i % 251 for i in range(length))
+
+
+def digest(data):
+    """The first bytes of the plain hash, enough to tell texts apart."""
+    return bao.Mode().hash(data).hex()[:SHORT]
+
+
+def told(data):
+    return f"{len(data)} bytes {digest(data)}"
+
+
+def mode_of(words):
+    kind, _, rest = words.partition(" ")
+    return {
+        "plain": lambda: bao.Mode(),
+        "key": lambda: bao.Mode.keyed(bytes.fromhex(rest)),
+        "context": lambda: bao.Mode.derived(rest.encode()),
+    }[kind]()
+
+
+def runs(replies):
+    """Equal replies that follow one another, each with the numbers from its first to its last."""
+    found = []
+    for k, reply in enumerate(replies):
+        if found and found[-1][2] == reply:
+            found[-1][1] = k
+        else:
+            found.append([k, k, reply])
+    return [f"{first} to {last}: {reply}" for first, last, reply in found]
+
+
+class Texts:
+    """Texts encoded, cut, changed, checked and audited."""
+
+    FAULTS = [
+        "201 201 too long",
+        "401 401 memory",
+        "401 401 memory",
+        "402 402 writer failed after 1000 bytes",
+        "501 501 short at 0",
+        "502 502 mismatch at 136",
+        "503 503 trailing at 18446744073709551615",
+        "504 504 memory",
+        "505 505 reader",
+        "601 601 other root",
+    ]
+
+    def __init__(self):
+        self.mode, self.blob, self.text, self.root, self.form = bao.Mode(), b"", b"", bytes(32), ("combined",)
+
+    def given(self, form):
+        kind, *numbers = form
+        if kind == "outboard":
+            return bao.outboard_nodes
+        start, count = (0, 2**64 - 1) if kind == "combined" else map(int, numbers[:2])
+        return lambda length: bao.slice_nodes(length, start, count)
+
+    def checked(self, text=None):
+        return bao.checked(self.mode, self.root, self.text if text is None else text, self.given(self.form), self.form[0] == "stream")
+
+    def verdict(self, text):
+        try:
+            length, found, end = self.checked(text)
+        except bao.Fault as fault:
+            return f"{fault}, {self.unread(fault.at, text)} bytes left" if self.form[0] == "stream" else str(fault)
+        if self.form[0] == "outboard":
+            return f"accepted: claims {length}"
+        chunks = [it.number for it in found if not it.is_parent]
+        last = max(chunks) == bao.chunks_of(length) - 1
+        said = f"accepted: claims {length}, chunks {min(chunks)} to {max(chunks)}, {f'length {length}' if last else 'no length'}"
+        return f"{said}, {len(text) - end} bytes left" if self.form[0] == "stream" else said
+
+    def unread(self, at, text):
+        """How many bytes a reader has left after the node at this place, where a fault was found: each is read whole first."""
+        for it in self.given(self.form)(int.from_bytes(text[:8], "little")):
+            if it.offset == at:
+                return max(0, len(text) - it.offset - it.size)
+        return 0
+
+    def part(self, at, length):
+        return told(self.text[at : at + length])
+
+    def node(self, is_right):
+        try:
+            _, found, _ = self.checked()
+        except bao.Fault as fault:
+            return str(fault)
+        parts = [self.part(it.offset, it.size) for it in found if is_right(it)]
+        return parts[0] if parts else "none"
+
+    def changed(self, text):
+        self.text = text
+        return told(text)
+
+    def do(self, name, rest):
+        words = rest.split(" ") if rest else []
+        numbers = [int(it) for it in words if it.isdigit()]
+        text = self.text
+        match name:
+            case "mode":
+                self.mode = mode_of(rest)
+            case "blob":
+                self.blob = blob_of(numbers[0])
+            case "bytes":
+                self.blob = bytes.fromhex(rest)
+            case "root":
+                self.root = self.mode.hash(self.blob) if rest == "blob" else bytes.fromhex(rest)
+            case "hash" | "pieces":
+                return [self.mode.hash(self.blob).hex()]
+            case "output":
+                return [self.mode.output(self.blob, numbers[0], numbers[1]).hex()]
+            case "sizes":
+                whole = 8 + 64 * (bao.chunks_of(numbers[0]) - 1)
+                return [f"combined {whole + numbers[0]}, outboard {whole}"]
+            case "combined" | "outboard" | "slice":
+                make = {"combined": bao.combined, "outboard": bao.outboard, "slice": bao.slice_text}[name]
+                self.root = self.mode.hash(self.blob)
+                return [self.root.hex(), self.changed(make(self.mode, self.blob, *numbers))]
+            case "cut":
+                return [self.changed(bao.cut(text, *numbers))]
+            case "keep":
+                return [self.changed(text[: numbers[0]])]
+            case "flip":
+                return [self.changed(text[: numbers[0]] + bytes([text[numbers[0]] ^ 1]) + text[numbers[0] + 1 :])]
+            case "append":
+                return [self.changed(text + bytes.fromhex(rest))]
+            case "claim":
+                return [self.changed(numbers[0].to_bytes(8, "little") + text[8:])]
+            case "swap":
+                a, b, count = numbers
+                return [self.changed(text[:a] + text[b : b + count] + text[a + count : b] + text[a : a + count] + text[b + count :])]
+            case "text":
+                return [self.changed(bytes.fromhex(rest))]
+            case "check":
+                self.form = tuple(words)
+                return [self.verdict(text)]
+            case "chunk":
+                return [self.node(lambda it: not it.is_parent and it.number == numbers[0])]
+            case "parent":
+                return [self.node(lambda it: it.is_parent and it.number + bao.left_len(it.length) // bao.CHUNK_LEN == numbers[0])]
+            case "leaf":
+                return [self.leaf(numbers[0])]
+            case "cuts":
+                return runs(self.verdict(text[:k]) for k in range(len(text)))
+            case "flips":
+                return runs(self.verdict(text[:k] + bytes([text[k] ^ 1]) + text[k + 1 :]) for k in range(len(text)))
+            case "audit":
+                return [self.audit()]
+            case "faults":
+                return self.FAULTS
+            case _:
+                sys.exit(f"scenarios: no command {name}")
+        return []
+
+    def leaf(self, number):
+        """The half of a parent that stands for the chunk, in an accepted outboard encoding."""
+        _, found, _ = self.checked()
+        for it in found:
+            left = bao.left_len(it.length)
+            for half, first, count in ((0, it.number, left), (32, it.number + left // bao.CHUNK_LEN, it.length - left)):
+                if first == number and count <= bao.CHUNK_LEN:
+                    return self.text[it.offset + half :][:32].hex()
+        return "none"
+
+    def audit(self):
+        length, found, _ = self.checked()
+        if self.mode.hash(self.blob) != self.root:
+            return "601 other root"
+        for it in found:
+            at = it.number * bao.CHUNK_LEN
+            if not it.is_parent and self.text[it.offset : it.offset + it.size] != self.blob[at : at + bao.CHUNK_LEN]:
+                sys.exit("scenarios: two inputs have one chaining value")
+        return "agrees"
+
+
+GROUP_LEN = 64
+MAX_CAPACITY = 65536
+# A byte that a buffer for a read has before.
+UNREAD = 9
+
+
+class Piece:
+    """An accepted slice of a blob, with its chunks and the length that it certifies, if it does."""
+
+    def __init__(self, mode, blob, start, count):
+        self.mode, self.root, self.start, self.count = mode, mode.hash(blob), start, count
+        self.read(bao.slice_text(mode, blob, start, count))
+
+    def read(self, text):
+        self.text = text
+        self.length, found, _ = bao.checked(self.mode, self.root, text, lambda length: bao.slice_nodes(length, self.start, self.count))
+        self.chunks = {it.number: text[it.offset : it.offset + it.size] for it in found if not it.is_parent}
+        self.is_last = bao.chunks_of(self.length) - 1 in self.chunks
+
+
+class Draw:
+    """Numbers by a linear congruence."""
+
+    def __init__(self, seed):
+        self.state = seed
+
+    def word(self):
+        self.state = (self.state * 6364136223846793005 + 1442695040888963407) % 2**64
+        return self.state >> 32
+
+    def below(self, end):
+        return self.word() % end
+
+    def mask(self):
+        """Each bit is set in one of four."""
+        return (self.word() << 32 | self.word()) & (self.word() << 32 | self.word())
+
+
+class Stores:
+    """A store of one blob's chunks: which are held, which seat claims which, and the length once it is known."""
+
+    FAULTS = [
+        "701 701 memory",
+        "803 803 no group",
+        "804 804 other root",
+        "802 802 capacity",
+        "701 memory",
+        "702 illegal step 7",
+        "802 capacity",
+        "801 801 memory",
+        "802 802 capacity",
+        "803 803 no group",
+        "804 804 other root",
+    ]
+
+    def __init__(self):
+        self.mode, self.blob, self.pieces = bao.Mode(), b"", {}
+        self.capacity = 0
+
+    def open(self, capacity):
+        if not 1 <= capacity <= MAX_CAPACITY:
+            return "802 capacity"
+        self.capacity, self.of, self.root = capacity, self.mode, self.mode.hash(self.blob)
+        self.held, self.claims, self.length, self.seats = {}, {}, None, 1
+        return f"groups {self.groups()}"
+
+    def groups(self):
+        return -(-self.capacity // GROUP_LEN)
+
+    def chunks(self, group, mask):
+        """The chunks of a mask that the store has room for."""
+        first = GROUP_LEN * group
+        return [first + j for j in range(GROUP_LEN) if mask >> j & 1 and first + j < self.capacity]
+
+    def mask(self, group, chunks):
+        return sum(1 << it - GROUP_LEN * group for it in chunks)
+
+    def take(self, seat, group, want):
+        if group >= self.groups():
+            return "803 no group"
+        free = [it for it in self.chunks(group, want) if it not in self.held and it not in self.claims]
+        self.claims.update((it, seat) for it in free)
+        return f"granted {self.mask(group, free):x}"
+
+    def give(self, seat, group, mask):
+        given = [it for it in self.chunks(group, mask) if self.claims.get(it) == seat]
+        for it in given:
+            del self.claims[it]
+        return f"given {self.mask(group, given):x}"
+
+    def commit(self, seat, group, piece):
+        if (piece.root, piece.mode) != (self.root, self.of):
+            return "804 other root"
+        stored = [it for it in self.chunks(group, 2**64 - 1) if self.claims.get(it) == seat and it in piece.chunks]
+        for it in stored:
+            del self.claims[it]
+            self.held[it] = piece.chunks[it]
+        return f"committed {self.mask(group, stored):x}"
+
+    def settle(self, piece):
+        if not piece.is_last:
+            return "no tail"
+        if (piece.root, piece.mode) != (self.root, self.of):
+            return "other root"
+        if piece.length > bao.CHUNK_LEN * self.capacity:
+            return "too large"
+        if self.length is None:
+            self.length = piece.length
+            return "settled"
+        return "known" if self.length == piece.length else "differs"
+
+    def read(self, at, count):
+        made = b""
+        while len(made) < count:
+            chunk, rest = divmod(at + len(made), bao.CHUNK_LEN)
+            part = self.held.get(chunk, b"")[rest:]
+            if not part:
+                break
+            made += part[: count - len(made)]
+        said = told(made + bytes([UNREAD]) * (count - len(made)))
+        return said if len(made) == count else f"missing {at + len(made)}, {said}"
+
+    def recorded(self):
+        return "no length" if self.length is None else f"length {self.length}"
+
+    def drawn(self, seed, calls):
+        """Calls of all seats with all pieces, drawn; the replies are told by their hash."""
+        draw, replies, pieces = Draw(seed), [], list(self.pieces.values())
+        for _ in range(calls):
+            seat, group, mask, kind = draw.below(self.seats), draw.below(self.groups() + 1), draw.mask(), draw.below(6)
+            if kind == 0:
+                replies.append(self.take(seat, group, mask))
+            elif kind == 1:
+                replies.append(self.give(seat, group, mask))
+            elif kind == 2:
+                replies.append(self.recorded())
+            elif kind == 3:
+                replies.append(self.read(draw.below(bao.CHUNK_LEN * self.capacity), draw.below(3000)))
+            elif kind == 4:
+                replies.append(self.commit(seat, group, pieces[draw.below(len(pieces))]))
+            else:
+                replies.append(self.settle(pieces[draw.below(len(pieces))]))
+        return f"{calls} replies {digest(''.join(f'{it}{chr(10)}' for it in replies).encode())}"
+
+    def do(self, name, rest):
+        words = rest.split(" ") if rest else []
+        numbers = [int(it) for it in words if it.isdigit()]
+        match name:
+            case "mode":
+                self.mode = mode_of(rest)
+                return []
+            case "blob":
+                self.blob = blob_of(numbers[0])
+                return []
+            case "bytes":
+                self.blob = bytes.fromhex(rest)
+                return []
+            case "store":
+                return [self.open(numbers[0])]
+            case "piece":
+                self.pieces[words[0]] = Piece(self.mode, self.blob, int(words[1]), int(words[2]))
+                return [told(self.pieces[words[0]].text)]
+            case "claim":
+                piece = self.pieces[words[0]]
+                piece.read(int(words[1]).to_bytes(8, "little") + piece.text[8:])
+                return [f"accepted: claims {piece.length}"]
+            case "split":
+                self.seats += 1
+                return [f"seat {self.seats - 1}"]
+            case "join":
+                first, second = numbers
+                self.claims = {it: first if seat == second else seat for it, seat in self.claims.items()}
+                return []
+            case "meet" | "drop":
+                return []
+            case "take":
+                return [self.take(int(words[0]), int(words[1]), int(words[2], 16))]
+            case "give":
+                return [self.give(int(words[0]), int(words[1]), int(words[2], 16))]
+            case "commit":
+                return [self.commit(int(words[0]), int(words[1]), self.pieces[words[2]])]
+            case "settle":
+                return [self.settle(self.pieces[words[1]])]
+            case "length":
+                return [self.recorded()]
+            case "read":
+                return [self.read(numbers[1], numbers[2])]
+            case "held":
+                return [f"held {len(self.held)}"]
+            case "faults":
+                return self.FAULTS
+            case "drawn":
+                return [self.drawn(*numbers)]
+            case _:
+                sys.exit(f"scenarios: no command {name}")
+
+
+class Refused(Exception):
+    """Why the program ends without its result: its status, and what it says."""
+
+    def __init__(self, status, said):
+        super().__init__(said)
+        self.status = status
+
+
+class Schedule:
+    """A schedule of steps on a store's words, by seats that claim chunks, write their cells, publish them and read."""
+
+    CELL_LEN, MOST_READ = 129, 65536
+    FORMS = {"claim": "nnm", "hash": "nfmm", "write": "nnb", "fill": "nn", "publish": "nn", "give": "nnm", "load": "nmn", "settle": "n", "length": "n"}
+    BITS = {"n": 32, "m": 64, "b": 8, "f": 64}
+
+    def __init__(self, mode, root, capacity, script, files):
+        self.mode, self.root, self.capacity, self.files = mode, root, capacity, files
+        self.lines = [(k, self.line(k, it)) for k, it in enumerate(script.split(b"\n"), 1) if it]
+        self.pieces = {k: self.piece(k, *numbers[1:]) for k, (name, numbers) in self.lines if name == "hash"}
+        self.current, self.written, self.reads = {}, {}, {}
+        self.store = Stores()
+        self.store.capacity, self.store.of, self.store.root = capacity, mode, root
+        self.store.held, self.store.claims, self.store.length = {}, {}, None
+
+    def line(self, k, line):
+        name, *words = line.decode("latin-1").split(" ")
+        form = self.FORMS.get(name)
+        if form is None or len(form) != len(words) or not all(it.isascii() and it.isdigit() for it in words):
+            raise Refused(2, f"usage: script line {k}")
+        numbers = [int(it) for it in words]
+        if any(it >> self.BITS[kind] for kind, it in zip(form, numbers)) or name == "hash" and numbers[1] >= len(self.files):
+            raise Refused(2, f"usage: script line {k}")
+        return name, numbers
+
+    def piece(self, k, file, start, count):
+        made = object.__new__(Piece)
+        made.mode, made.root, made.start, made.count = self.mode, self.root, start, count
+        try:
+            made.read(bao.cut(self.files[file], start, count))
+        except bao.Fault as fault:
+            raise Refused(1, f"line {k}: {fault}") from None
+        return made
+
+    def has_group(self, group):
+        return group < self.store.groups()
+
+    def publishable(self, seat, group):
+        """The chunks of the group that the seat claims and its piece holds."""
+        chunks = self.store.chunks(group, 2**64 - 1)
+        return [it for it in chunks if self.store.claims.get(it) == seat and it in self.current[seat].chunks]
+
+    def step(self, name, numbers, k):
+        """The reply of a step, None where it has none, or False where it isn't legal."""
+        store, seat = self.store, numbers[0]
+        written = self.written.setdefault(seat, set())
+        if name == "claim":
+            return self.has_group(numbers[1]) and store.take(seat, numbers[1], numbers[2])
+        if name == "hash":
+            self.current[seat] = self.pieces[k]
+            written.clear()
+            return None
+        if name in ("write", "fill"):
+            chunk, places = numbers[1], range(self.CELL_LEN) if name == "fill" else [numbers[2]]
+            is_own = store.claims.get(chunk) == seat and seat in self.current and chunk in self.current[seat].chunks
+            if not is_own or places[0] >= self.CELL_LEN:
+                return False
+            written.update((chunk, it) for it in places)
+            return None
+        if name == "publish":
+            if not self.has_group(numbers[1]) or seat not in self.current:
+                return False
+            if any((chunk, it) not in written for chunk in self.publishable(seat, numbers[1]) for it in range(self.CELL_LEN)):
+                return False
+            return store.commit(seat, numbers[1], self.current[seat])
+        if name == "give":
+            if not self.has_group(numbers[1]):
+                return False
+            had = set(store.claims)
+            said = store.give(seat, numbers[1], numbers[2])
+            gone = had - set(store.claims)
+            self.written[seat] = {it for it in written if it[0] not in gone}
+            return said
+        if name == "load":
+            return self.load(seat, numbers[1], numbers[2])
+        if name == "settle":
+            return seat in self.current and self.current[seat].is_last and store.settle(self.current[seat])
+        return store.recorded()
+
+    def load(self, seat, at, count):
+        """One load of a read: it copies what is held in the group of its place."""
+        if count > self.MOST_READ or seat in self.reads and self.reads[seat][:2] != (at, count):
+            return False
+        made = self.reads.pop(seat, (at, count, b""))[2]
+        end = self.store.capacity * bao.CHUNK_LEN
+        group = (at + len(made)) // bao.CHUNK_LEN // GROUP_LEN
+        while len(made) < count:
+            chunk, rest = divmod(at + len(made), bao.CHUNK_LEN)
+            if at + len(made) < end and chunk // GROUP_LEN != group:
+                self.reads[seat] = (at, count, made)
+                return None
+            part = self.store.held.get(chunk, b"")[rest:]
+            if not part:
+                return f"missing {at + len(made)}"
+            made += part[: min(count - len(made), GROUP_LEN * bao.CHUNK_LEN * (group + 1) - at - len(made))]
+        return f"bytes {made.hex()}".strip()
+
+    def run(self):
+        said = []
+        for k, (name, numbers) in self.lines:
+            reply = self.step(name, numbers, k)
+            if reply is False:
+                raise Refused(1, f"702 illegal step at line {k}")
+            if reply is not None:
+                said.append(f"{k} {self.worded(reply)}")
+        return "".join(f"{it}\n" for it in [*said, f"held {len(self.store.held)}"])
+
+    def worded(self, reply):
+        """The reply as a schedule's text has it: masks are decimal."""
+        name, _, rest = reply.partition(" ")
+        if name in ("granted", "given", "committed"):
+            return f"{name} {int(rest, 16)}"
+        return {"no length": "length none", "too large": "toolarge"}.get(reply, reply)
+
+
+class Programs:
+    """The program `bao_gather` over files, by its words."""
+
+    CONTEXT_SPACE, MOST_FILES = "_", 64
+
+    def __init__(self):
+        self.files, self.digits = {}, ""
+
+    def read(self, file):
+        if file not in self.files:
+            raise Refused(3, f"cannot read {file}")
+        return self.files[file]
+
+    def write(self, file, data):
+        if "/" in file:
+            raise Refused(3, f"cannot write {file}")
+        self.files[file] = data
+
+    def root_of(self, digits):
+        if len(digits) != 64 or not set(digits) <= set("0123456789abcdefABCDEF"):
+            raise Refused(2, "usage: root is not 64 hexadecimal digits")
+        return bytes.fromhex(digits)
+
+    def mode_of(self, key, context):
+        if key is not None and (len(key) != 64 or not set(key) <= set("0123456789abcdefABCDEF")):
+            raise Refused(2, "usage: key is not 64 hexadecimal digits")
+        if key is not None and context is not None:
+            raise Refused(2, "usage: key and context exclude each other")
+        if key is not None:
+            return bao.Mode.keyed(bytes.fromhex(key))
+        return bao.Mode() if context is None else bao.Mode.derived(context.encode())
+
+    def run(self, words):
+        """What the program prints on its two streams, after its status."""
+        options, plain, words = {"--at": "0", "--length": "32", "--workers": "4", "--capacity": "65536"}, [], list(words)
+        while words:
+            word = words.pop(0)
+            if word == "--encode":
+                options[word] = ""
+            elif word.startswith("--"):
+                options[word] = words.pop(0)
+            else:
+                plain.append(word)
+        name, *given = plain
+        try:
+            root = self.root_of(given[0]) if name in ("decode", "decode-slice", "gather", "replay") else None
+            mode = self.mode_of(options.get("--key"), options.get("--context"))
+            return [f"status {0}", *(f"out: {it}" for it in getattr(self, name.replace("-", "_"))(mode, root, options, given).splitlines())]
+        except Refused as fault:
+            return [f"status {fault.status}", f"err: bao_gather: {fault}"]
+
+    def hash(self, mode, root, options, given):
+        at, length = int(options["--at"]), int(options["--length"])
+        if at + length > 2**64 - 1:
+            raise Refused(2, "usage: output range too large")
+        return mode.output(self.read(given[0]), at, length).hex()
+
+    def encoded(self, mode, file, out, make):
+        blob = self.read(file)
+        self.write(out, make(blob))
+        return mode.hash(blob).hex()
+
+    def encode(self, mode, root, options, given):
+        return self.encoded(mode, *given, lambda blob: bao.combined(mode, blob))
+
+    def outboard(self, mode, root, options, given):
+        return self.encoded(mode, *given, lambda blob: bao.outboard(mode, blob))
+
+    def slice(self, mode, root, options, given):
+        start, count, file, out = given
+        return self.encoded(mode, file, out, lambda blob: bao.slice_text(mode, blob, int(start), int(count)))
+
+    def decode(self, mode, root, options, given):
+        return self.decoded(mode, root, 0, None, *given[1:])
+
+    def decode_slice(self, mode, root, options, given):
+        return self.decoded(mode, root, int(given[1]), int(given[2]), *given[3:])
+
+    def decoded(self, mode, root, start, count, file, out):
+        text, asked = self.read(file), 2**64 - 1 if count is None else count
+        try:
+            length, found, _ = bao.checked(mode, root, text, lambda length: bao.slice_nodes(length, start, asked))
+        except bao.Fault as fault:
+            raise Refused(1, str(fault)) from None
+        first, last = (0, length) if count is None else (min(start, length), min(start + count, length))
+        made = b""
+        for it in found:
+            if not it.is_parent:
+                at = it.number * bao.CHUNK_LEN
+                made += text[it.offset + max(first - at, 0) : it.offset + max(0, min(last - at, it.size))]
+        self.write(out, made)
+        return f"ok {last - first}"
+
+    def gather(self, mode, root, options, given):
+        out, files = given[1], given[2:]
+        if len(files) > self.MOST_FILES:
+            raise Refused(2, "usage: too many files")
+        texts = [self.files[it] for it in files if it in self.files]
+        if not texts:
+            raise Refused(3, f"cannot read {files[0]}")
+        capacity, held, length = int(options["--capacity"]), {}, None
+        for piece in self.pieces(mode, root, texts, 2**64 - 1, 1):
+            if piece.length > bao.CHUNK_LEN * capacity:
+                raise Refused(1, "805 too large")
+            length = piece.length
+            break
+        if length is None:
+            raise Refused(1, "901 unfinished")
+        group_bytes = GROUP_LEN * bao.CHUNK_LEN
+        for group in range(-(-bao.chunks_of(length) // GROUP_LEN)):
+            for piece in self.pieces(mode, root, texts, group_bytes * group, group_bytes):
+                held.update(piece.chunks)
+                break
+        blob = b"".join(held.get(k, b"") for k in range(bao.chunks_of(length)))
+        if len(blob) != length:
+            raise Refused(1, "901 unfinished")
+        if mode.hash(blob) != root:
+            raise Refused(1, "902 not the root")
+        self.write(out, bao.combined(mode, blob) if "--encode" in options else blob)
+        return f"ok {length}"
+
+    def pieces(self, mode, root, texts, start, count):
+        """The accepted slices of these texts."""
+        for text in texts:
+            made = object.__new__(Piece)
+            made.mode, made.root, made.start, made.count = mode, root, start, count
+            try:
+                made.read(bao.cut(text, start, count))
+            except bao.Fault:
+                continue
+            yield made
+
+    def replay(self, mode, root, options, given):
+        if len(given) - 2 > self.MOST_FILES:
+            raise Refused(2, "usage: too many files")
+        script, *files = [self.read(it) for it in given[1:]]
+        return Schedule(mode, root, int(options["--capacity"]), script, files).run()
+
+    def do(self, name, rest):
+        words = rest.split(" ") if rest else []
+        file = words[0]
+        match name:
+            case "blob":
+                self.files[file] = blob_of(int(words[1]))
+            case "bytes":
+                self.files[file] = bytes.fromhex(words[1] if len(words) > 1 else "")
+            case "steps":
+                self.files[file] = rest.partition(" ")[2].replace(";", "\n").encode()
+            case "add":
+                self.files[file] += rest.partition(" ")[2].replace(";", "\n").encode()
+            case "fills":
+                self.files[file] += b"".join(b"\nfill %d %d" % (int(words[1]), k) for k in range(int(words[2]))) + b"\n"
+            case "copy":
+                self.files[words[1]] = self.files[file][: int(words[2])]
+            case "flip":
+                at, data = int(words[1]), self.files[file]
+                self.files[file] = data[:at] + bytes([data[at] ^ 1]) + data[at + 1 :]
+            case "append":
+                self.files[file] += bytes.fromhex(words[1])
+            case "claim":
+                self.files[file] = int(words[1]).to_bytes(8, "little") + self.files[file][8:]
+            case "remove":
+                for it in words:
+                    del self.files[it]
+            case "show":
+                return [told(self.files[file]) if file in self.files else "none"]
+            case "run":
+                replies = self.run([(self.digits if it == "$" else it).replace(self.CONTEXT_SPACE, " ") for it in words])
+                printed = replies[1][5:] if len(replies) > 1 and replies[1].startswith("out: ") else ""
+                self.digits = printed if len(printed) == 64 else self.digits
+                return replies
+            case _:
+                sys.exit(f"scenarios: no command {name}")
+        return []
+
+
+SCENARIOS = {"text_scenarios": Texts, "store_scenarios": Stores, "program_scenarios": Programs}
+
+
+def replies(kind, script):
+    """The script with the replies to its commands."""
+    state, made = kind(), []
+    for line in script.splitlines():
+        made.append(line)
+        if line and not line.startswith("#"):
+            name, _, rest = line.partition(" ")
+            made += [f"    {it}" for it in state.do(name, rest)]
+    return "".join(f"{it}\n" for it in made)
+
+
+def disagreements(file):
+    """How many of these rows, made by another program, the definitions don't give."""
+    modes = {"hash": "plain", "keyed": "key 77686174732074686520456c7669736820776f726420666f7220667269656e64"}
+    modes["derive"] = "context BLAKE3 2019-12-27 16:29:52 test vectors context"
+    with open(file, encoding="utf-8") as it:
+        rows = [line.split() for line in it if not line.startswith("#")]
+    return sum(mode_of(modes[mode]).output(blob_of(int(length)), 0, len(digits) // 2).hex() != digits for mode, length, digits in rows)
+
+
+def main(words):
+    if words not in ([], ["--write"]):
+        sys.exit(__doc__)
+    wrong = disagreements(f"{os.path.dirname(__file__)}/b3sum.tsv")
+    if wrong:
+        print(f"{wrong} rows of b3sum.tsv aren't what the definitions give")
+    for name, kind in SCENARIOS.items():
+        with open(f"crates/{name}/stdin", encoding="utf-8") as it:
+            made = replies(kind, it.read())
+        file = f"crates/{name}/stdout"
+        if words:
+            with open(file, "w", encoding="utf-8") as it:
+                it.write(made)
+            continue
+        with open(file, encoding="utf-8") as it:
+            had = it.read()
+        lines = zip(had.splitlines(), made.splitlines())
+        at = next((k for k, (ours, theirs) in enumerate(lines, 1) if ours != theirs), None)
+        if had != made:
+            print(f"{file} isn't what the definitions give{f', first at line {at}' if at else ''}")
+            wrong += 1
+        else:
+            print(f"{file} is what the definitions give")
+    return 1 if wrong else 0
+
+
+if __name__ == "__main__":
+    sys.exit(main(sys.argv[1:]))
