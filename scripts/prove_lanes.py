@@ -48,7 +48,7 @@ def main(name):
                     print(f"{len(ready)} of {len(below)}: {crate.name}{count} proved", flush=True)
             return not status
 
-        return [(it.name, "proof") for it in crate.below()], crate.count(rb"\n"), crate.need(), call
+        return [(it.name, "proof") for it in crate.below()], crate.count(rb"\n"), rt.need(crate), call
 
     given = rt.in_lanes({(it.name, "proof"): task(it) for it in below})
     for it in held:

@@ -515,13 +515,26 @@ class Schedule:
         return {"no length": "length none", "too large": "toolarge"}.get(reply, reply)
 
 
+def written(file):
+    """The replies that a file has by hand, by the line of each command."""
+    found = {}
+    with open(f"{os.path.dirname(__file__)}/{file}", encoding="utf-8") as it:
+        for line in it.read().splitlines():
+            if line.startswith("    "):
+                found[command].append(line[4:])
+            elif line and not line.startswith("#"):
+                command = line
+                found[command] = []
+    return found
+
+
 class Programs:
     """The program `bao_gather` over files, by its words."""
 
     CONTEXT_SPACE, MOST_FILES = "_", 64
 
     def __init__(self):
-        self.files, self.digits = {}, ""
+        self.files, self.digits, self.written = {}, "", written("clap.txt")
 
     def read(self, file):
         if file not in self.files:
@@ -654,7 +667,7 @@ class Programs:
         return Schedule(mode, root, int(options["--capacity"]), script, files).run()
 
     def do(self, name, rest):
-        words = rest.split(" ") if rest else []
+        words = rest.split(" ")
         file = words[0]
         match name:
             case "blob":
@@ -681,6 +694,8 @@ class Programs:
                     del self.files[it]
             case "show":
                 return [told(self.files[file]) if file in self.files else "none"]
+            case "run" if f"run {rest}".rstrip() in self.written:
+                return self.written[f"run {rest}".rstrip()]
             case "run":
                 replies = self.run([(self.digits if it == "$" else it).replace(self.CONTEXT_SPACE, " ") for it in words])
                 printed = replies[1][5:] if len(replies) > 1 and replies[1].startswith("out: ") else ""

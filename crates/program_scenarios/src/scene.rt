@@ -28,10 +28,18 @@ fn given(alloc: Global, digits: &str, word: &str) -> Result<String> {
     Ok(made)
 }
 
-// The lines of a stream, each behind its name.
+// The lines of a stream, each behind its name. A last line without its end is told.
 fn lines_of(said: &mut String, name: &str, printed: &[u8]) -> Result<()> {
-    for line in str::from_utf8(printed)?.lines() {
-        write!(said, "{name}: {line}\n")?;
+    let text = str::from_utf8(printed)?;
+    for line in text.lines() {
+        if line.is_empty() {
+            write!(said, "{name}:\n")?;
+        } else {
+            write!(said, "{name}: {line}\n")?;
+        }
+    }
+    if !text.is_empty() && !text.ends_with('\n') {
+        write!(said, "{name} without a line end\n")?;
     }
     Ok(())
 }
@@ -53,6 +61,7 @@ impl Scene {
         let (name, rest) = line.split_once(' ').unwrap_or((line, ""));
         let words: Vec<&str> = rest.split(' ').collect(alloc)?;
         match (name, words.as_slice()) {
+            ("run", [""]) => return self.run(rt, &[]),
             ("run", words) => return self.run(rt, words),
             ("show", [file]) => return told(rt, file),
             ("steps" | "add" | "fills", [file, ..]) => {

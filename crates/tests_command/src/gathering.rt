@@ -7,12 +7,6 @@ use std::io::ErrorKind;
 use std::test::Fail;
 use std::{fs, process};
 
-// The hashes of the bytes i mod 251, 3,000 of them, in hash mode, under the key and for the context, by `b3sum`
-// 1.2.0.
-const ROOT: &str = "5fade288bf27444bee55ba2babb98c3c922c1e84c2e445e7d1f6da24756f5060";
-
-const MISSING: &str = "/tmp/missing/file";
-
 // A text of nodes, with the length that it claims.
 fn text_of(alloc: Global, len: u64, nodes: &[&[u8]]) -> Result<Vec<u8>, Fail> {
     let mut text = Vec::new(alloc);
@@ -79,58 +73,6 @@ fn a_root_of_no_blob(rt: HostRuntime) -> Result<(), Fail> {
     fs::remove_file(&rt, begins)?;
     fs::remove_file(&rt, ends)?;
     Ok(())
-}
-
-#[test]
-fn words_of_gather(rt: HostRuntime) -> Result<(), Fail> {
-    let files = "error: the following required arguments were not provided:
-  <FILE>...
-
-Usage: bao_gather gather <ROOT> <OUT> <FILE>...
-
-For more information, try '--help'.
-";
-    expect(&rt, &["gather", ROOT, MISSING], 2, "", files)?;
-    for (capacity, told) in [("0", "0"), ("65537", "65537")] {
-        let line = format!(in rt.alloc();
-            "error: invalid value '{capacity}' for '--capacity <N>': {told} is not in 1..=65536
-
-For more information, try '--help'.
-"
-        )?;
-        let given = ["gather", "--capacity", capacity, ROOT, MISSING, MISSING];
-        expect(&rt, &given, 2, "", line.as_str())?;
-    }
-    for workers in ["0", "65"] {
-        let line = format!(in rt.alloc();
-            "error: invalid value '{workers}' for '--workers <N>': {workers} is not in 1..=64
-
-For more information, try '--help'.
-"
-        )?;
-        let given = ["gather", "--workers", workers, "00", MISSING, MISSING];
-        expect(&rt, &given, 2, "", line.as_str())?;
-    }
-    let root = "bao_gather: usage: root is not 64 hexadecimal digits\n";
-    expect(&rt, &["gather", "00", MISSING, MISSING], 2, "", root)?;
-    let help = "Gathers the blob with a root out of combined Bao encodings, and writes it
-
-Usage: bao_gather gather [OPTIONS] <ROOT> <OUT> <FILE>...
-
-Arguments:
-  <ROOT>     The hash of the blob, 64 hexadecimal digits
-  <OUT>      The file to write
-  <FILE>...  The holders' combined Bao encodings, 1 to 64 files
-
-Options:
-      --workers <N>     How many workers gather, 1 to 64 [default: 4]
-      --capacity <N>    How many chunks of 1024 bytes the blob may have, 1 to 65536 [default: 65536]
-      --encode          Writes the blob's combined Bao encoding in place of the blob
-      --key <HEX>       Hashes under this key, 64 hexadecimal digits
-      --context <TEXT>  Derives keys for this context
-  -h, --help            Print help
-";
-    expect(&rt, &["gather", "--help"], 0, help, "")
 }
 
 // Writers that fail, after a beginning of the blob or of its encoding, and one that can't be flushed.

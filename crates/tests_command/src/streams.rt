@@ -1,25 +1,15 @@
 use bao_command::{command, own_words};
-use bao_files::{ReadFault, read_whole};
 use std::alloc::Global;
 use std::env::FillError;
 use std::fs::File;
-use std::io::{ErrorKind, Read, Write};
+use std::io::{ErrorKind, Write};
 use std::process::Abort;
 use std::rt::{Env, Files};
 use std::test::Fail;
 use std::thread::Threads;
 use std::{fs, io, process, str};
 
-pub(crate) const EMPTY: &str = "af1349b9f5f9a1a6a0404dea36dcc9499bcb25c9adc112b7cc9a93cae41f3262\n";
-
 const ABC: &str = "6437b3ac38465133ffb63b75273a8db548c558465d79db03fd359c6cd5bd9d85\n";
-
-// The hashes of the bytes i mod 251, 2^20 + 1 of them, and of `abc` and a line end, by `b3sum` 1.2.0.
-pub(crate) const LARGE: &str = "2f053cd7472cf0cd2f9adaf45c1180255b91b9a865404a63671a0ee5f792ed33\n";
-
-pub(crate) const KEY: &str = "77686174732074686520456c7669736820776f726420666f7220667269656E64";
-
-pub(crate) const CONTEXT: &str = "BLAKE3 2019-12-27 16:29:52 test vectors context";
 
 // Takes at most `room` bytes, then answers one write by a fault of this kind and takes all after it, so that a
 // write too many shows. It can't be flushed where `stuck`.
@@ -58,31 +48,6 @@ pub(crate) fn failing(alloc: Global, room: usize, kind: ErrorKind) -> Broken {
         room,
         kind,
         stuck: false,
-    }
-}
-
-// Gives `left` bytes 7, at most 1,000 a call, and answers one read by a fault of this kind after `before` calls.
-#[derive(Drop)]
-struct Dripping {
-    left: usize,
-    before: u32,
-    kind: Option<ErrorKind>,
-}
-
-impl Read for Dripping {
-    fn read(&mut self, buf: &mut [u8]) -> io::Result<usize> {
-        if self.before == 0 {
-            if let Some(kind) = self.kind.take() {
-                return Err(io::Error::from(kind));
-            }
-        }
-        self.before = self.before.saturating_sub(1);
-        let count = buf.len().min(self.left).min(1000);
-        for byte in buf[..count].iter_mut() {
-            *byte = 7;
-        }
-        self.left -= count;
-        Ok(count)
     }
 }
 
@@ -183,110 +148,6 @@ fn a_file_of_no_size_is_read_whole(rt: HostRuntime) -> Result<(), Fail> {
 }
 
 #[test]
-fn faults_of_words(rt: HostRuntime) -> Result<(), Fail> {
-    let none = "error: 'bao_gather' requires a subcommand but one was not provided
-  [subcommands: hash, encode, outboard, slice, decode, decode-slice, gather, replay, help]
-
-Usage: bao_gather <COMMAND>
-
-For more information, try '--help'.
-";
-    expect(&rt, &[], 2, "", none)?;
-    let unknown = "error: unrecognized subcommand 'fetch'
-
-Usage: bao_gather <COMMAND>
-
-For more information, try '--help'.
-";
-    expect(&rt, &["fetch"], 2, "", unknown)?;
-    let many = "error: unexpected argument 'b' found
-
-Usage: bao_gather hash [OPTIONS] <FILE>
-
-For more information, try '--help'.
-";
-    expect(&rt, &["hash", "a", "b"], 2, "", many)?;
-    let few = "error: the following required arguments were not provided:
-  <FILE>
-
-Usage: bao_gather hash <FILE>
-
-For more information, try '--help'.
-";
-    expect(&rt, &["hash"], 2, "", few)?;
-    let length = "error: invalid value '65537' for '--length <N>': 65537 is not in 1..=65536
-
-For more information, try '--help'.
-";
-    expect(&rt, &["hash", "--length", "65537", "a"], 2, "", length)?;
-    let start =
-        "error: invalid value '18446744073709551616' for '<START>': number too large to fit in target type
-
-For more information, try '--help'.
-";
-    expect(
-        &rt,
-        &["slice", "18446744073709551616", "1", "a", "b"],
-        2,
-        "",
-        start,
-    )?;
-    Ok(())
-}
-
-#[test]
-fn version_and_help(rt: HostRuntime) -> Result<(), Fail> {
-    expect(&rt, &["--version"], 0, "bao_gather 0.1.0\n", "")?;
-    let help = "Writes the outboard Bao encoding of a file, and prints the hash
-
-Usage: bao_gather outboard [OPTIONS] <FILE> <OUT>
-
-Arguments:
-  <FILE>  The file to encode
-  <OUT>   The file to write
-
-Options:
-      --key <HEX>       Hashes under this key, 64 hexadecimal digits
-      --context <TEXT>  Derives keys for this context
-  -h, --help            Print help
-";
-    expect(&rt, &["outboard", "--help"], 0, help, "")?;
-    let help = "Checks a combined Bao encoding under a root, and writes the blob
-
-Usage: bao_gather decode [OPTIONS] <ROOT> <ENC> <OUT>
-
-Arguments:
-  <ROOT>  The hash of the blob, 64 hexadecimal digits
-  <ENC>   The encoding to check
-  <OUT>   The file to write
-
-Options:
-      --key <HEX>       Hashes under this key, 64 hexadecimal digits
-      --context <TEXT>  Derives keys for this context
-  -h, --help            Print help
-";
-    expect(&rt, &["decode", "--help"], 0, help, "")?;
-    let help = "Checks a Bao slice under a root, and writes its bytes
-
-Usage: bao_gather decode-slice [OPTIONS] <ROOT> <START> <LEN> <SLICE> <OUT>
-
-Arguments:
-  <ROOT>   The hash of the blob, 64 hexadecimal digits
-  <START>  The first byte of the range
-  <LEN>    How many bytes the range has
-  <SLICE>  The slice to check
-  <OUT>    The file to write
-
-Options:
-      --key <HEX>       Hashes under this key, 64 hexadecimal digits
-      --context <TEXT>  Derives keys for this context
-  -h, --help            Print help
-";
-    expect(&rt, &["decode-slice", "--help"], 0, help, "")?;
-    Ok(())
-}
-
-#[test]
 fn faults_of_streams(rt: HostRuntime) -> Result<(), Fail> {
     let file = path(rt.alloc(), process::id(rt.process()), "streams")?;
     let file = file.as_str();
@@ -335,30 +196,6 @@ fn faults_of_standard_error(rt: HostRuntime) -> Result<(), Fail> {
             assert_eq!(rt; err.held.len(), 5);
         }
     }
-    Ok(())
-}
-
-#[test]
-fn reads_to_the_end_or_a_fault(rt: HostRuntime) -> Result<(), Fail> {
-    let mut bytes = Vec::new(rt.alloc());
-    let mut reader = Dripping {
-        left: 700_000,
-        before: 0,
-        kind: None,
-    };
-    assert_eq!(rt; read_whole(&mut reader, &mut bytes), Ok(()));
-    assert_eq!(rt; bytes.len(), 700_000);
-    for kind in [ErrorKind::Other, ErrorKind::Interrupted] {
-        let mut bytes = Vec::new(rt.alloc());
-        let mut reader = Dripping {
-            left: 700_000,
-            before: 3,
-            kind: Some(kind),
-        };
-        assert_eq!(rt; read_whole(&mut reader, &mut bytes), Err(ReadFault::Reader));
-        assert_eq!(rt; bytes.len(), 3000);
-    }
-    assert_ne!(rt; ReadFault::Memory, ReadFault::Reader);
     Ok(())
 }
 

@@ -4,6 +4,4 @@
 #[cfg(test)]
 mod memory;
 #[cfg(test)]
-mod readers;
-#[cfg(test)]
 mod workers;

@@ -1,12 +1,12 @@
 ghost use Rattle.std.specs.Prelude.{IfOk};
 ghost use Rattle.store_shared.specs.Seats.{IsSeatOf};
 
-use crate::workers::{Meeting, blob, shared, split};
+use crate::threads::{blob, split, store};
 use b3tree::{Hash, Mode};
 use bao_check::check_combined;
 use bao_text::combined;
 use std::alloc::Global;
-use std::sync::atomic::Ordering;
+use std::sync::{Barrier, Wait};
 use std::test::Fail;
 use std::thread::{Threads, join};
 use store_core::Missing;
@@ -32,22 +32,23 @@ const TO: usize = 140_000;
 // A byte that no blob of these tests has.
 const UNREAD: u8 = 255;
 
-// Waits before the part with this number, if there is a meeting before it.
-fn meet_before(part: u32, meetings: &[Meeting]) {
-    if let Some(meeting) = meetings.get(part as usize) {
-        meeting.wait();
+// Waits before the part with this number until all have come, if there is a barrier before it.
+fn meet_before<R: Wait>(rt: &R, part: u32, barriers: &[Barrier]) {
+    if let Some(barrier) = barriers.get(part as usize) {
+        barrier.wait(rt);
     }
 }
 
 // Checks the encoding, claims and commits these chunks one by one, and answers how many were the seat's: none where the
 // encoding is refused.
-fn commit_chunks(
+fn commit_chunks<R: Wait>(
+    rt: &R,
     alloc: Global,
     assembly: &Assembly,
     mut seat: Seat,
     encoding: &[u8],
     chunks: (u32, u32),
-    meetings: &[Meeting],
+    barriers: &[Barrier],
 ) -> (Seat, Option<u32>)
     requires { IsSeatOf assembly.now seat }
     ensures { IsSeatOf assembly.now result.0 }
@@ -58,7 +59,7 @@ fn commit_chunks(
     let mut committed = 0u32;
     for chunk in chunks.0..chunks.1 {
         if chunk % PART == 0 {
-            meet_before(chunk / PART, meetings);
+            meet_before(rt, chunk / PART, barriers);
         }
         let group = chunk / 64;
         if let (Ok(_), Ok(mask)) = (
@@ -101,12 +102,13 @@ fn read_right(
 }
 
 // Whether each of many reads of two ranges is right, and none reads less than one before it.
-fn watch(
+fn watch<R: Wait>(
+    rt: &R,
     assembly: &Assembly,
     mut seat: Seat,
     mut out: Vec<u8>,
     bytes: &[u8],
-    meetings: &[Meeting],
+    barriers: &[Barrier],
 ) -> (Seat, bool)
     requires { IsSeatOf assembly.now seat }
     ensures { IsSeatOf assembly.now result.0 }
@@ -117,7 +119,7 @@ fn watch(
     let (mut of_whole, mut of_middle) = (0, 0);
     for round in 0..3 * READS {
         if round % READS == 0 {
-            meet_before(round / READS, meetings);
+            meet_before(rt, round / READS, barriers);
         }
         match read_right(assembly, &mut seat, 0, out.as_mut_slice(), bytes) {
             Some(count) if count >= of_whole => of_whole = count,
@@ -132,13 +134,13 @@ fn watch(
 }
 
 // Two threads commit the chunks of the first three parts, each all of them.
-fn commit_both<R: Threads + Sync>(
+fn commit_both<R: Threads + Wait + Sync>(
     rt: &R,
     assembly: &Assembly,
     one: (Seat, Global),
     two: (Seat, Global),
     encoding: &[u8],
-    meetings: &[Meeting],
+    barriers: &[Barrier],
 ) -> ((Seat, Option<u32>), (Seat, Option<u32>))
     requires { IsSeatOf assembly.now one.0 × IsSeatOf assembly.now two.0 }
     ensures one { IsSeatOf assembly.now result.0.0 }
@@ -149,22 +151,22 @@ fn commit_both<R: Threads + Sync>(
         move || -> (Seat, Option<u32>)
             requires { IsSeatOf assembly.now one.0 }
             ensures { IsSeatOf assembly.entry.now result.0 }
-        { commit_chunks(one.1, assembly, one.0, encoding, (0, 147), meetings) },
+        { commit_chunks(rt, one.1, assembly, one.0, encoding, (0, 147), barriers) },
         move || -> (Seat, Option<u32>)
             requires { IsSeatOf assembly.now two.0 }
             ensures { IsSeatOf assembly.entry.now result.0 }
-        { commit_chunks(two.1, assembly, two.0, encoding, (0, 147), meetings) },
+        { commit_chunks(rt, two.1, assembly, two.0, encoding, (0, 147), barriers) },
     )
 }
 
 // Two threads read.
-fn watch_both<R: Threads + Sync>(
+fn watch_both<R: Threads + Wait + Sync>(
     rt: &R,
     assembly: &Assembly,
     one: (Seat, Vec<u8>),
     two: (Seat, Vec<u8>),
     bytes: &[u8],
-    meetings: &[Meeting],
+    barriers: &[Barrier],
 ) -> ((Seat, bool), (Seat, bool))
     requires { IsSeatOf assembly.now one.0 × IsSeatOf assembly.now two.0 }
     ensures one { IsSeatOf assembly.now result.0.0 }
@@ -175,23 +177,23 @@ fn watch_both<R: Threads + Sync>(
         move || -> (Seat, bool)
             requires { IsSeatOf assembly.now one.0 }
             ensures { IsSeatOf assembly.entry.now result.0 }
-        { watch(assembly, one.0, one.1, bytes, meetings) },
+        { watch(rt, assembly, one.0, one.1, bytes, barriers) },
         move || -> (Seat, bool)
             requires { IsSeatOf assembly.now two.0 }
             ensures { IsSeatOf assembly.entry.now result.0 }
-        { watch(assembly, two.0, two.1, bytes, meetings) },
+        { watch(rt, assembly, two.0, two.1, bytes, barriers) },
     )
 }
 
 // Two threads commit and two read.
-fn commit_and_watch<R: Threads + Sync>(
+fn commit_and_watch<R: Threads + Wait + Sync>(
     rt: &R,
     assembly: &Assembly,
     writers: ((Seat, Global), (Seat, Global)),
     readers: ((Seat, Vec<u8>), (Seat, Vec<u8>)),
     encoding: &[u8],
     bytes: &[u8],
-    meetings: &[Meeting],
+    barriers: &[Barrier],
 ) -> (
     ((Seat, Option<u32>), (Seat, Option<u32>)),
     ((Seat, bool), (Seat, bool)),
@@ -206,11 +208,11 @@ fn commit_and_watch<R: Threads + Sync>(
         move || -> ((Seat, Option<u32>), (Seat, Option<u32>))
             requires { IsSeatOf assembly.now writers.0.0 × IsSeatOf assembly.now writers.1.0 }
             ensures { IsSeatOf assembly.entry.now result.0.0 × IsSeatOf assembly.entry.now result.1.0 }
-        { commit_both(rt, assembly, writers.0, writers.1, encoding, meetings) },
+        { commit_both(rt, assembly, writers.0, writers.1, encoding, barriers) },
         move || -> ((Seat, bool), (Seat, bool))
             requires { IsSeatOf assembly.now readers.0.0 × IsSeatOf assembly.now readers.1.0 }
             ensures { IsSeatOf assembly.entry.now result.0.0 × IsSeatOf assembly.entry.now result.1.0 }
-        { watch_both(rt, assembly, readers.0, readers.1, bytes, meetings) },
+        { watch_both(rt, assembly, readers.0, readers.1, bytes, barriers) },
     )
 }
 
@@ -234,7 +236,7 @@ fn read_both(
 
 // Has two threads commit the first three parts while two read, and answers the seats of a writer and of both readers,
 // which have met. All four begin each part together, so that the readers read while it is committed.
-fn read_beside_commits<R: AllocGlobal + Threads + Sync>(
+fn read_beside_commits<R: AllocGlobal + Threads + Wait + Sync>(
     rt: &R,
     assembly: &Assembly,
     seat: Seat,
@@ -251,17 +253,14 @@ fn read_beside_commits<R: AllocGlobal + Threads + Sync>(
     let out = vec![in rt.alloc(); 0; 200_000]?;
     let other_out = vec![in rt.alloc(); 0; 200_000]?;
     let readers = ((first, out), (second, other_out));
-    let meetings = [Meeting::of(4), Meeting::of(4), Meeting::of(4)];
+    let barriers = [Barrier::new(4), Barrier::new(4), Barrier::new(4)];
     let (written, watched) = commit_and_watch(
-        rt, assembly, writers, readers, whole, bytes, &meetings,
+        rt, assembly, writers, readers, whole, bytes, &barriers,
     );
     let ((mut writer, by_one), (mut other, by_two)) = written;
     let ((mut first, first_right), (mut second, second_right)) = watched;
-    let all_met = meetings
-        .iter()
-        .all(|meeting| meeting.met.load(Ordering::SeqCst) == 4);
-    if !all_met || !first_right || !second_right {
-        return Err(Fail::from("a reader met nobody, or read something else"));
+    if !first_right || !second_right {
+        return Err(Fail::from("a reader read something else"));
     }
     if by_one.unwrap_or(0).saturating_add(by_two.unwrap_or(0)) != 147 {
         return Err(Fail::from("other chunks were committed"));
@@ -279,7 +278,7 @@ fn two_readers_beside_two_writers(rt: HostRuntime) -> Result<(), Fail> {
     let bytes = bytes.as_slice();
     let (_, whole) = combined(rt.alloc(), &Mode::hash(), bytes)?;
     let whole = whole.as_slice();
-    let (assembly, seat) = shared(&rt, ROOT, 196)?;
+    let (assembly, seat) = store(&rt, ROOT, 196)?;
     let (writer, mut first, mut second) = read_beside_commits(&rt, &assembly, seat, whole, bytes)?;
     let mut out = vec![in rt.alloc(); 0; 200_000]?;
     let read = read_both(
@@ -290,7 +289,15 @@ fn two_readers_beside_two_writers(rt: HostRuntime) -> Result<(), Fail> {
         bytes,
     );
     assert_eq!(rt; read, (Some(150_528), Some(150_528)));
-    let (mut writer, last) = commit_chunks(rt.alloc(), &assembly, writer, whole, (147, 196), &[]);
+    let (mut writer, last) = commit_chunks(
+        &rt,
+        rt.alloc(),
+        &assembly,
+        writer,
+        whole,
+        (147, 196),
+        &[],
+    );
     assert_eq!(rt; last, Some(49));
     assembly.meet(&mut writer, &mut first);
     assembly.meet(&mut first, &mut second);

@@ -1,9 +1,21 @@
-use crate::streams::{LARGE, blob};
 use b3tree::Mode;
-use bao_files::{FileFault, print_input, print_reader};
+use bao_files::{FileFault, ReadFault, print_input, print_reader, read_whole};
+use std::alloc::Global;
 use std::io;
 use std::io::{ErrorKind, Read};
 use std::test::Fail;
+
+// The hash of the bytes i mod 251, 2^20 + 1 of them, by `b3sum` 1.2.0.
+const LARGE: &str = "2f053cd7472cf0cd2f9adaf45c1180255b91b9a865404a63671a0ee5f792ed33\n";
+
+// The bytes i mod 251, as in BLAKE3's test vectors.
+pub(crate) fn blob(alloc: Global, len: usize) -> Result<Vec<u8>, Fail> {
+    let mut bytes = Vec::with_capacity(alloc, len)?;
+    for i in 0..len {
+        bytes.push((i % 251) as u8)?;
+    }
+    Ok(bytes)
+}
 
 // Gives the bytes, at most `most` a call. Where there is a kind, one call after `before` bytes answers a fault
 // of that kind, and the calls after it give on. A byte that comes after those that a call claims is no byte of
@@ -124,5 +136,54 @@ fn digits_of_all_that_an_input_has(rt: HostRuntime) -> Result<(), Fail> {
         assert!(rt; got.is_ok());
         assert_eq!(rt; printed.as_slice(), LARGE.as_bytes(), "{len:?}");
     }
+    Ok(())
+}
+
+// Gives `left` bytes 7, at most 1,000 a call, and answers one read by a fault of this kind after `before` calls.
+#[derive(Drop)]
+struct Dripping {
+    left: usize,
+    before: u32,
+    kind: Option<ErrorKind>,
+}
+
+impl Read for Dripping {
+    fn read(&mut self, buf: &mut [u8]) -> io::Result<usize> {
+        if self.before == 0 {
+            if let Some(kind) = self.kind.take() {
+                return Err(io::Error::from(kind));
+            }
+        }
+        self.before = self.before.saturating_sub(1);
+        let count = buf.len().min(self.left).min(1000);
+        for byte in buf[..count].iter_mut() {
+            *byte = 7;
+        }
+        self.left -= count;
+        Ok(count)
+    }
+}
+
+#[test]
+fn reads_to_the_end_or_a_fault(rt: HostRuntime) -> Result<(), Fail> {
+    let mut bytes = Vec::new(rt.alloc());
+    let mut reader = Dripping {
+        left: 700_000,
+        before: 0,
+        kind: None,
+    };
+    assert_eq!(rt; read_whole(&mut reader, &mut bytes), Ok(()));
+    assert_eq!(rt; bytes.len(), 700_000);
+    for kind in [ErrorKind::Other, ErrorKind::Interrupted] {
+        let mut bytes = Vec::new(rt.alloc());
+        let mut reader = Dripping {
+            left: 700_000,
+            before: 3,
+            kind: Some(kind),
+        };
+        assert_eq!(rt; read_whole(&mut reader, &mut bytes), Err(ReadFault::Reader));
+        assert_eq!(rt; bytes.len(), 3000);
+    }
+    assert_ne!(rt; ReadFault::Memory, ReadFault::Reader);
     Ok(())
 }

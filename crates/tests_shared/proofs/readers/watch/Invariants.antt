@@ -1,5 +1,5 @@
 use Rattle.store_shared.specs.Seats.{IsSeatOf}
-use Rattle.tests_crews.proofs.readers.watch.Given as goal
+use Rattle.tests_shared.proofs.readers.watch.Given as goal
 
 abbrev pub invariant-loop-round : goal.invariant-loop-round
 invariant-loop-round l = IsSeatOf l.assembly l.seat

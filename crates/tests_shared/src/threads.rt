@@ -2,15 +2,13 @@ ghost use Rattle.std.specs.Prelude.{IfOk};
 ghost use Rattle.store_shared.specs.Seats.{IsSeatOf};
 
 use b3tree::{Cv, Hash, Mode, cv, hash, parent_input, root_hash, rooted, subtree_cv};
-use bao_check::{check_combined, check_slice};
-use bao_text::combined;
-use std::alloc::Global;
+use bao_check::check_slice;
 use std::test::Fail;
 use std::thread::join;
-use store_shared::{Assembly, Missing, Seat, Settling};
+use store_shared::{Assembly, Seat, Settling};
 
 // The bytes i mod 251, as in BLAKE3's test vectors.
-fn blob(rt: &HostRuntime, len: usize) -> Result<Vec<u8>, Fail> {
+pub fn blob(rt: &HostRuntime, len: usize) -> Result<Vec<u8>, Fail> {
     let mut bytes = Vec::with_capacity(rt.alloc(), len)?;
     for i in 0..len {
         bytes.push((i % 251) as u8)?;
@@ -19,14 +17,14 @@ fn blob(rt: &HostRuntime, len: usize) -> Result<Vec<u8>, Fail> {
 }
 
 // A store and a seat of it.
-fn store(rt: &HostRuntime, root: Hash, capacity: u32) -> Result<(Assembly, Seat), Fail>
+pub fn store(rt: &HostRuntime, root: Hash, capacity: u32) -> Result<(Assembly, Seat), Fail>
     ensures { IfOk result (λ made. IsSeatOf made.0 made.1) }
 {
     Ok(Assembly::new(rt.alloc(), root, Mode::hash(), capacity)?)
 }
 
 // A second seat, split from this one.
-fn split(store: &Assembly, seat: Seat) -> Result<(Seat, Seat), Fail>
+pub fn split(store: &Assembly, seat: Seat) -> Result<(Seat, Seat), Fail>
     requires { IsSeatOf store.now seat }
     ensures { IfOk result (λ seats. IsSeatOf store.now seats.0 × IsSeatOf store.now seats.1) }
 {
@@ -111,88 +109,5 @@ fn two_threads_claim_apart(rt: HostRuntime) -> Result<(), Fail> {
     );
     assert_eq!(rt; ours & theirs, 0);
     assert_eq!(rt; ours | theirs, u64::MAX);
-    Ok(())
-}
-
-// Checks the encoding and commits its chunks group by group, and says whether nothing was refused.
-fn commit_each(alloc: Global, store: &Assembly, mut seat: Seat, encoding: &[u8]) -> (Seat, bool)
-    requires { IsSeatOf store.now seat }
-    ensures { IsSeatOf store.now result.0 }
-{
-    let Ok(piece) = check_combined(alloc, &Mode::hash(), &store.root(), encoding) else {
-        return (seat, false);
-    };
-    let mut right = true;
-    for group in 0..store.groups() {
-        right &= store.take(&mut seat, group, u64::MAX).is_ok();
-        right &= store.commit(&mut seat, group, &piece).is_ok();
-    }
-    (seat, right)
-}
-
-// A byte that no blob of these tests has.
-const UNREAD: u8 = 255;
-
-// How much of the blob the seat reads from its start, or none where a byte is wrong, or where the rest of the buffer was
-// written.
-fn read_right(store: &Assembly, seat: &mut Seat, out: &mut [u8], bytes: &[u8]) -> Option<usize>
-    requires { IsSeatOf store.now seat.old }
-    ensures { IsSeatOf store.now seat.new }
-{
-    out.fill(UNREAD);
-    let end = match store.read(seat, 0, out) {
-        Ok(()) => bytes.len(),
-        Err(Missing(position)) => position as usize,
-    };
-    let (read, rest) = out.split_at_checked(end)?;
-    let right = Some(read) == bytes.get(..end) && rest.iter().all(|byte| *byte == UNREAD);
-    right.then_some(end)
-}
-
-// Whether each of many reads is right, and none reads less than those before it.
-fn watch(store: &Assembly, mut seat: Seat, mut out: Vec<u8>, bytes: &[u8]) -> (Seat, bool)
-    requires { IsSeatOf store.now seat }
-    ensures { IsSeatOf store.now result.0 }
-{
-    let mut reached = 0;
-    'reads: for _ in 0..100 {
-        match read_right(store, &mut seat, out.as_mut_slice(), bytes) {
-            Some(end) if end >= reached => reached = end,
-            _ => return (seat, false),
-        }
-    }
-    (seat, true)
-}
-
-#[test]
-fn a_reader_beside_a_writer(rt: HostRuntime) -> Result<(), Fail> {
-    let bytes = blob(&rt, 66_000)?;
-    let (root, text) = combined(rt.alloc(), &Mode::hash(), &bytes)?;
-    let (store, seat) = store(&rt, root, 65)?;
-    let (writer, reader) = split(&store, seat)?;
-    let alloc = rt.alloc();
-    let shared = &store;
-    let encoding = text.as_slice();
-    let blob = bytes.as_slice();
-    let mut out = vec![in rt.alloc(); 0; 66_000]?;
-    let buffer = vec![in rt.alloc(); 0; 66_000]?;
-    let ((mut writer, written), (mut reader, right)) = join(
-        &rt,
-        move || -> (Seat, bool)
-            requires { IsSeatOf shared.now writer }
-            ensures { IsSeatOf shared.entry.now result.0 }
-        { commit_each(alloc, shared, writer, encoding) },
-        move || -> (Seat, bool)
-            requires { IsSeatOf shared.now reader }
-            ensures { IsSeatOf shared.entry.now result.0 }
-        { watch(shared, reader, buffer, blob) },
-    );
-    assert!(rt; written);
-    assert!(rt; right);
-    store.meet(&mut writer, &mut reader);
-    let by_writer = read_right(&store, &mut writer, out.as_mut_slice(), blob);
-    assert_eq!(rt; by_writer, Some(66_000));
-    let by_reader = read_right(&store, &mut reader, out.as_mut_slice(), blob);
-    assert_eq!(rt; by_reader, Some(66_000));
     Ok(())
 }

@@ -1,4 +1,4 @@
-use crate::streams::{blob, failing};
+use crate::readers::blob;
 use b3read::Source;
 use b3tree::{Hash, Mode};
 use bao_files::{Encoding, FileFault, encode_input};
@@ -121,35 +121,6 @@ fn nothing_is_encoded_after_a_fault_of_reading(rt: HostRuntime) -> Result<(), Fa
         };
         assert_eq!(rt; path, "file");
         assert!(rt; written.is_empty());
-    }
-    Ok(())
-}
-
-// Whether the text was made at places or not, exactly its first bytes are written.
-#[test]
-fn a_write_that_fails_is_the_last(rt: HostRuntime) -> Result<(), Fail> {
-    let bytes = blob(rt.alloc(), LEN)?;
-    for encoding in [Encoding::Combined, Encoding::Outboard] {
-        let (_, text) = plainly(rt.alloc(), encoding, bytes.as_slice())?;
-        for size in [0, LEN] {
-            let mut input = bytes.as_slice();
-            let mut out = failing(rt.alloc(), 200_000, ErrorKind::Interrupted);
-            let got = encode_input(
-                &rt,
-                &Mode::hash(),
-                encoding,
-                &mut input,
-                size as u64,
-                "file",
-                &mut out,
-                "out",
-            );
-            let Err(FileFault::Write(path)) = got else {
-                return Err("a fault of writing".into());
-            };
-            assert_eq!(rt; path, "out");
-            assert_eq!(rt; Some(out.held.as_slice()), text.get(..200_000));
-        }
     }
     Ok(())
 }

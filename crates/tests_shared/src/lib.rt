@@ -1,0 +1,7 @@
+//! Tests of a shared store: threads beside one another, and a root of no blob: `store_shared`.
+#![tactic(auto)]
+
+#[cfg(test)]
+mod readers;
+#[cfg(test)]
+mod threads;
