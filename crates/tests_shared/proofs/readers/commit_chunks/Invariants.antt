@@ -2,4 +2,4 @@ use Rattle.store_shared.specs.Seats.{IsSeatOf}
 use Rattle.tests_shared.proofs.readers.commit_chunks.Given as goal
 
 abbrev pub invariant-loop-chunk : goal.invariant-loop-chunk
-invariant-loop-chunk l = IsSeatOf l.assembly l.seat
+invariant-loop-chunk g l = IsSeatOf l.assembly l.seat
