@@ -14,7 +14,7 @@ pub const JOB_CHUNKS: usize = 256;
 pub(crate) const JOB_LEN: usize = JOB_CHUNKS * CHUNK_LEN;
 
 /// A piece of the input that one thread hashes: a subtree where the tree splits.
-#[derive(Clone, Copy, Debug, PartialEq, Eq)]
+#[derive(Clone, Copy)]
 pub(crate) struct Job {
     /// Its place among the jobs, from 0.
     pub number: usize,
@@ -23,7 +23,7 @@ pub(crate) struct Job {
 }
 
 /// The value of a job, and which job it is of.
-#[derive(Clone, Copy, Debug, PartialEq, Eq)]
+#[derive(Clone, Copy)]
 pub(crate) struct Answer {
     pub number: usize,
     pub first: usize,

@@ -5,7 +5,7 @@ ghost use Rattle.b3tree.specs.Valid.{AreBytes};
 use b3tree::{CHUNK_LEN, left_len};
 
 /// Bytes whose first chunk has the number `first`.
-#[derive(Clone, Copy, Debug)]
+#[derive(Clone, Copy)]
 pub(crate) struct Part<'a> {
     pub(crate) first: u64,
     pub(crate) bytes: &'a [u8],

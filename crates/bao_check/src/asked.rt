@@ -4,7 +4,7 @@ ghost use Rattle.bao_check.specs.Walk.{Meets};
 use b3tree::{Cv, Input, cv, rooted};
 
 /// What a node's place asks for: a chaining value, at the top that of the root.
-#[derive(Clone, Copy, Debug)]
+#[derive(Clone, Copy)]
 pub(crate) struct Asked {
     pub(crate) top: bool,
     pub(crate) value: Cv,

@@ -3,7 +3,7 @@ ghost use Rattle.std.specs.Prelude.{◌≡◌};
 use bao_text::Choice;
 
 /// Which text is checked.
-#[derive(Clone, Copy, Debug)]
+#[derive(Clone, Copy)]
 pub(crate) enum Form {
     /// The slice of `len` bytes from byte `start` on.
     Slice { start: u64, len: u64 },

@@ -10,7 +10,7 @@ pub(crate) const LENGTH_LEN: u128 = 8;
 pub(crate) const PARENT_LEN: u128 = 64;
 
 /// Where a text has a chunk: the offset of its first byte, and how many bytes it has.
-#[derive(Clone, Copy, Debug)]
+#[derive(Clone, Copy)]
 pub(crate) struct Span {
     pub(crate) at: u128,
     pub(crate) len: u64,

@@ -10,7 +10,7 @@ use b3tree::CHUNK_LEN;
 use std::io::Read;
 
 /// How reading into a buffer ended.
-#[derive(Clone, Copy, Debug)]
+#[derive(Clone, Copy)]
 enum Filled {
     /// The buffer is full.
     Whole,

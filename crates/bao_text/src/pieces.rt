@@ -23,7 +23,7 @@ pub(crate) const ROOM_LEN: usize = LENGTH_LEN
     + PARENT_LEN * 63;
 
 /// A subtree's bytes, beside the text of its parents in pre-order.
-#[derive(Clone, Copy, Debug)]
+#[derive(Clone, Copy)]
 pub(crate) struct Subtree<'a> {
     pub(crate) parents: &'a [u8],
     pub(crate) bytes: &'a [u8],

@@ -15,7 +15,7 @@ const ROUNDS: u32 = 5;
 const SLICE_LEN: u64 = 1 << 20;
 
 /// The least times of checks of texts in memory.
-#[derive(Clone, Copy, Debug)]
+#[derive(Clone, Copy)]
 pub struct CheckTimes {
     /// The combined encoding of all bytes.
     pub whole: Duration,

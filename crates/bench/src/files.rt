@@ -14,7 +14,7 @@ use std::time::{Duration, Instant};
 const ROUNDS: u32 = 5;
 
 /// The least times of hashing a file that is read in pieces.
-#[derive(Clone, Copy, Debug)]
+#[derive(Clone, Copy)]
 pub struct FileTimes {
     /// On one thread.
     pub one: Duration,

@@ -14,7 +14,7 @@ const NOW: &str = "VmRSS:";
 const MOST: &str = "VmHWM:";
 
 /// The memory of a shared store of the greatest capacity, in KiB.
-#[derive(Clone, Copy, Debug)]
+#[derive(Clone, Copy)]
 pub struct StoreMemory {
     /// What it keeps, empty or full.
     pub kept: u64,

@@ -39,7 +39,7 @@ const READS: u32 = 4;
 const TAKES: u32 = 1000;
 
 /// The least times of a shared store's work on the bytes, the first 64 MiB of them at most.
-#[derive(Clone, Copy, Debug)]
+#[derive(Clone, Copy)]
 pub struct SharedTimes {
     /// As many words as the chunks' cells have, stored one after another, each in one order for all threads.
     pub stored: Duration,
@@ -56,7 +56,7 @@ pub struct SharedTimes {
 }
 
 /// How long the seats of a store take to commit a blob and to read it once.
-#[derive(Clone, Copy, Debug)]
+#[derive(Clone, Copy)]
 pub struct ShareTimes {
     pub committed: Duration,
     pub read: Duration,

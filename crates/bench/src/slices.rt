@@ -19,7 +19,7 @@ const LARGER: u64 = 8;
 const SIXTEENTH: usize = 16;
 
 /// The least times of slices that `cut_slice` cuts out of combined encodings in memory.
-#[derive(Clone, Copy, Debug)]
+#[derive(Clone, Copy)]
 pub struct SliceTimes {
     /// 1 MiB of all bytes.
     pub of_all: Duration,

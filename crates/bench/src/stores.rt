@@ -22,7 +22,7 @@ const GROUP_LEN: usize = 1 << 16;
 const SEAT: u32 = 0;
 
 /// The least times of one store's work on the bytes, the first 64 MiB of them at most.
-#[derive(Clone, Copy, Debug)]
+#[derive(Clone, Copy)]
 pub struct StoreTimes {
     /// The blob gathered from its combined encoding.
     pub gathered: Duration,

@@ -25,7 +25,7 @@ const THREADS: usize = 4;
 
 /// How long it takes to hash one piece of 16 KiB again and again, as many bytes in all as the file has. The threads share
 /// a count and nothing else, so this is what they are worth on this machine.
-#[derive(Clone, Copy, Debug)]
+#[derive(Clone, Copy)]
 pub struct ThreadTimes {
     /// On one thread.
     pub by_one: Duration,

@@ -15,7 +15,7 @@ const LEAST_GRAIN: u64 = 64;
 const PARTS: u64 = 8;
 
 /// A way to hash bytes that lie in memory.
-#[derive(Clone, Copy, Debug)]
+#[derive(Clone, Copy)]
 pub enum Way {
     /// By `b3tree::hash`, on one thread.
     Whole,

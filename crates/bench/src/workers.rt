@@ -19,7 +19,7 @@ const ROUNDS: u32 = 5;
 const MOST: usize = 1 << 26;
 
 /// The least times in which workers gather the bytes, the first 64 MiB of them at most, in one shared store.
-#[derive(Clone, Copy, Debug)]
+#[derive(Clone, Copy)]
 pub struct WorkerTimes {
     /// By one worker.
     pub one: Duration,

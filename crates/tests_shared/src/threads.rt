@@ -8,7 +8,7 @@ use std::thread::join;
 use store_shared::{Assembly, Seat, Settling};
 
 // The bytes i mod 251, as in BLAKE3's test vectors.
-pub fn blob(rt: &HostRuntime, len: usize) -> Result<Vec<u8>, Fail> {
+pub(crate) fn blob(rt: &HostRuntime, len: usize) -> Result<Vec<u8>, Fail> {
     let mut bytes = Vec::with_capacity(rt.alloc(), len)?;
     for i in 0..len {
         bytes.push((i % 251) as u8)?;
@@ -17,14 +17,14 @@ pub fn blob(rt: &HostRuntime, len: usize) -> Result<Vec<u8>, Fail> {
 }
 
 // A store and a seat of it.
-pub fn store(rt: &HostRuntime, root: Hash, capacity: u32) -> Result<(Assembly, Seat), Fail>
+pub(crate) fn store(rt: &HostRuntime, root: Hash, capacity: u32) -> Result<(Assembly, Seat), Fail>
     ensures { IfOk result (λ made. IsSeatOf made.0 made.1) }
 {
     Ok(Assembly::new(rt.alloc(), root, Mode::hash(), capacity)?)
 }
 
 // A second seat, split from this one.
-pub fn split(store: &Assembly, seat: Seat) -> Result<(Seat, Seat), Fail>
+pub(crate) fn split(store: &Assembly, seat: Seat) -> Result<(Seat, Seat), Fail>
     requires { IsSeatOf store.now seat }
     ensures { IfOk result (λ seats. IsSeatOf store.now seats.0 × IsSeatOf store.now seats.1) }
 {
