@@ -7,7 +7,7 @@ use Rattle.std.proofs.Math.Nat.{mul-le-mul_left}
 use Rattle.b3word.specs.Compression.{cv}
 use Rattle.b3tree.specs.declared.mode.Mode.{Mode}
 use Rattle.b3tree.specs.Stack.{whole_subtrees}
-use Rattle.b3tree.specs.Tree.{IsLeftLen, parent_input, subtree_cv}
+use Rattle.b3tree.specs.Tree.{IsLeftLen, parent_input, subtree_cv, top_input}
 use Rattle.b3tree.proofs.LeftLen.{IsLeftLen_double}
 use Rattle.b3tree.proofs.Subtrees.{length-whole_subtrees, whole_subtrees-append}
 use Rattle.b3tree.proofs.TopInput.{top_input-parent}
@@ -63,16 +63,20 @@ doubled j q =
     ap (λ (n : ℕ). n * q) twice ∙ out
 
 -- two subtrees of one size side by side
-pub pair_cv : (mode : Mode) (j before : ℕ) (a b : List ℕ) → length a ≡ 1024 * 2 ^ j → length b ≡ 1024 * 2 ^ j
-    → subtree_cv mode before (a ++ b) ≡ cv (parent_input mode (subtree_cv mode before a) (subtree_cv mode (before + 2 ^ j) b))
-pair_cv mode j before a b la lb =
+pub pair_top : (mode : Mode) (j before : ℕ) (a b : List ℕ) → length a ≡ 1024 * 2 ^ j → length b ≡ 1024 * 2 ^ j
+    → top_input mode before (a ++ b) ≡ parent_input mode (subtree_cv mode before a) (subtree_cv mode (before + 2 ^ j) b)
+pair_top mode j before a b la lb =
     let l : ℕ = 1024 * 2 ^ j in
     let some : 0 < 2 ^ j = pow_pos j in
     let all : length (a ++ b) ≡ l + l = length-append a b ∙ (λ i. la i + lb i) in
     let is : IsLeftLen (length (a ++ b)) l = subst (λ (n : ℕ). IsLeftLen n l) (sym all) (IsLeftLen_double j) in
     let count : l / 1024 ≡ 2 ^ j = omega arith in
-    ap cv (top_input-parent mode before (a ++ b) l is (omega arith)
-    ∙ (λ i. parent_input mode (subtree_cv mode before (take_at a b l la i)) (subtree_cv mode (before + count i) (drop_at a b l la i))))
+    top_input-parent mode before (a ++ b) l is (omega arith)
+    ∙ (λ i. parent_input mode (subtree_cv mode before (take_at a b l la i)) (subtree_cv mode (before + count i) (drop_at a b l la i)))
+
+pub pair_cv : (mode : Mode) (j before : ℕ) (a b : List ℕ) → length a ≡ 1024 * 2 ^ j → length b ≡ 1024 * 2 ^ j
+    → subtree_cv mode before (a ++ b) ≡ cv (parent_input mode (subtree_cv mode before a) (subtree_cv mode (before + 2 ^ j) b))
+pair_cv mode j before a b la lb = ap cv (pair_top mode j before a b la lb)
 
 -- chunks that end with a subtree of 2 ^ j
 record Apart (mode : Mode) (j q : ℕ) (left : List ℕ) : Type 0 where

@@ -2,15 +2,16 @@
 use Rattle.std.proofs.Common.{◌≡◌, ℕ, zero, suc, ◌+◌, ◌-◌, ◌*◌, ◌/◌, ◌^◌, ◌<◌, ◌≤◌, List, [], ◌∷◌, ◌++◌, length, take, drop, replicate, slice_index, refl, sym, ap, ◌∙◌, arith, length-drop}
 use Rattle.std.specs.Int.{w32, from_le_bytes, IsPowerOfTwo}
 use Rattle.std.proofs.lemmas.List.{append-nil, drop-drop, drop-take, get_or-drop, get_or-take, length-take-le, take-take, take_all}
+use Rattle.std.proofs.Math.Nat.{mul-le-mul_left}
 use Rattle.std.proofs.Math.Seq.{take-add}
 use Rattle.b3word.specs.Compression.{cv}
 use Rattle.b3tree.specs.declared.mode.Mode.{Mode}
 use Rattle.b3tree.specs.Bytes.{word_at, words_of}
 use Rattle.b3tree.specs.Chunk.{block, block_input, block_words, chunk_input}
-use Rattle.b3tree.specs.Pieces.{before_block, piece}
+use Rattle.b3tree.specs.Pieces.{before_block, lane_place, piece}
 use Rattle.b3tree.specs.Parents.{value_at}
-use Rattle.b3tree.specs.Tree.{parent_input, subtree_cv}
-use Rattle.b3tree.proofs.Joining.{pair_cv}
+use Rattle.b3tree.specs.Tree.{parent_input, subtree_cv, top_input}
+use Rattle.b3tree.proofs.Joining.{pair_top}
 
 pub length-piece : (s : List ℕ) (at n : ℕ) → at + n ≤ length s → length (piece s at n) ≡ n
 length-piece s at n fits = length-take-le n (drop at s) (omega (arith, length-drop at s))
@@ -77,10 +78,10 @@ chunk_input-before mode i s zero = refl
 chunk_input-before mode i s (suc k) = refl
 
 -- the parent of two whole subtrees of n chunks, side by side
-pub valued_parent : (mode : Mode) (first : ℕ) (s : List ℕ) (at n : ℕ) → IsPowerOfTwo n → at + 1024 * (n + n) ≤ length s
-    → cv (parent_input mode (subtree_cv mode first (piece s at (1024 * n))) (subtree_cv mode (first + n) (piece s (at + 1024 * n) (1024 * n))))
-    ≡ subtree_cv mode first (piece s at (1024 * (n + n)))
-valued_parent mode first s at n power fits =
+pub top_parent : (mode : Mode) (first : ℕ) (s : List ℕ) (at n : ℕ) → IsPowerOfTwo n → at + 1024 * (n + n) ≤ length s
+    → parent_input mode (subtree_cv mode first (piece s at (1024 * n))) (subtree_cv mode (first + n) (piece s (at + 1024 * n) (1024 * n)))
+    ≡ top_input mode first (piece s at (1024 * (n + n)))
+top_parent mode first s at n power fits =
     let k : ℕ = power.0 in
     let e : n ≡ 2 ^ k = power.1 in
     let a : List ℕ = piece s at (1024 * n) in
@@ -88,9 +89,14 @@ valued_parent mode first s at n power fits =
     let la : length a ≡ 1024 * n = length-piece s at (1024 * n) (omega arith) in
     let lb : length b ≡ 1024 * n = length-piece s (at + 1024 * n) (1024 * n) (omega arith) in
     let both : 1024 * (n + n) ≡ 1024 * n + 1024 * n = omega arith in
-    (λ i. cv (parent_input mode (subtree_cv mode first a) (subtree_cv mode (first + e i) b)))
-    ∙ sym (pair_cv mode k first a b (la ∙ ap (λ (m : ℕ). 1024 * m) e) (lb ∙ ap (λ (m : ℕ). 1024 * m) e))
-    ∙ ap (subtree_cv mode first) (sym (ap (λ (m : ℕ). piece s at m) both ∙ piece-append s at (1024 * n) (1024 * n)))
+    (λ i. parent_input mode (subtree_cv mode first a) (subtree_cv mode (first + e i) b))
+    ∙ sym (pair_top mode k first a b (la ∙ ap (λ (m : ℕ). 1024 * m) e) (lb ∙ ap (λ (m : ℕ). 1024 * m) e))
+    ∙ ap (top_input mode first) (sym (ap (λ (m : ℕ). piece s at m) both ∙ piece-append s at (1024 * n) (1024 * n)))
+
+pub valued_parent : (mode : Mode) (first : ℕ) (s : List ℕ) (at n : ℕ) → IsPowerOfTwo n → at + 1024 * (n + n) ≤ length s
+    → cv (parent_input mode (subtree_cv mode first (piece s at (1024 * n))) (subtree_cv mode (first + n) (piece s (at + 1024 * n) (1024 * n))))
+    ≡ subtree_cv mode first (piece s at (1024 * (n + n)))
+valued_parent mode first s at n power fits = ap cv (top_parent mode first s at n power fits)
 
 -- half of a power of two above one
 pub IsPowerOfTwo_half : (n : ℕ) → IsPowerOfTwo n → 1 < n → IsPowerOfTwo (n / 2) × (n / 2 + n / 2 ≡ n)
@@ -111,14 +117,13 @@ paired mode first s l r m a b n power fits place twice el er =
     ∙ valued_parent mode (first + a) s (1024 * a) m power (omega arith)
     ∙ ap (λ (k : ℕ). value_at mode first s k a) (sym twice)
 
--- eight subtrees of n chunks side by side, joined in three steps: of each step the values of its subtrees
-pub joined_eight : (mode : Mode) (first : ℕ) (s : List ℕ) (n : ℕ) (c p q r : ℕ → List ℕ) → IsPowerOfTwo n → length s ≡ 8192 * n
+-- eight subtrees of n chunks side by side, joined in two steps and a last compression: of each step the values of its subtrees
+pub joined_eight : (mode : Mode) (first : ℕ) (s : List ℕ) (n : ℕ) (c p q : ℕ → List ℕ) → IsPowerOfTwo n → length s ≡ 8192 * n
     → ((j : ℕ) → j < 8 → c j ≡ value_at mode first s n (n * j))
     → ((j : ℕ) → j < 4 → p j ≡ cv (parent_input mode (c (2 * j)) (c (2 * j + 1))))
     → ((j : ℕ) → j < 4 → q j ≡ cv (parent_input mode (p (2 * j)) (p (2 * j + 1))))
-    → ((j : ℕ) → j < 4 → r j ≡ cv (parent_input mode (q (2 * j)) (q (2 * j + 1))))
-    → r 0 ≡ subtree_cv mode first s
-joined_eight mode first s n c p q r power size each to_p to_q to_r =
+    → parent_input mode (q 0) (q 1) ≡ top_input mode first s
+joined_eight mode first s n c p q power size each to_p to_q =
     let two : IsPowerOfTwo (n + n) = IsPowerOfTwo_double n power in
     let four : IsPowerOfTwo (n + n + (n + n)) = IsPowerOfTwo_double (n + n) two in
     let p0 = to_p 0 (omega arith) ∙ paired mode first s (c 0) (c 1) n (n * 0) (n * 1) (n + n) power (omega arith) (omega arith) refl (each 0 (omega arith)) (each 1 (omega arith)) in
@@ -127,9 +132,16 @@ joined_eight mode first s n c p q r power size each to_p to_q to_r =
     let p3 = to_p 3 (omega arith) ∙ paired mode first s (c 6) (c 7) n (n * 6) (n * 7) (n + n) power (omega arith) (omega arith) refl (each 6 (omega arith)) (each 7 (omega arith)) in
     let q0 = to_q 0 (omega arith) ∙ paired mode first s (p 0) (p 1) (n + n) (n * 0) (n * 2) (n + n + (n + n)) two (omega arith) (omega arith) refl p0 p1 in
     let q1 = to_q 1 (omega arith) ∙ paired mode first s (p 2) (p 3) (n + n) (n * 4) (n * 6) (n + n + (n + n)) two (omega arith) (omega arith) refl p2 p3 in
+    let m : ℕ = n + n + (n + n) in
     let number : first + n * 0 ≡ first = omega arith in
     let start : 1024 * (n * 0) ≡ 0 = omega arith in
-    to_r 0 (omega arith)
-    ∙ paired mode first s (q 0) (q 1) (n + n + (n + n)) (n * 0) (n * 4) (8 * n) four (omega arith) (omega arith) (omega arith) q0 q1
-    ∙ (λ i. subtree_cv mode (number i) (take (1024 * (8 * n)) (drop (start i) s)))
-    ∙ ap (subtree_cv mode first) (take_all (1024 * (8 * n)) s (omega arith))
+    let middle : first + n * 4 ≡ first + m = omega arith in
+    let halfway : 1024 * (n * 4) ≡ 0 + 1024 * m = omega arith in
+    (λ i. parent_input mode (q0 i) (q1 i))
+    ∙ (λ i. parent_input mode (subtree_cv mode (number i) (piece s (start i) (1024 * m))) (subtree_cv mode (middle i) (piece s (halfway i) (1024 * m))))
+    ∙ top_parent mode first s 0 m four (omega arith)
+    ∙ ap (top_input mode first) (take_all (1024 * (m + m)) s (omega arith))
+
+-- n bytes of a lane end within the text where those of the last lane do
+pub lane_fits : (at step j n len : ℕ) → j ≤ 7 → at + step * 7 + 256 + n ≤ len → lane_place at step j + n ≤ len
+lane_fits at step j n len h fits = let within : step * j ≤ step * 7 = mul-le-mul_left step h in omega arith

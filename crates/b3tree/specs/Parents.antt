@@ -5,7 +5,8 @@ use Rattle.b3tree.specs.declared.eight.EightParents.{EightParents}
 use Rattle.b3tree.specs.declared.eight.FourParents.{FourParents}
 use Rattle.b3tree.specs.declared.eight.Parts.{Parts}
 use Rattle.b3tree.specs.Pieces.{piece}
-use Rattle.b3tree.specs.Tree.{subtree_cv}
+use Rattle.b3word.specs.Compression.{cv}
+use Rattle.b3tree.specs.Tree.{parent_input, subtree_cv}
 
 -- the value of the subtree of n chunks that begins a chunks on
 abbrev pub value_at : Mode → ℕ → List ℕ → ℕ → ℕ → List ℕ
@@ -32,3 +33,20 @@ eight_parents mode first s = record {
   left = four_parents mode first s 0;
   right = four_parents mode first s 4;
 }
+
+-- the parent of two values, and the values of the parents of neighbours, two and two
+abbrev pub parts_of : (ℕ → List ℕ) → ℕ → Parts
+parts_of values j = record { left = record { 0 = values j }; right = record { 0 = values (j + 1) } }
+
+abbrev pub paired_values : Mode → (ℕ → List ℕ) → ℕ → List ℕ
+paired_values mode values j = cv (parent_input mode (values (2 * j)) (values (2 * j + 1)))
+
+-- the parents of eight values
+abbrev pub lane_parents : Mode → (ℕ → List ℕ) → EightParents
+lane_parents mode values =
+    let pairs = paired_values mode values in
+    record {
+      top = parts_of (paired_values mode pairs) 0;
+      left = record { top = parts_of pairs 0; left = parts_of values 0; right = parts_of values 2 };
+      right = record { top = parts_of pairs 2; left = parts_of values 4; right = parts_of values 6 };
+    }

@@ -1,5 +1,5 @@
 -- Pieces of an input, and the value that comes before a block.
-use Rattle.std.specs.Prelude.{ℕ, zero, suc, List, take, drop}
+use Rattle.std.specs.Prelude.{ℕ, zero, suc, ◌+◌, ◌*◌, ◌/◌, List, take, drop}
 use Rattle.b3word.specs.Compression.{cv}
 use Rattle.b3tree.specs.declared.mode.Mode.{Mode}
 use Rattle.b3tree.specs.Chunk.{chunk_input}
@@ -14,3 +14,7 @@ piece s at n = take n (drop at s)
 abbrev pub before_block : Mode → ℕ → List ℕ → ℕ → List ℕ
 before_block mode i s zero = key_words mode
 before_block mode i s (suc k) = cv (chunk_input mode i s k)
+
+-- where lane j begins in a text whose lanes have parents between them, two and two and four and four
+abbrev pub lane_place : ℕ → ℕ → ℕ → ℕ
+lane_place at step j = at + step * j + 64 * (j / 2 + j / 4)

@@ -1,7 +1,8 @@
 // The parents of eight whole chunks, by lanes.
 
 ghost use Rattle.std.specs.Prelude.{◌≡◌, ◌+◌, ◌-◌, ◌*◌, ◌^◌, ◌≤◌, length};
-ghost use Rattle.b3tree.specs.Parents.{eight_parents};
+ghost use Rattle.b3word.specs.Lanes.{lane8};
+ghost use Rattle.b3tree.specs.Parents.{eight_parents, lane_parents};
 
 use crate::lanes::{neighbour_lanes, subtree_lanes};
 use crate::mode::Mode;
@@ -50,7 +51,15 @@ pub fn eight_parents(mode: &Mode, first: u64, bytes: &[u8]) -> EightParents
     requires end { 1024 * first + 8192 ≤ 2 ^ 64 - 1 }
     ensures { result ≡ eight_parents mode.now first bytes.now }
 {
-    let [c0, c1, c2, c3, c4, c5, c6, c7] = subtree_lanes(mode, first, bytes, 0, 1, 1);
+    let values = subtree_lanes(mode, first, bytes, 0, 1, 1);
+    lane_parents(mode, &values)
+}
+
+/// The seven parents of the values in eight lanes: each is that of its two neighbours.
+pub fn lane_parents(mode: &Mode, values: &[u32x8; 8]) -> EightParents
+    ensures { result ≡ lane_parents mode.now (λ j. lane8 j values.now) }
+{
+    let [c0, c1, c2, c3, c4, c5, c6, c7] = *values;
     let [p0, p1, p2, p3, p4, p5, p6, p7] = neighbour_lanes(mode, c0, c1, c2, c3, c4, c5, c6, c7);
     let [q0, q1, q2, q3, q4, q5, q6, q7] = neighbour_lanes(mode, p0, p1, p2, p3, p4, p5, p6, p7);
     let [c0, c1, c2, c3, c4, c5, c6, c7] = transposed(c0, c1, c2, c3, c4, c5, c6, c7);

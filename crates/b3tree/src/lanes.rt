@@ -9,13 +9,15 @@ ghost use Rattle.b3tree.specs.Bytes.{words_of};
 ghost use Rattle.b3tree.specs.Chunk.{block, block_words, last_chunk_input};
 ghost use Rattle.b3tree.specs.Modes.{key_words};
 ghost use Rattle.b3tree.specs.Pieces.{piece};
-ghost use Rattle.b3tree.specs.Tree.{parent_input, subtree_cv};
+ghost use Rattle.b3tree.specs.Tree.{parent_input, subtree_cv, top_input};
 
 use crate::bytes::words_of;
 use crate::chunk::{BLOCK_LEN, CHUNK_LEN, block_flags};
 use crate::flags::PARENT;
 use crate::mode::Mode;
-use b3word::{cv_lanes, transposed};
+use crate::tree::parent_input;
+use crate::values::Cv;
+use b3word::{Input, cv_lanes, transposed};
 use std::simd::u32x8;
 
 // Lanes of a vector.
@@ -25,11 +27,11 @@ const LANES: usize = 8;
 const MOST_A_LANE: usize = 64;
 
 // Blocks of a whole chunk.
-const BLOCKS: usize = CHUNK_LEN / BLOCK_LEN;
+pub(crate) const BLOCKS: usize = CHUNK_LEN / BLOCK_LEN;
 
 // Half a block, 32 bytes, from place `at` on.
 #[inline(always)]
-fn half_block(bytes: &[u8], at: usize) -> u32x8
+pub(crate) fn half_block(bytes: &[u8], at: usize) -> u32x8
     requires { at + 32 ≤ length bytes.now }
     ensures { result ≡ words_of 8 (piece bytes.now at 32) }
 {
@@ -71,7 +73,7 @@ fn message(bytes: &[u8], at: usize, stride: usize, k: usize) -> [u32x8; 16]
 
 // The key words of the mode in each lane.
 #[inline(always)]
-fn key_lanes(mode: &Mode) -> [u32x8; 8]
+pub(crate) fn key_lanes(mode: &Mode) -> [u32x8; 8]
     ensures { (j : ℕ) → j < 8 → lane8 j result ≡ key_words mode.now }
 {
     let [k0, k1, k2, k3, k4, k5, k6, k7] = mode.key_words();
@@ -102,7 +104,7 @@ fn high_word(counter: u64) -> u32
 }
 
 // The low words of the chunk numbers, `apart` from lane to lane.
-fn low_words(first: u64, apart: u64) -> u32x8
+pub(crate) fn low_words(first: u64, apart: u64) -> u32x8
     requires { first + apart * 7 < 2 ^ 64 }
     ensures { (j : ℕ) → j < 8 → slice_index result j ≡ (first + apart * j) % 2 ^ 32 }
 {
@@ -119,7 +121,7 @@ fn low_words(first: u64, apart: u64) -> u32x8
 }
 
 // Their high words.
-fn high_words(first: u64, apart: u64) -> u32x8
+pub(crate) fn high_words(first: u64, apart: u64) -> u32x8
     requires { first + apart * 7 < 2 ^ 64 }
     ensures { (j : ℕ) → j < 8 → slice_index result j ≡ (first + apart * j) / 2 ^ 32 }
 {
@@ -155,8 +157,8 @@ fn chunk_lanes(mode: &Mode, first: u64, bytes: &[u8], at: usize, apart: usize) -
     h
 }
 
-// The parent in each lane.
-fn parent_lanes(mode: &Mode, left: &[u32x8; 8], right: &[u32x8; 8]) -> [u32x8; 8]
+/// The chaining value of a parent in each lane, of the values that the same lane of `left` and of `right` has.
+pub fn parent_lanes(mode: &Mode, left: &[u32x8; 8], right: &[u32x8; 8]) -> [u32x8; 8]
     ensures { (j : ℕ) → j < 8 → lane8 j result ≡ cv (parent_input mode.now (lane8 j left.now) (lane8 j right.now)) }
 {
     let [l0, l1, l2, l3, l4, l5, l6, l7] = *left;
@@ -244,19 +246,18 @@ pub(crate) fn neighbour_lanes(
     parent_lanes(mode, &left, &right)
 }
 
-// The value of a whole subtree of `8 * chunks` chunks.
-pub(crate) fn whole_cv(mode: &Mode, first: u64, bytes: &[u8], chunks: usize) -> [u32; 8]
+// The last compression over a whole subtree of `8 * chunks` chunks.
+pub(crate) fn whole_top(mode: &Mode, first: u64, bytes: &[u8], chunks: usize) -> Input
     requires some { 0 < chunks }
     requires len { length bytes.now ≡ 8192 * chunks }
     requires number { first + 8 * chunks < 2 ^ 64 }
-    ensures { IsPowerOfTwo chunks → result ≡ subtree_cv mode.now first bytes.now }
+    ensures { IsPowerOfTwo chunks → result ≡ top_input mode.now first bytes.now }
 {
     let [v0, v1, v2, v3, v4, v5, v6, v7] = subtree_lanes(mode, first, bytes, 0, chunks, chunks);
     let [v0, v1, v2, v3, v4, v5, v6, v7] = neighbour_lanes(mode, v0, v1, v2, v3, v4, v5, v6, v7);
     let [v0, v1, v2, v3, v4, v5, v6, v7] = neighbour_lanes(mode, v0, v1, v2, v3, v4, v5, v6, v7);
-    let [v0, v1, v2, v3, v4, v5, v6, v7] = neighbour_lanes(mode, v0, v1, v2, v3, v4, v5, v6, v7);
-    let [row, ..] = transposed(v0, v1, v2, v3, v4, v5, v6, v7);
-    row.to_array()
+    let [left, right, ..] = transposed(v0, v1, v2, v3, v4, v5, v6, v7);
+    parent_input(mode, &Cv(left.to_array()), &Cv(right.to_array()))
 }
 
 // How many chunks each lane has, where `len` bytes are a whole subtree of at most 512 chunks and at

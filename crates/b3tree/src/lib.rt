@@ -5,11 +5,13 @@
 
 pub use b3word::{Input, cv};
 pub use chunk::{BLOCK_LEN, CHUNK_LEN, chunk_input};
-pub use eight::{EightParents, FourParents, Parts, eight_parents};
+pub use eight::{EightParents, FourParents, Parts, eight_parents, lane_parents};
 pub use hasher::{Hasher, TooLong};
 pub use hashing::{hash, root_hash, rooted, subtree_cv};
+pub use lanes::parent_lanes;
 pub use mode::Mode;
 pub use output::{xof, xof_fits};
+pub use spaced::{spaced_chunks, spaced_words};
 pub use tree::{left_len, parent_input, top_input};
 pub use values::{Cv, Hash};
 
@@ -22,6 +24,7 @@ mod hashing;
 mod lanes;
 mod mode;
 mod output;
+mod spaced;
 mod stack;
 mod tree;
 mod values;

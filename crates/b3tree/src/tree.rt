@@ -6,7 +6,7 @@ ghost use Rattle.b3tree.specs.Tree.{IsLeftLen, left_len, parent_input, subtree_c
 
 use crate::chunk::{CHUNK_LEN, last_chunk_input};
 use crate::flags::PARENT;
-use crate::lanes::{chunks_a_lane, whole_cv};
+use crate::lanes::{chunks_a_lane, whole_top};
 use crate::mode::Mode;
 use crate::values::Cv;
 use b3word::{Input, cv};
@@ -49,22 +49,18 @@ pub(crate) fn parent_cv(mode: &Mode, left: [u32; 8], right: [u32; 8]) -> [u32; 8
     cv(&parent_input(mode, &Cv(left), &Cv(right)))
 }
 
-// The chaining value of the subtree over `bytes`, whose first chunk has the number `first`: a whole
-// subtree of 8 to 512 chunks by lanes.
+// The chaining value of the subtree over `bytes`, whose first chunk has the number `first`.
 #[cycle(subtrees)]
 pub(crate) fn subtree_value(mode: &Mode, first: u64, bytes: &[u8]) -> [u32; 8]
     requires { 1024 * first + length bytes.now ≤ 2 ^ 64 - 1 }
     ensures { result ≡ subtree_cv mode.now first bytes.now }
 {
-    match chunks_a_lane(bytes.len()) {
-        Some(chunks) => whole_cv(mode, first, bytes, chunks),
-        None => cv(&top_input(mode, first, bytes)),
-    }
+    cv(&top_input(mode, first, bytes))
 }
 
 /// The last compression of the tree over `bytes` whose first chunk has the number `first`, before it
 /// is known whether it is the root: that of the only chunk, or the parent of the trees over the left
-/// part and the rest (BLAKE3 paper, 2.5).
+/// part and the rest (BLAKE3 paper, 2.5). A whole subtree of 8 to 512 chunks goes by lanes.
 ///
 /// `cv` of it is `subtree_cv`. The bytes have to end within an input of at most 2^64 - 1 bytes.
 #[cycle(subtrees)]
@@ -79,6 +75,9 @@ pub fn top_input(mode: &Mode, first: u64, bytes: &[u8]) -> Input
 {
     if bytes.len() <= CHUNK_LEN {
         return last_chunk_input(mode, first, bytes);
+    }
+    if let Some(chunks) = chunks_a_lane(bytes.len()) {
+        return whole_top(mode, first, bytes, chunks);
     }
     let left_len = left_len(bytes.len() as u64);
     let (left, right) = bytes.split_at(left_len as usize);

@@ -1,11 +1,12 @@
 -- What an audit of a piece against a blob says.
-use Rattle.std.specs.Prelude.{◌≡◌, ℕ, ◌+◌, List, length, Some}
+use Rattle.std.specs.Prelude.{◌≡◌, ℕ, ◌+◌, ◌<◌, List, length, Option, None, Some}
 use Rattle.b3word.specs.declared.input.Input.{Input}
 use Rattle.bao_text.specs.Choice.{chunk_count}
 use Rattle.bao_check.specs.declared.checked.Checked.{Checked}
 use Rattle.bao_check.specs.Checked.{HoldsLast, piece_claimed, piece_mode, piece_places, piece_text}
 use Rattle.bao_check.specs.Inputs.{Names, blob_inputs, text_inputs}
 use Rattle.bao_check.specs.Pieces.{chunk_in, chunk_of}
+use Rattle.bao_bind.specs.declared.part.Part.{Part}
 use Rattle.bao_bind.specs.declared.verdict.Verdict.{Verdict}
 use Rattle.bao_bind.specs.declared.verdict.Verdict.TheVariants.{Agrees, Collision}
 
@@ -30,3 +31,10 @@ Says blob piece (Collision ours theirs) = (¬ AgreesWith blob piece) × NamesFro
 -- claims.
 abbrev pub IsOurs : List ℕ → ℕ → ℕ → List ℕ → Type 0
 IsOurs blob claimed number bytes = (chunk_of blob number ≡ Some bytes) × (number + 1 ≡ chunk_count claimed → claimed ≡ length blob)
+
+-- What comparing the chunks of the piece before number `to` found: that all are the blob's, or one that isn't.
+abbrev pub Compared : List ℕ → Checked → ℕ → Option Part → Type 0
+Compared blob piece to None =
+    (number : ℕ) (bytes : List ℕ) → number < to → chunk_in (piece_text piece) (piece_places piece) number ≡ Some bytes → IsOurs blob (piece_claimed piece) number bytes
+Compared blob piece to (Some chunk) =
+    (chunk_in (piece_text piece) (piece_places piece) chunk.first ≡ Some chunk.bytes.now) × (¬ IsOurs blob (piece_claimed piece) chunk.first chunk.bytes.now)

@@ -4,13 +4,16 @@ ghost use Rattle.b3tree.specs.Hashing.{hash};
 ghost use Rattle.bao_check.specs.Checked.{piece_claimed, piece_mode, piece_places, piece_root, piece_text};
 ghost use Rattle.bao_check.specs.Pieces.{chunk_in, chunk_of};
 ghost use Rattle.bao_text.specs.Choice.{chunk_count};
-ghost use Rattle.bao_bind.specs.Verdict.{AgreesWith, IsOurs, Says};
+ghost use Rattle.bao_bind.specs.Verdict.{AgreesWith, Compared, IsOurs, Says};
 
 use crate::part::Part;
 use crate::search::walk;
 use crate::verdict::{AuditFault, Verdict};
-use b3tree::{CHUNK_LEN, hash};
+use b3tree::{CHUNK_LEN, Hash, Hasher};
 use bao_check::Checked;
+
+// The bytes of a blob that are hashed before their chunks are compared: they are in the cache then.
+const SHARE_LEN: usize = 512 * CHUNK_LEN;
 
 // How many chunks `n` bytes have.
 fn chunk_count(n: u64) -> u64
@@ -45,15 +48,22 @@ fn is_ours(blob: &[u8], claimed: u64, number: u64, bytes: &[u8]) -> bool
 }
 
 // The first chunk of the piece that isn't the blob's or, as the last of the claimed length, doesn't end the
-// blob.
-fn first_apart<'a>(blob: &[u8], piece: &Checked<'a>) -> Option<Part<'a>>
-    ensures none { IfNone result (AgreesWith blob.now piece.now) }
-    ensures there { IfSome result (λ chunk. chunk_in (piece_text piece.now) (piece_places piece.now) chunk.first ≡ Some chunk.bytes.now) }
-    ensures apart { IfSome result (λ chunk. ¬ IsOurs blob.now (piece_claimed piece.now) chunk.first chunk.bytes.now) }
+// blob: of those before number `to`, where `apart` is that of those before `from`.
+fn first_apart<'a>(
+    blob: &[u8],
+    piece: &Checked<'a>,
+    from: u64,
+    to: u64,
+    apart: Option<Part<'a>>,
+) -> Option<Part<'a>>
+    ensures { Compared blob.now piece.now from apart → Compared blob.now piece.now to result }
 {
+    if apart.is_some() {
+        return apart;
+    }
     let claimed = piece.claimed();
     let (first, after) = piece.chunks();
-    'chunks: for number in first..after {
+    'chunks: for number in first.max(from)..after.min(to) {
         if let Some(bytes) = piece.chunk(number) {
             if !is_ours(blob, claimed, number, bytes) {
                 return Some(Part {
@@ -66,11 +76,32 @@ fn first_apart<'a>(blob: &[u8], piece: &Checked<'a>) -> Option<Part<'a>>
     None
 }
 
-// Whether the blob's hash in the piece's mode is the piece's root.
-fn has_root(blob: &[u8], piece: &Checked<'_>) -> bool
-    ensures { IsTrue result ↔ (hash (piece_mode piece.now) blob.now ≡ piece_root piece.now) }
+// The blob's hash in the piece's mode, and the first chunk of the piece that isn't the blob's. Each share of
+// the blob is compared as soon as it was hashed.
+fn hash_and_compare<'a>(blob: &[u8], piece: &Checked<'a>) -> (Hash, Option<Part<'a>>)
+    ensures hash { result.0.0 ≡ hash (piece_mode piece.now) blob.now }
+    ensures agrees { IfNone result.1 (AgreesWith blob.now piece.now) }
+    ensures there { IfSome result.1 (λ chunk. chunk_in (piece_text piece.now) (piece_places piece.now) chunk.first ≡ Some chunk.bytes.now) }
+    ensures apart { IfSome result.1 (λ chunk. ¬ IsOurs blob.now (piece_claimed piece.now) chunk.first chunk.bytes.now) }
 {
-    hash(&piece.mode(), blob) == piece.root()
+    let mut hasher = Hasher::new(&piece.mode());
+    let mut apart = None;
+    let mut number = 0;
+    let mut rest = blob;
+    'shares: while !rest.is_empty() {
+        let (share, others) = rest.split_at(rest.len().min(SHARE_LEN));
+        if hasher.update(share).is_err() {
+            // A blob in memory has fewer bytes than that.
+            unreachable!();
+        }
+        rest = others;
+        let end = ((blob.len() - rest.len()) / CHUNK_LEN) as u64;
+        apart = first_apart(blob, piece, number, end, apart);
+        number = end;
+    }
+    let (_, after) = piece.chunks();
+    let apart = first_apart(blob, piece, number, after, apart);
+    (hasher.finalize(), apart)
 }
 
 /// Whether a piece that was accepted under a blob's root is of that blob; and if it isn't, two inputs of the
@@ -79,15 +110,16 @@ fn has_root(blob: &[u8], piece: &Checked<'_>) -> bool
 ///
 /// 601 `OtherRoot` exactly where the blob's hash in the piece's mode isn't the piece's root. Else `Agrees`
 /// exactly where each chunk of the piece is the blob's chunk of that number and, where the piece has a
-/// tail, its length is the blob's. It takes no memory, and costs a hash and a comparison where they agree.
+/// tail, its length is the blob's. It takes no memory, and costs a hash and a comparison.
 pub fn audit(blob: &[u8], piece: &Checked<'_>) -> Result<Verdict, AuditFault>
     ensures other_root { IsErr result ↔ (hash (piece_mode piece.now) blob.now ≢ piece_root piece.now) }
     ensures says { IfOk result (λ verdict. Says blob.now piece.now verdict) }
 {
-    if !has_root(blob, piece) {
+    let (hash, apart) = hash_and_compare(blob, piece);
+    if hash != piece.root() {
         return Err(AuditFault::OtherRoot);
     }
-    let Some(chunk) = first_apart(blob, piece) else {
+    let Some(chunk) = apart else {
         return Ok(Verdict::Agrees);
     };
     let mode = piece.mode();

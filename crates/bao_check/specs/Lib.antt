@@ -14,7 +14,7 @@ pub mod Tail
 pub mod Leaves
 pub mod Outline
 pub mod Sources
-pub mod Eight
+pub mod Whole
 pub mod Laws
 pub mod Streams
 pub use Rattle.bao_text.specs.Choice

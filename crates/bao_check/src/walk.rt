@@ -1,16 +1,16 @@
-ghost use Rattle.std.specs.Prelude.{◌≡◌, ℕ, List, [], ◌+◌, ◌-◌, ◌*◌, ◌^◌, ◌≤◌, length, drop, IfErr, IfOk, IsTrue, OnOk};
+ghost use Rattle.std.specs.Prelude.{◌≡◌, ℕ, List, [], ◌+◌, ◌-◌, ◌*◌, ◌^◌, ◌≤◌, length, drop, IfErr, IfOk, IfSome, OnOk};
 ghost use Rattle.bao_text.specs.Nodes.{Side, left, right, subtree_nodes};
 ghost use Rattle.bao_check.specs.Accepted.{part_value};
-ghost use Rattle.bao_check.specs.Eight.{HasEightAhead};
+ghost use Rattle.bao_check.specs.Whole.{HasWholeAhead};
 ghost use Rattle.bao_check.specs.Walk.{Grows, IsCutShort, IsRefused, Meets, Passes, PassesText, Stops, StopsText, Takes, chunk_taken, parent_taken};
 ghost use Rattle.bao_check.specs.Forms.{form_nodes};
 ghost use Rattle.bao_text.specs.Cut.{claimed};
 
 use crate::asked::{Asked, meets};
-use crate::eight::{EIGHT_LEN, EIGHT_TEXT_LEN, is_text_of_eight};
 use crate::fault::CheckFault;
 use crate::form::Form;
 use crate::source::Source;
+use crate::whole::{EIGHT_LEN, chunks_a_lane, is_whole_outline, is_whole_text};
 use b3tree::{CHUNK_LEN, Cv, Hash, Mode, left_len, parent_input, top_input};
 use bao_text::Choice;
 
@@ -100,29 +100,44 @@ fn check_parent<S: Source>(
     }
 }
 
-// Whether the next bytes are at hand and are the text of the subtree over `n` bytes from chunk `number` on,
-// eight whole chunks, all good.
-fn has_eight_at_hand<S: Source>(
+// How many bytes the text of the subtree over `n` bytes from chunk `number` on has, where it is a whole
+// subtree that is wanted whole, and its text is at hand and all good.
+fn whole_at_hand<S: Source>(
     source: &S,
     choice: &Choice,
     mode: &Mode,
     asked: &Asked,
     number: u64,
     n: u64,
-) -> bool
+) -> Option<usize>
     requires { 1024 * number + n ≤ 2 ^ 64 - 1 }
-    ensures { IsTrue result → HasEightAhead asked.now choice.now mode.now number n (S.at_hand source.now) }
+    ensures { IfSome result (λ len. HasWholeAhead asked.now choice.now mode.now number n len (S.at_hand source.now)) }
 {
+    if !choice.covers(CHUNK_LEN as u64 * number, n) {
+        return None;
+    }
+    let chunks = chunks_a_lane(n)?;
     let bytes = source.at_hand();
-    n == EIGHT_LEN as u64
-        && choice.has_chunks()
-        && choice.covers(CHUNK_LEN as u64 * number, n)
-        && bytes.len() >= EIGHT_TEXT_LEN
-        && is_text_of_eight(mode, asked, number, &bytes[..EIGHT_TEXT_LEN])
+    if choice.has_chunks() {
+        let len = (EIGHT_LEN + 8 * PARENT_LEN) * chunks - PARENT_LEN;
+        if bytes.len() >= len && is_whole_text(mode, asked, number, &bytes[..len], chunks) {
+            return Some(len);
+        }
+    } else {
+        let len = 8 * PARENT_LEN * chunks - PARENT_LEN;
+        if chunks > 1
+            && bytes.len() >= len
+            && is_whole_outline(mode, asked, &bytes[..len], chunks / 2)
+        {
+            return Some(len);
+        }
+    }
+    None
 }
 
 // Takes the wanted nodes of the subtree over `n` bytes from chunk `number` on, and verifies each before
-// the next is taken. Eight whole chunks that are at hand are first tried at once.
+// the next is taken. A whole subtree of 8 to 512 chunks that is at hand
+// is first tried at once.
 pub(crate) fn check_subtree<S: Source>(
     source: &mut S,
     choice: &Choice,
@@ -149,8 +164,8 @@ pub(crate) fn check_subtree<S: Source>(
             Ok(())
         };
     }
-    if has_eight_at_hand(source, choice, mode, asked, number, n) {
-        source.pass(EIGHT_TEXT_LEN);
+    if let Some(len) = whole_at_hand(source, choice, mode, asked, number, n) {
+        source.pass(len);
         return Ok(());
     }
     let (left, right) = check_parent(source, mode, asked)?;

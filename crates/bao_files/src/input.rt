@@ -85,9 +85,12 @@ pub(crate) fn size_of<'a, F: OpenFile>(file: &F, path: &'a str) -> Result<u64, F
 }
 
 /// How many bytes a regular file says it has, where they are enough to be worth threads.
-pub fn shared_len<F: OpenFile>(file: &F) -> Option<u64> {
+pub fn shared_len<F: OpenFile>(file: &F) -> Option<u64>
+    ensures { IfSome result (λ len. 4194304 ≤ len) }
+{
     let metadata = file.metadata().ok()?;
-    (metadata.is_file() && metadata.len() >= LEAST_SHARED_LEN).then_some(metadata.len())
+    let len = metadata.len();
+    (metadata.is_file() && len >= LEAST_SHARED_LEN).then_some(len)
 }
 
 /// All that `input`, the file at `path`, has from where it stands on.

@@ -45,3 +45,6 @@ returns t c = λ sides from.
     c.find_chunk-2.ensures (sides ++ right ∷ []) from_far
     ∙ (λ i. chunk_place (placed (c.args.at + 64 + size i) (subtree_nodes c.args.choice.now (c.args.number + parted i / 1024) (c.args.n - parted i) (sides ++ right ∷ []) from_far)) c.args.i)
     ∙ sym (chunk_place-far c.args.choice.now c.args.number c.args.n sides from c.args.at c.args.i (sym c.wants.ensures ∙ c.if-not-wants.false) (omega arith) after)
+
+pub returns-in-Some : goal.returns-in-Some
+returns-in-Some t c = λ sides from. sym (c.in-Some.ensures sides from)

@@ -9,7 +9,6 @@ use Rattle.bao_text.specs.Nodes.{Node, left, right, subtree_nodes, subtree_size}
 use Rattle.bao_text.proofs.SubtreeNodes.{subtree_nodes-unwanted}
 use Rattle.bao_check.specs.declared.asked.Asked.{Asked}
 use Rattle.bao_check.specs.Walk.{Meets, Passes, Stops, chunk_taken}
-use Rattle.bao_check.proofs.EightGood.{eight_passes}
 use Rattle.bao_check.proofs.Parts.{below}
 use Rattle.bao_check.proofs.Walking.{Grows-from_Takes, Grows-then, TookParent, chunk_passes, chunk_stops, far_stops, leaf_nodes, leaf_without, near_stops, none_passes, parent_stops, whole_passes}
 use Rattle.bao_check.proofs.walk.+check_subtree.Goals as goal
@@ -53,10 +52,11 @@ returns-else-has_chunks-clause-ok g t c = λ sides from.
     none_passes c.args.asked.now sides c.args.mode.now (g.S.Source.taken c.args.source.now) (subtree_nodes c.args.choice.now c.args.number c.args.n sides from)
     (leaf_without c.args.choice.now c.args.number c.args.n sides from (sym c.wants.ensures ∙ c.if-not-wants.false) c.if-n.true (sym c.has_chunks.ensures ∙ c.if-has_chunks.false))
 
-pub returns-then-has_eight_at_hand-clause-ok : goal.returns-then-has_eight_at_hand-clause-ok
-returns-then-has_eight_at_hand-clause-ok g t c = λ sides from.
-    eight_passes c.args.asked.now c.args.choice.now c.args.mode.now c.args.number c.args.n (g.S.Source.taken c.args.source.now) (g.S.Source.taken c.pass.new.self)
-    (g.S.Source.at_hand c.args.source.now) sides from (omega arith) (c.has_eight_at_hand.ensures c.if-has_eight_at_hand.true) c.pass.ensures.grown
+pub returns-in-Some-clause-ok : goal.returns-in-Some-clause-ok
+returns-in-Some-clause-ok g t c = λ sides from.
+    let old : List ℕ = g.S.Source.taken c.args.source.now in
+    subst (λ (new : List ℕ). Passes c.args.asked.now sides c.args.mode.now new (length old) (subtree_nodes c.args.choice.now c.args.number c.args.n sides from))
+    (sym c.pass.ensures.grown) (c.in-Some.ensures.passes old sides from)
 
 pub returns-in_err-left-clause-err : goal.returns-in_err-left-clause-err
 returns-in_err-left-clause-err g t c = λ sides from.
