@@ -56,10 +56,10 @@ fn first_apart<'a>(
     to: u64,
     apart: Option<Part<'a>>,
 ) -> Option<Part<'a>>
-    ensures { Compared blob.now piece.now from apart → Compared blob.now piece.now to result }
+    ensures { Compared blob.now piece.now from apart.entry → Compared blob.now piece.now to result }
 {
-    if apart.is_some() {
-        return apart;
+    if let Some(chunk) = apart {
+        return Some(chunk);
     }
     let claimed = piece.claimed();
     let (first, after) = piece.chunks();
@@ -84,6 +84,7 @@ fn hash_and_compare<'a>(blob: &[u8], piece: &Checked<'a>) -> (Hash, Option<Part<
     ensures there { IfSome result.1 (λ chunk. chunk_in (piece_text piece.now) (piece_places piece.now) chunk.first ≡ Some chunk.bytes.now) }
     ensures apart { IfSome result.1 (λ chunk. ¬ IsOurs blob.now (piece_claimed piece.now) chunk.first chunk.bytes.now) }
 {
+    let len = blob.len();
     let mut hasher = Hasher::new(&piece.mode());
     let mut apart = None;
     let mut number = 0;
@@ -95,7 +96,7 @@ fn hash_and_compare<'a>(blob: &[u8], piece: &Checked<'a>) -> (Hash, Option<Part<
             unreachable!();
         }
         rest = others;
-        let end = ((blob.len() - rest.len()) / CHUNK_LEN) as u64;
+        let end = ((len - rest.len()) / CHUNK_LEN) as u64;
         apart = first_apart(blob, piece, number, end, apart);
         number = end;
     }

@@ -4,7 +4,7 @@ use Rattle.bao_check.specs.Pieces.{chunk_in}
 use Rattle.bao_bind.specs.Verdict.{IsOurs}
 use Rattle.bao_bind.proofs.bind.first_apart.Given as goal
 
--- the chunks before this one are the blob's
+-- the chunks from the first to this one are the blob's
 abbrev pub invariant-chunks : goal.invariant-chunks
 invariant-chunks l =
-    (i : ℕ) (bytes : List ℕ) → l.first ≤ i → i < l.number → chunk_in (piece_text l.piece) (piece_places l.piece) i ≡ Some bytes → IsOurs l.blob l.claimed i bytes
+    (i : ℕ) (bytes : List ℕ) → l.from ≤ i → i < l.number → chunk_in (piece_text l.piece) (piece_places l.piece) i ≡ Some bytes → IsOurs l.blob l.claimed i bytes
