@@ -98,6 +98,8 @@ POOL_ONE = "hash_pool, 1 worker"
 POOL_FOUR = "hash_pool, 4 workers"
 PIECES_ONE = "hashes of 16 KiB by one thread"
 PIECES_FOUR = "hashes of 16 KiB by four threads"
+EIGHT_EACH = "hashes of 8 KiB each"
+SIXTY_FOUR_EACH = "hashes of 64 KiB each"
 SMALL_PIECES = "Hasher, pieces of 64 KiB"
 LARGE_PIECES = "Hasher, pieces of 1 MiB"
 FILE_ONE = "hash_source, 1 range"
@@ -144,6 +146,8 @@ ROWS = [
     (POOL_FOUR, "b3par::hash_pool in one process, four workers"),
     (PIECES_ONE, "b3tree::hash of one piece in one process, one thread, as often as the file has such pieces"),
     (PIECES_FOUR, "as before, by four threads, which share a count of how often, and nothing else"),
+    (EIGHT_EACH, "b3tree::hash in one process, one thread, of each 8 KiB of the file by itself"),
+    (SIXTY_FOUR_EACH, "as before, of each 64 KiB"),
     (SMALL_PIECES, "b3tree::Hasher in one process, one thread"),
     (LARGE_PIECES, "b3tree::Hasher in one process, one thread"),
     (FILE_ONE, "b3read::hash_source in one process, one thread, reads the file in pieces"),
@@ -193,6 +197,7 @@ RATIOS = [
     ("several threads", "hash", POOL_FOUR, "at least 3.0 on four processors"),
     ("several threads", PIECES_ONE, PIECES_FOUR, "4 on four processors of their own: what threads are worth on this machine"),
     ("several threads", FILE_ONE, FILE_RANGES, ""),
+    ("one thread", SIXTY_FOUR_EACH, EIGHT_EACH, "at least 0.7: small files"),
     ("one thread", SMALL_PIECES, "hash", "at most 1.3"),
     ("one thread", LARGE_PIECES, "hash", "at most 1.1"),
     ("one thread", OUTBOARD, HASH_ONE, "at most 1.5"),
@@ -200,8 +205,8 @@ RATIOS = [
     ("one thread", DECODE, HASH_ONE, ""),
     ("one thread", SLICE, SLICE_OF_SIXTEENTH, "about 1: not with the encoding"),
     ("one thread", LARGER_SLICE, SLICE, "about 8: with the slice"),
-    ("one thread", CHECK, "hash", "at most 1.15"),
-    ("one thread", CHECK_OUTBOARD, "hash", ""),
+    ("one thread", CHECK, "hash", "at most 1.1"),
+    ("one thread", CHECK_OUTBOARD, "hash", "at most 0.1"),
     ("one thread", AUDIT, "hash", "at most 1.3: one hash and one comparison"),
     ("one thread", GATHER_TEXTS, HASH_OF_GATHERED, "at most 3.5: a check, a store, a read and a hash"),
     ("as a user runs it", GATHER, HASH_GATHERED, "at most 6"),

@@ -15,6 +15,7 @@ mod measure;
 mod memory;
 mod shared;
 mod slices;
+mod small;
 mod stores;
 mod threads;
 mod way;
@@ -45,6 +46,8 @@ fn run<R: Runtime + Files<File = File> + AllocGlobal + Threads + Sync>(rt: &R) -
     let bytes = fs::read(rt, path).context("reading the file")?;
     let times = measure::least_times(rt, bytes.as_slice())?;
     measure::print(rt, &times)?;
+    let small = small::least_times(rt, bytes.as_slice())?;
+    small::print(rt, &small)?;
     let of_threads = threads::least_times(rt, bytes.as_slice())?;
     threads::print(rt, &of_threads)?;
     let file = fs::open(rt, path).context("opening the file")?;
