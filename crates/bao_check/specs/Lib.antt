@@ -17,6 +17,7 @@ pub mod Sources
 pub mod Whole
 pub mod Laws
 pub mod Streams
+pub mod Subtree
 pub use Rattle.bao_text.specs.Choice
 pub use Rattle.bao_text.specs.Nodes
 pub use Rattle.bao_text.specs.Texts

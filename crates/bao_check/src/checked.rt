@@ -32,8 +32,8 @@ impl<'a> Checked<'a> {
     ghost use Rattle.bao_check.specs.Checked.{HasLastCertificate, IsPiece, piece_claimed, piece_mode, piece_nodes, piece_places, piece_root, piece_text, HoldsLast};
     ghost use Rattle.bao_check.specs.Tail.{tail_piece};
 
-    // The piece that an accepted text is.
-    pub(crate) fn new(mode: &Mode, root: &Hash, start: u64, len: u64, text: &'a [u8]) -> Checked<'a>
+    /// The piece that an accepted text is.
+    pub fn new(mode: &Mode, root: &Hash, start: u64, len: u64, text: &'a [u8]) -> Checked<'a>
         requires { IsAccepted mode.now root.now.0 text.now (slice_nodes text.now start len) }
         ensures { IsPiece result mode.now root.now.0 start len text.now }
     {

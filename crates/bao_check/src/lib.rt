@@ -7,6 +7,7 @@ pub use fault::CheckFault;
 pub use law::{accepted_binds, written_accepted};
 pub use outline::Outline;
 pub use read::{check_stream, read_checked};
+pub use subtree::Subtree;
 pub use tail::Tail;
 
 mod asked;
@@ -22,6 +23,7 @@ mod parent;
 mod read;
 mod source;
 mod stream;
+mod subtree;
 mod tail;
 mod text_lanes;
 mod walk;

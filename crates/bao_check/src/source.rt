@@ -1,4 +1,4 @@
-ghost use Rattle.std.specs.Prelude.{◌≡◌, ℕ, ◌≤◌, List, [], ◌++◌, length, take, Option, IfErr, IfOk};
+ghost use Rattle.std.specs.Prelude.{◌≡◌, ℕ, ◌≤◌, List, [], ◌++◌, length, take, drop, Option, IfErr, IfOk};
 ghost use Rattle.std.specs.Io.KnownBytes.{Consumes};
 ghost use Rattle.bao_check.specs.declared.fault.CheckFault.{CheckFault};
 ghost use Rattle.bao_check.specs.Walk.{IsSourceFault, TakenWhole, Takes};
@@ -63,6 +63,15 @@ impl<'a> Bytes<'a> {
         ensures ahead { bytes_ahead result ≡ text.now }
     {
         Bytes { text, at: 0 }
+    }
+
+    // Those before place `at` are.
+    pub(crate) fn starting_at(text: &'a [u8], at: usize) -> Bytes<'a>
+        requires { at ≤ length text.now }
+        ensures taken { bytes_taken result ≡ take at text.now }
+        ensures ahead { bytes_ahead result ≡ drop at text.now }
+    {
+        Bytes { text, at }
     }
 }
 

@@ -76,7 +76,7 @@ pub(crate) fn part_values(parent: &[u8]) -> (Cv, Cv)
 }
 
 // Takes the parent that comes next and verifies it, and answers the values of its left and right part.
-fn check_parent<S: Source>(
+pub(crate) fn check_parent<S: Source>(
     source: &mut S,
     mode: &Mode,
     asked: &Asked,

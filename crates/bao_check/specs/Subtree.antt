@@ -1,0 +1,67 @@
+-- What the check of a subtree of a text comes to, and how the checks of its two parts make it up.
+use Rattle.std.specs.Prelude.{◌≡◌, ℕ, ◌*◌, ◌<◌, ◌≤◌, List, length, take, drop, Some, true}
+use Rattle.b3tree.specs.declared.mode.Mode.{Mode}
+use Rattle.bao_text.specs.declared.choice.Choice.{Choice}
+use Rattle.bao_text.specs.Choice.{wants}
+use Rattle.bao_text.specs.Nodes.{Node, Side, subtree_nodes}
+use Rattle.bao_check.specs.declared.asked.Asked.{Asked}
+use Rattle.bao_check.specs.declared.fault.CheckFault.{CheckFault}
+use Rattle.bao_check.specs.declared.fault.CheckFault.TheVariants.{Trailing}
+use Rattle.bao_check.specs.declared.subtree.Subtree.{Subtree}
+use Rattle.bao_check.specs.Accepted.{IsAccepted}
+use Rattle.bao_check.specs.Faults.{IsFirstFault}
+use Rattle.bao_check.specs.Walk.{Passes, Stops}
+
+-- The walk through the wanted nodes of the subtree over n bytes from chunk `number` on, which begin at the
+-- text's place `at`, ends well, at the place `end`.
+pub record PassesIn (asked : Asked) (mode : Mode) (choice : Choice) (number n : ℕ) (text : List ℕ) (at end : ℕ) : Type 0 where
+  pub from : at ≤ end
+  pub within : end ≤ length text
+  pub passes : (sides : List Side) (source : ℕ) → Passes asked sides mode (take end text) at (subtree_nodes choice number n sides source)
+
+-- It ends at a node that isn't there or isn't good, with this fault.
+pub record StopsIn (asked : Asked) (mode : Mode) (choice : Choice) (number n : ℕ) (text : List ℕ) (at : ℕ) (fault : CheckFault) : Type 0 where
+  pub end : ℕ
+  pub from : at ≤ end
+  pub within : end ≤ length text
+  pub stops : (sides : List Side) (source : ℕ)
+      → Stops (λ _. ⊥) asked sides mode (take end text) (Some (drop end text)) at (subtree_nodes choice number n sides source) fault
+
+-- it begins in the text
+abbrev pub BeginsIn : List ℕ → Subtree → Type 0
+BeginsIn text it = it.at ≤ length text
+
+-- all nodes of the subtree are good, and the last of them ends at this place of the text
+abbrev pub PassesTo : Subtree → List ℕ → ℕ → Type 0
+PassesTo it text end = PassesIn it.asked it.mode it.choice it.number it.len text it.at end
+
+-- this is its first fault
+abbrev pub StopsWith : Subtree → List ℕ → CheckFault → Type 0
+StopsWith it text fault = StopsIn it.asked it.mode it.choice it.number it.len text it.at fault
+
+-- how many bytes of the blob it has
+abbrev pub subtree_len : Subtree → ℕ
+subtree_len it = it.len
+
+-- its top is a wanted parent
+abbrev pub HasParent : Subtree → Type 0
+HasParent it = (wants it.choice (1024 * it.number) it.len ≡ true) × (1024 < it.len)
+
+-- Two smaller subtrees, whose checks tell what that of the whole comes to: it passes where both pass, and
+-- else a fault of the left one comes before those of the right one.
+pub record IsSplit (whole left right : Subtree) (text : List ℕ) : Type 0 where
+  pub left_less : left.len < whole.len
+  pub right_less : right.len < whole.len
+  pub left_begins : BeginsIn text left
+  pub right_begins : BeginsIn text right
+  pub passes : (middle end : ℕ) → PassesTo left text middle → PassesTo right text end → PassesTo whole text end
+  pub left_stops : (fault : CheckFault) → StopsWith left text fault → StopsWith whole text fault
+  pub right_stops : (middle : ℕ) (fault : CheckFault) → PassesTo left text middle → StopsWith right text fault → StopsWith whole text fault
+
+-- A subtree that is all of a text but its length: its check tells whether the text is accepted, and else its
+-- first fault.
+pub record IsTopOf (top : Subtree) (mode : Mode) (root text : List ℕ) (nodes : List Node) : Type 0 where
+  pub begins : BeginsIn text top
+  pub accepted : (end : ℕ) → PassesTo top text end → length text ≤ end → IsAccepted mode root text nodes
+  pub trailing : (end : ℕ) → PassesTo top text end → end < length text → IsFirstFault mode root text nodes (Trailing end)
+  pub stopped : (fault : CheckFault) → StopsWith top text fault → IsFirstFault mode root text nodes fault

@@ -1,0 +1,142 @@
+ghost use Rattle.std.specs.Prelude.{◌+◌, ◌-◌, ◌*◌, ◌^◌, ◌<◌, ◌≤◌, length, IfErr, IfOk, MatchResult};
+ghost use Rattle.bao_check.specs.declared.fault.CheckFault.{CheckFault};
+ghost use Rattle.bao_check.specs.Accepted.{IsAccepted, slice_nodes};
+ghost use Rattle.bao_check.specs.Faults.{IsFirstFault};
+
+use crate::asked::Asked;
+use crate::fault::CheckFault;
+use crate::locate::nodes_size;
+use crate::source::{Bytes, Source};
+use crate::walk::{LENGTH_LEN, check_parent, check_subtree, claimed};
+use b3tree::{CHUNK_LEN, Cv, Hash, Mode, left_len};
+use bao_text::Choice;
+
+/// A part of the check of a text: the wanted nodes of a subtree, the place at which they begin in the text, and
+/// the value that its top must have. The parts of a text can be checked in any order, and at once. None of the
+/// calls takes memory, and no byte is copied.
+#[derive(Clone, Copy)]
+pub struct Subtree {
+    mode: Mode,
+    choice: Choice,
+    asked: Asked,
+    // The number of its first chunk, and how many bytes of the blob it has.
+    number: u64,
+    len: u64,
+    at: usize,
+    ghost range: { 1024 * number + len ≤ 2 ^ 64 - 1 },
+}
+
+impl Subtree {
+    ghost use Rattle.bao_check.specs.Subtree.{BeginsIn, HasParent, IsSplit, IsTopOf, PassesTo, StopsWith};
+
+    /// All nodes of `text`, as the slice of `len` bytes from byte `start` on of the blob with the hash `root` in
+    /// `mode`.
+    ///
+    /// The text is accepted where this subtree passes up to the text's end. Where it passes up to a place before
+    /// that, something is trailing there (503), and else its first fault is the text's. Refused: 501 `Short` at 0
+    /// where the text ends within its length.
+    pub fn of_slice(
+        mode: &Mode,
+        root: &Hash,
+        start: u64,
+        len: u64,
+        text: &[u8],
+    ) -> Result<Subtree, CheckFault>
+        ensures top { IfOk result (λ top. IsTopOf top mode.now root.now.0 text.now (slice_nodes text.now start len)) }
+        ensures short { IfErr result (λ fault. IsFirstFault mode.now root.now.0 text.now (slice_nodes text.now start len) fault) }
+
+        // Whatever the result: a text with a fault isn't accepted.
+        ensures either { (fault : CheckFault) → IsFirstFault mode.now root.now.0 text.now (slice_nodes text.now start len) fault
+            → ¬ IsAccepted mode.now root.now.0 text.now (slice_nodes text.now start len) }
+    {
+        if text.len() < LENGTH_LEN {
+            return Err(CheckFault::Short { at: 0 });
+        }
+        let total = claimed(text);
+        Ok(Subtree {
+            mode: *mode,
+            choice: Choice::of_slice(total, start, len),
+            asked: Asked {
+                top: true,
+                value: Cv::from_bytes(&root.0),
+            },
+            number: 0,
+            len: total,
+            at: LENGTH_LEN,
+        })
+    }
+
+    /// How many of its chunks are wanted. It can be split where they are two or more.
+    pub fn chunks(&self) -> u64
+        ensures { 1 < result → HasParent self.now }
+    {
+        let chunk_len = CHUNK_LEN as u64;
+        let at = chunk_len * self.number;
+        if !self.choice.wants(at, self.len) {
+            return 0;
+        }
+        let first = self.choice.start().max(at) / chunk_len;
+        let after = self.choice.end().min(at + self.len).div_ceil(chunk_len);
+        after.saturating_sub(first)
+    }
+
+    /// Verifies the parent at its top, and answers its left and its right part, which are checked apart.
+    ///
+    /// Refused: 501 `Short` where the text ends within the parent, 502 `Mismatch` where it hasn't the value that is
+    /// asked for; both are the subtree's first fault.
+    pub fn split(&self, text: &[u8]) -> Result<(Subtree, Subtree), CheckFault>
+        requires begins { BeginsIn text.now self.now }
+        requires parent { HasParent self.now }
+        ensures { MatchResult result (λ parts. IsSplit self.now parts.0 parts.1 text.now) (StopsWith self.now text.now) }
+    {
+        let mut source = Bytes::starting_at(text, self.at);
+        let (left_value, right_value) = check_parent(&mut source, &self.mode, &self.asked)?;
+        let left_at = source.taken().len();
+        let left_len = left_len(self.len);
+        let left_size = nodes_size(&self.choice, self.number, left_len);
+        // Where the text ends before the right part begins, the left one has a fault.
+        let right_at = (left_at as u128 + left_size).min(text.len() as u128);
+        let left = Subtree {
+            mode: self.mode,
+            choice: self.choice,
+            asked: Asked {
+                top: false,
+                value: left_value,
+            },
+            number: self.number,
+            len: left_len,
+            at: left_at,
+        };
+        let right = Subtree {
+            mode: self.mode,
+            choice: self.choice,
+            asked: Asked {
+                top: false,
+                value: right_value,
+            },
+            number: self.number + left_len / CHUNK_LEN as u64,
+            len: self.len - left_len,
+            at: right_at as usize,
+        };
+        Ok((left, right))
+    }
+
+    /// Checks all of it on one thread, and answers the place of the text at which its last node ends.
+    ///
+    /// Refused: 501 `Short` and 502 `Mismatch`, its first fault in the order of the text.
+    pub fn check(&self, text: &[u8]) -> Result<usize, CheckFault>
+        requires { BeginsIn text.now self.now }
+        ensures { MatchResult result (PassesTo self.now text.now) (StopsWith self.now text.now) }
+    {
+        let mut source = Bytes::starting_at(text, self.at);
+        check_subtree(
+            &mut source,
+            &self.choice,
+            &self.mode,
+            &self.asked,
+            self.number,
+            self.len,
+        )?;
+        Ok(source.taken().len())
+    }
+}

@@ -1,0 +1,14 @@
+use Rattle.bao_check.specs.declared.fault.CheckFault.TheVariants.{Trailing}
+use Rattle.bao_join.proofs.checks.check_slice_join.Goals as goal
+
+pub returns-then-end-text-clause-accepted : goal.returns-then-end-text-clause-accepted
+returns-then-end-text-clause-accepted g c = (
+  λ never. cc,
+  λ accepted. absurd (c.in_ok-top.ensures.either (Trailing c.in_ok-end.end) (c.in_ok-top.ensures.top.trailing c.in_ok-end.end c.in_ok-end.ensures c.if-end-text.true) accepted),
+)
+
+pub returns-then-end-text-clause-fault : goal.returns-then-end-text-clause-fault
+returns-then-end-text-clause-fault g c = c.in_ok-top.ensures.top.trailing c.in_ok-end.end c.in_ok-end.ensures c.if-end-text.true
+
+pub new-requires : goal.new-requires
+new-requires g c = c.in_ok-top.ensures.top.accepted c.in_ok-end.end c.in_ok-end.ensures c.if-end-text.false
