@@ -105,6 +105,7 @@ LARGE_PIECES = "Hasher, pieces of 1 MiB"
 FILE_ONE = "hash_source, 1 range"
 FILE_RANGES = "hash_source, 16 ranges"
 CHECK = "check_combined"
+CHECK_JOINED = "check_combined_join"
 CHECK_OUTBOARD = "check_outboard"
 CHECK_SLICE = "check_slice of 1 MiB"
 AUDIT = "audit of the whole encoding"
@@ -156,6 +157,7 @@ ROWS = [
     (SLICE_OF_SIXTEENTH, "as before, from a combined encoding a sixteenth as long"),
     (LARGER_SLICE, "as before, from the file's combined encoding"),
     (CHECK, "bao_check::check_combined in one process, one thread, of the file's combined encoding"),
+    (CHECK_JOINED, "bao_join::check_combined_join in one process, several threads, of the same"),
     (CHECK_OUTBOARD, "bao_check::check_outboard in one process, one thread, of the file's outboard encoding"),
     (CHECK_SLICE, "bao_check::check_slice in one process, one thread, of a slice of it"),
     (AUDIT, "bao_bind::audit in one process, one thread, of the file and its combined encoding, which agree"),
@@ -206,6 +208,7 @@ RATIOS = [
     ("one thread", SLICE, SLICE_OF_SIXTEENTH, "about 1: not with the encoding"),
     ("one thread", LARGER_SLICE, SLICE, "about 8: with the slice"),
     ("one thread", CHECK, "hash", "at most 1.1"),
+    ("several threads", CHECK, CHECK_JOINED, "at least 2.5 on four processors"),
     ("one thread", CHECK_OUTBOARD, "hash", "at most 0.1"),
     ("one thread", AUDIT, "hash", "at most 1.3: one hash and one comparison"),
     ("one thread", GATHER_TEXTS, HASH_OF_GATHERED, "at most 3.5: a check, a store, a read and a hash"),

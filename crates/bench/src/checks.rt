@@ -1,11 +1,14 @@
 use crate::measure::print_row;
+use crate::way::grain_of;
 use anyhow::Result;
 use b3tree::{Hash, Mode};
 use bao_check::{check_combined, check_outboard, check_slice};
+use bao_join::check_combined_join;
 use bao_text::{combined, cut_slice, outboard};
 use std::hint::black_box;
 use std::io;
 use std::rt::Clock;
+use std::thread::Threads;
 use std::time::{Duration, Instant};
 
 // How often each text is checked. The checks take turns.
@@ -19,6 +22,8 @@ const SLICE_LEN: u64 = 1 << 20;
 pub struct CheckTimes {
     /// The combined encoding of all bytes.
     pub whole: Duration,
+    /// The same, on several threads.
+    pub joined: Duration,
     /// The outboard encoding of all bytes.
     pub outboard: Duration,
     /// The slice of their first 1 MiB.
@@ -26,17 +31,22 @@ pub struct CheckTimes {
 }
 
 /// Encodes `bytes`, and checks the encodings and a slice, several times. Fails where one isn't accepted.
-pub fn least_times<R: Clock + AllocGlobal>(rt: &R, bytes: &[u8]) -> Result<CheckTimes> {
+pub fn least_times<R: Clock + AllocGlobal + Threads + Sync>(
+    rt: &R,
+    bytes: &[u8],
+) -> Result<CheckTimes> {
     let (root, all) = combined(rt.alloc(), &Mode::hash(), bytes)?;
     let slice = cut_slice(rt.alloc(), all.as_slice(), 0, SLICE_LEN)?;
     let (_, parents) = outboard(rt.alloc(), &Mode::hash(), bytes)?;
     let mut least = CheckTimes {
         whole: Duration::MAX,
+        joined: Duration::MAX,
         outboard: Duration::MAX,
         slice: Duration::MAX,
     };
     for _ in 0..ROUNDS {
         least.whole = least.whole.min(timed_whole(rt, &root, all.as_slice())?);
+        least.joined = least.joined.min(timed_joined(rt, &root, all.as_slice())?);
         least.outboard = least
             .outboard
             .min(timed_outboard(rt, &root, parents.as_slice())?);
@@ -50,6 +60,20 @@ fn timed_whole<R: Clock + AllocGlobal>(rt: &R, root: &Hash, encoding: &[u8]) -> 
     let mode = Mode::hash();
     let start = Instant::now(rt)?;
     let piece = check_combined(rt.alloc(), &mode, root, encoding)?;
+    let time = start.elapsed(rt)?;
+    black_box(piece);
+    Ok(time)
+}
+
+// How long it takes on several threads.
+fn timed_joined<R: Clock + Threads + Sync>(
+    rt: &R,
+    root: &Hash,
+    encoding: &[u8],
+) -> Result<Duration> {
+    let mode = Mode::hash();
+    let start = Instant::now(rt)?;
+    let piece = check_combined_join(rt, &mode, root, encoding, grain_of(encoding.len()))?;
     let time = start.elapsed(rt)?;
     black_box(piece);
     Ok(time)
@@ -82,6 +106,7 @@ fn timed_slice<R: Clock + AllocGlobal>(rt: &R, root: &Hash, slice: &[u8]) -> Res
 /// Prints a line for each check: of what, and its time in milliseconds.
 pub fn print(rt: &impl Print, times: &CheckTimes) -> io::Result<()> {
     print_row(rt, "check_combined", times.whole)?;
+    print_row(rt, "check_combined_join", times.joined)?;
     print_row(rt, "check_outboard", times.outboard)?;
     print_row(rt, "check_slice of 1 MiB", times.slice)
 }

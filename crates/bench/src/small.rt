@@ -13,6 +13,7 @@ const ROUNDS: u32 = 5;
 
 // The bytes of a small file, and of one that is no longer small.
 const SMALL_LEN: usize = 1 << 13;
+
 const LARGER_LEN: usize = 1 << 16;
 
 /// How long it takes to hash all bytes of a file in pieces, each by itself as a file of that length is.

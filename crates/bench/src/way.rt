@@ -49,8 +49,8 @@ impl Way {
     }
 }
 
-// The size of the subtrees that one thread hashes, of an input of `len` bytes.
-fn grain_of(len: usize) -> u64
+/// The size of the subtrees, in chunks, that one thread hashes or checks, of an input of `len` bytes.
+pub fn grain_of(len: usize) -> u64
     ensures { 1 ≤ result }
 {
     let chunks = len.div_ceil(CHUNK_LEN) as u64;
