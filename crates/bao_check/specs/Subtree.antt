@@ -1,8 +1,8 @@
 -- What the check of a subtree of a text comes to, and how the checks of its two parts make it up.
-use Rattle.std.specs.Prelude.{◌≡◌, ℕ, ◌*◌, ◌<◌, ◌≤◌, List, length, take, drop, Some, true}
+use Rattle.std.specs.Prelude.{◌≡◌, ℕ, ◌+◌, ◌-◌, ◌*◌, ◌<◌, ◌≤◌, List, length, take, drop, min, Some, true}
 use Rattle.b3tree.specs.declared.mode.Mode.{Mode}
 use Rattle.bao_text.specs.declared.choice.Choice.{Choice}
-use Rattle.bao_text.specs.Choice.{wants}
+use Rattle.bao_text.specs.Choice.{chunk_count, wants}
 use Rattle.bao_text.specs.Nodes.{Node, Side, subtree_nodes}
 use Rattle.bao_check.specs.declared.asked.Asked.{Asked}
 use Rattle.bao_check.specs.declared.fault.CheckFault.{CheckFault}
@@ -42,6 +42,12 @@ StopsWith it text fault = StopsIn it.asked it.mode it.choice it.number it.len te
 -- how many bytes of the blob it has
 abbrev pub subtree_len : Subtree → ℕ
 subtree_len it = it.len
+
+-- chunk i is one of its own, and some byte of it is wanted
+abbrev pub WantsChunk : Subtree → ℕ → Type 0
+WantsChunk it i =
+    (it.number ≤ i) × (i < it.number + chunk_count it.len)
+    × (wants it.choice (1024 * i) (min 1024 (1024 * it.number + it.len - 1024 * i)) ≡ true)
 
 -- its top is a wanted parent
 abbrev pub HasParent : Subtree → Type 0

@@ -1,4 +1,4 @@
-ghost use Rattle.std.specs.Prelude.{◌+◌, ◌-◌, ◌*◌, ◌^◌, ◌<◌, ◌≤◌, length, IfErr, IfOk, MatchResult};
+ghost use Rattle.std.specs.Prelude.{ℕ, ◌↔◌, ◌+◌, ◌-◌, ◌*◌, ◌^◌, ◌<◌, ◌≤◌, length, IfErr, IfOk, MatchResult};
 ghost use Rattle.bao_check.specs.declared.fault.CheckFault.{CheckFault};
 ghost use Rattle.bao_check.specs.Accepted.{IsAccepted, slice_nodes};
 ghost use Rattle.bao_check.specs.Faults.{IsFirstFault};
@@ -27,7 +27,7 @@ pub struct Subtree {
 }
 
 impl Subtree {
-    ghost use Rattle.bao_check.specs.Subtree.{BeginsIn, HasParent, IsSplit, IsTopOf, PassesTo, StopsWith};
+    ghost use Rattle.bao_check.specs.Subtree.{BeginsIn, HasParent, IsSplit, IsTopOf, PassesTo, StopsWith, WantsChunk};
 
     /// All nodes of `text`, as the slice of `len` bytes from byte `start` on of the blob with the hash `root` in
     /// `mode`.
@@ -66,18 +66,21 @@ impl Subtree {
         })
     }
 
-    /// How many of its chunks are wanted. It can be split where they are two or more.
-    pub fn chunks(&self) -> u64
-        ensures { 1 < result → HasParent self.now }
+    /// The number of its first wanted chunk, and the number after the last: one number twice where none is wanted.
+    /// It can be split where there are two or more.
+    pub fn chunks(&self) -> (u64, u64)
+        ensures order { result.0 ≤ result.1 }
+        ensures spans { (i : ℕ) → WantsChunk self.now i ↔ ((result.0 ≤ i) × (i < result.1)) }
+        ensures parent { result.0 + 1 < result.1 → HasParent self.now }
     {
         let chunk_len = CHUNK_LEN as u64;
         let at = chunk_len * self.number;
         if !self.choice.wants(at, self.len) {
-            return 0;
+            return (self.number, self.number);
         }
         let first = self.choice.start().max(at) / chunk_len;
-        let after = self.choice.end().min(at + self.len).div_ceil(chunk_len);
-        after.saturating_sub(first)
+        let after = self.choice.end().min(at + self.len.max(1));
+        (first, after.div_ceil(chunk_len).max(first))
     }
 
     /// Verifies the parent at its top, and answers its left and its right part, which are checked apart.

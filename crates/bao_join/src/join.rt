@@ -1,9 +1,17 @@
-ghost use Rattle.std.specs.Prelude.{◌≤◌, MatchResult};
+ghost use Rattle.std.specs.Prelude.{◌<◌, ◌≤◌, MatchResult};
 ghost use Rattle.std.specs.Thread.{IsSync};
-ghost use Rattle.bao_check.specs.Subtree.{BeginsIn, PassesTo, StopsWith};
+ghost use Rattle.bao_check.specs.Subtree.{BeginsIn, HasParent, PassesTo, StopsWith};
 
 use bao_check::{CheckFault, Subtree};
 use std::thread::{Threads, join};
+
+// How many chunks of the subtree are wanted.
+fn wanted(it: &Subtree) -> u64
+    ensures { 1 < result → HasParent it.now }
+{
+    let (first, after) = it.chunks();
+    after - first
+}
 
 // As `Subtree::check`. A subtree with more than `grain` wanted chunks is split, and its two parts are checked at
 // once, where both have such; where both have a fault, that of the left one is answered.
@@ -18,11 +26,11 @@ pub(crate) fn check_join<R: Threads + Sync>(
     requires begins { BeginsIn text.now it.now }
     ensures { MatchResult result (PassesTo it.now text.now) (StopsWith it.now text.now) }
 {
-    if it.chunks() <= grain {
+    if wanted(it) <= grain {
         return it.check(text);
     }
     let (left, right) = it.split(text)?;
-    if left.chunks() == 0 || right.chunks() == 0 {
+    if wanted(&left) == 0 || wanted(&right) == 0 {
         check_join(rt, &left, text, grain)?;
         return check_join(rt, &right, text, grain);
     }

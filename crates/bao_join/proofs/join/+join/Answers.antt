@@ -13,10 +13,10 @@ right_decides : (whole left right : Subtree) (text : List ℕ) (middle : ℕ) (r
 right_decides whole left right text middle r parts passed h =
     MatchResult-weaker r h (λ end. parts.passes middle end passed) (λ fault. parts.right_stops middle fault passed)
 
-pub returns-then-chunks-eq0 : goal.returns-then-chunks-eq0
-returns-then-chunks-eq0 g t c =
-    right_decides c.args.it.now c.in_ok-left.left c.in_ok-left.right c.args.text.now c.in_ok-check_join.field-0 c.check_join-then-chunks-eq0.result
-    c.in_ok-left.ensures c.in_ok-check_join.ensures c.check_join-then-chunks-eq0.ensures
+pub returns-then-wanted-eq0 : goal.returns-then-wanted-eq0
+returns-then-wanted-eq0 g t c =
+    right_decides c.args.it.now c.in_ok-left.left c.in_ok-left.right c.args.text.now c.in_ok-check_join.field-0 c.check_join-then-wanted-eq0.result
+    c.in_ok-left.ensures c.in_ok-check_join.ensures c.check_join-then-wanted-eq0.ensures
 
 pub returns : goal.returns
 returns g t c =
