@@ -25,7 +25,7 @@ SOURCES := crates.txt HANDLES $(filter-out $(foreach it,$(ASIDE),crates/$(it)/%)
 help:
 	@echo 'make build                proves the program bao_gather and builds it, as out/bao_gather'
 	@echo 'make run ARGS="WORD .."   builds where something changed, and runs bao_gather on the words'
-	@echo 'make try ARGS="WORD .."   runs bao_gather on the words within a minute, unproved'
+	@echo 'make try ARGS="WORD .."   runs bao_gather on the words within a minute, unproved, in the folder crates/bao_gather'
 	@echo 'make sum                  prints the checksum of the built bao_gather'
 	@echo 'make install PREFIX=DIR   copies bao_gather to DIR/bin (PREFIX is /usr/local if left out; DESTDIR goes before it)'
 	@echo 'make test                 the gate, rt ci: every proof from nothing, the must-fail edits, the tests and the programs'
