@@ -89,5 +89,5 @@ endef
 out/bao_gather: out/cpu $(SOURCES)
 	$(call built,bao_gather,--version)
 
-out/bench: out/cpu $(SOURCES) $(wildcard crates/bench/src/* crates/bao_bind/src/*)
+out/bench: out/cpu $(SOURCES) $(wildcard crates/bench/src/* crates/bao_bind/src/* crates/bao_join/src/*)
 	$(call built,bench,src/main.rt)
