@@ -1,10 +1,14 @@
 // The parents of eight whole chunks, by lanes.
 
-ghost use Rattle.std.specs.Prelude.{◌≡◌, ◌+◌, ◌-◌, ◌*◌, ◌^◌, ◌≤◌, length};
+ghost use Rattle.std.specs.Prelude.{◌≡◌, ℕ, ◌+◌, ◌-◌, ◌*◌, ◌^◌, ◌<◌, ◌≤◌, Some, length, slice_get};
+ghost use Rattle.b3word.specs.Compression.{cv};
 ghost use Rattle.b3word.specs.Lanes.{lane8};
+ghost use Rattle.b3tree.specs.declared.values.Cv.{Cv};
+ghost use Rattle.b3tree.specs.Chunk.{last_chunk_input};
 ghost use Rattle.b3tree.specs.Parents.{eight_parents, lane_parents};
+ghost use Rattle.b3tree.specs.Pieces.{piece};
 
-use crate::lanes::{neighbour_lanes, subtree_lanes};
+use crate::lanes::{chunk_lanes, neighbour_lanes, subtree_lanes};
 use crate::mode::Mode;
 use crate::values::Cv;
 use b3word::transposed;
@@ -41,6 +45,29 @@ fn parent_of(left: u32x8, right: u32x8) -> Parts
         left: Cv(left.to_array()),
         right: Cv(right.to_array()),
     }
+}
+
+/// The chaining values of the eight chunks of `bytes`, 8,192 in number, of which the first chunk has the number
+/// `first`, at once. The bytes have to end within an input of at most 2^64 - 1 bytes.
+pub fn eight_values(mode: &Mode, first: u64, bytes: &[u8]) -> [Cv; 8]
+    requires len { length bytes.now ≡ 8192 }
+    requires end { 1024 * first + 8192 ≤ 2 ^ 64 - 1 }
+    ensures count { length result ≡ 8 }
+    ensures each { (j : ℕ) (value : Cv) → slice_get result j ≡ Some value
+        → value.0 ≡ cv (last_chunk_input mode.now (first + j) (piece bytes.now (1024 * j) 1024)) }
+{
+    let [c0, c1, c2, c3, c4, c5, c6, c7] = chunk_lanes(mode, first, bytes, 0, 1);
+    let [c0, c1, c2, c3, c4, c5, c6, c7] = transposed(c0, c1, c2, c3, c4, c5, c6, c7);
+    [
+        Cv(c0.to_array()),
+        Cv(c1.to_array()),
+        Cv(c2.to_array()),
+        Cv(c3.to_array()),
+        Cv(c4.to_array()),
+        Cv(c5.to_array()),
+        Cv(c6.to_array()),
+        Cv(c7.to_array()),
+    ]
 }
 
 /// The parents of the eight chunks of `bytes`, 8,192 in number, of which the first chunk has the number

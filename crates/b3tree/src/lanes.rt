@@ -138,7 +138,13 @@ pub(crate) fn high_words(first: u64, apart: u64) -> u32x8
 }
 
 // The value of a chunk in each lane: lane `j` has the chunk `apart * j` chunks on.
-fn chunk_lanes(mode: &Mode, first: u64, bytes: &[u8], at: usize, apart: usize) -> [u32x8; 8]
+pub(crate) fn chunk_lanes(
+    mode: &Mode,
+    first: u64,
+    bytes: &[u8],
+    at: usize,
+    apart: usize,
+) -> [u32x8; 8]
     requires number { first + apart * 7 < 2 ^ 64 }
     requires len { at + 1024 * apart * 7 + 1024 ≤ length bytes.now }
     ensures { (j : ℕ) → j < 8

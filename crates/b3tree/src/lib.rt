@@ -5,7 +5,7 @@
 
 pub use b3word::{Input, cv};
 pub use chunk::{BLOCK_LEN, CHUNK_LEN, chunk_input};
-pub use eight::{EightParents, FourParents, Parts, eight_parents, lane_parents};
+pub use eight::{EightParents, FourParents, Parts, eight_parents, eight_values, lane_parents};
 pub use hasher::{Hasher, TooLong};
 pub use hashing::{hash, root_hash, rooted, subtree_cv};
 pub use lanes::parent_lanes;
