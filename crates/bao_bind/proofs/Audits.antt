@@ -12,7 +12,7 @@ use Rattle.b3tree.specs.Valid.{IsKeyed}
 use Rattle.b3tree.proofs.Ranges.{words_of-hash}
 use Rattle.bao_text.specs.Choice.{chunk_count}
 use Rattle.bao_check.specs.declared.checked.Checked.{Checked}
-use Rattle.bao_check.specs.Checked.{piece_claimed, piece_mode, piece_places, piece_root, piece_text}
+use Rattle.bao_check.specs.Checked.{piece_claimed, piece_len, piece_mode, piece_places, piece_root, piece_start, piece_text}
 use Rattle.bao_check.specs.Inputs.{blob_inputs, text_inputs}
 use Rattle.bao_check.specs.Parents.{parent_in}
 use Rattle.bao_check.specs.Pieces.{chunk_in}
@@ -28,7 +28,7 @@ use Rattle.bao_bind.proofs.Walks.{Searches, part_subtree, searches_same}
 
 module _ (blob : List ℕ) (piece : Checked) (number : ℕ) (bytes : List ℕ) (there : chunk_in (piece_text piece) (piece_places piece) number ≡ Some bytes) where
   certificate : IsCertified (piece_mode piece) (piece_root piece) (piece_text piece) (piece_places piece) (piece_claimed piece) number bytes
-  certificate = certified (piece_mode piece) (piece_root piece) (piece_text piece) piece.start piece.len piece.accepted number bytes there
+  certificate = certified (piece_mode piece) (piece_root piece) (piece_text piece) (piece_start piece) (piece_len piece) piece.accepted number bytes there
 
   -- the chunk's size and place
   pub chunk_size : length bytes ≤ 1024
@@ -76,7 +76,7 @@ module _ (blob : List ℕ) (piece : Checked) (number : ℕ) (bytes : List ℕ) (
       searches_same (parent_in (piece_text piece) (piece_places piece)) theirs mode true value number bytes r 0 0 blob blob 0 0 n (piece_claimed piece)
       refl refl refl n_is
       (subst (λ (m : Mode). Searches (parent_in (piece_text piece) (piece_places piece)) theirs m true value number bytes r 0 blob 0 n) used_is (search theirs value))
-      (way_whole mode (piece_root piece) (piece_text piece) piece.start piece.len number bytes piece.accepted there) top in
+      (way_whole mode (piece_root piece) (piece_text piece) (piece_start piece) (piece_len piece) number bytes piece.accepted there) top in
       let inputs_are : part_inputs true mode 0 blob ≡ blob_inputs mode blob = sym (part_subtree true mode 0 blob) ∙ sym (blob_inputs-subtree mode blob) in
       Finds-within (part_inputs true mode 0 blob) theirs (blob_inputs mode blob) theirs (HasChunk 0 blob 0 (piece_claimed piece) number bytes) ⊥ r
       (λ x h. subst (λ (xs : List Input). Contains xs x) inputs_are h) (λ y h. h) (λ h. apart (ours_from_chunk h)) found

@@ -39,7 +39,7 @@ far-HasParents choice number n more all =
     record { start = omega (arith, all.start); end = omega (arith, parts.below, parts.whole, all.end); without = all.without }
 
 -- how many bytes they are
-near-size : (choice : Choice) (number n : ℕ) (sides : List Side) (source : ℕ) → 1024 < n → HasParents choice number n
+pub near-size : (choice : Choice) (number n : ℕ) (sides : List Side) (source : ℕ) → 1024 < n → HasParents choice number n
     → nodes_size (near_nodes choice number n sides source) + 64 ≡ 64 * (left_len n / 1024)
 near-size choice number n sides source more all =
     let l : ℕ = left_len n in

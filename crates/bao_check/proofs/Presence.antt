@@ -25,13 +25,13 @@ and_second : (a b : Bool) → (a && b) ≡ true → b ≡ true
 and_second true b h = h
 and_second false b h = cc
 
-Meets-from_wants : (choice : Choice) (at n : ℕ) → wants choice at n ≡ true → Meets choice at n
+pub Meets-from_wants : (choice : Choice) (at n : ℕ) → wants choice at n ≡ true → Meets choice at n
 Meets-from_wants choice at n h = record {
   before = ltb-true at choice.end (and_first (ltb at choice.end) (ltb choice.start (at + max n 1)) h);
   after = ltb-true choice.start (at + max n 1) (and_second (ltb at choice.end) (ltb choice.start (at + max n 1)) h);
 }
 
-wants-from_Meets : (choice : Choice) (at n : ℕ) → Meets choice at n → wants choice at n ≡ true
+pub wants-from_Meets : (choice : Choice) (at n : ℕ) → Meets choice at n → wants choice at n ≡ true
 wants-from_Meets choice at n h = and_from _ _ (lt-ltb at choice.end h.before) (lt-ltb choice.start (at + max n 1) h.after)
 
 -- how many bytes chunk i has, of a subtree of n bytes from chunk `number` on

@@ -34,13 +34,13 @@ use Rattle.bao_check.proofs.Sizes.{nodes_size-parent}
 use Rattle.bao_check.proofs.Parts.{AreGood-join, below}
 
 -- the text is there, and is what is taken from its place
-At_fits : (text : List ℕ) (at n : ℕ) (x : List ℕ) → length x ≡ n → At text at x → at + n ≤ length text
+pub At_fits : (text : List ℕ) (at n : ℕ) (x : List ℕ) → length x ≡ n → At text at x → at + n ≤ length text
 At_fits text at n x len h =
     let all : length text ≡ length h.before + (length x + length h.after) =
     ap length h.whole ∙ length-append h.before (x ++ h.after) ∙ ap (λ (k : ℕ). length h.before + k) (length-append x h.after) in
     omega (arith, h.place)
 
-At_bytes : (text : List ℕ) (at n : ℕ) (x : List ℕ) → length x ≡ n → At text at x → take n (drop at text) ≡ x
+pub At_bytes : (text : List ℕ) (at n : ℕ) (x : List ℕ) → length x ≡ n → At text at x → take n (drop at text) ≡ x
 At_bytes text at n x len h =
     (λ i. take n (drop at (h.whole i)))
     ∙ ap (take n) (drop_at h.before (x ++ h.after) at h.place)
@@ -125,7 +125,7 @@ pub text_size : (choice : Choice) (mode : Mode) (blob : List ℕ) (number n : �
 text_size choice mode blob number n sides source fits = text_size-levels n choice mode blob number n sides source (omega arith) fits
 
 -- a node by itself
-one_good : (asked : Asked) (mode : Mode) (text : List ℕ) (at number n : ℕ) (sides : List Side) (source : ℕ) → at + n ≤ length text
+pub one_good : (asked : Asked) (mode : Mode) (text : List ℕ) (at number n : ℕ) (sides : List Side) (source : ℕ) → at + n ≤ length text
     → Meets asked (last_chunk_input mode number (take n (drop at text)))
     → AreGood asked sides mode text at (record { is_chunk = true; number = number; len = n; sides = sides; source = source } ∷ [])
 one_good asked mode text at number n sides source there meets = (

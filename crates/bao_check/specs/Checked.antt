@@ -6,6 +6,7 @@ use Rattle.bao_text.specs.Choice.{chunk_count}
 use Rattle.bao_text.specs.Cut.{claimed}
 use Rattle.bao_text.specs.Nodes.{Node}
 use Rattle.bao_check.specs.declared.checked.Checked.{Checked}
+use Rattle.bao_check.specs.Bodies.{text_of}
 use Rattle.bao_check.specs.Certificate.{Certificate, IsLast}
 use Rattle.bao_check.specs.Pieces.{chunk_in}
 use Rattle.bao_check.specs.Accepted.{places_of, slice_nodes}
@@ -18,11 +19,18 @@ abbrev pub piece_root : Checked → List ℕ
 piece_root piece = piece.root.0
 
 abbrev pub piece_text : Checked → List ℕ
-piece_text piece = piece.text.now
+piece_text piece = text_of piece.body piece.start piece.len
+
+-- the slice that it was accepted as
+abbrev pub piece_start : Checked → ℕ
+piece_start piece = piece.start
+
+abbrev pub piece_len : Checked → ℕ
+piece_len piece = piece.len
 
 -- the nodes of its text, by the slice that was asked for and the length that it claims
 abbrev pub piece_nodes : Checked → List Node
-piece_nodes piece = slice_nodes piece.text.now piece.start piece.len
+piece_nodes piece = slice_nodes (piece_text piece) piece.start piece.len
 
 -- with their offsets
 abbrev pub piece_places : Checked → List (ℕ × Node)
@@ -30,7 +38,7 @@ piece_places piece = places_of (piece_nodes piece)
 
 -- the length that it claims
 abbrev pub piece_claimed : Checked → ℕ
-piece_claimed piece = claimed piece.text.now
+piece_claimed piece = claimed (piece_text piece)
 
 -- the piece has the last chunk of the length that it claims
 abbrev pub HoldsLast : Checked → Type 0
@@ -52,4 +60,4 @@ pub record IsPiece (piece : Checked) (mode : Mode) (root : List ℕ) (start len 
   pub root_is : piece.root.0 ≡ root
   pub start_is : piece.start ≡ start
   pub len_is : piece.len ≡ len
-  pub text_is : piece.text.now ≡ text
+  pub text_is : piece_text piece ≡ text

@@ -1,5 +1,5 @@
 -- The laws of accepted texts.
-use Rattle.std.specs.Prelude.{◌≡◌, ℕ, ◌+◌, ◌-◌, ◌^◌, ◌<◌, ◌⊎◌, List, length, Some}
+use Rattle.std.specs.Prelude.{◌≡◌, ℕ, ◌+◌, ◌-◌, ◌*◌, ◌^◌, ◌<◌, ◌≤◌, ◌⊎◌, ◌↔◌, List, length, Some}
 use Rattle.b3tree.specs.declared.mode.Mode.{Mode}
 use Rattle.b3tree.specs.Hashing.{hash}
 use Rattle.b3tree.specs.Valid.{AreBytes, IsKeyed}
@@ -7,6 +7,8 @@ use Rattle.bao_text.specs.Choice.{chunk_count}
 use Rattle.bao_text.specs.Cut.{claimed}
 use Rattle.bao_text.specs.Texts.{combined_text, outboard_text, slice_text}
 use Rattle.bao_check.specs.Accepted.{IsAccepted, outboard_nodes, places_of, slice_nodes}
+use Rattle.bao_check.specs.Bare.{AreBare, bare_part}
+use Rattle.bao_check.specs.Beside.{beside_text}
 use Rattle.bao_check.specs.Inputs.{NamesPair}
 use Rattle.bao_check.specs.Pieces.{chunk_in, chunk_of}
 
@@ -33,3 +35,12 @@ WrittenAccepted = (mode : Mode) (blob : List ℕ) → IsKeyed mode → length bl
     → ((start len : ℕ) → IsAccepted mode (hash mode blob) (slice_text mode blob start len) (slice_nodes (slice_text mode blob start len) start len))
     × IsAccepted mode (hash mode blob) (combined_text mode blob) (slice_nodes (combined_text mode blob) 0 (2 ^ 64 - 1))
     × IsAccepted mode (hash mode blob) (outboard_text mode blob) (outboard_nodes (outboard_text mode blob))
+
+-- For each accepted outline of less than 2 ^ 64 bytes and each range of its chunks: these chunks are
+-- accepted beside it exactly where the slice that they make is.
+abbrev pub BareAccepted : Type 0
+BareAccepted = (mode : Mode) (root outline chunks : List ℕ) (first count : ℕ)
+    → IsAccepted mode root outline (outboard_nodes outline) → claimed outline < 2 ^ 64 → 1 ≤ count → first + count ≤ chunk_count (claimed outline)
+    → AreBare mode root outline first count chunks
+    ↔ IsAccepted mode root (beside_text outline (1024 * first) (bare_part count) chunks)
+    (slice_nodes (beside_text outline (1024 * first) (bare_part count) chunks) (1024 * first) (bare_part count))

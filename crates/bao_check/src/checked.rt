@@ -9,27 +9,46 @@ ghost use Rattle.bao_check.specs.Pieces.{chunk_in};
 ghost use Rattle.bao_check.specs.Spans.{chunk_place};
 ghost use Rattle.bao_check.specs.Accepted.{IsAccepted, slice_nodes};
 ghost use Rattle.bao_check.specs.AcceptedProp.{IsAccepted-prop};
+ghost use Rattle.bao_check.specs.Bodies.{IsOfWhole, IsOfWhole-prop, text_of};
 
-use crate::locate::{LENGTH_LEN, Span, find_chunk};
+use crate::bare::bare_chunk;
+use crate::locate::{LENGTH_LEN, Span, bytes_from, find_chunk, nodes_size};
+use crate::outline::Outline;
 use crate::tail::Tail;
 use crate::walk::claimed;
 use b3tree::{CHUNK_LEN, Hash, Mode};
 use bao_text::Choice;
 
+/// What a slice is read from.
+#[derive(Clone, Copy, Debug)]
+pub(crate) enum Body<'a> {
+    /// Its text, whole.
+    Text(&'a [u8]),
+    /// An outline, and the chunks beside it.
+    Beside {
+        outline: &'a Outline<'a>,
+        chunks: &'a [u8],
+    },
+}
+
 /// A text that was accepted as a slice under a root: it carries that it was, so whoever holds one needs
-/// no premise. All calls on it take no memory, and cost at most the height of the tree.
+/// no premise. It was given whole, or as chunks beside an outline, which make it together. All calls on it take
+/// no memory, and cost at most the height of the tree.
 #[derive(Clone, Copy, Debug)]
 pub struct Checked<'a> {
     mode: Mode,
     root: Hash,
     start: u64,
     len: u64,
-    text: &'a [u8],
-    ghost accepted: { IsAccepted mode root.0 text.now (slice_nodes text.now start len) } by { IsAccepted-prop mode root.0 text.now (slice_nodes text.now start len) },
+    pub(crate) body: Body<'a>,
+    ghost accepted: { IsAccepted mode root.0 (text_of body start len) (slice_nodes (text_of body start len) start len) } by { IsAccepted-prop mode root.0 (text_of body start len) (slice_nodes (text_of body start len) start len) },
+    ghost whole: { IsOfWhole body start len } by { IsOfWhole-prop body start len },
 }
 
 impl<'a> Checked<'a> {
-    ghost use Rattle.bao_check.specs.Checked.{HasLastCertificate, IsPiece, piece_claimed, piece_mode, piece_nodes, piece_places, piece_root, piece_text, HoldsLast};
+    ghost use Rattle.bao_check.specs.Checked.{HasLastCertificate, IsPiece, piece_claimed, piece_len, piece_mode, piece_nodes, piece_places, piece_root, piece_start, piece_text, HoldsLast};
+    ghost use Rattle.bao_check.specs.Beside.{IsOfChunks, beside_text};
+    ghost use Rattle.bao_check.specs.Outline.{outline_claimed, outline_text};
     ghost use Rattle.bao_check.specs.Tail.{tail_piece};
 
     /// The piece that an accepted text is.
@@ -42,7 +61,29 @@ impl<'a> Checked<'a> {
             root: *root,
             start,
             len,
-            text,
+            body: Body::Text(text),
+        }
+    }
+
+    // The piece that chunks beside an outline are.
+    pub(crate) fn beside(
+        mode: &Mode,
+        root: &Hash,
+        start: u64,
+        len: u64,
+        outline: &'a Outline<'a>,
+        chunks: &'a [u8],
+    ) -> Checked<'a>
+        requires whole { IsOfChunks (outline_claimed outline.now) start len }
+        requires accepted { IsAccepted mode.now root.now.0 (beside_text (outline_text outline.now) start len chunks.now) (slice_nodes (beside_text (outline_text outline.now) start len chunks.now) start len) }
+        ensures { IsPiece result mode.now root.now.0 start len (beside_text (outline_text outline.now) start len chunks.now) }
+    {
+        Checked {
+            mode: *mode,
+            root: *root,
+            start,
+            len,
+            body: Body::Beside { outline, chunks },
         }
     }
 
@@ -65,14 +106,30 @@ impl<'a> Checked<'a> {
     pub fn claimed(&self) -> u64
         ensures { result ≡ piece_claimed self.now }
     {
-        claimed(self.text)
+        match self.body {
+            Body::Text(text) => claimed(text),
+            Body::Beside { outline, .. } => outline.claimed(),
+        }
     }
 
-    /// The accepted text, whole.
-    pub fn text(&self) -> &'a [u8]
-        ensures { result.now ≡ piece_text self.now }
+    /// How many bytes the accepted text has: its length's 8, and those of its nodes.
+    pub fn text_len(&self) -> u128
+        ensures { result ≡ length (piece_text self.now) }
     {
-        self.text
+        LENGTH_LEN + nodes_size(&self.choice(), 0, self.claimed())
+    }
+
+    // The elements of its text are bytes.
+    fn is_of_bytes(&self)
+        ensures { AreBytes (piece_text self.now) }
+    {
+        match self.body {
+            Body::Text(text) => bytes_are(text),
+            Body::Beside { outline, chunks } => {
+                outline.is_of_bytes();
+                bytes_are(chunks);
+            }
+        }
     }
 
     /// What a piece carries: its text is of bytes, and accepted under its root in its mode. A law, for proofs over
@@ -81,12 +138,12 @@ impl<'a> Checked<'a> {
         ensures bytes { AreBytes (piece_text self.now) }
         ensures accepted { IsAccepted (piece_mode self.now) (piece_root self.now) (piece_text self.now) (piece_nodes self.now) }
     {
-        bytes_are(self.text);
+        self.is_of_bytes();
     }
 
     // The part of the blob that the text is of.
     pub(crate) fn choice(&self) -> Choice
-        ensures { result ≡ of_slice (piece_claimed self.now) self.now.start self.now.len }
+        ensures { result ≡ of_slice (piece_claimed self.now) (piece_start self.now) (piece_len self.now) }
     {
         Choice::of_slice(self.claimed(), self.start, self.len)
     }
@@ -110,20 +167,22 @@ impl<'a> Checked<'a> {
         find_chunk(&self.choice(), 0, self.claimed(), LENGTH_LEN, i)
     }
 
-    // The bytes of chunk `i`, in the text itself.
+    // The bytes of chunk `i`, where they stand.
     fn bytes(&self, i: u64) -> Option<&'a [u8]>
         ensures { option_copied result ≡ chunk_in (piece_text self.now) (piece_places self.now) i }
     {
         match self.span(i) {
-            Some(span) => {
-                let at = span.at as usize;
-                Some(&self.text[at..at + span.len as usize])
-            }
+            Some(span) => match self.body {
+                Body::Text(text) => Some(bytes_from(text, span.at, span.len)),
+                Body::Beside { chunks, .. } => {
+                    Some(bare_chunk(chunks, self.start / CHUNK_LEN as u64, i, span.len))
+                }
+            },
             None => None,
         }
     }
 
-    /// The bytes of chunk `i`, in the text itself: there exactly where the piece holds that chunk.
+    /// The bytes of chunk `i`, where they stand: there exactly where the piece holds that chunk.
     ///
     /// The root, the parents on the way and these bytes are its certificate. So for each blob with the
     /// root they are the blob's chunk `i`, or two different inputs with one chaining value are named,
@@ -132,10 +191,10 @@ impl<'a> Checked<'a> {
         ensures value { option_copied result ≡ chunk_in (piece_text self.now) (piece_places self.now) i }
         ensures certificate { IfSome result (λ bytes. Certificate (piece_mode self.now) (piece_root self.now) i bytes.now) }
         ensures binds { (blob : List ℕ) → AreBytes blob → hash (piece_mode self.now) blob ≡ piece_root self.now
-            → IfSome result (λ bytes. Binds (piece_mode self.now) (piece_text self.now) self.now.start self.now.len blob i bytes.now) }
+            → IfSome result (λ bytes. Binds (piece_mode self.now) (piece_text self.now) (piece_start self.now) (piece_len self.now) blob i bytes.now) }
     {
         self.mode.is_keyed();
-        bytes_are(self.text);
+        self.is_of_bytes();
         self.bytes(i)
     }
 

@@ -1,17 +1,21 @@
-ghost use Rattle.std.specs.Prelude.{◌↔◌, ◌-◌, ◌^◌, IfErr, IfOk, IsOk, MatchResult};
+ghost use Rattle.std.specs.Prelude.{◌↔◌, ◌-◌, ◌*◌, ◌^◌, IfErr, IfOk, IsOk, IsTrue, MatchResult};
+ghost use Rattle.bao_check.specs.Bare.{AreBare, AreChunksOf, IsBareFault, bare_part};
+ghost use Rattle.bao_check.specs.Beside.{beside_text};
 ghost use Rattle.bao_check.specs.Accepted.{IsAccepted, outboard_nodes, slice_nodes};
 ghost use Rattle.bao_check.specs.Faults.{IsFirstFault};
 ghost use Rattle.bao_check.specs.Forms.{form_nodes};
 ghost use Rattle.bao_check.specs.Checked.{IsPiece};
-ghost use Rattle.bao_check.specs.Outline.{IsOutline};
+ghost use Rattle.bao_check.specs.Outline.{IsOutline, outline_mode, outline_root, outline_text};
 
+use crate::asked::Asked;
+use crate::bare::Bare;
 use crate::checked::Checked;
 use crate::fault::CheckFault;
 use crate::form::Form;
 use crate::outline::Outline;
 use crate::source::{Bytes, Source};
-use crate::walk::check_text;
-use b3tree::{Hash, Mode};
+use crate::walk::{LENGTH_LEN, check_text};
+use b3tree::{CHUNK_LEN, Cv, Hash, Mode};
 use std::alloc::Global;
 
 // Checks a text of the form that is there as a whole.
@@ -86,4 +90,87 @@ pub fn check_outboard<'a>(
 {
     check_bytes(mode, root, &Form::Outboard, text)?;
     Ok(Outline::new(mode, root, text))
+}
+
+/// Whether chunk `first` and those after it, `count` in number, are chunks of the length that `outline` claims, at
+/// least one: `count` is at least 1, and `first + count` at most the number of its chunks.
+pub fn bare_fits(outline: &Outline<'_>, first: u64, count: u64) -> bool
+    ensures { IsTrue result ↔ AreChunksOf outline.now first count }
+{
+    let chunks = outline.claimed().div_ceil(CHUNK_LEN as u64).max(1);
+    count >= 1 && count <= chunks && first <= chunks - count
+}
+
+// Verifies each of the chunks by the outline's value for it.
+fn check_chunks(
+    outline: &Outline<'_>,
+    first: u64,
+    count: u64,
+    chunks: &[u8],
+) -> Result<(), CheckFault>
+    requires { AreChunksOf outline.now first count }
+    ensures { MatchResult result (λ _. AreBare (outline_mode outline.now) (outline_root outline.now) (outline_text outline.now) first count chunks.now)
+        (λ fault. IsBareFault (outline_mode outline.now) (outline_root outline.now) (outline_text outline.now) first count chunks.now fault) }
+{
+    let total = outline.claimed();
+    let bare = Bare {
+        mode: outline.mode(),
+        outline: outline.text,
+        first,
+        after: first + count,
+        chunks,
+    };
+    let asked = Asked {
+        top: true,
+        value: Cv::from_bytes(&outline.root().0),
+    };
+    bare.check_part(&asked, 0, total, LENGTH_LEN, None)?;
+    let start = CHUNK_LEN as u64 * first;
+    let at = start
+        .saturating_add((CHUNK_LEN as u64).saturating_mul(count))
+        .min(total)
+        - start;
+    if at < chunks.len() as u64 {
+        return Err(CheckFault::Trailing { at });
+    }
+    Ok(())
+}
+
+/// Checks `chunks` as the bytes of the chunks from chunk `first` on, `count` in number, of the blob that `outline`
+/// is of: a part of a plain copy, which begins with byte `1,024 * first` of the blob. `bare_fits` tells which there
+/// are.
+///
+/// They are accepted exactly where each chunk is wholly there and has the value that the outline has for it, a
+/// single chunk that of the root, and nothing follows the last: exactly where the slice encoding of these bytes,
+/// made of the outline's length and parents and of `chunks`, is accepted. The piece is of that slice: its chunks and
+/// parents are handed out where they stand, nothing is copied. Otherwise the first fault in the order of the chunks
+/// is answered: 501 `Short` at a chunk that isn't wholly there, 502 `Mismatch` at one that hasn't the outline's
+/// value, 503 `Trailing` at what follows the last. Their `at` is a place of `chunks`, where chunk k begins at
+/// `1,024 * (k - first)`. No memory is taken, so 504 never comes.
+pub fn check_bare<'a>(
+    outline: &'a Outline<'a>,
+    first: u64,
+    count: u64,
+    chunks: &'a [u8],
+) -> Result<Checked<'a>, CheckFault>
+    requires { AreChunksOf outline.now first count }
+    ensures accepted { IsOk result ↔ AreBare (outline_mode outline.now) (outline_root outline.now) (outline_text outline.now) first count chunks.now }
+    ensures slice { IsOk result ↔ IsAccepted (outline_mode outline.now) (outline_root outline.now)
+        (beside_text (outline_text outline.now) (1024 * first) (bare_part count) chunks.now)
+        (slice_nodes (beside_text (outline_text outline.now) (1024 * first) (bare_part count) chunks.now) (1024 * first) (bare_part count)) }
+    ensures piece { IfOk result (λ piece. IsPiece piece (outline_mode outline.now) (outline_root outline.now) (1024 * first) (bare_part count)
+        (beside_text (outline_text outline.now) (1024 * first) (bare_part count) chunks.now)) }
+    ensures fault { IfErr result (λ fault. IsBareFault (outline_mode outline.now) (outline_root outline.now) (outline_text outline.now) first count chunks.now fault) }
+{
+    outline.is_of_bytes();
+    check_chunks(outline, first, count, chunks)?;
+    let chunk_len = CHUNK_LEN as u64;
+    Ok(Checked::beside(
+        &outline.mode(),
+        &outline.root(),
+        chunk_len * first,
+        chunk_len.saturating_mul(count),
+        outline,
+        chunks,
+    ))
 }

@@ -1,4 +1,4 @@
-ghost use Rattle.bao_check.specs.Laws.{AcceptedBinds, WrittenAccepted};
+ghost use Rattle.bao_check.specs.Laws.{AcceptedBinds, BareAccepted, WrittenAccepted};
 
 /// For each text that is accepted as a slice under a root, and each blob with that root: each chunk that
 /// the text has is the blob's chunk of that number, and where it is the last of the length that the text
@@ -12,4 +12,10 @@ pub fn accepted_binds()
 /// outboard encoding. A law: nothing runs.
 pub fn written_accepted()
     ensures { WrittenAccepted }
+{}
+
+/// The chunks of a range are accepted beside an accepted outline exactly where the slice that they make
+/// with it is, if the outline is of less than 2^64 bytes. A law: nothing runs.
+pub fn bare_accepted()
+    ensures { BareAccepted }
 {}

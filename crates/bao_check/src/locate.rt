@@ -1,4 +1,4 @@
-ghost use Rattle.std.specs.Prelude.{◌≡◌, ℕ, ◌+◌, ◌-◌, ◌*◌, ◌%◌, ◌^◌, ◌<◌, ◌≤◌, List, Some, bit_xor, sum_by, IfSome};
+ghost use Rattle.std.specs.Prelude.{◌≡◌, ℕ, ◌+◌, ◌-◌, ◌*◌, ◌%◌, ◌^◌, ◌<◌, ◌≤◌, List, length, take, drop, Some, bit_xor, sum_by, IfSome};
 ghost use Rattle.std.specs.Int.Count.{ones};
 ghost use Rattle.bao_text.specs.Nodes.{Side, placed, size, subtree_nodes, subtree_size};
 ghost use Rattle.bao_check.specs.Spans.{HasDigits, chunk_place};
@@ -15,6 +15,16 @@ pub(crate) const PARENT_LEN: u128 = 64;
 pub(crate) struct Span {
     pub(crate) at: u128,
     pub(crate) len: u64,
+}
+
+// The `len` bytes of the text from place `at` on.
+pub(crate) fn bytes_from(text: &[u8], at: u128, len: u64) -> &[u8]
+    requires { at + len ≤ length text.now }
+    ensures bytes { result.now ≡ take len (drop at text.now) }
+    ensures len { length result.now ≡ len }
+{
+    let at = at as usize;
+    &text[at..at + len as usize]
 }
 
 // How many bytes of a text the wanted nodes of the subtree over `n` bytes from chunk `number` on are. It

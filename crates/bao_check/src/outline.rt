@@ -1,9 +1,11 @@
 ghost use Rattle.std.specs.Prelude.{◌≡◌, ℕ, ◌≤◌, ◌<◌, ◌↔◌, List, IfSome, IsSome};
+ghost use Rattle.b3tree.specs.Valid.{AreBytes};
 ghost use Rattle.bao_text.specs.Choice.{chunk_count};
 ghost use Rattle.bao_check.specs.Accepted.{IsAccepted, outboard_nodes, places_of};
 ghost use Rattle.bao_check.specs.AcceptedProp.{IsAccepted-prop};
 ghost use Rattle.bao_check.specs.Pieces.{IsLeafValue};
 
+use crate::checked::bytes_are;
 use crate::leaves::leaf_below;
 use crate::walk::{LENGTH_LEN, claimed};
 use b3tree::{CHUNK_LEN, Cv, Hash, Mode};
@@ -14,7 +16,7 @@ use b3tree::{CHUNK_LEN, Cv, Hash, Mode};
 pub struct Outline<'a> {
     mode: Mode,
     root: Hash,
-    text: &'a [u8],
+    pub(crate) text: &'a [u8],
     ghost accepted: { IsAccepted mode root.0 text.now (outboard_nodes text.now) } by { IsAccepted-prop mode root.0 text.now (outboard_nodes text.now) },
 }
 
@@ -31,6 +33,13 @@ impl<'a> Outline<'a> {
             root: *root,
             text,
         }
+    }
+
+    // The elements of its text are bytes.
+    pub(crate) fn is_of_bytes(&self)
+        ensures { AreBytes (outline_text self.now) }
+    {
+        bytes_are(self.text);
     }
 
     /// The root under which the text was accepted.

@@ -3,8 +3,9 @@ ghost use Rattle.std.specs.Option.{option_copied};
 ghost use Rattle.bao_text.specs.Nodes.{Side, placed, subtree_nodes, subtree_size};
 ghost use Rattle.bao_check.specs.Parents.{parent_in, parent_place};
 
-use crate::checked::Checked;
-use crate::locate::{LENGTH_LEN, PARENT_LEN, nodes_size};
+use crate::checked::{Body, Checked};
+use crate::locate::{LENGTH_LEN, PARENT_LEN, bytes_from, nodes_size};
+use crate::outline::Outline;
 use b3tree::{CHUNK_LEN, left_len};
 use bao_text::Choice;
 
@@ -41,7 +42,7 @@ impl<'a> Checked<'a> {
         find_parent(&self.choice(), 0, self.claimed(), LENGTH_LEN, m)
     }
 
-    /// The 64 bytes of the parent whose right part begins at chunk `m`, in the text itself: the chaining
+    /// The 64 bytes of the parent whose right part begins at chunk `m`, where they stand: the chaining
     /// values of its left and of its right part, 32 bytes each. There exactly where the piece has such a
     /// parent; no tree has two of them.
     pub fn parent(&self, m: u64) -> Option<&'a [u8]>
@@ -49,10 +50,40 @@ impl<'a> Checked<'a> {
         ensures len { IfSome result (λ bytes. length bytes.now ≡ 64) }
     {
         match self.parent_at(m) {
-            Some(at) => {
-                let at = at as usize;
-                Some(&self.text()[at..at + PARENT_LEN as usize])
-            }
+            Some(at) => match self.body {
+                Body::Text(text) => Some(bytes_from(text, at, PARENT_LEN as u64)),
+                Body::Beside { outline, .. } => outline.parent(m),
+            },
+            None => None,
+        }
+    }
+}
+
+impl<'a> Outline<'a> {
+    ghost use Rattle.bao_check.specs.Outline.{outline_text};
+    ghost use Rattle.bao_check.specs.Accepted.{outboard_nodes, places_of};
+
+    // Where the text has the parent whose right part begins at chunk `m`.
+    fn parent_at(&self, m: u64) -> Option<u128>
+        ensures value { result ≡ parent_place (places_of (outboard_nodes (outline_text self.now))) m }
+        ensures within { IfSome result (λ at. at + 64 ≤ length (outline_text self.now)) }
+    {
+        find_parent(
+            &Choice::of_outboard(self.claimed()),
+            0,
+            self.claimed(),
+            LENGTH_LEN,
+            m,
+        )
+    }
+
+    // The 64 bytes of the parent whose right part begins at chunk `m`, in the text itself.
+    pub(crate) fn parent(&self, m: u64) -> Option<&'a [u8]>
+        ensures value { option_copied result ≡ parent_in (outline_text self.now) (places_of (outboard_nodes (outline_text self.now))) m }
+        ensures len { IfSome result (λ bytes. length bytes.now ≡ 64) }
+    {
+        match self.parent_at(m) {
+            Some(at) => Some(bytes_from(self.text, at, PARENT_LEN as u64)),
             None => None,
         }
     }

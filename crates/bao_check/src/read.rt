@@ -1,4 +1,4 @@
-ghost use Rattle.std.specs.Prelude.{◌≡◌, [], List, ℕ, IfErr, IfOk, IfSome, MatchResult, OnOk};
+ghost use Rattle.std.specs.Prelude.{◌≡◌, ◌-◌, ◌^◌, ◌<◌, [], List, ℕ, length, IfErr, IfOk, IfSome, MatchResult, OnOk};
 ghost use Rattle.std.specs.Io.KnownBytes.{Consumes};
 ghost use Rattle.bao_check.specs.Accepted.{IsAccepted, slice_nodes};
 ghost use Rattle.bao_check.specs.Checked.{IsPiece, piece_text};
@@ -58,6 +58,7 @@ pub fn check_stream<'a, R: Read>(
 ) -> Result<Checked<'a>, CheckFault>
     requires { text.old.items ≡ [] }
     ensures piece { IfOk result (λ piece. IsPiece piece mode.now root.now.0 start len (piece_text piece)) }
+    ensures size { IfOk result (λ piece. length (piece_text piece) < 2 ^ 64) }
     ensures reader { IfOk result (λ piece. Consumes (R.remaining reader.old) (R.remaining reader.new) (piece_text piece)) }
     ensures fault { IfErr result (λ fault.
         (read : List ℕ) × Consumes (R.remaining reader.old) (R.remaining reader.new) read × ReadFault mode.now root.now.0 start len read (R.remaining reader.new) fault) }

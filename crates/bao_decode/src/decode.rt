@@ -1,4 +1,4 @@
-ghost use Rattle.std.specs.Prelude.{◌≡◌, ◌⊎◌, ◌-◌, ◌<◌, ◌≤◌, ℕ, List, [], IfErr, IfOk, IfSome, OnErr, OnOk, length, true, false};
+ghost use Rattle.std.specs.Prelude.{◌≡◌, ◌⊎◌, ◌-◌, ◌^◌, ◌<◌, ◌≤◌, ℕ, List, [], IfErr, IfOk, IfSome, OnErr, OnOk, length, true, false};
 ghost use Rattle.std.specs.Io.KnownBytes.{Appends};
 ghost use Rattle.bao_check.specs.Checked.{IsPiece, piece_claimed, piece_text};
 ghost use Rattle.bao_files.specs.declared.fault.FileFault.TheVariants as FileFault;
@@ -54,11 +54,12 @@ fn has_more<R: Read>(reader: &mut R) -> Result<bool, CheckFault>
 
 // The accepted piece, unless a byte comes after its text.
 fn ended<'a>(piece: Checked<'a>, has_more: bool) -> Result<Checked<'a>, CheckFault>
+    requires { length (piece_text piece) < 2 ^ 64 }
     ensures ok { IfOk result (λ whole. (whole ≡ piece.entry) × (has_more ≡ false)) }
     ensures err { IfErr result (λ fault. (fault ≡ CheckFault.Trailing (length (piece_text piece.entry))) × (has_more ≡ true)) }
 {
     if has_more {
-        let at = piece.text().len() as u64;
+        let at = piece.text_len() as u64;
         return Err(CheckFault::Trailing { at });
     }
     Ok(piece)

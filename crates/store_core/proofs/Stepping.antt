@@ -4,6 +4,7 @@ use Rattle.std.proofs.lemmas.Bool.{and_parts, both_ways, cases_Bool, or_cases, o
 use Rattle.b3tree.specs.declared.mode.Mode.{Mode}
 use Rattle.bao_check.specs.Accepted.{IsAccepted}
 use Rattle.bao_check.specs.declared.checked.Checked.{Checked}
+use Rattle.bao_check.specs.Checked.{piece_text}
 use Rattle.store_core.specs.declared.fixed.Fixed.{Fixed}
 use Rattle.store_core.specs.declared.history.Call.TheVariants.{Take, Give, Commit}
 use Rattle.store_core.specs.declared.history.Piece.{Piece}
@@ -92,10 +93,10 @@ listed_accepted : (fixed : Fixed) (pieces : List Checked) (i : ℕ) (piece : Pie
 listed_accepted fixed pieces i piece texts has is =
     let found : Some (piece_of has.piece) ≡ Some piece = ap (λ (o : Option Checked). option_map piece_of o) (sym has.is) ∙ is in
     let same : piece_of has.piece ≡ piece = cc in
-    let mode : IsAccepted fixed.mode has.piece.root.0 has.piece.text.now (nodes_of (piece_of has.piece)) =
-    subst (λ (mode : Mode). IsAccepted mode has.piece.root.0 has.piece.text.now (nodes_of (piece_of has.piece))) has.mode has.piece.accepted in
-    let root : IsAccepted fixed.mode fixed.root.0 has.piece.text.now (nodes_of (piece_of has.piece)) =
-    subst (λ (root : List ℕ). IsAccepted fixed.mode root has.piece.text.now (nodes_of (piece_of has.piece))) has.root mode in
+    let mode : IsAccepted fixed.mode has.piece.root.0 (piece_text has.piece) (nodes_of (piece_of has.piece)) =
+    subst (λ (mode : Mode). IsAccepted mode has.piece.root.0 (piece_text has.piece) (nodes_of (piece_of has.piece))) has.mode has.piece.accepted in
+    let root : IsAccepted fixed.mode fixed.root.0 (piece_text has.piece) (nodes_of (piece_of has.piece)) =
+    subst (λ (root : List ℕ). IsAccepted fixed.mode root (piece_text has.piece) (nodes_of (piece_of has.piece))) has.root mode in
     subst (λ (p : Piece). IsAcceptedPiece fixed p) same (record { bytes = texts i has.piece has.is; accepted = root })
 
 pub hash_step : (fixed : Fixed) (pieces : List Checked) (m : Machine) (n i : ℕ) → AreTexts pieces → IsServed fixed m → HasPiece fixed pieces i

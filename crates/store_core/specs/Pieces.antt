@@ -5,6 +5,7 @@ use Rattle.bao_text.specs.Choice.{chunk_count}
 use Rattle.bao_text.specs.Cut.{claimed}
 use Rattle.bao_text.specs.Nodes.{Node}
 use Rattle.bao_check.specs.declared.checked.Checked.{Checked}
+use Rattle.bao_check.specs.Checked.{piece_len, piece_start, piece_text}
 use Rattle.bao_check.specs.Accepted.{IsAccepted, places_of, slice_nodes}
 use Rattle.bao_check.specs.Pieces.{chunk_in}
 use Rattle.store_core.specs.declared.fixed.Fixed.{Fixed}
@@ -42,4 +43,4 @@ EndsBlob piece = holds_chunk piece (chunk_count (length_of piece) - 1) ≡ true
 
 -- the piece that a checked text is
 abbrev pub piece_of : Checked → Piece
-piece_of checked = record { start = checked.start; len = checked.len; text = checked.text.now }
+piece_of checked = record { start = piece_start checked; len = piece_len checked; text = piece_text checked }

@@ -2,6 +2,7 @@
 use Rattle.std.specs.Prelude.{◌≡◌, ℕ, ◌*◌, ◌/◌, ◌%◌, ◌<◌, ◌≤◌, nat_le, nat_lt, ◌==◌, Bool, true, false, not, ◌&&◌, ◌||◌, if◌then◌else◌, List, [], ◌∷◌, ◌++◌, Option, None, Some, is_some, option_map, option_to_list, bit_or, slice_get, IfSome}
 use Rattle.b3tree.specs.Valid.{AreBytes}
 use Rattle.bao_check.specs.declared.checked.Checked.{Checked}
+use Rattle.bao_check.specs.Checked.{piece_text}
 use Rattle.store_core.specs.declared.fixed.Fixed.{Fixed}
 use Rattle.store_core.specs.declared.history.Call.{Call}
 use Rattle.store_core.specs.declared.history.Call.TheVariants.{Take, Give, Commit, Read, Settle as SettleCall, Length as LengthCall}
@@ -156,4 +157,4 @@ Runs fixed pieces m (step ∷ steps) replies history last =
 
 -- the texts are of bytes
 abbrev pub AreTexts : List Checked → Type 0
-AreTexts pieces = (i : ℕ) (piece : Checked) → slice_get pieces i ≡ Some piece → AreBytes piece.text.now
+AreTexts pieces = (i : ℕ) (piece : Checked) → slice_get pieces i ≡ Some piece → AreBytes (piece_text piece)

@@ -3,6 +3,7 @@ use Rattle.std.proofs.lemmas.Bool.{cases_eq}
 use Rattle.std.proofs.lemmas.Option.{slice_get_cases, slice_get_read}
 use Rattle.b3tree.specs.Valid.{AreBytes}
 use Rattle.bao_check.specs.declared.checked.Checked.{Checked}
+use Rattle.bao_check.specs.Checked.{piece_text}
 use Rattle.store_core.proofs.schedule.are_texts.Goals as goal
 
 pub loop-piece-preserved : goal.loop-piece-preserved
@@ -13,7 +14,7 @@ loop-piece-preserved c = λ i piece below there. elim (cases_eq i c.loop-piece.p
       let at : slice_get c.args.pieces.now c.loop-piece.piece-index ≡ Some piece = subst (λ k. slice_get c.args.pieces.now k ≡ Some piece) here there in
       let both : Some c.piece-item.result ≡ Some piece = sym item ∙ at in
       let same : c.piece-item.result ≡ piece = cc in
-      subst (λ (p : Checked). AreBytes p.text.now) same c.is_accepted.ensures.bytes
+      subst (λ (p : Checked). AreBytes (piece_text p)) same c.is_accepted.ensures.bytes
   | inr other ↦ c.loop-piece.invariant i piece (omega (arith, below, other)) there
 ]
 

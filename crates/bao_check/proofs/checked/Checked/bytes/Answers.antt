@@ -1,16 +1,44 @@
-use Rattle.std.proofs.Common.{◌≡◌, ◌+◌, ◌-◌, ℕ, List, take, drop, Some, sym, ap, ◌∙◌, arith}
+use Rattle.std.proofs.Common.{◌≡◌, ℕ, List, take, drop, Some, sym, ap, subst, ◌∙◌}
 use Rattle.std.specs.Option.{option_map}
-use Rattle.bao_check.specs.Checked.{piece_places, piece_text}
+use Rattle.bao_check.specs.Checked.{piece_mode, piece_places, piece_root, piece_text}
+use Rattle.bao_check.specs.Outline.{outline_claimed, outline_mode, outline_root, outline_text}
+use Rattle.bao_check.specs.declared.checked.Body.{Body}
+use Rattle.bao_check.specs.declared.outline.Outline.{Outline}
+use Rattle.bao_check.specs.Accepted.{IsAccepted, places_of, slice_nodes}
+use Rattle.bao_check.specs.Beside.{IsOfChunks, beside_text}
+use Rattle.bao_check.specs.Bodies.{IsOfWhole, text_of}
+use Rattle.bao_check.specs.Pieces.{chunk_in}
+use Rattle.bao_check.specs.Spans.{chunk_place}
+use Rattle.bao_check.proofs.BesidePieces.{StandBeside, chunk_beside, stand_beside}
 use Rattle.bao_check.proofs.Locating.{chunk_in-place}
 use Rattle.bao_check.proofs.checked.Checked.bytes.Goals as goal
 
-pub returns-in-Some : goal.returns-in-Some
-returns-in-Some c =
+pub returns-in-Text : goal.returns-in-Text
+returns-in-Text c =
     let text : List ℕ = piece_text c.args.self.now in
-    let len : c.in-Some.span.at + c.in-Some.span.len - c.in-Some.span.at ≡ c.in-Some.span.len = omega arith in
-    ap (λ (n : ℕ). Some (take n (drop c.in-Some.span.at text))) len
-    ∙ ap (option_map (λ span. take span.len (drop span.at text))) c.in-Some.ensures.value
+    let own : text ≡ c.in-Text.text.now = ap (λ (body : Body). text_of body c.args.self.now.start c.args.self.now.len) c.in-Text.is in
+    ap Some (c.bytes_from.ensures.bytes ∙ ap (λ (bytes : List ℕ). take c.in-Some.span.len (drop c.in-Some.span.at bytes)) (sym own))
+    ∙ ap (option_map (λ span. take span.len (drop span.at text))) (sym c.in-Some.is ∙ c.span.ensures.value)
     ∙ sym (chunk_in-place text (piece_places c.args.self.now) c.args.i)
+
+pub returns-in-Beside : goal.returns-in-Beside
+returns-in-Beside c =
+    let start : ℕ = c.args.self.now.start in
+    let len : ℕ = c.args.self.now.len in
+    let outline : Outline = c.in-Beside.outline.now in
+    let made : List ℕ = beside_text (outline_text outline) start len c.in-Beside.chunks.now in
+    let own : piece_text c.args.self.now ≡ made = ap (λ (body : Body). text_of body start len) c.in-Beside.is in
+    let accepted : IsAccepted (piece_mode c.args.self.now) (piece_root c.args.self.now) made (slice_nodes made start len) =
+    subst (λ (text : List ℕ). IsAccepted (piece_mode c.args.self.now) (piece_root c.args.self.now) text (slice_nodes text start len)) own c.args.self.now.accepted in
+    let range : IsOfChunks (outline_claimed outline) start len = subst (λ (body : Body). IsOfWhole body start len) c.in-Beside.is c.args.self.now.whole in
+    let stand : StandBeside (outline_text outline) start len c.in-Beside.chunks.now =
+    stand_beside (piece_mode c.args.self.now) (outline_mode outline) (piece_root c.args.self.now) (outline_root outline) (outline_text outline) start len c.in-Beside.chunks.now
+    range outline.accepted accepted in
+    let found : chunk_place (places_of (slice_nodes made start len)) c.args.i ≡ Some c.in-Some.span =
+    subst (λ (text : List ℕ). chunk_place (places_of (slice_nodes text start len)) c.args.i ≡ Some c.in-Some.span) own (sym c.span.ensures.value ∙ c.in-Some.is) in
+    ap Some c.bare_chunk.ensures
+    ∙ sym (chunk_beside (outline_text outline) start len c.in-Beside.chunks.now stand c.args.i c.in-Some.span found)
+    ∙ ap (λ (text : List ℕ). chunk_in text (places_of (slice_nodes text start len)) c.args.i) (sym own)
 
 pub returns-in-None : goal.returns-in-None
 returns-in-None c =

@@ -23,7 +23,7 @@ returns-clause-certificate c =
 pub returns-clause-binds : goal.returns-clause-binds
 returns-clause-binds c = λ blob valid is.
     let keyed : IsKeyed (piece_mode c.args.self.now) = c.is_keyed.ensures in
-    let bytes_are : AreBytes (piece_text c.args.self.now) = c.bytes_are.ensures in
+    let bytes_are : AreBytes (piece_text c.args.self.now) = c.is_of_bytes.ensures in
     IfSome-copied c.bytes.result _ (λ bytes. Binds (piece_mode c.args.self.now) (piece_text c.args.self.now) c.args.self.now.start c.args.self.now.len blob c.args.i bytes) c.bytes.ensures
     (λ bytes there.
     accepted_binds (piece_mode c.args.self.now) (piece_root c.args.self.now) (piece_text c.args.self.now) blob c.args.self.now.start c.args.self.now.len c.args.i bytes
