@@ -50,6 +50,16 @@ def runs(replies):
     return [f"{first} to {last}: {reply}" for first, last, reply in found]
 
 
+def half_of(text, parents, number):
+    """The half of one of an outboard encoding's parents that stands for the chunk."""
+    for it in parents:
+        left = bao.left_len(it.length)
+        for half, first, count in ((0, it.number, left), (32, it.number + left // bao.CHUNK_LEN, it.length - left)):
+            if first == number and count <= bao.CHUNK_LEN:
+                return text[it.offset + half :][:32].hex()
+    return "none"
+
+
 class Texts:
     """Texts encoded, cut, changed, checked and audited."""
 
@@ -68,6 +78,7 @@ class Texts:
 
     def __init__(self):
         self.mode, self.blob, self.text, self.root, self.form = bao.Mode(), b"", b"", bytes(32), ("combined",)
+        self.outline = b""
 
     def given(self, form):
         kind, *numbers = form
@@ -76,12 +87,43 @@ class Texts:
         start, count = (0, 2**64 - 1) if kind == "combined" else map(int, numbers[:2])
         return lambda length: bao.slice_nodes(length, start, count)
 
-    def checked(self, text=None):
-        return bao.checked(self.mode, self.root, self.text if text is None else text, self.given(self.form), self.form[0] == "stream")
+    def checked(self, text):
+        """The text whose nodes were accepted, its length, the nodes and where they end."""
+        if self.form[0] == "bare":
+            return self.beside(text, *map(int, self.form[1:]))
+        return text, *bao.checked(self.mode, self.root, text, self.given(self.form), self.form[0] == "stream")
+
+    def beside(self, chunks, first, count):
+        """Chunks whose values are in the outline: each by itself. Then their slice is made with the outline's parents, and has to be
+        accepted as such."""
+        try:
+            length, found, _ = bao.checked(self.mode, self.root, self.outline, bao.outboard_nodes)
+        except bao.Fault as fault:
+            raise Refused(None, f"outline: {fault}") from fault
+        if count < 1 or first + count > bao.chunks_of(length):
+            raise Refused(None, "no such chunks")
+        parts, at = {}, 0
+        for number in range(first, first + count):
+            size = min(bao.CHUNK_LEN, length - number * bao.CHUNK_LEN)
+            parts[number] = chunks[at : at + size]
+            if len(parts[number]) < size:
+                raise bao.Fault(501, "short", at)
+            asked = self.root if not found else bytes.fromhex(half_of(self.outline, found, number))
+            if bao.node_value(self.mode.key, self.mode.flags, False, number, not found, parts[number]) != asked:
+                raise bao.Fault(502, "mismatch", at)
+            at += size
+        if len(chunks) > at:
+            raise bao.Fault(503, "trailing", at)
+        given = lambda length: bao.slice_nodes(length, bao.CHUNK_LEN * first, bao.CHUNK_LEN * count)
+        pairs = {(it.number, it.length): self.outline[it.offset : it.offset + it.size] for it in found}
+        made = self.outline[:8] + b"".join(pairs[it.number, it.length] if it.is_parent else parts[it.number] for it in given(length))
+        return made, *bao.checked(self.mode, self.root, made, given)
 
     def verdict(self, text):
         try:
-            length, found, end = self.checked(text)
+            _, length, found, end = self.checked(text)
+        except Refused as refused:
+            return str(refused)
         except bao.Fault as fault:
             return f"{fault}, {self.unread(fault.at, text)} bytes left" if self.form[0] == "stream" else str(fault)
         if self.form[0] == "outboard":
@@ -98,16 +140,18 @@ class Texts:
                 return max(0, len(text) - it.offset - it.size)
         return 0
 
-    def part(self, at, length):
-        return told(self.text[at : at + length])
+    def nodes(self, name_of):
+        """Each node that has a name, told after it, by their names."""
+        text, _, found, _ = self.checked(self.text)
+        named = {name_of(it): told(text[it.offset : it.offset + it.size]) for it in found}
+        return dict(sorted((name, it) for name, it in named.items() if name is not None))
 
-    def node(self, is_right):
-        try:
-            _, found, _ = self.checked()
-        except bao.Fault as fault:
-            return str(fault)
-        parts = [self.part(it.offset, it.size) for it in found if is_right(it)]
-        return parts[0] if parts else "none"
+    def chunks(self):
+        return self.nodes(lambda it: None if it.is_parent else it.number)
+
+    def parents(self):
+        """Each parent by the number of the chunk with which its right part begins."""
+        return self.nodes(lambda it: it.number + bao.left_len(it.length) // bao.CHUNK_LEN if it.is_parent else None)
 
     def changed(self, text):
         self.text = text
@@ -139,6 +183,10 @@ class Texts:
                 return [self.root.hex(), self.changed(make(self.mode, self.blob, *numbers))]
             case "cut":
                 return [self.changed(bao.cut(text, *numbers))]
+            case "part":
+                return [self.changed(self.blob[bao.CHUNK_LEN * numbers[0] :][: bao.CHUNK_LEN * numbers[1]])]
+            case "outline":
+                self.outline = text
             case "keep":
                 return [self.changed(text[: numbers[0]])]
             case "flip":
@@ -156,11 +204,13 @@ class Texts:
                 self.form = tuple(words)
                 return [self.verdict(text)]
             case "chunk":
-                return [self.node(lambda it: not it.is_parent and it.number == numbers[0])]
+                return [self.chunks().get(numbers[0], "none")]
             case "parent":
-                return [self.node(lambda it: it.is_parent and it.number + bao.left_len(it.length) // bao.CHUNK_LEN == numbers[0])]
+                return [self.parents().get(numbers[0], "none")]
+            case "parents":
+                return [f"{m}: {it}" for m, it in self.parents().items() if m < numbers[0]] or ["none"]
             case "leaf":
-                return [self.leaf(numbers[0])]
+                return [half_of(text, bao.checked(self.mode, self.root, text, bao.outboard_nodes)[1], numbers[0])]
             case "cuts":
                 return runs(self.verdict(text[:k]) for k in range(len(text)))
             case "flips":
@@ -173,23 +223,13 @@ class Texts:
                 sys.exit(f"scenarios: no command {name}")
         return []
 
-    def leaf(self, number):
-        """The half of a parent that stands for the chunk, in an accepted outboard encoding."""
-        _, found, _ = self.checked()
-        for it in found:
-            left = bao.left_len(it.length)
-            for half, first, count in ((0, it.number, left), (32, it.number + left // bao.CHUNK_LEN, it.length - left)):
-                if first == number and count <= bao.CHUNK_LEN:
-                    return self.text[it.offset + half :][:32].hex()
-        return "none"
-
     def audit(self):
-        length, found, _ = self.checked()
+        text, _, found, _ = self.checked(self.text)
         if self.mode.hash(self.blob) != self.root:
             return "601 other root"
         for it in found:
             at = it.number * bao.CHUNK_LEN
-            if not it.is_parent and self.text[it.offset : it.offset + it.size] != self.blob[at : at + bao.CHUNK_LEN]:
+            if not it.is_parent and text[it.offset : it.offset + it.size] != self.blob[at : at + bao.CHUNK_LEN]:
                 sys.exit("scenarios: two inputs have one chaining value")
         return "agrees"
 

@@ -31,9 +31,26 @@ fn changed(alloc: Global, text: &[u8], places: &[usize]) -> Result<Vec<u8>, Fail
     Ok(bytes)
 }
 
-// The left part's last chunk is at 16,392, the right part's first chunk at 17,544; the text ends at 21,224.
+// Five parents come before the first chunk, and the last chunk ends the text.
 #[test]
 fn combined_encodings(rt: HostRuntime) -> Result<(), Fail> {
+    let mode = Mode::hash();
+    let (root, text) = combined(rt.alloc(), &mode, blob(rt.alloc())?.as_slice())?;
+    let text = text.as_slice();
+    for grain in GRAINS {
+        let piece = check_combined_join(&rt, &mode, &root, text, grain)?;
+        assert_eq!(rt; piece.text_len(), text.len() as u128);
+        assert_eq!(rt; piece.claimed(), LEN as u64);
+        assert_eq!(rt; piece.chunks(), (0, 20));
+        assert_eq!(rt; piece.chunk(0), text.get(328..1352));
+        assert_eq!(rt; piece.chunk(19), text.get(20_680..));
+    }
+    Ok(())
+}
+
+// The left part's last chunk is at 16,392, the right part's first chunk at 17,544; the text ends at 21,224.
+#[test]
+fn combined_encodings_refused(rt: HostRuntime) -> Result<(), Fail> {
     let mode = Mode::hash();
     let (root, text) = combined(rt.alloc(), &mode, blob(rt.alloc())?.as_slice())?;
     let text = text.as_slice();
@@ -43,9 +60,6 @@ fn combined_encodings(rt: HostRuntime) -> Result<(), Fail> {
     let mut longer = text.to_vec(rt.alloc())?;
     longer.push(0)?;
     for grain in GRAINS {
-        let piece = check_combined_join(&rt, &mode, &root, text, grain)?;
-        assert_eq!(rt; piece.text(), text);
-        assert_eq!(rt; piece.claimed(), LEN as u64);
         for (bytes, fault) in [
             (left.as_slice(), CheckFault::Mismatch { at: 16_392 }),
             (right.as_slice(), CheckFault::Mismatch { at: 17_544 }),

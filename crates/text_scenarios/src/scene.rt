@@ -3,9 +3,9 @@ use crate::faults::faults;
 use crate::line::{digest, mode, one, two};
 use crate::verdict::{Form, verdict};
 use anyhow::{Context, Result, bail};
-use b3tree::{Hash, Hasher, Mode, hash, xof, xof_fits};
+use b3tree::{CHUNK_LEN, Hash, Hasher, Mode, hash, xof, xof_fits};
 use bao_bind::{Verdict, audit};
-use bao_check::{Checked, check_combined, check_outboard, check_slice};
+use bao_check::{Checked, bare_fits, check_bare, check_combined, check_outboard, check_slice};
 use bao_text::{combined, cut_slice, encoded_len, outboard, outboard_len, slice};
 use std::alloc::Global;
 
@@ -21,6 +21,7 @@ pub struct Scene {
     mode: Mode,
     blob: Vec<u8>,
     text: Vec<u8>,
+    outline: Vec<u8>,
     root: Hash,
     form: Form,
 }
@@ -55,6 +56,7 @@ impl Scene {
             mode: Mode::hash(),
             blob: Vec::new(alloc),
             text: Vec::new(alloc),
+            outline: Vec::new(alloc),
             root: Hash([0; 32]),
             form: Form::Combined,
         }
@@ -70,12 +72,15 @@ impl Scene {
             return told(alloc, self.text.as_slice());
         }
         match name {
-            "mode" | "blob" | "bytes" | "root" => self.set(alloc, name, words),
-            "combined" | "outboard" | "slice" | "cut" => self.make(alloc, name, words),
+            "mode" | "blob" | "bytes" | "root" | "outline" => self.set(alloc, name, words),
+            "combined" | "outboard" | "slice" => self.make(alloc, name, words),
+            "cut" | "part" => self.take(alloc, name, words),
             "hash" | "pieces" | "output" | "sizes" => self.figures(alloc, name, words),
             "check" | "cuts" | "flips" => self.check(alloc, name, words),
             "faults" => faults(alloc),
-            _ => self.ask(alloc, name, words),
+            "leaf" => self.leaf(alloc, words),
+            "chunk" | "parent" | "parents" | "audit" => self.ask(alloc, name, words),
+            _ => bail!("a command"),
         }
     }
 
@@ -84,26 +89,22 @@ impl Scene {
             "mode" => self.mode = mode(words)?,
             "blob" => self.blob = counted(alloc, one(alloc, words)?)?,
             "bytes" => self.blob = hex::decode(alloc, words)?,
+            "outline" => self.outline = self.text.clone()?,
             _ if words == "blob" => self.root = hash(&self.mode, self.blob.as_slice()),
             _ => self.root = Hash(digest(words)?),
         }
         Ok(String::new(alloc))
     }
 
-    // Makes a text of the blob, whose hash is then the root, or cuts one out of the text.
+    // Makes a text of the blob, whose hash is then the root.
     fn make(&mut self, alloc: Global, name: &str, words: &str) -> Result<String> {
         let blob = self.blob.as_slice();
         let (root, text) = match name {
             "combined" => combined(alloc, &self.mode, blob)?,
             "outboard" => outboard(alloc, &self.mode, blob)?,
-            "slice" => {
-                let (start, len) = two(alloc, words)?;
-                slice(alloc, &self.mode, blob, start, len)?
-            }
             _ => {
                 let (start, len) = two(alloc, words)?;
-                self.text = cut_slice(alloc, self.text.as_slice(), start, len)?;
-                return told(alloc, self.text.as_slice());
+                slice(alloc, &self.mode, blob, start, len)?
             }
         };
         self.root = root;
@@ -111,6 +112,21 @@ impl Scene {
         let digits = hex::encode(alloc, self.root.0)?;
         let said = told(alloc, self.text.as_slice())?;
         Ok(format!(in alloc; "{digits}\n{said}")?)
+    }
+
+    // Cuts a slice out of the text, or takes chunks of the blob as they are.
+    fn take(&mut self, alloc: Global, name: &str, words: &str) -> Result<String> {
+        let (start, len) = two(alloc, words)?;
+        if name == "cut" {
+            self.text = cut_slice(alloc, self.text.as_slice(), start, len)?;
+        } else {
+            let size = CHUNK_LEN as u64;
+            let blob = self.blob.as_slice();
+            let first = start.saturating_mul(size).min(blob.len() as u64) as usize;
+            let count = len.saturating_mul(size).min((blob.len() - first) as u64) as usize;
+            self.text = blob[first..first + count].to_vec(alloc)?;
+        }
+        told(alloc, self.text.as_slice())
     }
 
     fn figures(&self, alloc: Global, name: &str, words: &str) -> Result<String> {
@@ -153,7 +169,8 @@ impl Scene {
     }
 
     fn verdict_of(&self, alloc: Global, text: &[u8]) -> Result<String> {
-        verdict(alloc, &self.mode, &self.root, self.form, text)
+        let outline = self.outline.as_slice();
+        verdict(alloc, &self.mode, &self.root, self.form, outline, text)
     }
 
     // The verdicts on the text cut after each number of bytes.
@@ -186,30 +203,66 @@ impl Scene {
             Form::Slice { start, len } | Form::Stream { start, len, .. } => {
                 Ok(check_slice(alloc, &self.mode, &self.root, start, len, text)?)
             }
-            Form::Outboard => bail!("a text with chunks"),
+            Form::Outboard | Form::Bare { .. } => bail!("a text with chunks and parents"),
+        }
+    }
+
+    fn leaf(&self, alloc: Global, words: &str) -> Result<String> {
+        let text = self.text.as_slice();
+        let outline = check_outboard(alloc, &self.mode, &self.root, text)?;
+        match outline.leaf(one(alloc, words)?) {
+            Some(value) => Ok(hex::encode(alloc, value.to_bytes())?),
+            None => Ok(String::from_str(alloc, "none")?),
         }
     }
 
     fn ask(&self, alloc: Global, name: &str, words: &str) -> Result<String> {
-        match name {
-            "chunk" => told_if(alloc, self.piece(alloc)?.chunk(one(alloc, words)?)),
-            "parent" => told_if(alloc, self.piece(alloc)?.parent(one(alloc, words)?)),
-            "leaf" => {
-                let text = self.text.as_slice();
-                let outline = check_outboard(alloc, &self.mode, &self.root, text)?;
-                match outline.leaf(one(alloc, words)?) {
-                    Some(value) => Ok(hex::encode(alloc, value.to_bytes())?),
-                    None => Ok(String::from_str(alloc, "none")?),
-                }
-            }
-            "audit" => match audit(self.blob.as_slice(), &self.piece(alloc)?) {
-                Ok(Verdict::Agrees) => Ok(String::from_str(alloc, "agrees")?),
-                Ok(Verdict::Collision { .. }) => Ok(String::from_str(alloc, "collision")?),
-                Err(fault) => Ok(format!(in alloc; "{fault}")?),
-            },
-            _ => bail!("a command"),
+        let blob = self.blob.as_slice();
+        let Form::Bare { first, count } = self.form else {
+            return asked(alloc, blob, &self.piece(alloc)?, name, words);
+        };
+        let outline = check_outboard(alloc, &self.mode, &self.root, self.outline.as_slice())?;
+        if !bare_fits(&outline, first, count) {
+            bail!("chunks of the outline");
+        }
+        let piece = check_bare(&outline, first, count, self.text.as_slice())?;
+        asked(alloc, blob, &piece, name, words)
+    }
+}
+
+// What a piece says of a chunk or of parents, or of the blob.
+fn asked(
+    alloc: Global,
+    blob: &[u8],
+    piece: &Checked<'_>,
+    name: &str,
+    words: &str,
+) -> Result<String> {
+    match name {
+        "chunk" => told_if(alloc, piece.chunk(one(alloc, words)?)),
+        "parent" => told_if(alloc, piece.parent(one(alloc, words)?)),
+        "parents" => parents(alloc, piece, one(alloc, words)?),
+        _ => match audit(blob, piece) {
+            Ok(Verdict::Agrees) => Ok(String::from_str(alloc, "agrees")?),
+            Ok(Verdict::Collision { .. }) => Ok(String::from_str(alloc, "collision")?),
+            Err(fault) => Ok(format!(in alloc; "{fault}")?),
+        },
+    }
+}
+
+// The parents of the piece whose right parts begin before chunk `end`.
+fn parents(alloc: Global, piece: &Checked<'_>, end: u64) -> Result<String> {
+    let mut said = String::new(alloc);
+    for m in 0..end {
+        if let Some(bytes) = piece.parent(m) {
+            let told = told(alloc, bytes)?;
+            write!(said, "{m}: {told}\n")?;
         }
     }
+    if said.is_empty() {
+        return told_if(alloc, None);
+    }
+    Ok(said)
 }
 
 // Replies, of which equal ones that follow one another are told once.

@@ -2,7 +2,10 @@ use crate::line::{three, two};
 use crate::trickle::Trickle;
 use anyhow::{Result, bail};
 use b3tree::{Hash, Mode};
-use bao_check::{CheckFault, Checked, check_combined, check_outboard, check_slice, check_stream};
+use bao_check::{
+    CheckFault, Checked, bare_fits, check_bare, check_combined, check_outboard, check_slice,
+    check_stream,
+};
 use std::alloc::Global;
 
 // As which text bytes are checked.
@@ -13,6 +16,8 @@ pub enum Form {
     Slice { start: u64, len: u64 },
     // Through a reader that gives at most so many bytes a call.
     Stream { start: u64, len: u64, most: u64 },
+    // So many chunks from this one on, without parents: those are in the outline.
+    Bare { first: u64, count: u64 },
 }
 
 impl Form {
@@ -27,6 +32,10 @@ impl Form {
             Some(("stream", range)) => {
                 let (start, len, most) = three(alloc, range)?;
                 Ok(Form::Stream { start, len, most })
+            }
+            Some(("bare", part)) => {
+                let (first, count) = two(alloc, part)?;
+                Ok(Form::Bare { first, count })
             }
             _ => bail!("a form of text"),
         }
@@ -52,7 +61,36 @@ fn told(alloc: Global, checked: Result<Checked<'_>, CheckFault>) -> Result<Strin
     }
 }
 
-pub fn verdict(alloc: Global, mode: &Mode, root: &Hash, form: Form, text: &[u8]) -> Result<String> {
+// The verdict on chunks beside an outline, if that is accepted and has such chunks.
+fn beside(
+    alloc: Global,
+    mode: &Mode,
+    root: &Hash,
+    outline: &[u8],
+    first: u64,
+    count: u64,
+    text: &[u8],
+) -> Result<String> {
+    match check_outboard(alloc, mode, root, outline) {
+        Ok(outline) => {
+            if bare_fits(&outline, first, count) {
+                told(alloc, check_bare(&outline, first, count, text))
+            } else {
+                Ok(String::from_str(alloc, "no such chunks")?)
+            }
+        }
+        Err(fault) => Ok(format!(in alloc; "outline: {fault}")?),
+    }
+}
+
+pub fn verdict(
+    alloc: Global,
+    mode: &Mode,
+    root: &Hash,
+    form: Form,
+    outline: &[u8],
+    text: &[u8],
+) -> Result<String> {
     match form {
         Form::Combined => told(alloc, check_combined(alloc, mode, root, text)),
         Form::Slice { start, len } => told(alloc, check_slice(alloc, mode, root, start, len, text)),
@@ -71,5 +109,6 @@ pub fn verdict(alloc: Global, mode: &Mode, root: &Hash, form: Form, text: &[u8])
             }
             Err(fault) => Ok(format!(in alloc; "{fault}")?),
         },
+        Form::Bare { first, count } => beside(alloc, mode, root, outline, first, count, text),
     }
 }
