@@ -107,6 +107,7 @@ FILE_RANGES = "hash_source, 16 ranges"
 CHECK = "check_combined"
 CHECK_JOINED = "check_combined_join"
 CHECK_OUTBOARD = "check_outboard"
+CHECK_BARE = "check_bare"
 CHECK_SLICE = "check_slice of 1 MiB"
 AUDIT = "audit of the whole encoding"
 GATHER_TEXTS = "gather_texts"
@@ -159,6 +160,7 @@ ROWS = [
     (CHECK, "bao_check::check_combined in one process, one thread, of the file's combined encoding"),
     (CHECK_JOINED, "bao_join::check_combined_join in one process, several threads, of the same"),
     (CHECK_OUTBOARD, "bao_check::check_outboard in one process, one thread, of the file's outboard encoding"),
+    (CHECK_BARE, "bao_check::check_bare in one process, one thread, of the file beside its outboard encoding, which is checked before"),
     (CHECK_SLICE, "bao_check::check_slice in one process, one thread, of a slice of it"),
     (AUDIT, "bao_bind::audit in one process, one thread, of the file and its combined encoding, which agree"),
     (HASH_OF_GATHERED, "b3tree::hash in one process, one thread, of the first 64 MiB"),
@@ -210,6 +212,7 @@ RATIOS = [
     ("one thread", CHECK, "hash", "at most 1.1"),
     ("several threads", CHECK, CHECK_JOINED, "at least 2.5 on four processors"),
     ("one thread", CHECK_OUTBOARD, "hash", "at most 0.1"),
+    ("one thread", CHECK_BARE, "hash", "at most 1.1"),
     ("one thread", AUDIT, "hash", "at most 1.3: one hash and one comparison"),
     ("one thread", GATHER_TEXTS, HASH_OF_GATHERED, "at most 3.5: a check, a store, a read and a hash"),
     ("as a user runs it", GATHER, HASH_GATHERED, "at most 6"),

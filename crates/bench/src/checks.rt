@@ -1,8 +1,8 @@
 use crate::measure::print_row;
 use crate::way::grain_of;
-use anyhow::Result;
-use b3tree::{Hash, Mode};
-use bao_check::{check_combined, check_outboard, check_slice};
+use anyhow::{Result, bail};
+use b3tree::{CHUNK_LEN, Hash, Mode};
+use bao_check::{bare_fits, check_bare, check_combined, check_outboard, check_slice};
 use bao_join::check_combined_join;
 use bao_text::{combined, cut_slice, outboard};
 use std::hint::black_box;
@@ -26,6 +26,8 @@ pub struct CheckTimes {
     pub joined: Duration,
     /// The outboard encoding of all bytes.
     pub outboard: Duration,
+    /// The bytes themselves, beside it.
+    pub bare: Duration,
     /// The slice of their first 1 MiB.
     pub slice: Duration,
 }
@@ -42,6 +44,7 @@ pub fn least_times<R: Clock + AllocGlobal + Threads + Sync>(
         whole: Duration::MAX,
         joined: Duration::MAX,
         outboard: Duration::MAX,
+        bare: Duration::MAX,
         slice: Duration::MAX,
     };
     for _ in 0..ROUNDS {
@@ -50,6 +53,9 @@ pub fn least_times<R: Clock + AllocGlobal + Threads + Sync>(
         least.outboard = least
             .outboard
             .min(timed_outboard(rt, &root, parents.as_slice())?);
+        least.bare = least
+            .bare
+            .min(timed_bare(rt, &root, parents.as_slice(), bytes)?);
         least.slice = least.slice.min(timed_slice(rt, &root, slice.as_slice())?);
     }
     Ok(least)
@@ -93,6 +99,25 @@ fn timed_outboard<R: Clock + AllocGlobal>(
     Ok(time)
 }
 
+// How long the check of all bytes beside their outboard encoding takes, that of the encoding aside.
+fn timed_bare<R: Clock + AllocGlobal>(
+    rt: &R,
+    root: &Hash,
+    encoding: &[u8],
+    bytes: &[u8],
+) -> Result<Duration> {
+    let outline = check_outboard(rt.alloc(), &Mode::hash(), root, encoding)?;
+    let count = bytes.len().div_ceil(CHUNK_LEN).max(1) as u64;
+    if !bare_fits(&outline, 0, count) {
+        bail!("the encoding is of other chunks");
+    }
+    let start = Instant::now(rt)?;
+    let piece = check_bare(&outline, 0, count, bytes)?;
+    let time = start.elapsed(rt)?;
+    black_box(piece);
+    Ok(time)
+}
+
 // How long the check of the slice of the first `SLICE_LEN` bytes takes.
 fn timed_slice<R: Clock + AllocGlobal>(rt: &R, root: &Hash, slice: &[u8]) -> Result<Duration> {
     let mode = Mode::hash();
@@ -108,5 +133,6 @@ pub fn print(rt: &impl Print, times: &CheckTimes) -> io::Result<()> {
     print_row(rt, "check_combined", times.whole)?;
     print_row(rt, "check_combined_join", times.joined)?;
     print_row(rt, "check_outboard", times.outboard)?;
+    print_row(rt, "check_bare", times.bare)?;
     print_row(rt, "check_slice of 1 MiB", times.slice)
 }
