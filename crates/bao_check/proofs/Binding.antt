@@ -24,8 +24,9 @@ use Rattle.bao_text.specs.Choice.{chunk_count}
 use Rattle.bao_text.specs.Nodes.{Side, left, right}
 use Rattle.bao_text.proofs.SubtreeText.{Parts, left_len-Parts}
 use Rattle.bao_check.specs.Accepted.{part_value}
-use Rattle.bao_check.specs.Certificate.{Begins, Certificate, Follows, IsLast, Step, half, step_input}
-use Rattle.bao_check.specs.Inputs.{Names, blob_inputs, certificate_inputs, marked, way_inputs, whole_chunk}
+use Rattle.bao_check.specs.Certificate.{Begins, Follows, Step, half, step_input}
+use Rattle.bao_check.specs.Inputs.{marked, way_inputs, whole_chunk}
+use Rattle.bao_check.specs.Laws.{CertificateBinds}
 use Rattle.bao_check.specs.Pieces.{chunk_of}
 use Rattle.bao_check.proofs.ChunkBinding.{chunk_binds}
 use Rattle.bao_check.proofs.Lists.{Contains-head, Contains-tail}
@@ -34,12 +35,7 @@ use Rattle.bao_check.proofs.Naming.{Named, Named-by, Named-within, last_there, s
 use Rattle.bao_check.proofs.Parts.{left_right}
 use Rattle.bao_check.proofs.SubtreeInputs.{blob_inputs-subtree, subtree_inputs, subtree_inputs-chunk, subtree_inputs-parent, subtree_parent}
 
--- The first chaining value of each step has eight words, as it has where it is read from a text: so a
--- parent's sixteen words part into its two values in one way.
-abbrev pub HaveEight : List Step → Type 0
-HaveEight steps = AllByRecursion (λ step. length step.near ≡ 8) steps
-
--- it has where it is a half of a parent's bytes
+-- a half of a parent's bytes has eight words
 pub length-part_value : (side : Side) (bytes : List ℕ) → length (part_value side bytes) ≡ 8
 unfolding part_value
 length-part_value left bytes = length-map-range_with_len (word_at (take 32 bytes)) 0 8
@@ -53,7 +49,7 @@ first_input mode (step ∷ steps) number bytes = step_input mode step
 -- each later input has the value that the half before it says
 abbrev GoesOn : Mode → List Step → ℕ → List ℕ → Type 0
 GoesOn mode [] number bytes = Unit {0}
-GoesOn mode (step ∷ steps) number bytes = Follows mode (half step.side step) steps (last_chunk_input mode number bytes)
+GoesOn mode (step ∷ steps) number bytes = Follows mode (half step) steps (last_chunk_input mode number bytes)
 
 follows_first : (mode : Mode) (value : List ℕ) (steps : List Step) (number : ℕ) (bytes : List ℕ) → Follows mode value steps (last_chunk_input mode number bytes)
     → (cv (first_input mode steps number bytes) ≡ value) × GoesOn mode steps number bytes
@@ -148,10 +144,10 @@ pub top_parent : (mode : Mode) (first : ℕ) (s : List ℕ) → 1024 < length s 
 top_parent mode first s more = top_input-parent mode first s (left_len (length s)) (left_len-IsLeftLen (length s) more) more
 
 -- the way against the tree over s: it ends in a chunk of the tree, or a pair is named
-way_binds : (top : Bool) (mode : Mode) (first : ℕ) (s : List ℕ) (steps : List Step) (number : ℕ) (bytes : List ℕ) → AreBytes s → AreBytes bytes → HaveEight steps
+way_binds : (top : Bool) (mode : Mode) (first : ℕ) (s : List ℕ) (steps : List Step) (number : ℕ) (bytes : List ℕ) → AreBytes s → AreBytes bytes
     → cv (marked top (top_input mode first s)) ≡ cv (marked top (first_input mode steps number bytes)) → GoesOn mode steps number bytes
     → Reached first s steps number bytes ⊎ Named (subtree_inputs top mode first s) (way_inputs top mode steps number bytes)
-way_binds top mode first s [] number bytes hs hb eight same on = elim (cases_lt 1024 (length s)) [
+way_binds top mode first s [] number bytes hs hb same on = elim (cases_lt 1024 (length s)) [
   | inr one ↦
       let chunk : cv (marked top (last_chunk_input mode first s)) ≡ cv (marked top (top_input mode first s)) = ap (λ (x : Input). cv (marked top x)) (sym (top_input-chunk mode first s one)) in
       elim (chunk_binds top mode first number s bytes hs hb (chunk ∙ same)) [
@@ -167,7 +163,7 @@ way_binds top mode first s [] number bytes hs hb eight same on = elim (cases_lt 
       inr (Named-by (subtree_inputs top mode first s) (whole_chunk top mode number bytes) (marked top (subtree_parent mode first s)) (marked top (last_chunk_input mode number bytes))
       (parent_there top mode first s more) (last_there top mode number bytes) (parent ∙ same) (λ e. parent_not_chunk top mode near far number bytes e))
 ]
-way_binds top mode first s (step ∷ steps) number bytes hs hb eight same on =
+way_binds top mode first s (step ∷ steps) number bytes hs hb same on =
     let y : Input = step_input mode step in
     let others : List Input = way_inputs false mode steps number bytes in
     let theirs : List Input = marked top y ∷ others in
@@ -176,7 +172,7 @@ way_binds top mode first s (step ∷ steps) number bytes hs hb eight same on =
           let chunk : cv (marked top (last_chunk_input mode first s)) ≡ cv (marked top (top_input mode first s)) = ap (λ (x : Input). cv (marked top x)) (sym (top_input-chunk mode first s one)) in
           inr (rw (subtree_inputs-chunk top mode first s one)
           (Named-by (whole_chunk top mode first s) theirs (marked top (last_chunk_input mode first s)) (marked top y)
-          (last_there top mode first s) (Contains-head others (marked top y)) (chunk ∙ same) (λ e. parent_not_chunk top mode step.near step.far first s (sym e))))
+          (last_there top mode first s) (Contains-head others (marked top y)) (chunk ∙ same) (λ e. parent_not_chunk top mode (part_value left step.parent) (part_value right step.parent) first s (sym e))))
       | inl more ↦
           let l : ℕ = left_len (length s) in
           let parts : Parts (length s) l = left_len-Parts (length s) more in
@@ -190,21 +186,24 @@ way_binds top mode first s (step ∷ steps) number bytes hs hb eight same on =
             | inl equal ↦
                 let parts_same : SameParts x y = same_parts top x y equal in
                 let eight_near : length near ≡ 8 = length-cv (top_input mode first (take l s)) in
-                let near_same : near ≡ step.near = sym (take_at near far 8 eight_near) ∙ ap (take 8) parts_same.m ∙ take_at step.near step.far 8 eight.0 in
-                let far_same : far ≡ step.far = sym (drop_at near far 8 eight_near) ∙ ap (drop 8) parts_same.m ∙ drop_at step.near step.far 8 eight.0 in
-                let next : (cv (first_input mode steps number bytes) ≡ half step.side step) × GoesOn mode steps number bytes = follows_first mode (half step.side step) steps number bytes on in
+                let eight_step : length (part_value left step.parent) ≡ 8 = length-part_value left step.parent in
+                let near_same : near ≡ part_value left step.parent =
+                sym (take_at near far 8 eight_near) ∙ ap (take 8) parts_same.m ∙ take_at (part_value left step.parent) (part_value right step.parent) 8 eight_step in
+                let far_same : far ≡ part_value right step.parent =
+                sym (drop_at near far 8 eight_near) ∙ ap (drop 8) parts_same.m ∙ drop_at (part_value left step.parent) (part_value right step.parent) 8 eight_step in
+                let next : (cv (first_input mode steps number bytes) ≡ half step) × GoesOn mode steps number bytes = follows_first mode (half step) steps number bytes on in
                 elim (side_cases step.side) [
                   | inl is ↦
-                      let value : near ≡ cv (first_input mode steps number bytes) = near_same ∙ sym (next.0 ∙ ap (λ (side : Side). half side step) is) in
-                      elim (way_binds false mode first (take l s) steps number bytes (AreBytes-take l s hs) hb eight.1 value next.1) [
+                      let value : near ≡ cv (first_input mode steps number bytes) = near_same ∙ sym (next.0 ∙ ap (λ (side : Side). part_value side step.parent) is) in
+                      elim (way_binds false mode first (take l s) steps number bytes (AreBytes-take l s hs) hb value next.1) [
                         | inl reached ↦ inl (reached_left first s l step steps number bytes parts is reached)
                         | inr named ↦
                             inr (Named-within (subtree_inputs false mode first (take l s)) others ours theirs
                             (left_there top mode first s more) (λ z there. Contains-tail others (marked top y) z there) named)
                       ]
                   | inr is ↦
-                      let value : far ≡ cv (first_input mode steps number bytes) = far_same ∙ sym (next.0 ∙ ap (λ (side : Side). half side step) is) in
-                      elim (way_binds false mode (first + l / 1024) (drop l s) steps number bytes (AreBytes-drop l s hs) hb eight.1 value next.1) [
+                      let value : far ≡ cv (first_input mode steps number bytes) = far_same ∙ sym (next.0 ∙ ap (λ (side : Side). part_value side step.parent) is) in
+                      elim (way_binds false mode (first + l / 1024) (drop l s) steps number bytes (AreBytes-drop l s hs) hb value next.1) [
                         | inl reached ↦ inl (reached_right first s l step steps number bytes parts reached)
                         | inr named ↦
                             inr (Named-within (subtree_inputs false mode (first + l / 1024) (drop l s)) others ours theirs
@@ -218,15 +217,12 @@ pub chunk_of-there : (blob : List ℕ) (number : ℕ) → number < chunk_count (
 chunk_of-there blob number there = rw (lt-ltb number (chunk_count (length blob)) there) refl
 
 -- a certificate under a blob's root is of the blob's chunk, or a pair of inputs is named
-pub certificate_binds : (mode : Mode) (root blob : List ℕ) (number : ℕ) (bytes : List ℕ) (c : Certificate mode root number bytes)
-    → IsKeyed mode → AreBytes blob → AreBytes bytes → HaveEight c.steps → hash mode blob ≡ root
-    → ((chunk_of blob number ≡ Some bytes) × (IsLast c → 1024 * number + length bytes ≡ length blob))
-    ⊎ ((x : Input) × ((y : Input) × Names (blob_inputs mode blob) (certificate_inputs c) x y))
-certificate_binds mode root blob number bytes c keyed hblob hbytes eight is =
+pub certificate_binds : CertificateBinds
+certificate_binds mode root blob number bytes c keyed hblob is =
     let x : Input = top_input mode 0 blob in
     let begins : (cv (rooted (first_input mode c.steps number bytes)) ≡ words_of 8 root) × GoesOn mode c.steps number bytes = begins_first mode root c.steps number bytes c.holds in
     let words : cv (rooted x) ≡ words_of 8 root = sym (words_of-hash mode blob keyed) ∙ ap (words_of 8) is in
-    elim (way_binds true mode 0 blob c.steps number bytes hblob hbytes eight (words ∙ sym begins.0) begins.1) [
+    elim (way_binds true mode 0 blob c.steps number bytes hblob c.chunk (words ∙ sym begins.0) begins.1) [
       | inl reached ↦
           let number_is : reached.at ≡ number = omega (arith, reached.number_is) in
           inl (

@@ -10,19 +10,20 @@ use Rattle.b3tree.specs.declared.mode.Mode.{Mode}
 use Rattle.b3tree.specs.Bytes.{words_of}
 use Rattle.b3tree.specs.Chunk.{last_chunk_input}
 use Rattle.b3tree.specs.Tree.{left_len, parent_input}
+use Rattle.b3tree.specs.Valid.{AreBytes}
+use Rattle.b3tree.proofs.BlockWords.{AreBytes-drop, AreBytes-take}
 use Rattle.bao_text.specs.declared.choice.Choice.{Choice}
 use Rattle.bao_text.specs.Choice.{chunk_count, of_slice, wants}
 use Rattle.bao_text.specs.Cut.{claimed}
-use Rattle.bao_text.specs.Nodes.{Node, Side, chosen_nodes, chunk_nodes, left, placed, right, subtree_nodes, subtree_size}
+use Rattle.bao_text.specs.Nodes.{Node, Side, chosen_nodes, chunk_nodes, left, placed, right, size, subtree_nodes, subtree_size}
 use Rattle.bao_text.proofs.SubtreeNodes.{parent_node, subtree_nodes-leaf, subtree_nodes-unwanted}
 use Rattle.bao_text.proofs.SubtreeText.{Parts, left_len-Parts}
 use Rattle.bao_check.specs.declared.asked.Asked.{Asked}
-use Rattle.bao_check.specs.Accepted.{IsAccepted, part_value, places_of, slice_nodes}
-use Rattle.bao_check.specs.Certificate.{Begins, Certificate, Follows, IsLast, Step, half, step_input}
-use Rattle.bao_check.specs.Inputs.{certificate_inputs, is_top, marked, place_inputs, text_inputs, way_inputs, whole_chunk}
+use Rattle.bao_check.specs.Accepted.{IsAccepted, bytes_at, part_value, places_of, slice_nodes}
+use Rattle.bao_check.specs.Certificate.{Begins, Certificate, Follows, IsParent, Step, half, step_input}
+use Rattle.bao_check.specs.Inputs.{is_top, marked, place_inputs, text_inputs, way_inputs, whole_chunk}
 use Rattle.bao_check.specs.Pieces.{chunk_in}
 use Rattle.bao_check.specs.Walk.{AreGood, Meets}
-use Rattle.bao_check.proofs.Binding.{HaveEight, length-part_value}
 use Rattle.bao_check.proofs.Lists.{Contains-cons_cases, Contains-head, Contains-tail, nodes_size}
 use Rattle.bao_check.proofs.Parts.{AreGood-split, PartsGood, below, placed-parent}
 use Rattle.bao_check.proofs.Walking.{chunk_node}
@@ -34,7 +35,7 @@ GoesRight step = step.side ≡ right
 -- the first input on the way has the value that is asked for, and the others follow
 abbrev pub Starts : Asked → Mode → List Step → Input → Type 0
 Starts asked mode [] last = Meets asked last
-Starts asked mode (step ∷ steps) last = Meets asked (step_input mode step) × Follows mode (half step.side step) steps last
+Starts asked mode (step ∷ steps) last = Meets asked (step_input mode step) × Follows mode (half step) steps last
 
 -- below a parent that is the value of its half
 Follows-below : (side : Side) (bytes : List ℕ) (mode : Mode) (steps : List Step) (last : Input) → Starts (below side bytes) mode steps last
@@ -54,7 +55,7 @@ record Way (asked : Asked) (mode : Mode) (text : List ℕ) (places : List (ℕ �
   steps : List Step
   holds : Starts asked mode steps (last_chunk_input mode k bytes)
   inputs : (x : Input) → Contains (way_inputs asked.top mode steps k bytes) x → Contains (text_inputs mode text places) x
-  eight : HaveEight steps
+  parents : AreBytes text → AllByRecursion IsParent steps
   within : k + 1 ≤ number + chunk_count n
   size : length bytes ≤ 1024
   full : k + 1 < number + chunk_count n → length bytes ≡ 1024
@@ -98,7 +99,7 @@ way-here asked mode text at number n sides source top one fits meets =
       holds = meets;
       inputs = λ x h. Contains-append_left (whole_chunk (is_top sides) mode number (take n (drop at text))) [] x
           (subst (λ (t : Bool). Contains (whole_chunk t mode number (take n (drop at text))) x) top h);
-      eight = tt;
+      parents = λ _. tt;
       within = omega arith;
       size = omega arith;
       full = λ less. omega arith;
@@ -202,18 +203,24 @@ near_full number l k bytes count whole full ends inner = elim (cases_lt (k + 1) 
   | inr least ↦ let end : 1024 * k + length bytes ≡ 1024 * number + l = ends (omega arith) in omega arith
 ]
 
+-- a parent's bytes, where it is there
+parent_there : (text : List ℕ) (at : ℕ) → at + 64 ≤ length text → AreBytes text → (length (take 64 (drop at text)) ≡ 64) × AreBytes (take 64 (drop at text))
+parent_there text at there valid =
+    let rest : length (drop at text) ≡ length text - at = length-drop at text in
+    (length-take-le 64 (drop at text) (omega arith), AreBytes-take 64 (drop at text) (AreBytes-drop at text valid))
+
 -- from a part of a parent to the whole
 way-near : (asked : Asked) (mode : Mode) (text : List ℕ) (at number n : ℕ) (sides : List Side) (source k : ℕ) (bytes : List ℕ) (near far : List (ℕ × Node))
-    → asked.top ≡ is_top sides → 1024 < n
+    → asked.top ≡ is_top sides → 1024 < n → at + 64 ≤ length text
     → Meets asked (parent_input mode (part_value left (take 64 (drop at text))) (part_value right (take 64 (drop at text))))
     → Way (below left (take 64 (drop at text))) mode text near number (left_len n) k bytes
     → Way asked mode text ((at, parent_node number n sides source) ∷ (near ++ far)) number n k bytes
-way-near asked mode text at number n sides source k bytes near far top more meets way =
+way-near asked mode text at number n sides source k bytes near far top more there meets way =
     let l : ℕ = left_len n in
     let parts : Parts n l = left_len-Parts n more in
     let bs : List ℕ = take 64 (drop at text) in
     let q : ℕ × Node = (at, parent_node number n sides source) in
-    let step : Step = record { near = part_value left bs; far = part_value right bs; side = left } in
+    let step : Step = record { parent = bs; side = left } in
     let first : place_inputs mode text q ≡ marked asked.top (step_input mode step) ∷ [] =
     ap (λ (t : Bool). marked t (step_input mode step) ∷ []) (sym top) in
     let near_count : chunk_count l ≡ l / 1024 = chunk_count-left n more in
@@ -224,7 +231,7 @@ way-near asked mode text at number n sides source k bytes near far top more meet
       steps = step ∷ way.steps;
       holds = (meets, Follows-below left bs mode way.steps (last_chunk_input mode k bytes) way.holds);
       inputs = inputs-step asked mode text q near far near step way.steps k bytes (text_inputs-near mode text near far) first way.inputs;
-      eight = (length-part_value left bs, way.eight);
+      parents = λ valid. (parent_there text at there valid, way.parents valid);
       within = omega arith;
       size = way.size;
       full = λ _. near_full number l k bytes near_count parts.whole way.full way.ends inner;
@@ -233,16 +240,16 @@ way-near asked mode text at number n sides source k bytes near far top more meet
     }
 
 way-far : (asked : Asked) (mode : Mode) (text : List ℕ) (at number n : ℕ) (sides : List Side) (source k : ℕ) (bytes : List ℕ) (near far : List (ℕ × Node))
-    → asked.top ≡ is_top sides → 1024 < n
+    → asked.top ≡ is_top sides → 1024 < n → at + 64 ≤ length text
     → Meets asked (parent_input mode (part_value left (take 64 (drop at text))) (part_value right (take 64 (drop at text))))
     → Way (below right (take 64 (drop at text))) mode text far (number + left_len n / 1024) (n - left_len n) k bytes
     → Way asked mode text ((at, parent_node number n sides source) ∷ (near ++ far)) number n k bytes
-way-far asked mode text at number n sides source k bytes near far top more meets way =
+way-far asked mode text at number n sides source k bytes near far top more there meets way =
     let l : ℕ = left_len n in
     let parts : Parts n l = left_len-Parts n more in
     let bs : List ℕ = take 64 (drop at text) in
     let q : ℕ × Node = (at, parent_node number n sides source) in
-    let step : Step = record { near = part_value left bs; far = part_value right bs; side = right } in
+    let step : Step = record { parent = bs; side = right } in
     let first : place_inputs mode text q ≡ marked asked.top (step_input mode step) ∷ [] =
     ap (λ (t : Bool). marked t (step_input mode step) ∷ []) (sym top) in
     let near_count : chunk_count l ≡ l / 1024 = chunk_count-left n more in
@@ -252,7 +259,7 @@ way-far asked mode text at number n sides source k bytes near far top more meets
       steps = step ∷ way.steps;
       holds = (meets, Follows-below right bs mode way.steps (last_chunk_input mode k bytes) way.holds);
       inputs = inputs-step asked mode text q near far far step way.steps k bytes (text_inputs-far mode text near far) first way.inputs;
-      eight = (length-part_value left bs, way.eight);
+      parents = λ valid. (parent_there text at there valid, way.parents valid);
       within = omega (arith, way.within);
       size = way.size;
       full = λ less. way.full (omega arith);
@@ -289,28 +296,41 @@ way-levels (suc levels) asked choice mode text at number n sides source k bytes 
             subst (λ (ps : List (ℕ × Node)). Way asked mode text ps number n k bytes) (sym places_are)
             (elim (chunk_in-append text near far k bytes among) [
               | inl here ↦
-                  way-near asked mode text at number n sides source k bytes near far top more both.meets
+                  way-near asked mode text at number n sides source k bytes near far top more both.there both.meets
                   (way-levels levels (below left bs) choice mode text (at + 64) number l (sides ++ left ∷ []) (source + 64) k bytes
                   (omega (arith, parts.whole, parts.below)) (is_top-below sides left) both.near_good here)
               | inr here ↦
-                  way-far asked mode text at number n sides source k bytes near far top more both.meets
+                  way-far asked mode text at number n sides source k bytes near far top more both.there both.meets
                   (way-levels levels (below right bs) choice mode text (at + 64 + nodes_size near_nodes) (number + l / 1024) (n - l) (sides ++ right ∷ []) (source + 64 + subtree_size l) k bytes
                   (omega (arith, parts.some)) (is_top-below sides right) both.far_good here)
             ])
       ]
 ]
 
--- A certificate of the chunk that the text has there, made of the text's own compressions. By the length
+-- A way down to the chunk that the text has there, made of the text's own compressions. By the length
 -- `total` of the blob the last chunk ends it, and each other is whole.
 pub record IsCertified (mode : Mode) (root text : List ℕ) (places : List (ℕ × Node)) (total number : ℕ) (bytes : List ℕ) : Type 0 where
-  pub certificate : Certificate mode root number bytes
-  pub inputs : (x : Input) → Contains (certificate_inputs certificate) x → Contains (text_inputs mode text places) x
-  pub eight : HaveEight certificate.steps
+  pub steps : List Step
+  pub holds : Begins mode root steps (last_chunk_input mode number bytes)
+  pub inputs : (x : Input) → Contains (way_inputs true mode steps number bytes) x → Contains (text_inputs mode text places) x
+  pub parents : AreBytes text → AllByRecursion IsParent steps
+  pub chunk : AreBytes text → AreBytes bytes
   pub within : number < chunk_count total
   pub size : length bytes ≤ 1024
   pub full : number + 1 < chunk_count total → length bytes ≡ 1024
-  pub last : number + 1 ≡ chunk_count total → IsLast certificate
+  pub last : number + 1 ≡ chunk_count total → AllByRecursion GoesRight steps
   pub ends : number + 1 ≡ chunk_count total → 1024 * number + length bytes ≡ total
+
+-- a chunk of a text of bytes is of bytes
+chunk_in-AreBytes : (text : List ℕ) (places : List (ℕ × Node)) (number : ℕ) (bytes : List ℕ) → AreBytes text → chunk_in text places number ≡ Some bytes → AreBytes bytes
+chunk_in-AreBytes text [] number bytes valid there = let none : None ≡ Some bytes = there in cc
+chunk_in-AreBytes text (place ∷ places) number bytes valid there = elim (cases_Bool (place.1.is_chunk && (place.1.number == number))) [
+  | inl hit ↦
+      let found : Some (bytes_at text place) ≡ Some bytes = rw hit at there in
+      let same : bytes_at text place ≡ bytes = cc in
+      subst AreBytes same (AreBytes-take (size place.1) (drop place.0 text) (AreBytes-drop place.0 text valid))
+  | inr miss ↦ chunk_in-AreBytes text places number bytes valid (rw miss at there)
+]
 
 -- for any choice of a blob of `total` bytes
 pub chosen_certified : (choice : Choice) (mode : Mode) (root text : List ℕ) (total : ℕ) → IsAccepted mode root text (chosen_nodes choice total)
@@ -321,9 +341,11 @@ chosen_certified choice mode root text total accepted number bytes there =
     let way : Way asked mode text (placed 8 (chosen_nodes choice total)) 0 total number bytes =
     way-levels total asked choice mode text 8 0 total [] 8 number bytes (omega arith) refl accepted.good there in
     record {
-      certificate = record { steps = way.steps; holds = Begins-root mode root way.steps (last_chunk_input mode number bytes) way.holds };
+      steps = way.steps;
+      holds = Begins-root mode root way.steps (last_chunk_input mode number bytes) way.holds;
       inputs = way.inputs;
-      eight = way.eight;
+      parents = way.parents;
+      chunk = λ valid. chunk_in-AreBytes text (places_of (chosen_nodes choice total)) number bytes valid there;
       within = omega (arith, way.within);
       size = way.size;
       full = λ less. way.full (omega arith);
@@ -337,3 +359,8 @@ pub certified : (mode : Mode) (root text : List ℕ) (start len : ℕ) → IsAcc
     → IsCertified mode root text (places_of (slice_nodes text start len)) (claimed text) number bytes
 certified mode root text start len accepted number bytes there =
     chosen_certified (of_slice (claimed text) start len) mode root text (claimed text) accepted number bytes there
+
+-- the certificate of a chunk of a text of bytes
+abbrev pub certificate_of : {mode : Mode} {root text : List ℕ} {places : List (ℕ × Node)} {total number : ℕ} {bytes : List ℕ} → IsCertified mode root text places total number bytes
+    → AreBytes text → Certificate mode root number bytes
+certificate_of found valid = record { steps = found.steps; parents = found.parents valid; chunk = found.chunk valid; holds = found.holds }

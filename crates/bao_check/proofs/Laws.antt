@@ -16,34 +16,24 @@ use Rattle.bao_check.specs.Inputs.{blob_inputs, certificate_inputs, text_inputs}
 use Rattle.bao_check.specs.Laws.{AcceptedBinds, WrittenAccepted}
 use Rattle.bao_check.specs.Pieces.{chunk_in}
 use Rattle.bao_check.proofs.Binding.{certificate_binds}
-use Rattle.bao_check.proofs.Certified.{IsCertified, certified}
+use Rattle.bao_check.proofs.Certified.{IsCertified, certificate_of, certified}
 use Rattle.bao_check.proofs.Lists.{All-second}
 use Rattle.bao_check.proofs.Naming.{Named-within}
 use Rattle.bao_check.proofs.Written.{combined_accepted, outboard_accepted, slice_accepted}
 
--- what an accepted text has as a chunk, it certifies
-pub chunk_certificate : (mode : Mode) (root text : List ℕ) (start len number : ℕ) (bytes : List ℕ) → IsAccepted mode root text (slice_nodes text start len)
+-- what an accepted text of bytes has as a chunk, it certifies
+pub chunk_certificate : (mode : Mode) (root text : List ℕ) (start len number : ℕ) (bytes : List ℕ) → IsAccepted mode root text (slice_nodes text start len) → AreBytes text
     → chunk_in text (places_of (slice_nodes text start len)) number ≡ Some bytes → Certificate mode root number bytes
-chunk_certificate mode root text start len number bytes accepted there = (certified mode root text start len accepted number bytes there).certificate
-
--- a chunk of a text of bytes is of bytes
-chunk_in-AreBytes : (text : List ℕ) (places : List (ℕ × Node)) (number : ℕ) (bytes : List ℕ) → AreBytes text → chunk_in text places number ≡ Some bytes → AreBytes bytes
-chunk_in-AreBytes text [] number bytes valid there = let none : None ≡ Some bytes = there in cc
-chunk_in-AreBytes text (place ∷ places) number bytes valid there = elim (cases_Bool (place.1.is_chunk && (place.1.number == number))) [
-  | inl hit ↦
-      let found : Some (bytes_at text place) ≡ Some bytes = rw hit at there in
-      let same : bytes_at text place ≡ bytes = cc in
-      subst AreBytes same (AreBytes-take (size place.1) (drop place.0 text) (AreBytes-drop place.0 text valid))
-  | inr miss ↦ chunk_in-AreBytes text places number bytes valid (rw miss at there)
-]
+chunk_certificate mode root text start len number bytes accepted valid there = certificate_of (certified mode root text start len accepted number bytes there) valid
 
 pub accepted_binds : AcceptedBinds
 accepted_binds mode root text blob start len number bytes keyed valid_blob valid_text is accepted there =
     let places : List (ℕ × Node) = places_of (slice_nodes text start len) in
     let c : IsCertified mode root text places (claimed text) number bytes = certified mode root text start len accepted number bytes there in
-    elim (certificate_binds mode root blob number bytes c.certificate keyed valid_blob (chunk_in-AreBytes text places number bytes valid_text there) c.eight is) [
+    let certificate : Certificate mode root number bytes = certificate_of c valid_text in
+    elim (certificate_binds mode root blob number bytes certificate keyed valid_blob is) [
       | inl same ↦ inl (same.0, λ end. sym (c.ends end) ∙ same.1 (c.last end))
-      | inr named ↦ inr (Named-within (blob_inputs mode blob) (certificate_inputs c.certificate) (blob_inputs mode blob) (text_inputs mode text places) (λ x h. h) c.inputs named)
+      | inr named ↦ inr (Named-within (blob_inputs mode blob) (certificate_inputs certificate) (blob_inputs mode blob) (text_inputs mode text places) (λ x h. h) c.inputs named)
     ]
 
 pub written_accepted : WrittenAccepted

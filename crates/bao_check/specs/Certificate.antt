@@ -1,5 +1,5 @@
 -- What shows that bytes are a certain chunk of the blob with a root: a way down the tree.
-use Rattle.std.specs.Prelude.{◌≡◌, ℕ, List, [], ◌∷◌}
+use Rattle.std.specs.Prelude.{◌≡◌, ℕ, List, [], ◌∷◌, length}
 use Rattle.std.specs.List.{AllByRecursion}
 use Rattle.b3word.specs.declared.input.Input.{Input}
 use Rattle.b3word.specs.Compression.{cv}
@@ -8,36 +8,42 @@ use Rattle.b3tree.specs.Bytes.{words_of}
 use Rattle.b3tree.specs.Chunk.{last_chunk_input}
 use Rattle.b3tree.specs.Tree.{parent_input}
 use Rattle.b3tree.specs.Hashing.{rooted}
+use Rattle.b3tree.specs.Valid.{AreBytes}
 use Rattle.bao_text.specs.Nodes.{Side, left, right}
+use Rattle.bao_check.specs.Accepted.{part_value}
 
--- a parent on the way: the chaining values of its two parts, and the side on which the way goes on
+-- a parent on the way, by its bytes, and the side on which the way goes on
 pub record Step : Type 0 where
-  pub near : List ℕ
-  pub far : List ℕ
+  pub parent : List ℕ
   pub side : Side
+
+-- 64 bytes: the chaining values of its two parts
+abbrev pub IsParent : Step → Type 0
+IsParent step = (length step.parent ≡ 64) × AreBytes step.parent
 
 -- the parent's input
 abbrev pub step_input : Mode → Step → Input
-step_input mode step = parent_input mode step.near step.far
+step_input mode step = parent_input mode (part_value left step.parent) (part_value right step.parent)
 
 -- the half that the side names
-abbrev pub half : Side → Step → List ℕ
-half left step = step.near
-half right step = step.far
+abbrev pub half : Step → List ℕ
+half step = part_value step.side step.parent
 
 -- each input has the value that the half before it says, down to the chunk's last input
 abbrev pub Follows : Mode → List ℕ → List Step → Input → Type 0
 Follows mode value [] last = cv last ≡ value
-Follows mode value (step ∷ steps) last = (cv (step_input mode step) ≡ value) × Follows mode (half step.side step) steps last
+Follows mode value (step ∷ steps) last = (cv (step_input mode step) ≡ value) × Follows mode (half step) steps last
 
 -- the first of them with ROOT has the root's
 abbrev pub Begins : Mode → List ℕ → List Step → Input → Type 0
 Begins mode root [] last = cv (rooted last) ≡ words_of 8 root
-Begins mode root (step ∷ steps) last = (cv (rooted (step_input mode step)) ≡ words_of 8 root) × Follows mode (half step.side step) steps last
+Begins mode root (step ∷ steps) last = (cv (rooted (step_input mode step)) ≡ words_of 8 root) × Follows mode (half step) steps last
 
 -- a certificate that the bytes are chunk `number` of the blob with this root
 pub record Certificate (mode : Mode) (root : List ℕ) (number : ℕ) (bytes : List ℕ) : Type 0 where
   pub steps : List Step
+  pub parents : AllByRecursion IsParent steps
+  pub chunk : AreBytes bytes
   pub holds : Begins mode root steps (last_chunk_input mode number bytes)
 
 -- the way goes to the right at every parent: the chunk is the last one

@@ -1,5 +1,6 @@
 -- The laws of accepted texts.
 use Rattle.std.specs.Prelude.{◌≡◌, ℕ, ◌+◌, ◌-◌, ◌*◌, ◌^◌, ◌<◌, ◌≤◌, ◌⊎◌, ◌↔◌, List, length, Some}
+use Rattle.b3word.specs.declared.input.Input.{Input}
 use Rattle.b3tree.specs.declared.mode.Mode.{Mode}
 use Rattle.b3tree.specs.Hashing.{hash}
 use Rattle.b3tree.specs.Valid.{AreBytes, IsKeyed}
@@ -9,7 +10,8 @@ use Rattle.bao_text.specs.Texts.{combined_text, outboard_text, slice_text}
 use Rattle.bao_check.specs.Accepted.{IsAccepted, outboard_nodes, places_of, slice_nodes}
 use Rattle.bao_check.specs.Bare.{AreBare, bare_part}
 use Rattle.bao_check.specs.Beside.{beside_text}
-use Rattle.bao_check.specs.Inputs.{NamesPair}
+use Rattle.bao_check.specs.Certificate.{Certificate, IsLast}
+use Rattle.bao_check.specs.Inputs.{Names, NamesPair, blob_inputs, certificate_inputs}
 use Rattle.bao_check.specs.Pieces.{chunk_in, chunk_of}
 
 -- The bytes are the blob's chunk of that number, and where it is the last of the length that the text
@@ -19,6 +21,15 @@ abbrev pub Binds : Mode → List ℕ → ℕ → ℕ → List ℕ → ℕ → Li
 Binds mode text start len blob number bytes =
     ((chunk_of blob number ≡ Some bytes) × (number + 1 ≡ chunk_count (claimed text) → claimed text ≡ length blob))
     ⊎ NamesPair mode blob text (places_of (slice_nodes text start len))
+
+-- For each certificate under a root, and each blob with that root: its bytes are the blob's chunk of that number, and
+-- where it is last the blob ends with them; or a pair of inputs is named, one of the blob's and one of the
+-- certificate's, that differ and have one chaining value.
+abbrev pub CertificateBinds : Type 0
+CertificateBinds = (mode : Mode) (root blob : List ℕ) (number : ℕ) (bytes : List ℕ) (certificate : Certificate mode root number bytes)
+    → IsKeyed mode → AreBytes blob → hash mode blob ≡ root
+    → ((chunk_of blob number ≡ Some bytes) × (IsLast certificate → 1024 * number + length bytes ≡ length blob))
+    ⊎ ((x : Input) × ((y : Input) × Names (blob_inputs mode blob) (certificate_inputs certificate) x y))
 
 -- For each text that is accepted as a slice under a root, and each blob with that root: each chunk that
 -- the text has is the blob's, or a pair of inputs is named.

@@ -208,6 +208,7 @@ impl<'a> Checked<'a> {
         let last = self.claimed().div_ceil(CHUNK_LEN as u64).max(1) - 1;
         let (first, after) = self.chunks();
         if first <= last && last < after {
+            self.is_of_bytes();
             Some(Tail { piece: *self })
         } else {
             None

@@ -1,4 +1,12 @@
-ghost use Rattle.bao_check.specs.Laws.{AcceptedBinds, BareAccepted, WrittenAccepted};
+ghost use Rattle.bao_check.specs.Laws.{AcceptedBinds, BareAccepted, CertificateBinds, WrittenAccepted};
+
+/// For each certificate under a root (that bytes are a certain chunk: the parents on the way down, 64 bytes each with
+/// the side on which the way goes on, and the chunk), and each blob with that root: the bytes are the blob's chunk of
+/// that number, and the blob ends with them where the way goes to the right at each parent; or a pair of inputs is
+/// named, one of the blob's and one of the certificate's, that differ and have one chaining value. A law: nothing runs.
+pub fn certificate_binds()
+    ensures { CertificateBinds }
+{}
 
 /// For each text that is accepted as a slice under a root, and each blob with that root: each chunk that
 /// the text has is the blob's chunk of that number, and where it is the last of the length that the text

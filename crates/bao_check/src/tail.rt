@@ -59,6 +59,7 @@ impl<'a> Tail<'a> {
         ensures binds { (blob : List ℕ) → AreBytes blob → hash (piece_mode (tail_piece self.now)) blob ≡ piece_root (tail_piece self.now)
             → (result ≡ length blob) ⊎ NamesPair (piece_mode (tail_piece self.now)) blob (piece_text (tail_piece self.now)) (piece_places (tail_piece self.now)) }
     {
+        self.is_last();
         let length = self.piece.claimed();
         let _last = self.piece.chunk(length.div_ceil(1024).max(1) - 1);
         length

@@ -18,7 +18,7 @@ returns-clause-certificate c =
     IfSome-copied c.bytes.result _ (λ bytes. Certificate (piece_mode c.args.self.now) (piece_root c.args.self.now) c.args.i bytes) c.bytes.ensures
     (λ bytes there.
     chunk_certificate (piece_mode c.args.self.now) (piece_root c.args.self.now) (piece_text c.args.self.now) c.args.self.now.start c.args.self.now.len c.args.i bytes
-    c.args.self.now.accepted there)
+    c.args.self.now.accepted c.is_of_bytes.ensures there)
 
 pub returns-clause-binds : goal.returns-clause-binds
 returns-clause-binds c = λ blob valid is.

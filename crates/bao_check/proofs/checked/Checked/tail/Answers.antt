@@ -27,7 +27,7 @@ pub returns-then-last-after-clause-certificate : goal.returns-then-last-after-cl
 returns-then-last-after-clause-certificate c =
     let total : ℕ = piece_claimed c.args.self.now in
     let last : c.max-last.result - 1 ≡ chunk_count total - 1 = last_is total c.claimed.result c.div_ceil.result c.max-last.result c.claimed.ensures c.div_ceil.ensures c.max-last.ensures in
-    last_certificate c.args.self.now (holds_last c.args.self.now _ _ _ last c.chunks-first.ensures.spans c.if-first-last.true c.if-last-after.true)
+    last_certificate c.args.self.now c.is_of_bytes.ensures (holds_last c.args.self.now _ _ _ last c.chunks-first.ensures.spans c.if-first-last.true c.if-last-after.true)
 
 pub returns-else-first-last-clause-there : goal.returns-else-first-last-clause-there
 returns-else-first-last-clause-there c =

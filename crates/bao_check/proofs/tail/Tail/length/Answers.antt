@@ -19,4 +19,4 @@ returns-clause-ends c = λ bytes there.
 pub returns-clause-certificate : goal.returns-clause-certificate
 returns-clause-certificate c =
     let piece = tail_piece c.args.self.now in
-    subst (HasLastCertificate piece) (sym c.claimed-length.ensures) (last_certificate piece c.args.self.now.last)
+    subst (HasLastCertificate piece) (sym c.claimed-length.ensures) (last_certificate piece c.is_last.ensures.bytes c.args.self.now.last)
