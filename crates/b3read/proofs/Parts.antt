@@ -9,6 +9,7 @@ use Rattle.b3tree.specs.declared.mode.Mode.{Mode}
 use Rattle.b3tree.specs.Hashing.{hash, root_hash, rooted}
 use Rattle.b3tree.specs.Pieces.{piece}
 use Rattle.b3tree.specs.Tree.{parent_input, subtree_cv, top_input}
+use Rattle.b3tree.proofs.BlockWords.{AreBytes-append}
 use Rattle.b3tree.proofs.HashOutput.{hash-stream}
 use Rattle.b3tree.proofs.Pieces.{piece-append}
 use Rattle.b3read.specs.Given.{GivenAt, IsHashOf, IsTopOf, ReadsAt}
@@ -42,6 +43,7 @@ top_joined contents mode first len l left right parts whole within a b =
     let back : drop l both ≡ b.bytes = drop_at a.bytes b.bytes l a.len_is in
     record {
       bytes = both;
+      are = AreBytes-append a.bytes b.bytes a.are b.are;
       given = GivenAt-append contents (1024 * first) a.bytes b.bytes a.given (subst (λ p. GivenAt contents p b.bytes) place b.given);
       len_is = size;
       top =
@@ -80,6 +82,7 @@ pub IsHashOf-top : (contents : Option (List ℕ)) (mode : Mode) (len : ℕ) (top
 IsHashOf-top contents mode len top is =
     let hash_is : root_hash (rooted top) ≡ hash mode is.bytes = hash_rooted mode is.bytes top is.top in
     record {
+      are = is.are;
       len_is = is.len_is;
       hash_is = hash_is;
       stream_is = hash_is ∙ hash-stream mode is.bytes;

@@ -5,6 +5,7 @@ use Rattle.b3tree.specs.declared.mode.Mode.{Mode}
 use Rattle.b3tree.specs.Hashing.{hash, stream}
 use Rattle.b3tree.specs.Pieces.{piece}
 use Rattle.b3tree.specs.Tree.{top_input}
+use Rattle.b3tree.specs.Valid.{AreBytes}
 
 -- a read at the place `at` gave the first n bytes of `buf`: those of the contents there, none only past
 -- their end or where there is no room
@@ -23,15 +24,17 @@ Lacks contents faultless end = IfSome contents (λ s. faultless → length s < e
 abbrev pub HasOther : Option (List ℕ) → Type 0 → ℕ → Type 0
 HasOther contents faultless len = IfSome contents (λ s. faultless → length s ≢ len)
 
--- the input is the top of the tree over `len` bytes of the contents, which begin with chunk `first`
+-- the input is the top of the tree over `len` bytes (numbers below 256) of the contents, which begin with chunk `first`
 pub record IsTopOf (contents : Option (List ℕ)) (mode : Mode) (first len : ℕ) (input : Input) : Type 0 where
   pub bytes : List ℕ
+  pub are : AreBytes bytes
   pub given : GivenAt contents (1024 * first) bytes
   pub len_is : length bytes ≡ len
   pub top : input ≡ top_input mode first bytes
 
--- the bytes are so many, and the answer is their hash: the first 32 bytes of their output stream
+-- the bytes are so many, each a number below 256, and the answer is their hash: the first 32 bytes of their output stream
 pub record IsHashOf (mode : Mode) (len : ℕ) (bytes answer : List ℕ) : Type 0 where
+  pub are : AreBytes bytes
   pub len_is : length bytes ≡ len
   pub hash_is : answer ≡ hash mode bytes
   pub stream_is : answer ≡ stream mode bytes 0 32

@@ -1,9 +1,9 @@
-ghost use Rattle.std.specs.Prelude.{◌≡◌, true, ◌+◌, ◌-◌, ◌*◌, ◌^◌, ◌≤◌, length, IfErr, IfOk, IfSome, OnOk};
+ghost use Rattle.std.specs.Prelude.{◌≡◌, true, ◌+◌, ◌-◌, ◌*◌, ◌^◌, ◌<◌, ◌≤◌, length, IfErr, IfOk, IfSome, OnOk};
 ghost use Rattle.b3read.specs.Given.{GivenAt, IsTopOf, Lacks};
 
 use crate::fault::ReadFault;
 use crate::source::Source;
-use b3tree::{CHUNK_LEN, Cv, Input, Mode, cv, left_len, parent_input, top_input};
+use b3tree::{CHUNK_LEN, Cv, Input, Mode, bytes_are, cv, left_len, parent_input, top_input};
 
 /// Fills `buf` with the source's bytes from the place `at` on, by as many reads as it takes.
 ///
@@ -35,7 +35,7 @@ pub(crate) fn top_in_pieces<S: Source>(
     len: u64,
     piece: &mut [u8],
 ) -> Result<Input, ReadFault>
-    requires room { 1024 ≤ length piece.old }
+    requires room { length piece.old < 1024 → len ≤ length piece.old }
     requires range { 1024 * first + len ≤ 2 ^ 64 - 1 }
     ensures room { length piece.new ≡ length piece.old }
     ensures top { IfOk result (λ input. IsTopOf (S.contents source.now) mode.now first len input) }
@@ -44,6 +44,7 @@ pub(crate) fn top_in_pieces<S: Source>(
     if len <= piece.len() as u64 {
         let part = &mut piece[..len as usize];
         fill(source, CHUNK_LEN as u64 * first, part)?;
+        bytes_are(part);
         return Ok(top_input(mode, first, part));
     }
     let left_len = left_len(len);

@@ -30,7 +30,7 @@ fn top_alone<S: Source>(
     ensures top { IfOk result (λ input. IsTopOf (S.contents source.now) mode.now first len input) }
     ensures fault { IfErr result (λ fault. fault ≡ ReadFault.Reader → Lacks (S.contents source.now) (S.faultless source.now) (1024 * first + len)) }
 {
-    let mut piece = vec![in alloc; 0u8; PIECE_LEN]?;
+    let mut piece = vec![in alloc; 0u8; len.min(PIECE_LEN as u64) as usize]?;
     top_in_pieces(mode, source, first, len, piece.as_mut_slice())
 }
 
@@ -77,7 +77,8 @@ fn top_in_ranges<R: Threads + Sync, S: Source + Sync>(
 
 /// The hash of the `len` bytes of `source` in `mode`, on at most about `ranges` threads, 1 to 64: the tree's
 /// subtrees of at most that part of the bytes are the ranges, and each is read in pieces by a thread of its
-/// own. A thread takes memory for one piece, so that the memory is the same for every length.
+/// own. A thread takes memory for one piece, 256 KiB, or its range where that is shorter: so the memory doesn't grow
+/// with the length, and for no byte none is taken.
 ///
 /// Answers `Memory` (311) where there was none for a piece, and `Reader` (312) where a read answered a
 /// fault, one of the kind `Interrupted` too, which is not tried again, and where the source has fewer or more

@@ -9,7 +9,7 @@ use Rattle.b3tree.specs.Bytes.{word_at, words_of}
 use Rattle.b3tree.specs.Chunk.{block_words, padded}
 use Rattle.b3tree.specs.Valid.{AreBytes}
 
-AreBytes-nil : AreBytes []
+pub AreBytes-nil : AreBytes []
 AreBytes-nil = record { at = λ k. omega arith }
 
 AreBytes-cons : (x : ℕ) (xs : List ℕ) → x < 256 → AreBytes xs → AreBytes (x ∷ xs)
@@ -18,7 +18,7 @@ AreBytes-cons x xs small rest = record { at = elim [ zero ↦ small | suc k ↦ 
 tail_bytes : (x : ℕ) (xs : List ℕ) → AreBytes (x ∷ xs) → AreBytes xs
 tail_bytes x xs bytes = record { at = λ k. bytes.at (suc k) }
 
-AreBytes-append : (xs ys : List ℕ) → AreBytes xs → AreBytes ys → AreBytes (xs ++ ys)
+pub AreBytes-append : (xs ys : List ℕ) → AreBytes xs → AreBytes ys → AreBytes (xs ++ ys)
 AreBytes-append [] ys first rest = rest
 AreBytes-append (x ∷ xs) ys first rest = AreBytes-cons x (xs ++ ys) (first.at 0) (AreBytes-append xs ys (tail_bytes x xs first) rest)
 

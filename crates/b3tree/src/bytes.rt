@@ -1,5 +1,13 @@
 ghost use Rattle.std.specs.Prelude.{◌≡◌, ◌+◌, ◌*◌, ◌≤◌, length};
 ghost use Rattle.b3tree.specs.Bytes.{bytes_of, word_at, words_of};
+ghost use Rattle.b3tree.specs.Valid.{AreBytes};
+
+/// The elements of a slice of bytes are numbers below 256: a law, for proofs over bytes. Nothing runs.
+pub fn bytes_are(bytes: &[u8])
+    ensures { AreBytes bytes.now }
+{
+    let _count = bytes.len();
+}
 
 #[inline(always)]
 fn word_at(bytes: &[u8], i: usize) -> u32

@@ -4,6 +4,7 @@
 #![tactic(auto)]
 
 pub use b3word::{Input, cv};
+pub use bytes::bytes_are;
 pub use chunk::{BLOCK_LEN, CHUNK_LEN, chunk_input};
 pub use eight::{EightParents, FourParents, Parts, eight_parents, eight_values, lane_parents};
 pub use hasher::{Hasher, TooLong};

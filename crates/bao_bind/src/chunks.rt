@@ -5,8 +5,8 @@ ghost use Rattle.bao_check.specs.Inputs.{marked, whole_chunk};
 ghost use Rattle.bao_bind.specs.Search.{Finds};
 
 use crate::pair::{Pair, are_same, marked};
-use crate::part::{Part, bytes_are};
-use b3tree::{BLOCK_LEN, Mode, chunk_input};
+use crate::part::Part;
+use b3tree::{BLOCK_LEN, Mode, bytes_are, chunk_input};
 
 // The number of a chunk's last block.
 fn last_block(bytes: &[u8]) -> usize

@@ -1,6 +1,5 @@
 ghost use Rattle.std.specs.Prelude.{◌≡◌, ◌+◌, ◌-◌, ◌*◌, ◌/◌, ◌^◌, ◌≤◌, ◌<◌, ℕ, length, take, drop};
 ghost use Rattle.b3tree.specs.Tree.{left_len};
-ghost use Rattle.b3tree.specs.Valid.{AreBytes};
 
 use b3tree::{CHUNK_LEN, left_len};
 
@@ -35,11 +34,4 @@ impl<'a> Part<'a> {
             },
         )
     }
-}
-
-// The elements of a slice of bytes are bytes.
-pub(crate) fn bytes_are(bytes: &[u8])
-    ensures { AreBytes bytes.now }
-{
-    let _count = bytes.len();
 }

@@ -4,26 +4,16 @@ use Rattle.std.specs.List.{flat_map}
 use Rattle.std.specs.Option.{unwrap_or}
 use Rattle.std.proofs.lemmas.Bool.{cases_Bool}
 use Rattle.b3tree.specs.Valid.{AreBytes}
-use Rattle.b3tree.proofs.BlockWords.{AreBytes-drop, AreBytes-take}
+use Rattle.b3tree.proofs.BlockWords.{AreBytes-append, AreBytes-drop, AreBytes-nil, AreBytes-take}
 use Rattle.bao_text.specs.Cut.{claimed}
 use Rattle.bao_text.specs.Nodes.{Node, nodes, size}
 use Rattle.bao_check.specs.Accepted.{outboard_nodes, places_of}
 use Rattle.bao_check.specs.Beside.{bare_len, beside_text, node_beside}
 use Rattle.bao_check.specs.Parents.{boundary, is_parent_at, parent_in}
 
-none_bytes : AreBytes []
-none_bytes = record { at = λ k. omega arith }
-
-both_bytes : (xs ys : List ℕ) → AreBytes xs → AreBytes ys → AreBytes (xs ++ ys)
-both_bytes [] ys first rest = rest
-both_bytes (x ∷ xs) ys first rest =
-    let further : AreBytes xs = record { at = λ k. first.at (suc k) } in
-    let all : AreBytes (xs ++ ys) = both_bytes xs ys further rest in
-    record { at = elim [ zero ↦ first.at 0 | suc k ↦ all.at k ] }
-
 -- those of a parent
 parent_bytes : (text : List ℕ) (places : List (ℕ × Node)) (m : ℕ) → AreBytes text → AreBytes (unwrap_or (parent_in text places m) [])
-parent_bytes text [] m valid = none_bytes
+parent_bytes text [] m valid = AreBytes-nil
 parent_bytes text (place ∷ places) m valid = elim (cases_Bool (is_parent_at m place.1)) [
   | inl here ↦ rw here (AreBytes-take (size place.1) (drop place.0 text) (AreBytes-drop place.0 text valid))
   | inr other ↦ rw other (parent_bytes text places m valid)
@@ -37,9 +27,9 @@ node_bytes outline first chunks node parents bytes = elim (cases_Bool node.is_ch
 
 nodes_bytes : (outline : List ℕ) (first : ℕ) (chunks : List ℕ) (ns : List Node) → AreBytes outline → AreBytes chunks
     → AreBytes (flat_map (node_beside outline first chunks) ns)
-nodes_bytes outline first chunks [] parents bytes = none_bytes
+nodes_bytes outline first chunks [] parents bytes = AreBytes-nil
 nodes_bytes outline first chunks (node ∷ ns) parents bytes =
-    both_bytes (node_beside outline first chunks node) (flat_map (node_beside outline first chunks) ns)
+    AreBytes-append (node_beside outline first chunks node) (flat_map (node_beside outline first chunks) ns)
     (node_bytes outline first chunks node parents bytes) (nodes_bytes outline first chunks ns parents bytes)
 
 pub beside_bytes : (outline : List ℕ) (start len : ℕ) (chunks : List ℕ) → AreBytes outline → AreBytes chunks → AreBytes (beside_text outline start len chunks)
@@ -47,5 +37,5 @@ beside_bytes outline start len chunks parents bytes =
     let all : List Node = nodes (claimed outline) start len in
     let rest : List ℕ = drop (bare_len (claimed outline) start len) chunks in
     let middle : List ℕ = flat_map (node_beside outline (start / 1024) chunks) all in
-    both_bytes (take 8 outline) (middle ++ rest) (AreBytes-take 8 outline parents)
-    (both_bytes middle rest (nodes_bytes outline (start / 1024) chunks all parents bytes) (AreBytes-drop (bare_len (claimed outline) start len) chunks bytes))
+    AreBytes-append (take 8 outline) (middle ++ rest) (AreBytes-take 8 outline parents)
+    (AreBytes-append middle rest (nodes_bytes outline (start / 1024) chunks all parents bytes) (AreBytes-drop (bare_len (claimed outline) start len) chunks bytes))

@@ -16,7 +16,7 @@ use crate::locate::{LENGTH_LEN, Span, bytes_from, find_chunk, nodes_size};
 use crate::outline::Outline;
 use crate::tail::Tail;
 use crate::walk::claimed;
-use b3tree::{CHUNK_LEN, Hash, Mode};
+use b3tree::{CHUNK_LEN, Hash, Mode, bytes_are};
 use bao_text::Choice;
 
 /// What a slice is read from.
@@ -214,11 +214,4 @@ impl<'a> Checked<'a> {
             None
         }
     }
-}
-
-// The elements of a slice of bytes are bytes.
-pub(crate) fn bytes_are(bytes: &[u8])
-    ensures { AreBytes bytes.now }
-{
-    let _count = bytes.len();
 }

@@ -5,10 +5,9 @@ ghost use Rattle.bao_check.specs.Accepted.{IsAccepted, outboard_nodes, places_of
 ghost use Rattle.bao_check.specs.AcceptedProp.{IsAccepted-prop};
 ghost use Rattle.bao_check.specs.Pieces.{IsLeafValue};
 
-use crate::checked::bytes_are;
 use crate::leaves::leaf_below;
 use crate::walk::{LENGTH_LEN, claimed};
-use b3tree::{CHUNK_LEN, Cv, Hash, Mode};
+use b3tree::{CHUNK_LEN, Cv, Hash, Mode, bytes_are};
 
 /// A text that was accepted as an outboard encoding under a root: it carries that it was, so whoever holds
 /// one needs no premise. All calls on it take no memory, and cost at most the height of the tree.

@@ -7,6 +7,7 @@ use Rattle.b3tree.specs.declared.mode.Mode.{Mode}
 use Rattle.b3tree.specs.Bytes.{bytes_of}
 use Rattle.b3tree.specs.Hashing.{root_hash, rooted}
 use Rattle.b3tree.specs.Tree.{left_len, parent_input, subtree_cv, top_input}
+use Rattle.b3tree.proofs.BlockWords.{AreBytes-append}
 use Rattle.b3read.specs.Given.{GivenAt, IsTopOf}
 use Rattle.b3read.proofs.Parts.{GivenAt-append, IsHashOf-top}
 use Rattle.bao_text.specs.declared.choice.Choice.{Choice}
@@ -58,6 +59,7 @@ text_of_parts contents choice mode first len l left right old splits start lies 
     record {
       top = record {
         bytes = s;
+        are = AreBytes-append near far a.are b.are;
         given = GivenAt-append contents (1024 * first) near far a.given (subst (λ p. GivenAt contents p far) place b.given);
         len_is = len_is;
         top = (λ i. parent_input mode (left_cv i) (right_cv i)) ∙ sym (splits.parts s len_is);

@@ -39,8 +39,8 @@ fn made_alone<S: Source>(
     ensures text { IfOk result (λ made. GainsText (S.contents source.now) choice.now mode.now first len [] (joined made.texts.items) made.top) }
     ensures fault { IfErr result (λ fault. fault ≡ ReadFault.Reader → Lacks (S.contents source.now) (S.faultless source.now) (1024 * first + len)) }
 {
-    let room = usize::try_from(encoded_len(len)).map_err(|_| ReadFault::Memory)?;
-    let mut piece = vec![in alloc; 0u8; PIECE_LEN]?;
+    let room = usize::try_from(encoded_len(len)).unwrap_or(usize::MAX);
+    let mut piece = vec![in alloc; 0u8; len.min(PIECE_LEN as u64) as usize]?;
     let mut text = Vec::with_capacity(alloc, room)?;
     let top = append_in_pieces(
         choice,
@@ -145,7 +145,7 @@ fn made_in_ranges<R: Threads + Sync, S: Source + Sync>(
 /// The combined encoding of the `len` bytes of `source` in `mode`, in texts that follow one another, and the bytes'
 /// hash, on at most about `ranges` threads, 1 to 64: the tree's subtrees of at most that part of the bytes are the
 /// ranges, and each is read in pieces, and its text made, by a thread of its own. The memory that this takes is the
-/// encoding's, and that of a piece, 256 KiB, for each thread.
+/// encoding's, and that of a piece, at most 256 KiB, for each thread.
 ///
 /// Answers `Memory` (311) where there was none for a piece or for the encoding, and `Reader` (312) where a read
 /// answered a fault, one of the kind `Interrupted` too, which is not tried again, and where the source has fewer

@@ -1,9 +1,9 @@
-ghost use Rattle.std.specs.Prelude.{◌≡◌, ◌+◌, ◌-◌, ◌*◌, ◌^◌, ◌≤◌, length, IfErr, IfOk};
+ghost use Rattle.std.specs.Prelude.{◌≡◌, ◌+◌, ◌-◌, ◌*◌, ◌^◌, ◌<◌, ◌≤◌, length, IfErr, IfOk};
 ghost use Rattle.b3read.specs.Given.{Lacks};
 ghost use Rattle.bao_read.specs.Encodings.{GainsText};
 
 use b3read::{ReadFault, Source, fill};
-use b3tree::{CHUNK_LEN, Cv, Input, Mode, cv, left_len, parent_input};
+use b3tree::{CHUNK_LEN, Cv, Input, Mode, bytes_are, cv, left_len, parent_input};
 use bao_text::{Choice, PARENT_LEN, append_subtree, put_parent};
 
 /// The most bytes that are asked for at once: few enough to stay in a processor's cache.
@@ -22,7 +22,7 @@ pub(crate) fn append_in_pieces<S: Source>(
     piece: &mut [u8],
     text: &mut Vec<u8>,
 ) -> Result<Input, ReadFault>
-    requires room { 1024 ≤ length piece.old }
+    requires room { length piece.old < 1024 → len ≤ length piece.old }
     requires start { choice.now.start ≡ 0 }
     requires end { 1024 * first + len ≤ choice.now.end }
     requires range { 1024 * first + len ≤ 2 ^ 64 - 1 }
@@ -33,6 +33,7 @@ pub(crate) fn append_in_pieces<S: Source>(
     if len <= piece.len() as u64 {
         let part = &mut piece[..len as usize];
         fill(source, CHUNK_LEN as u64 * first, part)?;
+        bytes_are(part);
         let top = append_subtree(choice, mode, first, part, text).map_err(|_| ReadFault::Memory)?;
         return Ok(top);
     }

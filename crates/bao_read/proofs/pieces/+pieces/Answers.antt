@@ -1,4 +1,5 @@
-use Rattle.std.proofs.Common.{rules, ◌≡◌, ◌++◌, ℕ, List, length, replicate, refl, arith}
+use Rattle.std.proofs.Common.{rules, inl, inr, ◌≡◌, ◌<◌, ◌++◌, ℕ, List, length, replicate, refl, arith}
+use Rattle.std.proofs.lemmas.Bool.{cases_lt}
 use Rattle.bao_read.proofs.Parents.{SplitsAt, text_put}
 use Rattle.bao_read.proofs.pieces.+pieces.Goals as goal
 
@@ -8,6 +9,7 @@ returns-then-len-piece-clause-text g t c =
     record {
       top = record {
         bytes = c.fill.new.buf;
+        are = c.bytes_are.ensures;
         given = c.in_ok-fill.ensures.given;
         len_is = size;
         top = search rules;
@@ -27,7 +29,7 @@ returns-clause-text g t c =
       value = c.left_len-left_len.ensures.value;
       whole = omega (arith, c.left_len-left_len.ensures.largest.form.1);
       within = omega (arith, c.left_len-left_len.ensures.largest.below);
-      more = omega arith;
+      more = elim (cases_lt (length c.args.piece.now) 1024) [ inl less ↦ absurd (omega (arith, c.requires.room less)) | inr least ↦ omega arith ];
     } in
     let put = text_put contents c.args.choice.now mode c.args.first c.args.len l c.in_ok-left.left c.in_ok-right.right old (replicate 64 0)
     c.append_in_pieces.new.text.items c.append_in_pieces-2.new.text.items c.put_parent.new.text.items splits c.requires.start c.requires.end refl
