@@ -8,3 +8,4 @@ pub mod SubtreeText
 pub mod TextNodes
 pub mod Writing
 pub mod EightChunks
+pub mod NodeNaming

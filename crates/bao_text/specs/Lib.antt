@@ -7,3 +7,5 @@ pub mod Faults
 pub mod Pieces
 pub use Rattle.b3tree.specs.Hashing
 pub use Rattle.b3tree.specs.Tree
+pub mod NodeNames
+pub mod Rest

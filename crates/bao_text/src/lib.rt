@@ -5,7 +5,9 @@ pub use choice::Choice;
 pub use cut::cut_slice;
 pub use fault::{Memory, WriteFault};
 pub use sizes::{PARENT_LEN, encoded_len, outboard_len};
+pub use slices::nodes;
 pub use texts::{append_subtree, combined, outboard, put_parent, slice};
+pub use walk::{Node, Nodes};
 pub use writer::{write_combined, write_text, write_texts};
 
 mod choice;
@@ -14,5 +16,7 @@ mod eight;
 mod fault;
 mod pieces;
 mod sizes;
+mod slices;
 mod texts;
+mod walk;
 mod writer;

@@ -1,0 +1,181 @@
+-- The names of a subtree's nodes, and those of the subtrees that wait.
+use Rattle.std.proofs.Common.{◌≡◌, ℕ, zero, suc, ◌+◌, ◌-◌, ◌*◌, ◌/◌, ◌^◌, ◌<◌, ◌≤◌, List, [], ◌∷◌, ◌++◌, length, map, true, false, refl, sym, ap, subst, ◌∙◌, arith, inl, inr}
+use Rattle.std.proofs.Math.Pow.{pow_mono}
+use Rattle.std.proofs.lemmas.Bool.{cases_Bool, cases_lt}
+use Rattle.std.proofs.lemmas.List.{append-nil, append_assoc}
+use Rattle.b3tree.specs.Tree.{IsLeftLen, left_len}
+use Rattle.bao_text.specs.declared.choice.Choice.{Choice}
+use Rattle.bao_text.specs.declared.walk.Node.{Node as Named}
+use Rattle.bao_text.specs.declared.walk.Node.TheVariants.{Chunk, Parent}
+use Rattle.bao_text.specs.declared.walk.Subtree.{Subtree}
+use Rattle.bao_text.specs.Choice.{wants}
+use Rattle.bao_text.specs.NodeNames.{AreWaiting, IsWaiting, name, names_of, waiting_names}
+use Rattle.bao_text.specs.Nodes.{Node, Side, chunk_nodes, left, right, subtree_nodes, subtree_size}
+use Rattle.bao_text.proofs.SubtreeNodes.{subtree_nodes-leaf, subtree_nodes-parent, subtree_nodes-unwanted}
+use Rattle.bao_text.proofs.SubtreeText.{Parts, left_len-Parts}
+
+names-append : (xs ys : List Node) → map name (xs ++ ys) ≡ map name xs ++ map name ys
+names-append [] ys = refl
+names-append (x ∷ xs) ys = ap (λ (zs : List Named). name x ∷ zs) (names-append xs ys)
+
+-- a chunk alone, and no chunk
+names-one : (choice : Choice) (number n : ℕ) (sides : List Side) (source : ℕ) → wants choice (1024 * number) n ≡ true → n ≤ 1024 → choice.chunks ≡ true
+    → map name (subtree_nodes choice number n sides source) ≡ Chunk number ∷ []
+names-one choice number n sides source wanted one there =
+    let chunk : map name (chunk_nodes choice number n sides source) ≡ Chunk number ∷ [] = rw there refl in
+    ap (map name) (subtree_nodes-leaf choice number n sides source wanted one) ∙ chunk
+
+names-none : (choice : Choice) (number n : ℕ) (sides : List Side) (source : ℕ) → wants choice (1024 * number) n ≡ true → n ≤ 1024 → choice.chunks ≡ false
+    → map name (subtree_nodes choice number n sides source) ≡ []
+names-none choice number n sides source wanted one gone =
+    let none : map name (chunk_nodes choice number n sides source) ≡ [] = rw gone refl in
+    ap (map name) (subtree_nodes-leaf choice number n sides source wanted one) ∙ none
+
+names-small : (choice : Choice) (number n : ℕ) (sides others : List Side) (source other : ℕ) → n ≤ 1024
+    → map name (subtree_nodes choice number n sides source) ≡ map name (subtree_nodes choice number n others other)
+names-small choice number n sides others source other one = elim (cases_Bool (wants choice (1024 * number) n)) [
+  | inr skipped ↦ ap (map name) (subtree_nodes-unwanted choice number n sides source skipped ∙ sym (subtree_nodes-unwanted choice number n others other skipped))
+  | inl wanted ↦
+      elim (cases_Bool choice.chunks) [
+        | inl there ↦ names-one choice number n sides source wanted one there ∙ sym (names-one choice number n others other wanted one there)
+        | inr gone ↦ names-none choice number n sides source wanted one gone ∙ sym (names-none choice number n others other wanted one gone)
+      ]
+]
+
+names-levels : (levels : ℕ) (choice : Choice) (number n : ℕ) (sides others : List Side) (source other : ℕ) → n ≤ 1024 * levels + 1024
+    → map name (subtree_nodes choice number n sides source) ≡ map name (subtree_nodes choice number n others other)
+names-levels zero choice number n sides others source other hn = names-small choice number n sides others source other (omega arith)
+names-levels (suc levels) choice number n sides others source other hn = elim (cases_lt 1024 n) [
+  | inr one ↦ names-small choice number n sides others source other one
+  | inl more ↦
+      elim (cases_Bool (wants choice (1024 * number) n)) [
+        | inr skipped ↦ ap (map name) (subtree_nodes-unwanted choice number n sides source skipped ∙ sym (subtree_nodes-unwanted choice number n others other skipped))
+        | inl wanted ↦
+            let l : ℕ = left_len n in
+            let middle : ℕ = number + l / 1024 in
+            let parts : Parts n l = left_len-Parts n more in
+            let near : List Node = subtree_nodes choice number l (sides ++ left ∷ []) (source + 64) in
+            let far : List Node = subtree_nodes choice middle (n - l) (sides ++ right ∷ []) (source + 64 + subtree_size l) in
+            let near2 : List Node = subtree_nodes choice number l (others ++ left ∷ []) (other + 64) in
+            let far2 : List Node = subtree_nodes choice middle (n - l) (others ++ right ∷ []) (other + 64 + subtree_size l) in
+            let near_same : map name near ≡ map name near2 =
+            names-levels levels choice number l (sides ++ left ∷ []) (others ++ left ∷ []) (source + 64) (other + 64) (omega (arith, parts.whole, parts.below)) in
+            let far_same : map name far ≡ map name far2 =
+            names-levels levels choice middle (n - l) (sides ++ right ∷ []) (others ++ right ∷ []) (source + 64 + subtree_size l) (other + 64 + subtree_size l) (omega (arith, parts.some)) in
+            ap (map name) (subtree_nodes-parent choice number n sides source wanted more)
+            ∙ ap (λ (xs : List Named). Parent middle ∷ xs) (names-append near far ∙ (λ i. near_same i ++ far_same i) ∙ sym (names-append near2 far2))
+            ∙ sym (ap (map name) (subtree_nodes-parent choice number n others other wanted more))
+      ]
+]
+
+pub names-anywhere : (choice : Choice) (number n : ℕ) (sides : List Side) (source : ℕ) → map name (subtree_nodes choice number n sides source) ≡ names_of choice number n
+names-anywhere choice number n sides source = names-levels n choice number n sides [] source 0 (omega arith)
+
+pub names-unwanted : (choice : Choice) (number n : ℕ) → wants choice (1024 * number) n ≡ false → names_of choice number n ≡ []
+names-unwanted choice number n skipped = ap (map name) (subtree_nodes-unwanted choice number n [] 0 skipped)
+
+pub names-chunk : (choice : Choice) (number n : ℕ) → wants choice (1024 * number) n ≡ true → choice.chunks ≡ true → n ≤ 1024 → names_of choice number n ≡ Chunk number ∷ []
+names-chunk choice number n wanted there one = names-one choice number n [] 0 wanted one there
+
+pub names-parent : (choice : Choice) (number n : ℕ) → wants choice (1024 * number) n ≡ true → 1024 < n
+    → names_of choice number n ≡ Parent (number + left_len n / 1024) ∷ (names_of choice number (left_len n) ++ names_of choice (number + left_len n / 1024) (n - left_len n))
+names-parent choice number n wanted more =
+    let l : ℕ = left_len n in
+    let middle : ℕ = number + l / 1024 in
+    let near : List Node = subtree_nodes choice number l (left ∷ []) 64 in
+    let far : List Node = subtree_nodes choice middle (n - l) (right ∷ []) (64 + subtree_size l) in
+    ap (map name) (subtree_nodes-parent choice number n [] 0 wanted more)
+    ∙ ap (λ (xs : List Named). Parent middle ∷ xs)
+    (names-append near far
+    ∙ (λ i. names-anywhere choice number l (left ∷ []) 64 i ++ names-anywhere choice middle (n - l) (right ∷ []) (64 + subtree_size l) i))
+
+-- a subtree put last comes first
+pub waiting_names-last : (choice : Choice) (xs : List Subtree) (x : Subtree) → waiting_names choice (xs ++ x ∷ []) ≡ names_of choice x.number x.len ++ waiting_names choice xs
+waiting_names-last choice [] x = sym (append-nil (names_of choice x.number x.len))
+waiting_names-last choice (y ∷ ys) x =
+    ap (λ (zs : List Named). zs ++ names_of choice y.number y.len) (waiting_names-last choice ys x)
+    ∙ append_assoc (names_of choice x.number x.len) (waiting_names choice ys) (names_of choice y.number y.len)
+
+pub AreWaiting-last : (choice : Choice) (levels : ℕ) (xs : List Subtree) (x : Subtree) → AreWaiting choice levels xs → IsWaiting choice (levels - length xs) x
+    → AreWaiting choice levels (xs ++ x ∷ [])
+AreWaiting-last choice levels [] x all is =
+    let e : levels - length {A = Subtree} [] ≡ levels = omega arith in
+    (subst (λ (k : ℕ). IsWaiting choice k x) e is, tt)
+AreWaiting-last choice levels (y ∷ ys) x all is =
+    let e : levels - length (y ∷ ys) ≡ levels - 1 - length ys = omega arith in
+    (all.0, AreWaiting-last choice (levels - 1) ys x all.1 (subst (λ (k : ℕ). IsWaiting choice k x) e is))
+
+pub AreWaiting-first : (choice : Choice) (levels : ℕ) (xs : List Subtree) (x : Subtree) → AreWaiting choice levels (xs ++ x ∷ []) → AreWaiting choice levels xs
+AreWaiting-first choice levels [] x all = tt
+AreWaiting-first choice levels (y ∷ ys) x all = (all.0, AreWaiting-first choice (levels - 1) ys x all.1)
+
+pub AreWaiting-at : (choice : Choice) (levels : ℕ) (xs : List Subtree) (x : Subtree) → AreWaiting choice levels (xs ++ x ∷ []) → IsWaiting choice (levels - length xs) x
+AreWaiting-at choice levels [] x all =
+    let e : levels ≡ levels - length {A = Subtree} [] = omega arith in
+    subst (λ (k : ℕ). IsWaiting choice k x) e all.0
+AreWaiting-at choice levels (y ∷ ys) x all =
+    let e : levels - 1 - length ys ≡ levels - length (y ∷ ys) = omega arith in
+    subst (λ (k : ℕ). IsWaiting choice k x) e (AreWaiting-at choice (levels - 1) ys x all.1)
+
+-- a left part has a level fewer
+pub left_levels : (n l k : ℕ) → IsLeftLen n l → n ≤ 1024 * 2 ^ suc k → l ≤ 1024 * 2 ^ k
+left_levels n l k is fits = elim (cases_lt k is.form.0) [
+  | inl long ↦
+      let bigger : 2 ^ suc k ≤ 2 ^ is.form.0 = pow_mono long in
+      let e : l ≡ 1024 * 2 ^ is.form.0 = is.form.1 in
+      absurd (omega (arith, is.below))
+  | inr short ↦
+      let smaller : 2 ^ is.form.0 ≤ 2 ^ k = pow_mono short in
+      let e : l ≡ 1024 * 2 ^ is.form.0 = is.form.1 in
+      omega arith
+]
+
+-- the last of those that wait, taken off
+pub record Taken (choice : Choice) (old new : List Subtree) (x : Subtree) : Type 0 where
+  pub waiting : AreWaiting choice 54 new
+  pub wanted : wants choice (1024 * x.number) x.len ≡ true
+  pub within : 1024 * x.number + x.len ≤ 2 ^ 64 - 1
+  pub levels : x.len ≤ 1024 * 2 ^ (54 - length new)
+  pub names : waiting_names choice old ≡ names_of choice x.number x.len ++ waiting_names choice new
+
+pub taken_last : (choice : Choice) (old new : List Subtree) (x : Subtree) → AreWaiting choice 54 old → old ≡ new ++ x ∷ [] → Taken choice old new x
+taken_last choice old new x all e =
+    let all_new : AreWaiting choice 54 (new ++ x ∷ []) = subst (AreWaiting choice 54) e all in
+    let at : IsWaiting choice (54 - length new) x = AreWaiting-at choice 54 new x all_new in
+    record {
+      waiting = AreWaiting-first choice 54 new x all_new;
+      wanted = at.0;
+      within = at.1.0;
+      levels = at.1.1;
+      names = ap (waiting_names choice) e ∙ waiting_names-last choice new x;
+    }
+
+-- what a subtree that has parts leaves room for
+pub record Parted (choice : Choice) (x : Subtree) (waiting l : ℕ) : Type 0 where
+  pub room : waiting < 54
+  pub middle : 1024 * (x.number + l / 1024) + (x.len - l) ≤ 2 ^ 64 - 1
+  pub near : 1024 * x.number + l ≤ 2 ^ 64 - 1
+  pub far_levels : x.len - l ≤ 1024 * 2 ^ (54 - waiting)
+  pub near_levels : (more : ℕ) → more ≤ waiting + 1 → l ≤ 1024 * 2 ^ (54 - more)
+
+pub parted : (choice : Choice) (old new : List Subtree) (x : Subtree) (l : ℕ) → Taken choice old new x → 1024 < x.len → l ≡ left_len x.len → IsLeftLen x.len l → Parted choice x (length new) l
+parted choice old new x l taken more l_is is =
+    let parts : Parts x.len (left_len x.len) = left_len-Parts x.len more in
+    let whole : 1024 * (l / 1024) ≡ l = subst (λ (k : ℕ). 1024 * (k / 1024) ≡ k) (sym l_is) parts.whole in
+    elim (cases_lt (length new) 54) [
+      | inr full ↦
+          let none : 54 - length new ≡ 0 = omega arith in
+          let small : x.len ≤ 1024 * 2 ^ 0 = subst (λ (k : ℕ). x.len ≤ 1024 * 2 ^ k) none taken.levels in
+          absurd (omega (arith, small))
+      | inl room ↦
+          let k : ℕ = 53 - length new in
+          let e : 54 - length new ≡ suc k = omega arith in
+          let fewer : l ≤ 1024 * 2 ^ k = left_levels x.len l k is (subst (λ (j : ℕ). x.len ≤ 1024 * 2 ^ j) e taken.levels) in
+          record {
+            room = room;
+            middle = omega (arith, whole, is.below, taken.within);
+            near = omega (arith, is.below, taken.within);
+            far_levels = omega (arith, taken.levels);
+            near_levels = λ n few. let mono : 2 ^ k ≤ 2 ^ (54 - n) = pow_mono (omega arith) in omega (arith, fewer, mono);
+          }
+    ]
