@@ -6,10 +6,11 @@ use Rattle.std.proofs.lemmas.Bool.{cases_Bool}
 use Rattle.b3tree.specs.Valid.{AreBytes}
 use Rattle.b3tree.proofs.BlockWords.{AreBytes-append, AreBytes-drop, AreBytes-nil, AreBytes-take}
 use Rattle.bao_text.specs.Cut.{claimed}
+use Rattle.bao_text.specs.NodeNames.{boundary}
 use Rattle.bao_text.specs.Nodes.{Node, nodes, size}
 use Rattle.bao_check.specs.Accepted.{outboard_nodes, places_of}
 use Rattle.bao_check.specs.Beside.{bare_len, beside_text, node_beside}
-use Rattle.bao_check.specs.Parents.{boundary, is_parent_at, parent_in}
+use Rattle.bao_check.specs.Parents.{is_parent_at, parent_in}
 
 -- those of a parent
 parent_bytes : (text : List ℕ) (places : List (ℕ × Node)) (m : ℕ) → AreBytes text → AreBytes (unwrap_or (parent_in text places m) [])

@@ -6,11 +6,12 @@ use Rattle.std.proofs.lemmas.Bool.{cases_Bool}
 use Rattle.std.proofs.lemmas.Bool.Decides.{eqb_tells}
 use Rattle.b3tree.specs.declared.mode.Mode.{Mode}
 use Rattle.bao_text.specs.Cut.{claimed}
+use Rattle.bao_text.specs.NodeNames.{boundary}
 use Rattle.bao_text.specs.Nodes.{Node, nodes, size}
 use Rattle.bao_check.specs.declared.locate.Span.{Span}
 use Rattle.bao_check.specs.Accepted.{IsAccepted, bytes_at, outboard_nodes, places_of, slice_nodes, text_end}
 use Rattle.bao_check.specs.Beside.{IsOfChunks, beside_text, node_beside}
-use Rattle.bao_check.specs.Parents.{boundary, parent_in, parent_place}
+use Rattle.bao_check.specs.Parents.{parent_in, parent_place}
 use Rattle.bao_check.specs.Pieces.{chunk_in}
 use Rattle.bao_check.specs.Spans.{chunk_place}
 use Rattle.bao_check.proofs.BesidePlaces.{IsMade, Stands, beside-bytes, made-claimed}

@@ -12,7 +12,8 @@ use Rattle.bao_text.specs.Nodes.{Node, Side, left, placed, right, subtree_nodes,
 use Rattle.bao_text.proofs.SubtreeNodes.{subtree_nodes-parent, subtree_nodes-unwanted}
 use Rattle.bao_text.proofs.SubtreeText.{Parts, left_len-Parts}
 use Rattle.bao_check.specs.Accepted.{end_of}
-use Rattle.bao_check.specs.Parents.{boundary, is_parent_at, parent_in, parent_place}
+use Rattle.bao_text.specs.NodeNames.{boundary}
+use Rattle.bao_check.specs.Parents.{is_parent_at, parent_in, parent_place}
 use Rattle.bao_check.proofs.Lists.{All-append, All-from_members, All-member, nodes_size}
 use Rattle.bao_check.proofs.Locating.{count_parts}
 use Rattle.bao_check.proofs.Parts.{placed-All, placed-parent}
@@ -66,11 +67,11 @@ inside_levels (suc levels) choice number n sides source hn = elim (cases_lt 1024
       ]
 ]
 
-boundaries_inside : (choice : Choice) (number n : ℕ) (sides : List Side) (source : ℕ) → AllByRecursion (IsInside number (chunk_count n)) (subtree_nodes choice number n sides source)
+pub boundaries_inside : (choice : Choice) (number n : ℕ) (sides : List Side) (source : ℕ) → AllByRecursion (IsInside number (chunk_count n)) (subtree_nodes choice number n sides source)
 boundaries_inside choice number n sides source = inside_levels n choice number n sides source (omega arith)
 
 -- a node that isn't that parent
-not_parent_at : (m : ℕ) (node : Node) → (node.is_chunk ≡ false → boundary node ≢ m) → is_parent_at m node ≡ false
+pub not_parent_at : (m : ℕ) (node : Node) → (node.is_chunk ≡ false → boundary node ≢ m) → is_parent_at m node ≡ false
 not_parent_at m node differ = elim (cases_Bool node.is_chunk) [
   | inl chunk ↦ rw chunk refl
   | inr parent ↦

@@ -3,9 +3,10 @@ use Rattle.std.specs.Prelude.{◌≡◌, ℕ, ◌+◌, ◌-◌, ◌*◌, ◌/◌
 use Rattle.std.specs.List.{flat_map}
 use Rattle.std.specs.Option.{unwrap_or}
 use Rattle.bao_text.specs.Cut.{claimed}
+use Rattle.bao_text.specs.NodeNames.{boundary}
 use Rattle.bao_text.specs.Nodes.{Node, nodes}
 use Rattle.bao_check.specs.Accepted.{outboard_nodes, places_of}
-use Rattle.bao_check.specs.Parents.{boundary, parent_in}
+use Rattle.bao_check.specs.Parents.{parent_in}
 
 -- The bytes of a node: a parent's are those that the outline has for its boundary, and chunk k's begin at
 -- 1024 * (k - first) of the chunks.

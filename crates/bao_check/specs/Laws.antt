@@ -1,17 +1,21 @@
 -- The laws of accepted texts.
-use Rattle.std.specs.Prelude.{◌≡◌, ℕ, ◌+◌, ◌-◌, ◌*◌, ◌^◌, ◌<◌, ◌≤◌, ◌⊎◌, ◌↔◌, List, length, Some}
+use Rattle.std.specs.Prelude.{◌≡◌, ℕ, ◌+◌, ◌-◌, ◌*◌, ◌^◌, ◌<◌, ◌≤◌, ◌⊎◌, ◌↔◌, List, ◌++◌, length, Some, Contains, Option, if◌then◌else◌}
+use Rattle.std.specs.List.{flat_map}
 use Rattle.b3word.specs.declared.input.Input.{Input}
 use Rattle.b3tree.specs.declared.mode.Mode.{Mode}
 use Rattle.b3tree.specs.Hashing.{hash}
 use Rattle.b3tree.specs.Valid.{AreBytes, IsKeyed}
 use Rattle.bao_text.specs.Choice.{chunk_count}
 use Rattle.bao_text.specs.Cut.{claimed}
-use Rattle.bao_text.specs.Texts.{combined_text, outboard_text, slice_text}
+use Rattle.bao_text.specs.Nodes.{Node, nodes}
+use Rattle.bao_text.specs.Texts.{combined_text, length_text, outboard_text, slice_text}
 use Rattle.bao_check.specs.Accepted.{IsAccepted, outboard_nodes, places_of, slice_nodes}
 use Rattle.bao_check.specs.Bare.{AreBare, bare_part}
 use Rattle.bao_check.specs.Beside.{beside_text}
 use Rattle.bao_check.specs.Certificate.{Certificate, IsLast}
 use Rattle.bao_check.specs.Inputs.{Names, NamesPair, blob_inputs, certificate_inputs}
+use Rattle.bao_text.specs.NodeNames.{boundary}
+use Rattle.bao_check.specs.Parents.{parent_in, parent_of}
 use Rattle.bao_check.specs.Pieces.{chunk_in, chunk_of}
 
 -- The bytes are the blob's chunk of that number, and where it is the last of the length that the text
@@ -55,3 +59,22 @@ BareAccepted = (mode : Mode) (root outline chunks : List ℕ) (first count : ℕ
     → AreBare mode root outline first count chunks
     ↔ IsAccepted mode root (beside_text outline (1024 * first) (bare_part count) chunks)
     (slice_nodes (beside_text outline (1024 * first) (bare_part count) chunks) (1024 * first) (bare_part count))
+
+-- For each text that is accepted as a slice under a root, and each blob with that root and of the length that the
+-- text claims: each parent that the text has is the blob's, or a pair of inputs is named.
+abbrev pub ParentBinds : Type 0
+ParentBinds = (mode : Mode) (root text blob : List ℕ) (start len m : ℕ) (bytes : List ℕ)
+    → IsKeyed mode → AreBytes blob → AreBytes text → hash mode blob ≡ root
+    → IsAccepted mode root text (slice_nodes text start len) → claimed text ≡ length blob
+    → parent_in text (places_of (slice_nodes text start len)) m ≡ Some bytes
+    → (parent_of mode blob m ≡ Some bytes) ⊎ NamesPair mode blob text (places_of (slice_nodes text start len))
+
+-- what is known of a blob at a node: a chunk by its number, a parent by its boundary
+abbrev pub known_at : (ℕ → Option (List ℕ)) → (ℕ → Option (List ℕ)) → Node → Option (List ℕ)
+known_at chunks parents node = if node.is_chunk then chunks node.number else parents (boundary node)
+
+-- The length of a blob, and of each node of a slice of it what the blob has there, are the slice's text.
+abbrev pub NodesMakeSlice : Type 0
+NodesMakeSlice = (mode : Mode) (blob : List ℕ) (start len : ℕ) (bytes : Node → List ℕ)
+    → ((node : Node) → Contains (nodes (length blob) start len) node → known_at (chunk_of blob) (parent_of mode blob) node ≡ Some (bytes node))
+    → length_text (length blob) ++ flat_map bytes (nodes (length blob) start len) ≡ slice_text mode blob start len

@@ -1,12 +1,12 @@
 -- Which parents a text has.
-use Rattle.std.specs.Prelude.{ℕ, ◌+◌, ◌/◌, ◌==◌, List, [], ◌∷◌, Bool, false, Option, None, Some, if◌then◌else◌}
-use Rattle.b3tree.specs.Tree.{left_len}
-use Rattle.bao_text.specs.Nodes.{Node}
+use Rattle.std.specs.Prelude.{ℕ, ◌==◌, List, [], ◌∷◌, length, Bool, false, Option, None, Some, if◌then◌else◌}
+use Rattle.std.specs.Option.{option_map}
+use Rattle.b3tree.specs.declared.mode.Mode.{Mode}
+use Rattle.bao_text.specs.Choice.{of_combined}
+use Rattle.bao_text.specs.NodeNames.{boundary}
+use Rattle.bao_text.specs.Nodes.{Node, chosen_nodes}
+use Rattle.bao_text.specs.Texts.{node_text}
 use Rattle.bao_check.specs.Accepted.{bytes_at}
-
--- the chunk with which a parent's right part begins: no other parent of the tree has that one
-abbrev pub boundary : Node → ℕ
-boundary node = node.number + left_len node.len / 1024
 
 -- whether the node is the parent whose right part begins at chunk `m`
 abbrev pub is_parent_at : ℕ → Node → Bool
@@ -21,3 +21,12 @@ parent_in text (place ∷ places) m = if is_parent_at m place.1 then Some (bytes
 abbrev pub parent_place : List (ℕ × Node) → ℕ → Option ℕ
 parent_place [] m = None
 parent_place (place ∷ places) m = if is_parent_at m place.1 then Some place.0 else parent_place places m
+
+-- the parent among nodes whose right part begins at chunk `m`
+abbrev pub find_parent : List Node → ℕ → Option Node
+find_parent [] m = None
+find_parent (node ∷ nodes) m = if is_parent_at m node then Some node else find_parent nodes m
+
+-- the 64 bytes of a blob's parent whose right part begins at chunk `m`, if its tree has that parent
+abbrev pub parent_of : Mode → List ℕ → ℕ → Option (List ℕ)
+parent_of mode blob m = option_map (node_text mode blob) (find_parent (chosen_nodes (of_combined (length blob)) (length blob)) m)

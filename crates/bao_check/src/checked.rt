@@ -1,4 +1,4 @@
-ghost use Rattle.std.specs.Prelude.{◌≡◌, ℕ, List, ◌≤◌, ◌<◌, ◌+◌, ◌↔◌, length, IfSome, IsSome};
+ghost use Rattle.std.specs.Prelude.{◌≡◌, ℕ, List, ◌≤◌, ◌<◌, ◌+◌, ◌↔◌, length, map, IfSome, IsSome};
 ghost use Rattle.std.specs.Option.{option_copied};
 ghost use Rattle.bao_text.specs.Choice.{of_slice};
 ghost use Rattle.b3tree.specs.Hashing.{hash};
@@ -17,7 +17,7 @@ use crate::outline::Outline;
 use crate::tail::Tail;
 use crate::walk::claimed;
 use b3tree::{CHUNK_LEN, Hash, Mode, bytes_are};
-use bao_text::Choice;
+use bao_text::{Choice, Nodes};
 
 /// What a slice is read from.
 #[derive(Clone, Copy, Debug)]
@@ -50,6 +50,8 @@ impl<'a> Checked<'a> {
     ghost use Rattle.bao_check.specs.Beside.{IsOfChunks, beside_text};
     ghost use Rattle.bao_check.specs.Outline.{outline_claimed, outline_text};
     ghost use Rattle.bao_check.specs.Tail.{tail_piece};
+    ghost use Rattle.bao_text.specs.NodeNames.{name};
+    ghost use Rattle.bao_text.specs.Rest.{rest_of};
 
     /// The piece that an accepted text is.
     pub fn new(mode: &Mode, root: &Hash, start: u64, len: u64, text: &'a [u8]) -> Checked<'a>
@@ -157,6 +159,14 @@ impl<'a> Checked<'a> {
         let choice = self.choice();
         let chunk_len = CHUNK_LEN as u64;
         (choice.start() / chunk_len, choice.end().div_ceil(chunk_len))
+    }
+
+    /// The nodes of its text by name, in their order: its chunks by their numbers, and its parents by the chunk with
+    /// which the right part begins.
+    pub fn nodes(&self) -> Nodes
+        ensures { rest_of result ≡ map name (piece_nodes self.now) }
+    {
+        bao_text::nodes(self.claimed(), self.start, self.len)
     }
 
     // Where the text has chunk `i`.

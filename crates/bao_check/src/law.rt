@@ -1,4 +1,4 @@
-ghost use Rattle.bao_check.specs.Laws.{AcceptedBinds, BareAccepted, CertificateBinds, WrittenAccepted};
+ghost use Rattle.bao_check.specs.Laws.{AcceptedBinds, BareAccepted, CertificateBinds, NodesMakeSlice, ParentBinds, WrittenAccepted};
 
 /// For each certificate under a root (that bytes are a certain chunk: the parents on the way down, 64 bytes each with
 /// the side on which the way goes on, and the chunk), and each blob with that root: the bytes are the blob's chunk of
@@ -26,4 +26,17 @@ pub fn written_accepted()
 /// with it is, if the outline is of less than 2^64 bytes. A law: nothing runs.
 pub fn bare_accepted()
     ensures { BareAccepted }
+{}
+
+/// For each text that is accepted as a slice under a root, and each blob with that root and of the length that the
+/// text claims: each parent that the text has is the blob's parent at that boundary; or a pair of inputs is named,
+/// one of the blob's and one of the text's, that differ and have one chaining value. A law: nothing runs.
+pub fn parent_binds()
+    ensures { ParentBinds }
+{}
+
+/// The length of a blob, and then of each node of a slice the blob's bytes there, are the slice's text. A law:
+/// nothing runs.
+pub fn nodes_make_slice()
+    ensures { NodesMakeSlice }
 {}

@@ -4,7 +4,10 @@
 pub use checked::Checked;
 pub use checks::{bare_fits, check_bare, check_combined, check_outboard, check_slice};
 pub use fault::CheckFault;
-pub use law::{accepted_binds, bare_accepted, certificate_binds, written_accepted};
+pub use law::{
+    accepted_binds, bare_accepted, certificate_binds, nodes_make_slice, parent_binds,
+    written_accepted,
+};
 pub use outline::Outline;
 pub use read::{check_stream, read_checked};
 pub use subtree::Subtree;
