@@ -8,9 +8,11 @@ use Rattle.bao_check.specs.Pieces.{chunk_of}
 use Rattle.bao_check.proofs.Laws.{accepted_binds}
 use Rattle.store_core.specs.declared.fixed.Fixed.{Fixed}
 use Rattle.store_core.specs.declared.history.Event.{Event}
+use Rattle.store_core.specs.declared.history.Piece.{Piece}
 use Rattle.store_core.specs.Histories.{state_after}
 use Rattle.store_core.specs.Laws.{ByteBinds, HeldBinds, IsBlob, IsCommitted, IsSettled, PairNamed, RecordBinds}
-use Rattle.store_core.specs.Pieces.{chunk_bytes, length_of}
+use Rattle.store_core.specs.Pieces.{EndsBlob, IsAcceptedPiece, chunk_bytes, length_of}
+use Rattle.store_core.specs.Stores.{ClaimBinds}
 use Rattle.store_core.proofs.Origins.{held_is_committed, record_is_settled}
 
 -- a committed chunk is the blob's
@@ -54,16 +56,23 @@ some_there : (o : Option (List ℕ)) → is_some o ≡ true → (bytes : List �
 some_there None h = cc
 some_there (Some bytes) h = (bytes, refl)
 
-settled_binds : (fixed : Fixed) (history : List Event) (blob : List ℕ) (l : ℕ) → IsKeyed fixed.mode → IsBlob fixed blob
-    → (k : IsSettled fixed history l) → (l ≡ length blob) ⊎ PairNamed fixed blob k.piece
-settled_binds fixed history blob l keyed is k =
-    let number : ℕ = chunk_count (length_of k.piece) - 1 in
-    let last = some_there (chunk_bytes k.piece number) k.ends in
-    let ends : number + 1 ≡ chunk_count (length_of k.piece) = omega arith in
-    elim (accepted_binds fixed.mode fixed.root.0 k.piece.text blob k.piece.start k.piece.len number last.0 keyed is.bytes k.accepted.bytes is.root k.accepted.accepted last.1) [
-      | inl same ↦ inl (sym k.is ∙ same.1 ends)
+-- the length that a piece with the last chunk claims is the blob's
+pub claim_binds : (fixed : Fixed) (piece : Piece) → IsKeyed fixed.mode → IsAcceptedPiece fixed piece → EndsBlob piece → ClaimBinds fixed piece
+claim_binds fixed piece keyed accepted there blob is =
+    let number : ℕ = chunk_count (length_of piece) - 1 in
+    let last = some_there (chunk_bytes piece number) there in
+    let ends : number + 1 ≡ chunk_count (length_of piece) = omega arith in
+    elim (accepted_binds fixed.mode fixed.root.0 piece.text blob piece.start piece.len number last.0 keyed is.bytes accepted.bytes is.root accepted.accepted last.1) [
+      | inl same ↦ inl (same.1 ends)
       | inr named ↦ inr named
     ]
+
+settled_binds : (fixed : Fixed) (history : List Event) (blob : List ℕ) (l : ℕ) → IsKeyed fixed.mode → IsBlob fixed blob
+    → (k : IsSettled fixed history l) → (l ≡ length blob) ⊎ PairNamed fixed blob k.piece
+settled_binds fixed history blob l keyed is k = elim (claim_binds fixed k.piece keyed k.accepted k.ends blob is) [
+  | inl same ↦ inl (sym k.is ∙ same)
+  | inr named ↦ inr named
+]
 
 pub record_binds : RecordBinds
 record_binds fixed history blob l keyed is legal h =

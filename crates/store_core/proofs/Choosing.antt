@@ -1,7 +1,6 @@
 -- Masks made bit by bit, and chunks marked bit by bit.
-use Rattle.std.proofs.Common.{zero, suc, ◌≡◌, ◌≢◌, ℕ, ◌+◌, ◌*◌, ◌/◌, ◌%◌, ◌^◌, ◌<◌, ◌≤◌, nat_lt, nat_eq, ◌==◌, Bool, true, false, ◌&&◌, if◌then◌else◌, List, length, set, refl, sym, ap, subst, ◌∙◌, arith, inl, inr, eqb-true, eq-eqb, get_or-set_other, get_or-set_same, get_or, ◌++◌, [], ◌∷◌, length-append, get_or-append-add}
-use Rattle.std.proofs.lemmas.Bool.{and_parts, and_from, and_left, and_right, both_ways, cases_Bool, cases_eq, lt-ltb, le-ltb}
-use Rattle.std.proofs.lemmas.Bool.Decides.{nat_tests}
+use Rattle.std.proofs.Common.{zero, suc, ◌≡◌, ◌≢◌, ℕ, ◌+◌, ◌*◌, ◌%◌, ◌^◌, ◌<◌, ◌≤◌, nat_eq, Bool, true, false, ◌&&◌, if◌then◌else◌, List, length, set, refl, sym, ap, subst, ◌∙◌, arith, inl, inr, get_or-set_other, get_or, ◌++◌, [], ◌∷◌, length-append, get_or-append-add}
+use Rattle.std.proofs.lemmas.Bool.{cases_eq}
 use Rattle.std.proofs.lemmas.Nat.Bits.{bit_at-zero}
 use Rattle.std.proofs.lemmas.Option.{get_or_from_slice_get, slice_get-get_or}
 use Rattle.store_core.specs.declared.slot.Slot.{Slot}
@@ -9,6 +8,8 @@ use Rattle.store_core.specs.declared.slot.Slot.TheVariants.{Free}
 use Rattle.store_core.specs.Masks.{IsMaskOf, has_bit, in_mask}
 use Rattle.bao_check.specs.declared.checked.Checked.{Checked}
 use Rattle.store_core.specs.Slots.{AreCopies, IsCopy, slot_at}
+use Rattle.store_core.proofs.Putting as putting
+use Rattle.store_core.proofs.Putting.{IsPutBelow}
 
 -- the mask is right for the chunks whose bits are below j, and has no other bit yet
 pub record IsMaskUpTo (group mask j : ℕ) (test : ℕ → Bool) : Type 0 where
@@ -44,27 +45,16 @@ up_to_all group mask test up = record {
   bits = λ c h. let place : 64 * group + c % 64 ≡ c = omega (arith, h) in up.below (c % 64) (omega arith) ∙ ap test place;
 }
 
--- a chunk of the group's mask
-pub in_mask_at : (group mask j : ℕ) → j < 64 → has_bit mask j ≡ true → in_mask group mask (64 * group + j) ≡ true
-in_mask_at group mask j below bit =
-    let place : (64 * group + j) / 64 ≡ group = omega arith in
-    let at : (64 * group + j) % 64 ≡ j = omega arith in
-    and_from _ _ (eq-eqb ((64 * group + j) / 64) group place) (subst (λ (k : ℕ). has_bit mask k ≡ true) (sym at) bit)
-
 -- the chunks of the group's mask whose bits are below j have the slots of their bits, and all others those they had
 abbrev pub IsPutUpTo : ℕ → ℕ → ℕ → (ℕ → Slot) → List Slot → List Slot → Type 0
-IsPutUpTo group mask j slot old new =
-    (c : ℕ) → slot_at new c ≡ (if in_mask group mask c && nat_lt (c % 64) j then slot (c % 64) else slot_at old c)
+IsPutUpTo group mask j slot old new = IsPutBelow Slot Free group mask j slot old new
 
 pub put_none : (group mask : ℕ) (slot : ℕ → Slot) (old : List Slot) → IsPutUpTo group mask 0 slot old old
-put_none group mask slot old c = let no : nat_lt (c % 64) 0 ≡ false = le-ltb (c % 64) 0 (omega arith) in rw (and_right (in_mask group mask c) (nat_lt (c % 64) 0) no) refl
+put_none = putting.put_none Slot Free
 
 pub put_all : (group mask : ℕ) (slot : ℕ → Slot) (old new : List Slot) → IsPutUpTo group mask 64 slot old new
     → (c : ℕ) → slot_at new c ≡ (if in_mask group mask c then slot (c % 64) else slot_at old c)
-put_all group mask slot old new up c = elim (cases_Bool (in_mask group mask c)) [
-  | inl hit ↦ rw hit (rw (and_from _ _ hit (lt-ltb (c % 64) 64 (omega arith))) at (up c))
-  | inr miss ↦ rw miss (rw (and_left _ _ miss) at (up c))
-]
+put_all = putting.put_all Slot Free
 
 -- a test of the bit and of the chunk, at the chunk of bit j
 pub test_at : (among group j : ℕ) (rest : ℕ → Bool) → j < 64
@@ -72,52 +62,14 @@ pub test_at : (among group j : ℕ) (rest : ℕ → Bool) → j < 64
 test_at among group j rest below =
     let at : (64 * group + j) % 64 ≡ j = omega arith in ap (λ (k : ℕ). has_bit among k && rest (64 * group + j)) at
 
-same_below : (k j : ℕ) → k ≢ j → nat_lt k j ≡ nat_lt k (j + 1)
-same_below k j apart = grind (arith, nat_tests)
-
--- the chunks below j and below j + 1 differ in the chunk of bit j alone
-same_test : (group mask c j : ℕ) → c ≢ 64 * group + j → (in_mask group mask c && nat_lt (c % 64) j) ≡ (in_mask group mask c && nat_lt (c % 64) (j + 1))
-same_test group mask c j other = elim (cases_Bool (in_mask group mask c)) [
-  | inl hit ↦
-      let of_group : c / 64 ≡ group = eqb-true (c / 64) group (and_parts (c / 64 == group) (has_bit mask (c % 64)) hit).0 in
-      let apart : c % 64 ≢ j = λ here. other (omega (arith, of_group, here)) in
-      let same : nat_lt (c % 64) j ≡ nat_lt (c % 64) (j + 1) = same_below (c % 64) j apart in
-      rw hit same
-  | inr miss ↦ rw miss refl
-]
-
-same_tests : (group mask c j : ℕ) → has_bit mask j ≡ false → (in_mask group mask c && nat_lt (c % 64) j) ≡ (in_mask group mask c && nat_lt (c % 64) (j + 1))
-same_tests group mask c j unset = elim (cases_eq c (64 * group + j)) [
-  | inr other ↦ same_test group mask c j other
-  | inl here ↦ elim (cases_Bool (in_mask group mask c)) [
-    | inl hit ↦ elim (cases_eq (c % 64) j) [
-      | inl at ↦ absurd (both_ways _ (subst (λ (k : ℕ). has_bit mask k ≡ false) (sym at) unset) (and_parts (c / 64 == group) (has_bit mask (c % 64)) hit).1)
-      | inr apart ↦ rw hit (same_below (c % 64) j apart)
-    ]
-    | inr miss ↦ rw miss refl
-  ]
-]
-
 -- one more bit: where it is set, its chunk's slot is written
 pub put_more : (group mask j : ℕ) (slot : ℕ → Slot) (old now new : List Slot) → j < 64 → IsPutUpTo group mask j slot old now → has_bit mask j ≡ true
     → 64 * group + j < length now → new ≡ set now (64 * group + j) (slot j) → IsPutUpTo group mask (j + 1) slot old new
-put_more group mask j slot old now new below up bit within is c = elim (cases_eq c (64 * group + j)) [
-  | inl here ↦
-      let hit : in_mask group mask c ≡ true = subst (λ (k : ℕ). in_mask group mask k ≡ true) (sym here) (in_mask_at group mask j below bit) in
-      let low : nat_lt (c % 64) (j + 1) ≡ true = lt-ltb (c % 64) (j + 1) (omega (arith, here)) in
-      let bit_is : c % 64 ≡ j = omega (arith, here) in
-      let put : slot_at new c ≡ slot (c % 64) = ap (λ (xs : List Slot). slot_at xs c) is ∙ ap (λ (k : ℕ). slot_at (set now (64 * group + j) (slot j)) k) here
-      ∙ get_or-set_same now (64 * group + j) (slot j) Free within ∙ ap slot (sym bit_is) in
-      rw (and_from _ _ hit low) put
-  | inr other ↦
-      let kept : slot_at new c ≡ slot_at now c = ap (λ (xs : List Slot). slot_at xs c) is ∙ get_or-set_other now (64 * group + j) c (slot j) Free other in
-      kept ∙ up c ∙ ap (λ (b : Bool). if b then slot (c % 64) else slot_at old c) (same_test group mask c j other)
-]
+put_more = putting.put_more Slot Free
 
 pub put_less : (group mask j : ℕ) (slot : ℕ → Slot) (old now new : List Slot) → j < 64 → IsPutUpTo group mask j slot old now → has_bit mask j ≡ false
     → new ≡ now → IsPutUpTo group mask (j + 1) slot old new
-put_less group mask j slot old now new below up bit is c =
-    ap (λ (xs : List Slot). slot_at xs c) is ∙ up c ∙ ap (λ (b : Bool). if b then slot (c % 64) else slot_at old c) (same_tests group mask c j bit)
+put_less = putting.put_less Slot Free
 
 -- an element, read with one default or another
 pub read_again : (xs : List Slot) (i : ℕ) (r : Slot) → i < length xs → r ≡ get_or xs i r → r ≡ slot_at xs i

@@ -3,7 +3,7 @@ use Rattle.std.proofs.Common.{◌≡◌, ℕ, ◌<◌, ◌%◌, ◌==◌, true, 
 use Rattle.std.proofs.lemmas.Bool.{and_parts, both_ways, cases_Bool}
 use Rattle.store_core.specs.declared.fixed.Fixed.{Fixed}
 use Rattle.store_core.specs.declared.history.Call.{Call}
-use Rattle.store_core.specs.declared.history.Call.TheVariants.{Take, Give, Commit, Settle, Read, Length}
+use Rattle.store_core.specs.declared.history.Call.TheVariants.{Take, Give, Commit, Settle, Read, Length, Parents, Serve}
 use Rattle.store_core.specs.declared.history.Event.{Event}
 use Rattle.store_core.specs.declared.history.Piece.{Piece}
 use Rattle.store_core.specs.declared.history.Settling.{Settling}
@@ -97,6 +97,8 @@ sound_call fixed s who (Commit g piece r) sound right = sound_commit fixed s who
 sound_call fixed s who (Settle piece answer) sound right = record { apart = sound.apart; held_below = sound.held_below; claimed_below = sound.claimed_below }
 sound_call fixed s who (Read at len bytes) sound right = sound
 sound_call fixed s who (Length recorded) sound right = sound
+sound_call fixed s who (Parents group piece answer) sound right = record { apart = sound.apart; held_below = sound.held_below; claimed_below = sound.claimed_below }
+sound_call fixed s who (Serve start len answer) sound right = sound
 
 pub sound_from : (fixed : Fixed) (s : State) (events : List Event) → IsSound fixed s → AreLegalFrom fixed s events → IsSound fixed (run s events)
 sound_from fixed s [] sound legal = sound
@@ -124,6 +126,8 @@ held_call fixed s who (Commit g piece r) sound right c bytes h = elim (cases_Boo
 held_call fixed s who (Settle piece answer) sound right c bytes h = h
 held_call fixed s who (Read at len out) sound right c bytes h = h
 held_call fixed s who (Length recorded) sound right c bytes h = h
+held_call fixed s who (Parents group piece answer) sound right c bytes h = h
+held_call fixed s who (Serve start len answer) sound right c bytes h = h
 
 pub held_from : (fixed : Fixed) (s : State) (events : List Event) → IsSound fixed s → AreLegalFrom fixed s events
     → (c : ℕ) (bytes : List ℕ) → s.held c ≡ Some bytes → (run s events).held c ≡ Some bytes
@@ -150,8 +154,10 @@ recorded_call fixed s who (Settle piece answer) right l h =
     subst (λ (a : Settling). recorded_after a (length_of piece) s.recorded ≡ Some l) (sym right.3) (recorded_settle s.recorded (length_of piece) l h)
 recorded_call fixed s who (Read at len out) right l h = h
 recorded_call fixed s who (Length recorded) right l h = h
+recorded_call fixed s who (Parents group piece answer) right l h = h
+recorded_call fixed s who (Serve start len answer) right l h = h
 
-recorded_from : (fixed : Fixed) (s : State) (events : List Event) → AreLegalFrom fixed s events
+pub recorded_from : (fixed : Fixed) (s : State) (events : List Event) → AreLegalFrom fixed s events
     → (l : ℕ) → s.recorded ≡ Some l → (run s events).recorded ≡ Some l
 recorded_from fixed s [] legal l h = h
 recorded_from fixed s (e ∷ events) legal l h = recorded_from fixed (after s e) events legal.1 l (recorded_call fixed s e.who e.call legal.0 l h)
@@ -188,6 +194,8 @@ claims_call fixed s who (Commit g piece r) names apart right c = elim (cases_Boo
 claims_call fixed s who (Settle piece answer) names apart right c = refl
 claims_call fixed s who (Read at len out) names apart right c = refl
 claims_call fixed s who (Length recorded) names apart right c = refl
+claims_call fixed s who (Parents group piece answer) names apart right c = refl
+claims_call fixed s who (Serve start len answer) names apart right c = refl
 
 -- of other callers all along: the first event is, and so are the rest
 pub others_parts : (names : List Name) (e : Event) (events : List Event) → AreOfOthers names (e ∷ events) → (is_by names e ≡ false) × AreOfOthers names events

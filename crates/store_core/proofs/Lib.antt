@@ -1,4 +1,5 @@
 pub mod Tells
+pub mod Putting
 pub mod Choosing
 pub mod Lasting
 pub mod Determined
@@ -22,3 +23,7 @@ pub mod Loading
 pub mod Standing
 pub mod Wordless
 pub mod Replaying
+pub mod ParentOrigins
+pub mod ServingLaws
+pub mod ServingSteps
+pub mod StoredParents

@@ -5,7 +5,7 @@ use Rattle.std.proofs.lemmas.List.Sums.{sum_by-cons}
 use Rattle.bao_check.proofs.Lists.{Contains-head, Contains-tail}
 use Rattle.store_core.specs.declared.fixed.Fixed.{Fixed}
 use Rattle.store_core.specs.declared.history.Call.{Call}
-use Rattle.store_core.specs.declared.history.Call.TheVariants.{Take, Give, Commit, Settle, Read, Length}
+use Rattle.store_core.specs.declared.history.Call.TheVariants.{Take, Give, Commit, Settle, Read, Length, Parents, Serve}
 use Rattle.store_core.specs.declared.history.Event.{Event}
 use Rattle.store_core.specs.declared.history.Piece.{Piece}
 use Rattle.store_core.specs.declared.history.Settling.{Settling}
@@ -55,6 +55,8 @@ commit_held fixed s who (Commit g piece r) events right c bytes h = elim (cases_
 commit_held fixed s who (Settle piece answer) events right c bytes h = inl h
 commit_held fixed s who (Read at len out) events right c bytes h = inl h
 commit_held fixed s who (Length recorded) events right c bytes h = inl h
+commit_held fixed s who (Parents group piece answer) events right c bytes h = inl h
+commit_held fixed s who (Serve start len answer) events right c bytes h = inl h
 
 pub committed_from : (fixed : Fixed) (s : State) (events : List Event) → AreLegalFrom fixed s events
     → (c : ℕ) (bytes : List ℕ) → (run s events).held c ≡ Some bytes → (s.held c ≡ Some bytes) ⊎ IsCommitted fixed events c bytes
@@ -96,6 +98,8 @@ call_record fixed s who (Commit g piece r) events right l h = inl h
 call_record fixed s who (Settle piece answer) events right l h = settle_record fixed s who piece answer events right l h
 call_record fixed s who (Read at len out) events right l h = inl h
 call_record fixed s who (Length recorded) events right l h = inl h
+call_record fixed s who (Parents group piece answer) events right l h = inl h
+call_record fixed s who (Serve start len answer) events right l h = inl h
 
 pub settled_from : (fixed : Fixed) (s : State) (events : List Event) → AreLegalFrom fixed s events
     → (l : ℕ) → (run s events).recorded ≡ Some l → (s.recorded ≡ Some l) ⊎ IsSettled fixed events l
@@ -146,6 +150,8 @@ counted_call fixed s who (Commit g piece r) c sound right = counted_commit fixed
 counted_call fixed s who (Settle piece answer) c sound right = omega arith
 counted_call fixed s who (Read at len out) c sound right = omega arith
 counted_call fixed s who (Length recorded) c sound right = omega arith
+counted_call fixed s who (Parents group piece answer) c sound right = omega arith
+counted_call fixed s who (Serve start len answer) c sound right = omega arith
 
 counted_from : (fixed : Fixed) (s : State) (events : List Event) (c : ℕ) → IsSound fixed s → AreLegalFrom fixed s events
     → count_by (λ e. commits c e.call) events + one_if (is_held s c) ≡ one_if (is_held (run s events) c)

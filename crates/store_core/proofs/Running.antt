@@ -217,11 +217,11 @@ settle_at fixed m n (Some piece) served is ends = elim (cases_Bool (nat_le (leng
       (sym (settle_event n piece answer (settling_fits m.recorded (length_of piece))))
       (keeps fixed m (record m { recorded = recorded_after answer (length_of piece) m.recorded }) (event_by n (SettleCall piece answer)) served
       ((served.kept.accepted n piece is, ends, leb-true (length_of piece) (1024 * fixed.capacity) fits, refl), tt)
-      (same_state _ _ (λ c. refl) (λ c. refl) refl)
+      (same_state _ _ refl (λ c. refl) (λ c. refl) refl)
       (record { known = served.kept.known; cells = served.kept.cells; accepted = served.kept.accepted })
       (λ k. refl)))
   | inr large ↦
-      rw large (keeps fixed m (record m { recorded = m.recorded }) [] served tt (same_state _ _ (λ c. refl) (λ c. refl) refl)
+      rw large (keeps fixed m (record m { recorded = m.recorded }) [] served tt (same_state _ _ refl (λ c. refl) (λ c. refl) refl)
       (record { known = served.kept.known; cells = served.kept.cells; accepted = served.kept.accepted })
       (λ k. refl))
 ]
@@ -258,7 +258,7 @@ one_step fixed pieces m (Length n) reply texts served legal right =
 
 -- whole runs
 pub start_empty : store_of start ≡ empty
-start_empty = same_state (store_of start) empty
+start_empty = same_state (store_of start) empty refl
     (λ c. ap (λ (b : Bool). if b then Some (cell_bytes (λ w. 0)) else None) (has_bit-zero (c % 64))) (λ c. refl) refl
 
 pub start_served : (fixed : Fixed) → IsServed fixed start

@@ -58,7 +58,7 @@ claim_step fixed pieces m n group want mask served is =
     both_ways _ (open_ c hit) (claimed_some k (m.claim c) (served.kept.known k c w wrote (hidden c hit))) in
     keeps fixed m (after_step fixed pieces m (Claim n group want) (Some (Granted mask))) (event_by n (Take group want mask)) served
     (right, tt)
-    (same_state _ _ (λ c. refl) (λ c. claimed_map (in_mask group mask c) n (m.claim c)) refl)
+    (same_state _ _ refl (λ c. refl) (λ c. claimed_map (in_mask group mask c) n (m.claim c)) refl)
     (record {
       known = λ k c w wrote dark. elim (cases_Bool (in_mask group mask c)) [
         | inl hit ↦ absurd (nobody k c w hit wrote)
@@ -124,7 +124,7 @@ write_step fixed pieces m n c w served ours =
     let seat : Seat = record (m.seat n) { written = λ d v. ((d == c) && (v == w)) || (m.seat n).written d v } in
     let next : Machine = after_step fixed pieces m (Write n c w) None in
     keeps fixed m next [] served tt
-    (same_state (store_of m) (store_of next)
+    (same_state (store_of m) (store_of next) refl
     (λ d. elim (cases_Bool (d == c)) [
       | inl hit ↦
           let dark : is_shown m d ≡ false = subst (λ (x : ℕ). is_shown m x ≡ false) (sym (eqb-true d c hit)) (claimed_hidden fixed m n c served.sound ours) in
@@ -174,7 +174,7 @@ give_step fixed pieces m n group mask given served is =
     (and_parts (has_bit mask (c % 64)) (seat_has m n c) (masked group given (λ c. has_bit mask (c % 64) && seat_has m n c) c is hit)).1 in
     keeps fixed m (after_step fixed pieces m (GiveBack n group mask) (Some (Given given))) (event_by n (Give group mask given)) served
     (right, tt)
-    (same_state _ _ (λ c. refl) (λ c. unclaimed_map (in_mask group given c) (m.claim c)) refl)
+    (same_state _ _ refl (λ c. refl) (λ c. unclaimed_map (in_mask group given c) (m.claim c)) refl)
     (record {
       known = λ k c w wrote dark. elim (cases_Bool (k == n)) [
         | inl hit ↦
@@ -239,7 +239,7 @@ publish_step fixed pieces m n group mask piece served current wrote_all is =
     (λ w below. served.kept.cells n c w (wrote_all c w of_group parts.0 parts.1 below) parts.0 ∙ ap (λ (xs : List ℕ). cell_word xs w) bytes_are)))) in
     keeps fixed m next (event_by n (Commit group piece mask)) served
     (right, tt)
-    (same_state _ _
+    (same_state _ _ refl
     (λ c. elim (cases_Bool (in_mask group mask c)) [
       | inl hit ↦ rw hit (filled c hit ∙ sym (ap (λ (b : Bool). if b then Some (cell_bytes (m.cell c)) else None) (shown_or fixed pieces m n group mask c ∙ or_right _ _ hit)))
       | inr miss ↦ rw miss (sym (ap (λ (b : Bool). if b then Some (cell_bytes (m.cell c)) else None)

@@ -32,13 +32,13 @@ use Rattle.store_core.proofs.Choosing.{has_bit-zero}
 use Rattle.store_core.proofs.Lasting.{legal-join, run-append}
 use Rattle.store_core.proofs.Tells.{masked}
 
--- states with the same chunks, claims and length are one
-pub same_state : (s t : State) → ((c : ℕ) → s.held c ≡ t.held c) → ((c : ℕ) → s.claim c ≡ t.claim c) → s.recorded ≡ t.recorded → s ≡ t
-same_state s t held claim recorded = λ i. record { held = λ c. held c i; claim = λ c. claim c i; recorded = recorded i }
+-- states with the same parents, chunks, claims and length are one
+pub same_state : (s t : State) → s.parents ≡ t.parents → ((c : ℕ) → s.held c ≡ t.held c) → ((c : ℕ) → s.claim c ≡ t.claim c) → s.recorded ≡ t.recorded → s ≡ t
+same_state s t parents held claim recorded = λ i. record { held = λ c. held c i; claim = λ c. claim c i; recorded = recorded i; parents = parents i }
 
 -- slots that are the same stand for the same
 pub state_same : (old new : List Slot) (o : Option ℕ) → ((c : ℕ) → slot_at new c ≡ slot_at old c) → state_in new o ≡ state_in old o
-state_same old new o same = same_state (state_in new o) (state_in old o) (λ c. ap held_in (same c)) (λ c. ap claim_in (same c)) refl
+state_same old new o same = same_state (state_in new o) (state_in old o) refl (λ c. ap held_in (same c)) (λ c. ap claim_in (same c)) refl
 
 -- one more event goes on with a history
 pub reached_more : (fixed : Fixed) (s t : State) (who : List Name) (call : Call) → IsRight fixed s who call → t ≡ after_call who call s
@@ -115,7 +115,7 @@ pub put_taken : (old new : List Slot) (o : Option ℕ) (seat group want mask : �
     → ((c : ℕ) → in_mask group mask c ≡ true → held_in (slot_at old c) ≡ None)
     → ((c : ℕ) → slot_at new c ≡ (if in_mask group mask c then claimed_slot (Some seat) else slot_at old c))
     → state_in new o ≡ after_call (caller seat) (Take group want mask) (state_in old o)
-put_taken old new o seat group want mask none put = same_state (state_in new o) (after_call (caller seat) (Take group want mask) (state_in old o))
+put_taken old new o seat group want mask none put = same_state (state_in new o) (after_call (caller seat) (Take group want mask) (state_in old o)) refl
     (λ c. elim (cases_Bool (in_mask group mask c)) [
       | inl hit ↦ ap held_in (rw hit at (put c)) ∙ sym (none c hit)
       | inr miss ↦ ap held_in (rw miss at (put c))
@@ -131,7 +131,7 @@ pub put_given : (old new : List Slot) (o : Option ℕ) (seat group mask given : 
     → ((c : ℕ) → in_mask group given c ≡ true → held_in (slot_at old c) ≡ None)
     → ((c : ℕ) → slot_at new c ≡ (if in_mask group given c then claimed_slot None else slot_at old c))
     → state_in new o ≡ after_call (caller seat) (Give group mask given) (state_in old o)
-put_given old new o seat group mask given none put = same_state (state_in new o) (after_call (caller seat) (Give group mask given) (state_in old o))
+put_given old new o seat group mask given none put = same_state (state_in new o) (after_call (caller seat) (Give group mask given) (state_in old o)) refl
     (λ c. elim (cases_Bool (in_mask group given c)) [
       | inl hit ↦ ap held_in (rw hit at (put c)) ∙ sym (none c hit)
       | inr miss ↦ ap held_in (rw miss at (put c))
@@ -308,7 +308,7 @@ copy_at group mask piece ready c copies hit =
 pub put_committed : (old ready new : List Slot) (o : Option ℕ) (seat group mask : ℕ) (piece : Checked) → AreCopies piece group mask 64 ready
     → ((c : ℕ) → slot_at new c ≡ (if in_mask group mask c then slot_at ready (c % 64) else slot_at old c))
     → state_in new o ≡ after_call (caller seat) (Commit group (piece_of piece) mask) (state_in old o)
-put_committed old ready new o seat group mask piece copies put = same_state (state_in new o) (after_call (caller seat) (Commit group (piece_of piece) mask) (state_in old o))
+put_committed old ready new o seat group mask piece copies put = same_state (state_in new o) (after_call (caller seat) (Commit group (piece_of piece) mask) (state_in old o)) refl
     (λ c. elim (cases_Bool (in_mask group mask c)) [
       | inl hit ↦ rw hit (ap held_in (rw hit at (put c)) ∙ (copy_at group mask piece ready c copies hit).bytes)
       | inr miss ↦ rw miss (ap held_in (rw miss at (put c)))
@@ -355,7 +355,7 @@ commit_none fixed slots o seat group piece accepted fits absent = record {
     no_mask group (λ c. claims (caller seat) (state_in slots o) c && holds_chunk (piece_of piece) c)
         (λ c of_group. and_left _ _ (sym (claims_test slots o seat c) ∙ and_left _ _ (le-ltb c (length slots) (omega (arith, of_group, absent, fits))))),
   );
-  after = same_state (state_in slots o) (after_call (caller seat) (Commit group (piece_of piece) 0) (state_in slots o))
+  after = same_state (state_in slots o) (after_call (caller seat) (Commit group (piece_of piece) 0) (state_in slots o)) refl
       (λ c. rw (and_right (c / 64 == group) (has_bit 0 (c % 64)) (has_bit-zero (c % 64))) refl)
       (λ c. rw (and_right (c / 64 == group) (has_bit 0 (c % 64)) (has_bit-zero (c % 64))) refl)
       refl;

@@ -3,18 +3,23 @@ use Rattle.std.specs.Prelude.{◌≡◌, ◌⊎◌, ℕ, ◌+◌, ◌*◌, ◌/�
 use Rattle.b3tree.specs.Hashing.{hash}
 use Rattle.b3tree.specs.Valid.{AreBytes, IsKeyed}
 use Rattle.bao_check.specs.Inputs.{NamesPair}
+use Rattle.bao_text.specs.Texts.{slice_text}
+use Rattle.bao_check.specs.Parents.{parent_of}
 use Rattle.bao_check.specs.Pieces.{chunk_of}
 use Rattle.store_core.specs.declared.fixed.Fixed.{Fixed}
 use Rattle.store_core.specs.declared.history.Call.{Call}
-use Rattle.store_core.specs.declared.history.Call.TheVariants.{Take, Give, Commit, Settle, Read, Length}
+use Rattle.store_core.specs.declared.history.Call.TheVariants.{Take, Give, Commit, Settle, Read, Length, Parents, Serve}
 use Rattle.store_core.specs.declared.history.Event.{Event}
 use Rattle.store_core.specs.declared.history.Piece.{Piece}
 use Rattle.store_core.specs.declared.history.Settling.TheVariants.{Settled}
+use Rattle.store_core.specs.declared.history.Serving.TheVariants.{NoLength, Text}
+use Rattle.store_core.specs.declared.history.Storing.TheVariants.{OtherLength, Stored}
 use Rattle.store_core.specs.Events.{IsRight}
 use Rattle.store_core.specs.Histories.{AreOfOthers, IsLegal, events_of, state_after}
 use Rattle.store_core.specs.Masks.{in_mask}
 use Rattle.store_core.specs.Names.{Name, has_name, share_name}
-use Rattle.store_core.specs.Pieces.{EndsBlob, IsAcceptedPiece, chunk_bytes, length_of, places_in}
+use Rattle.store_core.specs.Pieces.{EndsBlob, IsAcceptedPiece, chunk_bytes, length_of, parent_bytes, places_in}
+use Rattle.store_core.specs.Serves.{serving}
 use Rattle.bao_check.specs.declared.checked.Checked.{Checked}
 use Rattle.store_core.specs.declared.micro.MicroStep.{MicroStep}
 use Rattle.store_core.specs.declared.micro.Reply.{Reply}
@@ -32,11 +37,25 @@ question (Commit group piece committed) = Commit group piece 0
 question (Settle piece answer) = Settle piece Settled
 question (Read at len bytes) = Read at len []
 question (Length recorded) = Length None
+question (Parents group piece answer) = Parents group piece OtherLength
+question (Serve at len answer) = Serve at len NoLength
 
--- The state after a history determines every reply: two right replies to one question of one caller are one.
+-- whether a reply may tell of a part: other right ones to the same question may tell of another part
+abbrev pub is_partial : Call → Bool
+is_partial (Take group want granted) = false
+is_partial (Give group mask given) = false
+is_partial (Commit group piece committed) = false
+is_partial (Settle piece answer) = false
+is_partial (Read at len bytes) = false
+is_partial (Length recorded) = false
+is_partial (Parents group piece answer) = true
+is_partial (Serve at len answer) = false
+
+-- The state after a history determines every reply but which parents are stored: two right replies to one question of
+-- one caller are one.
 abbrev pub StateDetermines : Type 0
 StateDetermines = (fixed : Fixed) (s : State) (who : List Name) (one other : Call) → IsRight fixed s who one → IsRight fixed s who other
-    → question one ≡ question other → one ≡ other
+    → is_partial one ≡ false → question one ≡ question other → one ≡ other
 
 -- What is held stays, and so does a recorded length.
 abbrev pub HeldLasts : Type 0
@@ -46,6 +65,11 @@ HeldLasts = (fixed : Fixed) (history more : List Event) (c : ℕ) (bytes : List 
 abbrev pub RecordLasts : Type 0
 RecordLasts = (fixed : Fixed) (history more : List Event) (l : ℕ) → IsLegal fixed (history ++ more)
     → (state_after history).recorded ≡ Some l → (state_after (history ++ more)).recorded ≡ Some l
+
+-- And so does a parent that is held.
+abbrev pub ParentLasts : Type 0
+ParentLasts = (fixed : Fixed) (history more : List Event) (m : ℕ) (bytes : List ℕ) → IsLegal fixed (history ++ more)
+    → (state_after history).parents m ≡ Some bytes → (state_after (history ++ more)).parents m ≡ Some bytes
 
 -- Claims are apart: no chunk is claimed by two callers without a common name, none is both claimed and held, and
 -- all that are lie below the capacity. A caller's claims stay as long as others alone call.
@@ -72,6 +96,8 @@ commits c (Commit group piece committed) = in_mask group committed c
 commits c (Settle piece answer) = false
 commits c (Read at len bytes) = false
 commits c (Length recorded) = false
+commits c (Parents group piece answer) = false
+commits c (Serve at len answer) = false
 
 -- Each chunk that is held stands in exactly one Commit of the history, and no other does in any.
 abbrev pub CommittedOnce : Type 0
@@ -107,6 +133,23 @@ abbrev pub RecordIsSettled : Type 0
 RecordIsSettled = (fixed : Fixed) (history : List Event) (l : ℕ) → IsLegal fixed history → (state_after history).recorded ≡ Some l
     → IsSettled fixed history l
 
+-- The bytes are the parent at boundary m of an accepted piece that a history stored, and the piece claims the length
+-- that is recorded.
+pub record IsStored (fixed : Fixed) (history : List Event) (m : ℕ) (bytes : List ℕ) : Type 0 where
+  pub who : List Name
+  pub group : ℕ
+  pub piece : Piece
+  pub mask : ℕ
+  pub there : Contains history (record { who = who; call = Parents group piece (Stored mask) })
+  pub accepted : IsAcceptedPiece fixed piece
+  pub stored : in_mask group mask m ≡ true
+  pub has : parent_bytes piece m ≡ Some bytes
+  pub length_is : (state_after history).recorded ≡ Some (length_of piece)
+
+abbrev pub ParentIsStored : Type 0
+ParentIsStored = (fixed : Fixed) (history : List Event) (m : ℕ) (bytes : List ℕ) → IsLegal fixed history
+    → (state_after history).parents m ≡ Some bytes → IsStored fixed history m bytes
+
 -- the bytes have the store's root as their hash
 pub record IsBlob (fixed : Fixed) (blob : List ℕ) : Type 0 where
   pub bytes : AreBytes blob
@@ -123,6 +166,24 @@ abbrev pub HeldBinds : Type 0
 HeldBinds = (fixed : Fixed) (history : List Event) (blob : List ℕ) (c : ℕ) (bytes : List ℕ) → IsKeyed fixed.mode → IsBlob fixed blob
     → IsLegal fixed history → (state_after history).held c ≡ Some bytes
     → (chunk_of blob c ≡ Some bytes) ⊎ ((from : IsCommitted fixed history c bytes) × PairNamed fixed blob from.piece)
+
+-- A pair is named from the blob and a piece that a history committed, settled a length by, or stored parents of.
+pub data PairFrom (fixed : Fixed) (history : List Event) (blob : List ℕ) : Type 0 where
+  of_chunk : (c : ℕ) (bytes : List ℕ) (from : IsCommitted fixed history c bytes) → PairNamed fixed blob from.piece → PairFrom fixed history blob
+  of_length : (l : ℕ) (from : IsSettled fixed history l) → PairNamed fixed blob from.piece → PairFrom fixed history blob
+  of_parent : (m : ℕ) (bytes : List ℕ) (from : IsStored fixed history m bytes) → PairNamed fixed blob from.piece → PairFrom fixed history blob
+
+-- For each blob with the root: a parent that is held is the blob's at that boundary, or a pair is named.
+abbrev pub ParentHeldBinds : Type 0
+ParentHeldBinds = (fixed : Fixed) (history : List Event) (blob : List ℕ) (m : ℕ) (bytes : List ℕ) → IsKeyed fixed.mode → IsBlob fixed blob
+    → IsLegal fixed history → (state_after history).parents m ≡ Some bytes
+    → (parent_of fixed.mode blob m ≡ Some bytes) ⊎ PairFrom fixed history blob
+
+-- For each blob with the root: a text that is served is the blob's slice, or a pair is named.
+abbrev pub ServedBinds : Type 0
+ServedBinds = (fixed : Fixed) (history : List Event) (blob : List ℕ) (start len : ℕ) (text : List ℕ) → IsKeyed fixed.mode → IsBlob fixed blob
+    → IsLegal fixed history → serving (state_after history) start len ≡ Text text
+    → (text ≡ slice_text fixed.mode blob start len) ⊎ PairFrom fixed history blob
 
 -- x is the byte at position q of a chunk that a history committed
 pub record ByteFrom (fixed : Fixed) (history : List Event) (q x : ℕ) : Type 0 where

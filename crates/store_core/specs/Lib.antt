@@ -17,3 +17,4 @@ pub mod Served
 pub mod Replays
 pub mod Stages
 pub mod Orders
+pub mod Serves

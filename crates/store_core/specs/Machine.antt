@@ -46,6 +46,7 @@ store_of m = record {
   held = λ c. if is_shown m c then Some (cell_bytes (m.cell c)) else None;
   claim = λ c. option_map (λ n. n ∷ []) (m.claim c);
   recorded = m.recorded;
+  parents = λ p. None;
 }
 
 -- how many groups there are

@@ -7,6 +7,7 @@ use Rattle.bao_text.specs.Nodes.{Node}
 use Rattle.bao_check.specs.declared.checked.Checked.{Checked}
 use Rattle.bao_check.specs.Checked.{piece_len, piece_start, piece_text}
 use Rattle.bao_check.specs.Accepted.{IsAccepted, places_of, slice_nodes}
+use Rattle.bao_check.specs.Parents.{parent_in}
 use Rattle.bao_check.specs.Pieces.{chunk_in}
 use Rattle.store_core.specs.declared.fixed.Fixed.{Fixed}
 use Rattle.store_core.specs.declared.history.Piece.{Piece}
@@ -31,6 +32,13 @@ chunk_bytes piece c = chunk_in piece.text (places_in piece) c
 
 abbrev pub holds_chunk : Piece → ℕ → Bool
 holds_chunk piece c = is_some (chunk_bytes piece c)
+
+-- the 64 bytes of the parent whose right part begins at chunk m, if the piece holds it
+abbrev pub parent_bytes : Piece → ℕ → Option (List ℕ)
+parent_bytes piece m = parent_in piece.text (places_in piece) m
+
+abbrev pub holds_parent : Piece → ℕ → Bool
+holds_parent piece m = is_some (parent_bytes piece m)
 
 -- the length in bytes that the piece claims for the blob
 abbrev pub length_of : Piece → ℕ

@@ -28,7 +28,15 @@ abbrev pub slot_at : List Slot → ℕ → Slot
 slot_at slots c = slice_index_or slots c Free
 
 abbrev pub state_in : List Slot → Option ℕ → State
-state_in slots recorded = record { held = λ c. held_in (slot_at slots c); claim = λ c. claim_in (slot_at slots c); recorded = recorded }
+state_in slots recorded = record { held = λ c. held_in (slot_at slots c); claim = λ c. claim_in (slot_at slots c); recorded = recorded; parents = λ m. None }
+
+-- the parent at a boundary
+abbrev pub parents_in : List (Option (List ℕ)) → ℕ → Option (List ℕ)
+parents_in parents m = slice_index_or parents m None
+
+-- the state with these parents
+abbrev pub with_parents : State → List (Option (List ℕ)) → State
+with_parents s parents = record s { parents = parents_in parents }
 
 -- the byte at position q
 abbrev pub slot_byte : List Slot → ℕ → Option ℕ

@@ -1,17 +1,19 @@
--- The state of a store: which chunks it holds, who claims which, and the length of the blob once it is known.
+-- The state of a store: which chunks it holds, who claims which, the length of the blob once it is known, and which
+-- parents of its tree it holds.
 use Rattle.std.specs.Prelude.{◌≡◌, ℕ, zero, suc, ◌+◌, ◌/◌, ◌%◌, Bool, true, false, List, [], ◌∷◌, Option, None, Some, is_some, option_and_then, slice_get, if◌then◌else◌}
 use Rattle.store_core.specs.Names.{Name, has_name}
 
--- Each is a finite map, from the numbers of chunks: to a chunk's bytes, and to the name that claims it. The
--- last is the recorded length.
+-- Each is a finite map. Two are from the numbers of chunks: to a chunk's bytes, and to the name that claims it. The
+-- last is from a boundary to the 64 bytes of the parent whose right part begins at that chunk.
 pub record State : Type 0 where
   pub held : ℕ → Option (List ℕ)
   pub claim : ℕ → Option Name
   pub recorded : Option ℕ
+  pub parents : ℕ → Option (List ℕ)
 
 -- nothing is held, claimed or recorded
 abbrev pub empty : State
-empty = record { held = λ c. None; claim = λ c. None; recorded = None }
+empty = record { held = λ c. None; claim = λ c. None; recorded = None; parents = λ m. None }
 
 abbrev pub is_held : State → ℕ → Bool
 is_held s c = is_some (s.held c)

@@ -1,10 +1,19 @@
 -- What a store stands for, and what a call does to it.
-use Rattle.std.specs.Prelude.{◌≡◌, ℕ, ◌*◌, ◌<◌, List, ◌+◌, ◌++◌, length, drop, Option, None, Some, Result, Ok, Err, ◌⊎◌, ◌-◌, slice_get, slice_index, true}
+use Rattle.std.specs.Prelude.{◌≡◌, ℕ, ◌*◌, ◌/◌, ◌<◌, List, ◌+◌, ◌++◌, length, drop, Option, None, Some, Result, Ok, Err, ◌⊎◌, ◌-◌, slice_get, slice_index, Bool, true, false}
 use Rattle.b3tree.specs.declared.mode.Mode.{Mode}
 use Rattle.b3tree.specs.declared.values.Hash.{Hash}
 use Rattle.store_core.specs.declared.fixed.Fixed.{Fixed}
 use Rattle.store_core.specs.declared.history.Call.{Call}
-use Rattle.store_core.specs.declared.history.Call.TheVariants.{Read, Settle}
+use Rattle.store_core.specs.declared.history.Event.{Event}
+use Rattle.store_core.specs.declared.history.Call.TheVariants.{Parents, Read, Serve, Settle}
+use Rattle.store_core.specs.declared.history.Serving.{Serving}
+use Rattle.store_core.specs.declared.history.Serving.TheVariants.{Lacking, NoLength}
+use Rattle.store_core.specs.declared.fault.ServeFault.{ServeFault}
+use Rattle.store_core.specs.declared.fault.ServeFault.TheVariants as refused
+use Rattle.store_core.specs.declared.fault.StoreFault.{StoreFault}
+use Rattle.store_core.specs.declared.fault.StoreFault.TheVariants as unstored
+use Rattle.store_core.specs.declared.history.Storing.{Storing}
+use Rattle.store_core.specs.declared.history.Storing.TheVariants as storing
 use Rattle.store_core.specs.declared.history.Settling.{Settling}
 use Rattle.store_core.specs.declared.history.Settling.TheVariants.{Settled, Known, Differs, OtherRoot, TooLarge}
 use Rattle.store_core.specs.Pieces.{chunk_bytes, length_of, piece_of}
@@ -12,20 +21,22 @@ use Rattle.bao_check.specs.declared.checked.Checked.{Checked}
 use Rattle.store_core.specs.declared.fault.Missing.{Missing}
 use Rattle.store_core.specs.declared.store.Store.{Store}
 use Rattle.store_core.specs.Events.{IsRight, after_call}
-use Rattle.store_core.specs.Laws.{IsBlob, IsCommitted, IsSettled, PairNamed}
+use Rattle.store_core.specs.Laws.{IsBlob, IsCommitted, IsSettled, PairFrom, PairNamed}
+use Rattle.bao_text.specs.Texts.{slice_text}
 use Rattle.store_core.specs.Reached.{IsReached}
+use Rattle.bao_check.specs.Parents.{parent_of}
 use Rattle.bao_check.specs.Pieces.{chunk_of}
 use Rattle.store_core.specs.declared.history.Piece.{Piece}
 use Rattle.store_core.specs.Masks.{in_mask}
 use Rattle.store_core.specs.Names.{Name}
-use Rattle.store_core.specs.Slots.{state_in}
+use Rattle.store_core.specs.Slots.{state_in, with_parents}
 use Rattle.store_core.specs.States.{State, empty}
 
 abbrev pub fixed_of : Store → Fixed
 fixed_of store = store.fixed
 
 abbrev pub state_of : Store → State
-state_of store = state_in store.slots.items store.recorded
+state_of store = with_parents (state_in store.slots.items store.recorded) store.parents.items
 
 -- it has this root, mode and capacity, and nothing is held, claimed or recorded
 pub record IsNew (store : Store) (root : Hash) (mode : Mode) (capacity : ℕ) : Type 0 where
@@ -56,6 +67,17 @@ Settles old new piece Settled = (who : List Name) → IsEvent old new who (Settl
 Settles old new piece Known = (who : List Name) → IsEvent old new who (Settle (piece_of piece) Known)
 Settles old new piece Differs = (who : List Name) → IsEvent old new who (Settle (piece_of piece) Differs)
 
+-- Parents of a piece that are stored, or another length that it claims, are an event of the store, anybody's.
+abbrev pub DidStore : Store → Store → ℕ → Checked → Storing → Type 0
+DidStore old new group piece answer = (who : List Name) → IsEvent old new who (Parents group (piece_of piece) answer)
+
+-- what refused parents say: another length alone is an event, and the store stands for the same
+abbrev pub IsUnstored : Store → Store → ℕ → Checked → StoreFault → Type 0
+IsUnstored old new group piece unstored.Memory = IsSame old new
+IsUnstored old new group piece unstored.NoGroup = IsSame old new
+IsUnstored old new group piece unstored.OtherRoot = IsSame old new
+IsUnstored old new group piece unstored.OtherLength = IsSame old new × DidStore old new group piece storing.OtherLength
+
 -- the position that a read answers, if it does
 abbrev pub missing_in : Result Unit Missing → Option ℕ
 missing_in (Ok done) = None
@@ -74,19 +96,15 @@ pub record DidRead (store : Store) (at : ℕ) (old new : List ℕ) (missing : Op
   pub filled : new ≡ bytes ++ drop (length bytes) old
   pub answer : Answers at (length old) bytes missing
 
--- A pair is named from a blob and from a piece that some history of the store, one that leads to its state, committed.
-pub record PairCommitted (fixed : Fixed) (s : State) (blob : List ℕ) : Type 0 where
-  pub reached : IsReached fixed s
-  pub chunk : ℕ
+-- A pair is named from a blob and from the piece of which a history committed chunk c.
+pub record PairCommitted (fixed : Fixed) (history : List Event) (blob : List ℕ) (c : ℕ) : Type 0 where
   pub bytes : List ℕ
-  pub committed : IsCommitted fixed reached.history chunk bytes
+  pub committed : IsCommitted fixed history c bytes
   pub pair : PairNamed fixed blob committed.piece
 
--- or from one by which such a history settled the length
-pub record PairSettled (fixed : Fixed) (s : State) (blob : List ℕ) : Type 0 where
-  pub reached : IsReached fixed s
-  pub recorded : ℕ
-  pub settled : IsSettled fixed reached.history recorded
+-- or from the one by which it settled the length
+pub record PairSettled (fixed : Fixed) (history : List Event) (blob : List ℕ) (l : ℕ) : Type 0 where
+  pub settled : IsSettled fixed history l
   pub pair : PairNamed fixed blob settled.piece
 
 -- how many bytes a read filled in
@@ -94,17 +112,51 @@ abbrev pub filled_count : ℕ → ℕ → Option ℕ → ℕ
 filled_count at len None = len
 filled_count at len (Some p) = p - at
 
--- each byte filled in is the byte there of each blob with the store's root, or a pair is named
+-- For each blob with the store's root and every legal history that leads to the store: each byte filled in is the blob's
+-- byte there, or a pair is named from the blob and the piece of which this history committed the byte's chunk.
 abbrev pub ReadBinds : Store → ℕ → List ℕ → ℕ → Type 0
-ReadBinds store at bytes count = (blob : List ℕ) → IsBlob (fixed_of store) blob → (i : ℕ) → i < count
-    → ∥ (slice_get blob (at + i) ≡ Some (slice_index bytes i)) ⊎ PairCommitted (fixed_of store) (state_of store) blob ∥₁
+ReadBinds store at bytes count = (blob : List ℕ) → IsBlob (fixed_of store) blob → (by : IsReached (fixed_of store) (state_of store)) → (i : ℕ) → i < count
+    → (slice_get blob (at + i) ≡ Some (slice_index bytes i)) ⊎ PairCommitted (fixed_of store) by.history blob ((at + i) / 1024)
 
--- and a recorded length is the length of each
+-- and a recorded length is the length of each, or a pair is named from the blob and the piece by which it settled it
 abbrev pub LengthBinds : Store → ℕ → Type 0
-LengthBinds store l = (blob : List ℕ) → IsBlob (fixed_of store) blob → ∥ (l ≡ length blob) ⊎ PairSettled (fixed_of store) (state_of store) blob ∥₁
+LengthBinds store l = (blob : List ℕ) → IsBlob (fixed_of store) blob → (by : IsReached (fixed_of store) (state_of store))
+    → (l ≡ length blob) ⊎ PairSettled (fixed_of store) by.history blob l
 
 -- For each blob with the store's root, each chunk of the group's mask that the piece has is the blob's chunk of that
 -- number, or a pair is named from the blob and the piece.
 abbrev pub ChunksBind : Fixed → Piece → ℕ → ℕ → Type 0
 ChunksBind fixed piece group mask = (blob : List ℕ) → IsBlob fixed blob → (c : ℕ) (bytes : List ℕ) → in_mask group mask c ≡ true
     → chunk_bytes piece c ≡ Some bytes → (chunk_of blob c ≡ Some bytes) ⊎ PairNamed fixed blob piece
+
+-- For each blob with the store's root, the length that the piece claims is the blob's, or a pair is named from the blob and
+-- the piece.
+abbrev pub ClaimBinds : Fixed → Piece → Type 0
+ClaimBinds fixed piece = (blob : List ℕ) → IsBlob fixed blob → (length_of piece ≡ length blob) ⊎ PairNamed fixed blob piece
+
+-- The slice's answer is an event of the store, anybody's, which leaves it.
+abbrev pub DidServe : Store → ℕ → ℕ → Serving → Type 0
+DidServe store start len answer = (who : List Name) → IsEvent store store who (Serve start len answer)
+
+-- what a refused slice says: want of memory alone is no event
+abbrev pub IsRefused : Store → ℕ → ℕ → ServeFault → Type 0
+IsRefused store start len refused.NoLength = DidServe store start len NoLength
+IsRefused store start len (refused.Lacking node) = DidServe store start len (Lacking node)
+IsRefused store start len refused.Memory = Unit {0}
+
+-- the bytes gained are those of a node, where they are held
+abbrev pub GainsNode : Option (List ℕ) → List ℕ → List ℕ → Bool → Type 0
+GainsNode None old new there = there ≡ false
+GainsNode (Some bytes) old new there = (there ≡ true) × (new ≡ old ++ bytes)
+
+-- For each blob with the root and every legal history that leads to the store: a text that is served is the blob's slice,
+-- or a pair is named from the blob and a piece of this history.
+abbrev pub SliceBinds : Store → ℕ → ℕ → List ℕ → Type 0
+SliceBinds store start len text = (blob : List ℕ) → IsBlob (fixed_of store) blob → (by : IsReached (fixed_of store) (state_of store))
+    → (text ≡ slice_text (fixed_of store).mode blob start len) ⊎ PairFrom (fixed_of store) by.history blob
+
+-- Each parent that is held is the blob's at that boundary, or such a pair is named.
+abbrev pub ParentsBind : Store → Type 0
+ParentsBind store = (blob : List ℕ) → IsBlob (fixed_of store) blob → (by : IsReached (fixed_of store) (state_of store))
+    → (m : ℕ) (bytes : List ℕ) → (state_of store).parents m ≡ Some bytes
+    → (parent_of (fixed_of store).mode blob m ≡ Some bytes) ⊎ PairFrom (fixed_of store) by.history blob

@@ -1,8 +1,9 @@
 -- What a seat knows, and how seats split and join.
-use Rattle.std.specs.Prelude.{◌≡◌, ℕ, ◌+◌, ◌/◌, ◌==◌, Bool, not, if◌then◌else◌, List, [], ◌∷◌, ◌++◌, map, filter, Option, None, Some}
+use Rattle.std.specs.Prelude.{◌≡◌, ℕ, ◌+◌, ◌/◌, ◌==◌, Bool, false, not, ◌||◌, if◌then◌else◌, List, [], ◌∷◌, ◌++◌, map, filter, Option, None, Some}
 use Rattle.store_core.specs.declared.history.Call.{Call}
-use Rattle.store_core.specs.declared.history.Call.TheVariants.{Take, Give, Commit, Settle, Read, Length}
+use Rattle.store_core.specs.declared.history.Call.TheVariants.{Take, Give, Commit, Settle, Read, Length, Parents, Serve}
 use Rattle.store_core.specs.declared.history.Event.{Event}
+use Rattle.store_core.specs.declared.view.Boundaries.{Boundaries}
 use Rattle.store_core.specs.declared.view.Named.{Named}
 use Rattle.store_core.specs.declared.view.SeatView.{SeatView}
 use Rattle.store_core.specs.declared.view.StoredWord.{StoredWord}
@@ -10,6 +11,15 @@ use Rattle.store_core.specs.Masks.{in_mask}
 use Rattle.store_core.specs.Names.{Name, name_le}
 use Rattle.store_core.specs.States.{claims}
 use Rattle.store_core.specs.Histories.{AreOfOthers, events_of, state_after}
+
+-- whether a boundary is one of these
+abbrev pub is_boundary : List Boundaries → ℕ → Bool
+is_boundary [] m = false
+is_boundary (b ∷ rest) m = in_mask b.group b.mask m || is_boundary rest m
+
+-- whether the seat is storing the parent of a boundary
+abbrev pub is_storing : SeatView → ℕ → Bool
+is_storing view m = is_boundary view.storing m
 
 abbrev pub names_of : SeatView → List Name
 names_of view = map (λ named. named.name) view.names
@@ -39,6 +49,8 @@ written_after (Commit group piece committed) words = without_chunks group commit
 written_after (Settle piece answer) words = words
 written_after (Read at len bytes) words = words
 written_after (Length recorded) words = words
+written_after (Parents group piece answer) words = words
+written_after (Serve start len answer) words = words
 
 -- A split raises the count of the least name, which stands first, and changes nothing else of the seat.
 abbrev pub raise_least : List Named → List Named
@@ -55,7 +67,7 @@ new_names [] = []
 new_names (named ∷ names) = record { name = named.name ++ named.splits ∷ []; splits = 0 } ∷ []
 
 abbrev pub split_second : SeatView → SeatView
-split_second view = record { fixed = view.fixed; names = new_names view.names; seen = view.seen; written = [] }
+split_second view = record { fixed = view.fixed; names = new_names view.names; seen = view.seen; written = []; storing = []; parent_words = [] }
 
 -- a name with its count put among others, in dictionary order
 abbrev pub put_name : Named → List Named → List Named
@@ -81,3 +93,5 @@ pub record IsJoined (first second joined : SeatView) : Type 0 where
   pub after_first : Continues first joined.seen
   pub after_second : Continues second joined.seen
   pub written_are : joined.written ≡ first.written ++ second.written
+  pub storing_are : joined.storing ≡ first.storing ++ second.storing
+  pub parent_words_are : joined.parent_words ≡ first.parent_words ++ second.parent_words

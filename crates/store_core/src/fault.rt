@@ -1,5 +1,6 @@
 ghost use Rattle.std.specs.Prelude.{◌≡◌};
 
+use bao_text::Node;
 use std::alloc::AllocError;
 use thiserror::Error;
 
@@ -17,7 +18,7 @@ impl BadCapacity {
     }
 }
 
-/// Why a store did not take or commit chunks. It is unchanged.
+/// Why a store did not take or commit chunks, or parents. It is unchanged.
 #[derive(Clone, Copy, Debug, PartialEq, Eq, Error)]
 pub enum StoreFault {
     /// There was no memory. Number 701.
@@ -29,6 +30,9 @@ pub enum StoreFault {
     /// The piece is of another root or mode. Number 804.
     #[error("804 other root")]
     OtherRoot,
+    /// The recorded length isn't the one that the piece claims, or there is none. Number 807.
+    #[error("807 other length")]
+    OtherLength,
 }
 
 impl From<AllocError> for StoreFault {
@@ -44,7 +48,7 @@ impl From<AllocError> for StoreFault {
 impl StoreFault {
     ghost use Rattle.store_core.specs.Faults.{number_of};
 
-    /// The fault's number: 701, 803 or 804.
+    /// The fault's number: 701, 803, 804 or 807.
     pub fn code(&self) -> u16
         ensures { result ≡ number_of self.now }
     {
@@ -52,6 +56,46 @@ impl StoreFault {
             StoreFault::Memory => 701,
             StoreFault::NoGroup => 803,
             StoreFault::OtherRoot => 804,
+            StoreFault::OtherLength => 807,
+        }
+    }
+}
+
+/// Why a slice was not served. The store is unchanged.
+#[derive(Clone, Copy, Debug, PartialEq, Eq, Error)]
+pub enum ServeFault {
+    /// No length is recorded. Number 808.
+    #[error("808 no length")]
+    NoLength,
+    /// This node is the first of the slice's that isn't held. Number 809.
+    #[error("809 lacking")]
+    Lacking(Node),
+    /// There was no memory. Number 810.
+    #[error("810 memory")]
+    Memory,
+}
+
+impl From<AllocError> for ServeFault {
+    ghost use Rattle.store_core.specs.declared.fault.ServeFault.{ServeFault};
+
+    ghost from_gives = { λ _ fault. fault ≡ ServeFault.Memory };
+
+    fn from(_memory: AllocError) -> ServeFault {
+        ServeFault::Memory
+    }
+}
+
+impl ServeFault {
+    ghost use Rattle.store_core.specs.Faults.{serve_number_of};
+
+    /// The fault's number: 808, 809 or 810.
+    pub fn code(&self) -> u16
+        ensures { result ≡ serve_number_of self.now }
+    {
+        match self {
+            ServeFault::NoLength => 808,
+            ServeFault::Lacking(_) => 809,
+            ServeFault::Memory => 810,
         }
     }
 }
@@ -81,5 +125,20 @@ impl From<AllocError> for ReplayFault {
 
     fn from(_memory: AllocError) -> ReplayFault {
         ReplayFault::Memory
+    }
+}
+
+impl ReplayFault {
+    ghost use Rattle.store_core.specs.Faults.{replay_number_of};
+
+    /// The fault's number: 701, 702 or 802.
+    pub fn code(&self) -> u16
+        ensures { result ≡ replay_number_of self.now }
+    {
+        match self {
+            ReplayFault::Memory => 701,
+            ReplayFault::Illegal { .. } => 702,
+            ReplayFault::Capacity => 802,
+        }
     }
 }

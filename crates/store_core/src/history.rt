@@ -1,3 +1,4 @@
+use bao_text::Node;
 use std::collections::LinkedList;
 
 // The types of histories. Contracts and views speak of their values; no program makes one.
@@ -23,6 +24,26 @@ pub enum Settling {
     OtherRoot,
     /// The length is above what the store has room for: nothing is asked. Number 805.
     TooLarge,
+}
+
+/// What storing a piece's parents meets.
+#[derive(Clone, Copy, Debug, PartialEq, Eq)]
+pub enum Storing {
+    /// The recorded length isn't the one that the piece claims, or there is none.
+    OtherLength,
+    /// The mask of the boundaries whose parents are stored now: bit j stands for boundary 64 * group + j.
+    Stored(u64),
+}
+
+/// What a slice that is asked for meets.
+#[derive(Drop)]
+pub enum Serving {
+    /// No length is recorded.
+    NoLength,
+    /// This node, the first of the slice's, isn't held.
+    Lacking(Node),
+    /// The slice's text.
+    Text(LinkedList<u8>),
 }
 
 /// A call of a store with its reply, which stands last. A mask is of the chunks of a group: bit j stands for
@@ -61,6 +82,18 @@ pub enum Call {
     /// The recorded length, if there is one.
     Length {
         recorded: Option<u64>,
+    },
+    /// Parents of a piece are stored: of its boundaries of the group, some or all that aren't held.
+    Parents {
+        group: u32,
+        piece: Piece,
+        answer: Storing,
+    },
+    /// The text of the slice (start, len) is put together from the length and from what is held.
+    Serve {
+        start: u64,
+        len: u64,
+        answer: Serving,
     },
 }
 

@@ -1,7 +1,7 @@
-ghost use Rattle.store_core.specs.Laws.{ByteBinds, ClaimsApart, ClaimsLast, CommittedOnce, HeldBinds, HeldIsCommitted, HeldLasts, JoinKeeps, LegalIsSound, ReadMeans, RecordBinds, RecordIsSettled, RecordLasts, RunsAreLegal, RunsAreOne, SplitKeeps, StateDetermines};
+ghost use Rattle.store_core.specs.Laws.{ByteBinds, ClaimsApart, ClaimsLast, CommittedOnce, HeldBinds, HeldIsCommitted, HeldLasts, JoinKeeps, ParentHeldBinds, ParentIsStored, ParentLasts, LegalIsSound, ReadMeans, RecordBinds, RecordIsSettled, RecordLasts, RunsAreLegal, RunsAreOne, ServedBinds, SplitKeeps, StateDetermines};
 ghost use Rattle.store_core.specs.Orders.{JoinKeepsOrder, SplitKeepsOrder};
 
-/// The state after a history determines every reply. A law: nothing runs.
+/// The state after a history determines every reply, but for which parents are stored. A law: nothing runs.
 pub fn state_determines()
     ensures { StateDetermines }
 {}
@@ -64,4 +64,19 @@ pub fn names_stay_in_order()
 pub fn runs_are_legal()
     ensures legal { RunsAreLegal }
     ensures one { RunsAreOne }
+{}
+
+/// A parent that is held stays with its bytes, and is that of a piece from which it was stored, which claims the recorded
+/// length. A law: nothing runs.
+pub fn parents_last()
+    ensures last { ParentLasts }
+    ensures stored { ParentIsStored }
+{}
+
+/// For each blob with the root of a store: a parent that the store holds is the blob's parent at that boundary, and a
+/// text that it serves is the blob's slice; or a pair of inputs is named, one of the blob's and one of a piece's that was
+/// committed or settled or whose parents were stored, that differ and have one chaining value. A law: nothing runs.
+pub fn served_binds()
+    ensures parent { ParentHeldBinds }
+    ensures text { ServedBinds }
 {}

@@ -1,17 +1,17 @@
 //! The one-thread store of a blob's chunks: its state, its events, their histories, and a seat's view.
 #![tactic(auto)]
 
-pub use fault::{BadCapacity, Missing, ReplayFault, StoreFault};
+pub use fault::{BadCapacity, Missing, ReplayFault, ServeFault, StoreFault};
 pub use fixed::Fixed;
-pub use history::{Call, Event, Piece, Settling};
+pub use history::{Call, Event, Piece, Serving, Settling, Storing};
 pub use law::{
     claims_apart, held_binds, held_is_committed, held_lasts, join_keeps, names_stay_in_order,
-    read_means, runs_are_legal, state_determines,
+    parents_last, read_means, runs_are_legal, served_binds, state_determines,
 };
 pub use micro::{MicroStep, ReadBytes, Reply};
 pub use schedule::replay;
 pub use store::{MAX_CAPACITY, Store};
-pub use view::{Named, SeatView, StoredWord};
+pub use view::{Boundaries, Named, SeatView, StoredWord};
 
 mod bytes;
 mod fault;
@@ -20,6 +20,7 @@ mod history;
 mod law;
 mod masks;
 mod micro;
+mod parents;
 mod reading;
 mod schedule;
 mod slot;

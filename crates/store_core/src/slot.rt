@@ -1,6 +1,7 @@
 ghost use Rattle.std.specs.Prelude.{◌≡◌, ℕ, ◌<◌, ◌≤◌, ◌%◌, max, is_some, IfOk, OnOk, length, true, nat_lt, ◌&&◌, if◌then◌else◌};
 ghost use Rattle.store_core.specs.Masks.{IsMaskOf, has_bit, in_mask};
 ghost use Rattle.store_core.specs.Pieces.{holds_chunk, piece_of};
+ghost use Rattle.std.specs.Option.{option_copied};
 ghost use Rattle.store_core.specs.Slots.{AreCopies, IsCopy, claimed_slot, held_in, is_of, picks, slot_at};
 
 use crate::masks::{GROUP_LEN, has_bit, with_bit};
@@ -65,6 +66,16 @@ pub(crate) fn is_held(slots: &[Slot], c: usize) -> bool
     ensures { result ≡ is_some (held_in (slot_at slots.now c)) }
 {
     matches!(slots.get(c), Some(Slot::Held(_)))
+}
+
+// The bytes of chunk `c`, if it is held.
+pub(crate) fn held_chunk(slots: &[Slot], c: usize) -> Option<&[u8]>
+    ensures { option_copied result ≡ held_in (slot_at slots.now c) }
+{
+    match slots.get(c) {
+        Some(Slot::Held(bytes)) => Some(bytes.as_slice()),
+        _ => None,
+    }
 }
 
 // Whether chunk `c` has a slot and is picked.

@@ -1,16 +1,20 @@
-ghost use Rattle.std.specs.Prelude.{◌≡◌, ◌≢◌, ◌↔◌, ◌*◌, ℕ, ◌<◌, ◌≤◌, IfOk, IfSome, IsOk, IsErrOf, IsTrue, MatchResult, OnErr, List, length};
-ghost use Rattle.store_core.specs.Slots.{caller, state_in};
+ghost use Rattle.std.specs.Prelude.{◌≡◌, ◌≢◌, ◌↔◌, ◌*◌, ℕ, ◌<◌, ◌≤◌, IfErr, IfOk, IfSome, IsOk, IsErrOf, IsTrue, MatchResult, None, OnErr, List, is_some, length, not, ◌&&◌};
+ghost use Rattle.store_core.specs.Slots.{caller, state_in, with_parents};
 ghost use Rattle.store_core.specs.Reached.{IsReached};
 
 use crate::bytes::{bytes_from, put_bytes};
-use crate::fault::{BadCapacity, Missing, StoreFault};
+use crate::fault::{BadCapacity, Missing, ServeFault, StoreFault};
 use crate::fixed::Fixed;
 use crate::history::Settling;
 use crate::masks::GROUP_LEN;
-use crate::slot::{Pick, Slot, chosen, copies, grow, is_held, is_picked, put_claims, put_ready};
+use crate::parents::{held_parent, make_room, put_parents, wanted};
+use crate::slot::{
+    Pick, Slot, chosen, copies, grow, held_chunk, is_held, is_picked, put_claims, put_ready,
+};
 use b3tree::{CHUNK_LEN, Hash, Mode};
 use bao_check::{Checked, Tail};
-use std::alloc::Global;
+use bao_text::{Node, nodes};
+use std::alloc::{AllocError, Global};
 
 /// The most chunks that a store has room for.
 pub const MAX_CAPACITY: u32 = 65_536;
@@ -23,20 +27,28 @@ pub struct Store {
     alloc: Global,
     slots: Vec<Slot>,
     recorded: Option<u64>,
+    // The parents by boundary, as far as any was stored.
+    parents: Vec<Option<[u8; 64]>>,
     ghost limit: { fixed.capacity ≤ 65536 },
     ghost within: { length slots.items ≤ fixed.capacity },
-    ghost reached: { ∥ IsReached fixed (state_in slots.items recorded) ∥₁ },
+    ghost reached: { ∥ IsReached fixed (with_parents (state_in slots.items recorded) parents.items) ∥₁ },
 }
 
 impl Store {
     ghost use Rattle.store_core.specs.declared.history.Call.TheVariants.{Commit, Give, Length, Take};
-    ghost use Rattle.store_core.specs.declared.fault.StoreFault.TheVariants.{NoGroup, OtherRoot};
+    ghost use Rattle.store_core.specs.declared.fault.StoreFault.TheVariants.{NoGroup, OtherLength, OtherRoot};
+    ghost use Rattle.store_core.specs.declared.fault.ServeFault.TheVariants.{NoLength};
+    ghost use Rattle.store_core.specs.declared.history.Settling.TheVariants.{OtherRoot as RootIsOther};
+    ghost use Rattle.store_core.specs.declared.history.Storing.TheVariants.{Stored};
     ghost use Rattle.store_core.specs.Machine.{groups};
+    ghost use Rattle.store_core.specs.Masks.{IsMaskOf};
     ghost use Rattle.bao_check.specs.Tail.{tail_piece};
     ghost use Rattle.store_core.specs.Names.{Name};
-    ghost use Rattle.store_core.specs.Pieces.{piece_of};
+    ghost use Rattle.store_core.specs.Pieces.{holds_parent, length_of, piece_of};
+    ghost use Rattle.store_core.specs.declared.history.Serving.TheVariants.{Text};
+    ghost use Rattle.store_core.specs.Serves.{node_held};
     ghost use Rattle.store_core.specs.States.{claims, empty, held_count};
-    ghost use Rattle.store_core.specs.Stores.{ChunksBind, DidRead, IsEvent, IsNew, IsOf, IsSame, LengthBinds, ReadBinds, Settles, filled_count, fixed_of, missing_in, state_of};
+    ghost use Rattle.store_core.specs.Stores.{ChunksBind, ClaimBinds, DidRead, DidServe, DidStore, GainsNode, IsEvent, IsNew, IsOf, IsRefused, IsSame, IsUnstored, LengthBinds, ParentsBind, ReadBinds, Settles, SliceBinds, filled_count, fixed_of, missing_in, state_of};
 
     /// A store that holds, claims and records nothing. It takes no memory.
     ///
@@ -57,6 +69,7 @@ impl Store {
             alloc,
             slots: Vec::new(alloc),
             recorded: None,
+            parents: Vec::new(alloc),
         })
     }
 
@@ -106,6 +119,7 @@ impl Store {
         ensures err { OnErr result (IsSame self.old self.new) }
         ensures no_group { IsErrOf result NoGroup ↔ (groups (fixed_of self.old) ≤ group) }
         ensures never { result ≢ Err OtherRoot }
+        ensures never_length { result ≢ Err OtherLength }
     {
         if group >= self.groups() {
             return Err(StoreFault::NoGroup);
@@ -135,9 +149,14 @@ impl Store {
     ///
     /// 804 `OtherRoot`, asked before all else, where the piece is of another root or mode, and 805 `TooLarge` where the
     /// length is above 1,024 times the capacity. The store is then unchanged.
+    ///
+    /// For each blob with the store's root, the length of a piece that isn't `OtherRoot` is the blob's; or two different
+    /// inputs with one chaining value are named, one of the blob's and one of this piece's.
     pub fn settle(&mut self, tail: &Tail<'_>) -> Settling
-        ensures { Settles self.old self.new (tail_piece tail.now) result }
+        ensures event { Settles self.old self.new (tail_piece tail.now) result }
+        ensures binds { result ≢ RootIsOther → ClaimBinds (fixed_of self.old) (piece_of (tail_piece tail.now)) }
     {
+        self.fixed.mode.is_keyed();
         tail.is_last();
         if !self.fixed.is_of(&tail.root(), &tail.mode()) {
             return Settling::OtherRoot;
@@ -163,8 +182,9 @@ impl Store {
 
     /// The recorded length in bytes, if there is one. It takes no memory.
     ///
-    /// For each blob with the store's root it is the blob's length; or two different inputs with one chaining value
-    /// are named, one of the blob's and one of a piece's by which it was settled.
+    /// For each blob with the store's root it is the blob's length; or, whatever legal history led to the store, two
+    /// different inputs with one chaining value are named, one of the blob's and one of the piece's by which that history
+    /// settled it.
     pub fn length(&self) -> Option<u64>
         ensures event { (who : List Name) → IsEvent self.now self.now who (Length result) }
         ensures binds { IfSome result (λ l. LengthBinds self.now l) }
@@ -173,6 +193,11 @@ impl Store {
         self.fixed.mode.is_keyed();
         self.recorded
     }
+
+    /// Some legal history leads to the store: a law, for proofs over stores. Nothing runs.
+    pub fn is_reached(&self)
+        ensures { ∥ IsReached (fixed_of self.now) (state_of self.now) ∥₁ }
+    {}
 
     /// How many chunks are held.
     pub fn held_count(&self) -> u64
@@ -199,7 +224,9 @@ impl Store {
         ensures ok { IfOk result (λ committed. IsEvent self.old self.new (caller seat) (Commit group (piece_of piece.now) committed)) }
         ensures err { OnErr result (IsSame self.old self.new) }
         ensures other_root { IsErrOf result OtherRoot ↔ (¬ IsOf (fixed_of self.old) piece.now) }
+        ensures absent { IsOf (fixed_of self.old) piece.now → groups (fixed_of self.old) ≤ group → result ≡ Ok 0 }
         ensures never { result ≢ Err NoGroup }
+        ensures never_length { result ≢ Err OtherLength }
         ensures binds { IfOk result (λ committed. ChunksBind (fixed_of self.old) (piece_of piece.now) group committed) }
     {
         self.fixed.mode.is_keyed();
@@ -228,8 +255,9 @@ impl Store {
     /// rest of `out` is unchanged. A position is held if its chunk is and has more bytes than come before it there;
     /// none at or above 1,024 times the capacity is. An empty buffer is Ok.
     ///
-    /// For each blob with the store's root, each byte filled in is the blob's byte there; or two different inputs
-    /// with one chaining value are named, one of the blob's and one of a piece's that was committed.
+    /// For each blob with the store's root, each byte filled in is the blob's byte there; or, whatever legal history led
+    /// to the store, two different inputs with one chaining value are named, one of the blob's and one of the piece's of
+    /// which that history committed the byte's chunk.
     pub fn read(&self, at: u64, out: &mut [u8]) -> Result<(), Missing>
         ensures event { DidRead self.now at out.old out.new (missing_in result) }
         ensures binds { ReadBinds self.now at out.new (filled_count at (length out.old) (missing_in result)) }
@@ -247,5 +275,85 @@ impl Store {
             done += count;
         }
         Ok(())
+    }
+
+    /// Stores the piece's parents at all boundaries of a group where none is held, and answers their mask: bit j stands
+    /// for the parent whose right part begins at chunk 64 * group + j. 0 for a group that isn't there.
+    ///
+    /// 804 `OtherRoot`, asked before all else, where the piece is of another root or mode, 807 `OtherLength` where the length
+    /// that it claims isn't the recorded one, or there is none, and 701 `Memory`. The store then stands for the same.
+    ///
+    /// For each blob with the store's root, each parent that is then held is the blob's parent there; or, whatever legal
+    /// history led to the store, two different inputs with one chaining value are named, one of the blob's and one of a
+    /// piece's that this history committed, settled or stored parents of.
+    pub fn commit_parents(&mut self, group: u32, piece: &Checked<'_>) -> Result<u64, StoreFault>
+        ensures ok { IfOk result (λ mask. DidStore self.old self.new group piece.now (Stored mask)) }
+        ensures all { IfOk result (λ mask. IsMaskOf group mask (λ m. holds_parent (piece_of piece.now) m && not (is_some ((state_of self.old).parents m)))) }
+        ensures other_root { IsErrOf result OtherRoot ↔ (¬ IsOf (fixed_of self.old) piece.now) }
+        ensures other_length { IsErrOf result OtherLength ↔ (IsOf (fixed_of self.old) piece.now × ((state_of self.old).recorded ≢ Some (length_of (piece_of piece.now)))) }
+        ensures refused { IfErr result (λ fault. IsUnstored self.old self.new group piece.now fault) }
+        ensures never { result ≢ Err NoGroup }
+        ensures binds { IfOk result (λ _. ParentsBind self.new) }
+    {
+        self.fixed.mode.is_keyed();
+        piece.is_accepted();
+        if !self.is_of(piece) {
+            return Err(StoreFault::OtherRoot);
+        }
+        if self.recorded != Some(piece.claimed()) {
+            return Err(StoreFault::OtherLength);
+        }
+        let mask = wanted(self.parents.as_slice(), group, piece);
+        if mask == 0 {
+            return Ok(0);
+        }
+        make_room(&mut self.parents, GROUP_LEN * (group as usize + 1))?;
+        put_parents(self.parents.as_mut_slice(), group, mask, piece);
+        Ok(mask)
+    }
+
+    // Appends the bytes that are held of a node, and answers whether they are held.
+    fn append_node(&self, node: &Node, out: &mut Vec<u8>) -> Result<bool, AllocError>
+        ensures { IfOk result (λ there. GainsNode (node_held (state_of self.now) node.now) out.old.items out.new.items there) }
+    {
+        let bytes = match node {
+            Node::Chunk(c) => held_chunk(self.slots.as_slice(), *c as usize),
+            Node::Parent(m) => held_parent(self.parents.as_slice(), *m as usize),
+        };
+        match bytes {
+            Some(bytes) => {
+                out.extend_from_slice(bytes)?;
+                Ok(true)
+            }
+            None => Ok(false),
+        }
+    }
+
+    /// The text of the slice (`start`, `len`) of the blob: the recorded length, and the bytes of the slice's nodes.
+    ///
+    /// 808 `NoLength` where no length is recorded, 809 `Lacking` with the first node in the text's order that isn't held,
+    /// and 810 `Memory`.
+    ///
+    /// For each blob with the store's root it is the blob's slice; or, whatever legal history led to the store, two
+    /// different inputs with one chaining value are named, one of the blob's and one of a piece's that this history
+    /// committed, settled or stored parents of.
+    pub fn serve_slice(&self, start: u64, len: u64) -> Result<Vec<u8>, ServeFault>
+        ensures served { IfOk result (λ text. DidServe self.now start len (Text text.items)) }
+        ensures refused { IfErr result (λ fault. IsRefused self.now start len fault) }
+        ensures no_length { IsErrOf result NoLength ↔ ((state_of self.now).recorded ≡ None) }
+        ensures binds { IfOk result (λ text. SliceBinds self.now start len text.items) }
+    {
+        self.fixed.mode.is_keyed();
+        let Some(length) = self.recorded else {
+            return Err(ServeFault::NoLength);
+        };
+        let mut out = Vec::new(self.alloc);
+        out.extend_from_slice(&length.to_le_bytes())?;
+        for node in nodes(length, start, len) {
+            if !self.append_node(&node, &mut out)? {
+                return Err(ServeFault::Lacking(node));
+            }
+        }
+        Ok(out)
     }
 }

@@ -16,12 +16,22 @@ pub struct StoredWord {
     pub value: u64,
 }
 
-/// What a seat of a store knows: its names in dictionary order, the history that it has seen, and the
-/// cell words that it stored for chunks that it claims, the newest first. Contracts alone speak of it.
+/// Boundaries of a group, by a mask: bit j stands for boundary 64 * group + j.
+#[derive(Clone, Copy, Debug)]
+pub struct Boundaries {
+    pub group: u64,
+    pub mask: u64,
+}
+
+/// What a seat of a store knows: its names in dictionary order, the history that it has seen, the
+/// cell words that it stored for chunks that it claims, the newest first, the boundaries whose parents it is storing, and
+/// the words that it stored for these: word w of boundary m's parent has the number 8 * m + w. Contracts alone speak of it.
 #[derive(Drop)]
 pub struct SeatView {
     pub fixed: Fixed,
     pub names: LinkedList<Named>,
     pub seen: LinkedList<Event>,
     pub written: LinkedList<StoredWord>,
+    pub storing: LinkedList<Boundaries>,
+    pub parent_words: LinkedList<StoredWord>,
 }

@@ -1,7 +1,8 @@
 use Rattle.std.proofs.Common.{◌≡◌, ℕ, ◌+◌, ◌*◌, ◌<◌, true, List, length, set, get_or, sym, ap, ◌∙◌, arith}
 use Rattle.store_core.specs.declared.slot.Slot.{Slot}
 use Rattle.store_core.specs.Slots.{slot_at}
-use Rattle.store_core.proofs.Choosing.{IsPutUpTo, in_mask_at, put_less, put_more, read_again, rest_more}
+use Rattle.store_core.proofs.Choosing.{IsPutUpTo, put_less, put_more, read_again, rest_more}
+use Rattle.store_core.proofs.Putting.{in_mask_at}
 use Rattle.store_core.proofs.slot.put_ready.Goals as goal
 use Rattle.store_core.proofs.slot.put_ready.Goals.{then-has_bit+in-Held-1, then-has_bit+in-Free-1, else-has_bit}
 

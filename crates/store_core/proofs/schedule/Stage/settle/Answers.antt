@@ -15,7 +15,7 @@ pub returns-clause-ok : goal.returns-clause-ok
 returns-clause-ok c = λ pieces m texts served is.
     let s = c.args.self.now in
     let settles : Settles s.store c.settle-answer.new.self c.in-Some.piece c.settle-answer.result =
-    subst (λ (p : Checked). Settles s.store c.settle-answer.new.self p c.settle-answer.result) c.in-Some-tail.ensures.piece c.settle-answer.ensures in
+    subst (λ (p : Checked). Settles s.store c.settle-answer.new.self p c.settle-answer.result) c.in-Some-tail.ensures.piece c.settle-answer.ensures.event in
     stepped s.store.fixed pieces _ m _ _ (settle_fixed s.store c.settle-answer.new.self c.in-Some.piece c.settle-answer.result settles)
     (settle_next pieces s.store c.settle-answer.new.self s.players.items c.take_player-player.new.players.items c.put_player.new.players.items s.written.items m c.args.seat
     c.take_player-player.result c.in-Some.piece c.settle-answer.result

@@ -4,7 +4,8 @@ use Rattle.std.proofs.lemmas.List.{with_items_is}
 use Rattle.store_core.specs.declared.history.Call.{Call}
 use Rattle.store_core.specs.declared.history.Call.TheVariants.{Give}
 use Rattle.store_core.specs.declared.slot.Slot.{Slot}
-use Rattle.store_core.specs.Slots.{caller, state_in}
+use Rattle.store_core.specs.Slots.{caller, state_in, with_parents}
+use Rattle.store_core.specs.States.{State}
 use Rattle.store_core.proofs.Stored.{IsDone, give_at, give_none, reached_by}
 use Rattle.store_core.proofs.store.Store.give.Goals as goal
 
@@ -21,7 +22,7 @@ invariant_of-self c =
     record {
       limit = s.limit;
       within = omega (arith, s.within, c.put_claims.auto.slots, c.as_mut_slice.ensures.len, ap length put, ap length c.as_mut_slice.ensures.value);
-      reached = reached_by s.fixed (state_in s.slots.items s.recorded) (state_in new s.recorded) (caller c.args.seat) call done.right done.after s.reached;
+      reached = reached_by s.fixed (with_parents (state_in s.slots.items s.recorded) s.parents.items) (with_parents (state_in new s.recorded) s.parents.items) (caller c.args.seat) call done.right (ap (λ (t : State). with_parents t s.parents.items) done.after) s.reached;
     }
 
 pub returns : goal.returns
@@ -34,10 +35,10 @@ returns c =
     give_at s.fixed s.slots.items c.as_slice.result.now c.as_mut_slice.result.now c.put_claims.new.slots s.recorded c.args.seat c.args.group c.args.mask c.chosen-given.result
     c.as_slice.ensures.value c.as_mut_slice.ensures.value c.chosen-given.ensures c.put_claims.ensures in
     let done : IsDone s.fixed s.slots.items new s.recorded (caller c.args.seat) call = subst (λ (xs : List Slot). IsDone s.fixed s.slots.items xs s.recorded (caller c.args.seat) call) (sym put) d in
-    record { fixed = refl; right = done.right; after = done.after }
+    record { fixed = refl; right = done.right; after = ap (λ (t : State). with_parents t s.parents.items) done.after }
 
 pub returns-then-group-groups : goal.returns-then-group-groups
 returns-then-group-groups c =
     let s = c.args.self.now in
     let done = give_none s.fixed s.slots.items s.recorded c.args.seat c.args.group c.args.mask s.within (omega (arith, c.groups.ensures, c.if-group-groups.true)) in
-    record { fixed = refl; right = done.right; after = done.after }
+    record { fixed = refl; right = done.right; after = ap (λ (t : State). with_parents t s.parents.items) done.after }

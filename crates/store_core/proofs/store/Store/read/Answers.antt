@@ -1,7 +1,7 @@
 use Rattle.std.proofs.Common.{◌+◌, take, slice_index, refl, arith}
 use Rattle.store_core.proofs.BoundStore.{read_binds}
 use Rattle.store_core.proofs.Copying.{IsFilled, copied_filled, copied_none, copied_part, ends_at}
-use Rattle.store_core.specs.Slots.{state_in}
+use Rattle.store_core.specs.Slots.{state_in, with_parents}
 use Rattle.store_core.proofs.store.Store.read.Goals as goal
 
 pub loop-done-init : goal.loop-done-init
@@ -40,11 +40,13 @@ returns-clause-event c =
     }
 
 pub returns-then-count-eq0-clause-binds : goal.returns-then-count-eq0-clause-binds
-returns-then-count-eq0-clause-binds c = λ blob is i below.
-    read_binds c.args.self.now.fixed c.args.self.now.slots.items c.args.self.now.recorded blob (c.args.at + i) (slice_index c.loop-done.out i) c.is_keyed.ensures is
-    c.args.self.now.reached (c.loop-done.invariant.got i (omega (arith, below)))
+returns-then-count-eq0-clause-binds c = λ blob is by i below.
+    let s = c.args.self.now in
+    read_binds s.fixed (with_parents (state_in s.slots.items s.recorded) s.parents.items) blob (c.args.at + i) (slice_index c.loop-done.out i) c.is_keyed.ensures is
+    (c.loop-done.invariant.got i (omega (arith, below))) by
 
 pub returns-clause-binds : goal.returns-clause-binds
-returns-clause-binds c = λ blob is i below.
-    read_binds c.args.self.now.fixed c.args.self.now.slots.items c.args.self.now.recorded blob (c.args.at + i) (slice_index c.loop-done.out i) c.is_keyed.ensures is
-    c.args.self.now.reached (c.loop-done.invariant.got i (omega (arith, below, c.loop-done-test.false, c.loop-done.auto.out)))
+returns-clause-binds c = λ blob is by i below.
+    let s = c.args.self.now in
+    read_binds s.fixed (with_parents (state_in s.slots.items s.recorded) s.parents.items) blob (c.args.at + i) (slice_index c.loop-done.out i) c.is_keyed.ensures is
+    (c.loop-done.invariant.got i (omega (arith, below, c.loop-done-test.false, c.loop-done.auto.out))) by

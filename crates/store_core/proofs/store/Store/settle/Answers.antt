@@ -3,19 +3,28 @@ use Rattle.bao_check.specs.Tail.{tail_piece}
 use Rattle.store_core.specs.declared.history.Call.TheVariants.{Settle}
 use Rattle.store_core.specs.declared.history.Settling.TheVariants.{Settled, Known, Differs}
 use Rattle.store_core.specs.Pieces.{IsAcceptedPiece, piece_of}
-use Rattle.store_core.specs.Slots.{state_in}
+use Rattle.store_core.specs.Slots.{state_in, with_parents}
+use Rattle.store_core.proofs.Bound.{claim_binds}
 use Rattle.store_core.proofs.Stored.{accepted_piece, is_of_piece, not_of_piece, reached_by, same_state, settle_right, settling_differs, settling_known, settling_none}
 use Rattle.store_core.proofs.store.Store.settle.Goals as goal
 
-pub returns-then-not-is_of : goal.returns-then-not-is_of
-returns-then-not-is_of c =
+pub returns-then-not-is_of-clause-event : goal.returns-then-not-is_of-clause-event
+returns-then-not-is_of-clause-event c =
     let s = c.args.self.now in (
       not_of_piece s.fixed (tail_piece c.args.tail.now) c.root.result c.mode.result c.root.ensures c.mode.ensures (λ is. let yes = c.is_of.ensures.1 is in cc),
       record { fixed = refl; state = refl },
     )
 
-pub returns-then-length-from : goal.returns-then-length-from
-returns-then-length-from c =
+pub returns-then-length-from-clause-binds : goal.returns-then-length-from-clause-binds
+returns-then-length-from-clause-binds c = λ _.
+    let s = c.args.self.now in
+    let piece = tail_piece c.args.tail.now in
+    let is = c.is_of.ensures.0 c.if-not-is_of.false in
+    claim_binds s.fixed (piece_of piece) c.is_keyed.ensures (accepted_piece s.fixed piece c.is_last.ensures.bytes c.is_last.ensures.accepted
+    (is_of_piece s.fixed piece c.root.result c.mode.result c.root.ensures c.mode.ensures is.0 is.1)) c.is_last.ensures.last
+
+pub returns-then-length-from-clause-event : goal.returns-then-length-from-clause-event
+returns-then-length-from-clause-event c =
     let s = c.args.self.now in
     let is = c.is_of.ensures.0 c.if-not-is_of.false in (
       is_of_piece s.fixed (tail_piece c.args.tail.now) c.root.result c.mode.result c.root.ensures c.mode.ensures is.0 is.1,
@@ -35,12 +44,20 @@ invariant_of-self c =
     record {
       limit = s.limit;
       within = s.within;
-      reached = reached_by s.fixed (state_in s.slots.items s.recorded) (state_in s.slots.items (Some c.length-length.result)) [] (Settle (piece_of piece) Settled) right
-          (same_state _ _ (λ x. refl) (λ x. refl) (ap (λ (n : ℕ). Some n) c.length-length.ensures.value)) s.reached;
+      reached = reached_by s.fixed (with_parents (state_in s.slots.items s.recorded) s.parents.items) (with_parents (state_in s.slots.items (Some c.length-length.result)) s.parents.items) [] (Settle (piece_of piece) Settled) right
+          (same_state _ _ refl (λ x. refl) (λ x. refl) (ap (λ (n : ℕ). Some n) c.length-length.ensures.value)) s.reached;
     }
 
-pub returns-in-None : goal.returns-in-None
-returns-in-None c =
+pub returns-in-None-clause-binds : goal.returns-in-None-clause-binds
+returns-in-None-clause-binds c = λ _.
+    let s = c.args.self.now in
+    let piece = tail_piece c.args.tail.now in
+    let is = c.is_of.ensures.0 c.if-not-is_of.false in
+    claim_binds s.fixed (piece_of piece) c.is_keyed.ensures (accepted_piece s.fixed piece c.is_last.ensures.bytes c.is_last.ensures.accepted
+    (is_of_piece s.fixed piece c.root.result c.mode.result c.root.ensures c.mode.ensures is.0 is.1)) c.is_last.ensures.last
+
+pub returns-in-None-clause-event : goal.returns-in-None-clause-event
+returns-in-None-clause-event c =
     let s = c.args.self.now in
     let piece = tail_piece c.args.tail.now in
     let is = c.is_of.ensures.0 c.if-not-is_of.false in
@@ -50,11 +67,19 @@ returns-in-None c =
       fixed = refl;
       right = settle_right s.fixed s.slots.items s.recorded piece c.length-length.result Settled accepted c.is_last.ensures.last c.length-length.ensures.value
           (omega (arith, c.if-length-from.false, c.from.ensures)) (settling_none s.recorded c.length-length.result c.in-None.is) who;
-      after = same_state _ _ (λ x. refl) (λ x. refl) (ap (λ (n : ℕ). Some n) c.length-length.ensures.value);
+      after = same_state _ _ refl (λ x. refl) (λ x. refl) (ap (λ (n : ℕ). Some n) c.length-length.ensures.value);
     }
 
-pub returns-then-known-length : goal.returns-then-known-length
-returns-then-known-length c =
+pub returns-then-known-length-clause-binds : goal.returns-then-known-length-clause-binds
+returns-then-known-length-clause-binds c = λ _.
+    let s = c.args.self.now in
+    let piece = tail_piece c.args.tail.now in
+    let is = c.is_of.ensures.0 c.if-not-is_of.false in
+    claim_binds s.fixed (piece_of piece) c.is_keyed.ensures (accepted_piece s.fixed piece c.is_last.ensures.bytes c.is_last.ensures.accepted
+    (is_of_piece s.fixed piece c.root.result c.mode.result c.root.ensures c.mode.ensures is.0 is.1)) c.is_last.ensures.last
+
+pub returns-then-known-length-clause-event : goal.returns-then-known-length-clause-event
+returns-then-known-length-clause-event c =
     let s = c.args.self.now in
     let piece = tail_piece c.args.tail.now in
     let is = c.is_of.ensures.0 c.if-not-is_of.false in
@@ -67,8 +92,16 @@ returns-then-known-length c =
       after = refl;
     }
 
-pub returns-else-known-length : goal.returns-else-known-length
-returns-else-known-length c =
+pub returns-else-known-length-clause-binds : goal.returns-else-known-length-clause-binds
+returns-else-known-length-clause-binds c = λ _.
+    let s = c.args.self.now in
+    let piece = tail_piece c.args.tail.now in
+    let is = c.is_of.ensures.0 c.if-not-is_of.false in
+    claim_binds s.fixed (piece_of piece) c.is_keyed.ensures (accepted_piece s.fixed piece c.is_last.ensures.bytes c.is_last.ensures.accepted
+    (is_of_piece s.fixed piece c.root.result c.mode.result c.root.ensures c.mode.ensures is.0 is.1)) c.is_last.ensures.last
+
+pub returns-else-known-length-clause-event : goal.returns-else-known-length-clause-event
+returns-else-known-length-clause-event c =
     let s = c.args.self.now in
     let piece = tail_piece c.args.tail.now in
     let is = c.is_of.ensures.0 c.if-not-is_of.false in

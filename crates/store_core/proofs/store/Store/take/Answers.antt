@@ -4,7 +4,8 @@ use Rattle.std.proofs.lemmas.List.{with_items_is}
 use Rattle.store_core.specs.declared.history.Call.{Call}
 use Rattle.store_core.specs.declared.history.Call.TheVariants.{Take}
 use Rattle.store_core.specs.declared.slot.Slot.{Slot}
-use Rattle.store_core.specs.Slots.{caller, state_in}
+use Rattle.store_core.specs.Slots.{caller, state_in, with_parents}
+use Rattle.store_core.specs.States.{State}
 use Rattle.store_core.proofs.Stored.{IsDone, on_err, reached_by, state_same, take_at, within_group}
 use Rattle.store_core.proofs.store.Store.take.Goals as goal
 
@@ -23,7 +24,7 @@ invariant_of-self-2 c =
     record {
       limit = s.limit;
       within = omega (arith, c.grow.ensures.most, s.within, c.min-end.ensures, c.put_claims.auto.slots, c.as_mut_slice.ensures.len, ap length put, ap length c.as_mut_slice.ensures.value);
-      reached = reached_by s.fixed (state_in s.slots.items s.recorded) (state_in new s.recorded) (caller c.args.seat) call done.right done.after s.reached;
+      reached = reached_by s.fixed (with_parents (state_in s.slots.items s.recorded) s.parents.items) (with_parents (state_in new s.recorded) s.parents.items) (caller c.args.seat) call done.right (ap (λ (t : State). with_parents t s.parents.items) done.after) s.reached;
     }
 
 pub returns-clause-ok : goal.returns-clause-ok
@@ -38,9 +39,9 @@ returns-clause-ok c =
     (λ x of_group below. within_group x c.args.group c.min-end.result s.fixed.capacity _ c.min-end.ensures c.in_ok-grow.ensures.enough of_group below)
     c.grow.ensures.same c.chosen-granted.ensures c.put_claims.ensures in
     let done : IsDone s.fixed s.slots.items new s.recorded (caller c.args.seat) call = subst (λ (xs : List Slot). IsDone s.fixed s.slots.items xs s.recorded (caller c.args.seat) call) (sym put) d in
-    record { fixed = refl; right = done.right; after = done.after }
+    record { fixed = refl; right = done.right; after = ap (λ (t : State). with_parents t s.parents.items) done.after }
 
 pub returns-in_err-grow-clause-err : goal.returns-in_err-grow-clause-err
 returns-in_err-grow-clause-err c =
     on_err c.from_residual.result
-    (record { fixed = refl; state = state_same c.args.self.now.slots.items c.grow.new.slots.items c.args.self.now.recorded c.grow.ensures.same })
+    (record { fixed = refl; state = ap (λ (t : State). with_parents t c.args.self.now.parents.items) (state_same c.args.self.now.slots.items c.grow.new.slots.items c.args.self.now.recorded c.grow.ensures.same) })

@@ -1,0 +1,97 @@
+-- What a store stands for after parents of a piece were stored.
+use Rattle.std.proofs.Common.{◌≡◌, ℕ, ◌/◌, ◌%◌, ◌==◌, true, false, Bool, not, ◌&&◌, if◌then◌else◌, List, Option, None, Some, Result, Ok, Err, IfErr, is_some, refl, sym, ap, subst, ◌∙◌}
+use Rattle.std.specs.Option.{option_eq}
+use Rattle.std.specs.Result.{IsErrAnd}
+use Rattle.std.proofs.Math.Dec.{eqb}
+use Rattle.std.proofs.lemmas.Bool.{and_parts, and_right, eqb-true}
+use Rattle.bao_check.specs.declared.checked.Checked.{Checked}
+use Rattle.store_core.specs.declared.fault.StoreFault.{StoreFault}
+use Rattle.store_core.specs.declared.fault.StoreFault.TheVariants.{Memory}
+use Rattle.store_core.specs.declared.fixed.Fixed.{Fixed}
+use Rattle.store_core.specs.declared.history.Call.TheVariants.{Parents}
+use Rattle.store_core.specs.declared.history.Piece.{Piece}
+use Rattle.store_core.specs.declared.history.Storing.TheVariants.{Stored}
+use Rattle.store_core.specs.declared.slot.Slot.{Slot}
+use Rattle.store_core.specs.declared.store.Store.{Store}
+use Rattle.store_core.specs.Events.{IsRight, after_call}
+use Rattle.store_core.specs.Masks.{IsMaskOf, has_bit, in_mask}
+use Rattle.store_core.specs.Names.{Name}
+use Rattle.store_core.specs.Pieces.{IsAcceptedPiece, holds_parent, length_of, parent_bytes}
+use Rattle.store_core.specs.Slots.{parents_in, state_in, with_parents}
+use Rattle.store_core.specs.States.{State}
+use Rattle.store_core.specs.Stores.{IsSame, IsUnstored}
+use Rattle.store_core.proofs.Choosing.{has_bit-zero}
+
+-- parents that are the same at each boundary make the same state
+pub same_parents : (s : State) (old new : List (Option (List ℕ))) → ((m : ℕ) → parents_in new m ≡ parents_in old m) → with_parents s new ≡ with_parents s old
+same_parents s old new same = λ i. record s { parents = λ m. same m i }
+
+-- the mask's parents are stored, and this is the state after it
+pub record IsStoredBy (fixed : Fixed) (s t : State) (group mask : ℕ) (piece : Piece) : Type 0 where
+  pub right : (who : List Name) → IsRight fixed s who (Parents group piece (Stored mask))
+  pub after : (who : List Name) → t ≡ after_call who (Parents group piece (Stored mask)) s
+
+none_from : (o : Option (List ℕ)) → not (is_some o) ≡ true → o ≡ None
+none_from None h = refl
+none_from (Some bytes) h = cc
+
+store_right : (fixed : Fixed) (s : State) (group mask : ℕ) (piece : Piece) → IsAcceptedPiece fixed piece → s.recorded ≡ Some (length_of piece)
+    → IsMaskOf group mask (λ m. holds_parent piece m && not (is_some (s.parents m))) → (who : List Name) → IsRight fixed s who (Parents group piece (Stored mask))
+store_right fixed s group mask piece accepted length_is is who = (
+  accepted,
+  (
+    length_is,
+    λ m hit.
+        let bit = and_parts (m / 64 == group) (has_bit mask (m % 64)) hit in
+        let test = and_parts (holds_parent piece m) (not (is_some (s.parents m))) (sym (is.bits m (eqb-true (m / 64) group bit.0)) ∙ bit.1) in
+        (test.0, none_from (s.parents m) test.1),
+  ),
+)
+
+-- parents put into a list that was made longer
+pub store_at : (fixed : Fixed) (slots : List Slot) (o : Option ℕ) (old seen grown written new put : List (Option (List ℕ))) (group mask : ℕ) (piece : Piece) → IsAcceptedPiece fixed piece
+    → o ≡ Some (length_of piece) → seen ≡ old → written ≡ grown → put ≡ new → ((m : ℕ) → parents_in grown m ≡ parents_in old m)
+    → IsMaskOf group mask (λ m. holds_parent piece m && not (is_some (parents_in seen m)))
+    → ((m : ℕ) → parents_in new m ≡ (if in_mask group mask m then parent_bytes piece m else parents_in written m))
+    → IsStoredBy fixed (with_parents (state_in slots o) old) (with_parents (state_in slots o) put) group mask piece
+store_at fixed slots o old seen grown written new put group mask piece accepted length_is e f g same wanted after =
+    let each : (m : ℕ) → parents_in put m ≡ (if in_mask group mask m then parent_bytes piece m else parents_in old m) = λ m.
+    ap (λ (ps : List (Option (List ℕ))). parents_in ps m) g ∙ after m
+    ∙ ap (λ (x : Option (List ℕ)). if in_mask group mask m then parent_bytes piece m else x) (ap (λ (ps : List (Option (List ℕ))). parents_in ps m) f ∙ same m) in
+    record {
+      right = store_right fixed (with_parents (state_in slots o) old) group mask piece accepted length_is
+          (subst (λ (ps : List (Option (List ℕ))). IsMaskOf group mask (λ m. holds_parent piece m && not (is_some (parents_in ps m)))) e wanted);
+      after = λ who i. record (with_parents (state_in slots o) old) { parents = λ m. each m i };
+    }
+
+-- no parent is stored
+pub store_none : (fixed : Fixed) (slots : List Slot) (o : Option ℕ) (old seen : List (Option (List ℕ))) (group mask : ℕ) (piece : Piece) → IsAcceptedPiece fixed piece
+    → o ≡ Some (length_of piece) → seen ≡ old → mask ≡ 0 → IsMaskOf group mask (λ m. holds_parent piece m && not (is_some (parents_in seen m)))
+    → IsStoredBy fixed (with_parents (state_in slots o) old) (with_parents (state_in slots o) old) group 0 piece
+store_none fixed slots o old seen group mask piece accepted length_is e none wanted =
+    let s : State = with_parents (state_in slots o) old in
+    let each : (m : ℕ) → s.parents m ≡ (if in_mask group 0 m then parent_bytes piece m else s.parents m) = λ m.
+    rw (and_right (m / 64 == group) (has_bit 0 (m % 64)) (has_bit-zero (m % 64))) refl in
+    record {
+      right = store_right fixed s group 0 piece accepted length_is
+          (subst (λ (n : ℕ). IsMaskOf group n (λ m. holds_parent piece m && not (is_some (s.parents m)))) none
+          (subst (λ (ps : List (Option (List ℕ))). IsMaskOf group mask (λ m. holds_parent piece m && not (is_some (parents_in ps m)))) e wanted));
+      after = λ who i. record s { parents = λ m. each m i };
+    }
+
+not_not : (b : Bool) → not b ≡ false → b ≡ true
+not_not true h = refl
+not_not false h = let never : true ≡ false = h in cc
+
+-- a recorded length that was compared with another
+same_length : (o : Option ℕ) (l : ℕ) → not (option_eq eqb o (Some l)) ≡ false → o ≡ Some l
+same_length None l h = let never : true ≡ false = h in cc
+same_length (Some k) l h = ap (λ (n : ℕ). Some n) (eqb-true k l (not_not (eqb k l) h))
+
+pub recorded_is : (o : Option ℕ) (l : ℕ) (b : Bool) → b ≡ not (option_eq eqb o (Some l)) → b ≡ false → o ≡ Some l
+recorded_is o l b is not_other = same_length o l (sym is ∙ not_other)
+
+-- want of memory leaves what the store stands for
+pub unstored_memory : (old new : Store) (group : ℕ) (piece : Checked) (r : Result ℕ StoreFault) → IsErrAnd r (λ fault. fault ≡ Memory) → IsSame old new → IfErr r (λ fault. IsUnstored old new group piece fault)
+unstored_memory old new group piece (Ok mask) h same = tt
+unstored_memory old new group piece (Err fault) h same = subst (λ (f : StoreFault). IsUnstored old new group piece f) (sym h) same
