@@ -1,8 +1,8 @@
 -- What comes from accepted texts is the blob's, or a pair is named.
-use Rattle.std.proofs.Common.{◌≡◌, ◌⊎◌, zero, suc, ℕ, ◌+◌, ◌-◌, ◌<◌, List, length, Option, None, Some, is_some, true, false, slice_get, slice_index, refl, sym, subst, arith, inl, inr, below_more}
+use Rattle.std.proofs.Common.{◌≡◌, ◌⊎◌, zero, suc, ℕ, ◌+◌, ◌-◌, ◌/◌, ◌<◌, List, length, Option, None, Some, is_some, true, false, slice_get, slice_index, refl, sym, subst, arith, inl, inr, below_more}
 use Rattle.std.proofs.lemmas.List.{ext_get_or}
 use Rattle.std.proofs.lemmas.Option.{get_or_from_slice_get}
-use Rattle.std.proofs.Math.Logic.{∥∥₁_map, ∥∥₁_map₂}
+use Rattle.std.proofs.Math.Logic.{∥∥₁_map}
 use Rattle.b3tree.specs.Hashing.{hash}
 use Rattle.b3tree.specs.Valid.{IsKeyed}
 use Rattle.bao_check.specs.Laws.{AcceptedBinds}
@@ -12,7 +12,8 @@ use Rattle.store_core.specs.declared.fixed.Fixed.{Fixed}
 use Rattle.store_core.specs.declared.store.Store.{Store}
 use Rattle.store_core.specs.Laws.{IsBlob, PairNamed}
 use Rattle.store_core.specs.Pieces.{chunk_bytes, length_of}
-use Rattle.store_core.specs.States.{State}
+use Rattle.store_core.specs.declared.history.Event.{Event}
+use Rattle.store_core.specs.Reached.{IsReached}
 use Rattle.store_core.specs.Stores.{LengthBinds, PairCommitted, PairSettled, ReadBinds, fixed_of, state_of}
 use Rattle.gather.specs.Finished.{BindsNone}
 use Rattle.gather.specs.Large.{AreLonger, HasPair, IsOfNone, IsTooLarge}
@@ -52,11 +53,16 @@ both_same blob bytes P n (inl before) (inl here) = inl (λ i below. below_more _
 both_same blob bytes P n (inl before) (inr pair) = inr pair
 both_same blob bytes P n (inr pair) here = inr pair
 
-all_same : (blob bytes : List ℕ) (P : Type 0) (n : ℕ) → ((i : ℕ) → i < n → ∥ (slice_get blob (0 + i) ≡ Some (slice_index bytes i)) ⊎ P ∥₁)
-    → ∥ ((i : ℕ) → i < n → slice_get blob (0 + i) ≡ Some (slice_index bytes i)) ⊎ P ∥₁
-all_same blob bytes P zero each = ∣ inl (λ i below. absurd (omega (arith, below))) ∣₁
+all_same : (blob bytes : List ℕ) (P : Type 0) (n : ℕ) → ((i : ℕ) → i < n → (slice_get blob (0 + i) ≡ Some (slice_index bytes i)) ⊎ P)
+    → ((i : ℕ) → i < n → slice_get blob (0 + i) ≡ Some (slice_index bytes i)) ⊎ P
+all_same blob bytes P zero each = inl (λ i below. absurd (omega (arith, below)))
 all_same blob bytes P (suc n) each =
-    ∥∥₁_map₂ (all_same blob bytes P n (λ i below. each i (omega (arith, below)))) (each n (omega arith)) (both_same blob bytes P n)
+    both_same blob bytes P n (all_same blob bytes P n (λ i below. each i (omega (arith, below)))) (each n (omega arith))
+
+-- what is named, at some chunk
+at_some : (fixed : Fixed) (history : List Event) (blob : List ℕ) (c : ℕ) (A : Type 0) → A ⊎ PairCommitted fixed history blob c → A ⊎ ((k : ℕ) × PairCommitted fixed history blob k)
+at_some fixed history blob c A (inl a) = inl a
+at_some fixed history blob c A (inr named) = inr (c, named)
 
 pub same_bytes : (blob bytes : List ℕ) → length bytes ≡ length blob → ((i : ℕ) → i < length bytes → slice_get blob (0 + i) ≡ Some (slice_index bytes i)) → blob ≡ bytes
 same_bytes blob bytes long each =
@@ -66,21 +72,23 @@ same_bytes blob bytes long each =
 
 pub binds_none : (store : Store) (bytes : List ℕ) → LengthBinds store (length bytes) → ReadBinds store 0 bytes (length bytes)
     → (hash (fixed_of store).mode bytes ≡ (fixed_of store).root.0 → ⊥) → BindsNone store
-binds_none store bytes recorded read other blob is =
-    let P = PairCommitted (fixed_of store) (state_of store) blob in
-    let Q = PairSettled (fixed_of store) (state_of store) blob in
-    let pick : (length bytes ≡ length blob) ⊎ Q → ((i : ℕ) → i < length bytes → slice_get blob (0 + i) ≡ Some (slice_index bytes i)) ⊎ P → P ⊎ Q = λ long same. elim long [
-      | inr settled ↦ inr settled
+binds_none store bytes recorded read other blob is by =
+    let P = (c : ℕ) × PairCommitted (fixed_of store) by.history blob c in
+    let same : ((i : ℕ) → i < length bytes → slice_get blob (0 + i) ≡ Some (slice_index bytes i)) ⊎ P =
+    all_same blob bytes P (length bytes) (λ i below. at_some (fixed_of store) by.history blob ((0 + i) / 1024) _ (read blob is by i below)) in
+    elim (recorded blob is by) [
+      | inr settled ↦ inr (length bytes, settled)
       | inl len ↦ elim same [
         | inr committed ↦ inl committed
         | inl each ↦ absurd (other (subst (λ (xs : List ℕ). hash (fixed_of store).mode xs ≡ (fixed_of store).root.0) (same_bytes blob bytes len each) is.root))
       ]
-    ] in
-    ∥∥₁_map₂ (recorded blob is) (all_same blob bytes P (length bytes) (read blob is)) pick
+    ]
 
-pair_committed : (fixed : Fixed) (s : State) (blob : List ℕ) → PairCommitted fixed s blob ⊎ PairSettled fixed s blob → HasPair fixed blob
-pair_committed fixed s blob (inl from) = record { piece = from.committed.piece; accepted = from.committed.accepted; pair = from.pair }
-pair_committed fixed s blob (inr from) = record { piece = from.settled.piece; accepted = from.settled.accepted; pair = from.pair }
+pair_of : (fixed : Fixed) (history : List Event) (blob : List ℕ) → ((c : ℕ) × PairCommitted fixed history blob c) ⊎ ((l : ℕ) × PairSettled fixed history blob l) → HasPair fixed blob
+pair_of fixed history blob (inl from) = record { piece = from.1.committed.piece; accepted = from.1.committed.accepted; pair = from.1.pair }
+pair_of fixed history blob (inr from) = record { piece = from.1.settled.piece; accepted = from.1.settled.accepted; pair = from.1.pair }
 
-pub of_none : (store : Store) (fixed : Fixed) → fixed_of store ≡ fixed → BindsNone store → IsOfNone fixed
-of_none store fixed same none = subst (λ (f : Fixed). IsOfNone f) same (λ blob is. ∥∥₁_map (none blob is) (pair_committed (fixed_of store) (state_of store) blob))
+-- some history leads to a store
+pub of_none : (store : Store) (fixed : Fixed) → fixed_of store ≡ fixed → ∥ IsReached (fixed_of store) (state_of store) ∥₁ → BindsNone store → IsOfNone fixed
+of_none store fixed same reached none =
+    subst (λ (f : Fixed). IsOfNone f) same (λ blob is. ∥∥₁_map reached (λ by. pair_of (fixed_of store) by.history blob (none blob is by)))

@@ -3,7 +3,7 @@ use Rattle.std.proofs.Common.{◌≡◌, ◌⊎◌, ℕ, List, [], ◌∷◌, So
 use Rattle.std.proofs.lemmas.Bool.{cases_Bool}
 use Rattle.store_core.specs.declared.fixed.Fixed.{Fixed}
 use Rattle.store_core.specs.declared.history.Call.{Call}
-use Rattle.store_core.specs.declared.history.Call.TheVariants.{Take, Give, Commit, Settle, Read, Length}
+use Rattle.store_core.specs.declared.history.Call.TheVariants.{Take, Give, Commit, Settle, Read, Length, Parents, Serve}
 use Rattle.store_core.specs.declared.history.Event.{Event}
 use Rattle.store_core.specs.declared.store.Store.{Store}
 use Rattle.store_core.specs.Events.{IsRight, after, after_call}
@@ -25,6 +25,8 @@ by_call fixed s who (Commit group piece committed) right c bytes is = elim (case
 by_call fixed s who (Settle piece answer) right c bytes is = inl is
 by_call fixed s who (Read at len read) right c bytes is = inl is
 by_call fixed s who (Length recorded) right c bytes is = inl is
+by_call fixed s who (Parents group piece answer) right c bytes is = inl is
+by_call fixed s who (Serve start len answer) right c bytes is = inl is
 
 by_events : (fixed : Fixed) (s : State) (events : List Event) → AreLegalFrom fixed s events → (c : ℕ) (bytes : List ℕ)
     → (run s events).held c ≡ Some bytes → (s.held c ≡ Some bytes) ⊎ IsCertified fixed c bytes

@@ -1,5 +1,5 @@
 -- What a read of all bytes below the recorded length tells.
-use Rattle.std.proofs.Common.{bytes_eq, true, false, not, ◌≡◌, ◌⊎◌, ℕ, ◌+◌, ◌-◌, ◌<◌, ◌≤◌, List, [], ◌++◌, length, drop, Option, None, Some, slice_get, slice_index, sym, ap, subst, ◌∙◌, inl, inr, arith, length-append, get_or-append-add}
+use Rattle.std.proofs.Common.{bytes_eq, true, false, not, ◌≡◌, ◌⊎◌, ℕ, ◌+◌, ◌-◌, ◌/◌, ◌<◌, ◌≤◌, List, [], ◌++◌, length, drop, Option, None, Some, slice_get, slice_index, sym, ap, subst, ◌∙◌, inl, inr, arith, length-append, get_or-append-add}
 use Rattle.std.proofs.lemmas.Bool.{cases_lt}
 use Rattle.std.proofs.lemmas.List.{append-nil, drop_all, get_or_append_left}
 use Rattle.std.proofs.lemmas.Slice.Eq.{bytes_eq-Decides}
@@ -21,7 +21,7 @@ pub record IsBegun (store : Store) (bytes : List ℕ) : Type 0 where
 pub begun_none : (store : Store) (bytes : List ℕ) → bytes ≡ [] → IsBegun store bytes
 begun_none store bytes none = record {
   held = λ i below. absurd (omega (arith, below, ap length none));
-  binds = λ blob is i below. absurd (omega (arith, below, ap length none));
+  binds = λ blob is by i below. absurd (omega (arith, below, ap length none));
 }
 
 -- one part more
@@ -49,15 +49,15 @@ begun_more means store bytes old part new at here begun read binds is =
             ∙ of_part.held (i - length bytes) (omega (arith, after, below, parts))
             ∙ ap (λ (x : ℕ). Some x) (late i after)
       ];
-      binds = λ blob is_blob i below. elim (cases_lt i (length bytes)) [
-        | inl before ↦
-            subst (λ (x : ℕ). ∥ (slice_get blob (0 + i) ≡ Some x) ⊎ PairCommitted (fixed_of store) (state_of store) blob ∥₁) (sym (early i before))
-            (begun.binds blob is_blob i before)
-        | inr after ↦
-            subst (λ (x : ℕ). ∥ (slice_get blob (0 + i) ≡ Some x) ⊎ PairCommitted (fixed_of store) (state_of store) blob ∥₁) (late i after)
-            (subst (λ (q : ℕ). ∥ (slice_get blob q ≡ Some (slice_index part (i - length bytes))) ⊎ PairCommitted (fixed_of store) (state_of store) blob ∥₁) (position i after)
-            (binds blob is_blob (i - length bytes) (omega (arith, after, below, parts, count))))
-      ];
+      binds = λ blob is_blob by i below.
+          let Binds : ℕ → ℕ → Type 0 = λ q x. (slice_get blob q ≡ Some x) ⊎ PairCommitted (fixed_of store) by.history blob (q / 1024) in
+          elim (cases_lt i (length bytes)) [
+            | inl before ↦ subst (λ (x : ℕ). Binds (0 + i) x) (sym (early i before)) (begun.binds blob is_blob by i before)
+            | inr after ↦
+                subst (λ (x : ℕ). Binds (0 + i) x) (late i after)
+                (subst (λ (q : ℕ). Binds q (slice_index part (i - length bytes))) (position i after)
+                (binds blob is_blob by (i - length bytes) (omega (arith, after, below, parts, count))))
+          ];
     }
 
 -- all bytes below the recorded length

@@ -4,6 +4,7 @@ use Rattle.b3tree.specs.Hashing.{hash}
 use Rattle.store_core.specs.declared.fixed.Fixed.{Fixed}
 use Rattle.store_core.specs.declared.store.Store.{Store}
 use Rattle.store_core.specs.Laws.{IsBlob}
+use Rattle.store_core.specs.Reached.{IsReached}
 use Rattle.store_core.specs.Stores.{PairCommitted, PairSettled, fixed_of, state_of}
 use Rattle.store_core.specs.States.{State, byte_at, read_bytes}
 
@@ -30,8 +31,9 @@ pub record IsOther (fixed : Fixed) (s : State) : Type 0 where
   pub whole : IsWhole s bytes
   pub hashed : hash fixed.mode bytes ≢ fixed.root.0
 
--- For each blob with the root, two different inputs with one chaining value are named: one of the blob's, and one of a
--- piece's that some history of the store, one that leads to its state, committed, or by which it settled the length.
+-- For each blob with the root and every legal history that leads to the store, two different inputs with one chaining
+-- value are named: one of the blob's, and one of a piece's of which this history committed a chunk, or by which it
+-- settled the length.
 abbrev pub BindsNone : Store → Type 0
-BindsNone store = (blob : List ℕ) → IsBlob (fixed_of store) blob
-    → ∥ PairCommitted (fixed_of store) (state_of store) blob ⊎ PairSettled (fixed_of store) (state_of store) blob ∥₁
+BindsNone store = (blob : List ℕ) → IsBlob (fixed_of store) blob → (by : IsReached (fixed_of store) (state_of store))
+    → ((c : ℕ) × PairCommitted (fixed_of store) by.history blob c) ⊎ ((l : ℕ) × PairSettled (fixed_of store) by.history blob l)

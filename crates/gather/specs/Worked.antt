@@ -2,7 +2,7 @@
 use Rattle.std.specs.Prelude.{◌≡◌, ◌⊎◌, Some, ℕ, ◌-◌, ◌^◌, min, Bool, List, count_ones}
 use Rattle.std.specs.List.{AllByRecursion, sum_by}
 use Rattle.store_core.specs.declared.history.Call.{Call}
-use Rattle.store_core.specs.declared.history.Call.TheVariants.{Take, Give, Commit, Settle, Read, Length}
+use Rattle.store_core.specs.declared.history.Call.TheVariants.{Take, Give, Commit, Settle, Read, Length, Parents, Serve}
 use Rattle.store_core.specs.declared.history.Event.{Event}
 use Rattle.store_core.specs.declared.fixed.Fixed.{Fixed}
 use Rattle.store_core.specs.declared.history.Piece.{Piece}
@@ -24,6 +24,8 @@ chunks_of (Commit group piece committed) = count_ones committed
 chunks_of (Settle piece answer) = 0
 chunks_of (Read at len bytes) = 0
 chunks_of (Length recorded) = 0
+chunks_of (Parents group piece answer) = 0
+chunks_of (Serve start len answer) = 0
 
 -- how many the calls of a history store
 abbrev pub chunks_in : List Event → ℕ

@@ -36,8 +36,9 @@ fn read_all(alloc: Global, store: &Store, end: u64) -> Result<Vec<u8>, FinishFau
 ///
 /// In this order: 901 `Unfinished` where no length is recorded; 903 `Memory`; 901 where a byte below the length isn't
 /// held; 902 `NotTheRoot` where the hash of the bytes isn't the root. The store is unchanged. At `NotTheRoot`, for each
-/// blob with the root two different inputs with one chaining value are named, one of the blob's and one of a piece's
-/// that was committed or by which the length was settled.
+/// blob with the root and whatever legal history led to the store, two different inputs with one chaining value are
+/// named, one of the blob's and one of a piece's of which that history committed a chunk, or by which it settled the
+/// length.
 pub fn finish_one(alloc: Global, store: &Store) -> Result<Vec<u8>, FinishFault>
     ensures root { IfOk result (λ blob. hash (fixed_of store.now).mode blob.items ≡ (fixed_of store.now).root.0) }
     ensures whole { IfOk result (λ blob. IsWhole (state_of store.now) blob.items) }

@@ -112,6 +112,7 @@ pub fn gather_texts(
         }
     }
     let report = run_one(alloc, &mut store, holders.as_mut_slice());
+    store.is_reached();
     match finish_one(alloc, &store) {
         Ok(blob) => Ok(blob),
         Err(FinishFault::Unfinished) => Err(cause(&report)),
