@@ -1,11 +1,22 @@
 -- A one-thread store mirrors a history's state: its seats' numbers stand for names. So both give the same replies.
-use Rattle.std.proofs.Common.{◌≡◌, ℕ, ◌+◌, ◌%◌, zero, suc, nat_lt, ◌==◌, Bool, true, false, not, ◌&&◌, ◌||◌, if◌then◌else◌, List, [], ◌∷◌, map, Option, None, Some, is_some, option_map, refl, sym, ap, subst, ◌∙◌}
+use Rattle.std.proofs.Common.{◌≡◌, ℕ, ◌+◌, ◌%◌, zero, suc, nat_lt, ◌==◌, Bool, true, false, not, ◌&&◌, ◌||◌, if◌then◌else◌, List, [], ◌∷◌, map, Option, None, Some, is_some, option_map, refl, sym, ap, subst, ◌∙◌, inl, inr}
+use Rattle.std.proofs.lemmas.Bool.{cases_Bool}
 use Rattle.store_core.specs.declared.fixed.Fixed.{Fixed}
 use Rattle.store_core.specs.declared.history.Call.{Call}
-use Rattle.store_core.specs.declared.history.Call.TheVariants.{Commit, Give, Length, Read, Settle, Take}
+use Rattle.store_core.specs.declared.history.Call.TheVariants.{Commit, Give, Length, Parents, Read, Serve, Settle, Take}
 use Rattle.store_core.specs.declared.history.Event.{Event}
+use Rattle.store_core.specs.declared.history.Piece.{Piece}
+use Rattle.store_core.specs.declared.history.Serving.{Serving}
+use Rattle.store_core.specs.declared.history.Storing.{Storing}
+use Rattle.store_core.specs.declared.history.Storing.TheVariants.{OtherLength, Stored}
 use Rattle.store_core.specs.declared.store.Store.{Store}
-use Rattle.store_core.specs.Events.{IsRight, after, after_call, is_free}
+use Rattle.bao_text.specs.declared.walk.Node.{Node}
+use Rattle.bao_text.specs.declared.walk.Node.TheVariants.{Chunk, Parent}
+use Rattle.bao_text.specs.NodeNames.{slice_names}
+use Rattle.bao_text.specs.Texts.{length_text}
+use Rattle.store_core.specs.Events.{IsRight, IsStoring, after, after_call, is_free}
+use Rattle.store_core.specs.Laws.{is_partial}
+use Rattle.store_core.specs.Serves.{after_bytes, node_and, served, serving, serving_of}
 use Rattle.store_core.specs.Histories.{AreLegalFrom}
 use Rattle.store_core.specs.Masks.{has_bit, in_mask}
 use Rattle.store_core.specs.Names.{Name, has_name, least_name}
@@ -49,6 +60,22 @@ read_same : (number : Name → ℕ) (s : State) (at len : ℕ) → read_bytes (m
 read_same number s at zero = refl
 read_same number s at (suc len) = ap (λ (bytes : List ℕ). byte_and (byte_at s at) bytes) (read_same number s (at + 1) len)
 
+served_same : (number : Name → ℕ) (s : State) (nodes : List Node) → served (mirrored number s) nodes ≡ served s nodes
+served_same number s [] = refl
+served_same number s (Chunk c ∷ nodes) = ap (λ (rest : Serving). node_and (Chunk c) (s.held c) rest) (served_same number s nodes)
+served_same number s (Parent m ∷ nodes) = ap (λ (rest : Serving). node_and (Parent m) (s.parents m) rest) (served_same number s nodes)
+
+serving_same_of : (number : Name → ℕ) (s : State) (o : Option ℕ) (start len : ℕ) → serving_of o (mirrored number s) start len ≡ serving_of o s start len
+serving_same_of number s None start len = refl
+serving_same_of number s (Some l) start len = ap (λ (rest : Serving). after_bytes (length_text l) rest) (served_same number s (slice_names l start len))
+
+serving_same : (number : Name → ℕ) (s : State) (start len : ℕ) → serving (mirrored number s) start len ≡ serving s start len
+serving_same number s start len = serving_same_of number s s.recorded start len
+
+storing_mirrored : (number : Name → ℕ) (s : State) (group : ℕ) (piece : Piece) (answer : Storing) → IsStoring s group piece answer → IsStoring (mirrored number s) group piece answer
+storing_mirrored number s group piece OtherLength h = h
+storing_mirrored number s group piece (Stored mask) h = h
+
 -- a right reply is right in the mirrored state too
 right_mirrored : (fixed : Fixed) (number : Name → ℕ) (s : State) (who : List Name) (seat : ℕ) → IsSeat number s who seat → (call : Call)
     → IsRight fixed s who call → IsRight fixed (mirrored number s) (caller seat) call
@@ -66,6 +93,8 @@ right_mirrored fixed number s who seat is (Commit g p r) right = (
 right_mirrored fixed number s who seat is (Settle p a) right = right
 right_mirrored fixed number s who seat is (Read at len bytes) right = right ∙ sym (read_same number s at len)
 right_mirrored fixed number s who seat is (Length recorded) right = right
+right_mirrored fixed number s who seat is (Parents g p a) right = (right.0, storing_mirrored number s g p a right.1)
+right_mirrored fixed number s who seat is (Serve start len a) right = right ∙ sym (serving_same number s start len)
 
 least_same : (number : Name → ℕ) (o : Option Name) (seat : ℕ) → option_map number o ≡ Some seat → Some (seat ∷ []) ≡ option_map (alone number) o
 least_same number None seat e = cc
@@ -80,17 +109,19 @@ mapped number false new old put e = refl
 after_mirrored : (number : Name → ℕ) (s : State) (who : List Name) (seat : ℕ) → IsSeat number s who seat → (call : Call)
     → after_call (caller seat) call (mirrored number s) ≡ mirrored number (after_call who call s)
 after_mirrored number s who seat is (Take g w r) =
-    same_state (after_call (caller seat) (Take g w r) (mirrored number s)) (mirrored number (after_call who (Take g w r) s)) (λ c. refl)
+    same_state (after_call (caller seat) (Take g w r) (mirrored number s)) (mirrored number (after_call who (Take g w r) s)) refl (λ c. refl)
     (λ c. mapped number (in_mask g r c) (least_name who) (s.claim c) (Some (seat ∷ [])) (least_same number (least_name who) seat is.least)) refl
 after_mirrored number s who seat is (Give g m r) =
-    same_state (after_call (caller seat) (Give g m r) (mirrored number s)) (mirrored number (after_call who (Give g m r) s)) (λ c. refl)
+    same_state (after_call (caller seat) (Give g m r) (mirrored number s)) (mirrored number (after_call who (Give g m r) s)) refl (λ c. refl)
     (λ c. mapped number (in_mask g r c) None (s.claim c) None refl) refl
 after_mirrored number s who seat is (Commit g p r) =
-    same_state (after_call (caller seat) (Commit g p r) (mirrored number s)) (mirrored number (after_call who (Commit g p r) s)) (λ c. refl)
+    same_state (after_call (caller seat) (Commit g p r) (mirrored number s)) (mirrored number (after_call who (Commit g p r) s)) refl (λ c. refl)
     (λ c. mapped number (in_mask g r c) None (s.claim c) None refl) refl
 after_mirrored number s who seat is (Settle p a) = refl
 after_mirrored number s who seat is (Read at len bytes) = refl
 after_mirrored number s who seat is (Length recorded) = refl
+after_mirrored number s who seat is (Parents g p a) = refl
+after_mirrored number s who seat is (Serve start len a) = refl
 
 -- a store that mirrors the state gives the replies of what follows
 same_replies : (fixed : Fixed) (number : Name → ℕ) (s : State) (history : List Event) (store : Store) (calls : List SeatCall) → AreLegalFrom fixed s history
@@ -104,13 +135,17 @@ same_replies fixed number s (e ∷ history) store (made ∷ calls) legal fixed_i
     subst (λ (f : Fixed). IsRight f (mirrored number s) (caller made.seat) made.call) fixed_is
     (subst (λ (t : State). IsRight (fixed_of store) t (caller made.seat) made.call) state_is answers.1.right) in
     let same : made.call ≡ e.call =
-    state_determines fixed (mirrored number s) (caller made.seat) made.call e.call right (right_mirrored fixed number s e.who made.seat asks.0 e.call legal.0) asks.1 in
+    elim (cases_Bool (is_partial e.call)) [
+      | inl part ↦ asks.2 part
+      | inr whole ↦
+          sym (state_determines fixed (mirrored number s) (caller made.seat) e.call made.call (right_mirrored fixed number s e.who made.seat asks.0 e.call legal.0) right whole (sym asks.1))
+    ] in
     let next_is : state_of answers.0 ≡ mirrored number (after s e) =
     answers.1.after ∙ ap (λ (t : State). after_call (caller made.seat) made.call t) state_is
     ∙ ap (λ (x : Call). after_call (caller made.seat) x (mirrored number s)) same ∙ after_mirrored number s e.who made.seat asks.0 e.call in
     ap (λ (x : Call). x ∷ map (λ made. made.call) calls) same
     ∙ ap (λ (xs : List Call). e.call ∷ xs)
-    (same_replies fixed number (after s e) history answers.0 calls legal.1 (answers.1.fixed ∙ fixed_is) next_is asks.2 answers.2)
+    (same_replies fixed number (after s e) history answers.0 calls legal.1 (answers.1.fixed ∙ fixed_is) next_is asks.3 answers.2)
 
 pub replies_are_the_stores : RepliesAreTheStores
 replies_are_the_stores fixed history number store calls legal new asks answers =

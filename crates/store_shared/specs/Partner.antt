@@ -1,12 +1,12 @@
 -- The one-thread store as the partner of a shared one.
-use Rattle.std.specs.Prelude.{◌≡◌, ℕ, ◌==◌, List, [], ◌∷◌, map, Some, option_map}
+use Rattle.std.specs.Prelude.{◌≡◌, ℕ, ◌==◌, true, List, [], ◌∷◌, map, Some, option_map}
 use Rattle.store_core.specs.declared.fixed.Fixed.{Fixed}
 use Rattle.store_core.specs.declared.history.Call.{Call}
 use Rattle.store_core.specs.declared.history.Event.{Event}
 use Rattle.store_core.specs.declared.store.Store.{Store}
 use Rattle.store_core.specs.Events.{after}
 use Rattle.store_core.specs.Histories.{IsLegal}
-use Rattle.store_core.specs.Laws.{question}
+use Rattle.store_core.specs.Laws.{is_partial, question}
 use Rattle.store_core.specs.Names.{Name, has_name, least_name}
 use Rattle.store_core.specs.Slots.{caller}
 use Rattle.store_core.specs.States.{State, empty}
@@ -28,13 +28,13 @@ pub record IsSeat (number : Name → ℕ) (s : State) (who : List Name) (seat : 
   pub least : option_map number (least_name who) ≡ Some seat
   pub own : (c : ℕ) (name : Name) → s.claim c ≡ Some name → has_name who name ≡ (number name == seat)
 
--- the calls are those that the events answer, in their order and by their callers
+-- the calls are those that the events answer, in their order and by their callers; where a reply may tell of a part, it is that part
 abbrev pub AskTheSame : (Name → ℕ) → State → List Event → List SeatCall → Type 0
 AskTheSame number s [] [] = Unit {0}
 AskTheSame number s [] (made ∷ calls) = ⊥
 AskTheSame number s (e ∷ events) [] = ⊥
 AskTheSame number s (e ∷ events) (made ∷ calls) =
-    IsSeat number s e.who made.seat × (question made.call ≡ question e.call) × AskTheSame number (after s e) events calls
+    IsSeat number s e.who made.seat × (question made.call ≡ question e.call) × (is_partial e.call ≡ true → made.call ≡ e.call) × AskTheSame number (after s e) events calls
 
 -- Served with the calls of a legal history in its order, a new one-thread store gives the history's replies.
 abbrev pub RepliesAreTheStores : Type 0

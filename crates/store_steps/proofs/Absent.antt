@@ -68,14 +68,14 @@ module _ (fixed : Fixed) (s : Table Unit (List SeatView)) (k : IsKept fixed s) (
   claim_stays c miss = ap (λ (b : Bool). if b then None else state.claim c) miss
 
   pub give_none_steps : (mask : ℕ) → Steps fixed s id 0 found (λ new. Gives group mask 0 view new)
-  give_none_steps mask = did_step fixed s k id view seat (Give group mask 0) 0 found
+  give_none_steps mask = did_step fixed s k id view seat (Give group mask 0) 0 found (omega arith) refl
       (record { small = omega arith; bits = λ c here. has_bit-zero (c % 64) ∙ sym (and_right _ _ (unclaimed c here)) })
       (stands (after_call who (Give group mask 0) state) (λ c. refl) (λ c. claim_stays c (in_none c)) refl)
       (ended_written fixed s k id view seat (after_call who (Give group mask 0) state) group 0 0 found (omega (arith, any)) claim_stays)
       (λ number c never. cells_beside fixed s k id view seat 0 found number (omega (arith, any)))
 
   pub publish_none_steps : (piece : Piece) → IsAcceptedPiece fixed piece → Steps fixed s id 0 found (λ new. Publishes group piece 0 view new)
-  publish_none_steps piece accepted = did_step fixed s k id view seat (Commit group piece 0) 0 found
+  publish_none_steps piece accepted = did_step fixed s k id view seat (Commit group piece 0) 0 found (omega arith) refl
       (accepted, record { small = omega arith; bits = λ c here. has_bit-zero (c % 64) ∙ sym (and_left _ (holds_chunk piece c) (unclaimed c here)) })
       (stands (after_call who (Commit group piece 0) state)
       (λ c. ap (λ (b : Bool). if b then chunk_bytes piece c else state.held c) (in_none c)) (λ c. claim_stays c (in_none c)) refl)

@@ -2,7 +2,7 @@
 use Rattle.std.proofs.Common.{◌≡◌, ℕ, ◌<◌, Bool, true, false, not, ◌&&◌, ◌||◌, if◌then◌else◌, List, [], ◌∷◌, length, Option, None, refl, ap, ◌∙◌, arith}
 use Rattle.std.proofs.lemmas.Bool.{or_left}
 use Rattle.store_core.specs.declared.history.Call.{Call}
-use Rattle.store_core.specs.declared.history.Call.TheVariants.{Commit, Give, Length, Read, Settle, Take}
+use Rattle.store_core.specs.declared.history.Call.TheVariants.{Commit, Give, Length, Parents, Read, Serve, Settle, Take}
 use Rattle.store_core.specs.declared.history.Event.{Event}
 use Rattle.store_core.specs.declared.view.Named.{Named}
 use Rattle.store_core.specs.Events.{after_call}
@@ -50,6 +50,8 @@ claims_then names (Commit group piece committed) t c least = if_ended names (in_
 claims_then names (Settle piece answer) t c least = refl
 claims_then names (Read at len bytes) t c least = refl
 claims_then names (Length recorded) t c least = refl
+claims_then names (Parents group piece answer) t c least = refl
+claims_then names (Serve start len answer) t c least = refl
 
 -- by claims that are the same
 pub claims_after-same : (call : Call) (one other : ℕ → Bool) (c : ℕ) → one c ≡ other c → claims_after call one c ≡ claims_after call other c
@@ -59,3 +61,5 @@ claims_after-same (Commit group piece committed) one other c e = ap (λ (b : Boo
 claims_after-same (Settle piece answer) one other c e = e
 claims_after-same (Read at len bytes) one other c e = e
 claims_after-same (Length recorded) one other c e = e
+claims_after-same (Parents group piece answer) one other c e = e
+claims_after-same (Serve start len answer) one other c e = e

@@ -116,7 +116,7 @@ module _ (fixed : Fixed) (s : Table Unit (List SeatView)) (k : IsKept fixed s) (
         (λ c other. ap (λ (b : Bool). if b then None else state.claim c) (in_other c other))
 
     pub give_steps : Steps fixed s id (claim_place fixed group) (bit_and found (bit_not w64 given)) (λ new. Gives group mask given view new)
-    give_steps = did_step fixed s k id view seat (Give group mask given) (claim_place fixed group) (bit_and found (bit_not w64 given)) right words
+    give_steps = did_step fixed s k id view seat (Give group mask given) (claim_place fixed group) (bit_and found (bit_not w64 given)) (omega (arith, there)) refl right words
         (ended_written (after_call (names_of view) (Give group mask given) state) group given (claim_place fixed group)
         (bit_and found (bit_not w64 given)) (omega (arith, there)) (λ c miss. ap (λ (b : Bool). if b then None else state.claim c) miss))
         (λ number c never. cells_beside (claim_place fixed group) (bit_and found (bit_not w64 given)) number (omega (arith, there)))

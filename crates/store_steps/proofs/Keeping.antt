@@ -1,5 +1,5 @@
 -- A step of a seat with one view keeps the rule.
-use Rattle.std.proofs.Common.{◌≡◌, ◌≢◌, ◌⊎◌, ℕ, ◌/◌, ◌<◌, true, false, List, [], ◌∷◌, ◌++◌, length, Contains, set, refl, sym, ap, subst, ◌∙◌, inl, inr, append_assoc}
+use Rattle.std.proofs.Common.{◌≡◌, ◌≢◌, ◌⊎◌, ℕ, ◌/◌, ◌<◌, true, false, Option, List, [], ◌∷◌, ◌++◌, length, Contains, set, refl, sym, ap, subst, ◌∙◌, inl, inr, append_assoc}
 use Rattle.std.proofs.lemmas.Bool.{false≢true, or_cases}
 use mathlib.Core.Option.{some}
 use lib.ListN.{get_elem?}
@@ -12,12 +12,15 @@ use Rattle.store_core.specs.declared.view.SeatView.{SeatView}
 use Rattle.store_core.specs.Histories.{AreOfOthers, IsLegal, state_after}
 use Rattle.store_core.specs.Names.{Name, has_name, same_name, share_name}
 use Rattle.store_core.specs.States.{State, claims, empty, is_claimed}
-use Rattle.store_core.specs.Views.{names_of}
+use Rattle.store_core.specs.declared.view.Boundaries.{Boundaries}
+use Rattle.store_core.specs.Views.{is_boundary, names_of}
 use Rattle.store_core.proofs.Joining.{plain}
 use Rattle.store_core.proofs.Lasting.{claims_from, legal-append, run-append}
 use Rattle.store_core.proofs.Tells.{claims-claimed, claims_apart, same_name-true}
 use Rattle.store_steps.specs.Layout.{cell_at}
-use Rattle.store_steps.specs.Rule.{AreApart, AreDistinct, Fits, HasView, IsKept, IsLater, IsNamed, StandFor}
+use Rattle.store_steps.specs.Rule.{AreApart, AreDistinct, AreParentsKept, Fits, FitsParents, HasView, IsKept, IsLater, IsNamed, StandFor, StandForParents}
+use Rattle.store_steps.proofs.ParentsStanding.{LeavesParents, fits_left, fits_same, parents_left}
+use Rattle.store_steps.proofs.Storers.{stores_on}
 use Rattle.store_steps.proofs.Lists.{AreBy, apart_from, entry_of, one_part, others-append, others_by}
 
 -- the names of views that have the same entries
@@ -99,7 +102,7 @@ module _ (fixed : Fixed) (s : Table Unit (List SeatView)) (k : IsKept fixed s) (
   abbrev pub Found : ℕ → ℕ → SeatView → Type 0
   Found i j v = ((i ≡ id) × (j ≡ 0) × (v ≡ new)) ⊎ ((i ≢ id) × HasView s.views i j v)
 
-  found : (i j : ℕ) (v : SeatView) → HasView (set s.views id (new ∷ [])) i j v → Found i j v
+  pub found : (i j : ℕ) (v : SeatView) → HasView (set s.views id (new ∷ [])) i j v → Found i j v
   found i j v h = elim (at_set s.views id i (new ∷ []) h.parts h.is_seat) [
     | inl here ↦
         let one = one_part new v j (subst (λ (vs : List SeatView). get_elem? vs j ≡ some v) (sym here.1) h.is_part) in inl (here.0, one.0, one.1)
@@ -135,16 +138,41 @@ module _ (fixed : Fixed) (s : Table Unit (List SeatView)) (k : IsKept fixed s) (
       cells number (claims-claimed (names_of v) (state_after k.history) (number / 129) c)
       (claims_apart (state_after k.history) (names_of view) (names_of v) (number / 129) turned c))
 
+  -- Where the words of parents are left, and the parents held are the same, those that are held or being
+  -- stored are kept, since the seat is storing the same.
+  pub parents_kept : (later : List ℕ) → LeavesParents fixed s.words later → (parents : ℕ → Option (List ℕ)) → parents ≡ (state_after k.history).parents
+      → new.storing ≡ view.storing → new.parent_words ≡ view.parent_words → AreParentsKept fixed later (set s.views id (new ∷ [])) parents
+  parents_kept later leaves parents same_parents same_storing same_words = record {
+    storer = k.parents.storer;
+    stand = subst (λ (p : ℕ → Option (List ℕ)). StandForParents fixed later p k.parents.storer) (sym same_parents)
+        (parents_left fixed s.words later (state_after k.history).parents k.parents.storer leaves k.parents.stand);
+    fit = λ seat part v h. fit_from seat part v (found seat part v h);
+    by = λ m i j is. stores_on s.views id view new seat m (λ h. ap (λ (bs : List Boundaries). is_boundary bs m) same_storing ∙ h) i j (k.parents.by m i j is);
+  } where
+    its_fit : FitsParents fixed later k.parents.storer id 0 new
+    its_fit =
+        let old = fits_left fixed s.words later k.parents.storer id 0 view leaves (k.parents.fit id 0 view its) in
+        fits_same fixed later k.parents.storer id 0 view new same_storing same_words old
+
+    fit_from : (seat part : ℕ) (v : SeatView) → Found seat part v → FitsParents fixed later k.parents.storer seat part v
+    fit_from seat part v (inl here) =
+        subst (λ (p : ℕ). FitsParents fixed later k.parents.storer p part v) (sym here.0)
+        (subst (λ (q : ℕ). FitsParents fixed later k.parents.storer id q v) (sym here.1)
+        (subst (λ (u : SeatView). FitsParents fixed later k.parents.storer id 0 u) (sym here.2) its_fit))
+    fit_from seat part v (inr other) = fits_left fixed s.words later k.parents.storer seat part v leaves (k.parents.fit seat part v other.1)
+
   -- The rule after a step of the seat's that makes word i the number n, with its own events and its new view.
   pub kept_step : (own : List Event) (i n : ℕ) → AreBy (names_of view) own → IsLegal fixed (k.history ++ own)
       → StandFor fixed (set s.words i n) (state_after (k.history ++ own)) → Fits fixed (k.history ++ own) (set s.words i n) new
       → ((number : ℕ) → is_claimed (state_after k.history) (number / 129) ≡ true → claims (names_of view) (state_after k.history) (number / 129) ≡ false
       → cell_at fixed (set s.words i n) number ≡ cell_at fixed s.words number)
+      → AreParentsKept fixed (set s.words i n) (set s.views id (new ∷ [])) (state_after (k.history ++ own)).parents
       → IsKept fixed (stepped s i n id [] (new ∷ []) keeps)
-  kept_step own i n by legal words fits cells = record {
+  kept_step own i n by legal words fits cells parents = record {
     history = k.history ++ own;
     legal = legal;
     words = words;
     views = λ seat part v h. fits_from own (set s.words i n) by legal fits cells seat part v (found seat part v h);
     names = apart_still s.views (set s.views id (new ∷ [])) k.history own k.names (λ seat part v h. before_from seat part v (found seat part v h)) id 0 view its by;
+    parents = parents;
   }

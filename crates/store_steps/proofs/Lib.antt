@@ -25,3 +25,10 @@ pub mod CellSteps
 pub mod LengthSteps
 pub mod LoadSteps
 pub mod SideSteps
+pub mod Storers
+pub mod ParentsStanding
+pub mod ParentsAside
+pub mod ParentClaims
+pub mod ParentStoring
+pub mod ParentPublishing
+pub mod ParentLooking

@@ -69,7 +69,7 @@ module _ (fixed : Fixed) (s : Table Unit (List SeatView)) (k : IsKept fixed s) (
       record {
         new = t.new;
         kept = t.kept;
-        told = record { between = t.told.0.between; goes_on = t.told.0.goes_on; claims_are = t.told.0.claims_are; written_are = t.told.0.written_are };
+        told = record { between = t.told.0.between; goes_on = t.told.0.goes_on; claims_are = t.told.0.claims_are; written_are = t.told.0.written_are; storing_is = t.told.0.storing_is };
       }
 
   -- what the seat saw held is held

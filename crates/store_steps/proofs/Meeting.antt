@@ -1,7 +1,8 @@
 -- A seat with two views loads a word: they merge to one, or both see all that happened.
 use Rattle.std.proofs.Common.{Contains, ◌≡◌, ◌≢◌, ◌⊎◌, ℕ, ◌/◌, ◌<◌, ◌==◌, true, false, ◌||◌, if◌then◌else◌, List, [], ◌∷◌, ◌++◌, length, set, slice_index, Option, None, Some, refl, sym, ap, subst, ◌∙◌, arith, inl, inr}
-use Rattle.std.proofs.lemmas.Bool.{cases_Bool, false_from_ne_true, or_cases, or_left, or_right}
+use Rattle.std.proofs.lemmas.Bool.{cases_Bool, cases_eq, false_from_ne_true, or_cases, or_left, or_right}
 use Rattle.std.proofs.lemmas.List.{append-nil, set-get_or}
+use Rattle.std.specs.Option.{option_map}
 use mathlib.Core.Option.{some}
 use lib.ListN.{get_elem?}
 use Rattle.atomic_table.specs.Table.{Allows, Me, State as Table, keeps, stepped}
@@ -13,15 +14,19 @@ use Rattle.store_core.specs.declared.view.StoredWord.{StoredWord}
 use Rattle.store_core.specs.Histories.{IsLegal, state_after}
 use Rattle.store_core.specs.Names.{Name, has_name, share_name}
 use Rattle.store_core.specs.States.{claims, is_among}
-use Rattle.store_core.specs.Views.{merge_names, names_of, stored}
+use Rattle.store_core.specs.declared.view.Boundaries.{Boundaries}
+use Rattle.store_core.specs.Masks.{in_mask}
+use Rattle.store_core.specs.Views.{is_boundary, is_storing, merge_names, names_of, stored}
 use Rattle.store_core.proofs.Joining.{merge-has}
 use Rattle.store_steps.specs.Grips.{first_of}
 use Rattle.store_steps.specs.Plays.{Meets, Merges, OfTwo, rest_of}
-use Rattle.store_steps.specs.Rule.{AreApart, AreDistinct, Fits, HasView, IsKept, IsNamed}
+use Rattle.store_steps.specs.Rule.{AreApart, AreDistinct, Fits, FitsParents, HasView, IsKept, IsNamed, StoresAt}
 use Rattle.store_steps.proofs.Keeping.{Before, apart_still}
 use Rattle.store_steps.proofs.Lists.{apart_from, one_part}
 use Rattle.store_steps.proofs.Naming.{merge-cases, merge-distinct, merge-some}
-use Rattle.store_steps.proofs.Regrouping.{at_other, other_place, rekept, same_place, two_parts}
+use Rattle.store_steps.proofs.Regrouping.{at_other, other_place, rekept, same_place, stand_moved, two_parts}
+use Rattle.store_steps.proofs.ParentsStanding.{fits_same}
+use Rattle.store_steps.proofs.Storers.{gets, had, moved_from, stays}
 
 -- what a load by a seat with two views comes to
 pub record Turns (fixed : Fixed) (s : Table Unit (List SeatView)) (id : ℕ) (Told : List SeatView → Type 0) : Type 0 where
@@ -48,6 +53,14 @@ at_two fixed key key_is slots id me one two is Told turns =
             refl,
           ),
     ))
+
+-- a boundary of one of two
+is_boundary-append : (first second : List Boundaries) (m : ℕ) → is_boundary (first ++ second) m ≡ (is_boundary first m || is_boundary second m)
+is_boundary-append [] second m = refl
+is_boundary-append (b ∷ first) second m = elim (cases_Bool (in_mask b.group b.mask m)) [
+  | inl here ↦ rw here refl
+  | inr other ↦ rw other (is_boundary-append first second m)
+]
 
 -- a word stored by one of two
 stored-append : (first second : List StoredWord) (number value : ℕ) → stored (first ++ second) number ≡ Some value
@@ -94,7 +107,7 @@ module _ (fixed : Fixed) (s : Table Unit (List SeatView)) (k : IsKept fixed s) (
 
   -- The views merge.
   abbrev merged : SeatView
-  merged = record { fixed = one.fixed; names = merge_names one.names two.names; seen = k.history; written = one.written ++ two.written }
+  merged = record { fixed = one.fixed; names = merge_names one.names two.names; seen = k.history; written = one.written ++ two.written; storing = one.storing ++ two.storing; parent_words = one.parent_words ++ two.parent_words }
 
   merged_has : (name : Name) → has_name (names_of merged) name ≡ (has_name (names_of one) name || has_name (names_of two) name)
   merged_has name = merge-has one.names two.names name
@@ -166,6 +179,72 @@ module _ (fixed : Fixed) (s : Table Unit (List SeatView)) (k : IsKept fixed s) (
   merge_fits i j v (inl here) = subst (λ (u : SeatView). Fits fixed k.history s.words u) (sym here.2) merged_fits
   merge_fits i j v (inr other) = k.views i j v other.1
 
+  abbrev storer_then : ℕ → Option (ℕ × ℕ)
+  storer_then m = option_map to (k.parents.storer m)
+
+  parents_one : FitsParents fixed s.words k.parents.storer id 0 one
+  parents_one = k.parents.fit id 0 one part_one
+
+  parents_two : FitsParents fixed s.words k.parents.storer id 1 two
+  parents_two = k.parents.fit id 1 two part_two
+
+  owned_then : (m : ℕ) (place : ℕ × ℕ) → k.parents.storer m ≡ Some place → to place ≡ (id, 0) → storer_then m ≡ Some (id, 0)
+  owned_then m place is to_is = ap (λ (o : Option (ℕ × ℕ)). option_map to o) is ∙ ap (λ (p : ℕ × ℕ). Some p) to_is
+
+  merged_parents : FitsParents fixed s.words storer_then id 0 merged
+  merged_parents = record {
+    low = λ m is. elim (or_cases (is_storing one m) (is_storing two m) (sym (is_boundary-append one.storing two.storing m) ∙ is)) [
+      | inl a ↦ parents_one.low m a
+      | inr b ↦ parents_two.low m b
+    ];
+    owned = λ m is. elim (or_cases (is_storing one m) (is_storing two m) (sym (is_boundary-append one.storing two.storing m) ∙ is)) [
+      | inl a ↦ owned_then m (id, 0) (parents_one.owned m a) (same_place id id (id, 0) (id, 0) refl)
+      | inr b ↦ owned_then m (id, 1) (parents_two.owned m b) (same_place id id (id, 0) (id, 1) refl)
+    ];
+    written = λ number value is. elim (stored-append one.parent_words two.parent_words number value is) [
+      | inl a ↦ let w = parents_one.written number value a in (is_boundary-append one.storing two.storing (number / 8) ∙ or_left _ _ w.0, w.1)
+      | inr b ↦ let w = parents_two.written number value b in (is_boundary-append one.storing two.storing (number / 8) ∙ or_right _ _ w.0, w.1)
+    ];
+  }
+
+  -- who was storing a parent is where it was, or merged
+  merged_stores : (m : ℕ) (p : ℕ × ℕ) → k.parents.storer m ≡ Some p → StoresAt (set s.views id (merged ∷ [])) (to p).0 (to p).1 m
+  merged_stores m p is =
+      let at_old : StoresAt s.views p.0 p.1 m = k.parents.by m p.0 p.1 is in
+      elim (cases_eq p.0 id) [
+        | inl here ↦
+            subst (λ (q : ℕ × ℕ). StoresAt (set s.views id (merged ∷ [])) q.0 q.1 m) (sym (same_place p.0 id (id, 0) p here)) (record {
+              view = merged;
+              has = gets s.views id (one ∷ two ∷ []) (merged ∷ []) 0 merged at refl;
+              storing = is_boundary-append one.storing two.storing m
+                  ∙ elim (two_parts one two at_old.view p.1 (had s.views id (one ∷ two ∷ []) p.0 p.1 at_old.view at here at_old.has)) [
+                    | inl first ↦ or_left _ _ (ap (λ (v : SeatView). is_storing v m) (sym first.1) ∙ at_old.storing)
+                    | inr second ↦ or_right _ _ (ap (λ (v : SeatView). is_storing v m) (sym second.1) ∙ at_old.storing)
+                  ];
+            })
+        | inr other ↦
+            subst (λ (q : ℕ × ℕ). StoresAt (set s.views id (merged ∷ [])) q.0 q.1 m) (sym (other_place p.0 id (id, 0) p other))
+            (record { view = at_old.view; has = stays s.views id (merged ∷ []) p.0 p.1 at_old.view other at_old.has; storing = at_old.storing })
+      ]
+
+  merged_by : (m i j : ℕ) → storer_then m ≡ Some (i, j) → StoresAt (set s.views id (merged ∷ [])) i j m
+  merged_by m i j is =
+      let from = moved_from (k.parents.storer m) to (i, j) is in
+      subst (λ (q : ℕ × ℕ). StoresAt (set s.views id (merged ∷ [])) q.0 q.1 m) from.2 (merged_stores m from.0 from.1)
+
+  merge_parents : (i j : ℕ) (v : SeatView) → MergeFound i j v → FitsParents fixed s.words storer_then i j v
+  merge_parents i j v (inl here) =
+      subst (λ (a : ℕ). FitsParents fixed s.words storer_then a j v) (sym here.0)
+      (subst (λ (b : ℕ). FitsParents fixed s.words storer_then id b v) (sym here.1)
+      (subst (λ (u : SeatView). FitsParents fixed s.words storer_then id 0 u) (sym here.2) merged_parents))
+  merge_parents i j v (inr other) =
+      let f = k.parents.fit i j v other.1 in
+      record {
+        low = f.low;
+        owned = λ m is. ap (λ (o : Option (ℕ × ℕ)). option_map to o) (f.owned m is) ∙ ap (λ (p : ℕ × ℕ). Some p) (other_place i id (id, 0) (i, j) other.0);
+        written = f.written;
+      }
+
   pub merge_turns : Turns fixed s id (λ later. Merges one two later)
   merge_turns = record {
     later = merged ∷ [];
@@ -176,6 +255,11 @@ module _ (fixed : Fixed) (s : Table Unit (List SeatView)) (k : IsKept fixed s) (
       distinct = λ i j v h. merge_apart_names i j v (merge_found i j v h);
       new_to_views = λ first other a b. k.names.new_to_views first other (merge_is first a) (merge_is other b);
       new_to_calls = λ named is. k.names.new_to_calls named (merge_is named is);
+    }) (record {
+      storer = storer_then;
+      stand = stand_moved fixed s.words (state_after k.history).parents k.parents.storer to k.parents.stand;
+      fit = λ i j v h. merge_parents i j v (merge_found i j v h);
+      by = merged_by;
     });
     told = record {
       view = merged;
@@ -189,6 +273,8 @@ module _ (fixed : Fixed) (s : Table Unit (List SeatView)) (k : IsKept fixed s) (
           after_first = fits_one.continues;
           after_second = fits_two.continues;
           written_are = refl;
+          storing_are = refl;
+          parent_words_are = refl;
         };
         legal = subst (λ (f : Fixed). IsLegal f k.history) (sym fits_one.fixed_is) k.legal;
       };
@@ -240,12 +326,44 @@ module _ (fixed : Fixed) (s : Table Unit (List SeatView)) (k : IsKept fixed s) (
   }
   met_before i j v (inr (inr other)) = record { old = v; has = other.1; names = refl }
 
+  meet_parents : (i j : ℕ) (v : SeatView) → MeetFound i j v → FitsParents fixed s.words k.parents.storer i j v
+  meet_parents i j v (inl here) =
+      subst (λ (a : ℕ). FitsParents fixed s.words k.parents.storer a j v) (sym here.0)
+      (subst (λ (b : ℕ). FitsParents fixed s.words k.parents.storer id b v) (sym here.1)
+      (subst (λ (u : SeatView). FitsParents fixed s.words k.parents.storer id 0 u) (sym here.2) (fits_same fixed s.words k.parents.storer id 0 one met_one refl refl parents_one)))
+  meet_parents i j v (inr (inl here)) =
+      subst (λ (a : ℕ). FitsParents fixed s.words k.parents.storer a j v) (sym here.0)
+      (subst (λ (b : ℕ). FitsParents fixed s.words k.parents.storer id b v) (sym here.1)
+      (subst (λ (u : SeatView). FitsParents fixed s.words k.parents.storer id 1 u) (sym here.2) (fits_same fixed s.words k.parents.storer id 1 two met_two refl refl parents_two)))
+  meet_parents i j v (inr (inr other)) = k.parents.fit i j v other.1
+
+  -- who was storing a parent is where it was
+  met_by : (m i j : ℕ) → k.parents.storer m ≡ Some (i, j) → StoresAt (set s.views id (met_one ∷ met_two ∷ [])) i j m
+  met_by m i j is =
+      let at_old : StoresAt s.views i j m = k.parents.by m i j is in
+      elim (cases_eq i id) [
+        | inl here ↦
+            let there : (b : ℕ) (v : SeatView) → b ≡ j → get_elem? (met_one ∷ met_two ∷ []) b ≡ some v → HasView (set s.views id (met_one ∷ met_two ∷ [])) i j v =
+            λ b v place is_part.
+            subst (λ (p : ℕ). HasView (set s.views id (met_one ∷ met_two ∷ [])) p j v) (sym here)
+            (subst (λ (q : ℕ). HasView (set s.views id (met_one ∷ met_two ∷ [])) id q v) place
+            (gets s.views id (one ∷ two ∷ []) (met_one ∷ met_two ∷ []) b v at is_part)) in
+            elim (two_parts one two at_old.view j (had s.views id (one ∷ two ∷ []) i j at_old.view at here at_old.has)) [
+              | inl first ↦
+                  record { view = met_one; has = there 0 met_one (sym first.0) refl; storing = ap (λ (v : SeatView). is_storing v m) (sym first.1) ∙ at_old.storing }
+              | inr second ↦
+                  record { view = met_two; has = there 1 met_two (sym second.0) refl; storing = ap (λ (v : SeatView). is_storing v m) (sym second.1) ∙ at_old.storing }
+            ]
+        | inr other ↦ record { view = at_old.view; has = stays s.views id (met_one ∷ met_two ∷ []) i j at_old.view other at_old.has; storing = at_old.storing }
+      ]
+
   pub meet_turns : Turns fixed s id (λ later. Meets one two later)
   meet_turns = record {
     later = met_one ∷ met_two ∷ [];
     kept = rekept fixed s (stepped s 0 word id [] (met_one ∷ met_two ∷ []) keeps) left k (λ i j v h. meet_fits i j v (meet_found i j v h))
         (subst (λ (h : List Event). AreApart (set s.views id (met_one ∷ met_two ∷ [])) h) (append-nil k.history)
-        (apart_still s.views (set s.views id (met_one ∷ met_two ∷ [])) k.history [] k.names (λ i j v h. met_before i j v (meet_found i j v h)) id 0 one part_one tt));
+        (apart_still s.views (set s.views id (met_one ∷ met_two ∷ [])) k.history [] k.names (λ i j v h. met_before i j v (meet_found i j v h)) id 0 one part_one tt))
+        (record { storer = k.parents.storer; stand = k.parents.stand; fit = λ i j v h. meet_parents i j v (meet_found i j v h); by = met_by });
     told = record {
       new_first = met_one;
       new_second = met_two;

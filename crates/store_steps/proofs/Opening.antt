@@ -1,5 +1,5 @@
 -- Words of zeros, one seat that has seen nothing, and no call: the rule holds.
-use Rattle.std.proofs.Common.{zero, suc, ◌≡◌, ℕ, ◌+◌, ◌/◌, ◌%◌, ◌<◌, [], ◌∷◌, ◌++◌, length, replicate, slice_index, Contains, false, inl, inr, refl, sym, ap, subst, ◌∙◌, arith}
+use Rattle.std.proofs.Common.{zero, suc, ◌≡◌, ℕ, ◌+◌, ◌/◌, ◌%◌, ◌<◌, [], ◌∷◌, ◌++◌, length, replicate, slice_index, Contains, None, true, false, inl, inr, refl, sym, ap, subst, ◌∙◌, arith}
 use Rattle.std.proofs.lemmas.List.{get_or-replicate, length-replicate}
 use Rattle.atomic_table.specs.Table.{opening}
 use mathlib.Core.Option.{some-injective, some-ne-none}
@@ -12,8 +12,8 @@ use Rattle.store_core.specs.Names.{Name}
 use Rattle.store_core.specs.States.{empty}
 use Rattle.store_core.specs.Views.{names_of}
 use Rattle.store_steps.specs.Grips.{opening_view}
-use Rattle.store_steps.specs.Layout.{claim_place, length_place, word_count}
-use Rattle.store_steps.specs.Rule.{AreDistinct, Fits, HasView, IsKept, IsNamed, StandFor}
+use Rattle.store_steps.specs.Layout.{claim_place, length_place, parent_claim_place, parent_held_place, word_count}
+use Rattle.store_steps.specs.Rule.{AreDistinct, Fits, FitsParents, HasView, IsKept, IsNamed, StandFor}
 use Rattle.store_steps.proofs.Bits.{has_bit-zero}
 use Rattle.store_steps.proofs.Lists.{one_part}
 
@@ -71,5 +71,22 @@ opens fixed = record {
         let base : one.name ≡ [] = ap (λ (n : Named). n.name) (the_name fixed one a) in
         let never : [] ≡ (one.splits + later.number) ∷ later.rest = sym name ∙ later.is ∙ ap (λ (n : Name). n ++ (one.splits + later.number) ∷ later.rest) base in cc;
     new_to_calls = λ named is name later. refl;
+  };
+  parents = record {
+    storer = λ m. None;
+    stand = record {
+      held = λ m below. zero_bit (word_count fixed) (parent_held_place fixed (m / 64)) (m % 64) (omega (arith, below));
+      claimed = λ m below. zero_bit (word_count fixed) (parent_claim_place fixed (m / 64)) (m % 64) (omega (arith, below));
+      cells = λ m w bytes held below. cc;
+      apart = λ m is. refl;
+    };
+    fit = λ seat part view h.
+        let is = (the_view fixed seat part view h).2 in
+        subst (λ (v : SeatView). FitsParents fixed (replicate (word_count fixed) 0) (λ m. None) seat part v) (sym is) (record {
+          low = λ m is. let never : false ≡ true = is in cc;
+          owned = λ m is. let never : false ≡ true = is in cc;
+          written = λ number value w. cc;
+        });
+    by = λ m seat part is. cc;
   };
 }

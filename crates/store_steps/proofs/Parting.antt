@@ -19,7 +19,7 @@ use Rattle.store_core.proofs.Lasting.{claims_from, legal-append}
 use Rattle.store_core.proofs.Tells.{same_name-true, same_name-refl}
 use Rattle.store_steps.specs.Layout.{cell_at}
 use Rattle.store_steps.specs.Parts.{ArePartsOf}
-use Rattle.store_steps.specs.Rule.{AreDistinct, Fits, HasView, IsKept, IsLater, IsNamed}
+use Rattle.store_steps.specs.Rule.{AreDistinct, Fits, FitsParents, HasView, IsKept, IsLater, IsNamed}
 use Rattle.atomic_table.specs.Table.{Splits}
 use Rattle.store_steps.specs.Grips.{first_of}
 use Rattle.store_steps.specs.Plays.{Parts}
@@ -27,7 +27,9 @@ use Rattle.store_steps.proofs.Stepping.{Steps, still_step}
 use Rattle.store_steps.proofs.Keeping.{its, single}
 use Rattle.store_steps.proofs.Lists.{entry_of, one_part}
 use Rattle.store_steps.proofs.Naming.{child, child_later, first_entry, first_there, later_cases, later_child, later_raised, name_there, new_names-are, raise-length, raised, raised_cases, same_rest}
+use Rattle.store_steps.proofs.ParentsStanding.{fits_same}
 use Rattle.store_steps.proofs.Regrouping.{at_end, at_other, rekept}
+use Rattle.store_steps.proofs.Storers.{stores_longer, stores_on}
 
 -- nothing joined is nothing
 none_first : (xs ys : List Event) → xs ++ ys ≡ [] → (xs ≡ []) × (ys ≡ [])
@@ -224,6 +226,20 @@ module _ (fixed : Fixed) (s : Table Unit (List SeatView)) (k : IsKept fixed s) (
   fits_in i j v (is_second _ _ _ p q is) = subst (λ (u : SeatView). Fits fixed k.history s.words u) (sym is) second_fits
   fits_in i j v (is_other _ _ _ differ h) = k.views i j v h
 
+  parents_in : (i j : ℕ) (v : SeatView) → Found i j v → FitsParents fixed s.words k.parents.storer i j v
+  parents_in i j v (is_first _ _ _ p q is) =
+      subst (λ (a : ℕ). FitsParents fixed s.words k.parents.storer a j v) (sym p)
+      (subst (λ (b : ℕ). FitsParents fixed s.words k.parents.storer id b v) (sym q)
+      (subst (λ (u : SeatView). FitsParents fixed s.words k.parents.storer id 0 u) (sym is)
+      (fits_same fixed s.words k.parents.storer id 0 view (split_first view) refl refl (k.parents.fit id 0 view here))))
+  parents_in i j v (is_second _ _ _ p q is) =
+      subst (λ (u : SeatView). FitsParents fixed s.words k.parents.storer i j u) (sym is) (record {
+        low = λ m is. let never : false ≡ true = is in cc;
+        owned = λ m is. let never : false ≡ true = is in cc;
+        written = λ number value w. cc;
+      })
+  parents_in i j v (is_other _ _ _ differ h) = k.parents.fit i j v h
+
   pub parted_kept : IsKept fixed (record { words = s.words; homes = s.homes; views = set s.views id (split_first view ∷ []) ++ (split_second view ∷ []) ∷ [] })
   parted_kept = rekept fixed s (record { words = s.words; homes = s.homes; views = later }) refl k (λ i j v h. fits_in i j v (found i j v h)) (record {
     owner = owner;
@@ -233,6 +249,12 @@ module _ (fixed : Fixed) (s : Table Unit (List SeatView)) (k : IsKept fixed s) (
     new_to_views = λ one other a b. never_later one other (entry_of_later one a) (entry_of_later other b);
     new_to_calls = λ one is name l.
         let o = older one (entry_of_later one is) in k.names.new_to_calls o.old o.is name (o.later_too name l);
+  }) (record {
+    storer = k.parents.storer;
+    stand = k.parents.stand;
+    fit = λ i j v h. parents_in i j v (found i j v h);
+    by = λ m i j is.
+        stores_longer first_views ((split_second view ∷ []) ∷ []) i j m (stores_on s.views id view (split_first view) at m (λ h. h) i j (k.parents.by m i j is));
   })
 
   -- the load before it

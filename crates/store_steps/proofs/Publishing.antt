@@ -100,7 +100,7 @@ module _ (fixed : Fixed) (s : Table Unit (List SeatView)) (k : IsKept fixed s) (
       cells
 
   pub publish_steps : Steps fixed s id group (bit_or found mask) (λ new. Publishes group piece mask view new)
-  publish_steps = did_step fixed s k id view seat (Commit group piece mask) group (bit_or found mask) (accepted, marked) words
+  publish_steps = did_step fixed s k id view seat (Commit group piece mask) group (bit_or found mask) (omega (arith, there)) refl (accepted, marked) words
       (ended_written fixed s k id view seat (after_call who (Commit group piece mask) state) group mask group (bit_or found mask) (omega (arith, there))
       (λ c miss. ap (λ (b : Bool). if b then None else state.claim c) miss))
       (λ number c never. cells_beside fixed s k id view seat group (bit_or found mask) number (omega (arith, there)))

@@ -1,29 +1,33 @@
 -- Views that move from seat to seat: the words, the history and each view are as they were.
-use Rattle.std.proofs.Common.{◌≡◌, ◌≢◌, ◌⊎◌, ℕ, zero, suc, ◌==◌, if◌then◌else◌, List, [], ◌∷◌, ◌++◌, length, set, refl, sym, ap, subst, ◌∙◌, inl, inr, ne_eqb, eq-eqb}
+use Rattle.std.proofs.Common.{◌≡◌, ◌≢◌, ◌⊎◌, ℕ, zero, suc, ◌==◌, if◌then◌else◌, Bool, ◌||◌, true, Option, None, Some, is_some, List, [], ◌∷◌, ◌++◌, length, set, refl, sym, ap, subst, ◌∙◌, inl, inr, ne_eqb, eq-eqb, arith}
+use Rattle.std.specs.Option.{option_map}
+use Rattle.std.proofs.lemmas.Bool.{cases_eq}
 use mathlib.Core.Option.{some, some-injective, some-ne-none}
 use lib.ListN.{get_elem?}
 use Rattle.atomic_table.specs.Table.{State as Table}
-use Rattle.atomic_table.proofs.Lists.{at_set}
+use Rattle.atomic_table.proofs.Lists.{at_last, at_set, set_else}
 use Rattle.store_core.specs.declared.fixed.Fixed.{Fixed}
 use Rattle.store_core.specs.declared.view.Named.{Named}
 use Rattle.store_core.specs.declared.view.SeatView.{SeatView}
 use Rattle.store_core.specs.Histories.{state_after}
-use Rattle.store_steps.specs.Rule.{AreApart, Fits, HasView, IsKept, IsNamed, StandFor}
+use Rattle.store_steps.specs.Rule.{AreApart, AreParentsKept, Fits, FitsParents, HasView, IsKept, IsNamed, StandFor, StandForParents, StoresAt}
 use Rattle.atomic_table.specs.Table.{Enters, Joins, Splits}
 use Rattle.store_steps.specs.Grips.{first_of}
 use Rattle.store_steps.specs.Plays.{rest_of}
 use Rattle.store_steps.proofs.Lists.{one_part}
+use Rattle.store_steps.proofs.Storers.{gets, had, longer, moved_from, stays}
 
 -- the rule of another table with the same words, whose views fit and whose names are apart
 pub rekept : (fixed : Fixed) (s t : Table Unit (List SeatView)) → t.words ≡ s.words → (k : IsKept fixed s)
     → ((seat part : ℕ) (view : SeatView) → HasView t.views seat part view → Fits fixed k.history s.words view)
-    → AreApart t.views k.history → IsKept fixed t
-rekept fixed s t same k fits names = record {
+    → AreApart t.views k.history → AreParentsKept fixed s.words t.views (state_after k.history).parents → IsKept fixed t
+rekept fixed s t same k fits names parents = record {
   history = k.history;
   legal = k.legal;
   words = subst (λ (words : List ℕ). StandFor fixed words (state_after k.history)) (sym same) k.words;
   views = λ seat part view h. subst (λ (words : List ℕ). Fits fixed k.history words view) (sym same) (fits seat part view h);
   names = names;
+  parents = subst (λ (words : List ℕ). AreParentsKept fixed words t.views (state_after k.history).parents) (sym same) parents;
 }
 
 -- a view that stood at a place, and where it stands now
@@ -40,9 +44,47 @@ moved_named views later to moved named k =
     let m = moved k.seat k.part k.view k.has in
     record { seat = m.old_seat; part = m.old_part; view = k.view; has = m.has; among = k.among }
 
+option_same : (storer : Option (ℕ × ℕ)) (to : ℕ × ℕ → ℕ × ℕ) → is_some (option_map to storer) ≡ is_some storer
+option_same None to = refl
+option_same (Some place) to = refl
+
+pub stand_moved : (fixed : Fixed) (words : List ℕ) (parents : ℕ → Option (List ℕ)) (storer : ℕ → Option (ℕ × ℕ)) (to : ℕ × ℕ → ℕ × ℕ)
+    → StandForParents fixed words parents storer → StandForParents fixed words parents (λ m. option_map to (storer m))
+stand_moved fixed words parents storer to h = record {
+  held = h.held;
+  claimed = λ m below. h.claimed m below ∙ ap (λ (b : Bool). is_some (parents m) || b) (sym (option_same (storer m) to));
+  cells = h.cells;
+  apart = λ m is. h.apart m (sym (option_same (storer m) to) ∙ is);
+}
+
+-- each view stands where its place goes
+abbrev pub Goes : List (List SeatView) → List (List SeatView) → (ℕ × ℕ → ℕ × ℕ) → Type 0
+Goes views later to = (seat part : ℕ) (view : SeatView) → HasView views seat part view → HasView later (to (seat, part)).0 (to (seat, part)).1 view
+
+-- parents that are being stored are so by the views where these stand now
+pub parents_moved : (fixed : Fixed) (words : List ℕ) (views later : List (List SeatView)) (parents : ℕ → Option (List ℕ)) → AreParentsKept fixed words views parents → (to : ℕ × ℕ → ℕ × ℕ)
+    → ((seat part : ℕ) (view : SeatView) → HasView later seat part view → Moved views to seat part view) → Goes views later to → AreParentsKept fixed words later parents
+parents_moved fixed words views later parents k to moved goes = record {
+  storer = λ m. option_map to (k.storer m);
+  stand = stand_moved fixed words parents k.storer to k.stand;
+  fit = λ seat part view h.
+      let w = moved seat part view h in
+      let f = k.fit w.old_seat w.old_part view w.has in
+      record {
+        low = f.low;
+        owned = λ m is. ap (λ (o : Option (ℕ × ℕ)). option_map to o) (f.owned m is) ∙ ap (λ (p : ℕ × ℕ). Some p) w.is;
+        written = f.written;
+      };
+  by = λ m i j is.
+      let from = moved_from (k.storer m) to (i, j) is in
+      let at_old : StoresAt views from.0.0 from.0.1 m = k.by m from.0.0 from.0.1 from.1 in
+      subst (λ (q : ℕ × ℕ). StoresAt later q.0 q.1 m) from.2
+      (record { view = at_old.view; has = goes from.0.0 from.0.1 at_old.view at_old.has; storing = at_old.storing });
+}
+
 pub regroup : (fixed : Fixed) (s t : Table Unit (List SeatView)) → t.words ≡ s.words → IsKept fixed s → (to : ℕ × ℕ → ℕ × ℕ)
-    → ((seat part : ℕ) (view : SeatView) → HasView t.views seat part view → Moved s.views to seat part view) → IsKept fixed t
-regroup fixed s t same k to moved = rekept fixed s t same k
+    → ((seat part : ℕ) (view : SeatView) → HasView t.views seat part view → Moved s.views to seat part view) → Goes s.views t.views to → IsKept fixed t
+regroup fixed s t same k to moved goes = rekept fixed s t same k
     (λ seat part view h. let m = moved seat part view h in k.views m.old_seat m.old_part view m.has)
     (record {
       owner = λ name. to (k.names.owner name);
@@ -54,6 +96,7 @@ regroup fixed s t same k to moved = rekept fixed s t same k
       new_to_views = λ one other a b. k.names.new_to_views one other (moved_named s.views t.views to moved one a) (moved_named s.views t.views to moved other b);
       new_to_calls = λ named is. k.names.new_to_calls named (moved_named s.views t.views to moved named is);
     })
+    (parents_moved fixed s.words s.views t.views (state_after k.history).parents k.parents to moved goes)
 
 -- places of a list with one more at its end
 pub at_end : {A : Type 0} (xs : List A) (x y : A) (i : ℕ) → get_elem? (xs ++ x ∷ []) i ≡ some y → (get_elem? xs i ≡ some y) ⊎ ((i ≡ length xs) × (x ≡ y))
@@ -99,11 +142,8 @@ pub joined_kept : (fixed : Fixed) (s : Table Unit (List SeatView)) → IsKept fi
 joined_kept fixed s k id other one two at differ at_two =
     let both : List (List SeatView) = set s.views id (one ∷ two ∷ []) in
     let to : ℕ × ℕ → ℕ × ℕ = λ p. if p.0 == other then (id, 1) else p in
-    let two_there : HasView s.views other 0 two =
-    elim (at_set s.views id other (one ∷ two ∷ []) (two ∷ []) at_two) [
-      | inl here ↦ absurd (differ here.0)
-      | inr there ↦ record { parts = two ∷ []; is_seat = there.1; is_part = refl }
-    ] in
+    let two_seat : get_elem? s.views other ≡ some (two ∷ []) = sym (set_else s.views id other (one ∷ two ∷ []) differ) ∙ at_two in
+    let two_there : HasView s.views other 0 two = record { parts = two ∷ []; is_seat = two_seat; is_part = refl } in
     regroup fixed s (record { words = s.words; homes = s.homes; views = set both other [] }) refl k to (λ i j v h.
     elim (at_other both other [] i j v h) [
       | inl spent ↦ absurd (no_part v j spent.1)
@@ -125,6 +165,21 @@ joined_kept fixed s k id other one two at differ at_two =
         | inr there ↦ record { old_seat = i; old_part = j; has = there.1; is = other_place i other (id, 1) (i, j) away.0 }
       ]
     ])
+    (λ i j v h. elim (cases_eq i other) [
+      | inl taken ↦
+          let only = one_part two v j (had s.views other (two ∷ []) i j v two_seat taken h) in
+          subst (λ (q : ℕ × ℕ). HasView (set both other []) q.0 q.1 v) (sym (same_place i other (id, 1) (i, j) taken))
+          (stays both other [] id 1 v (λ e. differ (sym e)) (gets s.views id (one ∷ []) (one ∷ two ∷ []) 1 v at (ap (λ (u : SeatView). some u) (sym only.1))))
+      | inr left ↦
+          subst (λ (q : ℕ × ℕ). HasView (set both other []) q.0 q.1 v) (sym (other_place i other (id, 1) (i, j) left))
+          (stays both other [] i j v left (elim (cases_eq i id) [
+            | inl here ↦
+                let only = one_part one v j (had s.views id (one ∷ []) i j v at here h) in
+                subst (λ (q : ℕ × ℕ). HasView both q.0 q.1 v) (λ x. (sym here x, sym only.0 x))
+                (gets s.views id (one ∷ []) (one ∷ two ∷ []) 0 v at (ap (λ (u : SeatView). some u) (sym only.1)))
+            | inr away ↦ stays s.views id (one ∷ two ∷ []) i j v away h
+          ]))
+    ])
 
 -- A new seat with no view comes in.
 pub entered_kept : (fixed : Fixed) (s : Table Unit (List SeatView)) → IsKept fixed s
@@ -134,6 +189,7 @@ entered_kept fixed s k = regroup fixed s (record { words = s.words; homes = s.ho
       | inl there ↦ record { old_seat = i; old_part = j; has = record { parts = h.parts; is_seat = there; is_part = h.is_part }; is = refl }
       | inr last ↦ absurd (no_part v j (subst (λ (ps : List SeatView). get_elem? ps j ≡ some v) (sym last.1) h.is_part))
     ])
+    (λ i j v h. longer s.views ([] ∷ []) i j v h)
 
 -- A seat with two views leaves the second to a new one.
 pub left_kept : (fixed : Fixed) (s : Table Unit (List SeatView)) → IsKept fixed s → (id : ℕ) (one two : SeatView)
@@ -165,6 +221,23 @@ left_kept fixed s k id one two at =
             has = subst (λ (u : SeatView). HasView s.views id 1 u) (sym only.1) (seat 1 two refl);
             is = same_place id id (length first, 0) (id, 1) refl ∙ (λ x. (sym last.0 x, sym only.0 x));
           }
+    ])
+    (λ i j v h. elim (cases_eq i id) [
+      | inl here ↦
+          let second : ℕ × ℕ = (length first, 0) in
+          let where_to : to (i, j) ≡ (if j == 0 then (i, j) else second) = same_place i id (if j == 0 then (i, j) else second) (i, j) here in
+          elim (two_parts one two v j (had s.views id (one ∷ two ∷ []) i j v at here h)) [
+            | inl stay ↦
+                subst (λ (q : ℕ × ℕ). HasView (first ++ (two ∷ []) ∷ []) q.0 q.1 v) (sym (where_to ∙ same_place j 0 (i, j) second stay.0))
+                (longer first ((two ∷ []) ∷ []) i j v (subst (λ (q : ℕ × ℕ). HasView first q.0 q.1 v) (λ x. (sym here x, sym stay.0 x))
+                (gets s.views id (one ∷ two ∷ []) (one ∷ []) 0 v at (ap (λ (u : SeatView). some u) (sym stay.1)))))
+            | inr leave ↦
+                subst (λ (q : ℕ × ℕ). HasView (first ++ (two ∷ []) ∷ []) q.0 q.1 v) (sym (where_to ∙ other_place j 0 (i, j) second (λ e. omega (arith, e, leave.0))))
+                (record { parts = two ∷ []; is_seat = at_last first (two ∷ []) (length first) refl; is_part = ap (λ (u : SeatView). some u) (sym leave.1) })
+          ]
+      | inr other ↦
+          subst (λ (q : ℕ × ℕ). HasView (first ++ (two ∷ []) ∷ []) q.0 q.1 v) (sym (other_place i id (if j == 0 then (i, j) else (length first, 0)) (i, j) other))
+          (longer first ((two ∷ []) ∷ []) i j v (stays s.views id (one ∷ []) i j v other h))
     ])
 
 -- What the table asks of these.

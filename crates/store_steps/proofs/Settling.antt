@@ -60,7 +60,7 @@ module _ (fixed : Fixed) (s : Table Unit (List SeatView)) (k : IsKept fixed s) (
       left s.words (length_place fixed) exchanged (cell_place fixed number) (λ e. omega (arith, e, below))
 
   pub settle_steps : Steps fixed s id (length_place fixed) exchanged (λ new. Settles piece found view new)
-  settle_steps = did_step fixed s k id view seat (Settle piece (settling (length_in found) (length_of piece))) (length_place fixed) exchanged
+  settle_steps = did_step fixed s k id view seat (Settle piece (settling (length_in found) (length_of piece))) (length_place fixed) exchanged (omega arith) refl
       (accepted, ends, fits, answer)
       (length_stands fixed s.words state k.words sound (recorded_after (settling (length_in found) (length_of piece)) (length_of piece) state.recorded) exchanged word_is)
       (λ number value is.

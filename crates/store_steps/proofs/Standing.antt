@@ -51,7 +51,7 @@ module _ (fixed : Fixed) (words : List ℕ) (s : State) (h : StandFor fixed word
       → ((c : ℕ) → c / 64 ≢ group → is_some (held c) ≡ is_held s c)
       → ((c : ℕ) → (is_some (held c) || is_some (claim c)) ≡ (is_held s c || is_claimed s c))
       → ((c w : ℕ) (bytes : List ℕ) → held c ≡ Some bytes → w < 129 → cell_at fixed words (129 * c + w) ≡ cell_word bytes w)
-      → StandFor fixed (set words group n) (record { held = held; claim = claim; recorded = s.recorded })
+      → StandFor fixed (set words group n) (record s { held = held; claim = claim })
   held_stand held claim group n there bits others either cells = record {
     count = length-set words group n ∙ h.count;
     held = λ c below. elim (cases_eq (c / 64) group) [

@@ -18,12 +18,13 @@ use Rattle.store_core.proofs.Joining.{claims_continued, continued}
 use Rattle.store_core.proofs.Tells.{claims-claimed}
 use Rattle.store_core.proofs.Lasting.{legal_is_sound, legal-join, run-append}
 use Rattle.store_steps.specs.Grips.{first_of}
-use Rattle.store_steps.specs.Layout.{cell_at}
+use Rattle.store_steps.specs.Layout.{cell_at, parents_place}
 use Rattle.store_steps.specs.Plays.{OfOne}
 use Rattle.store_steps.specs.Rule.{Fits, IsKept, StandFor}
 use Rattle.store_steps.specs.Tells.{Did, GoesOn, Looked, event_of}
 use Rattle.store_steps.proofs.Calls.{claims_after-same, claims_then, least_among, own_all, shares_itself}
-use Rattle.store_steps.proofs.Keeping.{its, kept_step}
+use Rattle.store_steps.proofs.Keeping.{its, kept_step, parents_kept}
+use Rattle.store_steps.proofs.ParentsStanding.{LeavesParents, leaves_low, leaves_same}
 use Rattle.store_steps.proofs.Lists.{AreBy}
 
 pub record Steps (fixed : Fixed) (s : Table Unit (List SeatView)) (id i n : ℕ) (Told : SeatView → Type 0) : Type 0 where
@@ -87,14 +88,14 @@ module _ (fixed : Fixed) (s : Table Unit (List SeatView)) (k : IsKept fixed s) (
 
   -- A call of the seat's, whose reply is right: the words stand for the state after it, the words that count as stored
   -- stand in cells of its claims, and the cells of others' claims are left.
-  pub did_step : (call : Call) (i n : ℕ) → IsRight fixed now (names_of view) call
+  pub did_step : (call : Call) (i n : ℕ) → i < parents_place fixed → (after_call (names_of view) call now).parents ≡ now.parents → IsRight fixed now (names_of view) call
       → StandFor fixed (set s.words i n) (after_call (names_of view) call now)
       → ((number value : ℕ) → stored (written_after call view.written) number ≡ Some value
       → (claims (names_of view) (after_call (names_of view) call now) (number / 129) ≡ true) × (cell_at fixed (set s.words i n) number ≡ value))
       → ((number : ℕ) → is_claimed now (number / 129) ≡ true → claims (names_of view) now (number / 129) ≡ false
       → cell_at fixed (set s.words i n) number ≡ cell_at fixed s.words number)
       → Steps fixed s id i n (λ new. Did call view new)
-  did_step call i n right words written cells =
+  did_step call i n low same right words written cells =
       let own : List Event = event_of view call ∷ [] in
       let then : state_after (k.history ++ own) ≡ after_call (names_of view) call now = run-append empty k.history own in
       let new : SeatView = record (after_own own) { written = written_after call view.written } in
@@ -110,7 +111,8 @@ module _ (fixed : Fixed) (s : Table Unit (List SeatView)) (k : IsKept fixed s) (
               written = λ number value is.
                   let w = written number value is in (ap (λ (t : State). claims (names_of view) t (number / 129)) then ∙ w.0, w.1);
             })
-            cells;
+            cells
+            (parents_kept fixed s k id view new seat refl (set s.words i n) (leaves_low fixed s.words i n low) (state_after (k.history ++ own)).parents (ap (λ (t : State). t.parents) then ∙ same) refl refl);
         told = record {
           between = fitting.continues.between;
           goes_on = record { fixed_is = on.fixed_is; names_are = on.names_are; seen_is = on.seen_is; others = on.others; mine_is = on.mine_is; legal = on.legal };
@@ -118,16 +120,17 @@ module _ (fixed : Fixed) (s : Table Unit (List SeatView)) (k : IsKept fixed s) (
               ap (λ (t : State). claims (names_of view) t c) then ∙ claims_then (names_of view) call now c (least_among view.names some_names)
               ∙ claims_after-same call (λ d. claims (names_of view) now d) (seat_claims view) c (claims_now c);
           written_are = refl;
+          storing_is = refl;
         };
       }
 
   -- A step with no event: the seat sees nothing new, and what it stored changes at most.
-  pub silent_step : (written : List StoredWord) (i n : ℕ) → StandFor fixed (set s.words i n) now
+  pub silent_step : (written : List StoredWord) (i n : ℕ) → LeavesParents fixed s.words (set s.words i n) → StandFor fixed (set s.words i n) now
       → ((number value : ℕ) → stored written number ≡ Some value → (claims (names_of view) now (number / 129) ≡ true) × (cell_at fixed (set s.words i n) number ≡ value))
       → ((number : ℕ) → is_claimed now (number / 129) ≡ true → claims (names_of view) now (number / 129) ≡ false
       → cell_at fixed (set s.words i n) number ≡ cell_at fixed s.words number)
       → IsKept fixed (stepped s i n id [] (record view { written = written } ∷ []) keeps)
-  silent_step written i n words stand cells =
+  silent_step written i n leaves words stand cells =
       let whole : k.history ++ [] ≡ k.history = append-nil k.history in
       kept_step fixed s k id view (record view { written = written }) seat refl [] i n tt (subst (λ (h : List Event). IsLegal fixed h) (sym whole) k.legal)
       (subst (λ (h : List Event). StandFor fixed (set s.words i n) (state_after h)) (sym whole) words)
@@ -137,12 +140,14 @@ module _ (fixed : Fixed) (s : Table Unit (List SeatView)) (k : IsKept fixed s) (
         written = stand;
       }))
       cells
+      (parents_kept fixed s k id view (record view { written = written }) seat refl (set s.words i n) leaves (state_after (k.history ++ [])).parents
+      (ap (λ (h : List Event). (state_after h).parents) whole) refl refl)
 
   -- a load that changes nothing
   pub still_step : (i : ℕ) → IsKept fixed (stepped s i (slice_index s.words i) id [] (view ∷ []) keeps)
   still_step i =
       let same : set s.words i (slice_index s.words i) ≡ s.words = set-get_or s.words i 0 in
-      silent_step view.written i (slice_index s.words i) (subst (λ (words : List ℕ). StandFor fixed words now) (sym same) k.words)
+      silent_step view.written i (slice_index s.words i) (leaves_same fixed s.words i) (subst (λ (words : List ℕ). StandFor fixed words now) (sym same) k.words)
       (λ other value is. let w = fitting.written other value is in (w.0, ap (λ (words : List ℕ). cell_at fixed words other) same ∙ w.1))
       (λ other c theirs. ap (λ (words : List ℕ). cell_at fixed words other) same)
 
@@ -169,13 +174,16 @@ module _ (fixed : Fixed) (s : Table Unit (List SeatView)) (k : IsKept fixed s) (
                     ap (λ (words : List ℕ). cell_at fixed words number) same ∙ w.1,
                   );
             })
-            (λ number c others. ap (λ (words : List ℕ). cell_at fixed words number) same);
+            (λ number c others. ap (λ (words : List ℕ). cell_at fixed words number) same)
+            (parents_kept fixed s k id view (after_own own) seat refl (set s.words i (slice_index s.words i)) (leaves_same fixed s.words i) (state_after (k.history ++ own)).parents
+            (ap (λ (t : State). t.parents) then) refl refl);
         told = (
           record {
             between = fitting.continues.between;
             goes_on = subst (λ (t : State). GoesOn view (after_own own) fitting.continues.between (events t)) state on;
             claims_are = λ c. ap (λ (t : State). claims (names_of view) t c) then ∙ claims_now c;
             written_are = refl;
+            storing_is = refl;
           },
           then,
         );

@@ -16,6 +16,7 @@ use Rattle.store_steps.specs.Tells.{Stores}
 use Rattle.store_steps.specs.Layout.{cell_at, cell_place}
 use Rattle.store_steps.specs.Rule.{IsKept}
 use Rattle.store_steps.proofs.Giving.{not_held}
+use Rattle.store_steps.proofs.ParentsStanding.{leaves_low}
 use Rattle.store_steps.proofs.Standing.{cells_stand, left, put}
 use Rattle.store_steps.proofs.Stepping.{Steps, fitting, silent_step, claims_now}
 
@@ -65,6 +66,7 @@ module _ (fixed : Fixed) (s : Table Unit (List SeatView)) (k : IsKept fixed s) (
   store_steps = record {
     new = record view { written = record { number = number; value = value } ∷ view.written };
     kept = silent_step fixed s k id view seat (record { number = number; value = value } ∷ view.written) (cell_place fixed number) value
+        (leaves_low fixed s.words (cell_place fixed number) value (omega (arith, low)))
         (cells_stand fixed s.words state k.words sound number value low (not_held fixed s k id view seat (number / 129) claimed))
         stands
         (λ other c theirs. stays other (false_from_ne_true _ (λ e.

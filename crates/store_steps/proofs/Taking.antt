@@ -108,7 +108,7 @@ module _ (fixed : Fixed) (s : Table Unit (List SeatView)) (k : IsKept fixed s) (
   ]
 
   pub take_steps : Steps fixed s id (claim_place fixed group) (bit_or found asked) (λ new. Takes group want asked found view new)
-  take_steps = did_step fixed s k id view seat (Take group want granted) (claim_place fixed group) (bit_or found asked) right words
+  take_steps = did_step fixed s k id view seat (Take group want granted) (claim_place fixed group) (bit_or found asked) (omega (arith, there)) refl right words
       (λ number value is.
       let w = (fitting fixed s k id view seat).written number value is in
       (claims_stay (number / 129) w.0, cells_left (bit_or found asked) number ∙ w.1))

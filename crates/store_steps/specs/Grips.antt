@@ -12,7 +12,7 @@ pub record Gripped : Type 0 where
 
 -- a view that nobody has
 abbrev pub no_view : SeatView
-no_view = record { fixed = record { root = record { 0 = [] }; mode = plain; capacity = 0 }; names = []; seen = []; written = [] }
+no_view = record { fixed = record { root = record { 0 = [] }; mode = plain; capacity = 0 }; names = []; seen = []; written = []; storing = []; parent_words = [] }
 
 -- the first of a seat's views
 abbrev pub first_of : List SeatView → SeatView
@@ -21,4 +21,4 @@ first_of (view ∷ views) = view
 
 -- the view of the first seat: its name is the empty list, and it has seen nothing
 abbrev pub opening_view : Fixed → SeatView
-opening_view fixed = record { fixed = fixed; names = record { name = []; splits = 0 } ∷ []; seen = []; written = [] }
+opening_view fixed = record { fixed = fixed; names = record { name = []; splits = 0 } ∷ []; seen = []; written = []; storing = []; parent_words = [] }

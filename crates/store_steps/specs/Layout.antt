@@ -1,5 +1,7 @@
--- Where the words of a store stand: the held words of all groups, their claim words, the chunks' cells, the length word.
-use Rattle.std.specs.Prelude.{ℕ, ◌+◌, ◌*◌, List, Option, None, Some, slice_index}
+-- Where the words of a store stand: the held words of all groups, their claim words, the chunks' cells, the length word;
+-- and after these, of parents: the held words of all groups of boundaries, their claim words, the parents' cells.
+use Rattle.std.specs.Prelude.{ℕ, ◌+◌, ◌*◌, List, Option, None, Some, slice_index, take, drop}
+use Rattle.std.specs.Int.{w64, from_le_bytes}
 use Rattle.store_core.specs.declared.fixed.Fixed.{Fixed}
 use Rattle.store_core.specs.Machine.{groups}
 
@@ -13,8 +15,22 @@ cell_place fixed number = 2 * groups fixed + number
 abbrev pub length_place : Fixed → ℕ
 length_place fixed = cell_place fixed (129 * fixed.capacity)
 
+-- the first place of parents
+abbrev pub parents_place : Fixed → ℕ
+parents_place fixed = length_place fixed + 1
+
+abbrev pub parent_held_place : Fixed → ℕ → ℕ
+parent_held_place fixed group = parents_place fixed + group
+
+abbrev pub parent_claim_place : Fixed → ℕ → ℕ
+parent_claim_place fixed group = parents_place fixed + groups fixed + group
+
+-- word w of boundary m's parent has the number 8 * m + w
+abbrev pub parent_place : Fixed → ℕ → ℕ
+parent_place fixed number = parents_place fixed + 2 * groups fixed + number
+
 abbrev pub word_count : Fixed → ℕ
-word_count fixed = length_place fixed + 1
+word_count fixed = parent_place fixed (8 * fixed.capacity)
 
 abbrev pub held_word : List ℕ → ℕ → ℕ
 held_word words group = slice_index words group
@@ -27,6 +43,19 @@ cell_at fixed words number = slice_index words (cell_place fixed number)
 
 abbrev pub length_word : Fixed → List ℕ → ℕ
 length_word fixed words = slice_index words (length_place fixed)
+
+abbrev pub parent_held_word : Fixed → List ℕ → ℕ → ℕ
+parent_held_word fixed words group = slice_index words (parent_held_place fixed group)
+
+abbrev pub parent_claim_word : Fixed → List ℕ → ℕ → ℕ
+parent_claim_word fixed words group = slice_index words (parent_claim_place fixed group)
+
+abbrev pub parent_at : Fixed → List ℕ → ℕ → ℕ
+parent_at fixed words number = slice_index words (parent_place fixed number)
+
+-- word w of a parent's 64 bytes, little-endian
+abbrev pub parent_word : List ℕ → ℕ → ℕ
+parent_word bytes w = from_le_bytes w64 (take 8 (drop (8 * w) bytes))
 
 -- a length as a word: 0 for none, else the length plus 1
 abbrev pub length_code : Option ℕ → ℕ

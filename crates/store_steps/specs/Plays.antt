@@ -1,16 +1,17 @@
 -- What each kind of step tells, as the table asks it: of the step, the seat before, the number found and the seat after.
-use Rattle.std.specs.Prelude.{◌≡◌, ℕ, ◌-◌, ◌==◌, if◌then◌else◌, List, [], ◌∷◌, Option, None, Some, bit_and}
+use Rattle.std.specs.Prelude.{◌≡◌, ℕ, ◌+◌, ◌-◌, ◌*◌, ◌==◌, if◌then◌else◌, List, [], ◌∷◌, Option, None, Some, bit_and}
 use Rattle.std.specs.Int.{w64, bit_not}
 use Rattle.atomic_table.specs.Table.{Me}
-use Rattle.store_core.specs.declared.history.Call.TheVariants.{Commit, Give, Length, Settle, Take}
+use Rattle.store_core.specs.declared.history.Call.TheVariants.{Commit, Give, Length, Parents, Settle, Take}
 use Rattle.store_core.specs.declared.history.Piece.{Piece}
+use Rattle.store_core.specs.declared.history.Storing.TheVariants.{Stored}
 use Rattle.store_core.specs.declared.view.SeatView.{SeatView}
 use Rattle.store_core.specs.Events.{settling}
 use Rattle.store_core.specs.Pieces.{length_of}
 use Rattle.store_core.specs.Views.{split_first, split_second}
 use Rattle.store_steps.specs.Parts.{AreMet, ArePartsOf, IsMerged}
 use Rattle.store_steps.specs.Reads.{read_events}
-use Rattle.store_steps.specs.Tells.{Did, FindsHeld, FindsWord, Looked}
+use Rattle.store_steps.specs.Tells.{Called, Did, FindsHeld, FindsWord, Looked}
 
 -- a seat with one view has one afterwards, of which this is told
 abbrev pub OfOne : (SeatView → SeatView → Type 0) → Me Unit (List SeatView) → Me Unit (List SeatView) → Type 0
@@ -38,6 +39,21 @@ pub record Loads (group at len found : ℕ) (old new : SeatView) : Type 0 where
 pub record Copies (chunk w found : ℕ) (old new : SeatView) : Type 0 where
   pub same : new ≡ old
   pub finds : FindsWord chunk w found old
+
+-- The seat, which was storing no parents, is storing those of the boundaries asked for whose bit wasn't set. Nothing else
+-- changes.
+abbrev pub ClaimsParents : ℕ → ℕ → ℕ → SeatView → SeatView → Type 0
+ClaimsParents group asked found old new = new ≡ record old { storing = record { group = group; mask = bit_and asked (bit_not w64 found) } ∷ [] }
+
+-- word w of the boundary's parent counts as stored
+abbrev pub StoresParent : ℕ → ℕ → ℕ → SeatView → SeatView → Type 0
+StoresParent m w value old new = new ≡ record old { parent_words = record { number = 8 * m + w; value = value } ∷ old.parent_words }
+
+-- Parents of the piece are stored: the seat is storing none afterwards.
+pub record PublishesParents (group : ℕ) (piece : Piece) (mask : ℕ) (old new : SeatView) : Type 0 where
+  pub called : Called (Parents group piece (Stored mask)) old new
+  pub written_are : new.written ≡ old.written
+  pub none : new.storing ≡ []
 
 -- the length that a word stands for
 abbrev pub length_in : ℕ → Option ℕ

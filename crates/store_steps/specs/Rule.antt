@@ -1,5 +1,5 @@
 -- The rule over the words of a store and all seats' views, which each step keeps.
-use Rattle.std.specs.Prelude.{◌≡◌, ℕ, ◌+◌, ◌*◌, ◌/◌, ◌%◌, ◌<◌, true, false, ◌||◌, List, [], ◌∷◌, ◌++◌, length, Some, Contains}
+use Rattle.std.specs.Prelude.{◌≡◌, ℕ, ◌+◌, ◌*◌, ◌/◌, ◌%◌, ◌<◌, true, false, ◌||◌, List, [], ◌∷◌, ◌++◌, length, Option, None, Some, is_some, Contains}
 use mathlib.Core.Option.{some}
 use lib.ListN.{get_elem?}
 use Rattle.atomic_table.specs.Table.{State as Table}
@@ -13,8 +13,8 @@ use Rattle.store_core.specs.Machine.{groups}
 use Rattle.store_core.specs.Masks.{has_bit}
 use Rattle.store_core.specs.Names.{Name, has_name}
 use Rattle.store_core.specs.States.{State, claims, is_claimed, is_held}
-use Rattle.store_core.specs.Views.{Continues, names_of, stored}
-use Rattle.store_steps.specs.Layout.{cell_at, claim_word, held_word, length_code, length_word, word_count}
+use Rattle.store_core.specs.Views.{Continues, is_storing, names_of, stored}
+use Rattle.store_steps.specs.Layout.{cell_at, claim_word, held_word, length_code, length_word, parent_at, parent_claim_word, parent_held_word, parent_word, word_count}
 
 -- The words stand for a state. A held word has the bits of the chunks that are held, and a claim word those of the
 -- chunks that are claimed or held. The cell of a held chunk has its size and bytes.
@@ -24,6 +24,15 @@ pub record StandFor (fixed : Fixed) (words : List ℕ) (s : State) : Type 0 wher
   pub claimed : (c : ℕ) → c / 64 < groups fixed → has_bit (claim_word fixed words (c / 64)) (c % 64) ≡ (is_held s c || is_claimed s c)
   pub cells : (c w : ℕ) (bytes : List ℕ) → s.held c ≡ Some bytes → w < 129 → cell_at fixed words (129 * c + w) ≡ cell_word bytes w
   pub recorded : length_word fixed words ≡ length_code s.recorded
+
+-- The words stand for parents that are held or being stored: `storer` says by which view. A held word has the bits of the
+-- boundaries whose parents are held, and a claim word those of the boundaries whose parents are held or being stored,
+-- never both. The cell of a held parent has its bytes.
+pub record StandForParents (fixed : Fixed) (words : List ℕ) (parents : ℕ → Option (List ℕ)) (storer : ℕ → Option (ℕ × ℕ)) : Type 0 where
+  pub held : (m : ℕ) → m / 64 < groups fixed → has_bit (parent_held_word fixed words (m / 64)) (m % 64) ≡ is_some (parents m)
+  pub claimed : (m : ℕ) → m / 64 < groups fixed → has_bit (parent_claim_word fixed words (m / 64)) (m % 64) ≡ (is_some (parents m) || is_some (storer m))
+  pub cells : (m w : ℕ) (bytes : List ℕ) → parents m ≡ Some bytes → w < 8 → parent_at fixed words (8 * m + w) ≡ parent_word bytes w
+  pub apart : (m : ℕ) → is_some (storer m) ≡ true → parents m ≡ None
 
 -- seat `seat` has this view as its part `part`: one that a join spent has none, and two that meet are for a while one
 -- seat with two
@@ -40,6 +49,27 @@ pub record Fits (fixed : Fixed) (history : List Event) (words : List ℕ) (view 
   pub continues : Continues view history
   pub written : (number value : ℕ) → stored view.written number ≡ Some value
       → (claims (names_of view) (state_after history) (number / 129) ≡ true) × (cell_at fixed words number ≡ value)
+
+-- A view at a place fits: what it is storing, no other is, and the words that it stored stand in the cells of these parents.
+pub record FitsParents (fixed : Fixed) (words : List ℕ) (storer : ℕ → Option (ℕ × ℕ)) (seat part : ℕ) (view : SeatView) : Type 0 where
+  pub low : (m : ℕ) → is_storing view m ≡ true → m < fixed.capacity
+  pub owned : (m : ℕ) → is_storing view m ≡ true → storer m ≡ Some (seat, part)
+  pub written : (number value : ℕ) → stored view.parent_words number ≡ Some value
+      → (is_storing view (number / 8) ≡ true) × (parent_at fixed words number ≡ value)
+
+-- the view at a place is storing the parent of a boundary
+pub record StoresAt (views : List (List SeatView)) (seat part m : ℕ) : Type 0 where
+  pub view : SeatView
+  pub has : HasView views seat part view
+  pub storing : is_storing view m ≡ true
+
+-- The words stand for the parents that are held, and those that views are storing: a boundary has a storer exactly where
+-- some view is storing its parent, and then it is that view's place.
+pub record AreParentsKept (fixed : Fixed) (words : List ℕ) (views : List (List SeatView)) (parents : ℕ → Option (List ℕ)) : Type 0 where
+  pub storer : ℕ → Option (ℕ × ℕ)
+  pub stand : StandForParents fixed words parents storer
+  pub fit : (seat part : ℕ) (view : SeatView) → HasView views seat part view → FitsParents fixed words storer seat part view
+  pub by : (m seat part : ℕ) → storer m ≡ Some (seat, part) → StoresAt views seat part m
 
 -- some view has the name, with the count of its splits
 pub record IsNamed (views : List (List SeatView)) (named : Named) : Type 0 where
@@ -78,3 +108,4 @@ pub record IsKept (fixed : Fixed) (table : Table Unit (List SeatView)) : Type 0 
   pub words : StandFor fixed table.words (state_after history)
   pub views : (seat part : ℕ) (view : SeatView) → HasView table.views seat part view → Fits fixed history table.words view
   pub names : AreApart table.views history
+  pub parents : AreParentsKept fixed table.words table.views (state_after history).parents

@@ -1,7 +1,7 @@
 -- What a step tells of its seat: how its view goes on, and which call of its own stands there.
 use Rattle.std.specs.Prelude.{◌+◌, ◌*◌, ◌/◌, ◌%◌, Some, ◌≡◌, ℕ, Bool, not, ◌&&◌, ◌||◌, List, [], ◌∷◌, ◌++◌}
 use Rattle.store_core.specs.declared.history.Call.{Call}
-use Rattle.store_core.specs.declared.history.Call.TheVariants.{Commit, Give, Length, Read, Settle, Take}
+use Rattle.store_core.specs.declared.history.Call.TheVariants.{Commit, Give, Length, Parents, Read, Serve, Settle, Take}
 use Rattle.store_core.specs.declared.history.Event.{Event}
 use Rattle.store_core.specs.declared.view.SeatView.{SeatView}
 use Rattle.store_core.specs.Cells.{cell_word}
@@ -33,14 +33,18 @@ claims_after (Commit group piece committed) claimed c = not (in_mask group commi
 claims_after (Settle piece answer) claimed c = claimed c
 claims_after (Read at len bytes) claimed c = claimed c
 claims_after (Length recorded) claimed c = claimed c
+claims_after (Parents group piece answer) claimed c = claimed c
+claims_after (Serve start len answer) claimed c = claimed c
 
 -- The step is this call: it stands last in what is seen, and of the seat's calls it alone is new. The seat claims what
--- the call leaves of its claims. The words stored for chunks whose claims it ends count no more.
+-- the call leaves of its claims. The words stored for chunks whose claims it ends count no more. The parents that it is
+-- storing are the same.
 pub record Did (call : Call) (old new : SeatView) : Type 0 where
   pub between : List Event
   pub goes_on : GoesOn old new between (event_of old call ∷ [])
   pub claims_are : (c : ℕ) → seat_claims new c ≡ claims_after call (seat_claims old) c
   pub written_are : new.written ≡ written_after call old.written
+  pub storing_is : new.storing ≡ old.storing
 
 -- The call, made in one step or in several, is an event of the store. The history that the seat has seen afterwards is legal. It begins
 -- with all that the seat had seen, goes on with calls of others, and ends with this call: so of the seat's calls each is
@@ -57,10 +61,15 @@ pub record Looked (events : State → List Event) (old new : SeatView) : Type 0 
   pub goes_on : GoesOn old new between (events (state_after (old.seen ++ between)))
   pub claims_are : (c : ℕ) → seat_claims new c ≡ seat_claims old c
   pub written_are : new.written ≡ old.written
+  pub storing_is : new.storing ≡ old.storing
 
 -- word w of the chunk's cell counts as stored, and nothing else changes
 abbrev pub Stores : ℕ → ℕ → ℕ → SeatView → SeatView → Type 0
 Stores chunk w value old new = new ≡ record old { written = record { number = 129 * chunk + w; value = value } ∷ old.written }
+
+-- The seat is storing the parents of this mask of boundaries of the group, and nothing else changes.
+abbrev pub IsStoringNow : ℕ → ℕ → SeatView → SeatView → Type 0
+IsStoringNow group mask old new = new ≡ record old { storing = record { group = group; mask = mask } ∷ [] }
 
 -- the word found shows which chunks of the group are held
 abbrev pub FindsHeld : ℕ → ℕ → SeatView → Type 0

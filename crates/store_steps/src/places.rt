@@ -1,12 +1,15 @@
 ghost use Rattle.std.specs.Prelude.{◌≡◌, ◌+◌, ◌*◌, ◌<◌, ◌≤◌, ◌^◌, ◌%◌, ◌/◌, ℕ, nat_lt};
 ghost use Rattle.store_core.specs.Machine.{groups};
 ghost use Rattle.store_core.specs.Masks.{has_bit};
-ghost use Rattle.store_steps.specs.Layout.{cell_place, claim_place, length_place, word_count};
+ghost use Rattle.store_steps.specs.Layout.{cell_place, claim_place, length_place, parent_claim_place, parent_held_place, parent_place, word_count};
 
 use store_core::Fixed;
 
 /// How many words a chunk's cell has: the size, then 128 words of data.
 pub const CELL_LEN: usize = 129;
+
+// How many words a parent has.
+const PARENT_WORDS: usize = 8;
 
 // How many chunks a group has.
 const GROUP_LEN: u32 = 64;
@@ -23,7 +26,7 @@ fn groups(fixed: &Fixed) -> usize
 pub(crate) fn word_count(fixed: &Fixed) -> usize
     ensures { result ≡ word_count fixed.now }
 {
-    length_place(fixed) + 1
+    length_place(fixed) + 1 + 2 * groups(fixed) + PARENT_WORDS * fixed.capacity as usize
 }
 
 // Where the held word of a group stands.
@@ -62,6 +65,34 @@ pub(crate) fn length_place(fixed: &Fixed) -> usize
     ensures small { result < 2 ^ 40 }
 {
     2 * groups(fixed) + CELL_LEN * fixed.capacity as usize
+}
+
+// Where the held word of a group of boundaries stands.
+pub(crate) fn parent_held_place(fixed: &Fixed, group: u32) -> usize
+    requires { group < groups fixed.now }
+    ensures place { result ≡ parent_held_place fixed.now group }
+    ensures within { result < word_count fixed.now }
+{
+    length_place(fixed) + 1 + group as usize
+}
+
+// Where the claim word of a group of boundaries stands.
+pub(crate) fn parent_claim_place(fixed: &Fixed, group: u32) -> usize
+    requires { group < groups fixed.now }
+    ensures place { result ≡ parent_claim_place fixed.now group }
+    ensures within { result < word_count fixed.now }
+{
+    length_place(fixed) + 1 + groups(fixed) + group as usize
+}
+
+// Where a word of a boundary's parent stands.
+pub(crate) fn parent_place(fixed: &Fixed, boundary: u32, word: u8) -> usize
+    requires boundary { boundary < fixed.now.capacity }
+    requires word { word < 8 }
+    ensures place { result ≡ parent_place fixed.now (8 * boundary + word) }
+    ensures within { result < word_count fixed.now }
+{
+    length_place(fixed) + 1 + 2 * groups(fixed) + PARENT_WORDS * boundary as usize + word as usize
 }
 
 // The mask of the group's chunks that are below the capacity.

@@ -111,6 +111,39 @@ impl<A: Asked> Play<(), LinkedList<SeatView>> for Settling<A> {
     ghost then = { λ step me found later. OfOne (Settles A.piece found) me later };
 }
 
+// `group`.
+pub(crate) struct ClaimingParents<A> {
+    asked: PhantomData<A>,
+}
+
+impl<A: Asked> Play<(), LinkedList<SeatView>> for ClaimingParents<A> {
+    ghost use Rattle.store_steps.specs.Plays.{ClaimsParents, OfOne};
+
+    ghost then = { λ step me found later. OfOne (ClaimsParents A.group step.first found) me later };
+}
+
+// `first` for the boundary and `second` for the word of its parent.
+pub(crate) struct StoringParent<A> {
+    asked: PhantomData<A>,
+}
+
+impl<A: Asked> Play<(), LinkedList<SeatView>> for StoringParent<A> {
+    ghost use Rattle.store_steps.specs.Plays.{OfOne, StoresParent};
+
+    ghost then = { λ step me found later. OfOne (StoresParent A.first A.second found) me later };
+}
+
+// `group`, and `piece`.
+pub(crate) struct PublishingParents<A> {
+    asked: PhantomData<A>,
+}
+
+impl<A: Asked> Play<(), LinkedList<SeatView>> for PublishingParents<A> {
+    ghost use Rattle.store_steps.specs.Plays.{OfOne, PublishesParents};
+
+    ghost then = { λ step me found later. OfOne (PublishesParents A.group A.piece step.first) me later };
+}
+
 pub(crate) struct Answering;
 
 impl Play<(), LinkedList<SeatView>> for Answering {

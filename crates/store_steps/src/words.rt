@@ -1,14 +1,17 @@
-ghost use Rattle.std.specs.Prelude.{◌≡◌, ◌+◌, ◌*◌, ◌/◌, ◌<◌, ◌≤◌, ℕ, true, IfErr, IfOk, IsErrOf, IsOk, OnErr};
+ghost use Rattle.std.specs.Prelude.{◌≡◌, [], Some, ◌+◌, ◌*◌, ◌/◌, ◌<◌, ◌≤◌, ℕ, true, IfErr, IfOk, IsErrOf, IsOk, OnErr};
 ghost use Rattle.store_steps.specs.Layout.{word_count};
 
 use crate::fault::NewFault;
 use crate::grip::Grip;
 use crate::joins::{Both, Entering, Leaving, Meeting, Merging, Parting, Parts};
 use crate::lengths::{length_in, settling};
-use crate::places::{cell_place, chunks_below, claim_place, held_place, length_place, word_count};
+use crate::places::{
+    cell_place, chunks_below, claim_place, held_place, length_place, parent_claim_place,
+    parent_held_place, parent_place, word_count,
+};
 use crate::plays::{
-    Answering, Asked, Copying, Giving, Loading, Publishing, Settling as SettlingStep, Storing,
-    Taking,
+    Answering, Asked, ClaimingParents, Copying, Giving, Loading, Publishing, PublishingParents,
+    Settling as SettlingStep, Storing, StoringParent, Taking,
 };
 use crate::rule::Law;
 use atomic_table::Table;
@@ -43,11 +46,18 @@ impl Words {
     ghost use Rattle.store_core.specs.Pieces.{piece_of};
     ghost use Rattle.store_core.specs.Stores.{IsOf as IsOfStore};
     ghost use Rattle.store_core.specs.Views.{seat_claims};
-    ghost use Rattle.store_steps.specs.Asks.{AreClaimed, AreHeldClaims, AreWritten};
+    ghost use Rattle.store_core.specs.declared.history.Call.TheVariants.{Parents};
+    ghost use Rattle.store_core.specs.declared.history.Storing.TheVariants.{Stored};
+    ghost use Rattle.store_core.specs.Histories.{state_after};
+    ghost use Rattle.store_core.specs.Pieces.{length_of};
+    ghost use Rattle.store_core.specs.Views.{is_storing};
+    ghost use Rattle.store_steps.specs.Asks.{AreClaimed, AreHeldClaims, AreParentsWritten, AreWritten};
     ghost use Rattle.store_steps.specs.Grips.{opening_view};
     ghost use Rattle.store_steps.specs.Parts.{AreMet, ArePartsOf, IsMerged};
     ghost use Rattle.store_steps.specs.Reads.{read_events};
-    ghost use Rattle.store_steps.specs.Tells.{Did, FindsHeld, FindsWord, Looked, Stores};
+    ghost use Rattle.store_core.specs.Masks.{has_bit};
+    ghost use Rattle.store_steps.specs.Plays.{StoresParent};
+    ghost use Rattle.store_steps.specs.Tells.{Called, Did, FindsHeld, FindsWord, IsStoringNow, Looked, Stores};
     ghost use Rattle.store_steps.specs.Words.{HasGroup, IsOf, fixed_of};
 
     /// Words of which none is held, claimed or recorded, and their first grip, which has seen nothing. `capacity` is a
@@ -326,6 +336,107 @@ impl Words {
         let place = length_place(&self.fixed);
         let found = self.table.shared.load::<Answering>(&mut grip.seat, place);
         length_in(found)
+    }
+
+    /// Claims the wanted boundaries of a group that are below the capacity and whose parents are neither held nor being
+    /// stored, and answers their mask: the grip, which stores no parents, is storing these. One `fetch_or` on the claim
+    /// word of boundaries.
+    pub fn claim_parents(&self, grip: &mut Grip, group: u32, want: u64) -> u64
+        requires of { IsOf self.now grip.old }
+        requires group { HasGroup self.now group }
+        requires none { grip.old.view.storing ≡ [] }
+        ensures of { IsOf self.now grip.new }
+        ensures claimed { IsStoringNow group result grip.old.view grip.new.view }
+        ensures among { (j : ℕ) → has_bit result j ≡ true → has_bit want j ≡ true }
+    {
+        self.claim_parents_asked::<Brand>(grip, group, want)
+    }
+
+    fn claim_parents_asked<A: Asked>(&self, grip: &mut Grip, group: u32, want: u64) -> u64
+        requires of { IsOf self.now grip.old }
+        requires group { HasGroup self.now group }
+        requires none { grip.old.view.storing ≡ [] }
+        requires asked { A.group ≡ group }
+        ensures of { IsOf self.now grip.new }
+        ensures claimed { IsStoringNow group result grip.old.view grip.new.view }
+        ensures among { (j : ℕ) → has_bit result j ≡ true → has_bit want j ≡ true }
+    {
+        let wanted = chunks_below(&self.fixed, group) & want;
+        let place = parent_claim_place(&self.fixed, group);
+        let before = self
+            .table
+            .shared
+            .fetch_or::<ClaimingParents<A>>(&mut grip.seat, place, wanted);
+        wanted & !before
+    }
+
+    /// Stores a word of the parent at a boundary that the grip is storing: words 0 to 7 are its 64 bytes. One store.
+    pub fn store_parent(&self, grip: &mut Grip, boundary: u32, word: u8, value: u64)
+        requires of { IsOf self.now grip.old }
+        requires storing { is_storing grip.old.view boundary ≡ true }
+        requires boundary { boundary < (fixed_of self.now).capacity }
+        requires word { word < 8 }
+        ensures of { IsOf self.now grip.new }
+        ensures stored { StoresParent boundary word value grip.old.view grip.new.view }
+    {
+        self.store_parent_asked::<Brand>(grip, boundary, word, value);
+    }
+
+    fn store_parent_asked<A: Asked>(&self, grip: &mut Grip, boundary: u32, word: u8, value: u64)
+        requires of { IsOf self.now grip.old }
+        requires storing { is_storing grip.old.view boundary ≡ true }
+        requires boundary { boundary < (fixed_of self.now).capacity }
+        requires word { word < 8 }
+        requires asked { (A.first ≡ boundary) × (A.second ≡ word) }
+        ensures of { IsOf self.now grip.new }
+        ensures stored { StoresParent boundary word value grip.old.view grip.new.view }
+    {
+        let place = parent_place(&self.fixed, boundary, word);
+        self.table
+            .shared
+            .store::<StoringParent<A>>(&mut grip.seat, place, value);
+    }
+
+    /// Publishes parents of a piece of this store's root and mode, which claims the length that the grip has seen
+    /// recorded: they are held, and the grip is storing none. `mask` is of the boundaries that it is storing, all of
+    /// whose words it stored. One `fetch_or` on the held word of boundaries, also where the mask is 0.
+    pub fn publish_parents(&self, grip: &mut Grip, group: u32, piece: &Checked<'_>, mask: u64)
+        requires of { IsOf self.now grip.old }
+        requires group { HasGroup self.now group }
+        requires piece { IsOfStore (fixed_of self.now) piece.now }
+        requires length { (state_after grip.old.view.seen).recorded ≡ Some (length_of (piece_of piece.now)) }
+        requires written { AreParentsWritten grip.old.view group mask (piece_of piece.now) }
+        ensures of { IsOf self.now grip.new }
+        ensures called { Called (Parents group (piece_of piece.now) (Stored mask)) grip.old.view grip.new.view }
+        ensures written { grip.new.view.written ≡ grip.old.view.written }
+        ensures none { grip.new.view.storing ≡ [] }
+    {
+        self.publish_parents_asked::<Brand>(grip, group, piece, mask);
+    }
+
+    fn publish_parents_asked<A: Asked>(
+        &self,
+        grip: &mut Grip,
+        group: u32,
+        piece: &Checked<'_>,
+        mask: u64,
+    )
+        requires of { IsOf self.now grip.old }
+        requires group { HasGroup self.now group }
+        requires piece { IsOfStore (fixed_of self.now) piece.now }
+        requires length { (state_after grip.old.view.seen).recorded ≡ Some (length_of (piece_of piece.now)) }
+        requires written { AreParentsWritten grip.old.view group mask (piece_of piece.now) }
+        requires asked { (A.group ≡ group) × (A.piece ≡ piece_of piece.now) }
+        ensures of { IsOf self.now grip.new }
+        ensures called { Called (Parents group (piece_of piece.now) (Stored mask)) grip.old.view grip.new.view }
+        ensures written { grip.new.view.written ≡ grip.old.view.written }
+        ensures none { grip.new.view.storing ≡ [] }
+    {
+        piece.is_accepted();
+        let place = parent_held_place(&self.fixed, group);
+        self.table
+            .shared
+            .fetch_or::<PublishingParents<A>>(&mut grip.seat, place, mask);
     }
 
     /// Parts a grip in two. The first keeps its calls and its claims. The second has seen the same and has neither: its
