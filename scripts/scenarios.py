@@ -60,6 +60,11 @@ def half_of(text, parents, number):
     return "none"
 
 
+def boundary(node):
+    """The chunk with which a parent's right part begins."""
+    return node.number + bao.left_len(node.length) // bao.CHUNK_LEN
+
+
 class Texts:
     """Texts encoded, cut, changed, checked and audited."""
 
@@ -151,7 +156,12 @@ class Texts:
 
     def parents(self):
         """Each parent by the number of the chunk with which its right part begins."""
-        return self.nodes(lambda it: it.number + bao.left_len(it.length) // bao.CHUNK_LEN if it.is_parent else None)
+        return self.nodes(lambda it: boundary(it) if it.is_parent else None)
+
+    def listed(self, found):
+        """Nodes by name, a line each, and how many they are: a parent's is the chunk with which its right part begins."""
+        names = [f"parent {boundary(it)}" if it.is_parent else f"chunk {it.number}" for it in found]
+        return [*names, f"{len(names)} nodes"]
 
     def changed(self, text):
         self.text = text
@@ -209,6 +219,8 @@ class Texts:
                 return [self.parents().get(numbers[0], "none")]
             case "parents":
                 return [f"{m}: {it}" for m, it in self.parents().items() if m < numbers[0]] or ["none"]
+            case "nodes":
+                return self.listed(bao.slice_nodes(*numbers) if numbers else self.checked(text)[2])
             case "leaf":
                 return [half_of(text, bao.checked(self.mode, self.root, text, bao.outboard_nodes)[1], numbers[0])]
             case "cuts":
@@ -251,6 +263,7 @@ class Piece:
         self.text = text
         self.length, found, _ = bao.checked(self.mode, self.root, text, lambda length: bao.slice_nodes(length, self.start, self.count))
         self.chunks = {it.number: text[it.offset : it.offset + it.size] for it in found if not it.is_parent}
+        self.parents = {boundary(it): text[it.offset : it.offset + it.size] for it in found if it.is_parent}
         self.is_last = bao.chunks_of(self.length) - 1 in self.chunks
 
 
@@ -279,6 +292,10 @@ class Stores:
         "701 701 memory",
         "803 803 no group",
         "804 804 other root",
+        "807 807 other length",
+        "808 808 no length",
+        "809 809 lacking",
+        "810 810 memory",
         "802 802 capacity",
         "701 memory",
         "702 illegal step 7",
@@ -297,7 +314,7 @@ class Stores:
         if not 1 <= capacity <= MAX_CAPACITY:
             return "802 capacity"
         self.capacity, self.of, self.root = capacity, self.mode, self.mode.hash(self.blob)
-        self.held, self.claims, self.length, self.seats = {}, {}, None, 1
+        self.held, self.claims, self.length, self.seats, self.parents = {}, {}, None, 1, {}
         return f"groups {self.groups()}"
 
     def groups(self):
@@ -332,6 +349,26 @@ class Stores:
             del self.claims[it]
             self.held[it] = piece.chunks[it]
         return f"committed {self.mask(group, stored):x}"
+
+    def store_parents(self, group, piece):
+        if (piece.root, piece.mode) != (self.root, self.of):
+            return "804 other root"
+        if piece.length != self.length:
+            return "807 other length"
+        stored = [it for it in piece.parents if it // GROUP_LEN == group and it not in self.parents]
+        self.parents.update((it, piece.parents[it]) for it in stored)
+        return f"stored {self.mask(group, stored):x}"
+
+    def serve(self, start, count):
+        if self.length is None:
+            return "808 no length"
+        made = self.length.to_bytes(8, "little")
+        for it in bao.slice_nodes(self.length, start, count):
+            held, at, kind = (self.parents, boundary(it), "parent") if it.is_parent else (self.held, it.number, "chunk")
+            if at not in held:
+                return f"lacking {kind} {at}"
+            made += held[at]
+        return told(made)
 
     def settle(self, piece):
         if not piece.is_last:
@@ -417,6 +454,10 @@ class Stores:
                 return [self.commit(int(words[0]), int(words[1]), self.pieces[words[2]])]
             case "settle":
                 return [self.settle(self.pieces[words[1]])]
+            case "parents":
+                return [self.store_parents(int(words[0]), self.pieces[words[1]])]
+            case "serve":
+                return [self.serve(*numbers)]
             case "length":
                 return [self.recorded()]
             case "read":

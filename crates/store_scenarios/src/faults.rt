@@ -1,7 +1,8 @@
 use anyhow::Result;
+use bao_text::Node;
 use std::alloc::Global;
 use std::fmt::Display;
-use store_core::{BadCapacity, ReplayFault, StoreFault};
+use store_core::{BadCapacity, ReplayFault, ServeFault, StoreFault};
 use store_shared::{NewFault, NoGroup, OtherRoot};
 
 // A line with a fault's number and its text.
@@ -17,6 +18,14 @@ pub fn faults(alloc: Global) -> Result<String> {
         StoreFault::Memory,
         StoreFault::NoGroup,
         StoreFault::OtherRoot,
+        StoreFault::OtherLength,
+    ] {
+        tell(&mut said, fault.code(), fault)?;
+    }
+    for fault in [
+        ServeFault::NoLength,
+        ServeFault::Lacking(Node::Chunk(7)),
+        ServeFault::Memory,
     ] {
         tell(&mut said, fault.code(), fault)?;
     }

@@ -5,9 +5,10 @@ use crate::piece::Piece;
 use crate::places::{put_back, take_out};
 use anyhow::{Context, Result, bail};
 use b3tree::{CHUNK_LEN, Hash, Mode, hash};
+use bao_text::Node;
 use std::alloc::Global;
 use std::fmt::Display;
-use store_core::{Missing, Settling, Store};
+use store_core::{Missing, ServeFault, Settling, Store};
 use store_shared::{Assembly, NewFault, Seat};
 
 // A byte that a buffer has before it is read into.
@@ -69,6 +70,16 @@ pub fn told(alloc: Global, bytes: &[u8]) -> Result<String> {
     let count = bytes.len();
     let digits = hex::encode(alloc, &hash(&Mode::hash(), bytes).0[..SHORT])?;
     Ok(format!(in alloc; "{count} bytes {digits}")?)
+}
+
+// The text of a slice, or why it isn't served.
+fn served(alloc: Global, reply: Result<Vec<u8>, ServeFault>) -> Result<String> {
+    match reply {
+        Ok(text) => told(alloc, text.as_slice()),
+        Err(ServeFault::Lacking(Node::Parent(m))) => Ok(format!(in alloc; "lacking parent {m}")?),
+        Err(ServeFault::Lacking(Node::Chunk(c))) => Ok(format!(in alloc; "lacking chunk {c}")?),
+        Err(fault) => Ok(format!(in alloc; "{fault}")?),
+    }
 }
 
 fn filled(alloc: Global, reply: Result<(), Missing>, out: &[u8]) -> Result<String> {
@@ -159,6 +170,20 @@ impl Room {
             masked(alloc, "committed", alone)?,
             masked(alloc, "committed", shared)?,
         )
+    }
+
+    // Stores the piece's parents, in the store of one thread.
+    pub fn store_parents(&mut self, alloc: Global, group: u32, piece: &Piece) -> Result<String>
+        requires { IsWell self.old }
+        ensures { IsWell self.new }
+    {
+        let piece = piece.checked(alloc)?;
+        masked(alloc, "stored", self.alone.commit_parents(group, &piece))
+    }
+
+    // Serves a slice, out of the store of one thread.
+    pub fn serve(&self, alloc: Global, start: u64, len: u64) -> Result<String> {
+        served(alloc, self.alone.serve_slice(start, len))
     }
 
     pub fn settle(&mut self, alloc: Global, number: u32, piece: &Piece) -> Result<String>

@@ -58,6 +58,7 @@ impl Scene {
                 name,
                 said.as_slice(),
             ),
+            "parents" | "serve" => self.serve(alloc, room, name, said.as_slice()),
             _ => self.sit(alloc, room, name, said.as_slice()),
         }
     }
@@ -141,6 +142,22 @@ impl Scene {
             ("settle", [seat, piece]) => room.settle(alloc, short(seat)?, self.piece(piece)?),
             ("length", [seat]) => room.length(alloc, short(seat)?),
             ("read", [seat, at, len]) => room.read(alloc, short(seat)?, number(at)?, number(len)?),
+            _ => bail!("a call"),
+        }
+    }
+
+    // Parents that are stored, and slices that are served.
+    fn serve(&self, alloc: Global, room: &mut Room, name: &str, words: &[&str]) -> Result<String>
+        requires { IsWell room.old }
+        ensures { IsWell room.new }
+    {
+        match (name, words) {
+            ("parents", [group, piece]) => room.store_parents(
+                alloc,
+                short(group)?,
+                self.piece(piece)?,
+            ),
+            ("serve", [start, len]) => room.serve(alloc, number(start)?, number(len)?),
             _ => bail!("a call"),
         }
     }

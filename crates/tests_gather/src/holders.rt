@@ -8,7 +8,7 @@ use std::test::Fail;
 use store_core::{Fixed, Store};
 
 // The bytes i mod 251, as in BLAKE3's test vectors.
-fn blob(rt: &HostRuntime, len: usize) -> Result<Vec<u8>, Fail> {
+pub fn blob(rt: &HostRuntime, len: usize) -> Result<Vec<u8>, Fail> {
     let mut bytes = Vec::with_capacity(rt.alloc(), len)?;
     for i in 0..len {
         bytes.push((i % 251) as u8)?;

@@ -1,5 +1,7 @@
-//! Tests of one worker's gathering, with holders that fail: `gather`.
+//! Tests of one worker's gathering, with holders that fail, and of slices that are served: `gather`, `store_core`.
 #![tactic(auto)]
 
 #[cfg(test)]
 mod holders;
+#[cfg(test)]
+mod serving;

@@ -1,12 +1,12 @@
 use crate::changes::{change, flip};
 use crate::faults::faults;
-use crate::line::{digest, mode, one, two};
+use crate::line::{digest, mode, one, three, two};
 use crate::verdict::{Form, verdict};
 use anyhow::{Context, Result, bail};
 use b3tree::{CHUNK_LEN, Hash, Hasher, Mode, hash, xof, xof_fits};
 use bao_bind::{Verdict, audit};
 use bao_check::{Checked, bare_fits, check_bare, check_combined, check_outboard, check_slice};
-use bao_text::{combined, cut_slice, encoded_len, outboard, outboard_len, slice};
+use bao_text::{Node, Nodes, combined, cut_slice, encoded_len, outboard, outboard_len, slice};
 use std::alloc::Global;
 
 // How many bytes of a digest tell texts apart.
@@ -79,7 +79,8 @@ impl Scene {
             "check" | "cuts" | "flips" => self.check(alloc, name, words),
             "faults" => faults(alloc),
             "leaf" => self.leaf(alloc, words),
-            "chunk" | "parent" | "parents" | "audit" => self.ask(alloc, name, words),
+            "nodes" if !words.is_empty() => self.nodes(alloc, words),
+            "chunk" | "parent" | "parents" | "nodes" | "audit" => self.ask(alloc, name, words),
             _ => bail!("a command"),
         }
     }
@@ -155,6 +156,12 @@ impl Scene {
                 Ok(format!(in alloc; "combined {whole}, outboard {without}")?)
             }
         }
+    }
+
+    // The nodes of a slice of a blob of so many bytes.
+    fn nodes(&self, alloc: Global, words: &str) -> Result<String> {
+        let (length, start, len) = three(alloc, words)?;
+        listed(alloc, bao_text::nodes(length, start, len))
     }
 
     fn check(&mut self, alloc: Global, name: &str, words: &str) -> Result<String> {
@@ -242,12 +249,28 @@ fn asked(
         "chunk" => told_if(alloc, piece.chunk(one(alloc, words)?)),
         "parent" => told_if(alloc, piece.parent(one(alloc, words)?)),
         "parents" => parents(alloc, piece, one(alloc, words)?),
+        "nodes" => listed(alloc, piece.nodes()),
         _ => match audit(blob, piece) {
             Ok(Verdict::Agrees) => Ok(String::from_str(alloc, "agrees")?),
             Ok(Verdict::Collision { .. }) => Ok(String::from_str(alloc, "collision")?),
             Err(fault) => Ok(format!(in alloc; "{fault}")?),
         },
     }
+}
+
+// Nodes, a line each, and how many they are.
+fn listed(alloc: Global, nodes: Nodes) -> Result<String> {
+    let mut said = String::new(alloc);
+    let mut count = 0u64;
+    for node in nodes {
+        match node {
+            Node::Parent(m) => write!(said, "parent {m}\n")?,
+            Node::Chunk(number) => write!(said, "chunk {number}\n")?,
+        }
+        count = count.saturating_add(1);
+    }
+    write!(said, "{count} nodes\n")?;
+    Ok(said)
 }
 
 // The parents of the piece whose right parts begin before chunk `end`.
