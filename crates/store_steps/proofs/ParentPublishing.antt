@@ -1,5 +1,5 @@
 -- Parents are stored: one or on their held word, once all words of each are.
-use Rattle.std.proofs.Common.{◌≡◌, ◌≢◌, ℕ, ◌+◌, ◌*◌, ◌/◌, ◌%◌, ◌<◌, ◌==◌, Bool, true, false, ◌&&◌, ◌||◌, if◌then◌else◌, List, [], ◌∷◌, ◌++◌, Option, None, Some, is_some, set, slice_index, refl, sym, ap, subst, ◌∙◌, arith, inl, inr, eq-eqb, ne_eqb}
+use Rattle.std.proofs.Common.{◌≡◌, ◌≢◌, ℕ, ◌+◌, ◌*◌, ◌/◌, ◌%◌, ◌<◌, Bool, true, false, ◌&&◌, ◌||◌, if◌then◌else◌, List, [], ◌∷◌, ◌++◌, Option, None, Some, is_some, set, slice_index, refl, sym, ap, subst, ◌∙◌, arith, inl, inr, eq-eqb, ne_eqb}
 use Rattle.std.specs.Int.Bits.{bit_or}
 use Rattle.std.proofs.lemmas.Bool.{and_left, cases_Bool, cases_eq, false≢true}
 use mathlib.Core.Option.{some}
@@ -12,7 +12,7 @@ use Rattle.store_core.specs.declared.history.Piece.{Piece}
 use Rattle.store_core.specs.declared.history.Storing.TheVariants.{Stored}
 use Rattle.store_core.specs.declared.view.Boundaries.{Boundaries}
 use Rattle.store_core.specs.declared.view.SeatView.{SeatView}
-use Rattle.store_core.specs.Events.{IsRight, parents_after}
+use Rattle.store_core.specs.Events.{IsRight}
 use Rattle.store_core.specs.Histories.{IsLegal, state_after}
 use Rattle.store_core.specs.Machine.{groups}
 use Rattle.store_core.specs.Masks.{has_bit, in_mask}
@@ -169,6 +169,6 @@ module _ (fixed : Fixed) (s : Table Unit (List SeatView)) (k : IsKept fixed s) (
 
   pub publish_parents_steps : Steps fixed s id place (bit_or found_word mask) (λ new. PublishesParents group piece mask view new)
   publish_parents_steps =
-      let t = parents_step fixed s k id view seat place (bit_or found_word mask) (omega arith) group piece (Stored mask) [] [] right
+      let t = parents_step fixed s k id view seat place (bit_or found_word mask) (omega arith) group piece (Stored mask) right
       (record { storer = storer_then; stand = stand; fit = λ i j v h. fit_from i j v (found fixed s k id view new seat refl i j v h); by = by_then }) in
-      record { new = t.new; kept = t.kept; told = record { called = t.told.0; written_are = t.told.1.0; none = t.told.1.1 } }
+      record { new = t.new; kept = t.kept; told = record { called = t.told.0; written_are = t.told.1 } }

@@ -1,5 +1,5 @@
 -- A word of a parent that the seat is storing: one store.
-use Rattle.std.proofs.Common.{◌≡◌, ◌≢◌, ℕ, ◌+◌, ◌*◌, ◌/◌, ◌%◌, ◌<◌, ◌==◌, Bool, true, false, List, [], ◌∷◌, Option, None, Some, is_some, set, slice_index, refl, sym, ap, subst, ◌∙◌, arith, inl, inr, eq-eqb, eqb-true}
+use Rattle.std.proofs.Common.{◌≡◌, ◌≢◌, ℕ, ◌+◌, ◌*◌, ◌/◌, ◌%◌, ◌<◌, ◌==◌, true, List, [], ◌∷◌, Option, None, Some, is_some, set, refl, sym, ap, subst, ◌∙◌, arith, inl, inr, eq-eqb, eqb-true}
 use Rattle.std.proofs.lemmas.Bool.{both_ways, cases_Bool}
 use mathlib.Core.Option.{some}
 use lib.ListN.{get_elem?}
@@ -9,10 +9,10 @@ use Rattle.store_core.specs.declared.view.SeatView.{SeatView}
 use Rattle.store_core.specs.declared.view.StoredWord.{StoredWord}
 use Rattle.store_core.specs.Histories.{state_after}
 use Rattle.store_core.specs.Masks.{has_bit}
-use Rattle.store_core.specs.Views.{is_storing, stored}
+use Rattle.store_core.specs.Views.{is_storing}
 use Rattle.store_steps.specs.Layout.{parent_at, parent_claim_place, parent_held_place, parent_place}
 use Rattle.store_steps.specs.Plays.{StoresParent}
-use Rattle.store_steps.specs.Rule.{AreParentsKept, FitsParents, IsKept, StandForParents}
+use Rattle.store_steps.specs.Rule.{FitsParents, IsKept, StandForParents}
 use Rattle.store_steps.proofs.Keeping.{Found, found, its}
 use Rattle.store_steps.proofs.ParentsAside.{aside_step}
 use Rattle.store_steps.proofs.ParentsStanding.{same_seat}

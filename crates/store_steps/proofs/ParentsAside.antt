@@ -1,5 +1,5 @@
 -- A step on a word of parents: what is known of chunks and of the length stays.
-use Rattle.std.proofs.Common.{◌≡◌, ◌≢◌, ℕ, ◌+◌, ◌*◌, ◌/◌, ◌%◌, ◌<◌, ◌≤◌, true, false, List, [], ◌∷◌, ◌++◌, Option, Some, is_some, set, slice_index, refl, sym, ap, subst, ◌∙◌, arith}
+use Rattle.std.proofs.Common.{◌≡◌, ℕ, ◌+◌, ◌*◌, ◌/◌, ◌%◌, ◌<◌, ◌≤◌, true, List, [], ◌∷◌, ◌++◌, Option, is_some, set, refl, sym, ap, subst, ◌∙◌, arith}
 use Rattle.std.proofs.lemmas.List.{append-nil, length-set}
 use mathlib.Core.Option.{some}
 use lib.ListN.{get_elem?}
@@ -23,7 +23,7 @@ use Rattle.store_core.proofs.Lasting.{legal-join, legal_is_sound, run-append}
 use Rattle.store_core.proofs.Tells.{claims-claimed}
 use Rattle.store_steps.specs.Layout.{cell_at, cell_place, claim_place, length_place, parents_place}
 use Rattle.store_steps.specs.Rule.{AreParentsKept, Fits, IsKept, StandFor}
-use Rattle.store_steps.specs.Tells.{Called, GoesOn, event_of}
+use Rattle.store_steps.specs.Tells.{EndsStoring, GoesOn, event_of}
 use Rattle.store_steps.proofs.Keeping.{kept_step}
 use Rattle.store_steps.proofs.Standing.{left}
 use Rattle.store_steps.proofs.Stepping.{Steps, after_own, claims_now, fitting, goes_on}
@@ -74,17 +74,17 @@ module _ (fixed : Fixed) (s : Table Unit (List SeatView)) (k : IsKept fixed s) (
       (λ number claimed others. cells_aside number claimed)
       (subst (λ (h : List Event). AreParentsKept fixed (set s.words i n) (set s.views id (new ∷ [])) (state_after h).parents) (sym whole) parents)
 
-  -- a step at which parents are stored, or aren't
-  pub parents_step : (group : ℕ) (piece : Piece) (answer : Storing) (storing : List Boundaries) (parent_words : List StoredWord) → IsRight fixed now (names_of view) (Parents group piece answer)
+  -- a step at which parents are stored, or aren't: the seat is storing none then
+  pub parents_step : (group : ℕ) (piece : Piece) (answer : Storing) → IsRight fixed now (names_of view) (Parents group piece answer)
       → AreParentsKept fixed (set s.words i n)
-      (set s.views id (record view { seen = k.history ++ event_of view (Parents group piece answer) ∷ []; storing = storing; parent_words = parent_words } ∷ []))
+      (set s.views id (record view { seen = k.history ++ event_of view (Parents group piece answer) ∷ []; storing = []; parent_words = [] } ∷ []))
       (λ m. parents_after answer group piece now.parents m)
-      → Steps fixed s id i n (λ new. Called (Parents group piece answer) view new × ((new.written ≡ view.written) × (new.storing ≡ storing)))
-  parents_step group piece answer storing parent_words right parents =
+      → Steps fixed s id i n (λ new. EndsStoring (Parents group piece answer) view new × (new.written ≡ view.written))
+  parents_step group piece answer right parents =
       let call : Call = Parents group piece answer in
       let own : List Event = event_of view call ∷ [] in
       let then : state_after (k.history ++ own) ≡ after_call (names_of view) call now = run-append empty k.history own in
-      let new : SeatView = record view { seen = k.history ++ own; storing = storing; parent_words = parent_words } in
+      let new : SeatView = record view { seen = k.history ++ own; storing = []; parent_words = [] } in
       let fits : Fits fixed k.history s.words view = fitting fixed s k id view seat in
       let on : GoesOn view (after_own fixed s k id view seat own) fits.continues.between own = goes_on fixed s k id view seat own (right, tt) (refl, tt) in
       record {
@@ -108,7 +108,8 @@ module _ (fixed : Fixed) (s : Table Unit (List SeatView)) (k : IsKept fixed s) (
             between = fits.continues.between;
             goes_on = record { fixed_is = on.fixed_is; names_are = on.names_are; seen_is = on.seen_is; others = on.others; mine_is = on.mine_is; legal = on.legal };
             claims_are = λ c. ap (λ (t : State). claims (names_of view) t c) then ∙ claims_now fixed s k id view seat c;
+            none = refl;
           },
-          (refl, refl),
+          refl,
         );
       }

@@ -1,5 +1,5 @@
 -- Parents that are held or being stored, where a word of another kind is written.
-use Rattle.std.proofs.Common.{◌≡◌, ℕ, ◌+◌, ◌*◌, ◌/◌, ◌%◌, ◌<◌, ◌≤◌, true, List, Option, None, Some, set, slice_index, sym, ap, subst, ◌∙◌, arith}
+use Rattle.std.proofs.Common.{◌≡◌, ℕ, ◌+◌, ◌*◌, ◌/◌, ◌%◌, ◌<◌, ◌≤◌, List, Option, None, Some, set, slice_index, sym, ap, ◌∙◌, arith}
 use Rattle.std.proofs.lemmas.List.{set-get_or}
 use Rattle.store_core.specs.declared.fixed.Fixed.{Fixed}
 use Rattle.store_core.specs.declared.view.Boundaries.{Boundaries}
@@ -7,7 +7,7 @@ use Rattle.store_core.specs.declared.view.SeatView.{SeatView}
 use Rattle.store_core.specs.declared.view.StoredWord.{StoredWord}
 use Rattle.store_core.specs.Masks.{has_bit}
 use Rattle.store_core.specs.Views.{is_boundary, is_storing, stored}
-use Rattle.store_steps.specs.Layout.{parent_at, parents_place, parent_claim_place, parent_held_place, parent_place}
+use Rattle.store_steps.specs.Layout.{parents_place, parent_claim_place, parent_held_place, parent_place}
 use Rattle.store_steps.specs.Rule.{FitsParents, StandForParents}
 use Rattle.store_steps.proofs.Standing.{left}
 

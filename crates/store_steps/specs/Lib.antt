@@ -3,6 +3,7 @@ pub mod Rule
 pub mod Grips
 pub mod Tells
 pub mod Reads
+pub mod Slices
 pub mod Parts
 pub mod Plays
 pub mod Asks

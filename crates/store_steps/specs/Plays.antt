@@ -1,17 +1,22 @@
 -- What each kind of step tells, as the table asks it: of the step, the seat before, the number found and the seat after.
-use Rattle.std.specs.Prelude.{◌≡◌, ℕ, ◌+◌, ◌-◌, ◌*◌, ◌==◌, if◌then◌else◌, List, [], ◌∷◌, Option, None, Some, bit_and}
+use Rattle.std.specs.Prelude.{◌≡◌, ℕ, ◌+◌, ◌-◌, ◌*◌, ◌%◌, ◌==◌, Bool, if◌then◌else◌, List, [], ◌∷◌, Option, None, Some, is_some, bit_and}
 use Rattle.std.specs.Int.{w64, bit_not}
 use Rattle.atomic_table.specs.Table.{Me}
+use Rattle.bao_text.specs.declared.walk.Node.{Node}
 use Rattle.store_core.specs.declared.history.Call.TheVariants.{Commit, Give, Length, Parents, Settle, Take}
 use Rattle.store_core.specs.declared.history.Piece.{Piece}
 use Rattle.store_core.specs.declared.history.Storing.TheVariants.{Stored}
 use Rattle.store_core.specs.declared.view.SeatView.{SeatView}
 use Rattle.store_core.specs.Events.{settling}
+use Rattle.store_core.specs.Histories.{state_after}
+use Rattle.store_core.specs.Masks.{has_bit}
 use Rattle.store_core.specs.Pieces.{length_of}
+use Rattle.store_core.specs.Serves.{node_held}
 use Rattle.store_core.specs.Views.{split_first, split_second}
 use Rattle.store_steps.specs.Parts.{AreMet, ArePartsOf, IsMerged}
 use Rattle.store_steps.specs.Reads.{read_events}
-use Rattle.store_steps.specs.Tells.{Called, Did, FindsHeld, FindsWord, Looked}
+use Rattle.store_steps.specs.Slices.{node_events, number_of, unserved_events, unstored_events}
+use Rattle.store_steps.specs.Tells.{Did, EndsStoring, FindsHeld, FindsParentWord, FindsWord, Looked}
 
 -- a seat with one view has one afterwards, of which this is told
 abbrev pub OfOne : (SeatView → SeatView → Type 0) → Me Unit (List SeatView) → Me Unit (List SeatView) → Type 0
@@ -40,6 +45,14 @@ pub record Copies (chunk w found : ℕ) (old new : SeatView) : Type 0 where
   pub same : new ≡ old
   pub finds : FindsWord chunk w found old
 
+pub record LoadsNode (node : Node) (last : Bool) (start len found : ℕ) (old new : SeatView) : Type 0 where
+  pub looked : Looked (node_events old node last start len) old new
+  pub finds : has_bit found (number_of node % 64) ≡ is_some (node_held (state_after new.seen) node)
+
+pub record CopiesParent (boundary w found : ℕ) (old new : SeatView) : Type 0 where
+  pub same : new ≡ old
+  pub finds : FindsParentWord boundary w found old
+
 -- The seat, which was storing no parents, is storing those of the boundaries asked for whose bit wasn't set. Nothing else
 -- changes.
 abbrev pub ClaimsParents : ℕ → ℕ → ℕ → SeatView → SeatView → Type 0
@@ -51,9 +64,8 @@ StoresParent m w value old new = new ≡ record old { parent_words = record { nu
 
 -- Parents of the piece are stored: the seat is storing none afterwards.
 pub record PublishesParents (group : ℕ) (piece : Piece) (mask : ℕ) (old new : SeatView) : Type 0 where
-  pub called : Called (Parents group piece (Stored mask)) old new
+  pub called : EndsStoring (Parents group piece (Stored mask)) old new
   pub written_are : new.written ≡ old.written
-  pub none : new.storing ≡ []
 
 -- the length that a word stands for
 abbrev pub length_in : ℕ → Option ℕ
@@ -61,6 +73,14 @@ length_in word = if word == 0 then None else Some (word - 1)
 
 abbrev pub Settles : Piece → ℕ → SeatView → SeatView → Type 0
 Settles piece found old new = Did (Settle piece (settling (length_in found) (length_of piece))) old new
+
+pub record LoadsToServe (start len found : ℕ) (old new : SeatView) : Type 0 where
+  pub looked : Looked (unserved_events old start len) old new
+  pub finds : length_in found ≡ (state_after new.seen).recorded
+
+pub record LoadsToStore (group : ℕ) (piece : Piece) (found : ℕ) (old new : SeatView) : Type 0 where
+  pub looked : Looked (unstored_events old group piece) old new
+  pub finds : length_in found ≡ (state_after new.seen).recorded
 
 abbrev pub Answers : ℕ → SeatView → SeatView → Type 0
 Answers found old new = Did (Length (length_in found)) old new

@@ -9,6 +9,7 @@ use Rattle.store_core.specs.Histories.{AreOfOthers, IsLegal, state_after}
 use Rattle.store_core.specs.Masks.{has_bit, in_mask}
 use Rattle.store_core.specs.States.{State, is_held}
 use Rattle.store_core.specs.Views.{mine, names_of, seat_claims, written_after}
+use Rattle.store_steps.specs.Layout.{parent_word}
 
 -- What is seen begins with all that had been seen. After that come others' calls, and last the seat's own, which are
 -- new in its calls. The whole is a legal history, so each reply in it is the right one at its place. The seat is of the
@@ -48,11 +49,19 @@ pub record Did (call : Call) (old new : SeatView) : Type 0 where
 
 -- The call, made in one step or in several, is an event of the store. The history that the seat has seen afterwards is legal. It begins
 -- with all that the seat had seen, goes on with calls of others, and ends with this call: so of the seat's calls each is
--- in it once, in order. The seat claims what the call leaves of its claims.
+-- in it once, in order. The seat claims what the call leaves of its claims. The parents that it is storing are the same.
 pub record Called (call : Call) (old new : SeatView) : Type 0 where
   pub between : List Event
   pub goes_on : GoesOn old new between (event_of old call ∷ [])
   pub claims_are : (c : ℕ) → seat_claims new c ≡ claims_after call (seat_claims old) c
+  pub storing_is : new.storing ≡ old.storing
+
+-- The call is an event of the store in the same way, and the seat, which was storing parents, is storing none afterwards.
+pub record EndsStoring (call : Call) (old new : SeatView) : Type 0 where
+  pub between : List Event
+  pub goes_on : GoesOn old new between (event_of old call ∷ [])
+  pub claims_are : (c : ℕ) → seat_claims new c ≡ claims_after call (seat_claims old) c
+  pub none : new.storing ≡ []
 
 -- The step sees the history so far, and has the events that the state there gives: none, or a call of the seat's that
 -- leaves the state.
@@ -62,6 +71,10 @@ pub record Looked (events : State → List Event) (old new : SeatView) : Type 0 
   pub claims_are : (c : ℕ) → seat_claims new c ≡ seat_claims old c
   pub written_are : new.written ≡ old.written
   pub storing_is : new.storing ≡ old.storing
+
+-- the seat has seen more, and made no call
+abbrev pub Sees : SeatView → SeatView → Type 0
+Sees old new = Looked (λ s. []) old new
 
 -- word w of the chunk's cell counts as stored, and nothing else changes
 abbrev pub Stores : ℕ → ℕ → ℕ → SeatView → SeatView → Type 0
@@ -78,3 +91,7 @@ FindsHeld group found view = (c : ℕ) → c / 64 ≡ group → has_bit found (c
 -- where the seat has seen the chunk held, the word found is word w of its cell
 abbrev pub FindsWord : ℕ → ℕ → ℕ → SeatView → Type 0
 FindsWord chunk w found view = (bytes : List ℕ) → (state_after view.seen).held chunk ≡ Some bytes → found ≡ cell_word bytes w
+
+-- and where it has seen the parent held, it is word w of the parent
+abbrev pub FindsParentWord : ℕ → ℕ → ℕ → SeatView → Type 0
+FindsParentWord boundary w found view = (bytes : List ℕ) → (state_after view.seen).parents boundary ≡ Some bytes → found ≡ parent_word bytes w

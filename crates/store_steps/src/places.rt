@@ -2,7 +2,9 @@ ghost use Rattle.std.specs.Prelude.{◌≡◌, ◌+◌, ◌*◌, ◌<◌, ◌≤
 ghost use Rattle.store_core.specs.Machine.{groups};
 ghost use Rattle.store_core.specs.Masks.{has_bit};
 ghost use Rattle.store_steps.specs.Layout.{cell_place, claim_place, length_place, parent_claim_place, parent_held_place, parent_place, word_count};
+ghost use Rattle.store_steps.specs.Slices.{node_place, number_of};
 
+use bao_text::Node;
 use store_core::Fixed;
 
 /// How many words a chunk's cell has: the size, then 128 words of data.
@@ -83,6 +85,36 @@ pub(crate) fn parent_claim_place(fixed: &Fixed, group: u32) -> usize
     ensures within { result < word_count fixed.now }
 {
     length_place(fixed) + 1 + groups(fixed) + group as usize
+}
+
+// Where the held word with a node's bit stands.
+pub(crate) fn node_place(fixed: &Fixed, node: &Node) -> usize
+    requires { number_of node.now < fixed.now.capacity }
+    ensures place { result ≡ node_place fixed.now node.now }
+    ensures within { result < word_count fixed.now }
+{
+    match node {
+        Node::Chunk(chunk) => (*chunk / 64) as usize,
+        Node::Parent(boundary) => length_place(fixed) + 1 + (*boundary / 64) as usize,
+    }
+}
+
+// Whether bit j of the mask is set.
+fn has_bit(mask: u64, j: u64) -> bool
+    requires { j < 64 }
+    ensures { result ≡ has_bit mask j }
+{
+    (mask >> j) & 1 == 1
+}
+
+// Whether a node's bit is set in its held word.
+pub(crate) fn has_node(held: u64, node: &Node) -> bool
+    ensures { result ≡ has_bit held (number_of node.now % 64) }
+{
+    match node {
+        Node::Chunk(chunk) => has_bit(held, *chunk % 64),
+        Node::Parent(boundary) => has_bit(held, *boundary % 64),
+    }
 }
 
 // Where a word of a boundary's parent stands.

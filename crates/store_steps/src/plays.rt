@@ -1,4 +1,5 @@
-ghost use Rattle.std.specs.Prelude.{ℕ};
+ghost use Rattle.std.specs.Prelude.{ℕ, Bool};
+ghost use Rattle.bao_text.specs.declared.walk.Node.{Node};
 ghost use Rattle.store_core.specs.declared.history.Piece.{Piece};
 
 use atomic_table::Play;
@@ -31,6 +32,33 @@ impl Asked for Brand {
     ghost second = { 0 };
 
     ghost piece = { no_piece };
+}
+
+// What a load of a node's held word was asked for: the node, whether it is its slice's last, and the slice's start and length.
+pub(crate) trait AskedNode {
+    ghost use Rattle.std.specs.Prelude.{ℕ, Bool};
+    ghost use Rattle.bao_text.specs.declared.walk.Node.{Node};
+
+    ghost node: { Node };
+
+    ghost last: { Bool };
+
+    ghost start: { ℕ };
+
+    ghost len: { ℕ };
+}
+
+impl AskedNode for Brand {
+    ghost use Rattle.std.specs.Prelude.{false};
+    ghost use Rattle.bao_text.specs.declared.walk.Node.TheVariants.{Chunk};
+
+    ghost node = { Chunk 0 };
+
+    ghost last = { false };
+
+    ghost start = { 0 };
+
+    ghost len = { 0 };
 }
 
 // `group`, and `first` for the wanted mask.
@@ -98,6 +126,49 @@ impl<A: Asked> Play<(), LinkedList<SeatView>> for Copying<A> {
     ghost use Rattle.store_steps.specs.Plays.{OfOne, Copies};
 
     ghost then = { λ step me found later. OfOne (Copies A.first A.second found) me later };
+}
+
+pub(crate) struct LoadingNode<A> {
+    asked: PhantomData<A>,
+}
+
+impl<A: AskedNode> Play<(), LinkedList<SeatView>> for LoadingNode<A> {
+    ghost use Rattle.store_steps.specs.Plays.{LoadsNode, OfOne};
+
+    ghost then = { λ step me found later. OfOne (LoadsNode A.node A.last A.start A.len found) me later };
+}
+
+// `first` for the boundary and `second` for the word of its parent.
+pub(crate) struct CopyingParent<A> {
+    asked: PhantomData<A>,
+}
+
+impl<A: Asked> Play<(), LinkedList<SeatView>> for CopyingParent<A> {
+    ghost use Rattle.store_steps.specs.Plays.{CopiesParent, OfOne};
+
+    ghost then = { λ step me found later. OfOne (CopiesParent A.first A.second found) me later };
+}
+
+// `first` for the start of a slice and `second` for its length.
+pub(crate) struct LoadingToServe<A> {
+    asked: PhantomData<A>,
+}
+
+impl<A: Asked> Play<(), LinkedList<SeatView>> for LoadingToServe<A> {
+    ghost use Rattle.store_steps.specs.Plays.{LoadsToServe, OfOne};
+
+    ghost then = { λ step me found later. OfOne (LoadsToServe A.first A.second found) me later };
+}
+
+// `group`, and `piece`.
+pub(crate) struct LoadingToStore<A> {
+    asked: PhantomData<A>,
+}
+
+impl<A: Asked> Play<(), LinkedList<SeatView>> for LoadingToStore<A> {
+    ghost use Rattle.store_steps.specs.Plays.{LoadsToStore, OfOne};
+
+    ghost then = { λ step me found later. OfOne (LoadsToStore A.group A.piece found) me later };
 }
 
 // `piece`.

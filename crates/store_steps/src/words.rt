@@ -1,4 +1,4 @@
-ghost use Rattle.std.specs.Prelude.{◌≡◌, [], Some, ◌+◌, ◌*◌, ◌/◌, ◌<◌, ◌≤◌, ℕ, true, IfErr, IfOk, IsErrOf, IsOk, OnErr};
+ghost use Rattle.std.specs.Prelude.{◌≡◌, [], Some, is_some, ◌+◌, ◌*◌, ◌/◌, ◌<◌, ◌≤◌, ℕ, true, IfErr, IfOk, IsErrOf, IsOk, OnErr};
 ghost use Rattle.store_steps.specs.Layout.{word_count};
 
 use crate::fault::NewFault;
@@ -6,17 +6,19 @@ use crate::grip::Grip;
 use crate::joins::{Both, Entering, Leaving, Meeting, Merging, Parting, Parts};
 use crate::lengths::{length_in, settling};
 use crate::places::{
-    cell_place, chunks_below, claim_place, held_place, length_place, parent_claim_place,
-    parent_held_place, parent_place, word_count,
+    cell_place, chunks_below, claim_place, has_node, held_place, length_place, node_place,
+    parent_claim_place, parent_held_place, parent_place, word_count,
 };
 use crate::plays::{
-    Answering, Asked, ClaimingParents, Copying, Giving, Loading, Publishing, PublishingParents,
+    Answering, Asked, AskedNode, ClaimingParents, Copying, CopyingParent, Giving, Loading,
+    LoadingNode, LoadingToServe, LoadingToStore, Publishing, PublishingParents,
     Settling as SettlingStep, Storing, StoringParent, Taking,
 };
 use crate::rule::Law;
 use atomic_table::Table;
 use b3tree::{Hash, Mode};
 use bao_check::{Checked, Tail};
+use bao_text::Node;
 use std::alloc::Global;
 use std::collections::LinkedList;
 use std::marker::Brand;
@@ -55,9 +57,11 @@ impl Words {
     ghost use Rattle.store_steps.specs.Grips.{opening_view};
     ghost use Rattle.store_steps.specs.Parts.{AreMet, ArePartsOf, IsMerged};
     ghost use Rattle.store_steps.specs.Reads.{read_events};
+    ghost use Rattle.store_core.specs.Serves.{node_held};
+    ghost use Rattle.store_steps.specs.Slices.{node_events, number_of, unserved_events, unstored_events};
     ghost use Rattle.store_core.specs.Masks.{has_bit};
     ghost use Rattle.store_steps.specs.Plays.{StoresParent};
-    ghost use Rattle.store_steps.specs.Tells.{Called, Did, FindsHeld, FindsWord, IsStoringNow, Looked, Stores};
+    ghost use Rattle.store_steps.specs.Tells.{Did, EndsStoring, FindsHeld, FindsParentWord, FindsWord, IsStoringNow, Looked, Stores};
     ghost use Rattle.store_steps.specs.Words.{HasGroup, IsOf, fixed_of};
 
     /// Words of which none is held, claimed or recorded, and their first grip, which has seen nothing. `capacity` is a
@@ -338,6 +342,127 @@ impl Words {
         length_in(found)
     }
 
+    /// Whether a node of the slice (`start`, `len`) is held. It is a load for that slice: its Serve where the node isn't held,
+    /// or where it is the slice's last, which `last` says. One load of a held word.
+    pub fn load_node(&self, grip: &mut Grip, node: &Node, last: bool, start: u64, len: u64) -> bool
+        requires of { IsOf self.now grip.old }
+        requires node { number_of node.now < (fixed_of self.now).capacity }
+        ensures of { IsOf self.now grip.new }
+        ensures looked { Looked (node_events grip.old.view node.now last start len) grip.old.view grip.new.view }
+        ensures held { result ≡ is_some (node_held (state_after grip.new.view.seen) node.now) }
+    {
+        self.load_node_asked::<Brand>(grip, node, last, start, len)
+    }
+
+    fn load_node_asked<A: AskedNode>(
+        &self,
+        grip: &mut Grip,
+        node: &Node,
+        last: bool,
+        start: u64,
+        len: u64,
+    ) -> bool
+        requires of { IsOf self.now grip.old }
+        requires node { number_of node.now < (fixed_of self.now).capacity }
+        requires asked { (A.node ≡ node.now) × (A.last ≡ last) × (A.start ≡ start) × (A.len ≡ len) }
+        ensures of { IsOf self.now grip.new }
+        ensures looked { Looked (node_events grip.old.view node.now last start len) grip.old.view grip.new.view }
+        ensures held { result ≡ is_some (node_held (state_after grip.new.view.seen) node.now) }
+    {
+        let place = node_place(&self.fixed, node);
+        let found = self
+            .table
+            .shared
+            .load::<LoadingNode<A>>(&mut grip.seat, place);
+        has_node(found, node)
+    }
+
+    /// A word of a boundary's parent, as at `store_parent`, where the grip has seen the parent held. One load, which changes
+    /// nothing.
+    pub fn copy_parent(&self, grip: &mut Grip, boundary: u32, word: u8) -> u64
+        requires of { IsOf self.now grip.old }
+        requires boundary { boundary < (fixed_of self.now).capacity }
+        requires word { word < 8 }
+        ensures same { grip.new ≡ grip.old }
+        ensures word { FindsParentWord boundary word result grip.old.view }
+    {
+        self.copy_parent_asked::<Brand>(grip, boundary, word)
+    }
+
+    fn copy_parent_asked<A: Asked>(&self, grip: &mut Grip, boundary: u32, word: u8) -> u64
+        requires of { IsOf self.now grip.old }
+        requires boundary { boundary < (fixed_of self.now).capacity }
+        requires word { word < 8 }
+        requires asked { (A.first ≡ boundary) × (A.second ≡ word) }
+        ensures same { grip.new ≡ grip.old }
+        ensures word { FindsParentWord boundary word result grip.old.view }
+    {
+        let from = parent_place(&self.fixed, boundary, word);
+        self.table
+            .shared
+            .load::<CopyingParent<A>>(&mut grip.seat, from)
+    }
+
+    /// The recorded length in bytes, if there is one, for the slice (`start`, `len`): where there is none this is its Serve.
+    /// One load of the length word.
+    pub fn length_to_serve(&self, grip: &mut Grip, start: u64, len: u64) -> Option<u64>
+        requires of { IsOf self.now grip.old }
+        ensures of { IsOf self.now grip.new }
+        ensures looked { Looked (unserved_events grip.old.view start len) grip.old.view grip.new.view }
+        ensures recorded { result ≡ (state_after grip.new.view.seen).recorded }
+    {
+        self.length_to_serve_asked::<Brand>(grip, start, len)
+    }
+
+    fn length_to_serve_asked<A: Asked>(&self, grip: &mut Grip, start: u64, len: u64) -> Option<u64>
+        requires of { IsOf self.now grip.old }
+        requires asked { (A.first ≡ start) × (A.second ≡ len) }
+        ensures of { IsOf self.now grip.new }
+        ensures looked { Looked (unserved_events grip.old.view start len) grip.old.view grip.new.view }
+        ensures recorded { result ≡ (state_after grip.new.view.seen).recorded }
+    {
+        let place = length_place(&self.fixed);
+        let found = self
+            .table
+            .shared
+            .load::<LoadingToServe<A>>(&mut grip.seat, place);
+        length_in(found)
+    }
+
+    /// The recorded length in bytes, if there is one, for parents of a piece of this store's root and mode: where it isn't the
+    /// length that the piece claims, or there is no such group, this is their Parents. One load of the length word.
+    pub fn length_to_store(&self, grip: &mut Grip, group: u32, piece: &Checked<'_>) -> Option<u64>
+        requires of { IsOf self.now grip.old }
+        requires piece { IsOfStore (fixed_of self.now) piece.now }
+        ensures of { IsOf self.now grip.new }
+        ensures looked { Looked (unstored_events grip.old.view group (piece_of piece.now)) grip.old.view grip.new.view }
+        ensures recorded { result ≡ (state_after grip.new.view.seen).recorded }
+    {
+        self.length_to_store_asked::<Brand>(grip, group, piece)
+    }
+
+    fn length_to_store_asked<A: Asked>(
+        &self,
+        grip: &mut Grip,
+        group: u32,
+        piece: &Checked<'_>,
+    ) -> Option<u64>
+        requires of { IsOf self.now grip.old }
+        requires piece { IsOfStore (fixed_of self.now) piece.now }
+        requires asked { (A.group ≡ group) × (A.piece ≡ piece_of piece.now) }
+        ensures of { IsOf self.now grip.new }
+        ensures looked { Looked (unstored_events grip.old.view group (piece_of piece.now)) grip.old.view grip.new.view }
+        ensures recorded { result ≡ (state_after grip.new.view.seen).recorded }
+    {
+        piece.is_accepted();
+        let place = length_place(&self.fixed);
+        let found = self
+            .table
+            .shared
+            .load::<LoadingToStore<A>>(&mut grip.seat, place);
+        length_in(found)
+    }
+
     /// Claims the wanted boundaries of a group that are below the capacity and whose parents are neither held nor being
     /// stored, and answers their mask: the grip, which stores no parents, is storing these. One `fetch_or` on the claim
     /// word of boundaries.
@@ -407,9 +532,8 @@ impl Words {
         requires length { (state_after grip.old.view.seen).recorded ≡ Some (length_of (piece_of piece.now)) }
         requires written { AreParentsWritten grip.old.view group mask (piece_of piece.now) }
         ensures of { IsOf self.now grip.new }
-        ensures called { Called (Parents group (piece_of piece.now) (Stored mask)) grip.old.view grip.new.view }
+        ensures called { EndsStoring (Parents group (piece_of piece.now) (Stored mask)) grip.old.view grip.new.view }
         ensures written { grip.new.view.written ≡ grip.old.view.written }
-        ensures none { grip.new.view.storing ≡ [] }
     {
         self.publish_parents_asked::<Brand>(grip, group, piece, mask);
     }
@@ -428,9 +552,8 @@ impl Words {
         requires written { AreParentsWritten grip.old.view group mask (piece_of piece.now) }
         requires asked { (A.group ≡ group) × (A.piece ≡ piece_of piece.now) }
         ensures of { IsOf self.now grip.new }
-        ensures called { Called (Parents group (piece_of piece.now) (Stored mask)) grip.old.view grip.new.view }
+        ensures called { EndsStoring (Parents group (piece_of piece.now) (Stored mask)) grip.old.view grip.new.view }
         ensures written { grip.new.view.written ≡ grip.old.view.written }
-        ensures none { grip.new.view.storing ≡ [] }
     {
         piece.is_accepted();
         let place = parent_held_place(&self.fixed, group);
