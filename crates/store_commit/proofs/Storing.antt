@@ -12,10 +12,10 @@ use Rattle.store_steps.specs.Tells.{Stores}
 use Rattle.store_commit.specs.Stored.{HasCell, HasCells}
 
 -- the newest word of a number counts, and words of other numbers don't hide one
-stored-same : (words : List StoredWord) (number value : ℕ) → stored (record { number = number; value = value } ∷ words) number ≡ Some value
+pub stored-same : (words : List StoredWord) (number value : ℕ) → stored (record { number = number; value = value } ∷ words) number ≡ Some value
 stored-same words number value = rw (eq-eqb number number refl) refl
 
-stored-other : (words : List StoredWord) (number value other : ℕ) → number ≢ other
+pub stored-other : (words : List StoredWord) (number value other : ℕ) → number ≢ other
     → stored (record { number = number; value = value } ∷ words) other ≡ stored words other
 stored-other words number value other differ = rw (ne_eqb number other differ) refl
 
@@ -43,7 +43,7 @@ cell_more chunk bytes w value old new later k below is stores =
           ∙ k.others number other;
     }
 
-group_of : (group mask c : ℕ) → in_mask group mask c ≡ true → c / 64 ≡ group
+pub group_of : (group mask c : ℕ) → in_mask group mask c ≡ true → c / 64 ≡ group
 group_of group mask c hit = eqb-true (c / 64) group (and_parts (c / 64 == group) (has_bit mask (c % 64)) hit).0
 
 -- the cell of one chunk more

@@ -8,10 +8,10 @@ ghost use Rattle.store_steps.specs.Words.{IsOf};
 use store_steps::{CELL_LEN, Grip, Words};
 
 // How many bytes a word has.
-const WORD_LEN: usize = 8;
+pub(crate) const WORD_LEN: usize = 8;
 
 // The eight bytes from index `at` on as a word, little-endian.
-fn whole_word(bytes: &[u8], at: usize) -> u64
+pub(crate) fn whole_word(bytes: &[u8], at: usize) -> u64
     requires { at + 8 ≤ length bytes.now }
     ensures { result ≡ from_le_bytes w64 (take 8 (drop at bytes.now)) }
 {

@@ -1,4 +1,4 @@
-ghost use Rattle.std.specs.Prelude.{◌≡◌, ◌<◌, ◌≤◌, ℕ, nat_lt};
+ghost use Rattle.std.specs.Prelude.{◌≡◌, ◌≢◌, ◌<◌, ◌≤◌, ℕ, nat_lt, true};
 ghost use Rattle.store_core.specs.Masks.{has_bit};
 
 // How many chunks a group has.
@@ -10,6 +10,15 @@ pub(crate) fn has_bit(mask: u64, j: u64) -> bool
     ensures { result ≡ has_bit mask j }
 {
     (mask >> j) & 1 == 1
+}
+
+// The mask with bit j set.
+pub(crate) fn with_bit(mask: u64, j: u64) -> u64
+    requires { j < 64 }
+    ensures same { has_bit result j ≡ true }
+    ensures others { (k : ℕ) → k ≢ j → has_bit result k ≡ has_bit mask k }
+{
+    mask | (1 << j)
 }
 
 // The mask of the lowest bits, `count` of them.
