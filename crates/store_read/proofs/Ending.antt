@@ -34,6 +34,7 @@ pub record IsGoing (first view : SeatView) : Type 0 where
   pub between : List Event
   pub goes_on : GoesOn first view between []
   pub claims_are : (c : ℕ) → seat_claims view c ≡ seat_claims first c
+  pub storing_is : view.storing ≡ first.storing
 
 pub going_none : (view : SeatView) → IsLegal view.fixed view.seen → IsGoing view view
 going_none view legal = record {
@@ -47,6 +48,7 @@ going_none view legal = record {
     legal = legal;
   };
   claims_are = λ c. refl;
+  storing_is = refl;
 }
 
 -- What a seat has seen goes on.
@@ -119,6 +121,7 @@ module _ (first view new : SeatView) (group at len : ℕ) (going : IsGoing first
         goes_on = goes_on_then first view new going.between between (event_of first call ∷ []) going.goes_on
             (subst (λ (es : List Event). GoesOn view new between es) own looked.goes_on);
         claims_are = claims_same;
+        storing_is = looked.storing_is ∙ going.storing_is;
       }
 
   pub was_not : is_last view.fixed group at len (state_after new.seen) ≡ false → IsGoing first new
@@ -129,6 +132,7 @@ module _ (first view new : SeatView) (group at len : ℕ) (going : IsGoing first
         goes_on = goes_on_then first view new going.between between [] going.goes_on
             (subst (λ (es : List Event). GoesOn view new between es) (events_are view group at len there false here) looked.goes_on);
         claims_are = claims_same;
+        storing_is = looked.storing_is ∙ going.storing_is;
       }
 
 -- The bytes of a buffer that is filled as far as it can be are those that a read there gives.

@@ -1,7 +1,8 @@
 -- A buffer that is filled part by part.
-use Rattle.std.proofs.Common.{◌≡◌, ℕ, ◌+◌, ◌-◌, ◌<◌, ◌≤◌, List, ◌++◌, length, take, drop, get_or, slice_index, Some, sym, ap, subst, ◌∙◌, arith, inl, inr, append_assoc, length-take, length-drop, length-append, get_or-take, get_or-drop, get_or-append-add}
+use Rattle.std.proofs.Common.{◌≡◌, ℕ, ◌+◌, ◌-◌, ◌<◌, ◌≤◌, List, ◌++◌, length, take, drop, get_or, slice_index, Some, sym, ap, subst, ◌∙◌, arith, inl, inr, append_assoc, length-take, length-drop, length-append, get_or-take, get_or-drop, get_or-append-add, take-take}
 use Rattle.std.proofs.lemmas.Bool.{cases_lt}
-use Rattle.std.proofs.lemmas.List.{get_or_append_left, get_or-append_right}
+use Rattle.std.proofs.lemmas.List.{get_or_append_left, get_or-append_right, take-append-le}
+use Rattle.std.proofs.Math.Seq.{take-append-add}
 use Rattle.store_core.specs.States.{State, byte_at}
 use Rattle.store_read.specs.Filled.{IsFilled}
 
@@ -56,3 +57,18 @@ put_filled s at from old new part room is part_got =
             ∙ get_or-drop end old (i - end) 0 ∙ ap (λ (k : ℕ). get_or old k 0) place
       ];
     }
+
+-- A buffer that begins with `old`, in which a part is written over what comes after. It is cut off within the part.
+pub gained : (old before part after last cut : List ℕ) (from count whole : ℕ) → from ≡ length old → take from before ≡ old → count ≤ length part → from + count ≤ whole
+    → cut ≡ take (from + count) (take whole ((take from before ++ (part ++ after)) ++ last)) → cut ≡ old ++ take count part
+gained old before part after last cut from count whole from_is begins within room is =
+    let all : List ℕ = part ++ (after ++ last) in
+    let joined : (old ++ (part ++ after)) ++ last ≡ old ++ all = append_assoc old (part ++ after) last ∙ ap (λ (xs : List ℕ). old ++ xs) (append_assoc part after last) in
+    let size : from + count ≡ length old + count = omega (arith, from_is) in
+    is
+    ∙ ap (λ (xs : List ℕ). take (from + count) (take whole ((xs ++ (part ++ after)) ++ last))) begins
+    ∙ ap (λ (xs : List ℕ). take (from + count) (take whole xs)) joined
+    ∙ take-take (from + count) whole (old ++ all) room
+    ∙ ap (λ (n : ℕ). take n (old ++ all)) size
+    ∙ take-append-add old all count
+    ∙ ap (λ (xs : List ℕ). old ++ xs) (take-append-le count part (after ++ last) within)

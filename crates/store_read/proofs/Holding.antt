@@ -24,12 +24,12 @@ some_size : (o : Option (List ℕ)) → 0 < length (unwrap_or o []) → (bytes :
 some_size None h = absurd (omega (arith, h))
 some_size (Some bytes) h = (bytes, refl)
 
-some_there : (o : Option (List ℕ)) → is_some o ≡ true → (bytes : List ℕ) × (o ≡ Some bytes)
+pub some_there : (o : Option (List ℕ)) → is_some o ≡ true → (bytes : List ℕ) × (o ≡ Some bytes)
 some_there None h = cc
 some_there (Some bytes) h = (bytes, refl)
 
 -- a held chunk is of bytes, at most 1,024
-held_valid : (fixed : Fixed) (history : List Event) (c : ℕ) (bytes : List ℕ) → IsLegal fixed history → (state_after history).held c ≡ Some bytes
+pub held_valid : (fixed : Fixed) (history : List Event) (c : ℕ) (bytes : List ℕ) → IsLegal fixed history → (state_after history).held c ≡ Some bytes
     → AreBytes bytes × (length bytes ≤ 1024)
 held_valid fixed history c bytes legal has =
     let k : IsCommitted fixed history c bytes = held_is_committed fixed history c bytes legal has in

@@ -1,3 +1,5 @@
 pub mod Filling
 pub mod Holding
 pub mod Ending
+pub mod Parents
+pub mod Slices

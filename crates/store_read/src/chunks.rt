@@ -8,11 +8,11 @@ use b3tree::CHUNK_LEN;
 use store_steps::{Grip, Words};
 
 // How many bytes a word of a cell has.
-const WORD_LEN: usize = 8;
+pub(crate) const WORD_LEN: usize = 8;
 
 // Writes the bytes into the buffer from index `from` on.
 #[inline(always)]
-fn put(out: &mut [u8], from: usize, bytes: &[u8])
+pub(crate) fn put(out: &mut [u8], from: usize, bytes: &[u8])
     requires { from + length bytes.now ≤ length out.old }
     ensures { out.new ≡ take from out.old ++ (bytes.now ++ drop (from + length bytes.now) out.old) }
 {
