@@ -20,7 +20,7 @@ use Rattle.store_steps.specs.Tells.{Called, Did, event_of}
 use Rattle.store_shared.specs.Calls.{MaySettle, Settles}
 
 pub called : (call : Call) (old new : SeatView) → Did call old new → Called call old new
-called call old new did = record { between = did.between; goes_on = did.goes_on; claims_are = did.claims_are }
+called call old new did = record { between = did.between; goes_on = did.goes_on; claims_are = did.claims_are; storing_is = did.storing_is }
 
 -- a call's reply is the right one at its place
 pub right_there : (call : Call) (old new : SeatView) (d : Called call old new) → IsRight new.fixed (state_after (old.seen ++ d.between)) (names_of old) call

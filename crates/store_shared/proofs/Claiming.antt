@@ -1,5 +1,5 @@
 -- The claims that a seat keeps stay those of its view.
-use Rattle.std.proofs.Common.{◌≡◌, ◌≢◌, ℕ, ◌/◌, ◌%◌, ◌^◌, ◌+◌, ◌<◌, ◌≤◌, ◌==◌, Bool, true, false, not, ◌&&◌, ◌||◌, List, length, replicate, set, slice_index, refl, sym, ap, subst, ◌∙◌, arith, inl, inr, eq-eqb, ne_eqb}
+use Rattle.std.proofs.Common.{◌≡◌, ◌≢◌, ℕ, ◌/◌, ◌%◌, ◌^◌, ◌+◌, ◌<◌, ◌≤◌, ◌==◌, Bool, true, false, not, ◌&&◌, ◌||◌, List, [], ◌++◌, length, replicate, set, slice_index, refl, sym, ap, subst, ◌∙◌, arith, inl, inr, eq-eqb, ne_eqb}
 use Rattle.std.proofs.lemmas.Bool.{both_ways, cases_eq}
 use Rattle.std.proofs.lemmas.List.{get_or-replicate, length-replicate, length-set}
 use Rattle.std.specs.Int.{w64, bit_not}
@@ -7,6 +7,7 @@ use Rattle.std.specs.Int.Bits.{bit_and, bit_or}
 use Rattle.store_core.specs.declared.fixed.Fixed.{Fixed}
 use Rattle.store_core.specs.declared.history.Call.TheVariants.{Take}
 use Rattle.store_core.specs.declared.history.Piece.{Piece}
+use Rattle.store_core.specs.declared.view.Boundaries.{Boundaries}
 use Rattle.store_core.specs.declared.view.SeatView.{SeatView}
 use Rattle.store_core.specs.Machine.{groups}
 use Rattle.store_core.specs.Masks.{IsMaskOf, has_bit, in_mask}
@@ -25,24 +26,25 @@ use Rattle.store_steps.proofs.Standing.{left, put}
 use Rattle.store_shared.specs.Seats.{AreClaims}
 
 -- words of zeros, for a seat that claims nothing
-pub none_claimed : (view : SeatView) (count : ℕ) → count ≡ groups view.fixed → ((c : ℕ) → seat_claims view c ≡ false) → AreClaims view (replicate count 0)
-none_claimed view count size none = record {
+pub none_claimed : (view : SeatView) (count : ℕ) → count ≡ groups view.fixed → ((c : ℕ) → seat_claims view c ≡ false) → view.storing ≡ [] → AreClaims view (replicate count 0)
+none_claimed view count size none idle = record {
   count = length-replicate count 0 ∙ size;
   bits = λ c below. ap (λ (w : ℕ). has_bit w (c % 64)) (get_or-replicate count (c / 64) 0 0 (omega (arith, below, size))) ∙ has_bit-zero (c % 64) ∙ sym (none c);
+  idle = idle;
 }
 
 pub opening_claims : (fixed : Fixed) (view : SeatView) (count : ℕ) (claims : List ℕ) → view ≡ opening_view fixed → count ≡ groups fixed
     → claims ≡ replicate count 0 → AreClaims view claims
 opening_claims fixed view count claims is size zeros =
     subst (λ (v : SeatView). AreClaims v claims) (sym is)
-    (subst (λ (xs : List ℕ). AreClaims (opening_view fixed) xs) (sym zeros) (none_claimed (opening_view fixed) count size (λ c. refl)))
+    (subst (λ (xs : List ℕ). AreClaims (opening_view fixed) xs) (sym zeros) (none_claimed (opening_view fixed) count size (λ c. refl) refl))
 
 -- the word of one group is made anew, and elsewhere the claims stay
-pub claims_put : (old new : SeatView) (claims : List ℕ) (group n : ℕ) → AreClaims old claims → new.fixed ≡ old.fixed → group < groups old.fixed
+pub claims_put : (old new : SeatView) (claims : List ℕ) (group n : ℕ) → AreClaims old claims → new.fixed ≡ old.fixed → new.storing ≡ old.storing → group < groups old.fixed
     → ((c : ℕ) → c / 64 ≡ group → has_bit n (c % 64) ≡ seat_claims new c)
     → ((c : ℕ) → c / 64 ≢ group → seat_claims new c ≡ seat_claims old c)
     → AreClaims new (set claims group n)
-claims_put old new claims group n kept same within here elsewhere =
+claims_put old new claims group n kept same storing within here elsewhere =
     let count : groups old.fixed ≡ groups new.fixed = ap (λ (f : Fixed). groups f) (sym same) in
     record {
       count = length-set claims group n ∙ kept.count ∙ count;
@@ -53,6 +55,7 @@ claims_put old new claims group n kept same within here elsewhere =
         | inr other ↦
             ap (λ (w : ℕ). has_bit w (c % 64)) (left claims group n (c / 64) other) ∙ kept.bits c (omega (arith, below, count)) ∙ sym (elsewhere c other)
       ];
+      idle = storing ∙ kept.idle;
     }
 
 -- the bits of a group's word are the claims of its chunks
@@ -70,7 +73,7 @@ swap_or false false = refl
 pub claims_took : (old new : SeatView) (claims : List ℕ) (group want granted word : ℕ) → AreClaims old claims → group < groups old.fixed
     → word ≡ slice_index claims group → Did (Take group want granted) old new → AreClaims new (set claims group (bit_or word granted))
 claims_took old new claims group want granted word kept within is did =
-    claims_put old new claims group (bit_or word granted) kept did.goes_on.fixed_is within
+    claims_put old new claims group (bit_or word granted) kept did.goes_on.fixed_is did.storing_is within
     (λ c at.
     let mine : has_bit word (c % 64) ≡ seat_claims old c = ap (λ (w : ℕ). has_bit w (c % 64)) is ∙ claimed_bits old claims group c kept within at in
     has_bit-or word granted (c % 64) ∙ ap (λ (b : Bool). b || has_bit granted (c % 64)) mine ∙ swap_or (seat_claims old c) (has_bit granted (c % 64))
@@ -78,37 +81,39 @@ claims_took old new claims group want granted word kept within is did =
     (λ c other. did.claims_are c ∙ ap (λ (b : Bool). (b && has_bit granted (c % 64)) || seat_claims old c) (ne_eqb (c / 64) group other))
 
 -- the words stay where the view claims the same
-pub claims_same : (old new : SeatView) (words : List ℕ) → AreClaims old words → new.fixed ≡ old.fixed
+pub claims_same : (old new : SeatView) (words : List ℕ) → AreClaims old words → new.fixed ≡ old.fixed → new.storing ≡ old.storing
     → ((c : ℕ) → seat_claims new c ≡ seat_claims old c) → AreClaims new words
-claims_same old new words kept same claimed =
+claims_same old new words kept same storing claimed =
     let count : groups old.fixed ≡ groups new.fixed = ap (λ (f : Fixed). groups f) (sym same) in
     record {
       count = kept.count ∙ count;
       bits = λ c below. kept.bits c (omega (arith, below, count)) ∙ sym (claimed c);
+      idle = storing ∙ kept.idle;
     }
 
 pub met_first : (first second new_first new_second : SeatView) (words : List ℕ) → AreClaims first words → AreMet first second new_first new_second
     → AreClaims new_first words
 met_first first second new_first new_second words kept met =
     subst (λ (v : SeatView). AreClaims v words) (sym met.first_is)
-    (claims_same first (record first { seen = met.history }) words kept refl (λ c. claims_continued first.fixed first met.history met.after_first met.legal c))
+    (claims_same first (record first { seen = met.history }) words kept refl refl (λ c. claims_continued first.fixed first met.history met.after_first met.legal c))
 
 pub met_second : (first second new_first new_second : SeatView) (words : List ℕ) → AreClaims second words → AreMet first second new_first new_second
     → AreClaims new_second words
 met_second first second new_first new_second words kept met =
     subst (λ (v : SeatView). AreClaims v words) (sym met.second_is)
-    (claims_same second (record second { seen = met.history }) words kept refl (λ c. claims_continued first.fixed second met.history met.after_second met.legal c))
+    (claims_same second (record second { seen = met.history }) words kept refl refl (λ c. claims_continued first.fixed second met.history met.after_second met.legal c))
 
 pub part_first : (old first second : SeatView) (words : List ℕ) → AreClaims old words → ArePartsOf old first second → AreClaims first words
 part_first old first second words kept parts =
     subst (λ (v : SeatView). AreClaims v words) (sym parts.first_is)
-    (claims_same old (split_first old) words kept refl (λ c. ap (λ (names : List Name). claims names (state_after old.seen) c) (split_keeps old)))
+    (claims_same old (split_first old) words kept refl refl (λ c. ap (λ (names : List Name). claims names (state_after old.seen) c) (split_keeps old)))
 
 pub part_second : (old first second : SeatView) (count : ℕ) (zeros : List ℕ) → count ≡ groups old.fixed → ArePartsOf old first second
     → zeros ≡ replicate count 0 → AreClaims second zeros
 part_second old first second count zeros size parts is =
     subst (λ (xs : List ℕ). AreClaims second xs) (sym is)
-    (none_claimed second count (size ∙ ap (λ (v : SeatView). groups v.fixed) (sym parts.second_is)) parts.no_claims)
+    (none_claimed second count (size ∙ ap (λ (v : SeatView). groups v.fixed) (sym parts.second_is)) parts.no_claims
+    (ap (λ (v : SeatView). v.storing) parts.second_is))
 
 swap_and : (a b : Bool) → (a && b) ≡ (b && a)
 swap_and true true = refl
@@ -136,12 +141,12 @@ claimed_among view claims group mask word kept within is small = record {
 }
 
 -- claims of a group's chunks end, and the others stay
-pub claims_ended : (old new : SeatView) (claims : List ℕ) (group ended word : ℕ) → AreClaims old claims → new.fixed ≡ old.fixed → group < groups old.fixed
+pub claims_ended : (old new : SeatView) (claims : List ℕ) (group ended word : ℕ) → AreClaims old claims → new.fixed ≡ old.fixed → new.storing ≡ old.storing → group < groups old.fixed
     → word ≡ slice_index claims group → ended < 2 ^ 64
     → ((c : ℕ) → seat_claims new c ≡ (not (in_mask group ended c) && seat_claims old c))
     → AreClaims new (set claims group (bit_and word (bit_not w64 ended)))
-claims_ended old new claims group ended word kept same within is small left =
-    claims_put old new claims group (bit_and word (bit_not w64 ended)) kept same within
+claims_ended old new claims group ended word kept same storing within is small left =
+    claims_put old new claims group (bit_and word (bit_not w64 ended)) kept same storing within
     (λ c at.
     let mine : has_bit word (c % 64) ≡ seat_claims old c = ap (λ (w : ℕ). has_bit w (c % 64)) is ∙ claimed_bits old claims group c kept within at in
     has_bit-and word (bit_not w64 ended) (c % 64) ∙ ap (λ (b : Bool). b && has_bit (bit_not w64 ended) (c % 64)) mine
@@ -177,6 +182,7 @@ claims_joined first second joined ours theirs both one two merged put =
           ∙ ap (λ (b : Bool). b || has_bit (slice_index theirs (c / 64)) (c % 64)) (one.bits c (omega (arith, below, of_first)))
           ∙ ap (λ (b : Bool). seat_claims first c || b) (two.bits c (omega (arith, below, of_second)))
           ∙ sym ((join_keeps first second joined merged.joined).3 merged.legal c);
+      idle = merged.joined.storing_are ∙ ap (λ (bs : List Boundaries). bs ++ second.storing) one.idle ∙ two.idle;
     }
 
 -- of the first k masks each has the bits of both

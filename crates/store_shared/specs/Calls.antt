@@ -1,12 +1,15 @@
 -- Calls of a shared store: each is an event of its history.
-use Rattle.std.specs.Prelude.{◌≡◌, ◌*◌, ◌<◌, ◌≤◌}
+use Rattle.std.specs.Prelude.{◌≡◌, ℕ, ◌*◌, ◌<◌, ◌≤◌}
 use Rattle.bao_check.specs.declared.checked.Checked.{Checked}
 use Rattle.store_core.specs.declared.fixed.Fixed.{Fixed}
-use Rattle.store_core.specs.declared.history.Call.TheVariants.{Settle}
+use Rattle.store_core.specs.declared.history.Call.TheVariants.{Parents, Settle}
 use Rattle.store_core.specs.declared.history.Settling.{Settling}
 use Rattle.store_core.specs.declared.history.Settling.TheVariants.{Settled, Known, Differs, OtherRoot, TooLarge}
+use Rattle.store_core.specs.declared.history.Storing.TheVariants as storing
 use Rattle.store_core.specs.Pieces.{length_of, piece_of}
 use Rattle.store_core.specs.Stores.{IsOf}
+use Rattle.store_shared.specs.declared.fault.ParentsFault.{ParentsFault}
+use Rattle.store_shared.specs.declared.fault.ParentsFault.TheVariants as unstored
 use Rattle.store_steps.specs.Grips.{Gripped}
 use Rattle.store_steps.specs.Tells.{Called}
 
@@ -22,3 +25,13 @@ Settles fixed old new piece TooLarge = IsOf fixed piece × (1024 * fixed.capacit
 Settles fixed old new piece Settled = MaySettle fixed piece × Called (Settle (piece_of piece) Settled) old.view new.view
 Settles fixed old new piece Known = MaySettle fixed piece × Called (Settle (piece_of piece) Known) old.view new.view
 Settles fixed old new piece Differs = MaySettle fixed piece × Called (Settle (piece_of piece) Differs) old.view new.view
+
+abbrev pub number_of : ParentsFault → ℕ
+number_of unstored.OtherRoot = 804
+number_of unstored.OtherLength = 807
+
+-- What refused parents say. Where the piece is of another root or mode nothing is asked; that its length is another is an
+-- event.
+abbrev pub IsUnstored : ℕ → Checked → ParentsFault → Gripped → Gripped → Type 0
+IsUnstored group piece unstored.OtherRoot old new = new ≡ old
+IsUnstored group piece unstored.OtherLength old new = Called (Parents group (piece_of piece) storing.OtherLength) old.view new.view

@@ -1,5 +1,5 @@
 -- Seats of a shared store: what they keep of their claims, and which store they are of.
-use Rattle.std.specs.Prelude.{◌≡◌, ℕ, ◌/◌, ◌%◌, ◌<◌, List, length, slice_index}
+use Rattle.std.specs.Prelude.{◌≡◌, ℕ, ◌/◌, ◌%◌, ◌<◌, List, [], length, slice_index}
 use Rattle.store_core.specs.declared.fixed.Fixed.{Fixed}
 use Rattle.store_core.specs.declared.view.SeatView.{SeatView}
 use Rattle.store_core.specs.Machine.{groups}
@@ -9,10 +9,11 @@ use Rattle.store_shared.specs.declared.assembly.Assembly.{Assembly}
 use Rattle.store_steps.specs.Grips.{Gripped}
 use Rattle.store_steps.specs.Words.{HasGroup as WordsHaveGroup, IsOf, fixed_of as fixed_of_words}
 
--- one word a group, with the bits of exactly the chunks that the seat claims
+-- one word a group, with the bits of exactly the chunks that the seat claims; and the seat is storing no parents
 pub record AreClaims (view : SeatView) (claims : List ℕ) : Type 0 where
   pub count : length claims ≡ groups view.fixed
   pub bits : (c : ℕ) → c / 64 < groups view.fixed → has_bit (slice_index claims (c / 64)) (c % 64) ≡ seat_claims view c
+  pub idle : view.storing ≡ []
 
 -- the root, mode and capacity
 abbrev pub fixed_of : Assembly → Fixed

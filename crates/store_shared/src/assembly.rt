@@ -1,14 +1,14 @@
 ghost use Rattle.std.specs.Prelude.{◌≡◌, ◌↔◌, ◌<◌, ◌≤◌, ◌*◌, IfErr, IfOk, IsOk, IsErrOf, OnErr, length};
 
-use crate::fault::{NoGroup, OtherRoot, SplitFault};
+use crate::fault::{NoGroup, OtherRoot, ParentsFault, SplitFault};
 use crate::masks::put_masks;
 use crate::seat::Seat;
 use b3tree::{CHUNK_LEN, Hash, Mode};
 use bao_check::{Checked, Tail};
 use std::alloc::Global;
-use store_commit::commit;
-use store_core::{MAX_CAPACITY, Missing, Settling};
-use store_read::read;
+use store_commit::{commit, commit_parents};
+use store_core::{MAX_CAPACITY, Missing, ServeFault, Settling, Storing};
+use store_read::{read, serve_slice};
 use store_steps::{NewFault, Words};
 
 // How many chunks a group has.
@@ -30,12 +30,16 @@ pub struct Assembly {
 
 impl Assembly {
     ghost use Rattle.bao_check.specs.Tail.{tail_piece};
-    ghost use Rattle.store_core.specs.declared.history.Call.TheVariants.{Commit, Give, Length, Take};
+    ghost use Rattle.store_core.specs.declared.history.Call.TheVariants.{Commit, Give, Length, Parents, Serve, Take};
+    ghost use Rattle.store_core.specs.declared.history.Serving.TheVariants.{Text};
+    ghost use Rattle.store_core.specs.declared.history.Storing.TheVariants.{Stored};
+    ghost use Rattle.store_commit.specs.Parents.{ParentsBind};
+    ghost use Rattle.store_read.specs.Serving.{IsRefused, SliceBinds};
     ghost use Rattle.store_core.specs.Machine.{groups};
     ghost use Rattle.store_core.specs.Pieces.{piece_of};
     ghost use Rattle.store_core.specs.Stores.{ChunksBind, IsOf, filled_count, missing_in};
     ghost use Rattle.store_read.specs.Reading.{DidRead, ReadBinds};
-    ghost use Rattle.store_shared.specs.Calls.{Settles};
+    ghost use Rattle.store_shared.specs.Calls.{IsUnstored, Settles};
     ghost use Rattle.store_shared.specs.Seats.{HasGroup, IsSeatOf, fixed_of};
     ghost use Rattle.store_steps.specs.Grips.{opening_view};
     ghost use Rattle.store_steps.specs.Parts.{AreMet, ArePartsOf, IsMerged};
@@ -236,6 +240,58 @@ impl Assembly {
         self.words.settle(&mut seat.grip, tail)
     }
 
+    /// Stores parents of the piece at boundaries of a group, and answers their mask: bit j stands for the parent whose right
+    /// part begins at chunk 64 * group + j. They are parents that the piece holds, and that nobody holds or is storing
+    /// yet: 0 for a group that isn't there. It takes no memory.
+    ///
+    /// 804 `OtherRoot`, asked before all else, where the piece is of another root or mode: nothing is then asked. 807
+    /// `OtherLength` where the length that it claims isn't the recorded one, or there is none.
+    ///
+    /// For each blob with the store's root, each parent that is then seen held is the blob's parent there; or two
+    /// different inputs with one chaining value are named, one of the blob's and one of a piece's that was committed, by
+    /// which the length was settled, or whose parents were stored.
+    pub fn commit_parents(
+        &self,
+        seat: &mut Seat,
+        group: u32,
+        piece: &Checked<'_>,
+    ) -> Result<u64, ParentsFault>
+        requires of { IsSeatOf self.now seat.old }
+        ensures of { IsSeatOf self.now seat.new }
+        ensures root { IsErrOf result ParentsFault.OtherRoot ↔ (¬ IsOf (fixed_of self.now) piece.now) }
+        ensures called { IfOk result (λ stored. Called (Parents group (piece_of piece.now) (Stored stored)) seat.old.view seat.new.view) }
+        ensures refused { IfErr result (λ fault. IsUnstored group piece.now fault seat.old seat.new) }
+        ensures absent { (¬ HasGroup self.now group) → IfOk result (λ stored. stored ≡ 0) }
+        ensures binds { IfOk result (λ _. ParentsBind seat.new.view) }
+    {
+        let fixed = self.words.fixed();
+        if !fixed.is_of(&piece.root(), &piece.mode()) {
+            return Err(ParentsFault::OtherRoot);
+        }
+        match commit_parents(&self.words, &mut seat.grip, group, piece) {
+            Storing::Stored(mask) => Ok(mask),
+            Storing::OtherLength => Err(ParentsFault::OtherLength),
+        }
+    }
+
+    /// The text of the slice (`start`, `len`) of the blob: the recorded length, and the bytes of the slice's nodes.
+    ///
+    /// 808 `NoLength` where no length is recorded, 809 `Lacking` with the first node in the text's order that isn't held,
+    /// and 810 `Memory`, where the seat has seen more and made no call.
+    ///
+    /// For each blob with the store's root it is the blob's slice; or two different inputs with one chaining value are
+    /// named, one of the blob's and one of a piece's that was committed, by which the length was settled, or whose parents
+    /// were stored.
+    pub fn serve_slice(&self, seat: &mut Seat, start: u64, len: u64) -> Result<Vec<u8>, ServeFault>
+        requires of { IsSeatOf self.now seat.old }
+        ensures of { IsSeatOf self.now seat.new }
+        ensures served { IfOk result (λ text. Called (Serve start len (Text text.items)) seat.old.view seat.new.view) }
+        ensures refused { IfErr result (λ fault. IsRefused start len fault seat.old.view seat.new.view) }
+        ensures binds { IfOk result (λ text. SliceBinds seat.new.view start len text.items) }
+    {
+        serve_slice(self.alloc, &self.words, &mut seat.grip, start, len)
+    }
+
     /// The recorded length in bytes, if there is one. It takes no memory.
     pub fn length(&self, seat: &mut Seat) -> Option<u64>
         requires of { IsSeatOf self.now seat.old }
@@ -244,6 +300,7 @@ impl Assembly {
     {
         self.words.length(&mut seat.grip)
     }
+
     /// Fills `out` with the bytes from position `at` on, in bytes. It takes no memory.
     ///
     /// `Missing(p)`: p is the least position of the range that isn't held. The bytes before it are filled in, and the

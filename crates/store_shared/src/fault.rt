@@ -31,6 +31,31 @@ impl OtherRoot {
     }
 }
 
+/// Why parents were not stored.
+#[derive(Clone, Copy, Debug, PartialEq, Eq, Error)]
+pub enum ParentsFault {
+    /// The piece is of another root or mode. Number 804.
+    #[error("804 other root")]
+    OtherRoot,
+    /// The recorded length isn't the one that the piece claims, or there is none. Number 807.
+    #[error("807 other length")]
+    OtherLength,
+}
+
+impl ParentsFault {
+    ghost use Rattle.store_shared.specs.Calls.{number_of};
+
+    /// The fault's number: 804 or 807.
+    pub fn code(&self) -> u16
+        ensures { result ≡ number_of self.now }
+    {
+        match self {
+            ParentsFault::OtherRoot => 804,
+            ParentsFault::OtherLength => 807,
+        }
+    }
+}
+
 /// There was no memory to split a seat, which is given back as it was. Number 806.
 #[derive(Drop)]
 pub struct SplitFault {

@@ -17,6 +17,6 @@ invariant_of-seat-2 c =
     let within : c.args.group < groups c.seat.inside.grip.view.fixed =
     subst (λ (f : Fixed). c.args.group < groups f) (sym same) (omega (arith, c.if-group-groups.false, c.groups.ensures)) in
     claims_ended c.seat.inside.grip.view c.commit-committed.new.grip.view c.seat.inside.claims.items c.args.group c.commit-committed.result c.index_mut.result.now
-    c.seat.invariant c.commit-committed.ensures.called.goes_on.fixed_is within
+    c.seat.invariant c.commit-committed.ensures.called.goes_on.fixed_is c.commit-committed.ensures.called.storing_is within
     (c.index_mut.ensures.value ∙ get_or_default c.seat.inside.claims.items c.args.group c.index_mut.result.now 0 (omega (arith, within, c.seat.invariant.count)))
     (omega arith) c.commit-committed.ensures.called.claims_are

@@ -24,6 +24,6 @@ invariant_of-seat-2 c =
     let within : c.args.group < groups c.seat.inside.grip.view.fixed =
     subst (λ (f : Fixed). c.args.group < groups f) (sym same) (omega (arith, c.if-group-groups.false, c.groups.ensures)) in
     claims_ended c.seat.inside.grip.view c.give.new.grip.view c.seat.inside.claims.items c.args.group _ c.index_mut.result.now c.seat.invariant
-    c.give.ensures.did.goes_on.fixed_is within
+    c.give.ensures.did.goes_on.fixed_is c.give.ensures.did.storing_is within
     (c.index_mut.ensures.value ∙ get_or_default c.seat.inside.claims.items c.args.group c.index_mut.result.now 0 (omega (arith, within, c.seat.invariant.count)))
     (and_small c.index.result.now c.args.mask (omega arith)) c.give.ensures.did.claims_are
