@@ -1,5 +1,5 @@
 -- What each call of a one-thread store is for its worker.
-use Rattle.std.proofs.Common.{◌≡◌, ℕ, ◌%◌, ◌/◌, ◌==◌, true, false, [], ◌∷◌, Result, Ok, Err, IfOk, OnErr, MatchResult, count_ones, refl, subst, ◌∙◌, arith, inl, inr, eqb-true}
+use Rattle.std.proofs.Common.{◌≡◌, ℕ, ◌%◌, ◌/◌, ◌==◌, true, false, [], ◌∷◌, Result, Ok, Err, IfErr, IfOk, OnErr, MatchResult, count_ones, refl, subst, ◌∙◌, arith, inl, inr, eqb-true}
 use Rattle.std.proofs.lemmas.Bool.{and_from, and_parts, both_ways, cases_Bool}
 use Rattle.b3tree.specs.declared.mode.Mode.{Mode}
 use Rattle.b3tree.specs.declared.values.Hash.{Hash}
@@ -8,23 +8,26 @@ use Rattle.bao_check.specs.declared.checked.Checked.{Checked}
 use Rattle.bao_check.specs.Accepted.{IsAccepted}
 use Rattle.bao_check.specs.Checked.{HoldsLast, piece_mode, piece_nodes, piece_root, piece_text}
 use Rattle.store_core.specs.declared.fault.StoreFault.{StoreFault}
+use Rattle.store_core.specs.declared.fault.StoreFault.TheVariants as fault
 use Rattle.store_core.specs.declared.history.Call.{Call}
-use Rattle.store_core.specs.declared.history.Call.TheVariants.{Take, Give, Commit, Settle}
+use Rattle.store_core.specs.declared.history.Call.TheVariants.{Take, Give, Commit, Settle, Parents}
 use Rattle.store_core.specs.declared.history.Piece.{Piece}
 use Rattle.store_core.specs.declared.history.Settling.{Settling}
 use Rattle.store_core.specs.declared.history.Settling.TheVariants.{Settled, Known, Differs, OtherRoot, TooLarge}
+use Rattle.store_core.specs.declared.history.Storing.{Storing}
+use Rattle.store_core.specs.declared.history.Storing.TheVariants.{Stored}
 use Rattle.store_core.specs.declared.store.Store.{Store}
 use Rattle.store_core.specs.Events.{after_call}
 use Rattle.store_core.specs.Masks.{has_bit, in_mask}
 use Rattle.store_core.specs.Pieces.{piece_of}
 use Rattle.store_core.specs.States.{State, claims}
-use Rattle.store_core.specs.Stores.{IsEvent, IsSame, Settles, fixed_of, state_of}
+use Rattle.store_core.specs.Stores.{DidStore, IsEvent, IsSame, IsUnstored, Settles, fixed_of, state_of}
 use Rattle.gather.specs.Claims.{Among, AmongAnd, Without}
 use Rattle.gather.specs.Counts.{Still}
 use Rattle.gather.specs.Large.{IsTooLarge}
-use Rattle.gather.specs.Worked.{HasWorked, chunks_of, worker, worker_claims}
+use Rattle.gather.specs.Worked.{HasWorked, chunks_of, parents_of, worker, worker_claims}
 
-pub worked_one : (old new : Store) (call : Call) → IsEvent old new worker call → HasWorked old new (chunks_of call)
+pub worked_one : (old new : Store) (call : Call) → IsEvent old new worker call → HasWorked old new (chunks_of call) (parents_of call)
 worked_one old new call event = record {
   events = record { who = worker; call = call } ∷ [];
   own = (refl, tt);
@@ -32,10 +35,11 @@ worked_one old new call event = record {
   after = event.after;
   fixed = event.fixed;
   counts = omega arith;
+  counts_parents = omega arith;
 }
 
-pub worked_none : (old new : Store) → IsSame old new → HasWorked old new 0
-worked_none old new same = record { events = []; own = tt; legal = tt; after = same.state; fixed = same.fixed; counts = refl }
+pub worked_none : (old new : Store) → IsSame old new → HasWorked old new 0 0
+worked_none old new same = record { events = []; own = tt; legal = tt; after = same.state; fixed = same.fixed; counts = refl; counts_parents = refl }
 
 -- what is claimed after a call, by the state before it
 claims_after : (old new : Store) (call : Call) → IsEvent old new worker call → (c : ℕ) → worker_claims new c ≡ true
@@ -83,7 +87,7 @@ committed old new group piece mask event c is =
     ]
 
 pub take_gains : (old new : Store) (group want : ℕ) (result : Result ℕ StoreFault) → IfOk result (λ granted. IsEvent old new worker (Take group want granted))
-    → OnErr result (IsSame old new) → HasWorked old new 0
+    → OnErr result (IsSame old new) → HasWorked old new 0 0
 take_gains old new group want (Ok granted) ok err = worked_one old new (Take group want granted) ok
 take_gains old new group want (Err fault) ok err = worked_none old new err
 
@@ -94,7 +98,7 @@ take_claims old new group want (Ok granted) ok err = taken old new group want gr
 take_claims old new group want (Err fault) ok err = among_same old new err
 
 pub commit_gains : (old new : Store) (group : ℕ) (piece : Piece) (result : Result ℕ StoreFault) → IfOk result (λ mask. IsEvent old new worker (Commit group piece mask))
-    → OnErr result (IsSame old new) → MatchResult result (λ mask. HasWorked old new (count_ones mask)) (λ _. HasWorked old new 0)
+    → OnErr result (IsSame old new) → MatchResult result (λ mask. HasWorked old new (count_ones mask) 0) (λ _. HasWorked old new 0 0)
 commit_gains old new group piece (Ok mask) ok err = worked_one old new (Commit group piece mask) ok
 commit_gains old new group piece (Err fault) ok err = worked_none old new err
 
@@ -114,6 +118,26 @@ settles_still old new piece Known settles = settle_still old new (piece_of piece
 settles_still old new piece Differs settles = settle_still old new (piece_of piece) Differs (settles worker)
 settles_still old new piece OtherRoot settles = (worked_none old new settles.1, among_same old new settles.1)
 settles_still old new piece TooLarge settles = (worked_none old new settles.2, among_same old new settles.2)
+
+-- parents that are stored end no claim, and none that are not
+parents_event : (old new : Store) (group : ℕ) (piece : Piece) (answer : Storing) → IsEvent old new worker (Parents group piece answer) → Among (worker_claims old) (worker_claims new)
+parents_event old new group piece answer event c is = claims_after old new (Parents group piece answer) event c is
+
+unstored_same : (old new : Store) (group : ℕ) (piece : Checked) (fault : StoreFault) → IsUnstored old new group piece fault → IsSame old new
+unstored_same old new group piece fault.Memory unstored = unstored
+unstored_same old new group piece fault.NoGroup unstored = unstored
+unstored_same old new group piece fault.OtherRoot unstored = unstored
+unstored_same old new group piece fault.OtherLength unstored = unstored.0
+
+pub parents_gain : (old new : Store) (group : ℕ) (piece : Checked) (result : Result ℕ StoreFault) → IfOk result (λ mask. DidStore old new group piece (Stored mask))
+    → IfErr result (λ fault. IsUnstored old new group piece fault) → MatchResult result (λ mask. HasWorked old new 0 (count_ones mask)) (λ _. HasWorked old new 0 0)
+parents_gain old new group piece (Ok mask) ok err = worked_one old new (Parents group (piece_of piece) (Stored mask)) (ok worker)
+parents_gain old new group piece (Err fault) ok err = worked_none old new (unstored_same old new group piece fault err)
+
+pub parents_claims : (old new : Store) (group : ℕ) (piece : Checked) (result : Result ℕ StoreFault) → IfOk result (λ mask. DidStore old new group piece (Stored mask))
+    → IfErr result (λ fault. IsUnstored old new group piece fault) → Among (worker_claims old) (worker_claims new)
+parents_claims old new group piece (Ok mask) ok err = parents_event old new group (piece_of piece) (Stored mask) (ok worker)
+parents_claims old new group piece (Err fault) ok err = among_same old new (unstored_same old new group piece fault err)
 
 -- the piece of a tail that is too large is an accepted one of the store's root and mode, with the last chunk
 pub settles_large : (old new : Store) (piece : Checked) (answer : Settling) → AreBytes (piece_text piece)

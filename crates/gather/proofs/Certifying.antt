@@ -36,6 +36,6 @@ by_events fixed s (e ∷ events) legal c bytes is = elim (by_events fixed (after
   | inr certified ↦ inr certified
 ]
 
-pub work_certified : (old new : Store) (chunks : ℕ) → HasWorked old new chunks → AddsCertified old new
-work_certified old new chunks worked c bytes is =
+pub work_certified : (old new : Store) (chunks parents : ℕ) → HasWorked old new chunks parents → AddsCertified old new
+work_certified old new chunks parents worked c bytes is =
     by_events (fixed_of old) (state_of old) worked.events worked.legal c bytes (subst (λ (s : State). s.held c ≡ Some bytes) worked.after is)

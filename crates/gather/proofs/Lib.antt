@@ -1,5 +1,6 @@
 pub mod Bits
 pub mod Gaining
+pub mod Grouping
 pub mod Binding
 pub mod Reporting
 pub mod Alone

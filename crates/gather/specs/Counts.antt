@@ -12,7 +12,7 @@ abbrev pub plus : ℕ → ℕ → ℕ
 plus count more = min (count + more) (2 ^ 64 - 1)
 
 abbrev pub no_counts : Report
-no_counts = record { committed = 0; asked = 0; refused = 0; failed = 0; memory = 0; too_large = false }
+no_counts = record { committed = 0; parents = 0; asked = 0; refused = 0; failed = 0; memory = 0; too_large = false }
 
 -- one more of a kind
 abbrev pub asked_once : Report → Report
@@ -41,21 +41,27 @@ IsFetch before after (Some text) report report' = (before ≤ after) × (report'
 IsFetch before after None report report' =
     ((before < after) × (report' ≡ failed_once (asked_once report))) ⊎ ((before ≤ after) × (report' ≡ memory_once (asked_once report)))
 
+-- both counts of what was stored are of 64 bits
+abbrev pub Fits : Report → Type 0
+Fits report = (report.committed < 2 ^ 64) × (report.parents < 2 ^ 64)
+
 -- no more texts were refused and devices failed than fetches made
 abbrev pub IsAnswered : Report → Type 0
 IsAnswered report = min (report.refused + report.failed) (2 ^ 64 - 1) ≤ report.asked
 
 -- What a worker's report gained is so, between two seats and two sums of its holders' counts of device faults: its
--- own calls stored the chunks that are counted, no more device faults are counted than the holders counted, and a
--- blob is called too large only where an accepted text certifies that it is.
-pub record Reports {S : Type 0} (fixed_of : S → Fixed) (gained : S → S → ℕ → Type 0) (old new : S) (before after : ℕ) (report report' : Report) : Type 0 where
+-- own calls stored the chunks and the parents that are counted, no more device faults are counted than the holders
+-- counted, and a blob is called too large only where an accepted text certifies that it is.
+pub record Reports {S : Type 0} (fixed_of : S → Fixed) (gained : S → S → ℕ → ℕ → Type 0) (old new : S) (before after : ℕ) (report report' : Report) : Type 0 where
   pub chunks : ℕ
-  pub gains : gained old new chunks
+  pub parents : ℕ
+  pub gains : gained old new chunks parents
   pub committed : report'.committed ≡ plus report.committed chunks
+  pub stored : report'.parents ≡ plus report.parents parents
   pub failed : report'.failed + before ≤ report.failed + after
   pub answered : IsAnswered report → IsAnswered report'
   pub too_large : IsTrue report'.too_large → IsTrue report.too_large ⊎ IsTooLarge (fixed_of old)
 
 -- none was stored, and nothing more is claimed
-abbrev pub Still : {S : Type 0} → (S → S → ℕ → Type 0) → (S → ℕ → Bool) → S → S → Type 0
-Still gained claims old new = gained old new 0 × Among (claims old) (claims new)
+abbrev pub Still : {S : Type 0} → (S → S → ℕ → ℕ → Type 0) → (S → ℕ → Bool) → S → S → Type 0
+Still gained claims old new = gained old new 0 0 × Among (claims old) (claims new)

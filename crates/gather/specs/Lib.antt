@@ -4,6 +4,7 @@ pub mod Encodings
 pub mod Claims
 pub mod Large
 pub mod Counts
+pub mod Groups
 pub mod Worked
 pub mod Working
 pub mod Finished

@@ -6,6 +6,7 @@ use Rattle.store_core.specs.declared.history.Call.TheVariants.{Take, Give, Commi
 use Rattle.store_core.specs.declared.history.Event.{Event}
 use Rattle.store_core.specs.declared.fixed.Fixed.{Fixed}
 use Rattle.store_core.specs.declared.history.Piece.{Piece}
+use Rattle.store_core.specs.declared.history.Storing.TheVariants.{OtherLength, Stored}
 use Rattle.bao_check.specs.Pieces.{chunk_of}
 use Rattle.store_core.specs.Laws.{IsBlob, PairNamed}
 use Rattle.store_core.specs.Pieces.{IsAcceptedPiece, chunk_bytes}
@@ -15,6 +16,7 @@ use Rattle.store_core.specs.Names.{Name}
 use Rattle.store_core.specs.Slots.{caller}
 use Rattle.store_core.specs.States.{claims}
 use Rattle.store_core.specs.Stores.{fixed_of, state_of}
+use Rattle.gather.specs.declared.report.Report.{Report}
 
 -- how many chunks a call stores: those of a commit's mask
 abbrev pub chunks_of : Call → ℕ
@@ -27,9 +29,24 @@ chunks_of (Length recorded) = 0
 chunks_of (Parents group piece answer) = 0
 chunks_of (Serve start len answer) = 0
 
+-- how many parents it stores: those of its mask
+abbrev pub parents_of : Call → ℕ
+parents_of (Take group want granted) = 0
+parents_of (Give group mask given) = 0
+parents_of (Commit group piece committed) = 0
+parents_of (Settle piece answer) = 0
+parents_of (Read at len bytes) = 0
+parents_of (Length recorded) = 0
+parents_of (Parents group piece OtherLength) = 0
+parents_of (Parents group piece (Stored mask)) = count_ones mask
+parents_of (Serve start len answer) = 0
+
 -- how many the calls of a history store
 abbrev pub chunks_in : List Event → ℕ
 chunks_in events = sum_by (λ (e : Event). chunks_of e.call) events
+
+abbrev pub parents_in : List Event → ℕ
+parents_in events = sum_by (λ (e : Event). parents_of e.call) events
 
 -- the names of the worker: those of seat 0
 abbrev pub worker : List Name
@@ -60,17 +77,20 @@ AddsBlobs old new = (blob : List ℕ) → IsBlob (fixed_of old) blob → (c : �
     → ((state_of old).held c ≡ Some bytes) ⊎ (chunk_of blob c ≡ Some bytes) ⊎ ((from : IsCertified (fixed_of old) c bytes) × PairNamed (fixed_of old) blob from.piece)
 
 -- Calls of the worker, each with the right reply where it stands, lead from one state of a store to the other, and
--- commit so many chunks. A commit is of an accepted text alone: nothing is stored that the root doesn't certify.
-pub record HasWorked (old new : Store) (chunks : ℕ) : Type 0 where
+-- store so many chunks and parents. They are of accepted texts alone: nothing is stored that the root doesn't certify.
+pub record HasWorked (old new : Store) (chunks parents : ℕ) : Type 0 where
   pub events : List Event
   pub own : AllByRecursion IsOwn events
   pub legal : AreLegalFrom (fixed_of old) (state_of old) events
   pub after : state_of new ≡ run (state_of old) events
   pub fixed : fixed_of new ≡ fixed_of old
   pub counts : chunks ≡ chunks_in events
+  pub counts_parents : parents ≡ parents_in events
 
--- it has, and the count is of the chunks stored, as far as a count goes
-pub record Gains (old new : Store) (count : ℕ) : Type 0 where
+-- it has, and the report's counts are of the chunks and parents stored, as far as a count goes
+pub record Gains (old new : Store) (report : Report) : Type 0 where
   pub chunks : ℕ
-  pub worked : HasWorked old new chunks
-  pub counts : count ≡ min chunks (2 ^ 64 - 1)
+  pub parents : ℕ
+  pub worked : HasWorked old new chunks parents
+  pub committed : report.committed ≡ min chunks (2 ^ 64 - 1)
+  pub stored : report.parents ≡ min parents (2 ^ 64 - 1)

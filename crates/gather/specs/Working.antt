@@ -10,7 +10,7 @@ use Rattle.store_core.specs.Events.{after}
 use Rattle.store_core.specs.Histories.{AreLegalFrom, run}
 use Rattle.store_core.specs.States.{State}
 use Rattle.store_core.specs.Stores.{fixed_of, state_of}
-use Rattle.gather.specs.Worked.{HasWorked, IsOwn, chunks_in, chunks_of}
+use Rattle.gather.specs.Worked.{HasWorked, IsOwn, chunks_in, chunks_of, parents_in, parents_of}
 
 run_append : (s : State) (first second : List Event) → run s (first ++ second) ≡ run (run s first) second
 run_append s [] second = refl
@@ -25,11 +25,11 @@ own_append : (first second : List Event) → AllByRecursion IsOwn first → AllB
 own_append [] second begun goes_on = goes_on
 own_append (e ∷ first) second begun goes_on = (begun.0, own_append first second begun.1 goes_on)
 
-pub no_work : (s : Store) → HasWorked s s 0
-no_work s = record { events = []; own = tt; legal = tt; after = refl; fixed = refl; counts = refl }
+pub no_work : (s : Store) → HasWorked s s 0 0
+no_work s = record { events = []; own = tt; legal = tt; after = refl; fixed = refl; counts = refl; counts_parents = refl }
 
-pub adds_work : (r s t : Store) (m n : ℕ) → HasWorked r s m → HasWorked s t n → HasWorked r t (m + n)
-adds_work r s t m n first second =
+pub adds_work : (r s t : Store) (m n p q : ℕ) → HasWorked r s m p → HasWorked s t n q → HasWorked r t (m + n) (p + q)
+adds_work r s t m n p q first second =
     let same_fixed : AreLegalFrom (fixed_of r) (state_of s) second.events =
     subst (λ (fixed : Fixed). AreLegalFrom fixed (state_of s) second.events) first.fixed second.legal in
     let from_there : AreLegalFrom (fixed_of r) (run (state_of r) first.events) second.events =
@@ -41,7 +41,8 @@ adds_work r s t m n first second =
       after = second.after ∙ ap (λ (state : State). run state second.events) first.after ∙ sym (run_append (state_of r) first.events second.events);
       fixed = second.fixed ∙ first.fixed;
       counts = ap (λ (k : ℕ). k + n) first.counts ∙ ap (λ (k : ℕ). chunks_in first.events + k) second.counts ∙ sym (sum_by-append (λ (e : Event). chunks_of e.call) first.events second.events);
+      counts_parents = ap (λ (k : ℕ). k + q) first.counts_parents ∙ ap (λ (k : ℕ). parents_in first.events + k) second.counts_parents ∙ sym (sum_by-append (λ (e : Event). parents_of e.call) first.events second.events);
     }
 
-pub keeps_fixed : (s t : Store) (n : ℕ) → HasWorked s t n → fixed_of t ≡ fixed_of s
-keeps_fixed s t n worked = worked.fixed
+pub keeps_fixed : (s t : Store) (n q : ℕ) → HasWorked s t n q → fixed_of t ≡ fixed_of s
+keeps_fixed s t n q worked = worked.fixed

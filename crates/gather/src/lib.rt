@@ -15,6 +15,7 @@ mod finish;
 mod holder;
 mod masks;
 mod one;
+mod parents;
 mod report;
 mod shelf;
 mod texts;

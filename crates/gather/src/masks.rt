@@ -1,8 +1,13 @@
 ghost use Rattle.std.specs.Prelude.{◌≡◌, ℕ, ◌+◌, ◌*◌, ◌<◌, nat_lt, not, ◌&&◌};
 ghost use Rattle.store_core.specs.Masks.{has_bit};
 
+use store_core::MAX_CAPACITY;
+
 // How many chunks a group has.
 pub(crate) const GROUP_LEN: u64 = 64;
+
+// The most groups that a store has.
+pub(crate) const MAX_GROUPS: u64 = MAX_CAPACITY as u64 / GROUP_LEN;
 
 // The mask of the chunks of a group below the number `chunks`.
 pub(crate) fn wanted(chunks: u64, group: u32) -> u64

@@ -32,7 +32,7 @@ impl Shelf for Alone {
 
     ghost claims = { λ store. worker_claims store };
 
-    ghost gained = { λ old new chunks. HasWorked old new chunks };
+    ghost gained = { λ old new chunks parents. HasWorked old new chunks parents };
 
     fn fixed(&self, store: &Store) -> Fixed {
         store.fixed()
@@ -53,6 +53,15 @@ impl Shelf for Alone {
         piece: &Checked<'_>,
     ) -> Result<u64, StoreFault> {
         store.commit(SEAT, group, piece)
+    }
+
+    fn commit_parents(
+        &self,
+        store: &mut Store,
+        group: u32,
+        piece: &Checked<'_>,
+    ) -> Result<u64, StoreFault> {
+        store.commit_parents(group, piece)
     }
 
     fn settle(&self, store: &mut Store, tail: &Tail<'_>) -> Settling {
@@ -77,7 +86,8 @@ impl Shelf for Alone {
 /// the length that it certifies, until one is recorded; it ends where none comes, or where one is above what the
 /// store has room for. Then it goes over the groups of 64 chunks that the length needs. It takes a group's chunks, and
 /// asks its holders in order, each once, for those bytes, checks each text and commits from it, until none of the
-/// chunks granted is left; those that are it gives back. All this is done twice.
+/// chunks granted is left; those that are it gives back. Once it has settled or committed from a text, it stores the
+/// text's parents too. All this is done twice.
 ///
 /// It refuses nothing. Refused memory is counted in the report: where a take meets it the group is left, else the
 /// next holder is asked. Texts are checked under the store's root and in its mode.
@@ -87,11 +97,11 @@ impl Shelf for Alone {
 /// number, or two different inputs with one chaining value are named, one of the blob's and one of that text's. No
 /// claim is left that the worker took.
 ///
-/// The report's `committed` is the number of chunks stored, `failed` is at most what the holders' counts rose together,
+/// The report's `committed` is the number of chunks stored and `parents` that of parents, `failed` is at most what the holders' counts rose together,
 /// and `too_large` is set only where an accepted text certifies a length above what the store has room for: each blob
 /// with the root is then longer, or such a pair is named.
 pub fn run_one<H: Holder>(alloc: Global, store: &mut Store, holders: &mut [H]) -> Report
-    ensures worked { Gains store.old store.new result.committed }
+    ensures worked { Gains store.old store.new result }
     ensures certified { AddsCertified store.old store.new }
     ensures binds { AddsBlobs store.old store.new }
     ensures claims { Among (worker_claims store.old) (worker_claims store.new) }

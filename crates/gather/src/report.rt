@@ -1,5 +1,5 @@
 ghost use Rattle.std.specs.Prelude.{◌≡◌};
-ghost use Rattle.gather.specs.Counts.{checked_once, memory_once, no_counts};
+ghost use Rattle.gather.specs.Counts.{Fits, checked_once, memory_once, no_counts};
 
 use bao_check::CheckFault;
 
@@ -8,6 +8,8 @@ use bao_check::CheckFault;
 pub struct Report {
     /// Chunks that it committed.
     pub committed: u64,
+    /// Parents that it stored.
+    pub parents: u64,
     /// Fetches.
     pub asked: u64,
     /// Texts that a check refused for another cause than memory.
@@ -27,12 +29,21 @@ impl Report {
     {
         Report {
             committed: 0,
+            parents: 0,
             asked: 0,
             refused: 0,
             failed: 0,
             memory: 0,
             too_large: false,
         }
+    }
+
+    // Its counts of what was stored are of 64 bits.
+    pub(crate) fn fits(&self)
+        ensures { Fits self.now }
+    {
+        let _committed = self.committed;
+        let _parents = self.parents;
     }
 
     // Counts a growth that was refused.

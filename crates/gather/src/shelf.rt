@@ -25,8 +25,8 @@ pub trait Shelf {
     // Which chunks the seat claims, by number.
     ghost claims: { Self.Seat → ℕ → Bool };
 
-    // The seat's own calls led from the one to the other, and stored so many chunks.
-    ghost gained: { Self.Seat → Self.Seat → ℕ → Type 0 };
+    // The seat's own calls led from the one to the other, and stored so many chunks and so many parents.
+    ghost gained: { Self.Seat → Self.Seat → ℕ → ℕ → Type 0 };
 
     /// The root and the mode of the store's blob, and how many chunks it has room for.
     fn fixed(&self, seat: &Self::Seat) -> Fixed
@@ -39,14 +39,14 @@ pub trait Shelf {
     fn take(&self, seat: &mut Self::Seat, group: u32, want: u64) -> Result<u64, StoreFault>
         requires { has self.now seat.old }
         ensures has { has self.now seat.new }
-        ensures gained { gained seat.old seat.new 0 }
+        ensures gained { gained seat.old seat.new 0 0 }
         ensures claims { MatchResult result (λ granted. AmongAnd (claims seat.old) group granted (claims seat.new)) (λ _. Among (claims seat.old) (claims seat.new)) };
 
     /// Ends the seat's claims among the mask of a group, and answers the mask of those that it had.
     fn give(&self, seat: &mut Self::Seat, group: u32, mask: u64) -> u64
         requires { has self.now seat.old }
         ensures has { has self.now seat.new }
-        ensures gained { gained seat.old seat.new 0 }
+        ensures gained { gained seat.old seat.new 0 0 }
         ensures claims { Without (claims seat.old) group mask (claims seat.new) };
 
     /// Stores the chunks of a group that the seat claims and the piece holds, ends these claims, and answers their mask.
@@ -60,8 +60,24 @@ pub trait Shelf {
     ) -> Result<u64, StoreFault>
         requires { has self.now seat.old }
         ensures has { has self.now seat.new }
-        ensures gained { MatchResult result (λ committed. gained seat.old seat.new (count_ones committed)) (λ _. gained seat.old seat.new 0) }
+        ensures gained { MatchResult result (λ committed. gained seat.old seat.new (count_ones committed) 0) (λ _. gained seat.old seat.new 0 0) }
         ensures claims { MatchResult result (λ committed. Without (claims seat.old) group committed (claims seat.new)) (λ _. Among (claims seat.old) (claims seat.new)) };
+
+    /// Stores parents of the piece at boundaries of a group, and answers their mask: bit j stands for the parent whose
+    /// right part begins at chunk 64 * group + j.
+    ///
+    /// At a fault nothing is stored: 701 where there was no memory, 804 where the piece is of another root or mode, 807
+    /// where the length that it claims isn't the recorded one, or there is none.
+    fn commit_parents(
+        &self,
+        seat: &mut Self::Seat,
+        group: u32,
+        piece: &Checked<'_>,
+    ) -> Result<u64, StoreFault>
+        requires { has self.now seat.old }
+        ensures has { has self.now seat.new }
+        ensures gained { MatchResult result (λ stored. gained seat.old seat.new 0 (count_ones stored)) (λ _. gained seat.old seat.new 0 0) }
+        ensures claims { Among (claims seat.old) (claims seat.new) };
 
     /// Records the length in bytes that a piece with the last chunk certifies, if none is recorded.
     fn settle(&self, seat: &mut Self::Seat, tail: &Tail<'_>) -> Settling
@@ -76,9 +92,9 @@ pub trait Shelf {
         ensures has { has self.now seat.new }
         ensures still { Still gained claims seat.old seat.new };
 
-    ghost stays: { (s : Self.Seat) → gained s s 0 };
+    ghost stays: { (s : Self.Seat) → gained s s 0 0 };
 
-    ghost keeps: { (s t : Self.Seat) (n : ℕ) → gained s t n → fixed_of t ≡ fixed_of s };
+    ghost keeps: { (s t : Self.Seat) (n q : ℕ) → gained s t n q → fixed_of t ≡ fixed_of s };
 
-    ghost adds: { (r s t : Self.Seat) (m n : ℕ) → gained r s m → gained s t n → gained r t (m + n) };
+    ghost adds: { (r s t : Self.Seat) (m n p q : ℕ) → gained r s m p → gained s t n q → gained r t (m + n) (p + q) };
 }

@@ -80,8 +80,8 @@ pub fn cause(report: &Report) -> GatherFault
 }
 
 /// The blob with this root in this mode, out of texts that nobody trusts: each may be its combined encoding, or any
-/// bytes. One worker asks them in their order, as `run_one` says, and fills a store with room for `capacity` chunks,
-/// which is let go at the end. The texts are not copied.
+/// bytes. One worker asks them in their order, as `run_one` says, and fills a store with room for `capacity` chunks
+/// with their chunks and parents; it is let go at the end. The texts are not copied.
 ///
 /// 802 `Capacity` unless `capacity` is 1 to 65,536; 911 `Starved` where there is no memory for a list of the texts.
 /// Then the blob is answered only once its hash is the root: 902 `NotTheRoot` where it isn't, 903 `Memory` where there

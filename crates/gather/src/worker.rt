@@ -1,22 +1,20 @@
-ghost use Rattle.std.specs.Prelude.{◌≡◌, ℕ, ◌*◌, ◌<◌, ◌≤◌, ◌^◌, Bool, nat_lt, sum_by};
+ghost use Rattle.std.specs.Prelude.{◌≡◌, ℕ, ◌*◌, ◌<◌, ◌≤◌, Bool, nat_lt, sum_by};
 ghost use Rattle.gather.specs.Claims.{Among, AmongAnd};
-ghost use Rattle.gather.specs.Counts.{IsFetch, Reports};
+ghost use Rattle.gather.specs.Counts.{Fits, IsFetch, Reports};
 
 use crate::holder::{Holder, HolderFault};
-use crate::masks::{GROUP_LEN, wanted, without};
+use crate::masks::{GROUP_LEN, MAX_GROUPS, wanted, without};
+use crate::parents::store_parents;
 use crate::report::Report;
 use crate::shelf::Shelf;
 use bao_check::check_slice;
 use std::alloc::Global;
-use store_core::{MAX_CAPACITY, Settling, StoreFault};
+use store_core::{Settling, StoreFault};
 
 // Bytes of a chunk, and of a group.
 const CHUNK_LEN: u64 = b3tree::CHUNK_LEN as u64;
 
 const GROUP_BYTES: u64 = GROUP_LEN * CHUNK_LEN;
-
-// The most groups that a store has.
-const MAX_GROUPS: u64 = MAX_CAPACITY as u64 / GROUP_LEN;
 
 /// A worker's number among so many, from 0 on.
 #[derive(Clone, Copy, Debug)]
@@ -34,9 +32,9 @@ fn fetched<H: Holder>(
     report: &mut Report,
 ) -> Option<Vec<u8>>
     ensures fetch { IsFetch (H.count holder.old) (H.count holder.new) result report.old report.new }
-    ensures fits { report.old.committed < 2 ^ 64 }
+    ensures fits { Fits report.old }
 {
-    let _committed = report.committed;
+    report.fits();
     report.asked = report.asked.saturating_add(1);
     let mut text = Vec::new(alloc);
     match holder.fetch(start, len, &mut text) {
@@ -52,8 +50,8 @@ fn fetched<H: Holder>(
     }
 }
 
-// Asks one holder for the last chunk, settles the length that its text certifies, and answers whether that is
-// above what the store has room for.
+// Asks one holder for the last chunk, settles the length that its text certifies, stores the text's parents, and
+// answers whether that length is above what the store has room for.
 fn ask_end<S: Shelf, H: Holder>(
     alloc: Global,
     shelf: &S,
@@ -87,7 +85,10 @@ fn ask_end<S: Shelf, H: Holder>(
                     report.too_large = true;
                     true
                 }
-                _ => false,
+                _ => {
+                    store_parents(shelf, seat, &piece, report);
+                    false
+                }
             }
         }
         Err(fault) => {
@@ -111,7 +112,7 @@ fn agree<S: Shelf, H: Holder>(
     ensures reports { Reports S.fixed_of S.gained seat.old seat.new (sum_by H.count holders.old) (sum_by H.count holders.new) report.old report.new }
     ensures claims { Among (S.claims seat.old) (S.claims seat.new) }
 {
-    let _committed = report.committed;
+    report.fits();
     let mut length = shelf.length(seat);
     let mut too_large = false;
     for holder in holders.iter_mut() {
@@ -124,8 +125,8 @@ fn agree<S: Shelf, H: Holder>(
     length
 }
 
-// Asks one holder for a group, commits what its text holds of the chunks that are left, and answers those that
-// are left then.
+// Asks one holder for a group, commits what its text holds of the chunks that are left, stores the text's parents, and
+// answers those that are left then.
 fn ask<S: Shelf, H: Holder>(
     alloc: Global,
     shelf: &S,
@@ -140,7 +141,6 @@ fn ask<S: Shelf, H: Holder>(
     ensures reports { Reports S.fixed_of S.gained seat.old seat.new (H.count holder.old) (H.count holder.new) report.old report.new }
     ensures claims { (before : ℕ → Bool) → AmongAnd before group left (S.claims seat.old) → AmongAnd before group result (S.claims seat.new) }
 {
-    let _committed = report.committed;
     let start = GROUP_BYTES * u64::from(group);
     let Some(text) = fetched(alloc, holder, start, GROUP_BYTES, report) else {
         return left;
@@ -159,6 +159,7 @@ fn ask<S: Shelf, H: Holder>(
                 report.committed = report
                     .committed
                     .saturating_add(u64::from(committed.count_ones()));
+                store_parents(shelf, seat, &piece, report);
                 without(left, committed)
             }
             Err(fault) => {
@@ -191,7 +192,7 @@ fn work_group<S: Shelf, H: Holder>(
     ensures reports { Reports S.fixed_of S.gained seat.old seat.new (sum_by H.count holders.old) (sum_by H.count holders.new) report.old report.new }
     ensures claims { Among (S.claims seat.old) (S.claims seat.new) }
 {
-    let _committed = report.committed;
+    report.fits();
     let mut left = match shelf.take(seat, group, want) {
         Ok(granted) => granted,
         Err(fault) => {
@@ -220,7 +221,8 @@ fn work_group<S: Shelf, H: Holder>(
 /// text certifies, until one is recorded; it ends where none comes, or where one is above what the store has room for.
 /// With K groups it begins at group number * K / workers. It takes a group's chunks, and asks its holders in order, each
 /// once, for those bytes, checks each text and commits from it, until none of the chunks granted is left; those that
-/// are it gives back.
+/// are it gives back. Once it has settled or committed from a text, it stores the text's parents, group after group,
+/// as far as the text claims the recorded length.
 ///
 /// It refuses nothing. The report goes on from what it was: what the worker stored, asked and met is added to it.
 pub fn work<S: Shelf, H: Holder>(
@@ -237,7 +239,7 @@ pub fn work<S: Shelf, H: Holder>(
     ensures reports { Reports S.fixed_of S.gained seat.old seat.new (sum_by H.count holders.old) (sum_by H.count holders.new) report.old report.new }
     ensures claims { Among (S.claims seat.old) (S.claims seat.new) }
 {
-    let _committed = report.committed;
+    report.fits();
     let Some(length) = agree(alloc, shelf, seat, holders, report) else {
         return;
     };

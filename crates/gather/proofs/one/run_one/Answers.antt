@@ -14,18 +14,19 @@ pub returns-clause-worked : goal.returns-clause-worked
 returns-clause-worked g c =
     let both = onward fixed_of HasWorked keeps_fixed adds_work _ _ _ _ _ _ _ _ _ c.work.ensures.reports c.work-2.ensures.reports in
     let none : c.new-report.result.committed ≡ 0 = ap (λ (report : Report). report.committed) c.new-report.ensures in
-    record { chunks = both.chunks; worked = both.gains; counts = omega (arith, both.committed, none) }
+    let no_parents : c.new-report.result.parents ≡ 0 = ap (λ (report : Report). report.parents) c.new-report.ensures in
+    record { chunks = both.chunks; parents = both.parents; worked = both.gains; committed = omega (arith, both.committed, none); stored = omega (arith, both.stored, no_parents) }
 
 pub returns-clause-certified : goal.returns-clause-certified
 returns-clause-certified g c =
     let both = onward fixed_of HasWorked keeps_fixed adds_work _ _ _ _ _ _ _ _ _ c.work.ensures.reports c.work-2.ensures.reports in
-    work_certified _ _ both.chunks both.gains
+    work_certified _ _ both.chunks both.parents both.gains
 
 pub returns-clause-binds : goal.returns-clause-binds
 returns-clause-binds g c =
     let both = onward fixed_of HasWorked keeps_fixed adds_work _ _ _ _ _ _ _ _ _ c.work.ensures.reports c.work-2.ensures.reports in
     let keyed = subst (λ (fixed : Fixed). IsKeyed fixed.mode) c.fixed-fixed.ensures c.is_keyed.ensures in
-    adds_blobs c.accepted_binds.ensures c.args.store.now c.work-2.new.seat keyed (work_certified _ _ both.chunks both.gains)
+    adds_blobs c.accepted_binds.ensures c.args.store.now c.work-2.new.seat keyed (work_certified _ _ both.chunks both.parents both.gains)
 
 pub returns-clause-longer : goal.returns-clause-longer
 returns-clause-longer g c = λ large.

@@ -1,0 +1,10 @@
+use Rattle.gather.proofs.Alone.{parents_claims, parents_gain}
+use Rattle.gather.proofs.one.AloneShelf.commit_parents.Goals as goal
+
+pub returns-clause-gained : goal.returns-clause-gained
+returns-clause-gained c =
+    parents_gain c.args.store.now c.commit_parents.new.self c.args.group c.args.piece.now c.commit_parents.result c.commit_parents.ensures.ok c.commit_parents.ensures.refused
+
+pub returns-clause-claims : goal.returns-clause-claims
+returns-clause-claims c =
+    parents_claims c.args.store.now c.commit_parents.new.self c.args.group c.args.piece.now c.commit_parents.result c.commit_parents.ensures.ok c.commit_parents.ensures.refused

@@ -1,0 +1,63 @@
+ghost use Rattle.std.specs.Prelude.{map};
+ghost use Rattle.bao_check.specs.Checked.{piece_nodes};
+ghost use Rattle.bao_text.specs.NodeNames.{name};
+ghost use Rattle.gather.specs.Claims.{Among};
+ghost use Rattle.gather.specs.Counts.{Reports};
+ghost use Rattle.gather.specs.Groups.{IsNext};
+
+use crate::masks::{GROUP_LEN, MAX_GROUPS};
+use crate::report::Report;
+use crate::shelf::Shelf;
+use bao_check::Checked;
+use bao_text::Node;
+use store_core::StoreFault;
+
+// The least group from `from` on in which the piece has a boundary, if it is one that a store can have.
+fn next_group(piece: &Checked<'_>, from: u32) -> Option<u32>
+    ensures { IsNext from (map name (piece_nodes piece.now)) result }
+{
+    let mut next = MAX_GROUPS;
+    for node in piece.nodes() {
+        if let Node::Parent(boundary) = node {
+            let group = boundary / GROUP_LEN;
+            if u64::from(from) <= group && group < next {
+                next = group;
+            }
+        }
+    }
+    if next == MAX_GROUPS {
+        return None;
+    }
+    Some(next as u32)
+}
+
+// Stores the piece's parents, one group that has any of their boundaries after another.
+pub(crate) fn store_parents<S: Shelf>(
+    shelf: &S,
+    seat: &mut S::Seat,
+    piece: &Checked<'_>,
+    report: &mut Report,
+)
+    requires { S.has shelf.now seat.old }
+    ensures has { S.has shelf.now seat.new }
+    ensures reports { Reports S.fixed_of S.gained seat.old seat.new 0 0 report.old report.new }
+    ensures claims { Among (S.claims seat.old) (S.claims seat.new) }
+{
+    report.fits();
+    let mut from = 0;
+    while let Some(group) = next_group(piece, from) {
+        match shelf.commit_parents(seat, group, piece) {
+            Ok(stored) => {
+                report.parents = report
+                    .parents
+                    .saturating_add(u64::from(stored.count_ones()));
+            }
+            Err(fault) => {
+                if fault == StoreFault::Memory {
+                    report.count_memory();
+                }
+            }
+        }
+        from = group + 1;
+    }
+}
