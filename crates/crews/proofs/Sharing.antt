@@ -1,5 +1,5 @@
 -- What a call of a shared store gains, and which claims it leaves.
-use Rattle.std.proofs.Common.{count_ones, Err, IfOk, MatchResult, Ok, OnErr, Result, is_ok, ◌≡◌, ℕ, ◌/◌, ◌%◌, ◌==◌, true, false, not, ◌&&◌, ◌||◌, List, [], ◌∷◌, ◌++◌, append_assoc, arith, eqb-true, inl, inr, subst, sym, ◌∙◌}
+use Rattle.std.proofs.Common.{count_ones, Err, IfErr, IfOk, MatchResult, Ok, OnErr, Result, is_ok, ◌≡◌, ℕ, ◌/◌, ◌%◌, ◌==◌, true, false, not, ◌&&◌, ◌||◌, List, [], ◌∷◌, ◌++◌, append_assoc, arith, eqb-true, inl, inr, subst, sym, ◌∙◌}
 use Rattle.std.proofs.lemmas.Bool.{and_from, and_parts, both_ways, cases_Bool}
 use Rattle.b3tree.specs.declared.mode.Mode.{Mode}
 use Rattle.b3tree.specs.declared.values.Hash.{Hash}
@@ -12,14 +12,15 @@ use Rattle.crews.specs.Seats.{GoneOn, claims_of}
 use Rattle.gather.specs.Claims.{Among, AmongAnd, Without}
 use Rattle.gather.specs.Counts.{Still}
 use Rattle.gather.specs.Large.{IsTooLarge}
-use Rattle.gather.specs.Worked.{chunks_of}
+use Rattle.gather.specs.Worked.{chunks_of, parents_of}
 use Rattle.store_core.specs.declared.fixed.Fixed.{Fixed}
 use Rattle.store_core.specs.declared.history.Call.{Call}
-use Rattle.store_core.specs.declared.history.Call.TheVariants.{Commit, Give, Settle, Take}
+use Rattle.store_core.specs.declared.history.Call.TheVariants.{Commit, Give, Parents, Settle, Take}
 use Rattle.store_core.specs.declared.history.Event.{Event}
 use Rattle.store_core.specs.declared.history.Piece.{Piece}
 use Rattle.store_core.specs.declared.history.Settling.{Settling}
 use Rattle.store_core.specs.declared.history.Settling.TheVariants.{Differs, Known, OtherRoot, Settled, TooLarge}
+use Rattle.store_core.specs.declared.history.Storing.TheVariants as storing
 use Rattle.store_core.specs.Histories.{IsLegal, state_after}
 use Rattle.store_core.specs.Masks.{has_bit, in_mask}
 use Rattle.store_core.specs.Pieces.{piece_of}
@@ -31,10 +32,12 @@ use Rattle.store_steps.specs.Tells.{Called, event_of}
 use Rattle.store_core.specs.declared.fault.StoreFault.{StoreFault}
 use Rattle.store_shared.specs.declared.fault.NoGroup.{NoGroup}
 use Rattle.store_shared.specs.declared.fault.OtherRoot.{OtherRoot as OtherRootFault}
-use Rattle.store_shared.specs.Calls.{Settles}
+use Rattle.store_shared.specs.declared.fault.ParentsFault.{ParentsFault}
+use Rattle.store_shared.specs.declared.fault.ParentsFault.TheVariants as unstored
+use Rattle.store_shared.specs.Calls.{IsUnstored, Settles}
 use Rattle.store_shared.proofs.Asking.{right_there}
 
-pub goes_on : (old new : Gripped) (call : Call) → Called call old.view new.view → GoneOn old new (chunks_of call)
+pub goes_on : (old new : Gripped) (call : Call) → Called call old.view new.view → GoneOn old new (chunks_of call) (parents_of call)
 goes_on old new call called = record {
   fixed_is = called.goes_on.fixed_is;
   names_are = called.goes_on.names_are;
@@ -43,10 +46,11 @@ goes_on old new call called = record {
   own = event_of old.view call ∷ [];
   mine_is = called.goes_on.mine_is;
   counts = omega arith;
+  counts_parents = omega arith;
 }
 
-pub stays_same : (old new : Gripped) → new ≡ old → GoneOn old new 0
-stays_same old new same = subst (λ (seat : Gripped). GoneOn old seat 0) (sym same) (stays old)
+pub stays_same : (old new : Gripped) → new ≡ old → GoneOn old new 0 0
+stays_same old new same = subst (λ (seat : Gripped). GoneOn old seat 0 0) (sym same) (stays old)
 
 pub among_same : (old new : Gripped) → new ≡ old → Among (claims_of old) (claims_of new)
 among_same old new same c is = subst (λ (seat : Gripped). claims_of seat c ≡ true) same is
@@ -128,16 +132,41 @@ settles_large fixed old new piece TooLarge bytes accepted last settles is = reco
 }
 
 pub take_gains : (old new : Gripped) (group want : ℕ) (result : Result ℕ NoGroup) → IfOk result (λ granted. Called (Take group want granted) old.view new.view)
-    → OnErr result (new ≡ old) → GoneOn old new 0
+    → OnErr result (new ≡ old) → GoneOn old new 0 0
 take_gains old new group want (Ok granted) called same = goes_on old new (Take group want granted) called
 take_gains old new group want (Err fault) called same = stays_same old new same
 
 pub commit_gains : (old new : Gripped) (group : ℕ) (piece : Piece) (result : Result ℕ OtherRootFault) (answer : Result ℕ StoreFault) (Q : OtherRootFault → Type 0)
     → MatchResult result (λ committed. answer ≡ Ok committed) Q → is_ok answer ≡ is_ok result
     → IfOk result (λ committed. Called (Commit group piece committed) old.view new.view) → OnErr result (new ≡ old)
-    → MatchResult answer (λ committed. GoneOn old new (count_ones committed)) (λ _. GoneOn old new 0)
+    → MatchResult answer (λ committed. GoneOn old new (count_ones committed) 0) (λ _. GoneOn old new 0 0)
 commit_gains old new group piece (Ok committed) answer Q cases variant called same =
-    subst (λ (r : Result ℕ StoreFault). MatchResult r (λ committed. GoneOn old new (count_ones committed)) (λ _. GoneOn old new 0)) (sym cases)
+    subst (λ (r : Result ℕ StoreFault). MatchResult r (λ committed. GoneOn old new (count_ones committed) 0) (λ _. GoneOn old new 0 0)) (sym cases)
     (goes_on old new (Commit group piece committed) called)
 commit_gains old new group piece (Err fault) (Ok committed) Q cases variant called same = cc
 commit_gains old new group piece (Err fault) (Err other) Q cases variant called same = stays_same old new same
+
+-- parents that weren't stored
+unstored_gains : (old new : Gripped) (group : ℕ) (piece : Checked) (fault : ParentsFault) → IsUnstored group piece fault old new → GoneOn old new 0 0
+unstored_gains old new group piece unstored.OtherRoot same = stays_same old new same
+unstored_gains old new group piece unstored.OtherLength called = goes_on old new (Parents group (piece_of piece) storing.OtherLength) called
+
+unstored_claims : (old new : Gripped) (group : ℕ) (piece : Checked) (fault : ParentsFault) → IsUnstored group piece fault old new → Among (claims_of old) (claims_of new)
+unstored_claims old new group piece unstored.OtherRoot same = among_same old new same
+unstored_claims old new group piece unstored.OtherLength called = λ c is. sym (called.claims_are c) ∙ is
+
+pub parents_gain : (old new : Gripped) (group : ℕ) (piece : Checked) (result : Result ℕ ParentsFault) (answer : Result ℕ StoreFault) (Q : ParentsFault → Type 0)
+    → MatchResult result (λ stored. answer ≡ Ok stored) Q → is_ok answer ≡ is_ok result
+    → IfOk result (λ stored. Called (Parents group (piece_of piece) (storing.Stored stored)) old.view new.view) → IfErr result (λ fault. IsUnstored group piece fault old new)
+    → MatchResult answer (λ stored. GoneOn old new 0 (count_ones stored)) (λ _. GoneOn old new 0 0)
+parents_gain old new group piece (Ok stored) answer Q cases variant called refused =
+    subst (λ (r : Result ℕ StoreFault). MatchResult r (λ stored. GoneOn old new 0 (count_ones stored)) (λ _. GoneOn old new 0 0)) (sym cases)
+    (goes_on old new (Parents group (piece_of piece) (storing.Stored stored)) called)
+parents_gain old new group piece (Err fault) (Ok stored) Q cases variant called refused = cc
+parents_gain old new group piece (Err fault) (Err other) Q cases variant called refused = unstored_gains old new group piece fault refused
+
+pub parents_claims : (old new : Gripped) (group : ℕ) (piece : Checked) (result : Result ℕ ParentsFault)
+    → IfOk result (λ stored. Called (Parents group (piece_of piece) (storing.Stored stored)) old.view new.view) → IfErr result (λ fault. IsUnstored group piece fault old new)
+    → Among (claims_of old) (claims_of new)
+parents_claims old new group piece (Ok stored) called refused = λ c is. sym (called.claims_are c) ∙ is
+parents_claims old new group piece (Err fault) called refused = unstored_claims old new group piece fault refused

@@ -23,7 +23,7 @@ abbrev pub all_faults : {H : Type 0} → (H → ℕ) → List (Crew H) → ℕ
 all_faults count crews = sum_by (faults_of count) crews
 
 -- A worker of a shared store did what its report gained from what it was: its seat is one of the store's still, the
--- chunks that are counted are those of its own commits, it claims nothing more, and it has as many holders.
+-- chunks and parents that are counted are those of its own calls, it claims nothing more, and it has as many holders.
 pub record WorkedFrom {H : Type 0} (assembly : Assembly) (count : H → ℕ) (report : Report) (old new : Crew H) : Type 0 where
   pub of : IsSeatOf assembly new.seat
   pub reports : Reports fixed_of GoneOn old.seat new.seat (faults_of count old) (faults_of count new) report new.report
@@ -46,6 +46,7 @@ summed f crews = min (sum_by (λ crew. f crew.report) crews) (2 ^ 64 - 1)
 abbrev pub all_of : {H : Type 0} → List (Crew H) → Report
 all_of crews = record {
   committed = summed (λ (report : Report). report.committed) crews;
+  parents = summed (λ (report : Report). report.parents) crews;
   asked = summed (λ (report : Report). report.asked) crews;
   refused = summed (λ (report : Report). report.refused) crews;
   failed = summed (λ (report : Report). report.failed) crews;

@@ -3,3 +3,4 @@ pub mod Going
 pub mod Crews
 pub mod Finished
 pub mod Faults
+pub mod Peers

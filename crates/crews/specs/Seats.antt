@@ -1,7 +1,7 @@
 -- A worker's seat of a shared store: what it claims, and how what it has seen goes on.
 use Rattle.std.specs.Prelude.{◌≡◌, ◌⊎◌, ℕ, Bool, List, ◌++◌, Some}
 use Rattle.bao_check.specs.Pieces.{chunk_of}
-use Rattle.gather.specs.Worked.{chunks_in}
+use Rattle.gather.specs.Worked.{chunks_in, parents_in}
 use Rattle.store_core.specs.declared.fixed.Fixed.{Fixed}
 use Rattle.store_core.specs.declared.history.Event.{Event}
 use Rattle.store_core.specs.declared.view.SeatView.{SeatView}
@@ -19,8 +19,8 @@ abbrev pub claims_of : Gripped → ℕ → Bool
 claims_of seat c = seat_claims seat.view c
 
 -- A seat went on, with the same names in the same store. It has seen all that it had seen, and more after it. Of its own
--- calls there are so many more, and their commits are of so many chunks.
-pub record GoneOn (old new : Gripped) (chunks : ℕ) : Type 0 where
+-- calls there are so many more, which store so many chunks and so many parents.
+pub record GoneOn (old new : Gripped) (chunks parents : ℕ) : Type 0 where
   pub fixed_is : fixed_of new ≡ fixed_of old
   pub names_are : new.view.names ≡ old.view.names
   pub more : List Event
@@ -28,6 +28,7 @@ pub record GoneOn (old new : Gripped) (chunks : ℕ) : Type 0 where
   pub own : List Event
   pub mine_is : mine new.view ≡ mine old.view ++ own
   pub counts : chunks ≡ chunks_in own
+  pub counts_parents : parents ≡ parents_in own
 
 -- Each chunk that is held after all that was seen is the one of that number of each blob with the root; or a pair is
 -- named from that blob and from the piece by which the chunk was committed.

@@ -6,12 +6,14 @@ pub use b3par::{Gate, Open};
 pub use blob::finish;
 pub use crew::Crew;
 pub use fault::CrewsFault;
+pub use peer::Peer;
 pub use runs::run;
 pub use texts::{crews_over, gather_texts};
 
 mod blob;
 mod crew;
 mod fault;
+mod peer;
 mod rounds;
 mod runs;
 mod shared;

@@ -95,6 +95,7 @@ fn all_reports<H>(crews: &[Crew<H>]) -> Report
     for crew in crews {
         let report = &crew.report;
         all.committed = all.committed.saturating_add(report.committed);
+        all.parents = all.parents.saturating_add(report.parents);
         all.asked = all.asked.saturating_add(report.asked);
         all.refused = all.refused.saturating_add(report.refused);
         all.failed = all.failed.saturating_add(report.failed);

@@ -21,15 +21,17 @@ use store_shared::Assembly;
 /// what the store has room for. Then it goes once round the groups of 64 chunks that the length needs: with C crews and
 /// K groups the worker with the number w begins at group w * K / C. It takes a group's chunks, and asks its holders in
 /// order, each once, for those bytes, checks each text and commits from it, until none of the chunks granted is left;
-/// those that are it gives back. After all workers ended, each crew in turn makes one more such round, without the gate.
+/// those that are it gives back. Once it has settled or committed from a text, it stores the text's parents, group after
+/// group, as far as the text claims the recorded length. After all workers ended, each crew in turn makes one more such
+/// round, without the gate.
 ///
 /// It refuses nothing. Each worker's report, begun anew, stands in its crew, and the answer has their sums, which stay at
 /// 2^64 - 1 once there. Refused memory is counted there; the next holder is then asked. Where a thread can't be started,
 /// its work runs on another thread of the call. Texts are checked under the store's root and in its mode.
 ///
 /// What a crew's seat has seen goes on from what it had seen, and is a legal history of the store. A report's `committed`
-/// is the number of chunks in the commits that the crew's own calls added to it, and the crew claims no more than it
-/// did. For each blob with the root, each chunk seen held is the blob's of that number, or two different inputs with one
+/// is the number of chunks in the commits that the crew's own calls added to it, its `parents` that of the parents that
+/// they stored, and the crew claims no more than it did. For each blob with the root, each chunk seen held is the blob's of that number, or two different inputs with one
 /// chaining value are named, one of the blob's and one of the piece's by which it was committed.
 ///
 /// `failed` is at most what the holders' counts rose together, and `too_large` is set only where an accepted text

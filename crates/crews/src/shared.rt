@@ -1,7 +1,7 @@
 use bao_check::{Checked, Tail};
 use gather::Shelf;
 use store_core::{Fixed, Settling, StoreFault};
-use store_shared::{Assembly, Seat};
+use store_shared::{Assembly, ParentsFault, Seat};
 
 // A shared store as its workers see it.
 #[derive(Clone, Copy)]
@@ -20,7 +20,7 @@ impl Shelf for Shared<'_> {
 
     ghost claims = { λ seat. claims_of seat };
 
-    ghost gained = { λ old new chunks. GoneOn old new chunks };
+    ghost gained = { λ old new chunks parents. GoneOn old new chunks parents };
 
     fn fixed(&self, _seat: &Seat) -> Fixed {
         Fixed {
@@ -44,6 +44,20 @@ impl Shelf for Shared<'_> {
         self.0
             .commit(seat, group, piece)
             .map_err(|_| StoreFault::OtherRoot)
+    }
+
+    fn commit_parents(
+        &self,
+        seat: &mut Seat,
+        group: u32,
+        piece: &Checked<'_>,
+    ) -> Result<u64, StoreFault> {
+        self.0
+            .commit_parents(seat, group, piece)
+            .map_err(|fault| match fault {
+                ParentsFault::OtherRoot => StoreFault::OtherRoot,
+                ParentsFault::OtherLength => StoreFault::OtherLength,
+            })
     }
 
     fn settle(&self, seat: &mut Seat, tail: &Tail<'_>) -> Settling {

@@ -1,6 +1,4 @@
 use Rattle.std.proofs.Common.{Err, ap, subst, ◌≡◌}
-use Rattle.std.specs.Prelude.{IsErrOf}
-use Rattle.crews.specs.declared.fault.CrewsFault.TheVariants.{Gather}
 use Rattle.gather.specs.Faults.{cause_of}
 use Rattle.gather.specs.declared.texts.GatherFault.TheVariants.{TooLarge}
 use Rattle.gather.specs.Large.{AreLonger, fixed_as}

@@ -1,0 +1,32 @@
+use Rattle.std.proofs.Common.{ℕ, List, [], ◌++◌, ◌∙◌, ap, append-nil, inl, inr, refl, subst, sym}
+use Rattle.store_core.specs.declared.fault.ServeFault.{ServeFault}
+use Rattle.store_core.specs.declared.history.Call.TheVariants.{Serve}
+use Rattle.store_core.specs.declared.history.Serving.TheVariants.{Lacking, NoLength, Text}
+use Rattle.store_read.specs.Serving.{IsRefused}
+use Rattle.store_steps.specs.Tells.{Called}
+use Rattle.crews.specs.Peers.{Peered}
+use Rattle.crews.proofs.peer.PeerHolder.fetch.Goals as goal
+
+pub returns-in-Err-NoLength-clause-fetches : goal.returns-in-Err-NoLength-clause-fetches
+returns-in-Err-NoLength-clause-fetches c =
+    let refused = subst (λ (f : ServeFault). IsRefused c.args.start c.args.len f c.self.inside.seat.view c.serve_slice.new.seat.view) c.in-Err-NoLength.field-0-is
+    c.in-Err-NoLength.ensures.refused in
+    let called : Called (Serve c.args.start c.args.len NoLength) c.args.self.now.seat.view c.serve_slice.new.seat.view =
+    subst (λ (p : Peered). Called (Serve c.args.start c.args.len NoLength) p.seat.view c.serve_slice.new.seat.view) c.self.view_is refused in
+    record { text = []; is = sym (append-nil c.args.into.now.items); served = inr (refl, inl called); binds = inl refl }
+
+pub returns-in-Err-Lacking-clause-fetches : goal.returns-in-Err-Lacking-clause-fetches
+returns-in-Err-Lacking-clause-fetches c =
+    let node = c.in-Err-Lacking.field-0-0 in
+    let refused = subst (λ (f : ServeFault). IsRefused c.args.start c.args.len f c.self.inside.seat.view c.serve_slice.new.seat.view) c.in-Err-Lacking.field-0-is
+    c.in-Err-Lacking.ensures.refused in
+    let called : Called (Serve c.args.start c.args.len (Lacking node)) c.args.self.now.seat.view c.serve_slice.new.seat.view =
+    subst (λ (p : Peered). Called (Serve c.args.start c.args.len (Lacking node)) p.seat.view c.serve_slice.new.seat.view) c.self.view_is refused in
+    record { text = []; is = sym (append-nil c.args.into.now.items); served = inr (refl, inr (node, called)); binds = inl refl }
+
+pub returns-in-Ok-extend_from_slice-clause-fetches : goal.returns-in-Ok-extend_from_slice-clause-fetches
+returns-in-Ok-extend_from_slice-clause-fetches c =
+    let text = c.in-Ok.text.items in
+    let called : Called (Serve c.args.start c.args.len (Text text)) c.args.self.now.seat.view c.serve_slice.new.seat.view =
+    subst (λ (p : Peered). Called (Serve c.args.start c.args.len (Text text)) p.seat.view c.serve_slice.new.seat.view) c.self.view_is c.in-Ok.ensures.served in
+    record { text = text; is = c.in-Ok-extend_from_slice.ensures.items ∙ ap (λ (xs : List ℕ). c.args.into.now.items ++ xs) c.as_slice.ensures.value; served = inl called; binds = inr c.in-Ok.ensures.binds }

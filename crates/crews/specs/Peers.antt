@@ -1,0 +1,32 @@
+-- What a peer is, and what a fetch from it does.
+use Rattle.std.specs.Prelude.{◌≡◌, ◌⊎◌, ℕ, List, [], ◌++◌}
+use Rattle.bao_text.specs.declared.walk.Node.{Node}
+use Rattle.store_core.specs.declared.history.Call.TheVariants.{Serve}
+use Rattle.store_core.specs.declared.history.Serving.TheVariants.{Lacking, NoLength, Text}
+use Rattle.store_core.specs.declared.view.SeatView.{SeatView}
+use Rattle.store_read.specs.Serving.{SliceBinds}
+use Rattle.store_shared.specs.declared.assembly.Assembly.{Assembly}
+use Rattle.store_steps.specs.Grips.{Gripped}
+use Rattle.store_steps.specs.Tells.{Called, Sees}
+
+-- a store, and a seat of it
+pub record Peered : Type 0 where
+  pub assembly : Assembly
+  pub seat : Gripped
+
+-- The call that stands behind a text: the slice was served, or there is no text, since the store has no length or lacks a
+-- node.
+abbrev pub IsServed : ℕ → ℕ → List ℕ → SeatView → SeatView → Type 0
+IsServed start len text old new = Called (Serve start len (Text text)) old new
+    ⊎ ((text ≡ []) × (Called (Serve start len NoLength) old new ⊎ ((node : Node) × Called (Serve start len (Lacking node)) old new)))
+
+-- A text is appended. If it isn't empty it is the slice of each blob with the root, or a pair is named.
+pub record Fetches (start len : ℕ) (before after : List ℕ) (old new : SeatView) : Type 0 where
+  pub text : List ℕ
+  pub is : after ≡ before ++ text
+  pub served : IsServed start len text old new
+  pub binds : (text ≡ []) ⊎ SliceBinds new start len text
+
+-- there was no memory for the slice, or for what it is appended to
+abbrev pub Starves : ℕ → ℕ → SeatView → SeatView → Type 0
+Starves start len old new = Sees old new ⊎ ((text : List ℕ) × Called (Serve start len (Text text)) old new)

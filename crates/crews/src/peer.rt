@@ -1,0 +1,87 @@
+ghost use Rattle.std.specs.Prelude.{◌≡◌, ◌<◌, ◌≤◌, IsErrOf, OnErr, OnOk};
+ghost use Rattle.store_shared.specs.Seats.{IsSeatOf};
+
+use gather::{Holder, HolderFault};
+use std::marker::Model;
+use store_shared::{Assembly, Seat, ServeFault};
+
+/// The holder over a shared store that may be unfinished, with a seat of it: it has the slices that the store serves.
+#[derive(Drop)]
+pub struct Peer<'a> {
+    assembly: &'a Assembly,
+    seat: Seat,
+}
+
+impl<'a> Model for Peer<'a> {
+    ghost use Rattle.crews.specs.Peers.{Peered};
+    ghost use Rattle.store_shared.specs.Seats.{IsSeatOf};
+
+    ghost Value = { Peered };
+
+    ghost view = { λ p. record { assembly = p.assembly.now; seat = p.seat } };
+
+    ghost invariant = { λ p. IsSeatOf p.assembly.now p.seat };
+}
+
+impl<'a> Peer<'a> {
+    /// A holder over this store, with a seat of it.
+    pub fn new(assembly: &'a Assembly, seat: Seat) -> Peer<'a>
+        requires of { IsSeatOf assembly.now seat }
+        ensures assembly { result.assembly ≡ assembly.now }
+        ensures seat { result.seat ≡ seat }
+    {
+        Peer { assembly, seat }
+    }
+
+    /// The seat, which is one of the store's.
+    pub fn into_seat(self) -> Seat
+        ensures seat { result ≡ self.entry.seat }
+        ensures of { IsSeatOf self.entry.assembly result }
+    {
+        let Peer { seat, .. } = self;
+        seat
+    }
+}
+
+impl<'a> Holder for Peer<'a> {
+    ghost use Rattle.gather.specs.declared.holder.HolderFault.TheVariants.{Device};
+    ghost use Rattle.gather.specs.Holders.{Appends};
+    ghost use Rattle.crews.specs.Peers.{Fetches, Starves};
+
+    ghost count = { λ _. 0 };
+
+    /// Appends the slice that the store serves, or nothing where it has no length or lacks a node. No device fails.
+    ///
+    /// What isn't empty is the slice of each blob with the store's root; or two different inputs with one chaining value
+    /// are named, one of the blob's and one of a piece's that was committed to the store, by which its length was settled,
+    /// or whose parents were stored.
+    fn fetch(&mut self, start: u64, len: u64, into: &mut Vec<u8>) -> Result<(), HolderFault>
+        ensures appended { OnOk result (Appends into.old.items into.new.items) }
+        ensures unchanged { OnErr result (into.new.items ≡ into.old.items) }
+        ensures device { IsErrOf result Device → 0 < 0 }
+        ensures counts { 0 ≤ 0 }
+        ensures same { self.new.assembly ≡ self.old.assembly }
+        ensures fetches { OnOk result (Fetches start len into.old.items into.new.items self.old.seat.view self.new.seat.view) }
+        ensures starves { OnErr result (Starves start len self.old.seat.view self.new.seat.view) }
+    {
+        let text = match self.assembly.serve_slice(&mut self.seat, start, len) {
+            Ok(text) => text,
+            Err(ServeFault::NoLength) => return Ok(()),
+            Err(ServeFault::Lacking(_)) => return Ok(()),
+            Err(ServeFault::Memory) => return Err(HolderFault::Memory),
+        };
+        if into.is_empty() {
+            // The vector itself is handed over: nothing is copied twice.
+            *into = text;
+            return Ok(());
+        }
+        match into.extend_from_slice(text.as_slice()) {
+            Ok(()) => Ok(()),
+            Err(_) => Err(HolderFault::Memory),
+        }
+    }
+
+    fn faults(&self) -> u64 {
+        0
+    }
+}
