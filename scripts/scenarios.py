@@ -297,13 +297,15 @@ class Stores:
         "809 809 lacking",
         "810 810 memory",
         "802 802 capacity",
-        "701 memory",
-        "702 illegal step 7",
-        "802 capacity",
+        "701 701 memory",
+        "702 702 illegal step 7",
+        "802 802 capacity",
         "801 801 memory",
         "802 802 capacity",
         "803 803 no group",
         "804 804 other root",
+        "804 804 other root",
+        "807 807 other length",
     ]
 
     def __init__(self):
@@ -400,7 +402,7 @@ class Stores:
         """Calls of all seats with all pieces, drawn; the replies are told by their hash."""
         draw, replies, pieces = Draw(seed), [], list(self.pieces.values())
         for _ in range(calls):
-            seat, group, mask, kind = draw.below(self.seats), draw.below(self.groups() + 1), draw.mask(), draw.below(6)
+            seat, group, mask, kind = draw.below(self.seats), draw.below(self.groups() + 1), draw.mask(), draw.below(8)
             if kind == 0:
                 replies.append(self.take(seat, group, mask))
             elif kind == 1:
@@ -410,7 +412,11 @@ class Stores:
             elif kind == 3:
                 replies.append(self.read(draw.below(bao.CHUNK_LEN * self.capacity), draw.below(3000)))
             elif kind == 4:
+                replies.append(self.serve(draw.below(bao.CHUNK_LEN * self.capacity), draw.below(3000)))
+            elif kind == 5:
                 replies.append(self.commit(seat, group, pieces[draw.below(len(pieces))]))
+            elif kind == 6:
+                replies.append(self.store_parents(group, pieces[draw.below(len(pieces))]))
             else:
                 replies.append(self.settle(pieces[draw.below(len(pieces))]))
         return f"{calls} replies {digest(''.join(f'{it}{chr(10)}' for it in replies).encode())}"
@@ -455,9 +461,9 @@ class Stores:
             case "settle":
                 return [self.settle(self.pieces[words[1]])]
             case "parents":
-                return [self.store_parents(int(words[0]), self.pieces[words[1]])]
+                return [self.store_parents(int(words[1]), self.pieces[words[2]])]
             case "serve":
-                return [self.serve(*numbers)]
+                return [self.serve(*numbers[1:])]
             case "length":
                 return [self.recorded()]
             case "read":

@@ -3,7 +3,7 @@ use bao_text::Node;
 use std::alloc::Global;
 use std::fmt::Display;
 use store_core::{BadCapacity, ReplayFault, ServeFault, StoreFault};
-use store_shared::{NewFault, NoGroup, OtherRoot};
+use store_shared::{NewFault, NoGroup, OtherRoot, ParentsFault};
 
 // A line with a fault's number and its text.
 fn tell<F: Display + Drop>(said: &mut String, number: u16, fault: F) -> Result<()> {
@@ -35,12 +35,15 @@ pub fn faults(alloc: Global) -> Result<String> {
         ReplayFault::Illegal { step: 7 },
         ReplayFault::Capacity,
     ] {
-        write!(said, "{fault}\n")?;
+        tell(&mut said, fault.code(), fault)?;
     }
     for fault in [NewFault::Memory, NewFault::Capacity] {
         tell(&mut said, fault.code(), fault)?;
     }
     tell(&mut said, NoGroup.code(), NoGroup)?;
     tell(&mut said, OtherRoot.code(), OtherRoot)?;
+    for fault in [ParentsFault::OtherRoot, ParentsFault::OtherLength] {
+        tell(&mut said, fault.code(), fault)?;
+    }
     Ok(said)
 }

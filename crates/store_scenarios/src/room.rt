@@ -172,18 +172,39 @@ impl Room {
         )
     }
 
-    // Stores the piece's parents, in the store of one thread.
-    pub fn store_parents(&mut self, alloc: Global, group: u32, piece: &Piece) -> Result<String>
+    // Stores the piece's parents.
+    pub fn store_parents(
+        &mut self,
+        alloc: Global,
+        number: u32,
+        group: u32,
+        piece: &Piece,
+    ) -> Result<String>
         requires { IsWell self.old }
         ensures { IsWell self.new }
     {
         let piece = piece.checked(alloc)?;
-        masked(alloc, "stored", self.alone.commit_parents(group, &piece))
+        let mut seat = take_out(&self.shared, &mut self.seats, number as usize)?;
+        let shared = self.shared.commit_parents(&mut seat, group, &piece);
+        put_back(&self.shared, &mut self.seats, number as usize, seat)?;
+        let alone = self.alone.commit_parents(group, &piece);
+        both(
+            alloc,
+            masked(alloc, "stored", alone)?,
+            masked(alloc, "stored", shared)?,
+        )
     }
 
-    // Serves a slice, out of the store of one thread.
-    pub fn serve(&self, alloc: Global, start: u64, len: u64) -> Result<String> {
-        served(alloc, self.alone.serve_slice(start, len))
+    // Serves a slice.
+    pub fn serve(&mut self, alloc: Global, number: u32, start: u64, len: u64) -> Result<String>
+        requires { IsWell self.old }
+        ensures { IsWell self.new }
+    {
+        let mut seat = take_out(&self.shared, &mut self.seats, number as usize)?;
+        let shared = self.shared.serve_slice(&mut seat, start, len);
+        put_back(&self.shared, &mut self.seats, number as usize, seat)?;
+        let alone = self.alone.serve_slice(start, len);
+        both(alloc, served(alloc, alone)?, served(alloc, shared)?)
     }
 
     pub fn settle(&mut self, alloc: Global, number: u32, piece: &Piece) -> Result<String>
@@ -294,24 +315,28 @@ impl Room {
         let number = u32::try_from(draw.below(seats))?;
         let group = draw.below(u64::from(self.shared.groups()) + 1) as u32;
         let mask = draw.mask();
-        let kind = draw.below(6);
+        let kind = draw.below(8);
         match kind {
             0 => self.take(alloc, number, group, mask),
             1 => self.give(alloc, number, group, mask),
             2 => self.length(alloc, number),
-            3 => {
+            3 | 4 => {
                 let bytes = CHUNK_LEN as u64 * u64::from(self.shared.capacity());
                 let at = draw.below(bytes.max(1));
                 let len = draw.below(MOST_DRAWN);
-                self.read(alloc, number, at, len)
+                if kind == 3 {
+                    self.read(alloc, number, at, len)
+                } else {
+                    self.serve(alloc, number, at, len)
+                }
             }
             _ => {
                 let index = draw.below((pieces.len() as u64).max(1)) as usize;
                 let piece = pieces.get(index).context("a piece")?;
-                if kind == 4 {
-                    self.commit(alloc, number, group, piece)
-                } else {
-                    self.settle(alloc, number, piece)
+                match kind {
+                    5 => self.commit(alloc, number, group, piece),
+                    6 => self.store_parents(alloc, number, group, piece),
+                    _ => self.settle(alloc, number, piece),
                 }
             }
         }

@@ -152,12 +152,18 @@ impl Scene {
         ensures { IsWell room.new }
     {
         match (name, words) {
-            ("parents", [group, piece]) => room.store_parents(
+            ("parents", [seat, group, piece]) => room.store_parents(
                 alloc,
+                short(seat)?,
                 short(group)?,
                 self.piece(piece)?,
             ),
-            ("serve", [start, len]) => room.serve(alloc, number(start)?, number(len)?),
+            ("serve", [seat, start, len]) => room.serve(
+                alloc,
+                short(seat)?,
+                number(start)?,
+                number(len)?,
+            ),
             _ => bail!("a call"),
         }
     }

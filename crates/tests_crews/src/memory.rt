@@ -41,13 +41,13 @@ fn a_holder_without_memory(rt: HostRuntime) -> Result<(), Fail> {
     let mode = Mode::hash();
     let bytes = blob(&rt, 200_000)?;
     let (root, whole) = combined(rt.alloc(), &mode, bytes.as_slice())?;
-    for (fetches, committed, asked, memory) in [
-        (0, 0, 2, 2),
-        (1, 0, 9, 8),
-        (2, 64, 8, 6),
-        (3, 128, 7, 4),
-        (4, 192, 6, 2),
-        (5, 196, 5, 0),
+    for (fetches, committed, parents, asked, memory) in [
+        (0, 0, 0, 2, 2),
+        (1, 0, 4, 9, 8),
+        (2, 64, 68, 8, 6),
+        (3, 128, 131, 7, 4),
+        (4, 192, 194, 6, 2),
+        (5, 196, 195, 5, 0),
     ] {
         let (assembly, seat) = shared(&rt, root, 196)?;
         let refused = AtomicU64::new(0);
@@ -61,6 +61,7 @@ fn a_holder_without_memory(rt: HostRuntime) -> Result<(), Fail> {
         let (seat, report) = run_lists(&rt, rt.alloc(), &assembly, seat, lists, &Open)?;
         let all = Report {
             committed,
+            parents,
             asked,
             refused: 0,
             failed: 0,

@@ -273,6 +273,7 @@ fn a_device_that_fails(rt: HostRuntime) -> Result<(), Fail> {
     }
     let all = Report {
         committed: 3,
+        parents: 2,
         asked: 4,
         refused: 0,
         failed: 2,

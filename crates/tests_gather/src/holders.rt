@@ -75,6 +75,7 @@ fn two_of_three_holders_are_bad(rt: HostRuntime) -> Result<(), Fail> {
     let report = ample(run_one(rt.alloc(), &mut store, &mut bad))?;
     let nothing = Report {
         committed: 0,
+        parents: 0,
         asked: 4,
         refused: 4,
         failed: 0,
@@ -91,6 +92,7 @@ fn two_of_three_holders_are_bad(rt: HostRuntime) -> Result<(), Fail> {
     let report = ample(run_one(rt.alloc(), &mut store, &mut holders))?;
     let all = Report {
         committed: 3,
+        parents: 2,
         asked: 6,
         refused: 4,
         failed: 0,
@@ -239,6 +241,7 @@ fn a_device_that_fails(rt: HostRuntime) -> Result<(), Fail> {
         let report = run_one(rt.alloc(), &mut store, &mut holders);
         let all = Report {
             committed: 3,
+            parents: 2,
             asked: 4,
             refused,
             failed,

@@ -4,4 +4,6 @@
 #[cfg(test)]
 mod readers;
 #[cfg(test)]
+mod serving;
+#[cfg(test)]
 mod threads;
