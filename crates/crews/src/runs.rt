@@ -29,10 +29,11 @@ use store_shared::Assembly;
 /// 2^64 - 1 once there. Refused memory is counted there; the next holder is then asked. Where a thread can't be started,
 /// its work runs on another thread of the call. Texts are checked under the store's root and in its mode.
 ///
-/// What a crew's seat has seen goes on from what it had seen, and is a legal history of the store. A report's `committed`
-/// is the number of chunks in the commits that the crew's own calls added to it, its `parents` that of the parents that
-/// they stored, and the crew claims no more than it did. For each blob with the root, each chunk seen held is the blob's of that number, or two different inputs with one
-/// chaining value are named, one of the blob's and one of the piece's by which it was committed.
+/// What a crew's seat has seen goes on from what it had seen, and is a legal history of the store. A report's
+/// `committed` is the number of chunks in the commits that the crew's own calls added to it, its `parents` that of
+/// the parents that they stored, and the crew claims no more than it did. For each blob with the root, each chunk
+/// seen held is the blob's of that number, or two different inputs with one chaining value are named, one of the
+/// blob's and one of the piece's by which it was committed.
 ///
 /// `failed` is at most what the holders' counts rose together, and `too_large` is set only where an accepted text
 /// certifies a length above what the store has room for: each blob with the root is then longer, or such a pair is named.

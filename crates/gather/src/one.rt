@@ -97,9 +97,9 @@ impl Shelf for Alone {
 /// number, or two different inputs with one chaining value are named, one of the blob's and one of that text's. No
 /// claim is left that the worker took.
 ///
-/// The report's `committed` is the number of chunks stored and `parents` that of parents, `failed` is at most what the holders' counts rose together,
-/// and `too_large` is set only where an accepted text certifies a length above what the store has room for: each blob
-/// with the root is then longer, or such a pair is named.
+/// The report's `committed` is the number of chunks stored and `parents` that of parents, `failed` is at most what
+/// the holders' counts rose together, and `too_large` is set only where an accepted text certifies a length above
+/// what the store has room for: each blob with the root is then longer, or such a pair is named.
 pub fn run_one<H: Holder>(alloc: Global, store: &mut Store, holders: &mut [H]) -> Report
     ensures worked { Gains store.old store.new result }
     ensures certified { AddsCertified store.old store.new }
