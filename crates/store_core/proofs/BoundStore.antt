@@ -7,7 +7,7 @@ use Rattle.store_core.specs.declared.fixed.Fixed.{Fixed}
 use Rattle.store_core.specs.declared.slot.Slot.{Slot}
 use Rattle.store_core.specs.Laws.{IsBlob, IsSettled, PairFrom}
 use Rattle.store_core.specs.Reached.{IsReached}
-use Rattle.store_core.specs.Slots.{slot_byte, state_in, with_parents}
+use Rattle.store_core.specs.Slots.{state_in, with_parents}
 use Rattle.store_core.specs.States.{State, byte_at}
 use Rattle.bao_check.specs.Parents.{parent_of}
 use Rattle.bao_check.proofs.Laws.{accepted_binds}

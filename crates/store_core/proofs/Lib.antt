@@ -23,6 +23,7 @@ pub mod Loading
 pub mod Standing
 pub mod Wordless
 pub mod Replaying
+pub mod Listed
 pub mod ParentOrigins
 pub mod ServingLaws
 pub mod ServingSteps

@@ -4,7 +4,7 @@ ghost use Rattle.store_core.specs.declared.fault.ReplayFault.TheVariants.{Capaci
 ghost use Rattle.store_core.specs.Machine.{current_holds};
 ghost use Rattle.store_core.specs.Masks.{in_mask};
 ghost use Rattle.store_core.specs.Pieces.{piece_of};
-ghost use Rattle.store_core.specs.Replays.{IsIllegalAt, IsReplayed};
+ghost use Rattle.store_core.specs.Replays.{IsIllegalAt, IsReplayed, ReplayBinds};
 ghost use Rattle.store_core.specs.Schedules.{AreTexts};
 ghost use Rattle.store_core.specs.Slots.{caller};
 ghost use Rattle.store_core.specs.Stages.{IsCleared, IsFilled, IsTaken, is_marked, player_in};
@@ -364,6 +364,10 @@ fn are_texts(pieces: &[Checked<'_>])
 ///
 /// 802 `Capacity` where the capacity isn't 1 to 65,536 chunks. Else, whichever it meets first: 702 `Illegal` with the
 /// least index, from 0, of a step that isn't legal, and 701 `Memory`. No store is handed out then.
+///
+/// For each blob with the hash `root`, each chunk that the store holds is the blob's chunk of that number, and a recorded
+/// length is the blob's; or two different inputs with one chaining value are named, one of the blob's and one of a piece of
+/// `pieces`: the one from which the schedule committed the chunk, or by which it settled the length.
 pub fn replay(
     alloc: Global,
     root: Hash,
@@ -375,7 +379,9 @@ pub fn replay(
     ensures capacity { IsErrOf result Capacity ↔ ((capacity ≡ 0) ⊎ (65536 < capacity)) }
     ensures ok { IfOk result (λ r. IsReplayed (record { root = root; mode = mode; capacity = capacity }) pieces.now steps.now r.0.items r.1) }
     ensures illegal { (i : ℕ) → IsErrOf result (Illegal i) → IsIllegalAt (record { root = root; mode = mode; capacity = capacity }) pieces.now steps.now i }
+    ensures binds { IfOk result (λ r. ReplayBinds (record { root = root; mode = mode; capacity = capacity }) pieces.now steps.now r.0.items r.1) }
 {
+    mode.is_keyed();
     let store = match Store::new(alloc, root, mode, capacity) {
         Ok(store) => store,
         Err(_) => return Err(ReplayFault::Capacity),

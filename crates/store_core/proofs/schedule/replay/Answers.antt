@@ -6,6 +6,7 @@ use Rattle.store_core.specs.declared.micro.MicroStep.{MicroStep}
 use Rattle.store_core.specs.declared.micro.MicroStep.TheVariants.{Claim}
 use Rattle.store_core.specs.declared.schedule.StepFault.{StepFault}
 use Rattle.store_core.specs.Replays.{IsIllegalAt}
+use Rattle.store_core.proofs.Listed.{replay_binds}
 use Rattle.store_core.proofs.Replaying.{run_done, run_illegal, run_more, run_none, same_index}
 use Rattle.store_core.proofs.schedule.replay.Goals as goal
 
@@ -36,3 +37,8 @@ returns-clause-ok c =
     let end : c.loop-i.i ≡ length c.args.steps.now = omega (arith, c.loop-i-test.false) in
     run_done (record { root = c.args.root; mode = c.args.mode; capacity = c.args.capacity }) c.args.pieces.now c.args.steps.now c.loop-i.i c.loop-i.replies.items c.loop-i.stage
     c.are_texts.ensures (ap (λ (k : ℕ). take k c.args.steps.now) end ∙ take-length c.args.steps.now) c.loop-i.invariant
+
+pub returns-clause-binds : goal.returns-clause-binds
+returns-clause-binds c =
+    replay_binds (record { root = c.args.root; mode = c.args.mode; capacity = c.args.capacity }) c.args.pieces.now c.args.steps.now c.loop-i.replies.items c.loop-i.stage.store
+    c.is_keyed.ensures

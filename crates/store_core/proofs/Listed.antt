@@ -1,0 +1,135 @@
+-- The pieces of a run's events are pieces of the list.
+use Rattle.std.proofs.Common.{◌≡◌, ℕ, ◌==◌, Bool, true, false, if◌then◌else◌, List, [], ◌∷◌, Option, None, Some, option_map, slice_get, refl, sym, subst, inl, inr}
+use Rattle.std.specs.List.{AllByRecursion}
+use Rattle.std.proofs.lemmas.Bool.{cases_Bool}
+use Rattle.b3tree.specs.Valid.{IsKeyed}
+use Rattle.bao_check.specs.declared.checked.Checked.{Checked}
+use Rattle.bao_check.proofs.Lists.{All-append, All-member}
+use Rattle.store_core.specs.declared.fixed.Fixed.{Fixed}
+use Rattle.store_core.specs.declared.history.Call.{Call}
+use Rattle.store_core.specs.declared.history.Call.TheVariants.{Take, Give, Commit, Read, Settle as SettleCall, Length as LengthCall, Parents, Serve}
+use Rattle.store_core.specs.declared.history.Event.{Event}
+use Rattle.store_core.specs.declared.history.Piece.{Piece}
+use Rattle.store_core.specs.declared.history.Settling.{Settling as Answer}
+use Rattle.store_core.specs.declared.history.Settling.TheVariants.{Settled, Known, Differs, OtherRoot, TooLarge}
+use Rattle.store_core.specs.declared.micro.MicroStep.{MicroStep}
+use Rattle.store_core.specs.declared.micro.MicroStep.TheVariants.{Claim, Hash, Write, Publish, GiveBack, Load, Settle, Length}
+use Rattle.store_core.specs.declared.micro.Reply.{Reply}
+use Rattle.store_core.specs.declared.store.Store.{Store}
+use Rattle.store_core.specs.Machine.{Machine, Seat, start, with_seat}
+use Rattle.store_core.specs.Pieces.{piece_of}
+use Rattle.store_core.specs.Replays.{IsListed, ReplayBinds}
+use Rattle.store_core.specs.Schedules.{Runs, after_step, commit_by, event_by, is_last_load, mask_in, read_after, settle_answer, settle_by, step_events}
+use Rattle.store_core.specs.States.{State}
+use Rattle.store_core.proofs.Bound.{held_binds, record_binds}
+
+-- each seat's current piece is one of the list
+abbrev AreListed : List Checked → Machine → Type 0
+AreListed pieces m = (n : ℕ) (piece : Piece) → (m.seat n).piece ≡ Some piece → IsListed pieces piece
+
+-- the piece that an event commits or settles a length by is one of the list
+abbrev IsCallOf : List Checked → Call → Type 0
+IsCallOf pieces (Take group want granted) = Unit {0}
+IsCallOf pieces (Give group mask given) = Unit {0}
+IsCallOf pieces (Commit group piece committed) = IsListed pieces piece
+IsCallOf pieces (SettleCall piece answer) = IsListed pieces piece
+IsCallOf pieces (Read at len bytes) = Unit {0}
+IsCallOf pieces (LengthCall recorded) = Unit {0}
+IsCallOf pieces (Parents group piece answer) = Unit {0}
+IsCallOf pieces (Serve at len answer) = Unit {0}
+
+abbrev IsEventOf : List Checked → Event → Type 0
+IsEventOf pieces e = IsCallOf pieces e.call
+
+start_listed : (pieces : List Checked) → AreListed pieces start
+start_listed pieces n piece h = let none : None ≡ Some piece = h in cc
+
+-- the piece that a Hash makes current
+hash_listed : (pieces : List Checked) (i : ℕ) (o : Option Checked) (piece : Piece) → slice_get pieces i ≡ o → option_map piece_of o ≡ Some piece → IsListed pieces piece
+hash_listed pieces i None piece e h = let none : None ≡ Some piece = h in cc
+hash_listed pieces i (Some checked) piece e h =
+    let some : Some (piece_of checked) ≡ Some piece = h in
+    let same : piece ≡ piece_of checked = cc in
+    record { index = i; checked = checked; there = e; is = same }
+
+-- a seat that is changed
+seat_listed : (pieces : List Checked) (m : Machine) (n : ℕ) (seat : Seat) → AreListed pieces m → ((piece : Piece) → seat.piece ≡ Some piece → IsListed pieces piece)
+    → AreListed pieces (with_seat m n seat)
+seat_listed pieces m n seat are its k piece h = elim (cases_Bool (k == n)) [
+  | inl hit ↦ its piece (rw hit at h)
+  | inr miss ↦ are k piece (rw miss at h)
+]
+
+step_listed : (fixed : Fixed) (pieces : List Checked) (m : Machine) (step : MicroStep) (reply : Option Reply) → AreListed pieces m
+    → AreListed pieces (after_step fixed pieces m step reply)
+step_listed fixed pieces m (Claim n group want) reply are = are
+step_listed fixed pieces m (Hash n i) reply are =
+    seat_listed pieces m n (record (m.seat n) { piece = option_map piece_of (slice_get pieces i); written = λ c w. false }) are
+    (λ piece h. hash_listed pieces i (slice_get pieces i) piece refl h)
+step_listed fixed pieces m (Write n c w) reply are = seat_listed pieces m n _ are (are n)
+step_listed fixed pieces m (Publish n group) reply are = are
+step_listed fixed pieces m (GiveBack n group mask) reply are = seat_listed pieces m n _ are (are n)
+step_listed fixed pieces m (Load n at len) reply are = seat_listed pieces m n _ are (are n)
+step_listed fixed pieces m (Settle n) reply are = are
+step_listed fixed pieces m (Length n) reply are = are
+
+-- the events of a Publish, of a Settle and of a Load
+commit_listed : (pieces : List Checked) (n group mask : ℕ) (o : Option Piece) → ((piece : Piece) → o ≡ Some piece → IsListed pieces piece)
+    → AllByRecursion (IsEventOf pieces) (commit_by n group o mask)
+commit_listed pieces n group mask None are = tt
+commit_listed pieces n group mask (Some piece) are = (are piece refl, tt)
+
+settle_listed : (pieces : List Checked) (n : ℕ) (o : Option Piece) (answer : Answer) → ((piece : Piece) → o ≡ Some piece → IsListed pieces piece)
+    → AllByRecursion (IsEventOf pieces) (settle_by n o answer)
+settle_listed pieces n None answer are = tt
+settle_listed pieces n (Some piece) Settled are = (are piece refl, tt)
+settle_listed pieces n (Some piece) Known are = (are piece refl, tt)
+settle_listed pieces n (Some piece) Differs are = (are piece refl, tt)
+settle_listed pieces n (Some piece) OtherRoot are = (are piece refl, tt)
+settle_listed pieces n (Some piece) TooLarge are = tt
+
+read_listed : (pieces : List Checked) (last : Bool) (n at len : ℕ) (bytes : List ℕ)
+    → AllByRecursion (IsEventOf pieces) (if last then event_by n (Read at len bytes) else [])
+read_listed pieces true n at len bytes = (tt, tt)
+read_listed pieces false n at len bytes = tt
+
+events_listed : (fixed : Fixed) (pieces : List Checked) (m : Machine) (step : MicroStep) (reply : Option Reply) → AreListed pieces m
+    → AllByRecursion (IsEventOf pieces) (step_events fixed m step reply)
+events_listed fixed pieces m (Claim n group want) reply are = (tt, tt)
+events_listed fixed pieces m (Hash n i) reply are = tt
+events_listed fixed pieces m (Write n c w) reply are = tt
+events_listed fixed pieces m (Publish n group) reply are = commit_listed pieces n group (mask_in reply) (m.seat n).piece (are n)
+events_listed fixed pieces m (GiveBack n group mask) reply are = (tt, tt)
+events_listed fixed pieces m (Load n at len) reply are = read_listed pieces (is_last_load fixed m n at len) n at len (read_after fixed m n at len).bytes
+events_listed fixed pieces m (Settle n) reply are = settle_listed pieces n (m.seat n).piece (settle_answer fixed m n) (are n)
+events_listed fixed pieces m (Length n) reply are = (tt, tt)
+
+runs_listed : (fixed : Fixed) (pieces : List Checked) (m : Machine) (steps : List MicroStep) (replies : List Reply) (history : List Event) (last : Machine)
+    → AreListed pieces m → Runs fixed pieces m steps replies history last → AllByRecursion (IsEventOf pieces) history
+runs_listed fixed pieces m [] replies history last are runs = subst (λ (h : List Event). AllByRecursion (IsEventOf pieces) h) (sym runs.1) tt
+runs_listed fixed pieces m (step ∷ steps) replies history last are runs =
+    subst (λ (h : List Event). AllByRecursion (IsEventOf pieces) h) (sym runs.6)
+    (All-append (IsEventOf pieces) (step_events fixed m step runs.0) runs.2 (events_listed fixed pieces m step runs.0 are)
+    (runs_listed fixed pieces (after_step fixed pieces m step runs.0) steps runs.1 runs.2 last (step_listed fixed pieces m step runs.0 are) runs.7))
+
+pub replay_binds : (fixed : Fixed) (pieces : List Checked) (steps : List MicroStep) (replies : List Reply) (store : Store) → IsKeyed fixed.mode
+    → ReplayBinds fixed pieces steps replies store
+replay_binds fixed pieces steps replies store keyed blob is by =
+    let all : AllByRecursion (IsEventOf pieces) by.history = runs_listed fixed pieces start steps replies by.history by.last (start_listed pieces) by.runs in (
+      λ c bytes h. elim (held_binds fixed by.history blob c bytes keyed is by.legal (subst (λ (s : State). s.held c ≡ Some bytes) by.events h)) [
+        | inl same ↦ inl same
+        | inr named ↦ inr (record {
+          committed = named.0;
+          listed = All-member (IsEventOf pieces) by.history all (record { who = named.0.who; call = Commit named.0.group named.0.piece named.0.mask }) named.0.there;
+          pair = named.1;
+        })
+      ],
+      λ l h. elim (record_binds fixed by.history blob l keyed is by.legal (subst (λ (s : State). s.recorded ≡ Some l) by.events h)) [
+        | inl same ↦ inl same
+        | inr named ↦ inr (record {
+          settled = named.0;
+          listed = All-member (IsEventOf pieces) by.history all (record { who = named.0.who; call = SettleCall named.0.piece Settled }) named.0.there;
+          pair = named.1;
+        })
+      ],
+    )
