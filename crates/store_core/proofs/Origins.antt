@@ -121,7 +121,7 @@ pub record_is_settled : RecordIsSettled
 record_is_settled fixed history l legal h = elim (settled_from fixed empty history legal l h) [ inl none ↦ cc | inr there ↦ there ]
 
 -- one where the test holds, and none where it doesn't
-abbrev one_if : Bool → ℕ
+abbrev pub one_if : Bool → ℕ
 one_if b = if b then 1 else 0
 
 -- what a Commit stores the piece holds
@@ -130,7 +130,7 @@ holds fixed s who g piece r c right hit =
     (and_parts (claims who s c) (holds_chunk piece c) (masked g r (λ c. claims who s c && holds_chunk piece c) c right.1 hit)).1
 
 -- a call commits a chunk that wasn't held, and no other becomes held
-counted_commit : (fixed : Fixed) (s : State) (who : List Name) (g : ℕ) (piece : Piece) (r c : ℕ) → IsSound fixed s → IsRight fixed s who (Commit g piece r)
+pub counted_commit : (fixed : Fixed) (s : State) (who : List Name) (g : ℕ) (piece : Piece) (r c : ℕ) → IsSound fixed s → IsRight fixed s who (Commit g piece r)
     → one_if (in_mask g r c) + one_if (is_held s c) ≡ one_if (is_held (after_call who (Commit g piece r) s) c)
 counted_commit fixed s who g piece r c sound right = elim (cases_Bool (in_mask g r c)) [
   | inl hit ↦

@@ -1,5 +1,6 @@
 -- The laws of histories.
-use Rattle.std.specs.Prelude.{◌≡◌, ◌⊎◌, ℕ, ◌+◌, ◌*◌, ◌/◌, ◌%◌, ◌<◌, ◌≤◌, Bool, true, false, if◌then◌else◌, List, [], ◌++◌, length, Contains, count_by, None, Some, slice_get, slice_index, ◌||◌}
+use Rattle.std.specs.Prelude.{◌≡◌, ◌⊎◌, ℕ, ◌+◌, ◌*◌, ◌/◌, ◌%◌, ◌<◌, ◌≤◌, Bool, true, false, if◌then◌else◌, List, [], ◌++◌, length, Contains, count_by, count_ones, None, Some, slice_get, slice_index, ◌||◌}
+use Rattle.std.specs.List.{sum_by}
 use Rattle.b3tree.specs.Hashing.{hash}
 use Rattle.b3tree.specs.Valid.{AreBytes, IsKeyed}
 use Rattle.bao_check.specs.Inputs.{NamesPair}
@@ -27,7 +28,7 @@ use Rattle.store_core.specs.Machine.{Machine, start, store_of}
 use Rattle.store_core.specs.Schedules.{AreTexts, Runs}
 use Rattle.store_core.specs.declared.view.SeatView.{SeatView}
 use Rattle.store_core.specs.Views.{IsJoined, mine, names_of, seat_claims, split_first}
-use Rattle.store_core.specs.States.{State, byte_at, claims, is_claimed, is_held, read_bytes}
+use Rattle.store_core.specs.States.{State, byte_at, claims, held_count, is_claimed, is_held, read_bytes}
 
 -- a call without its reply
 abbrev pub question : Call → Call
@@ -103,6 +104,22 @@ commits c (Serve at len answer) = false
 abbrev pub CommittedOnce : Type 0
 CommittedOnce = (fixed : Fixed) (history : List Event) (c : ℕ) → IsLegal fixed history
     → count_by (λ e. commits c e.call) history ≡ (if is_held (state_after history) c then 1 else 0)
+
+-- how many chunks a call stores: those of a commit's mask
+abbrev pub chunks_of : Call → ℕ
+chunks_of (Take group want granted) = 0
+chunks_of (Give group mask given) = 0
+chunks_of (Commit group piece committed) = count_ones committed
+chunks_of (Settle piece answer) = 0
+chunks_of (Read at len bytes) = 0
+chunks_of (Length recorded) = 0
+chunks_of (Parents group piece answer) = 0
+chunks_of (Serve at len answer) = 0
+
+-- The chunks of a history's Commits add up to those that are held.
+abbrev pub CommittedAddUp : Type 0
+CommittedAddUp = (fixed : Fixed) (history : List Event) → IsLegal fixed history
+    → sum_by (λ e. chunks_of e.call) history ≡ held_count (state_after history) fixed.capacity
 
 -- The bytes are chunk c of an accepted piece that a history committed.
 pub record IsCommitted (fixed : Fixed) (history : List Event) (c : ℕ) (bytes : List ℕ) : Type 0 where

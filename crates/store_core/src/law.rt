@@ -1,4 +1,4 @@
-ghost use Rattle.store_core.specs.Laws.{ByteBinds, ClaimsApart, ClaimsLast, CommittedOnce, HeldBinds, HeldIsCommitted, HeldLasts, JoinKeeps, ParentHeldBinds, ParentIsStored, ParentLasts, LegalIsSound, ReadMeans, RecordBinds, RecordIsSettled, RecordLasts, RunsAreLegal, RunsAreOne, ServedBinds, SplitKeeps, StateDetermines};
+ghost use Rattle.store_core.specs.Laws.{ByteBinds, ClaimsApart, ClaimsLast, CommittedAddUp, CommittedOnce, HeldBinds, HeldIsCommitted, HeldLasts, JoinKeeps, ParentHeldBinds, ParentIsStored, ParentLasts, LegalIsSound, ReadMeans, RecordBinds, RecordIsSettled, RecordLasts, RunsAreLegal, RunsAreOne, ServedBinds, SplitKeeps, StateDetermines};
 ghost use Rattle.store_core.specs.Orders.{JoinKeepsOrder, SplitKeepsOrder};
 
 /// The state after a history determines every reply, but for which parents are stored. A law: nothing runs.
@@ -20,11 +20,13 @@ pub fn claims_apart()
     ensures last { ClaimsLast }
 {}
 
-/// Each chunk that is held stands in exactly one commit of the history, with the bytes of its piece, and a
-/// recorded length is that of a piece by which it was settled. A law: nothing runs.
+/// Each chunk that is held stands in exactly one commit of the history, with the bytes of its piece, so the masks of
+/// the commits add up to the number of chunks held. A recorded length is that of a piece by which it was settled. A law:
+/// nothing runs.
 pub fn held_is_committed()
     ensures committed { HeldIsCommitted }
     ensures once { CommittedOnce }
+    ensures sum { CommittedAddUp }
     ensures settled { RecordIsSettled }
 {}
 
