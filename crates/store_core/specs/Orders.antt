@@ -1,7 +1,7 @@
 -- The names of a seat stand in dictionary order, each once, and so its least name stands first.
-use Rattle.std.specs.Prelude.{◌≡◌, true, false, List, [], ◌∷◌}
+use Rattle.std.specs.Prelude.{◌≡◌, ◌↔◌, true, false, List, [], ◌∷◌, Some}
 use Rattle.store_core.specs.declared.view.SeatView.{SeatView}
-use Rattle.store_core.specs.Names.{Name, name_le, same_name, share_name}
+use Rattle.store_core.specs.Names.{Name, has_name, least_name, name_le, same_name, share_name}
 use Rattle.store_core.specs.Views.{IsJoined, names_of, split_first, split_second}
 
 -- a name comes before all of these
@@ -20,3 +20,17 @@ SplitKeepsOrder = (view : SeatView) → AreInOrder (names_of view) → AreInOrde
 abbrev pub JoinKeepsOrder : Type 0
 JoinKeepsOrder = (first second joined : SeatView) → IsJoined first second joined → share_name (names_of first) (names_of second) ≡ false
     → AreInOrder (names_of first) → AreInOrder (names_of second) → AreInOrder (names_of joined)
+
+-- a name is the least of a set: it is one of it, and comes before each of it or is it
+pub record IsLeast (names : List Name) (name : Name) : Type 0 where
+  pub among : has_name names name ≡ true
+  pub least : (other : Name) → has_name names other ≡ true → name_le name other ≡ true
+
+-- Of names in order that which stands first is the least, and no other is.
+abbrev pub LeastIsOne : Type 0
+LeastIsOne = (names : List Name) (name : Name) → AreInOrder names → (least_name names ≡ Some name) ↔ IsLeast names name
+
+-- A set of names has one list in order.
+abbrev pub OrderIsOne : Type 0
+OrderIsOne = (names others : List Name) → AreInOrder names → AreInOrder others
+    → ((name : Name) → has_name names name ≡ has_name others name) → names ≡ others

@@ -1,5 +1,5 @@
 ghost use Rattle.store_core.specs.Laws.{ByteBinds, ClaimsApart, ClaimsLast, CommittedAddUp, CommittedOnce, HeldBinds, HeldIsCommitted, HeldLasts, JoinKeeps, ParentHeldBinds, ParentIsStored, ParentLasts, LegalIsSound, ReadMeans, RecordBinds, RecordIsSettled, RecordLasts, RunsAreLegal, RunsAreOne, ServedBinds, SplitKeeps, StateDetermines};
-ghost use Rattle.store_core.specs.Orders.{JoinKeepsOrder, SplitKeepsOrder};
+ghost use Rattle.store_core.specs.Orders.{JoinKeepsOrder, LeastIsOne, OrderIsOne, SplitKeepsOrder};
 
 /// The state after a history determines every reply, but for which parents are stored. A law: nothing runs.
 pub fn state_determines()
@@ -54,10 +54,13 @@ pub fn join_keeps()
 {}
 
 /// A seat's names stay in dictionary order, each once, where it splits and where two seats without a common name are
-/// joined: so its least name stands first. A law: nothing runs.
+/// joined. Of names in order that which stands first is the least, and no other is; a set of names has one list in order.
+/// A law: nothing runs.
 pub fn names_stay_in_order()
     ensures split { SplitKeepsOrder }
     ensures join { JoinKeepsOrder }
+    ensures least { LeastIsOne }
+    ensures one { OrderIsOne }
 {}
 
 /// A schedule that runs from the start, each step legal where it stands, is a legal history of the store, and its
