@@ -19,7 +19,8 @@ pub record AreClaims (view : SeatView) (claims : List ℕ) : Type 0 where
 abbrev pub fixed_of : Assembly → Fixed
 fixed_of assembly = fixed_of_words assembly.words
 
--- The seat is one of this store's, and what it has seen is a legal history of it.
+-- The seat is one of this store's, and what it has seen is a legal history of it. Its names stand in dictionary order, each
+-- once.
 abbrev pub IsSeatOf : Assembly → Gripped → Type 0
 IsSeatOf assembly seat = IsOf assembly.words seat
 

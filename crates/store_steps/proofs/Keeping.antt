@@ -11,6 +11,7 @@ use Rattle.store_core.specs.declared.view.Named.{Named}
 use Rattle.store_core.specs.declared.view.SeatView.{SeatView}
 use Rattle.store_core.specs.Histories.{AreOfOthers, IsLegal, state_after}
 use Rattle.store_core.specs.Names.{Name, has_name, same_name, share_name}
+use Rattle.store_core.specs.Orders.{AreInOrder}
 use Rattle.store_core.specs.States.{State, claims, empty, is_claimed}
 use Rattle.store_core.specs.declared.view.Boundaries.{Boundaries}
 use Rattle.store_core.specs.Views.{is_boundary, names_of}
@@ -18,7 +19,7 @@ use Rattle.store_core.proofs.Joining.{plain}
 use Rattle.store_core.proofs.Lasting.{claims_from, legal-append, run-append}
 use Rattle.store_core.proofs.Tells.{claims-claimed, claims_apart, same_name-true}
 use Rattle.store_steps.specs.Layout.{cell_at}
-use Rattle.store_steps.specs.Rule.{AreApart, AreDistinct, AreParentsKept, Fits, FitsParents, HasView, IsKept, IsLater, IsNamed, StandFor, StandForParents}
+use Rattle.store_steps.specs.Rule.{AreApart, AreParentsKept, Fits, FitsParents, HasView, IsKept, IsLater, IsNamed, StandFor, StandForParents}
 use Rattle.store_steps.proofs.ParentsStanding.{LeavesParents, fits_left, fits_same, parents_left}
 use Rattle.store_steps.proofs.Storers.{stores_on}
 use Rattle.store_steps.proofs.Lists.{AreBy, apart_from, entry_of, one_part, others-append, others_by}
@@ -64,8 +65,8 @@ apart_still views later history own apart before id at view has by = record {
       apart.owned seat part b.old b.has name (subst (λ (ns : List Name). has_name ns name ≡ true) (names_same v.names b.old.names (sym b.names)) ours);
   named = λ seat part v h.
       let b = before seat part v h in subst (λ (ns : List Named). 0 < length ns) b.names (apart.named seat part b.old b.has);
-  distinct = λ seat part v h.
-      let b = before seat part v h in subst (λ (ns : List Name). AreDistinct ns) (names_same b.old.names v.names b.names) (apart.distinct seat part b.old b.has);
+  ordered = λ seat part v h.
+      let b = before seat part v h in subst (λ (ns : List Name). AreInOrder ns) (names_same b.old.names v.names b.names) (apart.ordered seat part b.old b.has);
   new_to_views = λ one other a b l. apart.new_to_views one other (named_before views later before one a) (named_before views later before other b) l;
   new_to_calls = λ named k name l.
       let is = named_before views later before named k in

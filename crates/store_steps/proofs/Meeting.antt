@@ -13,17 +13,19 @@ use Rattle.store_core.specs.declared.view.SeatView.{SeatView}
 use Rattle.store_core.specs.declared.view.StoredWord.{StoredWord}
 use Rattle.store_core.specs.Histories.{IsLegal, state_after}
 use Rattle.store_core.specs.Names.{Name, has_name, share_name}
+use Rattle.store_core.specs.Orders.{AreInOrder}
 use Rattle.store_core.specs.States.{claims, is_among}
 use Rattle.store_core.specs.declared.view.Boundaries.{Boundaries}
 use Rattle.store_core.specs.Masks.{in_mask}
 use Rattle.store_core.specs.Views.{is_boundary, is_storing, merge_names, names_of, stored}
 use Rattle.store_core.proofs.Joining.{merge-has}
+use Rattle.store_core.proofs.Ordering.{merge_order}
 use Rattle.store_steps.specs.Grips.{first_of}
 use Rattle.store_steps.specs.Plays.{Meets, Merges, OfTwo, rest_of}
-use Rattle.store_steps.specs.Rule.{AreApart, AreDistinct, Fits, FitsParents, HasView, IsKept, IsNamed, StoresAt}
+use Rattle.store_steps.specs.Rule.{AreApart, Fits, FitsParents, HasView, IsKept, IsNamed, StoresAt}
 use Rattle.store_steps.proofs.Keeping.{Before, apart_still}
 use Rattle.store_steps.proofs.Lists.{apart_from, one_part}
-use Rattle.store_steps.proofs.Naming.{merge-cases, merge-distinct, merge-some}
+use Rattle.store_steps.proofs.Naming.{merge-cases, merge-some}
 use Rattle.store_steps.proofs.Regrouping.{at_other, other_place, rekept, same_place, stand_moved, two_parts}
 use Rattle.store_steps.proofs.ParentsStanding.{fits_same}
 use Rattle.store_steps.proofs.Storers.{gets, had, moved_from, stays}
@@ -168,12 +170,12 @@ module _ (fixed : Fixed) (s : Table Unit (List SeatView)) (k : IsKept fixed s) (
       subst (λ (u : SeatView). 0 < length u.names) (sym here.2) (merge-some one.names two.names (k.names.named id 1 two part_two))
   merge_some_names i j v (inr other) = k.names.named i j v other.1
 
-  merge_apart_names : (i j : ℕ) (v : SeatView) → MergeFound i j v → AreDistinct (names_of v)
-  merge_apart_names i j v (inl here) =
-      subst (λ (u : SeatView). AreDistinct (names_of u)) (sym here.2)
-      (merge-distinct one.names two.names (k.names.distinct id 0 one part_one) (k.names.distinct id 1 two part_two) (λ name a.
+  merge_ordered : (i j : ℕ) (v : SeatView) → MergeFound i j v → AreInOrder (names_of v)
+  merge_ordered i j v (inl here) =
+      subst (λ (u : SeatView). AreInOrder (names_of u)) (sym here.2)
+      (merge_order one.names two.names (k.names.ordered id 0 one part_one) (k.names.ordered id 1 two part_two) (λ name a.
       false_from_ne_true _ (λ b. never_both name a b)))
-  merge_apart_names i j v (inr other) = k.names.distinct i j v other.1
+  merge_ordered i j v (inr other) = k.names.ordered i j v other.1
 
   merge_fits : (i j : ℕ) (v : SeatView) → MergeFound i j v → Fits fixed k.history s.words v
   merge_fits i j v (inl here) = subst (λ (u : SeatView). Fits fixed k.history s.words u) (sym here.2) merged_fits
@@ -252,7 +254,7 @@ module _ (fixed : Fixed) (s : Table Unit (List SeatView)) (k : IsKept fixed s) (
       owner = λ name. to (k.names.owner name);
       owned = λ i j v h. merge_owned i j v (merge_found i j v h);
       named = λ i j v h. merge_some_names i j v (merge_found i j v h);
-      distinct = λ i j v h. merge_apart_names i j v (merge_found i j v h);
+      ordered = λ i j v h. merge_ordered i j v (merge_found i j v h);
       new_to_views = λ first other a b. k.names.new_to_views first other (merge_is first a) (merge_is other b);
       new_to_calls = λ named is. k.names.new_to_calls named (merge_is named is);
     }) (record {
@@ -368,6 +370,14 @@ module _ (fixed : Fixed) (s : Table Unit (List SeatView)) (k : IsKept fixed s) (
       new_first = met_one;
       new_second = met_two;
       is = refl;
-      met = record { history = k.history; first_is = refl; second_is = refl; after_first = fits_one.continues; after_second = fits_two.continues; legal = subst (λ (f : Fixed). IsLegal f k.history) (sym fits_one.fixed_is) k.legal; apart = apart };
+      met = record {
+        history = k.history;
+        first_is = refl;
+        second_is = refl;
+        after_first = fits_one.continues;
+        after_second = fits_two.continues;
+        legal = subst (λ (f : Fixed). IsLegal f k.history) (sym fits_one.fixed_is) k.legal;
+        apart = apart;
+      };
     };
   }

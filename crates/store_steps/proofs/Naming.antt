@@ -1,13 +1,15 @@
 -- Names of splits, and of merged sets.
-use Rattle.std.proofs.Common.{◌≡◌, ◌⊎◌, ℕ, ◌+◌, ◌<◌, Bool, true, false, ◌||◌, List, [], ◌∷◌, ◌++◌, length, Contains, refl, sym, ap, subst, ◌∙◌, arith, inl, inr, append_assoc, length-append}
-use Rattle.std.proofs.lemmas.Bool.{both_ways, cases_Bool, or_left, or_parts, or_right}
+use Rattle.std.proofs.Common.{◌≡◌, ◌⊎◌, ℕ, ◌+◌, ◌<◌, true, List, [], ◌∷◌, ◌++◌, length, Contains, refl, sym, ap, subst, ◌∙◌, arith, inl, inr, append_assoc, length-append}
+use Rattle.std.proofs.lemmas.Bool.{both_ways, cases_Bool, or_left, or_right}
 use Rattle.bao_check.proofs.Lists.{Contains-cons_cases, Contains-head, Contains-tail}
 use Rattle.store_core.specs.declared.view.Named.{Named}
 use Rattle.store_core.specs.Names.{Name, has_name, name_le, same_name}
+use Rattle.store_core.specs.Orders.{AreInOrder}
 use Rattle.store_core.specs.Views.{merge_names, new_names, put_name, raise_least}
-use Rattle.store_core.proofs.Joining.{merge-has, plain, put-has}
-use Rattle.store_core.proofs.Tells.{same_name-refl, same_name-turned}
-use Rattle.store_steps.specs.Rule.{AreDistinct, IsLater}
+use Rattle.store_core.proofs.Joining.{plain}
+use Rattle.store_core.proofs.Ordering.{before_has}
+use Rattle.store_core.proofs.Tells.{same_name-refl}
+use Rattle.store_steps.specs.Rule.{IsLater}
 
 -- the entry that splits, and what it leaves
 abbrev pub first_entry : List Named → Named
@@ -41,15 +43,15 @@ name_there (named ∷ names) one h = elim (Contains-cons_cases names named one h
 ]
 
 -- after the split an entry is the first with its new count, or another one
-pub raised_cases : (names : List Named) → AreDistinct (plain names) → (one : Named) → Contains (raise_least names) one
+pub raised_cases : (names : List Named) → AreInOrder (plain names) → (one : Named) → Contains (raise_least names) one
     → (one ≡ raised (first_entry names)) ⊎ (Contains names one × (one.name ≡ (first_entry names).name → ⊥))
-raised_cases [] distinct one h = absurd (omega (arith, h.1))
-raised_cases (named ∷ names) distinct one h = elim (Contains-cons_cases names (raised named) one h) [
+raised_cases [] order one h = absurd (omega (arith, h.1))
+raised_cases (named ∷ names) order one h = elim (Contains-cons_cases names (raised named) one h) [
   | inl first ↦ inl first
   | inr rest ↦ inr (
     Contains-tail names named one rest,
     λ same.
-        both_ways _ distinct.0 (subst (λ (n : Name). has_name (plain names) n ≡ true) same (name_there names one rest)),
+        both_ways _ (before_has named.name (plain names) order.0) (subst (λ (n : Name). has_name (plain names) n ≡ true) same (name_there names one rest)),
   )
 ]
 
@@ -120,23 +122,3 @@ put-some named (other ∷ others) = elim (cases_Bool (name_le named.name other.n
 pub merge-some : (ours theirs : List Named) → 0 < length theirs → 0 < length (merge_names ours theirs)
 merge-some [] theirs more = more
 merge-some (named ∷ ours) theirs more = put-some named (merge_names ours theirs)
-
-put-distinct : (named : Named) (others : List Named) → AreDistinct (plain others) → has_name (plain others) named.name ≡ false
-    → AreDistinct (plain (put_name named others))
-put-distinct named [] distinct free = (refl, tt)
-put-distinct named (other ∷ others) distinct free = elim (cases_Bool (name_le named.name other.name)) [
-  | inl first ↦ rw first (free, distinct)
-  | inr later ↦
-      let parts = or_parts (same_name named.name other.name) (has_name (plain others) named.name) free in
-      let still : has_name (plain (put_name named others)) other.name ≡ false =
-      put-has named others other.name ∙ ap (λ (b : Bool). b || has_name (plain others) other.name) (same_name-turned other.name named.name ∙ parts.0) ∙ distinct.0 in
-      rw later (still, put-distinct named others distinct.1 parts.1)
-]
-
-pub merge-distinct : (ours theirs : List Named) → AreDistinct (plain ours) → AreDistinct (plain theirs)
-    → ((name : Name) → has_name (plain ours) name ≡ true → has_name (plain theirs) name ≡ false) → AreDistinct (plain (merge_names ours theirs))
-merge-distinct [] theirs a b apart = b
-merge-distinct (named ∷ ours) theirs a b apart =
-    put-distinct named (merge_names ours theirs) (merge-distinct ours theirs a.1 b (λ name h. apart name (or_right _ _ h)))
-    (merge-has ours theirs named.name ∙ ap (λ (x : Bool). x || has_name (plain theirs) named.name) a.0
-    ∙ apart named.name (or_left _ _ (same_name-refl named.name)))

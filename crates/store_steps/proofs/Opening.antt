@@ -9,11 +9,12 @@ use Rattle.store_core.specs.declared.view.Named.{Named}
 use Rattle.store_core.specs.declared.view.SeatView.{SeatView}
 use Rattle.store_core.specs.Masks.{has_bit}
 use Rattle.store_core.specs.Names.{Name}
+use Rattle.store_core.specs.Orders.{AreInOrder}
 use Rattle.store_core.specs.States.{empty}
 use Rattle.store_core.specs.Views.{names_of}
 use Rattle.store_steps.specs.Grips.{opening_view}
 use Rattle.store_steps.specs.Layout.{claim_place, length_place, parent_claim_place, parent_held_place, word_count}
-use Rattle.store_steps.specs.Rule.{AreDistinct, Fits, FitsParents, HasView, IsKept, IsNamed, StandFor}
+use Rattle.store_steps.specs.Rule.{Fits, FitsParents, HasView, IsKept, IsNamed, StandFor}
 use Rattle.store_steps.proofs.Bits.{has_bit-zero}
 use Rattle.store_steps.proofs.Lists.{one_part}
 
@@ -64,8 +65,8 @@ opens fixed = record {
     owned = λ seat part view h name ours. let is = the_view fixed seat part view h in λ i. (sym is.0 i, sym is.1 i);
     named = λ seat part view h.
         subst (λ (v : SeatView). 0 < length v.names) (sym (the_view fixed seat part view h).2) (omega arith);
-    distinct = λ seat part view h.
-        subst (λ (v : SeatView). AreDistinct (names_of v)) (sym (the_view fixed seat part view h).2) (refl, tt);
+    ordered = λ seat part view h.
+        subst (λ (v : SeatView). AreInOrder (names_of v)) (sym (the_view fixed seat part view h).2) (tt, tt);
     new_to_views = λ one other a b later.
         let name : other.name ≡ [] = ap (λ (n : Named). n.name) (the_name fixed other b) in
         let base : one.name ≡ [] = ap (λ (n : Named). n.name) (the_name fixed one a) in

@@ -12,14 +12,16 @@ use Rattle.store_core.specs.declared.view.Named.{Named}
 use Rattle.store_core.specs.declared.view.SeatView.{SeatView}
 use Rattle.store_core.specs.Histories.{AreOfOthers, IsLegal, events_of, is_by, state_after}
 use Rattle.store_core.specs.Names.{Name, has_name, same_name}
+use Rattle.store_core.specs.Orders.{AreInOrder}
 use Rattle.store_core.specs.States.{claims, empty}
 use Rattle.store_core.specs.Views.{names_of, split_first, split_second}
 use Rattle.store_core.proofs.Joining.{plain, split_keeps}
 use Rattle.store_core.proofs.Lasting.{claims_from, legal-append}
+use Rattle.store_core.proofs.Ordering.{split_keeps_order}
 use Rattle.store_core.proofs.Tells.{same_name-true, same_name-refl}
 use Rattle.store_steps.specs.Layout.{cell_at}
 use Rattle.store_steps.specs.Parts.{ArePartsOf}
-use Rattle.store_steps.specs.Rule.{AreDistinct, Fits, FitsParents, HasView, IsKept, IsLater, IsNamed}
+use Rattle.store_steps.specs.Rule.{Fits, FitsParents, HasView, IsKept, IsLater, IsNamed}
 use Rattle.atomic_table.specs.Table.{Splits}
 use Rattle.store_steps.specs.Grips.{first_of}
 use Rattle.store_steps.specs.Plays.{Parts}
@@ -73,6 +75,9 @@ module _ (fixed : Fixed) (s : Table Unit (List SeatView)) (k : IsKept fixed s) (
   seen_legal : IsLegal fixed view.seen
   seen_legal = (legal-append fixed empty view.seen fits.continues.between (subst (λ (h : List Event). IsLegal fixed h) fits.continues.is k.legal)).0
 
+  both_ordered : AreInOrder (names_of (split_first view)) × AreInOrder (names_of (split_second view))
+  both_ordered = split_keeps_order view (k.names.ordered id 0 view here)
+
   pub parts_told : ArePartsOf view (split_first view) (split_second view)
   parts_told = record {
     first_is = refl;
@@ -112,7 +117,7 @@ module _ (fixed : Fixed) (s : Table Unit (List SeatView)) (k : IsKept fixed s) (
 
   entry_in : (one : Named) (i j : ℕ) (v : SeatView) → Found i j v → Contains v.names one → Entry one
   entry_in one i j v (is_first _ _ _ p q is) among =
-      elim (raised_cases view.names (k.names.distinct id 0 view here) one (subst (λ (u : SeatView). Contains u.names one) is among)) [
+      elim (raised_cases view.names (k.names.ordered id 0 view here) one (subst (λ (u : SeatView). Contains u.names one) is among)) [
         | inl first ↦ is_raised one first
         | inr rest ↦ is_old one (record { seat = id; part = 0; view = view; has = here; among = rest.0 }) rest.1
       ]
@@ -194,12 +199,10 @@ module _ (fixed : Fixed) (s : Table Unit (List SeatView)) (k : IsKept fixed s) (
       subst (λ (u : SeatView). 0 < length u.names) (sym is) (subst (λ (ns : List Named). 0 < length ns) (sym (new_names-are view.names some_names)) (omega arith))
   named_in i j v (is_other _ _ _ differ h) = k.names.named i j v h
 
-  distinct_in : (i j : ℕ) (v : SeatView) → Found i j v → AreDistinct (names_of v)
-  distinct_in i j v (is_first _ _ _ p q is) =
-      subst (λ (u : SeatView). AreDistinct (names_of u)) (sym is) (subst (λ (ns : List Name). AreDistinct ns) (sym (split_keeps view)) (k.names.distinct id 0 view here))
-  distinct_in i j v (is_second _ _ _ p q is) =
-      subst (λ (u : SeatView). AreDistinct (names_of u)) (sym is) (subst (λ (ns : List Name). AreDistinct ns) (sym new_name) (refl, tt))
-  distinct_in i j v (is_other _ _ _ differ h) = k.names.distinct i j v h
+  ordered_in : (i j : ℕ) (v : SeatView) → Found i j v → AreInOrder (names_of v)
+  ordered_in i j v (is_first _ _ _ p q is) = subst (λ (u : SeatView). AreInOrder (names_of u)) (sym is) both_ordered.0
+  ordered_in i j v (is_second _ _ _ p q is) = subst (λ (u : SeatView). AreInOrder (names_of u)) (sym is) both_ordered.1
+  ordered_in i j v (is_other _ _ _ differ h) = k.names.ordered i j v h
 
   first_fits : Fits fixed k.history s.words (split_first view)
   first_fits = record {
@@ -245,7 +248,7 @@ module _ (fixed : Fixed) (s : Table Unit (List SeatView)) (k : IsKept fixed s) (
     owner = owner;
     owned = λ i j v h. owned_in i j v (found i j v h);
     named = λ i j v h. named_in i j v (found i j v h);
-    distinct = λ i j v h. distinct_in i j v (found i j v h);
+    ordered = λ i j v h. ordered_in i j v (found i j v h);
     new_to_views = λ one other a b. never_later one other (entry_of_later one a) (entry_of_later other b);
     new_to_calls = λ one is name l.
         let o = older one (entry_of_later one is) in k.names.new_to_calls o.old o.is name (o.later_too name l);

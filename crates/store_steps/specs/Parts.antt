@@ -1,5 +1,5 @@
 -- How seats part, merge and meet.
-use Rattle.std.specs.Prelude.{◌≡◌, ℕ, false, List}
+use Rattle.std.specs.Prelude.{◌≡◌, ℕ, false, true, List}
 use Rattle.store_core.specs.declared.history.Event.{Event}
 use Rattle.store_core.specs.declared.view.SeatView.{SeatView}
 use Rattle.store_core.specs.Histories.{AreOfOthers, IsLegal}
@@ -20,6 +20,14 @@ pub record IsMerged (first second merged : SeatView) : Type 0 where
   pub apart : share_name (names_of first) (names_of second) ≡ false
   pub joined : IsJoined first second merged
   pub legal : IsLegal merged.fixed merged.seen
+
+-- no chunk is claimed by both
+abbrev pub NoneIsClaimedByBoth : SeatView → SeatView → Type 0
+NoneIsClaimedByBoth first second = (c : ℕ) → seat_claims first c ≡ true → seat_claims second c ≡ false
+
+-- a seat claims what it claimed before
+abbrev pub KeepsClaims : SeatView → SeatView → Type 0
+KeepsClaims old new = (c : ℕ) → seat_claims new c ≡ seat_claims old c
 
 -- Both have seen one legal history, which begins with all that each had seen, and of each one's calls it has no other.
 -- Nothing else changes. They have no name in common, so none of their claims overlap.

@@ -1,5 +1,5 @@
 -- The rule over the words of a store and all seats' views, which each step keeps.
-use Rattle.std.specs.Prelude.{◌≡◌, ℕ, ◌+◌, ◌*◌, ◌/◌, ◌%◌, ◌<◌, true, false, ◌||◌, List, [], ◌∷◌, ◌++◌, length, Option, None, Some, is_some, Contains}
+use Rattle.std.specs.Prelude.{◌≡◌, ℕ, ◌+◌, ◌*◌, ◌/◌, ◌%◌, ◌<◌, true, ◌||◌, List, [], ◌∷◌, ◌++◌, length, Option, None, Some, is_some, Contains}
 use mathlib.Core.Option.{some}
 use lib.ListN.{get_elem?}
 use Rattle.atomic_table.specs.Table.{State as Table}
@@ -12,6 +12,7 @@ use Rattle.store_core.specs.Histories.{AreOfOthers, IsLegal, state_after}
 use Rattle.store_core.specs.Machine.{groups}
 use Rattle.store_core.specs.Masks.{has_bit}
 use Rattle.store_core.specs.Names.{Name, has_name}
+use Rattle.store_core.specs.Orders.{AreInOrder}
 use Rattle.store_core.specs.States.{State, claims, is_claimed, is_held}
 use Rattle.store_core.specs.Views.{Continues, is_storing, names_of, stored}
 use Rattle.store_steps.specs.Layout.{cell_at, claim_word, held_word, length_code, length_word, parent_at, parent_claim_word, parent_held_word, parent_word, word_count}
@@ -85,19 +86,14 @@ pub record IsLater (named : Named) (name : Name) : Type 0 where
   pub rest : Name
   pub is : name ≡ named.name ++ (named.splits + number) ∷ rest
 
--- no name stands twice
-abbrev pub AreDistinct : List Name → Type 0
-AreDistinct [] = Unit {0}
-AreDistinct (name ∷ names) = (has_name names name ≡ false) × AreDistinct names
-
--- Each view has a name, and each name one view: its owner is the place of that view. No name that a later split gives
--- is another view's or has called.
+-- Each view has a name, and its names stand in dictionary order, each once. Each name has one view: its owner is the place
+-- of that view. No name that a later split gives is another view's or has called.
 pub record AreApart (views : List (List SeatView)) (history : List Event) : Type 0 where
   pub owner : Name → ℕ × ℕ
   pub owned : (seat part : ℕ) (view : SeatView) → HasView views seat part view → (name : Name) → has_name (names_of view) name ≡ true
       → owner name ≡ (seat, part)
   pub named : (seat part : ℕ) (view : SeatView) → HasView views seat part view → 0 < length view.names
-  pub distinct : (seat part : ℕ) (view : SeatView) → HasView views seat part view → AreDistinct (names_of view)
+  pub ordered : (seat part : ℕ) (view : SeatView) → HasView views seat part view → AreInOrder (names_of view)
   pub new_to_views : (one other : Named) → IsNamed views one → IsNamed views other → IsLater one other.name → ⊥
   pub new_to_calls : (named : Named) → IsNamed views named → (name : Name) → IsLater named name → AreOfOthers (name ∷ []) history
 

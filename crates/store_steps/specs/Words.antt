@@ -3,6 +3,8 @@ use Rattle.std.specs.Prelude.{◌≡◌, ℕ, ◌<◌}
 use Rattle.store_core.specs.declared.fixed.Fixed.{Fixed}
 use Rattle.store_core.specs.Histories.{IsLegal}
 use Rattle.store_core.specs.Machine.{groups}
+use Rattle.store_core.specs.Orders.{AreInOrder}
+use Rattle.store_core.specs.Views.{names_of}
 use Rattle.store_steps.specs.declared.words.Words.{Words}
 use Rattle.store_steps.specs.Grips.{Gripped}
 
@@ -10,11 +12,13 @@ use Rattle.store_steps.specs.Grips.{Gripped}
 abbrev pub fixed_of : Words → Fixed
 fixed_of words = words.fixed
 
--- The grip is a seat of these words: it sees their store, and what it has seen is a legal history of it.
+-- The grip is a seat of these words: it sees their store, and what it has seen is a legal history of it. Its names stand in
+-- dictionary order, each once.
 pub record IsOf (words : Words) (grip : Gripped) : Type 0 where
   pub table_is : grip.table_id ≡ words.table.shared.table_id
   pub fixed_is : grip.view.fixed ≡ words.fixed
   pub legal : IsLegal grip.view.fixed grip.view.seen
+  pub ordered : AreInOrder (names_of grip.view)
 
 -- there is such a group
 abbrev pub HasGroup : Words → ℕ → Type 0

@@ -3,6 +3,8 @@ use Rattle.atomic_table.specs.Table.{Me}
 use Rattle.store_core.specs.declared.fixed.Fixed.{Fixed}
 use Rattle.store_core.specs.declared.view.SeatView.{SeatView}
 use Rattle.store_core.specs.Histories.{IsLegal}
+use Rattle.store_core.specs.Orders.{AreInOrder}
+use Rattle.store_core.specs.Views.{names_of}
 use Rattle.store_steps.specs.Grips.{Gripped, first_of}
 use Rattle.store_steps.specs.Parts.{AreMet}
 use Rattle.store_steps.specs.Plays.{Meets, rest_of}
@@ -137,6 +139,7 @@ returns-clause-first c =
       table_is = c.split_seat.ensures.0 ∙ c.load.ensures.0 ∙ c.join_seat.ensures.0 ∙ ap (λ (x : Gripped). x.table_id) c.first.view_is ∙ c.requires.first.table_is;
       fixed_is = ap (λ (v : SeatView). v.fixed) m.first_is ∙ c.requires.first.fixed_is;
       legal = subst (λ (v : SeatView). IsLegal v.fixed v.seen) (sym m.first_is) m.legal;
+      ordered = subst (λ (v : SeatView). AreInOrder (names_of v)) (sym m.first_is) c.requires.first.ordered;
     }
 
 pub returns-clause-second : goal.returns-clause-second
@@ -149,4 +152,5 @@ returns-clause-second c =
       table_is = c.split_seat.ensures.3 ∙ c.load.ensures.0 ∙ c.join_seat.ensures.0 ∙ ap (λ (x : Gripped). x.table_id) c.first.view_is ∙ c.requires.first.table_is;
       fixed_is = ap (λ (v : SeatView). v.fixed) m.second_is ∙ c.requires.second.fixed_is;
       legal = subst (λ (v : SeatView). IsLegal v.fixed v.seen) (sym m.second_is) (subst (λ (f : Fixed). IsLegal f m.history) same m.legal);
+      ordered = subst (λ (v : SeatView). AreInOrder (names_of v)) (sym m.second_is) c.requires.second.ordered;
     }

@@ -1,6 +1,7 @@
 use Rattle.std.proofs.Common.{◌≡◌, List, [], ◌∷◌, sym, ap, subst, ◌∙◌, arith}
 use Rattle.atomic_table.specs.Table.{Me}
 use Rattle.store_core.specs.declared.view.SeatView.{SeatView}
+use Rattle.store_core.proofs.Ordering.{join_keeps_order}
 use Rattle.store_steps.specs.Grips.{Gripped, first_of}
 use Rattle.store_steps.specs.Parts.{IsMerged}
 use Rattle.store_steps.specs.Plays.{Merges}
@@ -69,4 +70,5 @@ returns-clause-of c =
       table_is = c.load.ensures.0 ∙ c.join_seat.ensures.0 ∙ ap (λ (x : Gripped). x.table_id) c.first.view_is ∙ c.requires.first.table_is;
       fixed_is = m.joined.fixed_first ∙ c.requires.first.fixed_is;
       legal = m.legal;
+      ordered = join_keeps_order c.args.first.view c.args.second.view (first_of c.load.new.seat.me.0) m.joined m.apart c.requires.first.ordered c.requires.second.ordered;
     }
