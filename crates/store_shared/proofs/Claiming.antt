@@ -1,6 +1,6 @@
 -- The claims that a seat keeps stay those of its view.
 use Rattle.std.proofs.Common.{◌≡◌, ◌≢◌, ℕ, ◌/◌, ◌%◌, ◌^◌, ◌+◌, ◌<◌, ◌≤◌, ◌==◌, Bool, true, false, not, ◌&&◌, ◌||◌, List, [], ◌++◌, length, replicate, set, slice_index, refl, sym, ap, subst, ◌∙◌, arith, inl, inr, eq-eqb, ne_eqb}
-use Rattle.std.proofs.lemmas.Bool.{both_ways, cases_eq}
+use Rattle.std.proofs.lemmas.Bool.{both_ways, cases_eq, false_from_ne_true}
 use Rattle.std.proofs.lemmas.List.{get_or-replicate, length-replicate, length-set}
 use Rattle.std.specs.Int.{w64, bit_not}
 use Rattle.std.specs.Int.Bits.{bit_and, bit_or}
@@ -15,11 +15,12 @@ use Rattle.store_core.specs.Histories.{state_after}
 use Rattle.store_core.specs.Names.{Name}
 use Rattle.store_core.specs.States.{claims}
 use Rattle.store_core.specs.Stores.{ChunksBind}
-use Rattle.store_core.specs.Views.{seat_claims, split_first}
+use Rattle.store_core.specs.Views.{names_of, seat_claims, split_first}
 use Rattle.store_core.proofs.Joining.{claims_continued, join_keeps, split_keeps}
+use Rattle.store_core.proofs.Tells.{claims_apart}
 use Rattle.store_steps.specs.Asks.{AreClaimed}
 use Rattle.store_steps.specs.Grips.{opening_view}
-use Rattle.store_steps.specs.Parts.{AreMet, ArePartsOf, IsMerged}
+use Rattle.store_steps.specs.Parts.{AreMet, ArePartsOf, IsMerged, KeepsClaims, NoneIsClaimedByBoth}
 use Rattle.store_steps.specs.Tells.{Did}
 use Rattle.store_steps.proofs.Bits.{and_small, has_bit-and, has_bit-not, has_bit-or, has_bit-zero}
 use Rattle.store_steps.proofs.Standing.{left, put}
@@ -91,17 +92,39 @@ claims_same old new words kept same storing claimed =
       idle = storing ∙ kept.idle;
     }
 
+-- A seat that met another claims what it claimed.
+pub met_keeps_first : (first second new_first new_second : SeatView) → AreMet first second new_first new_second → KeepsClaims first new_first
+met_keeps_first first second new_first new_second met =
+    subst (λ (v : SeatView). KeepsClaims first v) (sym met.first_is) (λ c. claims_continued first.fixed first met.history met.after_first met.legal c)
+
+pub met_keeps_second : (first second new_first new_second : SeatView) → AreMet first second new_first new_second → KeepsClaims second new_second
+met_keeps_second first second new_first new_second met =
+    subst (λ (v : SeatView). KeepsClaims second v) (sym met.second_is) (λ c. claims_continued first.fixed second met.history met.after_second met.legal c)
+
+-- Both have seen one history, and have no name in common.
+pub met_apart : (first second new_first new_second : SeatView) → AreMet first second new_first new_second → NoneIsClaimedByBoth new_first new_second
+met_apart first second new_first new_second met =
+    subst (λ (v : SeatView). NoneIsClaimedByBoth v new_second) (sym met.first_is)
+    (subst (λ (v : SeatView). NoneIsClaimedByBoth (record first { seen = met.history }) v) (sym met.second_is)
+    (λ c mine. false_from_ne_true _ (λ theirs.
+    both_ways _ (claims_apart (state_after met.history) (names_of first) (names_of second) c met.apart theirs) mine)))
+
+pub were_apart : (first second new_first new_second : SeatView) → AreMet first second new_first new_second → NoneIsClaimedByBoth first second
+were_apart first second new_first new_second met c mine =
+    sym (met_keeps_second first second new_first new_second met c)
+    ∙ met_apart first second new_first new_second met c (met_keeps_first first second new_first new_second met c ∙ mine)
+
 pub met_first : (first second new_first new_second : SeatView) (words : List ℕ) → AreClaims first words → AreMet first second new_first new_second
     → AreClaims new_first words
 met_first first second new_first new_second words kept met =
-    subst (λ (v : SeatView). AreClaims v words) (sym met.first_is)
-    (claims_same first (record first { seen = met.history }) words kept refl refl (λ c. claims_continued first.fixed first met.history met.after_first met.legal c))
+    claims_same first new_first words kept (ap (λ (v : SeatView). v.fixed) met.first_is) (ap (λ (v : SeatView). v.storing) met.first_is)
+    (met_keeps_first first second new_first new_second met)
 
 pub met_second : (first second new_first new_second : SeatView) (words : List ℕ) → AreClaims second words → AreMet first second new_first new_second
     → AreClaims new_second words
 met_second first second new_first new_second words kept met =
-    subst (λ (v : SeatView). AreClaims v words) (sym met.second_is)
-    (claims_same second (record second { seen = met.history }) words kept refl refl (λ c. claims_continued first.fixed second met.history met.after_second met.legal c))
+    claims_same second new_second words kept (ap (λ (v : SeatView). v.fixed) met.second_is) (ap (λ (v : SeatView). v.storing) met.second_is)
+    (met_keeps_second first second new_first new_second met)
 
 pub part_first : (old first second : SeatView) (words : List ℕ) → AreClaims old words → ArePartsOf old first second → AreClaims first words
 part_first old first second words kept parts =

@@ -42,7 +42,7 @@ impl Assembly {
     ghost use Rattle.store_shared.specs.Calls.{IsUnstored, Settles};
     ghost use Rattle.store_shared.specs.Seats.{HasGroup, IsSeatOf, fixed_of};
     ghost use Rattle.store_steps.specs.Grips.{opening_view};
-    ghost use Rattle.store_steps.specs.Parts.{AreMet, ArePartsOf, IsMerged};
+    ghost use Rattle.store_steps.specs.Parts.{AreMet, ArePartsOf, IsMerged, KeepsClaims, NoneIsClaimedByBoth};
     ghost use Rattle.store_steps.specs.Tells.{Called};
 
     /// A store that holds, claims and records nothing, and its first seat, which has seen nothing. `capacity` is a number
@@ -145,13 +145,16 @@ impl Assembly {
     }
 
     /// Lets two seats meet: afterwards both have seen one history, which begins with what each had seen. Their calls and
-    /// claims stay as they are. It takes no memory.
+    /// claims stay as they are, and no chunk is claimed by both. It takes no memory.
     pub fn meet(&self, first: &mut Seat, second: &mut Seat)
         requires first { IsSeatOf self.now first.old }
         requires second { IsSeatOf self.now second.old }
         ensures first { IsSeatOf self.now first.new }
         ensures second { IsSeatOf self.now second.new }
         ensures met { AreMet first.old.view second.old.view first.new.view second.new.view }
+        ensures claims { KeepsClaims first.old.view first.new.view × KeepsClaims second.old.view second.new.view }
+        ensures apart { NoneIsClaimedByBoth first.new.view second.new.view }
+        ensures were_apart { NoneIsClaimedByBoth first.old.view second.old.view }
     {
         self.words.meet(&mut first.grip, &mut second.grip);
     }

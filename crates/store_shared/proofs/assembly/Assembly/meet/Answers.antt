@@ -1,4 +1,7 @@
-use Rattle.store_shared.proofs.Claiming.{met_first, met_second}
+use Rattle.std.proofs.Common.{subst}
+use Rattle.store_steps.specs.Grips.{Gripped}
+use Rattle.store_steps.specs.Parts.{AreMet}
+use Rattle.store_shared.proofs.Claiming.{met_apart, met_first, met_keeps_first, met_keeps_second, met_second, were_apart}
 use Rattle.store_shared.proofs.assembly.Assembly.meet.Goals as goal
 
 pub invariant_of-first : goal.invariant_of-first
@@ -6,3 +9,21 @@ invariant_of-first c = met_first _ _ _ _ _ c.first.invariant c.meet.ensures.met
 
 pub invariant_of-second : goal.invariant_of-second
 invariant_of-second c = met_second _ _ _ _ _ c.second.invariant c.meet.ensures.met
+
+pub returns-clause-met : goal.returns-clause-met
+returns-clause-met c =
+    subst (λ (x : Gripped). AreMet x.view c.args.second.now.view c.meet.new.first.view c.meet.new.second.view) c.first.view_is
+    (subst (λ (x : Gripped). AreMet c.first.inside.grip.view x.view c.meet.new.first.view c.meet.new.second.view) c.second.view_is c.meet.ensures.met)
+
+pub returns-clause-claims : goal.returns-clause-claims
+returns-clause-claims c =
+    let met : AreMet c.args.first.now.view c.args.second.now.view c.meet.new.first.view c.meet.new.second.view = returns-clause-met c in (
+      met_keeps_first c.args.first.now.view c.args.second.now.view c.meet.new.first.view c.meet.new.second.view met,
+      met_keeps_second c.args.first.now.view c.args.second.now.view c.meet.new.first.view c.meet.new.second.view met,
+    )
+
+pub returns-clause-apart : goal.returns-clause-apart
+returns-clause-apart c = met_apart c.args.first.now.view c.args.second.now.view c.meet.new.first.view c.meet.new.second.view (returns-clause-met c)
+
+pub returns-clause-were_apart : goal.returns-clause-were_apart
+returns-clause-were_apart c = were_apart c.args.first.now.view c.args.second.now.view c.meet.new.first.view c.meet.new.second.view (returns-clause-met c)
