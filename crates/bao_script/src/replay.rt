@@ -21,6 +21,10 @@ use store_core::{ReplayFault, replay};
 /// are accepted the first step runs. `Refused` (501 to 503) is of the first line whose slice isn't accepted. After that
 /// `Capacity` (802) comes where the capacity isn't 1 to 65,536 chunks, and `Illegal` (702) with the line of the first
 /// step that isn't legal. Memory that a slice (401), the schedule (701) or the text found none of is a fault of its own.
+///
+/// For each blob with the hash `root`, each chunk that is held at the end is the blob's chunk of that number, and a recorded
+/// length is the blob's; or two different inputs with one chaining value are named, one of the blob's and one of a piece's
+/// that a line names.
 pub fn replay_script(
     alloc: Global,
     root: Hash,

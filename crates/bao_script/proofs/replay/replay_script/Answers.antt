@@ -3,7 +3,7 @@ use Rattle.b3tree.specs.declared.mode.Mode.{Mode}
 use Rattle.bao_check.specs.declared.checked.Checked.{Checked}
 use Rattle.store_core.specs.declared.fixed.Fixed.{Fixed}
 use Rattle.store_core.specs.declared.micro.MicroStep.{MicroStep}
-use Rattle.store_core.specs.Replays.{IsIllegalAt, IsReplayed}
+use Rattle.store_core.specs.Replays.{IsIllegalAt, IsReplayed, ReplayBinds}
 use Rattle.bao_script.proofs.Exits.{passed_on}
 use Rattle.bao_script.proofs.Printing.{printed, stopped}
 use Rattle.bao_script.specs.declared.fault.ReplayScriptFault.TheVariants.{Capacity, Illegal}
@@ -48,14 +48,17 @@ returns-in-Ok-clause-printed c =
     lines c.in_ok-slices.ensures.ok c.as_slice.ensures.value c.as_slice-2.ensures.value c.in_ok-pieces.ensures.pieces
     in
     let P : List MicroStep → Type 0 = λ steps. IsReplayed fixed c.as_slice-2.result.now steps c.in-Ok.replies.items c.in-Ok.store in
-    let replayed = subst P (c.as_slice-3.ensures.value ∙ c.in_ok-steps.ensures ∙ ap (marked_steps 0) lines) c.in-Ok.ensures.ok in
+    let Q : List MicroStep → Type 0 = λ steps. ReplayBinds fixed c.as_slice-2.result.now steps c.in-Ok.replies.items c.in-Ok.store in
+    let steps = c.as_slice-3.ensures.value ∙ c.in_ok-steps.ensures ∙ ap (marked_steps 0) lines in
+    let replayed = subst P steps c.in-Ok.ensures.ok in
+    let binds = subst Q steps c.in-Ok.ensures.binds in
     let text : c.into_bytes.result.items ≡ answers_text (answers_of c.args.script.now c.in-Ok.replies.items) ++ held_line c.held_count.result =
     ap (λ v. v.items) c.into_bytes.ensures.value ∙ c.in_ok-text-in-Ok.ensures
     ∙ ap (λ all. answers_text (answers_of all c.as_slice-in-Ok.result.now) ++ held_line c.held_count.result) lines
     ∙ ap (λ replies. answers_text (answers_of c.args.script.now replies) ++ held_line c.held_count.result) c.as_slice-in-Ok.ensures.value
     in
     printed fixed files c.args.script.now c.as_slice-2.result.now c.in-Ok.replies.items c.in-Ok.store c.held_count.result c.into_bytes.result.items
-    pieces replayed c.held_count.ensures text
+    pieces replayed binds c.held_count.ensures text
 
 pub returns-in-Err-Illegal-clause-illegal : goal.returns-in-Err-Illegal-clause-illegal
 returns-in-Err-Illegal-clause-illegal c number h =
