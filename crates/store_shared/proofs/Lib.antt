@@ -1,3 +1,4 @@
 pub mod Claiming
 pub mod Asking
 pub mod Mirroring
+pub mod Uniting

@@ -1,43 +1,86 @@
 -- The one-thread store as the partner of a shared one.
-use Rattle.std.specs.Prelude.{◌≡◌, ℕ, ◌==◌, true, List, [], ◌∷◌, map, Some, option_map}
+use Rattle.std.specs.Prelude.{◌≡◌, ◌≢◌, ℕ, zero, suc, ◌-◌, ◌/◌, ◌^◌, ◌==◌, true, ◌&&◌, ◌||◌, if◌then◌else◌, List, [], ◌∷◌, map, Some, option_map}
 use Rattle.store_core.specs.declared.fixed.Fixed.{Fixed}
 use Rattle.store_core.specs.declared.history.Call.{Call}
+use Rattle.store_core.specs.declared.history.Call.TheVariants.{Give, Take}
 use Rattle.store_core.specs.declared.history.Event.{Event}
 use Rattle.store_core.specs.declared.store.Store.{Store}
 use Rattle.store_core.specs.Events.{after}
-use Rattle.store_core.specs.Histories.{IsLegal}
+use Rattle.store_core.specs.Histories.{IsLegal, state_after}
 use Rattle.store_core.specs.Laws.{is_partial, question}
+use Rattle.store_core.specs.Machine.{groups}
 use Rattle.store_core.specs.Names.{Name, has_name, least_name}
 use Rattle.store_core.specs.Slots.{caller}
 use Rattle.store_core.specs.States.{State, empty}
 use Rattle.store_core.specs.Stores.{IsEvent, IsNew}
 
--- a call of a seat of the one-thread store, with its reply
-pub record SeatCall : Type 0 where
-  pub seat : ℕ
-  pub call : Call
+-- What is asked of a one-thread store: a call of a seat, with its reply; or that a seat's claims of a group move to
+-- another seat, which from then on counts for both.
+pub data Asked : Type 0 where
+  calls : (seat : ℕ) (call : Call) → Asked
+  moves : (group from to : ℕ) → Asked
 
--- the one-thread store answers the calls, one after another
-abbrev pub Answers : Store → List SeatCall → Type 0
+-- The store answers, one after another. Claims move by two calls: the one seat gives all that it has of the group, and
+-- the other takes it.
+abbrev pub Answers : Store → List Asked → Type 0
 Answers store [] = Unit {0}
-Answers store (made ∷ calls) = (next : Store) × IsEvent store next (caller made.seat) made.call × Answers next calls
+Answers store (calls seat call ∷ rest) = (next : Store) × IsEvent store next (caller seat) call × Answers next rest
+Answers store (moves group from to ∷ rest) =
+    (given : ℕ) × (taken : ℕ) × (middle : Store) × (next : Store)
+    × IsEvent store middle (caller from) (Give group (2 ^ 64 - 1) given) × IsEvent middle next (caller to) (Take group given taken)
+    × Answers next rest
 
--- By a numbering of names a caller is a seat: its least name has the seat's number, and of the names that claim chunks
--- exactly its own have it.
-pub record IsSeat (number : Name → ℕ) (s : State) (who : List Name) (seat : ℕ) : Type 0 where
-  pub least : option_map number (least_name who) ≡ Some seat
-  pub own : (c : ℕ) (name : Name) → s.claim c ≡ Some name → has_name who name ≡ (number name == seat)
+-- A numbering says which seat of the one-thread store a name stands for, at a chunk: that may differ while claims move.
+abbrev pub Numbering : Type 0
+Numbering = ℕ → Name → ℕ
 
--- the calls are those that the events answer, in their order and by their callers; where a reply may tell of a part, it is that part
-abbrev pub AskTheSame : (Name → ℕ) → State → List Event → List SeatCall → Type 0
-AskTheSame number s [] [] = Unit {0}
-AskTheSame number s [] (made ∷ calls) = ⊥
-AskTheSame number s (e ∷ events) [] = ⊥
-AskTheSame number s (e ∷ events) (made ∷ calls) =
-    IsSeat number s e.who made.seat × (question made.call ≡ question e.call) × (is_partial e.call ≡ true → made.call ≡ e.call) × AskTheSame number (after s e) events calls
+-- the numbering after claims of a group moved
+abbrev pub moved : Numbering → ℕ → ℕ → ℕ → Numbering
+moved number group from to c name = if (c / 64 == group) && (number c name == from) then to else number c name
+
+-- By a numbering a caller is a seat: its least name has the seat's number at each chunk, and of the names that claim
+-- chunks exactly its own have it there.
+pub record IsSeat (number : Numbering) (s : State) (who : List Name) (seat : ℕ) : Type 0 where
+  pub least : (c : ℕ) → option_map (number c) (least_name who) ≡ Some seat
+  pub own : (c : ℕ) (name : Name) → s.claim c ≡ Some name → has_name who name ≡ (number c name == seat)
+
+-- The calls are those that the events answer, in their order and by their callers; where a reply may tell of a part, it is
+-- that part. Claims that move change the numbering alone: so the claims of a seat that was joined with another move to
+-- that before the two call as one.
+abbrev pub AskTheSame : Numbering → State → List Event → List Asked → Type 0
+AskTheSame number s events [] = events ≡ []
+AskTheSame number s events (calls seat call ∷ rest) =
+    (e : Event) × (later : List Event) × (events ≡ e ∷ later) × IsSeat number s e.who seat × (question call ≡ question e.call)
+    × (is_partial e.call ≡ true → call ≡ e.call) × AskTheSame number (after s e) later rest
+AskTheSame number s events (moves group from to ∷ rest) = AskTheSame (moved number group from to) s events rest
+
+-- the calls with their replies
+abbrev pub calls_in : List Asked → List Call
+calls_in [] = []
+calls_in (calls seat call ∷ rest) = call ∷ calls_in rest
+calls_in (moves group from to ∷ rest) = calls_in rest
 
 -- Served with the calls of a legal history in its order, a new one-thread store gives the history's replies.
 abbrev pub RepliesAreTheStores : Type 0
-RepliesAreTheStores = (fixed : Fixed) (history : List Event) (number : Name → ℕ) (store : Store) (calls : List SeatCall) → IsLegal fixed history
-    → IsNew store fixed.root fixed.mode fixed.capacity → AskTheSame number empty history calls → Answers store calls
-    → map (λ made. made.call) calls ≡ map (λ e. e.call) history
+RepliesAreTheStores = (fixed : Fixed) (history : List Event) (number : Name → ℕ) (store : Store) (asked : List Asked) → IsLegal fixed history
+    → IsNew store fixed.root fixed.mode fixed.capacity → AskTheSame (λ c. number) empty history asked → Answers store asked
+    → calls_in asked ≡ map (λ e. e.call) history
+
+-- the numbering after the claims of all groups below n moved
+abbrev pub all_moved : Numbering → ℕ → ℕ → ℕ → Numbering
+all_moved number zero from to = number
+all_moved number (suc n) from to = moved (all_moved number n from to) n from to
+
+-- A joined seat counts as one: where two callers are two seats, and the claims of the one moved to the other, a caller with
+-- the names of both is that other seat. Its least name is one of that seat's.
+abbrev pub JoinedCountsAsOne : Type 0
+JoinedCountsAsOne = (fixed : Fixed) (history : List Event) (number : Numbering) (ours theirs joined : List Name) (seat other : ℕ) → IsLegal fixed history
+    → IsSeat number (state_after history) ours seat → IsSeat number (state_after history) theirs other → seat ≢ other
+    → ((name : Name) → has_name joined name ≡ (has_name ours name || has_name theirs name)) → least_name joined ≡ least_name ours
+    → IsSeat (all_moved number (groups fixed) other seat) (state_after history) joined seat
+
+-- All other callers are the seats that they were.
+abbrev pub OthersCountAsBefore : Type 0
+OthersCountAsBefore = (fixed : Fixed) (history : List Event) (number : Numbering) (who : List Name) (seat other own : ℕ) → IsLegal fixed history
+    → IsSeat number (state_after history) who own → own ≢ seat → own ≢ other
+    → IsSeat (all_moved number (groups fixed) other seat) (state_after history) who own
