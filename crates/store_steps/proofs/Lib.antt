@@ -32,3 +32,5 @@ pub mod ParentClaims
 pub mod ParentStoring
 pub mod ParentPublishing
 pub mod ParentLooking
+pub mod Renaming
+pub mod JoinedSeats

@@ -98,7 +98,7 @@ module _ (fixed : Fixed) (s : Table Unit (List SeatView)) (k : IsKept fixed s) (
       let never : 0 ≡ 1 = ap (λ (p : ℕ × ℕ). p.1) place in
       omega (arith, never)
 
-  apart : share_name (names_of one) (names_of two) ≡ false
+  pub apart : share_name (names_of one) (names_of two) ≡ false
   apart = apart_from (names_of one) (names_of two) never_both
 
   abbrev word : ℕ

@@ -61,6 +61,11 @@ stand_moved fixed words parents storer to h = record {
 abbrev pub Goes : List (List SeatView) → List (List SeatView) → (ℕ × ℕ → ℕ × ℕ) → Type 0
 Goes views later to = (seat part : ℕ) (view : SeatView) → HasView views seat part view → HasView later (to (seat, part)).0 (to (seat, part)).1 view
 
+-- the views of a table stand elsewhere in another
+pub record Regroups (views later : List (List SeatView)) (to : ℕ × ℕ → ℕ × ℕ) : Type 0 where
+  pub moved : (seat part : ℕ) (view : SeatView) → HasView later seat part view → Moved views to seat part view
+  pub goes : Goes views later to
+
 -- parents that are being stored are so by the views where these stand now
 pub parents_moved : (fixed : Fixed) (words : List ℕ) (views later : List (List SeatView)) (parents : ℕ → Option (List ℕ)) → AreParentsKept fixed words views parents → (to : ℕ × ℕ → ℕ × ℕ)
     → ((seat part : ℕ) (view : SeatView) → HasView later seat part view → Moved views to seat part view) → Goes views later to → AreParentsKept fixed words later parents
@@ -136,109 +141,136 @@ pub same_place : (i id : ℕ) (place other : ℕ × ℕ) → i ≡ id → (if i 
 same_place i id place other same = rw (eq-eqb i id same) refl
 
 -- A seat takes in another's view: it has both.
+abbrev pub join_to : ℕ → ℕ → ℕ × ℕ → ℕ × ℕ
+join_to id other p = if p.0 == other then (id, 1) else p
+
+pub joined_regroups : (views : List (List SeatView)) (id other : ℕ) (one two : SeatView)
+    → get_elem? views id ≡ some (one ∷ []) → other ≢ id → get_elem? views other ≡ some (two ∷ [])
+    → Regroups views (set (set views id (one ∷ two ∷ [])) other []) (join_to id other)
+joined_regroups views id other one two at differ two_seat =
+    let both : List (List SeatView) = set views id (one ∷ two ∷ []) in
+    let two_there : HasView views other 0 two = record { parts = two ∷ []; is_seat = two_seat; is_part = refl } in
+    record {
+      moved = (λ i j v h.
+          elim (at_other both other [] i j v h) [
+            | inl spent ↦ absurd (no_part v j spent.1)
+            | inr away ↦ elim (at_other views id (one ∷ two ∷ []) i j v away.1) [
+              | inl here ↦ elim (two_parts one two v j here.1) [
+                | inl first ↦ record {
+                  old_seat = id;
+                  old_part = 0;
+                  has = subst (λ (u : SeatView). HasView views id 0 u) (sym first.1) (record { parts = one ∷ []; is_seat = at; is_part = refl });
+                  is = other_place id other (id, 1) (id, 0) (λ e. differ (sym e)) ∙ (λ x. (sym here.0 x, sym first.0 x));
+                }
+                | inr second ↦ record {
+                  old_seat = other;
+                  old_part = 0;
+                  has = subst (λ (u : SeatView). HasView views other 0 u) (sym second.1) two_there;
+                  is = same_place other other (id, 1) (other, 0) refl ∙ (λ x. (sym here.0 x, sym second.0 x));
+                }
+              ]
+              | inr there ↦ record { old_seat = i; old_part = j; has = there.1; is = other_place i other (id, 1) (i, j) away.0 }
+            ]
+          ]);
+      goes = (λ i j v h. elim (cases_eq i other) [
+        | inl taken ↦
+            let only = one_part two v j (had views other (two ∷ []) i j v two_seat taken h) in
+            subst (λ (q : ℕ × ℕ). HasView (set both other []) q.0 q.1 v) (sym (same_place i other (id, 1) (i, j) taken))
+            (stays both other [] id 1 v (λ e. differ (sym e)) (gets views id (one ∷ []) (one ∷ two ∷ []) 1 v at (ap (λ (u : SeatView). some u) (sym only.1))))
+        | inr left ↦
+            subst (λ (q : ℕ × ℕ). HasView (set both other []) q.0 q.1 v) (sym (other_place i other (id, 1) (i, j) left))
+            (stays both other [] i j v left (elim (cases_eq i id) [
+              | inl here ↦
+                  let only = one_part one v j (had views id (one ∷ []) i j v at here h) in
+                  subst (λ (q : ℕ × ℕ). HasView both q.0 q.1 v) (λ x. (sym here x, sym only.0 x))
+                  (gets views id (one ∷ []) (one ∷ two ∷ []) 0 v at (ap (λ (u : SeatView). some u) (sym only.1)))
+              | inr away ↦ stays views id (one ∷ two ∷ []) i j v away h
+            ]))
+      ]);
+    }
+
 pub joined_kept : (fixed : Fixed) (s : Table Unit (List SeatView)) → IsKept fixed s → (id other : ℕ) (one two : SeatView)
     → get_elem? s.views id ≡ some (one ∷ []) → other ≢ id → get_elem? (set s.views id (one ∷ two ∷ [])) other ≡ some (two ∷ [])
     → IsKept fixed (record { words = s.words; homes = s.homes; views = set (set s.views id (one ∷ two ∷ [])) other [] })
 joined_kept fixed s k id other one two at differ at_two =
-    let both : List (List SeatView) = set s.views id (one ∷ two ∷ []) in
-    let to : ℕ × ℕ → ℕ × ℕ = λ p. if p.0 == other then (id, 1) else p in
-    let two_seat : get_elem? s.views other ≡ some (two ∷ []) = sym (set_else s.views id other (one ∷ two ∷ []) differ) ∙ at_two in
-    let two_there : HasView s.views other 0 two = record { parts = two ∷ []; is_seat = two_seat; is_part = refl } in
-    regroup fixed s (record { words = s.words; homes = s.homes; views = set both other [] }) refl k to (λ i j v h.
-    elim (at_other both other [] i j v h) [
-      | inl spent ↦ absurd (no_part v j spent.1)
-      | inr away ↦ elim (at_other s.views id (one ∷ two ∷ []) i j v away.1) [
-        | inl here ↦ elim (two_parts one two v j here.1) [
-          | inl first ↦ record {
-            old_seat = id;
-            old_part = 0;
-            has = subst (λ (u : SeatView). HasView s.views id 0 u) (sym first.1) (record { parts = one ∷ []; is_seat = at; is_part = refl });
-            is = other_place id other (id, 1) (id, 0) (λ e. differ (sym e)) ∙ (λ x. (sym here.0 x, sym first.0 x));
-          }
-          | inr second ↦ record {
-            old_seat = other;
-            old_part = 0;
-            has = subst (λ (u : SeatView). HasView s.views other 0 u) (sym second.1) two_there;
-            is = same_place other other (id, 1) (other, 0) refl ∙ (λ x. (sym here.0 x, sym second.0 x));
-          }
-        ]
-        | inr there ↦ record { old_seat = i; old_part = j; has = there.1; is = other_place i other (id, 1) (i, j) away.0 }
-      ]
-    ])
-    (λ i j v h. elim (cases_eq i other) [
-      | inl taken ↦
-          let only = one_part two v j (had s.views other (two ∷ []) i j v two_seat taken h) in
-          subst (λ (q : ℕ × ℕ). HasView (set both other []) q.0 q.1 v) (sym (same_place i other (id, 1) (i, j) taken))
-          (stays both other [] id 1 v (λ e. differ (sym e)) (gets s.views id (one ∷ []) (one ∷ two ∷ []) 1 v at (ap (λ (u : SeatView). some u) (sym only.1))))
-      | inr left ↦
-          subst (λ (q : ℕ × ℕ). HasView (set both other []) q.0 q.1 v) (sym (other_place i other (id, 1) (i, j) left))
-          (stays both other [] i j v left (elim (cases_eq i id) [
-            | inl here ↦
-                let only = one_part one v j (had s.views id (one ∷ []) i j v at here h) in
-                subst (λ (q : ℕ × ℕ). HasView both q.0 q.1 v) (λ x. (sym here x, sym only.0 x))
-                (gets s.views id (one ∷ []) (one ∷ two ∷ []) 0 v at (ap (λ (u : SeatView). some u) (sym only.1)))
-            | inr away ↦ stays s.views id (one ∷ two ∷ []) i j v away h
-          ]))
-    ])
+    let r = joined_regroups s.views id other one two at differ (sym (set_else s.views id other (one ∷ two ∷ []) differ) ∙ at_two) in
+    regroup fixed s (record { words = s.words; homes = s.homes; views = set (set s.views id (one ∷ two ∷ [])) other [] }) refl k (join_to id other) r.moved r.goes
 
 -- A new seat with no view comes in.
+pub entered_regroups : (views : List (List SeatView)) → Regroups views (views ++ [] ∷ []) (λ p. p)
+entered_regroups views = record {
+  moved = λ i j v h. elim (at_end views [] h.parts i h.is_seat) [
+    | inl there ↦ record { old_seat = i; old_part = j; has = record { parts = h.parts; is_seat = there; is_part = h.is_part }; is = refl }
+    | inr last ↦ absurd (no_part v j (subst (λ (ps : List SeatView). get_elem? ps j ≡ some v) (sym last.1) h.is_part))
+  ];
+  goes = λ i j v h. longer views ([] ∷ []) i j v h;
+}
+
 pub entered_kept : (fixed : Fixed) (s : Table Unit (List SeatView)) → IsKept fixed s
     → IsKept fixed (record { words = s.words; homes = s.homes; views = s.views ++ [] ∷ [] })
-entered_kept fixed s k = regroup fixed s (record { words = s.words; homes = s.homes; views = s.views ++ [] ∷ [] }) refl k (λ p. p) (λ i j v h.
-    elim (at_end s.views [] h.parts i h.is_seat) [
-      | inl there ↦ record { old_seat = i; old_part = j; has = record { parts = h.parts; is_seat = there; is_part = h.is_part }; is = refl }
-      | inr last ↦ absurd (no_part v j (subst (λ (ps : List SeatView). get_elem? ps j ≡ some v) (sym last.1) h.is_part))
-    ])
-    (λ i j v h. longer s.views ([] ∷ []) i j v h)
+entered_kept fixed s k =
+    let r = entered_regroups s.views in
+    regroup fixed s (record { words = s.words; homes = s.homes; views = s.views ++ [] ∷ [] }) refl k (λ p. p) r.moved r.goes
 
 -- A seat with two views leaves the second to a new one.
+abbrev pub leave_to : ℕ → ℕ → ℕ × ℕ → ℕ × ℕ
+leave_to id new p = if p.0 == id then (if p.1 == 0 then p else (new, 0)) else p
+
+pub left_regroups : (views : List (List SeatView)) (id : ℕ) (one two : SeatView) → get_elem? views id ≡ some (one ∷ two ∷ [])
+    → Regroups views (set views id (one ∷ []) ++ (two ∷ []) ∷ []) (leave_to id (length (set views id (one ∷ []))))
+left_regroups views id one two at =
+    let first : List (List SeatView) = set views id (one ∷ []) in
+    let to : ℕ × ℕ → ℕ × ℕ = leave_to id (length first) in
+    let seat : (j : ℕ) (v : SeatView) → get_elem? (one ∷ two ∷ []) j ≡ some v → HasView views id j v =
+    λ j v h. record { parts = one ∷ two ∷ []; is_seat = at; is_part = h } in
+    record {
+      moved = (λ i j v h.
+          elim (at_end first (two ∷ []) h.parts i h.is_seat) [
+            | inl there ↦ elim (at_other views id (one ∷ []) i j v (record { parts = h.parts; is_seat = there; is_part = h.is_part })) [
+              | inl here ↦
+                  let only = one_part one v j here.1 in
+                  record {
+                    old_seat = id;
+                    old_part = 0;
+                    has = subst (λ (u : SeatView). HasView views id 0 u) (sym only.1) (seat 0 one refl);
+                    is = same_place id id (id, 0) (id, 0) refl ∙ (λ x. (sym here.0 x, sym only.0 x));
+                  }
+              | inr other ↦ record { old_seat = i; old_part = j; has = other.1; is = other_place i id (if j == 0 then (i, j) else (length first, 0)) (i, j) other.0 }
+            ]
+            | inr last ↦
+                let only = one_part two v j (subst (λ (ps : List SeatView). get_elem? ps j ≡ some v) (sym last.1) h.is_part) in
+                record {
+                  old_seat = id;
+                  old_part = 1;
+                  has = subst (λ (u : SeatView). HasView views id 1 u) (sym only.1) (seat 1 two refl);
+                  is = same_place id id (length first, 0) (id, 1) refl ∙ (λ x. (sym last.0 x, sym only.0 x));
+                }
+          ]);
+      goes = (λ i j v h. elim (cases_eq i id) [
+        | inl here ↦
+            let second : ℕ × ℕ = (length first, 0) in
+            let where_to : to (i, j) ≡ (if j == 0 then (i, j) else second) = same_place i id (if j == 0 then (i, j) else second) (i, j) here in
+            elim (two_parts one two v j (had views id (one ∷ two ∷ []) i j v at here h)) [
+              | inl stay ↦
+                  subst (λ (q : ℕ × ℕ). HasView (first ++ (two ∷ []) ∷ []) q.0 q.1 v) (sym (where_to ∙ same_place j 0 (i, j) second stay.0))
+                  (longer first ((two ∷ []) ∷ []) i j v (subst (λ (q : ℕ × ℕ). HasView first q.0 q.1 v) (λ x. (sym here x, sym stay.0 x))
+                  (gets views id (one ∷ two ∷ []) (one ∷ []) 0 v at (ap (λ (u : SeatView). some u) (sym stay.1)))))
+              | inr leave ↦
+                  subst (λ (q : ℕ × ℕ). HasView (first ++ (two ∷ []) ∷ []) q.0 q.1 v) (sym (where_to ∙ other_place j 0 (i, j) second (λ e. omega (arith, e, leave.0))))
+                  (record { parts = two ∷ []; is_seat = at_last first (two ∷ []) (length first) refl; is_part = ap (λ (u : SeatView). some u) (sym leave.1) })
+            ]
+        | inr other ↦
+            subst (λ (q : ℕ × ℕ). HasView (first ++ (two ∷ []) ∷ []) q.0 q.1 v) (sym (other_place i id (if j == 0 then (i, j) else (length first, 0)) (i, j) other))
+            (longer first ((two ∷ []) ∷ []) i j v (stays views id (one ∷ []) i j v other h))
+      ]);
+    }
+
 pub left_kept : (fixed : Fixed) (s : Table Unit (List SeatView)) → IsKept fixed s → (id : ℕ) (one two : SeatView)
     → get_elem? s.views id ≡ some (one ∷ two ∷ [])
     → IsKept fixed (record { words = s.words; homes = s.homes; views = set s.views id (one ∷ []) ++ (two ∷ []) ∷ [] })
 left_kept fixed s k id one two at =
-    let first : List (List SeatView) = set s.views id (one ∷ []) in
-    let to : ℕ × ℕ → ℕ × ℕ = λ p. if p.0 == id then (if p.1 == 0 then p else (length first, 0)) else p in
-    let seat : (j : ℕ) (v : SeatView) → get_elem? (one ∷ two ∷ []) j ≡ some v → HasView s.views id j v =
-    λ j v h. record { parts = one ∷ two ∷ []; is_seat = at; is_part = h } in
-    regroup fixed s (record { words = s.words; homes = s.homes; views = first ++ (two ∷ []) ∷ [] }) refl k to (λ i j v h.
-    elim (at_end first (two ∷ []) h.parts i h.is_seat) [
-      | inl there ↦ elim (at_other s.views id (one ∷ []) i j v (record { parts = h.parts; is_seat = there; is_part = h.is_part })) [
-        | inl here ↦
-            let only = one_part one v j here.1 in
-            record {
-              old_seat = id;
-              old_part = 0;
-              has = subst (λ (u : SeatView). HasView s.views id 0 u) (sym only.1) (seat 0 one refl);
-              is = same_place id id (id, 0) (id, 0) refl ∙ (λ x. (sym here.0 x, sym only.0 x));
-            }
-        | inr other ↦ record { old_seat = i; old_part = j; has = other.1; is = other_place i id (if j == 0 then (i, j) else (length first, 0)) (i, j) other.0 }
-      ]
-      | inr last ↦
-          let only = one_part two v j (subst (λ (ps : List SeatView). get_elem? ps j ≡ some v) (sym last.1) h.is_part) in
-          record {
-            old_seat = id;
-            old_part = 1;
-            has = subst (λ (u : SeatView). HasView s.views id 1 u) (sym only.1) (seat 1 two refl);
-            is = same_place id id (length first, 0) (id, 1) refl ∙ (λ x. (sym last.0 x, sym only.0 x));
-          }
-    ])
-    (λ i j v h. elim (cases_eq i id) [
-      | inl here ↦
-          let second : ℕ × ℕ = (length first, 0) in
-          let where_to : to (i, j) ≡ (if j == 0 then (i, j) else second) = same_place i id (if j == 0 then (i, j) else second) (i, j) here in
-          elim (two_parts one two v j (had s.views id (one ∷ two ∷ []) i j v at here h)) [
-            | inl stay ↦
-                subst (λ (q : ℕ × ℕ). HasView (first ++ (two ∷ []) ∷ []) q.0 q.1 v) (sym (where_to ∙ same_place j 0 (i, j) second stay.0))
-                (longer first ((two ∷ []) ∷ []) i j v (subst (λ (q : ℕ × ℕ). HasView first q.0 q.1 v) (λ x. (sym here x, sym stay.0 x))
-                (gets s.views id (one ∷ two ∷ []) (one ∷ []) 0 v at (ap (λ (u : SeatView). some u) (sym stay.1)))))
-            | inr leave ↦
-                subst (λ (q : ℕ × ℕ). HasView (first ++ (two ∷ []) ∷ []) q.0 q.1 v) (sym (where_to ∙ other_place j 0 (i, j) second (λ e. omega (arith, e, leave.0))))
-                (record { parts = two ∷ []; is_seat = at_last first (two ∷ []) (length first) refl; is_part = ap (λ (u : SeatView). some u) (sym leave.1) })
-          ]
-      | inr other ↦
-          subst (λ (q : ℕ × ℕ). HasView (first ++ (two ∷ []) ∷ []) q.0 q.1 v) (sym (other_place i id (if j == 0 then (i, j) else (length first, 0)) (i, j) other))
-          (longer first ((two ∷ []) ∷ []) i j v (stays s.views id (one ∷ []) i j v other h))
-    ])
+    let r = left_regroups s.views id one two at in
+    regroup fixed s (record { words = s.words; homes = s.homes; views = set s.views id (one ∷ []) ++ (two ∷ []) ∷ [] }) refl k (leave_to id (length (set s.views id (one ∷ [])))) r.moved r.goes
 
 -- What the table asks of these.
 pub join_asks : (fixed key : Fixed) → key ≡ fixed → (id other : ℕ) (ours theirs : List SeatView) → ours ≡ first_of ours ∷ [] → theirs ≡ first_of theirs ∷ []

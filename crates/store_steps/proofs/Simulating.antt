@@ -47,6 +47,22 @@ stays_stored group mask number (w ∷ words) miss = elim (cases_Bool (in_mask gr
   ]
 ]
 
+-- a read under way goes on in all that is seen later
+pub under_way_later : (fixed of : Fixed) (view new : SeatView) (more : List Event) (r : Reading) → new.seen ≡ view.seen ++ more → IsLegal of new.seen
+    → IsUnderWay fixed view r → IsUnderWay fixed new r
+under_way_later fixed of view new more r is legal old =
+    let parts = legal-append of empty view.seen more (subst (λ (h : List Event). IsLegal of h) is legal) in
+    record {
+      part = record {
+        within = old.part.within;
+        held = λ i h.
+            ap (λ (t : List Event). byte_at (state_after t) (r.at + i)) is ∙ ap (λ (t : State). byte_at t (r.at + i)) (run-append empty view.seen more)
+            ∙ byte_lasts of (state_after view.seen) more (legal_is_sound of view.seen parts.0) parts.1 (r.at + i) (slice_index r.bytes i) (old.part.held i h);
+      };
+      more = old.more;
+      below = old.below;
+    }
+
 -- a chunk that is claimed by the seat with this number
 pub claimer_of : (m : Machine) (n c : ℕ) → m.claim c ≡ Some n → seat_has m n c ≡ true
 claimer_of m n c is = ap (λ (o : Option ℕ). is_number n o) is ∙ claim_seat n
@@ -85,19 +101,7 @@ module _ (fixed : Fixed) (pieces : List Checked) (s : Table Unit (List SeatView)
   pub still_read : (new : SeatView) (more : List Event) → new.fixed ≡ view.fixed → new.seen ≡ view.seen ++ more → IsLegal new.fixed new.seen
       → (r : Reading) → (m.seat id).reading ≡ Some r → IsUnderWay fixed new r
   still_read new more same is legal r reading =
-      let old : IsUnderWay fixed view r = read_is_of r reading in
-      let whole : IsLegal view.fixed (view.seen ++ more) = subst (λ (f : Fixed). IsLegal f (view.seen ++ more)) same (subst (λ (h : List Event). IsLegal new.fixed h) is legal) in
-      let parts = legal-append view.fixed empty view.seen more whole in
-      record {
-        part = record {
-          within = old.part.within;
-          held = λ i h.
-              ap (λ (t : List Event). byte_at (state_after t) (r.at + i)) is ∙ ap (λ (t : State). byte_at t (r.at + i)) (run-append empty view.seen more)
-              ∙ byte_lasts view.fixed (state_after view.seen) more (legal_is_sound view.fixed view.seen parts.0) parts.1 (r.at + i) (slice_index r.bytes i) (old.part.held i h);
-        };
-        more = old.more;
-        below = old.below;
-      }
+      under_way_later fixed view.fixed view new more r is (subst (λ (f : Fixed). IsLegal f new.seen) same legal) (read_is_of r reading)
 
   pub read_on : (new : SeatView) (between own : List Event) → GoesOn view new between own → (r : Reading) → (m.seat id).reading ≡ Some r → IsUnderWay fixed new r
   read_on new between own on r reading =

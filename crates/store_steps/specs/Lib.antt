@@ -11,3 +11,4 @@ pub mod Words
 pub mod Faults
 pub mod Machines
 pub mod Simulates
+pub mod Renames

@@ -1,3 +1,4 @@
+ghost use Rattle.store_steps.specs.Renames.{EnterStays, JoinRenames, LeaveRenames, MeetStays, MergeStays};
 ghost use Rattle.store_steps.specs.Simulates.{AbsentStays, CopyStays, GiveIsGiveBack, HashIsNoStep, LengthIsLength, LoadIsLoad, LookIsTooLarge, LookStays, OpeningIsStart, PartStays, PublishIsPublish, SettleIsSettle, StoreIsWrite, TakeIsClaim};
 
 /// Each step on the words is the step of its name of the machine of schedules: where words and views stand for a machine,
@@ -23,4 +24,15 @@ pub fn side_steps_stay()
     ensures copy { CopyStays }
     ensures absent { AbsentStays }
     ensures part { PartStays }
+{}
+
+/// Seats that join, merge, meet and leave each other, a joined seat counting as one: words and views then stand for the
+/// machine in which the claims that went over are the other seat's. So each step after that is the machine's too. A law:
+/// nothing runs.
+pub fn joined_seats_are_renamed()
+    ensures enter { EnterStays }
+    ensures join { JoinRenames }
+    ensures merge { MergeStays }
+    ensures meet { MeetStays }
+    ensures leave { LeaveRenames }
 {}

@@ -4,7 +4,7 @@
 
 pub use fault::NewFault;
 pub use grip::Grip;
-pub use law::{side_steps_stay, steps_are_the_machines};
+pub use law::{joined_seats_are_renamed, side_steps_stay, steps_are_the_machines};
 pub use places::CELL_LEN;
 pub use words::Words;
 

@@ -1,0 +1,73 @@
+-- Seats that join, merge, meet and leave each other: a joined seat counts as one, so that claims are renamed.
+use Rattle.std.specs.Prelude.{◌≡◌, ◌≢◌, ℕ, ◌==◌, Bool, not, ◌&&◌, if◌then◌else◌, List, [], ◌∷◌, ◌++◌, length, Option, Some, slice_index, slice_set}
+use mathlib.Core.Option.{some}
+use lib.ListN.{get_elem?}
+use Rattle.atomic_table.specs.Table.{State as Table, keeps, stepped}
+use Rattle.store_core.specs.declared.fixed.Fixed.{Fixed}
+use Rattle.store_core.specs.declared.view.SeatView.{SeatView}
+use Rattle.store_core.specs.Machine.{Machine, Reading, is_number, no_seat}
+use Rattle.store_core.specs.Views.{seat_claims}
+use Rattle.store_steps.specs.Machines.{IsUnderWay, StandsForMachine}
+use Rattle.store_steps.specs.Parts.{AreMet, IsMerged}
+use Rattle.store_steps.specs.Rule.{IsKept}
+use Rattle.store_steps.specs.Simulates.{after_load}
+
+-- A new seat with no view leaves the machine.
+abbrev pub EnterStays : Type 0
+EnterStays = (fixed : Fixed) (table : Table Unit (List SeatView)) (m : Machine) → IsKept fixed table → StandsForMachine fixed table m
+    → StandsForMachine fixed (record { words = table.words; homes = table.homes; views = table.views ++ [] ∷ [] }) m
+
+-- The machine where seat `other` counts as seat `seat`: its claims are that seat's, and it has done nothing. What it wrote
+-- counts no more.
+abbrev pub joined_claim : ℕ → ℕ → Option ℕ → Option ℕ
+joined_claim seat other o = if is_number other o then Some seat else o
+
+abbrev pub joined : Machine → ℕ → ℕ → Machine
+joined m seat other = record m {
+  claim = λ c. joined_claim seat other (m.claim c);
+  seat = λ n. if n == other then no_seat else m.seat n;
+}
+
+-- A seat that takes in another's view: the table stands for that machine.
+abbrev pub JoinRenames : Type 0
+JoinRenames = (fixed : Fixed) (table : Table Unit (List SeatView)) (m : Machine) (seat other : ℕ) (one two : SeatView) → IsKept fixed table
+    → StandsForMachine fixed table m → get_elem? table.views seat ≡ some (one ∷ []) → get_elem? table.views other ≡ some (two ∷ []) → other ≢ seat
+    → StandsForMachine fixed (record {
+      words = table.words;
+      homes = table.homes;
+      views = slice_set (slice_set table.views seat (one ∷ two ∷ [])) other [];
+    }) (joined m seat other)
+
+-- A load by which the two views of a seat become one leaves the machine: the joined seat is one already.
+abbrev pub MergeStays : Type 0
+MergeStays = (fixed : Fixed) (table : Table Unit (List SeatView)) (m : Machine) (seat place : ℕ) (one two merged : SeatView) → IsKept fixed table
+    → StandsForMachine fixed table m → get_elem? table.views seat ≡ some (one ∷ two ∷ []) → IsMerged one two merged
+    → StandsForMachine fixed (after_load table place seat merged) m
+
+-- So does a load by which both views see one history.
+abbrev pub MeetStays : Type 0
+MeetStays = (fixed : Fixed) (table : Table Unit (List SeatView)) (m : Machine) (seat place : ℕ) (one two new_one new_two : SeatView) → IsKept fixed table
+    → StandsForMachine fixed table m → get_elem? table.views seat ≡ some (one ∷ two ∷ []) → AreMet one two new_one new_two
+    → StandsForMachine fixed (stepped table place (slice_index table.words place) seat [] (new_one ∷ new_two ∷ []) keeps) m
+
+-- The machine where a seat leaves what a view of it claims to a new seat. What it wrote of those chunks counts no more.
+abbrev pub left_claim : ℕ → ℕ → Bool → Option ℕ → Option ℕ
+left_claim seat new theirs o = if is_number seat o && theirs then Some new else o
+
+abbrev pub left : Machine → ℕ → ℕ → SeatView → Machine
+left m seat new view = record m {
+  claim = λ c. left_claim seat new (seat_claims view c) (m.claim c);
+  seat = λ n. if n == seat then record (m.seat n) { written = λ c w. not (seat_claims view c) && (m.seat n).written c w } else m.seat n;
+}
+
+-- A seat with two views that leaves the second to a new seat, where a read under way is of the first: the table stands for
+-- that machine.
+abbrev pub LeaveRenames : Type 0
+LeaveRenames = (fixed : Fixed) (table : Table Unit (List SeatView)) (m : Machine) (seat : ℕ) (one two : SeatView) → IsKept fixed table
+    → StandsForMachine fixed table m → get_elem? table.views seat ≡ some (one ∷ two ∷ [])
+    → ((r : Reading) → (m.seat seat).reading ≡ Some r → IsUnderWay fixed one r)
+    → StandsForMachine fixed (record {
+      words = table.words;
+      homes = table.homes;
+      views = slice_set table.views seat (one ∷ []) ++ (two ∷ []) ∷ [];
+    }) (left m seat (length table.views) two)
