@@ -1,6 +1,10 @@
 -- Texts that are read from a reader: what it has left may go on after the text, and that is no fault.
 use Rattle.std.specs.Prelude.{◌≡◌, ◌⊎◌, ℕ, ◌≤◌, List, ◌∷◌, ◌++◌, length, Option}
 use Rattle.std.specs.List.{AllByRecursion}
+use Rattle.std.specs.Borrow.{RattleType, u8}
+use Rattle.std.specs.contracts.alloc.Global as global
+use Rattle.std.specs.contracts.impls.GlobalAllocator.TheImpl.{ghosts}
+use Rattle.std.specs.contracts.vec.Vec as vec
 use Rattle.std.specs.Io.KnownBytes.{IsAtEnd}
 use Rattle.b3tree.specs.declared.mode.Mode.{Mode}
 use Rattle.bao_text.specs.Nodes.{Node}
@@ -8,6 +12,10 @@ use Rattle.bao_check.specs.declared.fault.CheckFault.{CheckFault}
 use Rattle.bao_check.specs.declared.fault.CheckFault.TheVariants.{Short, Mismatch, Trailing, Memory, Reader}
 use Rattle.bao_check.specs.Accepted.{IsAccepted, IsGood, end_of, places_of, slice_nodes}
 use Rattle.bao_check.specs.Faults.{IsFirstBad, IsMismatchAt, IsShortAt}
+
+-- `Vec<u8>` as the logic holds it, for the clause on what a vector holds once nothing borrows it
+abbrev pub bytes_row : RattleType
+bytes_row = vec.the_row u8 global.the_row ghosts
 
 -- the bytes begin with a text that is accepted as the slice (start, len)
 pub record BeginsAccepted (mode : Mode) (root : List ℕ) (start len : ℕ) (all : List ℕ) : Type 0 where

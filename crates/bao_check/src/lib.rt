@@ -9,7 +9,7 @@ pub use law::{
     written_accepted,
 };
 pub use outline::Outline;
-pub use read::{check_stream, read_checked};
+pub use read::{check_stream, read_checked, read_piece};
 pub use subtree::Subtree;
 pub use tail::Tail;
 

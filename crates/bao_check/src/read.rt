@@ -1,8 +1,10 @@
 ghost use Rattle.std.specs.Prelude.{◌≡◌, ◌-◌, ◌^◌, ◌<◌, [], List, ℕ, length, IfErr, IfOk, IfSome, MatchResult, OnOk};
+ghost use Rattle.std.specs.Borrow.{sem};
+ghost use Rattle.std.specs.Io.BufRead.{Rests};
 ghost use Rattle.std.specs.Io.KnownBytes.{Consumes};
 ghost use Rattle.bao_check.specs.Accepted.{IsAccepted, slice_nodes};
 ghost use Rattle.bao_check.specs.Checked.{IsPiece, piece_text};
-ghost use Rattle.bao_check.specs.Streams.{BeginsAccepted, IsOfBytes, IsStreamFault, ReadFault};
+ghost use Rattle.bao_check.specs.Streams.{BeginsAccepted, IsOfBytes, IsStreamFault, ReadFault, bytes_row};
 
 use crate::checked::Checked;
 use crate::fault::CheckFault;
@@ -45,8 +47,35 @@ pub fn read_checked<R: Read>(
 }
 
 /// Reads and checks as `read_checked` does, and answers the accepted text as a piece, which borrows the
-/// vector. The vector's bytes after a fault are a promise of `read_checked` alone. Memory is taken by the
-/// vector's own allocator.
+/// vector. Once nothing borrows it the vector holds that text, or after a fault what was read. Memory is taken
+/// by the vector's own allocator.
+pub fn read_piece<'a, R: Read>(
+    text: &'a mut Vec<u8>,
+    mode: &Mode,
+    root: &Hash,
+    start: u64,
+    len: u64,
+    reader: &mut R,
+) -> Result<Checked<'a>, CheckFault>
+    requires { text.old.items ≡ [] }
+    ensures* rests { sem 𝓛 (Rests bytes_row text.entry (λ last.
+        MatchResult result (λ piece. last.items ≡ piece_text piece)
+        (λ fault. Consumes (R.remaining reader.old) (R.remaining reader.new) last.items × ReadFault mode.now root.now.0 start len last.items (R.remaining reader.new) fault))) }
+    ensures piece { IfOk result (λ piece. IsPiece piece mode.now root.now.0 start len (piece_text piece)) }
+    ensures size { IfOk result (λ piece. length (piece_text piece) < 2 ^ 64) }
+    ensures reader { IfOk result (λ piece. Consumes (R.remaining reader.old) (R.remaining reader.new) (piece_text piece)) }
+    ensures fault { IfErr result (λ fault.
+        (read : List ℕ) × Consumes (R.remaining reader.old) (R.remaining reader.new) read × ReadFault mode.now root.now.0 start len read (R.remaining reader.new) fault) }
+    ensures exact { IfSome (R.remaining reader.old) (λ all.
+        MatchResult result (λ _. BeginsAccepted mode.now root.now.0 start len all) (IsStreamFault mode.now root.now.0 start len all)) }
+    ensures refused { IfSome (R.remaining reader.old) (λ all. IfErr result (λ fault. IsOfBytes fault → ¬ BeginsAccepted mode.now root.now.0 start len all)) }
+{
+    read_checked(mode, root, start, len, reader, text)?;
+    Ok(Checked::new(mode, root, start, len, text.as_slice()))
+}
+
+/// Reads and checks as `read_piece` does. What the vector holds after a fault is a promise of `read_piece`
+/// alone. Memory is taken by the vector's own allocator.
 pub fn check_stream<'a, R: Read>(
     _alloc: Global,
     mode: &Mode,
@@ -66,6 +95,5 @@ pub fn check_stream<'a, R: Read>(
         MatchResult result (λ _. BeginsAccepted mode.now root.now.0 start len all) (IsStreamFault mode.now root.now.0 start len all)) }
     ensures refused { IfSome (R.remaining reader.old) (λ all. IfErr result (λ fault. IsOfBytes fault → ¬ BeginsAccepted mode.now root.now.0 start len all)) }
 {
-    read_checked(mode, root, start, len, reader, text)?;
-    Ok(Checked::new(mode, root, start, len, text.as_slice()))
+    read_piece(text, mode, root, start, len, reader)
 }
