@@ -124,8 +124,13 @@ READS_ONE = "reads by one seat"
 READS_FOUR = "reads by four seats"
 TAKES_OF_ONE = "a group taken 1,000 times, of one"
 TAKES_OF_ALL = "a group taken 1,000 times, of 1,024"
+SERVED_SHARED = "1 MiB served by a shared store"
+READ_SHARED = "1 MiB read from a shared store"
+SERVED_ALONE = "1 MiB served by a one-thread store"
+READ_ALONE = "1 MiB read from a one-thread store"
 RUN_ONE = "run by one worker"
 RUN_FOUR = "run by four workers"
+PARENTS_ALONE = "parents alone"
 
 # The table: a name of what was timed, and how it worked. Lines of the program bench have their names from there;
 # a further way that it prints needs a line here, and one below where it has a ratio.
@@ -177,8 +182,13 @@ ROWS = [
     (READS_FOUR, "as before, four seats on a thread each, a quarter by each"),
     (TAKES_OF_ONE, "store_shared's take and give in one process, one thread, in a store of one group"),
     (TAKES_OF_ALL, "as before, in a store of 1,024 groups"),
+    (SERVED_SHARED, "store_shared's serve_slice in one process, one seat on one thread, out of a store of the first 64 MiB with all parents, the mean of 16"),
+    (READ_SHARED, "store_shared's read of the same bytes, the mean of 16"),
+    (SERVED_ALONE, "store_core's serve_slice in one process, out of such a one-thread store, the mean of 16"),
+    (READ_ALONE, "store_core's read of the same bytes, the mean of 16"),
     (RUN_ONE, "crews::run in one process, one worker, of the combined encoding of the first 64 MiB"),
     (RUN_FOUR, "as before, four workers"),
+    (PARENTS_ALONE, "store_shared's commit_parents of the same groups' slices in one process, one seat on one thread, where the length is recorded, by those calls alone"),
 ]
 
 # The table of memory: a name, how it was measured, and what is wanted of it.
@@ -224,7 +234,10 @@ RATIOS = [
     ("one thread", COPY, READS_ONE, "at least 0.3"),
     ("several threads", READS_ONE, READS_FOUR, "at least 2.5 on four processors"),
     ("one thread", TAKES_OF_ALL, TAKES_OF_ONE, "about 1: not with the store"),
+    ("one thread", SERVED_SHARED, READ_SHARED, "at most 3"),
+    ("one thread", SERVED_ALONE, READ_ALONE, "at most 3"),
     ("several threads", RUN_ONE, RUN_FOUR, "at least 2.5 on four processors"),
+    ("one thread", PARENTS_ALONE, RUN_ONE, "at most 0.09: a gathering at most 1.1 of one that stores no parents"),
 ]
 
 

@@ -85,7 +85,7 @@ not_parent_at m node differ = elim (cases_Bool node.is_chunk) [
 abbrev Lacks : ℕ → List (ℕ × Node) → Type 0
 Lacks m places = AllByRecursion (λ place. is_parent_at m place.1 ≡ false) places
 
-outside_lacks : (choice : Choice) (number n m at source : ℕ) (sides : List Side) → ((number < m) × (m < number + chunk_count n) → ⊥)
+pub outside_lacks : (choice : Choice) (number n m at source : ℕ) (sides : List Side) → ((number < m) × (m < number + chunk_count n) → ⊥)
     → Lacks m (placed at (subtree_nodes choice number n sides source))
 outside_lacks choice number n m at source sides outside =
     let nodes : List Node = subtree_nodes choice number n sides source in

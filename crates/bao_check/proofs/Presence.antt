@@ -110,7 +110,7 @@ there_far choice number n i more after =
       λ h. record { first = after; last = omega (arith, h.last); meets = subst (Meets choice (1024 * i)) (sym len) h.meets },
     )
 
-present_levels : (levels : ℕ) (choice : Choice) (number n : ℕ) (sides : List Side) (source at i : ℕ) → n ≤ 1024 * levels + 1024 → choice.chunks ≡ true
+pub present_levels : (levels : ℕ) (choice : Choice) (number n : ℕ) (sides : List Side) (source at i : ℕ) → n ≤ 1024 * levels + 1024 → choice.chunks ≡ true
     → Present choice number n sides source at i
 present_levels zero choice number n sides source at i hn chunks = present_small choice number n sides source at i chunks (omega arith)
 present_levels (suc levels) choice number n sides source at i hn chunks = elim (cases_lt 1024 n) [

@@ -17,7 +17,7 @@ pub nodes_size-parent : (number n : ℕ) (sides : List Side) (source : ℕ) (nea
 nodes_size-parent number n sides source near far =
     nodes_size-cons (parent_node number n sides source) (near ++ far) ∙ ap (λ (k : ℕ). 64 + k) (sum_by-append size near far)
 
-nodes_size-chunk : (choice : Choice) (number n : ℕ) (sides : List Side) (source : ℕ) → nodes_size (chunk_nodes choice number n sides source) ≡ chunk_part choice n
+pub nodes_size-chunk : (choice : Choice) (number n : ℕ) (sides : List Side) (source : ℕ) → nodes_size (chunk_nodes choice number n sides source) ≡ chunk_part choice n
 nodes_size-chunk choice number n sides source = elim (cases_Bool choice.chunks) [
   | inl there ↦ rw there (zero-add n)
   | inr gone ↦ rw gone refl

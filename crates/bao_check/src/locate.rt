@@ -1,7 +1,7 @@
-ghost use Rattle.std.specs.Prelude.{◌≡◌, ℕ, ◌+◌, ◌-◌, ◌*◌, ◌%◌, ◌^◌, ◌<◌, ◌≤◌, List, length, take, drop, Some, bit_xor, sum_by, IfSome};
-ghost use Rattle.std.specs.Int.Count.{ones};
+ghost use Rattle.std.specs.Prelude.{◌≡◌, ℕ, ◌+◌, ◌-◌, ◌*◌, ◌^◌, ◌<◌, ◌≤◌, List, length, min, take, drop, bit_xor, sum_by};
+ghost use Rattle.bao_text.specs.Choice.{chunk_count};
 ghost use Rattle.bao_text.specs.Nodes.{Side, placed, size, subtree_nodes, subtree_size};
-ghost use Rattle.bao_check.specs.Spans.{HasDigits, chunk_place};
+ghost use Rattle.bao_check.specs.Spans.{Counts, HasDigits, bytes_before, chunk_place, first_of};
 
 use b3tree::{CHUNK_LEN, left_len};
 use bao_text::{Choice, encoded_len, outboard_len};
@@ -58,39 +58,52 @@ pub(crate) fn nodes_size(choice: &Choice, number: u64, n: u64) -> u128
     PARENT_LEN + left + right
 }
 
-// How many parents stand before chunk `k` of a whole text, of which chunk `last` is the last: k, and those to
-// whose left part the chunk belongs, one for each digit 0 below the first in which the two numbers differ.
-fn parents_before(last: u64, k: u64) -> u64
-    requires { (k ≤ last) × (last < 2 ^ 54) }
-    ensures { (t : ℕ) → HasDigits (bit_xor last k) t → result + ones (k % 2 ^ t) ≡ k + t }
+// How many chunks `n` bytes have: no bytes are one empty chunk.
+pub(crate) fn chunk_count(n: u64) -> u64
+    ensures { result ≡ chunk_count n }
+{
+    n.div_ceil(CHUNK_LEN as u64).max(1)
+}
+
+// How many parents stand before chunk `k`, where chunk `last` is the last, and `first` the first that is wanted of k and
+// those before it: those whose right part begins after `first` and not after k, those to whose right part chunk
+// `first` belongs, one for each digit 1 of it, and those to whose left part k belongs, one for each digit 0 below
+// the first in which it and `last` differ.
+fn parents_before(last: u64, first: u64, k: u64) -> u64
+    requires { (first ≤ k) × (k ≤ last) × (last < 2 ^ 54) }
+    ensures { (t : ℕ) → HasDigits (bit_xor last k) t → Counts k t first result }
 {
     let digits = u64::BITS - (last ^ k).leading_zeros();
     let low = k & ((1 << digits) - 1);
-    k + u64::from(digits) - u64::from(low.count_ones())
+    k - first + u64::from(first.count_ones()) + u64::from(digits) - u64::from(low.count_ones())
 }
 
-// Where chunk `i` is in a text, if it is one of the subtree over `n` bytes from chunk `number` on, which begins
-// at `at`, and the text has all of these bytes.
-fn find_in_whole(choice: &Choice, number: u64, n: u64, at: u128, i: u64) -> Option<Span>
-    requires { 1024 * number + n ≤ 2 ^ 64 - 1 }
-    ensures { IfSome result (λ span. (sides : List Side) (from : ℕ) → chunk_place (placed at (subtree_nodes choice.now number n sides from)) i ≡ Some span) }
-{
-    let chunk_len = CHUNK_LEN as u64;
-    if !choice.has_chunks() || !choice.covers(chunk_len * number, n) || i < number {
-        return None;
+/// What stands in a text before the place of a chunk, which may be one that isn't wanted.
+#[derive(Clone, Copy)]
+pub(crate) struct Before {
+    /// How many bytes of chunks.
+    pub(crate) bytes: u64,
+    /// How many parents.
+    pub(crate) parents: u64,
+}
+
+impl Before {
+    // Before chunk `k` of the subtree over `n` bytes from chunk `number` on.
+    pub(crate) fn of(choice: &Choice, number: u64, n: u64, k: u64) -> Before
+        requires { k < chunk_count n }
+        ensures bytes { result.bytes ≡ bytes_before choice.now number k }
+        ensures parents { (t : ℕ) → HasDigits (bit_xor (chunk_count n - 1) k) t → Counts k t (min (first_of choice.now number) k) result.parents }
+    {
+        let wanted = choice.start() / CHUNK_LEN as u64;
+        let first = wanted.saturating_sub(number).min(k);
+        let bytes = if choice.has_chunks() {
+            CHUNK_LEN as u64 * (k - first)
+        } else {
+            0
+        };
+        let parents = parents_before(chunk_count(n) - 1, first, k);
+        Before { bytes, parents }
     }
-    let count = n.div_ceil(chunk_len).max(1);
-    let k = i - number;
-    if k >= count {
-        return None;
-    }
-    let parents = parents_before(count - 1, k);
-    let before = chunk_len as u128 * u128::from(k) + PARENT_LEN * u128::from(parents);
-    let len = (n - chunk_len * k).min(chunk_len);
-    Some(Span {
-        at: at.checked_add(before)?,
-        len,
-    })
 }
 
 // Where chunk `i` is in a text, of which the wanted nodes of the subtree over `n` bytes from chunk `number`
@@ -100,24 +113,15 @@ pub(crate) fn find_chunk(choice: &Choice, number: u64, n: u64, at: u128, i: u64)
     requires room { at + subtree_size n < 2 ^ 128 }
     ensures { (sides : List Side) (from : ℕ) → result ≡ chunk_place (placed at (subtree_nodes choice.now number n sides from)) i }
 {
-    if !choice.wants(CHUNK_LEN as u64 * number, n) {
+    if !choice.has_chunks() || i < number || i - number >= chunk_count(n) {
         return None;
     }
-    if n <= CHUNK_LEN as u64 {
-        return if choice.has_chunks() && number == i {
-            Some(Span { at, len: n })
-        } else {
-            None
-        };
+    let k = i - number;
+    let len = (n - CHUNK_LEN as u64 * k).min(CHUNK_LEN as u64);
+    if !choice.wants(CHUNK_LEN as u64 * i, len) {
+        return None;
     }
-    if let Some(span) = find_in_whole(choice, number, n, at, i) {
-        return Some(span);
-    }
-    let left_len = left_len(n);
-    let middle = number + left_len / CHUNK_LEN as u64;
-    if i < middle {
-        return find_chunk(choice, number, left_len, at + PARENT_LEN, i);
-    }
-    let left = nodes_size(choice, number, left_len);
-    find_chunk(choice, middle, n - left_len, at + PARENT_LEN + left, i)
+    let before = Before::of(choice, number, n, k);
+    let at = at + u128::from(before.bytes) + PARENT_LEN * u128::from(before.parents);
+    Some(Span { at, len })
 }

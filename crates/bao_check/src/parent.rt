@@ -1,13 +1,23 @@
-ghost use Rattle.std.specs.Prelude.{◌≡◌, ℕ, ◌+◌, ◌-◌, ◌*◌, ◌^◌, ◌≤◌, ◌<◌, List, length, IfSome};
+ghost use Rattle.std.specs.Prelude.{◌≡◌, ℕ, ◌+◌, ◌-◌, ◌*◌, ◌^◌, ◌≤◌, ◌<◌, List, length, min, IfSome};
 ghost use Rattle.std.specs.Option.{option_copied};
 ghost use Rattle.bao_text.specs.Nodes.{Side, placed, subtree_nodes, subtree_size};
 ghost use Rattle.bao_check.specs.Parents.{parent_in, parent_place};
 
 use crate::checked::{Body, Checked};
-use crate::locate::{LENGTH_LEN, PARENT_LEN, bytes_from, nodes_size};
+use crate::locate::{Before, LENGTH_LEN, PARENT_LEN, bytes_from, chunk_count};
 use crate::outline::Outline;
-use b3tree::{CHUNK_LEN, left_len};
+use b3tree::CHUNK_LEN;
 use bao_text::Choice;
+
+// How many of `n` bytes a parent's subtree has that begins with chunk `k` and has `half` chunks on the left.
+fn parent_len(n: u64, half: u64, k: u64) -> u64
+    requires { (half ≤ 2 ^ 53) × (1024 * k ≤ n) }
+    ensures { result ≡ min (1024 * (2 * half)) (n - 1024 * k) }
+{
+    let len = n - CHUNK_LEN as u64 * k;
+    let left = CHUNK_LEN as u64 * half;
+    if len / 2 < left { len } else { 2 * left }
+}
 
 // Where the parent whose right part begins at chunk `m` is in a text, of which the wanted nodes of the
 // subtree over `n` bytes from chunk `number` on begin at `at`.
@@ -16,19 +26,19 @@ fn find_parent(choice: &Choice, number: u64, n: u64, at: u128, m: u64) -> Option
     requires room { at + subtree_size n < 2 ^ 128 }
     ensures { (sides : List Side) (from : ℕ) → result ≡ parent_place (placed at (subtree_nodes choice.now number n sides from)) m }
 {
-    if n <= CHUNK_LEN as u64 || !choice.wants(CHUNK_LEN as u64 * number, n) {
+    if m <= number || m - number >= chunk_count(n) {
         return None;
     }
-    let left_len = left_len(n);
-    let middle = number + left_len / CHUNK_LEN as u64;
-    if m == middle {
-        return Some(at);
+    // The parent's subtree begins with chunk k, and so many parents stand between the two.
+    let levels = (m - number).trailing_zeros();
+    let half = 1 << levels;
+    let k = m - number - half;
+    if !choice.wants(CHUNK_LEN as u64 * (number + k), parent_len(n, half, k)) {
+        return None;
     }
-    if m < middle {
-        return find_parent(choice, number, left_len, at + PARENT_LEN, m);
-    }
-    let left = nodes_size(choice, number, left_len);
-    find_parent(choice, middle, n - left_len, at + PARENT_LEN + left, m)
+    let before = Before::of(choice, number, n, k);
+    let parents = before.parents - u64::from(levels) - 1;
+    Some(at + u128::from(before.bytes) + PARENT_LEN * u128::from(parents))
 }
 
 impl<'a> Checked<'a> {

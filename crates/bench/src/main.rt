@@ -13,6 +13,8 @@ mod checks;
 mod files;
 mod measure;
 mod memory;
+mod parents;
+mod serving;
 mod shared;
 mod slices;
 mod small;
@@ -63,7 +65,11 @@ fn run<R: Runtime + Files<File = File> + AllocGlobal + Threads + Sync>(rt: &R) -
     stores::print(rt, &of_store)?;
     let of_shared = shared::least_times(rt, bytes.as_slice())?;
     shared::print(rt, &of_shared)?;
+    let of_serving = serving::least_times(rt, bytes.as_slice())?;
+    serving::print(rt, &of_serving)?;
     let of_workers = workers::least_times(rt, bytes.as_slice())?;
     workers::print(rt, &of_workers)?;
+    let of_parents = parents::least_time(rt, bytes.as_slice())?;
+    parents::print(rt, of_parents)?;
     Ok(ExitCode::SUCCESS)
 }
