@@ -95,12 +95,7 @@ fn shared_of<R: AllocGlobal>(
 }
 
 // A one-thread store of it.
-fn alone_of<R: AllocGlobal>(
-    rt: &R,
-    root: &Hash,
-    piece: &Checked<'_>,
-    len: usize,
-) -> Result<Store> {
+fn alone_of<R: AllocGlobal>(rt: &R, root: &Hash, piece: &Checked<'_>, len: usize) -> Result<Store> {
     let mut store = Store::new(rt.alloc(), *root, Mode::hash(), MAX_CAPACITY)?;
     let tail = piece.tail().context("no last chunk")?;
     let _ = store.settle(&tail);
@@ -189,7 +184,12 @@ pub fn least_times<R: Clock + AllocGlobal>(rt: &R, bytes: &[u8]) -> Result<Servi
     let at = blob.len() / 2;
     let part = &blob[at..];
     let part = &part[..part.len().min(SLICE_LEN)];
-    let slice = cut_slice(rt.alloc(), encoding.as_slice(), at as u64, part.len() as u64)?;
+    let slice = cut_slice(
+        rt.alloc(),
+        encoding.as_slice(),
+        at as u64,
+        part.len() as u64,
+    )?;
     let wanted = Wanted {
         at: at as u64,
         bytes: part,
