@@ -1,22 +1,22 @@
--- Each move keeps every task a job.
-use Rattle.std.proofs.Common.{ℕ, All, List, ◌++◌, length, subst}
+-- Each move keeps every task a job, and the next of what the thread put or took.
+use Rattle.std.proofs.Common.{◌≡◌, ℕ, All, List, ◌++◌, length, refl, subst}
 use lib.Seq.{take-append_seam, drop-append_seam}
 use Rattle.std.proofs.lemmas.List.Elements.{All-append, All-take, All-drop}
 use Rattle.crossbeam_deque.specs.Tasks.{Pushes, Takes}
 use Rattle.b3par.specs.declared.jobs.Job.{Job}
 use Rattle.b3par.specs.Jobs.{IsJob}
 
-abbrev Holds : List Job → List (Unit {0}) → Type 0
+abbrev Holds : List Job → List (List Job) → Type 0
 Holds items _ = All IsJob items
 
-left : (xs ys : List Job) → All IsJob (xs ++ ys) → All IsJob xs
-left xs ys h = subst (All IsJob) (take-append_seam xs ys) (All-take IsJob (length xs) (xs ++ ys) h)
+pub left : (P : Job → Type 0) (xs ys : List Job) → All P (xs ++ ys) → All P xs
+left P xs ys h = subst (All P) (take-append_seam xs ys) (All-take P (length xs) (xs ++ ys) h)
 
-right : (xs ys : List Job) → All IsJob (xs ++ ys) → All IsJob ys
-right xs ys h = subst (All IsJob) (drop-append_seam xs ys) (All-drop IsJob (length xs) (xs ++ ys) h)
+pub right : (P : Job → Type 0) (xs ys : List Job) → All P (xs ++ ys) → All P ys
+right P xs ys h = subst (All P) (drop-append_seam xs ys) (All-drop P (length xs) (xs ++ ys) h)
 
-pub pushes : (port : ℕ) (v : Unit {0}) (xs : List Job) → All IsJob xs → Pushes Holds port v xs (λ _. All IsJob xs)
-pushes port v xs new items views h _ = (tt, All-append IsJob items xs h new, new)
+pub pushes : (port : ℕ) (log xs : List Job) → All IsJob xs → Pushes Holds port log xs (λ more. (more ≡ log ++ xs) × All IsJob xs)
+pushes port log xs new items logs h _ = (log ++ xs, All-append IsJob items xs h new, (refl, new))
 
-pub takes : (port : ℕ) (v : Unit {0}) (most : ℕ) → Takes Holds port v most (λ xs _. All IsJob xs)
-takes port v most xs items views _ _ h _ = (tt, right xs items h, left xs items h)
+pub takes : (port : ℕ) (log : List Job) (most : ℕ) → Takes Holds port log most (λ xs more. (more ≡ log ++ xs) × All IsJob xs)
+takes port log most xs items logs _ _ h _ = (log ++ xs, right IsJob xs items h, (refl, left IsJob xs items h))

@@ -5,11 +5,11 @@ pub use fault::ParFault;
 pub use gate::{Gate, Open};
 pub use jobs::JOB_CHUNKS;
 pub use join::hash_join;
-pub use pool::hash_pool;
+pub use pool::{Pooled, hash_pool, hash_pooled};
 
 mod fault;
 mod gate;
 mod jobs;
 mod join;
 mod pool;
-mod values;
+mod tops;
