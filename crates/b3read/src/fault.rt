@@ -5,7 +5,8 @@ ghost use Rattle.b3read.specs.Faults.{number_of};
 use std::alloc::{AllocError, AllocFailed};
 use thiserror::Error;
 
-/// Why a source gave no hash.
+/// Why a source gave no hash, or no encoding. The numbers are this type's own: 301 is a pool's want of memory, 401 that of an
+/// encoding of bytes that are all there, and 504 and 505 come of a text that is checked, so none of them is either of these.
 #[derive(Clone, Copy, Debug, PartialEq, Eq, Error)]
 pub enum ReadFault {
     /// There was no memory for a piece. Number 311.

@@ -1,4 +1,6 @@
--- The faults that come before a script's steps run.
+-- The numbers of the faults, and those that come before a script's steps run.
+use Rattle.std.specs.Prelude.{ℕ, Option, None, Some}
+use Rattle.bao_check.specs.Faults.{number_of as check_number_of}
 use Rattle.bao_script.specs.declared.fault.ReplayScriptFault.{ReplayScriptFault}
 use Rattle.bao_script.specs.declared.fault.ReplayScriptFault.TheVariants.{Refused, Illegal, Capacity, Cutting, Replaying, Memory}
 
@@ -19,3 +21,12 @@ IsEarly Capacity = ⊥
 IsEarly Cutting = Unit {0}
 IsEarly Replaying = ⊥
 IsEarly Memory = Unit {0}
+
+-- the number of the fault, where its text has one
+abbrev pub replay_number_of : ReplayScriptFault → Option ℕ
+replay_number_of (Refused line fault) = Some (check_number_of fault)
+replay_number_of (Illegal line) = Some 702
+replay_number_of Capacity = Some 802
+replay_number_of Cutting = Some 401
+replay_number_of Replaying = Some 701
+replay_number_of Memory = None

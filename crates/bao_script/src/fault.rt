@@ -6,7 +6,8 @@ use bao_check::CheckFault;
 use std::alloc::{AllocError, AllocFailed};
 use thiserror::Error;
 
-/// Why a script wasn't read.
+/// Why a script wasn't read. Neither fault has a number, and each is told by its text alone: the one is of what was
+/// written, and the other a want of memory of this crate's own.
 #[derive(Clone, Copy, Debug, PartialEq, Eq, Error)]
 pub enum ScriptFault {
     /// The line with this number, counted from 1, has no form. It is the first such line.
@@ -15,6 +16,17 @@ pub enum ScriptFault {
     /// There was no memory for the lines.
     #[error("memory")]
     Memory,
+}
+
+impl ScriptFault {
+    ghost use Rattle.std.specs.Prelude.{None};
+
+    /// The fault's number: none.
+    pub fn code(&self) -> Option<u16>
+        ensures { result ≡ None }
+    {
+        None
+    }
 }
 
 impl From<AllocError> for ScriptFault {
@@ -33,7 +45,8 @@ impl<T: Drop> From<AllocFailed<T>> for ScriptFault {
     }
 }
 
-/// Why a script's run has no text.
+/// Why a script's run has no text. Each fault has the number of the call in which it came up; a want of memory of this
+/// crate's own has none, and is told by its text alone.
 #[derive(Clone, Copy, Debug, PartialEq, Eq, Error)]
 pub enum ReplayScriptFault {
     /// The slice that the line with this number names wasn't accepted, with this fault. It is the first such line. No
@@ -52,9 +65,27 @@ pub enum ReplayScriptFault {
     /// There was no memory for the schedule. Number 701.
     #[error("701 memory")]
     Replaying,
-    /// There was no memory for the pieces, the steps or the text.
+    /// There was no memory for the pieces, the steps or the text. It has no number.
     #[error("memory")]
     Memory,
+}
+
+impl ReplayScriptFault {
+    ghost use Rattle.bao_script.specs.Faults.{replay_number_of};
+
+    /// The fault's number, where it has one: 401, 501 to 503, 701, 702 or 802.
+    pub fn code(&self) -> Option<u16>
+        ensures { result ≡ replay_number_of self.now }
+    {
+        match self {
+            ReplayScriptFault::Refused { fault, .. } => Some(fault.code()),
+            ReplayScriptFault::Illegal { .. } => Some(702),
+            ReplayScriptFault::Capacity => Some(802),
+            ReplayScriptFault::Cutting => Some(401),
+            ReplayScriptFault::Replaying => Some(701),
+            ReplayScriptFault::Memory => None,
+        }
+    }
 }
 
 impl From<AllocError> for ReplayScriptFault {
