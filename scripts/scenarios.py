@@ -83,7 +83,7 @@ class Texts:
 
     def __init__(self):
         self.mode, self.blob, self.text, self.root, self.form = bao.Mode(), b"", b"", bytes(32), ("combined",)
-        self.outline = b""
+        self.outline, self.held = b"", []
 
     def given(self, form):
         kind, *numbers = form
@@ -228,16 +228,27 @@ class Texts:
             case "flips":
                 return runs(self.verdict(text[:k] + bytes([text[k] ^ 1]) + text[k + 1 :]) for k in range(len(text)))
             case "audit":
-                return [self.audit()]
+                return [self.audited(self.mode, self.root, *self.accepted())]
+            case "hold":
+                self.held.append((self.mode, self.root, *self.accepted()))
+            case "release":
+                self.held = []
+            case "audit_all":
+                said = [self.audited(*it) for it in self.held]
+                return [next((it for it in said if it != "agrees"), "all agree")]
             case "faults":
                 return self.FAULTS
             case _:
                 sys.exit(f"scenarios: no command {name}")
         return []
 
-    def audit(self):
+    def accepted(self):
+        """The text whose nodes were accepted, and the nodes."""
         text, _, found, _ = self.checked(self.text)
-        if self.mode.hash(self.blob) != self.root:
+        return text, found
+
+    def audited(self, mode, root, text, found):
+        if mode.hash(self.blob) != root:
             return "601 other root"
         for it in found:
             at = it.number * bao.CHUNK_LEN

@@ -3,3 +3,4 @@ mod Blocks
 mod TreeChunks
 mod Walks
 mod Audits
+mod First

@@ -1,9 +1,10 @@
 -- What an audit of a piece against a blob says.
-use Rattle.std.specs.Prelude.{◌≡◌, ℕ, ◌+◌, ◌<◌, List, length, Option, None, Some}
+use Rattle.std.specs.Prelude.{◌≡◌, ℕ, ◌+◌, ◌<◌, List, length, Option, None, Some, slice_index_or}
 use Rattle.b3word.specs.declared.input.Input.{Input}
+use Rattle.b3tree.specs.Hashing.{hash}
 use Rattle.bao_text.specs.Choice.{chunk_count}
 use Rattle.bao_check.specs.declared.checked.Checked.{Checked}
-use Rattle.bao_check.specs.Checked.{HoldsLast, piece_claimed, piece_mode, piece_places, piece_text}
+use Rattle.bao_check.specs.Checked.{HoldsLast, piece_claimed, piece_mode, piece_places, piece_root, piece_text}
 use Rattle.bao_check.specs.Inputs.{Names, blob_inputs, text_inputs}
 use Rattle.bao_check.specs.Pieces.{chunk_in, chunk_of}
 use Rattle.bao_bind.specs.declared.part.Part.{Part}
@@ -38,3 +39,22 @@ Compared blob piece to None =
     (number : ℕ) (bytes : List ℕ) → number < to → chunk_in (piece_text piece) (piece_places piece) number ≡ Some bytes → IsOurs blob (piece_claimed piece) number bytes
 Compared blob piece to (Some chunk) =
     (chunk_in (piece_text piece) (piece_places piece) chunk.first ≡ Some chunk.bytes.now) × (¬ IsOurs blob (piece_claimed piece) chunk.first chunk.bytes.now)
+
+-- The piece's root is the blob's hash in the piece's mode.
+abbrev pub HasRoot : List ℕ → Checked → Type 0
+HasRoot blob piece = hash (piece_mode piece) blob ≡ piece_root piece
+
+-- An audit of the piece says that it agrees; that it is of another root; or names a pair.
+abbrev pub IsOfBlob : List ℕ → Checked → Type 0
+IsOfBlob blob piece = HasRoot blob piece × AgreesWith blob piece
+
+abbrev pub IsOfOther : List ℕ → Checked → Type 0
+IsOfOther blob piece = ¬ HasRoot blob piece
+
+abbrev pub IsForged : List ℕ → Checked → Type 0
+IsForged blob piece = HasRoot blob piece × (¬ AgreesWith blob piece)
+
+-- Piece i is the first that isn't of the blob, and this is so of it.
+abbrev pub IsFirst : (Checked → Type 0) → List ℕ → List Checked → ℕ → Type 0
+IsFirst P blob pieces i =
+    (i < length pieces) × ((k : ℕ) (d : Checked) → k < i → IsOfBlob blob (slice_index_or pieces k d)) × ((d : Checked) → P (slice_index_or pieces i d))

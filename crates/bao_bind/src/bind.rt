@@ -1,15 +1,17 @@
-ghost use Rattle.std.specs.Prelude.{◌≡◌, ◌≢◌, ◌+◌, ◌*◌, ◌^◌, ◌<◌, ◌≤◌, ◌↔◌, ℕ, List, length, Some, IfNone, IfOk, IfSome, IsErr, IsTrue};
+ghost use Rattle.std.specs.Prelude.{◌≡◌, ◌≢◌, ◌+◌, ◌*◌, ◌^◌, ◌<◌, ◌≤◌, ◌↔◌, ℕ, All, List, length, None, Ok, Some, IfNone, IfOk, IfSome, IsErr, IsTrue, slice_index_or};
 ghost use Rattle.std.specs.Option.{option_copied};
+ghost use Rattle.b3word.specs.declared.input.Input.{Input};
 ghost use Rattle.b3tree.specs.Hashing.{hash};
+ghost use Rattle.bao_check.specs.declared.checked.Checked.{Checked};
 ghost use Rattle.bao_check.specs.Checked.{piece_claimed, piece_mode, piece_places, piece_root, piece_text};
 ghost use Rattle.bao_check.specs.Pieces.{chunk_in, chunk_of};
 ghost use Rattle.bao_text.specs.Choice.{chunk_count};
-ghost use Rattle.bao_bind.specs.Verdict.{AgreesWith, Compared, IsOurs, Says};
+ghost use Rattle.bao_bind.specs.Verdict.{AgreesWith, Compared, IsFirst, IsForged, IsOfBlob, IsOfOther, IsOurs, NamesFrom, Says};
 
 use crate::part::Part;
 use crate::search::walk;
 use crate::verdict::{AuditFault, Verdict};
-use b3tree::{CHUNK_LEN, Hash, Hasher};
+use b3tree::{CHUNK_LEN, Hash, Hasher, Input};
 use bao_check::Checked;
 
 // The bytes of a blob that are hashed before their chunks are compared: they are in the cache then.
@@ -137,4 +139,27 @@ pub fn audit(blob: &[u8], piece: &Checked<'_>) -> Result<Verdict, AuditFault>
         // Where nothing differs on the way, it ends in the blob's own chunk.
         None => unreachable!(),
     }
+}
+
+/// The pieces audited against a blob, in order, as `audit` does: none where all of them agree; else the index of the
+/// first that doesn't, from 0, with its two inputs that collide: the blob's, and then the piece's.
+///
+/// 601 `OtherRoot` exactly where the first piece that doesn't agree is of another root; later ones aren't looked at.
+/// It takes no memory, and costs a hash and a comparison for each piece that it audits.
+pub fn audit_all(
+    blob: &[u8],
+    pieces: &[Checked<'_>],
+) -> Result<Option<(usize, Input, Input)>, AuditFault>
+    ensures none { (result ≡ Ok None) ↔ All (IsOfBlob blob.now) pieces.now }
+    ensures forged { (i : ℕ) → ((ours theirs : Input) × (result ≡ Ok (Some (i, ours, theirs)))) ↔ IsFirst (IsForged blob.now) blob.now pieces.now i }
+    ensures names { IfOk result (λ found. IfSome found (λ at. (d : Checked) → NamesFrom blob.now (slice_index_or pieces.now at.0 d) at.1 at.2)) }
+    ensures other_root { IsErr result ↔ ((i : ℕ) × IsFirst (IsOfOther blob.now) blob.now pieces.now i) }
+{
+    'audits: for (index, piece) in pieces.iter().enumerate() {
+        match audit(blob, piece)? {
+            Verdict::Agrees => {}
+            Verdict::Collision { ours, theirs } => return Ok(Some((index, ours, theirs))),
+        }
+    }
+    Ok(None)
 }

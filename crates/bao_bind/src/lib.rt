@@ -3,7 +3,7 @@
 //! Nothing here takes memory.
 #![tactic(auto)]
 
-pub use bind::audit;
+pub use bind::{audit, audit_all};
 pub use verdict::{AuditFault, Verdict};
 
 mod bind;

@@ -5,6 +5,7 @@
 
 mod changes;
 mod faults;
+mod held;
 mod line;
 mod scene;
 mod trickle;

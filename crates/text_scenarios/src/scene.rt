@@ -1,11 +1,12 @@
 use crate::changes::{change, flip};
 use crate::faults::faults;
+use crate::held::{Held, audited, piece_of};
 use crate::line::{digest, mode, one, three, two};
 use crate::verdict::{Form, verdict};
 use anyhow::{Context, Result, bail};
 use b3tree::{CHUNK_LEN, Hash, Hasher, Mode, hash, xof, xof_fits};
 use bao_bind::{Verdict, audit};
-use bao_check::{Checked, bare_fits, check_bare, check_combined, check_outboard, check_slice};
+use bao_check::{Checked, bare_fits, check_bare, check_outboard};
 use bao_text::{Node, Nodes, combined, cut_slice, encoded_len, outboard, outboard_len, slice};
 use std::alloc::Global;
 
@@ -24,6 +25,8 @@ pub struct Scene {
     outline: Vec<u8>,
     root: Hash,
     form: Form,
+    // The pieces that are audited together.
+    held: Vec<Held>,
 }
 
 // How many bytes these are, and the first bytes of their plain hash.
@@ -59,6 +62,7 @@ impl Scene {
             outline: Vec::new(alloc),
             root: Hash([0; 32]),
             form: Form::Combined,
+            held: Vec::new(alloc),
         }
     }
 
@@ -81,6 +85,7 @@ impl Scene {
             "leaf" => self.leaf(alloc, words),
             "nodes" if !words.is_empty() => self.nodes(alloc, words),
             "chunk" | "parent" | "parents" | "nodes" | "audit" => self.ask(alloc, name, words),
+            "hold" | "release" | "audit_all" => self.hold(alloc, name),
             _ => bail!("a command"),
         }
     }
@@ -204,14 +209,27 @@ impl Scene {
 
     // The piece that the text was checked as.
     fn piece(&self, alloc: Global) -> Result<Checked<'_>> {
-        let text = self.text.as_slice();
-        match self.form {
-            Form::Combined => Ok(check_combined(alloc, &self.mode, &self.root, text)?),
-            Form::Slice { start, len } | Form::Stream { start, len, .. } => {
-                Ok(check_slice(alloc, &self.mode, &self.root, start, len, text)?)
+        piece_of(
+            alloc,
+            &self.mode,
+            &self.root,
+            self.form,
+            self.text.as_slice(),
+        )
+    }
+
+    // Holds that piece beside those before, or none any more; or audits all that are held against the blob.
+    fn hold(&mut self, alloc: Global, name: &str) -> Result<String> {
+        match name {
+            "hold" => {
+                let text = self.text.clone()?;
+                self.held
+                    .push(Held::new(self.mode, self.root, self.form, text))?;
             }
-            Form::Outboard | Form::Bare { .. } => bail!("a text with chunks and parents"),
+            "release" => self.held.clear(),
+            _ => return audited(alloc, self.blob.as_slice(), self.held.as_slice()),
         }
+        Ok(String::new(alloc))
     }
 
     fn leaf(&self, alloc: Global, words: &str) -> Result<String> {
