@@ -4,7 +4,7 @@ SHELL := bash
 .SHELLFLAGS := -eu -o pipefail -c
 .DEFAULT_GOAL := help
 .DELETE_ON_ERROR:
-.PHONY: help build run try install sum test wrong-bodies scenarios bench refuse fmt FORCE
+.PHONY: help build run try install sum test wrong-bodies scenarios c-library c-test bench refuse fmt FORCE
 
 PREFIX ?= /usr/local
 
@@ -16,7 +16,7 @@ CPU := $(if $(filter-out $(sort $(shell cat /proc/cpuinfo 2>/dev/null)),$(V3_NEE
 endif
 
 # Crates of which nothing goes into the program.
-ASIDE := bao_bind bao_join bao_refused bench text_scenarios store_scenarios program_scenarios tests_b3 tests_text tests_gather tests_shared tests_crews tests_files tests_command
+ASIDE := bao_bind bao_join bao_refused bench berylwool text_scenarios store_scenarios program_scenarios tests_b3 tests_text tests_gather tests_shared tests_crews tests_files tests_command
 
 # The files and folders whose change asks for a new proof. With the folders, a file that was taken
 # away is seen too.
@@ -31,6 +31,8 @@ help:
 	@echo 'make test                 the gate, rt ci: every proof from nothing, the must-fail edits, the tests and the programs'
 	@echo 'make wrong-bodies         tries the wrong bodies that the gate leaves out, of all crates or of CRATES="NAME .."'
 	@echo 'make scenarios            holds what the programs of scenarios have to print to replies made by the definitions alone'
+	@echo 'make c-library            proves the C library and builds it, as out/libberylwool.a and out/libberylwool.so (needs cc and binutils)'
+	@echo 'make c-test               holds c/berylwool.h to the sources, and runs the C tests, under what is installed of sanitizers, valgrind, clang and rustc'
 	@echo 'make bench                measures times and prints them with their ratios, beside b3sum where it is installed'
 	@echo 'make refuse               runs the program with one allocation refused after another (needs cc)'
 	@echo 'make fmt                  lays out the files of each crate'
@@ -91,3 +93,29 @@ out/bao_gather: out/cpu $(SOURCES)
 
 out/bench: out/cpu $(SOURCES) $(wildcard crates/bench/src/* crates/bao_bind/src/* crates/bao_join/src/*)
 	$(call built,bench,src/main.rt)
+
+# The C library stands on these, of which bao_bind isn't in SOURCES.
+C_SOURCES := $(SOURCES) $(shell shopt -s globstar nullglob; echo crates/{bao_bind,berylwool}/{src,specs,proofs}/**)
+
+# Where the kit's three functions over malloc lie.
+KIT_C = $(dir $(shell rt doc))c/liblibc_c.a
+
+# One object that shows the bw_ functions alone, so that two such libraries in one program don't meet.
+out/libberylwool.a: out/cpu $(C_SOURCES)
+	@echo 'Proving and building berylwool for $(CPU). The first time takes minutes (out/berylwool.log tells more).' >&2
+	@$(if $(JOBS),RT_JOBS=$(JOBS)) python3 scripts/prove_lanes.py berylwool >&2
+	@(cd crates/berylwool && rt lib --cpu=$(CPU) $(if $(JOBS),--jobs $(JOBS))) > out/berylwool.log 2>&1 \
+	    || { cat out/berylwool.log >&2; echo 'berylwool was not proved and built.' >&2; exit 1; }
+	@rm -rf out/c && mkdir -p out/c
+	@cd out/c && ar x ../../crates/berylwool/out/libberylwool.a berylwool.o && ar x $(KIT_C) heap.pic.o
+	@ld -r -o out/c/bw.o out/c/berylwool.o out/c/heap.pic.o
+	@objcopy --wildcard --keep-global-symbol='bw_*' out/c/bw.o
+	@rm -f $@ && ar rcs $@ out/c/bw.o
+
+out/libberylwool.so: out/libberylwool.a
+	@cc -shared -o $@ -Wl,--whole-archive $< -Wl,--no-whole-archive -Wl,-soname,libberylwool.so.0 -Wl,-z,defs
+
+c-library: out/libberylwool.a out/libberylwool.so
+
+c-test: c-library
+	@python3 scripts/c_test.py

@@ -1,0 +1,237 @@
+/* Verified content-addressed storage (BLAKE3, Bao) as a C library. Each function here is declared as crates/berylwool/src has it, and
+ * `make c-test` holds the two together. Link with libberylwool.a or libberylwool.so.
+ *
+ * Rules for every function, which nothing checks:
+ *   - No pointer is null. One beside a length of 0 may be any address that isn't null.
+ *   - What is passed as a pointer to non-const goes to one parameter of one call at a time. What is passed as const may be shared.
+ *   - Buffers are at most SIZE_MAX / 2 bytes long.
+ *   - malloc, realloc and free are of one allocator and align to 16.
+ *   - No function is called from a signal handler, or in the forked child of a process with threads.
+ * A function has no hidden state: calls on different memory may run at once, in any threads. No function starts a thread, waits, takes a
+ * lock, opens a file or prints. Memory is malloc's, and each refusal of it is a status. A call needs up to 256 KiB of stack.
+ *
+ * A status is BW_OK, which is 0, or the number of a fault. Where it isn't 0, only what is named beside the fault is written. */
+#ifndef BERYLWOOL_H
+#define BERYLWOOL_H
+
+#include <stddef.h>
+#include <stdint.h>
+
+#ifdef __cplusplus
+extern "C" {
+#define BW_AT_LEAST(n)
+#else
+#define BW_AT_LEAST(n) static n
+#endif
+
+#define BW_HASH_LEN 32
+#define BW_CHUNK_LEN 1024
+#define BW_GROUP_CHUNKS 64
+
+typedef uint32_t bw_status;
+
+enum {
+    BW_OK = 0,
+    BW_TOO_LONG = 201,       /* more than 2^64 - 1 bytes */
+    BW_TEXT_MEMORY = 401,    /* no memory for a text */
+    BW_SHORT = 501,          /* the text ends within the node that begins at *at */
+    BW_MISMATCH = 502,       /* the node that begins at *at is damaged */
+    BW_TRAILING = 503,       /* all is good, and something follows at *at */
+    BW_OTHER_BLOB = 601,     /* the blob's hash isn't the root */
+    BW_COLLISION = 602,      /* two inputs with one chaining value are named */
+    BW_STORE_MEMORY = 801,   /* no memory for a store */
+    BW_CAPACITY = 802,       /* the capacity isn't 1 to 65,536 chunks */
+    BW_NO_GROUP = 803,       /* the store has no such group */
+    BW_TOO_LARGE = 805,      /* the length is above what the store has room for */
+    BW_SPLIT_MEMORY = 806,   /* no memory for a seat */
+    BW_OTHER_LENGTH = 807,   /* the recorded length isn't the one that the text claims, or there is none */
+    BW_NO_LENGTH = 808,      /* no length is recorded */
+    BW_LACKING = 809,        /* the node in *lacking isn't held */
+    BW_SERVE_MEMORY = 810,   /* no memory for a slice */
+    BW_UNFINISHED = 901,     /* no length is recorded, or a byte isn't held */
+    BW_NOT_THE_ROOT = 902,   /* the hash of the bytes isn't the root */
+    BW_ROOM = 1201,          /* the caller's buffer has no room */
+    BW_NO_HANDLE = 1202,     /* the handle is empty, or of another kind */
+    BW_MEMORY = 1203,        /* no memory for what a handle owns */
+    BW_MISSING = 1204,       /* the byte at *missing isn't held */
+    BW_NO_TAIL = 1205,       /* the text hasn't the last chunk of its length */
+    BW_DIFFERS = 1206,       /* another length is recorded */
+    BW_NOT_UTF8 = 1207,      /* the context isn't UTF-8 */
+    BW_PAST_OUTPUT = 1208    /* the output asked for ends above 2^64 - 1 */
+};
+
+/* A status in words. */
+static inline const char *bw_strerror(bw_status status) {
+    switch (status) {
+    case BW_OK: return "success";
+    case BW_TOO_LONG: return "more than 2^64 - 1 bytes";
+    case BW_TEXT_MEMORY: return "no memory for a text";
+    case BW_SHORT: return "the text ends too early";
+    case BW_MISMATCH: return "the text is damaged";
+    case BW_TRAILING: return "something follows the text";
+    case BW_OTHER_BLOB: return "the blob's hash isn't the root";
+    case BW_COLLISION: return "two inputs with one chaining value";
+    case BW_STORE_MEMORY: return "no memory for a store";
+    case BW_CAPACITY: return "the capacity isn't 1 to 65,536 chunks";
+    case BW_NO_GROUP: return "the store has no such group";
+    case BW_TOO_LARGE: return "the length is above the store's room";
+    case BW_SPLIT_MEMORY: return "no memory for a seat";
+    case BW_OTHER_LENGTH: return "the recorded length isn't the text's";
+    case BW_NO_LENGTH: return "no length is recorded";
+    case BW_LACKING: return "a node of the slice isn't held";
+    case BW_SERVE_MEMORY: return "no memory for a slice";
+    case BW_UNFINISHED: return "no length is recorded, or a byte isn't held";
+    case BW_NOT_THE_ROOT: return "the hash of the bytes isn't the root";
+    case BW_ROOM: return "the buffer has no room";
+    case BW_NO_HANDLE: return "the handle is empty, or of another kind";
+    case BW_MEMORY: return "no memory for what a handle owns";
+    case BW_MISSING: return "a byte of the range isn't held";
+    case BW_NO_TAIL: return "the text hasn't the last chunk";
+    case BW_DIFFERS: return "another length is recorded";
+    case BW_NOT_UTF8: return "the context isn't UTF-8";
+    case BW_PAST_OUTPUT: return "the output asked for ends above 2^64 - 1";
+    default: return "no status of this library";
+    }
+}
+
+/* A mode: kind 1 is keyed hashing under `key`, and any other is plain hashing. */
+typedef struct bw_mode {
+    uint32_t kind;
+    uint8_t key[32];
+} bw_mode;
+
+/* What one compression takes in (BLAKE3 paper, 2.2). */
+typedef struct bw_input {
+    uint32_t h[8];
+    uint32_t m[16];
+    uint64_t t;
+    uint32_t b;
+    uint32_t d;
+} bw_input;
+
+/* A node of a blob's tree: kind 0 is the parent whose right part begins at chunk `number`, and 1 is chunk `number`. */
+typedef struct bw_node {
+    uint32_t kind;
+    uint64_t number;
+} bw_node;
+
+/* A handle owns a hasher or a seat, or is empty. Only this library reads or writes `at` and what lies behind it. A handle may be moved as
+ * bytes, and has one owner: a copy that is used beside it breaks everything. It may go from one thread to another by what orders memory:
+ * a thread's start or join, a lock, a sequentially consistent atomic. Set one to BW_EMPTY before its first use, and end with bw_free. */
+typedef struct bw_handle {
+    void *at;
+} bw_handle;
+
+#define BW_EMPTY {NULL}
+
+/* Frees what the handle owns, if it owns something. It is empty then, and may be freed again. */
+void bw_free(bw_handle *handle);
+
+/* --- Hashes */
+
+/* The hash of `bytes`. */
+void bw_hash(const bw_mode *mode, const uint8_t *bytes, size_t len, uint8_t out[BW_AT_LEAST(BW_HASH_LEN)]);
+
+/* Extended output, from its byte `at` on. BW_PAST_OUTPUT. */
+bw_status bw_xof(const bw_mode *mode, const uint8_t *bytes, size_t len, uint64_t at, uint8_t *out, size_t out_len);
+
+/* The key derived from `material` for the use that `context`, a UTF-8 text, names. BW_NOT_UTF8. */
+bw_status bw_derive_key(const uint8_t *context, size_t context_len, const uint8_t *material, size_t material_len, uint8_t *out,
+                        size_t out_len);
+
+/* A hasher that has taken in nothing; what the handle owned is freed. BW_MEMORY, with an empty handle. */
+bw_status bw_hasher_new(const bw_mode *mode, bw_handle *hasher);
+
+/* Takes in `bytes` after those before. BW_TOO_LONG, BW_NO_HANDLE: the hasher is as it was. */
+bw_status bw_hasher_update(bw_handle *hasher, const uint8_t *bytes, size_t len);
+
+/* The hash, or extended output, of what was taken in. The hasher can go on. BW_NO_HANDLE, BW_PAST_OUTPUT. */
+bw_status bw_hasher_finish(bw_handle *hasher, uint8_t out[BW_AT_LEAST(BW_HASH_LEN)]);
+bw_status bw_hasher_xof(bw_handle *hasher, uint64_t at, uint8_t *out, size_t out_len);
+
+/* --- Encodings written, to the start of the caller's buffer: *used says how long they are. BW_TEXT_MEMORY, BW_ROOM. */
+
+/* How long they are of a blob of `len` bytes. bw_encoded_len is 0 where that is above 2^64 - 1. A slice is at most as long as the combined
+ * encoding. */
+uint64_t bw_encoded_len(uint64_t len);
+uint64_t bw_outboard_len(uint64_t len);
+
+/* The combined and the outboard encoding of a blob and the slice of `slice_len` bytes from byte `start` on, with the blob's hash. */
+bw_status bw_encode(const bw_mode *mode, const uint8_t *bytes, size_t len, uint8_t *out, size_t out_len, size_t *used,
+                    uint8_t root[BW_AT_LEAST(BW_HASH_LEN)]);
+bw_status bw_outboard(const bw_mode *mode, const uint8_t *bytes, size_t len, uint8_t *out, size_t out_len, size_t *used,
+                      uint8_t root[BW_AT_LEAST(BW_HASH_LEN)]);
+bw_status bw_slice(const bw_mode *mode, const uint8_t *bytes, size_t len, uint64_t start, uint64_t slice_len, uint8_t *out, size_t out_len,
+                   size_t *used, uint8_t root[BW_AT_LEAST(BW_HASH_LEN)]);
+
+/* A slice cut out of a combined encoding, of which nothing is checked: what isn't there is left out. */
+bw_status bw_cut_slice(const uint8_t *text, size_t text_len, uint64_t start, uint64_t len, uint8_t *out, size_t out_len, size_t *used);
+
+/* --- Encodings checked: BW_OK exactly where they are accepted, or else the first fault, BW_SHORT, BW_MISMATCH or BW_TRAILING, and its
+ * place in *at. No memory is taken. */
+
+bw_status bw_check_slice(const bw_mode *mode, const uint8_t root[BW_AT_LEAST(BW_HASH_LEN)], uint64_t start, uint64_t len,
+                         const uint8_t *text, size_t text_len, uint64_t *at);
+bw_status bw_check_combined(const bw_mode *mode, const uint8_t root[BW_AT_LEAST(BW_HASH_LEN)], const uint8_t *text, size_t text_len,
+                            uint64_t *at);
+bw_status bw_check_outboard(const bw_mode *mode, const uint8_t root[BW_AT_LEAST(BW_HASH_LEN)], const uint8_t *text, size_t text_len,
+                            uint64_t *at);
+
+/* Checks a slice, and compares it with a blob. BW_OK: it is accepted, each chunk of it is the blob's, and the length that it certifies, if it
+ * does, is the blob's. BW_OTHER_BLOB: the blob's hash isn't the root. BW_COLLISION: *ours is an input that hashing the blob compresses, and
+ * *theirs one that checking the text compresses; they differ and have one chaining value. */
+bw_status bw_audit(const bw_mode *mode, const uint8_t root[BW_AT_LEAST(BW_HASH_LEN)], uint64_t start, uint64_t len,
+                   const uint8_t *text, size_t text_len, const uint8_t *blob, size_t blob_len, uint64_t *at, bw_input *ours,
+                   bw_input *theirs);
+
+/* --- The store that threads share: each thread has a seat of its own, and the store lives until its last seat is freed. Nothing is taken on
+ * anybody's word: what is stored comes from texts accepted under the store's root. Chunks are in groups of 64, and a mask is of a group:
+ * bit j stands for chunk 64 * group + j. Each call can answer BW_NO_HANDLE. */
+
+/* A store of at most `capacity` chunks, 1 to 65,536, and its first seat; what the handle owned is freed. BW_CAPACITY, BW_STORE_MEMORY,
+ * BW_MEMORY: the handle is empty then. */
+bw_status bw_store_new(const bw_mode *mode, const uint8_t root[BW_AT_LEAST(BW_HASH_LEN)], uint32_t capacity, bw_handle *seat);
+
+/* Another seat of the store, which has seen the same and claims nothing; what `other` owned is freed. BW_SPLIT_MEMORY, BW_MEMORY: `other` is
+ * empty then. */
+bw_status bw_seat_split(bw_handle *seat, bw_handle *other);
+
+/* Claims the wanted chunks that are neither held nor claimed. BW_NO_GROUP. */
+bw_status bw_seat_take(bw_handle *seat, uint32_t group, uint64_t want, uint64_t *granted);
+
+/* Ends the seat's claims among the mask. */
+bw_status bw_seat_give(bw_handle *seat, uint32_t group, uint64_t mask, uint64_t *given);
+
+/* Checks a text as the slice (start, len), stores exactly the chunks of the group that the seat claims and the text has, and ends these
+ * claims. BW_SHORT, BW_MISMATCH, BW_TRAILING as bw_check_slice. */
+bw_status bw_seat_commit(bw_handle *seat, uint32_t group, uint64_t start, uint64_t len, const uint8_t *text, size_t text_len,
+                         uint64_t *committed, uint64_t *at);
+
+/* Checks a text as the slice (2^64 - 1, 1), which has the last chunk, and records its length, if none is recorded. BW_SHORT, BW_MISMATCH,
+ * BW_TRAILING, BW_NO_TAIL, BW_TOO_LARGE, BW_DIFFERS. */
+bw_status bw_seat_settle(bw_handle *seat, const uint8_t *text, size_t text_len, uint64_t *at);
+
+/* Checks a text as the slice (start, len), and stores its parents at boundaries of the group, so that the store can serve them: bit j of
+ * *stored stands for the parent whose right part begins at chunk 64 * group + j. BW_SHORT, BW_MISMATCH, BW_TRAILING, BW_OTHER_LENGTH. */
+bw_status bw_seat_commit_parents(bw_handle *seat, uint32_t group, uint64_t start, uint64_t len, const uint8_t *text, size_t text_len,
+                                 uint64_t *stored, uint64_t *at);
+
+/* The recorded length of the blob. BW_UNFINISHED: none is. */
+bw_status bw_seat_length(bw_handle *seat, uint64_t *len);
+
+/* Fills `out` with the bytes from byte `from` of the blob on. BW_MISSING: the first that isn't held is at *missing, and those before it are
+ * filled in. */
+bw_status bw_seat_read(bw_handle *seat, uint64_t from, uint8_t *out, size_t out_len, uint64_t *missing);
+
+/* Puts the text of the slice (start, len) to the start of `out`, also of an unfinished store. BW_NO_LENGTH, BW_LACKING, BW_SERVE_MEMORY,
+ * BW_ROOM. */
+bw_status bw_seat_serve_slice(bw_handle *seat, uint64_t start, uint64_t len, uint8_t *out, size_t out_len, size_t *used, bw_node *lacking);
+
+/* Puts the whole blob to the start of `out`, once the hash of its bytes is the root. BW_UNFINISHED, BW_ROOM, BW_NOT_THE_ROOT. */
+bw_status bw_seat_finish(bw_handle *seat, uint8_t *out, size_t out_len, size_t *used);
+
+#ifdef __cplusplus
+}
+#endif
+
+#endif

@@ -1,0 +1,154 @@
+//! The C library from Rust: safe wrappers over `extern "C"`, and a blob gathered by four threads.
+//!
+//! rustc --edition 2021 -L FOLDER_OF_THE_ARCHIVE c/examples/berylwool.rs
+use std::ptr;
+
+#[repr(C)]
+pub struct Mode {
+    kind: u32,
+    key: [u8; 32],
+}
+
+#[repr(C)]
+struct Handle {
+    at: *mut u8,
+}
+
+#[link(name = "berylwool", kind = "static")]
+unsafe extern "C" {
+    fn bw_hash(mode: &Mode, bytes: *const u8, len: usize, out: &mut [u8; 32]);
+    fn bw_encoded_len(len: u64) -> u64;
+    fn bw_encode(mode: &Mode, bytes: *const u8, len: usize, out: *mut u8, out_len: usize, used: &mut usize, root: &mut [u8; 32]) -> u32;
+    fn bw_cut_slice(text: *const u8, text_len: usize, start: u64, len: u64, out: *mut u8, out_len: usize, used: &mut usize) -> u32;
+    fn bw_check_slice(mode: &Mode, root: &[u8; 32], start: u64, len: u64, text: *const u8, text_len: usize, at: &mut u64) -> u32;
+    fn bw_store_new(mode: &Mode, root: &[u8; 32], capacity: u32, seat: &mut Handle) -> u32;
+    fn bw_seat_split(seat: &mut Handle, other: &mut Handle) -> u32;
+    fn bw_seat_take(seat: &mut Handle, group: u32, want: u64, granted: &mut u64) -> u32;
+    fn bw_seat_commit(seat: &mut Handle, group: u32, start: u64, len: u64, text: *const u8, text_len: usize, committed: &mut u64, at: &mut u64) -> u32;
+    fn bw_seat_settle(seat: &mut Handle, text: *const u8, text_len: usize, at: &mut u64) -> u32;
+    fn bw_seat_finish(seat: &mut Handle, out: *mut u8, out_len: usize, used: &mut usize) -> u32;
+    fn bw_free(handle: &mut Handle);
+}
+
+pub const PLAIN: Mode = Mode { kind: 0, key: [0; 32] };
+
+/// The number of a fault.
+#[derive(Debug, PartialEq)]
+pub struct Fault(pub u32);
+
+fn told(status: u32) -> Result<(), Fault> {
+    if status == 0 { Ok(()) } else { Err(Fault(status)) }
+}
+
+pub fn hash(mode: &Mode, bytes: &[u8]) -> [u8; 32] {
+    let mut out = [0; 32];
+    unsafe { bw_hash(mode, bytes.as_ptr(), bytes.len(), &mut out) };
+    out
+}
+
+pub fn encode(mode: &Mode, bytes: &[u8]) -> Result<([u8; 32], Vec<u8>), Fault> {
+    let (mut root, mut used) = ([0; 32], 0);
+    let mut out = vec![0; unsafe { bw_encoded_len(bytes.len() as u64) } as usize];
+    told(unsafe { bw_encode(mode, bytes.as_ptr(), bytes.len(), out.as_mut_ptr(), out.len(), &mut used, &mut root) })?;
+    out.truncate(used);
+    Ok((root, out))
+}
+
+pub fn cut_slice(text: &[u8], start: u64, len: u64) -> Result<Vec<u8>, Fault> {
+    let (mut out, mut used) = (vec![0; text.len()], 0);
+    told(unsafe { bw_cut_slice(text.as_ptr(), text.len(), start, len, out.as_mut_ptr(), out.len(), &mut used) })?;
+    out.truncate(used);
+    Ok(out)
+}
+
+/// The fault's number and its place.
+pub fn check_slice(mode: &Mode, root: &[u8; 32], start: u64, len: u64, text: &[u8]) -> Result<(), (Fault, u64)> {
+    let mut at = 0;
+    told(unsafe { bw_check_slice(mode, root, start, len, text.as_ptr(), text.len(), &mut at) }).map_err(|fault| (fault, at))
+}
+
+/// A seat of a shared store. It may go to another thread, and is used by one at a time: it is `Send`, and each call takes `&mut`.
+pub struct Seat(Handle);
+
+unsafe impl Send for Seat {}
+
+impl Seat {
+    pub fn new(mode: &Mode, root: &[u8; 32], capacity: u32) -> Result<Seat, Fault> {
+        let mut seat = Seat(Handle { at: ptr::null_mut() });
+        told(unsafe { bw_store_new(mode, root, capacity, &mut seat.0) })?;
+        Ok(seat)
+    }
+
+    pub fn split(&mut self) -> Result<Seat, Fault> {
+        let mut other = Seat(Handle { at: ptr::null_mut() });
+        told(unsafe { bw_seat_split(&mut self.0, &mut other.0) })?;
+        Ok(other)
+    }
+
+    pub fn take(&mut self, group: u32, want: u64) -> Result<u64, Fault> {
+        let mut granted = 0;
+        told(unsafe { bw_seat_take(&mut self.0, group, want, &mut granted) })?;
+        Ok(granted)
+    }
+
+    pub fn commit(&mut self, group: u32, start: u64, len: u64, text: &[u8]) -> Result<u64, (Fault, u64)> {
+        let (mut committed, mut at) = (0, 0);
+        told(unsafe { bw_seat_commit(&mut self.0, group, start, len, text.as_ptr(), text.len(), &mut committed, &mut at) }).map_err(|fault| (fault, at))?;
+        Ok(committed)
+    }
+
+    pub fn settle(&mut self, text: &[u8]) -> Result<(), (Fault, u64)> {
+        let mut at = 0;
+        told(unsafe { bw_seat_settle(&mut self.0, text.as_ptr(), text.len(), &mut at) }).map_err(|fault| (fault, at))
+    }
+
+    pub fn finish(&mut self, out: &mut [u8]) -> Result<usize, Fault> {
+        let mut used = 0;
+        told(unsafe { bw_seat_finish(&mut self.0, out.as_mut_ptr(), out.len(), &mut used) })?;
+        Ok(used)
+    }
+}
+
+impl Drop for Seat {
+    fn drop(&mut self) {
+        unsafe { bw_free(&mut self.0) }
+    }
+}
+
+fn main() {
+    let blob: Vec<u8> = (0..1_000_003u32).map(|i| (i.wrapping_mul(2_654_435_761) >> 24) as u8).collect();
+    let (root, text) = encode(&PLAIN, &blob).unwrap();
+    assert_eq!(root, hash(&PLAIN, &blob));
+    assert_eq!(hash(&PLAIN, &[])[..4], [0xaf, 0x13, 0x49, 0xb9]);
+    let mut bad = text.clone();
+    bad[text.len() / 2..][..5000].fill(0);
+    let mut piece = cut_slice(&text, 5000, 10).unwrap();
+    assert_eq!(check_slice(&PLAIN, &root, 5000, 10, &piece), Ok(()));
+    *piece.last_mut().unwrap() ^= 1;
+    assert_eq!(check_slice(&PLAIN, &root, 5000, 10, &piece).unwrap_err().0, Fault(502));
+    let mut first = Seat::new(&PLAIN, &root, 1024).unwrap();
+    first.settle(&cut_slice(&text, u64::MAX, 1).unwrap()).unwrap();
+    std::thread::scope(|scope| {
+        for _ in 0..4 {
+            let mut seat = first.split().unwrap();
+            let texts = [&bad, &text];
+            scope.spawn(move || {
+                for group in 0..16 {
+                    let mut left = seat.take(group, u64::MAX).unwrap();
+                    for text in texts {
+                        if left == 0 {
+                            break;
+                        }
+                        let start = u64::from(group) * 65_536;
+                        if let Ok(committed) = seat.commit(group, start, 65_536, &cut_slice(text, start, 65_536).unwrap()) {
+                            left &= !committed;
+                        }
+                    }
+                }
+            });
+        }
+    });
+    let mut found = vec![0; blob.len()];
+    assert_eq!(first.finish(&mut found), Ok(blob.len()));
+    assert!(found == blob);
+}

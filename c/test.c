@@ -1,0 +1,277 @@
+/* Calls each function that berylwool.h declares, and gathers a blob by four threads out of three buffers, two of which are damaged, while
+ * the unfinished store serves slices. vectors.h has the rows of scripts/b3sum.tsv, which are from outside. It prints nothing and exits with
+ * 0, or says which line failed. */
+#include "berylwool.h"
+#include "vectors.h"
+
+#include <pthread.h>
+#include <stdio.h>
+#include <stdlib.h>
+#include <string.h>
+
+#define WANT(test)                                                                 \
+    do {                                                                           \
+        if (!(test)) {                                                             \
+            fprintf(stderr, "test.c:%d: this is not so: %s\n", __LINE__, #test);   \
+            exit(1);                                                               \
+        }                                                                          \
+    } while (0)
+
+enum { BLOB_LEN = 1000003, HOLDERS = 3, THREADS = 4, GROUP_LEN = BW_GROUP_CHUNKS * BW_CHUNK_LEN };
+
+static const bw_mode plain = {0, {0}};
+
+typedef struct holder {
+    uint8_t *text;
+    size_t len;
+} holder;
+
+typedef struct worker {
+    bw_handle seat;
+    const uint8_t *root;
+    const holder *holders;
+    uint32_t number;
+    uint32_t groups;
+    uint64_t stored;
+    uint64_t parents;
+    uint64_t refused;
+    uint64_t served;
+} worker;
+
+static uint8_t *room(size_t len) {
+    uint8_t *at = malloc(len ? len : 1);
+    WANT(at != NULL);
+    return at;
+}
+
+static uint64_t count(uint64_t mask) {
+    uint64_t n = 0;
+    for (; mask != 0; mask &= mask - 1) n++;
+    return n;
+}
+
+static void ask_group(worker *it, uint32_t group, uint8_t *slice, size_t slice_len) {
+    uint64_t left = 0, start = (uint64_t)group * GROUP_LEN;
+    uint64_t chunks = (BLOB_LEN + BW_CHUNK_LEN - 1) / BW_CHUNK_LEN - (uint64_t)group * BW_GROUP_CHUNKS;
+    uint64_t want = chunks >= 64 ? UINT64_MAX : (UINT64_C(1) << chunks) - 1;
+    WANT(bw_seat_take(&it->seat, group, want, &left) == BW_OK);
+    for (int k = 0; k < HOLDERS && left != 0; k++) {
+        const holder *from = &it->holders[(it->number + (uint32_t)k) % HOLDERS];
+        size_t used = 0;
+        uint64_t committed = 0, at = 0;
+        WANT(bw_cut_slice(from->text, from->len, start, GROUP_LEN, slice, slice_len, &used) == BW_OK);
+        bw_status status = bw_seat_commit(&it->seat, group, start, GROUP_LEN, slice, used, &committed, &at);
+        if (status == BW_OK) {
+            uint64_t parents = 0;
+            left &= ~committed;
+            it->stored += count(committed);
+            WANT(bw_seat_commit_parents(&it->seat, group, start, GROUP_LEN, slice, used, &parents, &at) == BW_OK);
+            it->parents += count(parents);
+        } else {
+            WANT(status == BW_MISMATCH);
+            it->refused++;
+        }
+    }
+    uint64_t given = 0;
+    WANT(bw_seat_give(&it->seat, group, left, &given) == BW_OK && given == left);
+    /* What the store serves is a true slice, finished or not. */
+    bw_node lacking = {7, 7};
+    size_t used = 0;
+    uint64_t at = 0;
+    bw_status status = bw_seat_serve_slice(&it->seat, start, 1, slice, slice_len, &used, &lacking);
+    if (status == BW_OK) {
+        WANT(bw_check_slice(&plain, it->root, start, 1, slice, used, &at) == BW_OK);
+        it->served++;
+    } else {
+        WANT(status == BW_LACKING && lacking.kind < 2 && lacking.number < 1024);
+    }
+}
+
+static void *work(void *arg) {
+    worker *it = arg;
+    size_t slice_len = (size_t)bw_encoded_len(GROUP_LEN) + 64 * 64;
+    uint8_t *slice = room(slice_len);
+    for (uint32_t step = 0; step < it->groups; step++) ask_group(it, (it->number * it->groups / THREADS + step) % it->groups, slice, slice_len);
+    free(slice);
+    return NULL;
+}
+
+/* Each row in one piece and in two, as hash and as output. */
+static void rows(void) {
+    static uint8_t bytes[ROWS_MAX_LEN];
+    for (size_t i = 0; i < sizeof bytes; i++) bytes[i] = (uint8_t)(i % 251);
+    for (size_t k = 0; k < sizeof rows_of_b3sum / sizeof *rows_of_b3sum; k++) {
+        const row *it = &rows_of_b3sum[k];
+        uint8_t out[ROW_OUT_LEN], part[7];
+        if (it->kind == 2) {
+            WANT(bw_derive_key((const uint8_t *)ROW_CONTEXT, sizeof ROW_CONTEXT - 1, bytes, it->len, out, sizeof out) == BW_OK);
+            WANT(memcmp(out, it->out, sizeof out) == 0);
+            continue;
+        }
+        bw_mode mode = {it->kind, {0}};
+        memcpy(mode.key, ROW_KEY, sizeof mode.key);
+        bw_hash(&mode, bytes, it->len, out);
+        WANT(memcmp(out, it->out, BW_HASH_LEN) == 0);
+        WANT(bw_xof(&mode, bytes, it->len, 0, out, sizeof out) == BW_OK);
+        WANT(memcmp(out, it->out, sizeof out) == 0);
+        WANT(bw_xof(&mode, bytes, it->len, 61, part, sizeof part) == BW_OK && memcmp(part, it->out + 61, sizeof part) == 0);
+        bw_handle hasher = BW_EMPTY;
+        WANT(bw_hasher_new(&mode, &hasher) == BW_OK);
+        WANT(bw_hasher_update(&hasher, bytes, it->len / 3) == BW_OK);
+        WANT(bw_hasher_update(&hasher, bytes + it->len / 3, it->len - it->len / 3) == BW_OK);
+        WANT(bw_hasher_xof(&hasher, 61, part, sizeof part) == BW_OK && memcmp(part, it->out + 61, sizeof part) == 0);
+        WANT(bw_hasher_finish(&hasher, out) == BW_OK && memcmp(out, it->out, BW_HASH_LEN) == 0);
+        bw_free(&hasher);
+    }
+}
+
+static void hashes(const uint8_t *blob, size_t len, const uint8_t *root) {
+    uint8_t out[BW_HASH_LEN];
+    static const uint8_t of_nothing[BW_HASH_LEN] = {0xaf, 0x13, 0x49, 0xb9, 0xf5, 0xf9, 0xa1, 0xa6, 0xa0, 0x40, 0x4d, 0xea, 0x36, 0xdc, 0xc9, 0x49,
+                                                    0x9b, 0xcb, 0x25, 0xc9, 0xad, 0xc1, 0x12, 0xb7, 0xcc, 0x9a, 0x93, 0xca, 0xe4, 0x1f, 0x32, 0x62};
+    bw_hash(&plain, blob, 0, out);
+    WANT(memcmp(out, of_nothing, sizeof out) == 0);
+    bw_hash(&plain, blob, len, out);
+    WANT(memcmp(out, root, sizeof out) == 0);
+
+    bw_handle hasher = BW_EMPTY;
+    WANT(bw_hasher_update(&hasher, blob, 1) == BW_NO_HANDLE);
+    WANT(bw_hasher_finish(&hasher, out) == BW_NO_HANDLE);
+    WANT(bw_hasher_new(&plain, &hasher) == BW_OK);
+    for (size_t at = 0, step = 1; at < len; at += step, step = step * 3 % 8191 + 1) {
+        if (step > len - at) step = len - at;
+        WANT(bw_hasher_update(&hasher, blob + at, step) == BW_OK);
+    }
+    memset(out, 0, sizeof out);
+    WANT(bw_hasher_finish(&hasher, out) == BW_OK);
+    WANT(memcmp(out, root, sizeof out) == 0);
+    uint64_t mask = 0;
+    WANT(bw_seat_take(&hasher, 0, 1, &mask) == BW_NO_HANDLE);
+    WANT(bw_xof(&plain, blob, 1, UINT64_MAX, out, 1) == BW_PAST_OUTPUT);
+    WANT(bw_hasher_xof(&hasher, UINT64_MAX, out, 1) == BW_PAST_OUTPUT);
+    WANT(bw_xof(&plain, blob, 1, UINT64_MAX, out, 0) == BW_OK);
+    WANT(bw_derive_key((const uint8_t *)"\xff", 1, blob, 1, out, 1) == BW_NOT_UTF8);
+    WANT(strcmp(bw_strerror(BW_OK), "success") == 0 && strcmp(bw_strerror(1), bw_strerror(2)) == 0);
+    WANT(bw_hasher_new(&plain, &hasher) == BW_OK);
+    WANT(bw_hasher_finish(&hasher, out) == BW_OK);
+    WANT(memcmp(out, of_nothing, sizeof out) == 0);
+    bw_free(&hasher);
+    bw_free(&hasher);
+    WANT(hasher.at == NULL);
+}
+
+static void texts(const uint8_t *blob, const uint8_t *root, holder *good) {
+    uint8_t again[BW_HASH_LEN];
+    uint64_t at = 7;
+    size_t used = 0, outboard_len = (size_t)bw_outboard_len(BLOB_LEN);
+    uint8_t *outboard = room(outboard_len);
+    WANT(bw_encode(&plain, blob, BLOB_LEN, outboard, outboard_len, &used, again) == BW_ROOM);
+    WANT(bw_outboard(&plain, blob, BLOB_LEN, outboard, outboard_len, &used, again) == BW_OK);
+    WANT(used == outboard_len && memcmp(again, root, sizeof again) == 0);
+    WANT(bw_check_outboard(&plain, root, outboard, used, &at) == BW_OK && at == 7);
+    outboard[8] ^= 1;
+    WANT(bw_check_outboard(&plain, root, outboard, used, &at) == BW_MISMATCH && at == 8);
+    free(outboard);
+
+    WANT(bw_check_combined(&plain, root, good->text, good->len, &at) == BW_OK);
+    WANT(bw_check_combined(&plain, root, good->text, good->len - 1, &at) == BW_SHORT);
+    uint8_t *longer = room(good->len + 1);
+    memcpy(longer, good->text, good->len);
+    longer[good->len] = 0;
+    WANT(bw_check_combined(&plain, root, longer, good->len + 1, &at) == BW_TRAILING && at == good->len);
+    free(longer);
+
+    bw_input ours, theirs;
+    size_t cut_len = (size_t)bw_encoded_len(4096) + 64 * 64;
+    uint8_t *cut = room(cut_len);
+    WANT(bw_cut_slice(good->text, good->len, 5000, 3000, cut, cut_len, &used) == BW_OK);
+    WANT(bw_check_slice(&plain, root, 5000, 3000, cut, used, &at) == BW_OK);
+    uint8_t *whole = room(cut_len);
+    size_t whole_len = 0;
+    WANT(bw_slice(&plain, blob, BLOB_LEN, 5000, 3000, whole, cut_len, &whole_len, again) == BW_OK);
+    WANT(whole_len == used && memcmp(whole, cut, used) == 0 && memcmp(again, root, sizeof again) == 0);
+    WANT(bw_slice(&plain, blob, BLOB_LEN, 5000, 3000, whole, used - 1, &whole_len, again) == BW_ROOM);
+    free(whole);
+    WANT(bw_audit(&plain, root, 5000, 3000, cut, used, blob, BLOB_LEN, &at, &ours, &theirs) == BW_OK);
+    WANT(bw_audit(&plain, root, 5000, 3000, cut, used, blob, BLOB_LEN - 1, &at, &ours, &theirs) == BW_OTHER_BLOB);
+    cut[used - 1] ^= 128;
+    WANT(bw_check_slice(&plain, root, 5000, 3000, cut, used, &at) == BW_MISMATCH && at < used);
+    WANT(bw_audit(&plain, root, 5000, 3000, cut, used, blob, BLOB_LEN, &at, &ours, &theirs) == BW_MISMATCH);
+    free(cut);
+}
+
+int main(void) {
+    uint8_t root[BW_HASH_LEN];
+    uint8_t *blob = room(BLOB_LEN), *found = room(BLOB_LEN);
+    uint32_t seed = 1;
+    for (size_t i = 0; i < BLOB_LEN; i++) blob[i] = (uint8_t)((seed = seed * 1664525 + 1013904223) >> 24);
+    holder holders[HOLDERS];
+    for (int k = 0; k < HOLDERS; k++) {
+        holders[k].len = (size_t)bw_encoded_len(BLOB_LEN);
+        holders[k].text = room(holders[k].len);
+        size_t used = 0;
+        WANT(bw_encode(&plain, blob, BLOB_LEN, holders[k].text, holders[k].len, &used, root) == BW_OK && used == holders[k].len);
+    }
+    rows();
+    hashes(blob, BLOB_LEN, root);
+    texts(blob, root, &holders[0]);
+
+    /* Two are damaged: one in 40 bytes all over it, and one in its second half. */
+    for (size_t i = 1; i <= 40; i++) holders[1].text[holders[1].len / 41 * i] ^= 4;
+    memset(holders[2].text + holders[2].len / 2, 0, 1000);
+
+    bw_handle first = BW_EMPTY;
+    uint64_t at = 0, len = 0, missing = 0;
+    WANT(bw_store_new(&plain, root, 0, &first) == BW_CAPACITY && first.at == NULL);
+    WANT(bw_store_new(&plain, root, 1024, &first) == BW_OK);
+    WANT(bw_seat_length(&first, &len) == BW_UNFINISHED);
+    bw_node none = {7, 7};
+    size_t nothing = 7;
+    WANT(bw_seat_serve_slice(&first, 0, 1, found, BLOB_LEN, &nothing, &none) == BW_NO_LENGTH && nothing == 7 && none.kind == 7);
+    uint8_t tail[8 + 64 * 64 + BW_CHUNK_LEN];
+    size_t used = 0;
+    WANT(bw_cut_slice(holders[0].text, holders[0].len, UINT64_MAX, 1, tail, sizeof tail, &used) == BW_OK);
+    WANT(bw_seat_commit_parents(&first, 0, UINT64_MAX, 1, tail, used, &at, &missing) == BW_OTHER_LENGTH);
+    WANT(bw_seat_settle(&first, tail, used - 1, &at) == BW_SHORT);
+    WANT(bw_seat_settle(&first, tail, used, &at) == BW_OK);
+    WANT(bw_seat_length(&first, &len) == BW_OK && len == BLOB_LEN);
+    WANT(bw_seat_settle(&first, tail, used, &at) == BW_OK);
+    WANT(bw_seat_take(&first, 16, 1, &at) == BW_NO_GROUP);
+    bw_node lacking = {7, 7};
+    WANT(bw_seat_serve_slice(&first, 0, 1, found, BLOB_LEN, &used, &lacking) == BW_LACKING && lacking.kind == 0 && lacking.number == 512);
+    WANT(bw_seat_finish(&first, found, BLOB_LEN - 1, &used) == BW_ROOM);
+    WANT(bw_seat_finish(&first, found, BLOB_LEN, &used) == BW_UNFINISHED);
+
+    pthread_t threads[THREADS];
+    worker workers[THREADS];
+    for (uint32_t k = 0; k < THREADS; k++) {
+        workers[k] = (worker){BW_EMPTY, root, holders, k, (BLOB_LEN + GROUP_LEN - 1) / GROUP_LEN, 0, 0, 0, 0};
+        WANT(bw_seat_split(&first, &workers[k].seat) == BW_OK);
+        WANT(pthread_create(&threads[k], NULL, work, &workers[k]) == 0);
+    }
+    uint64_t stored = 0, parents = 0;
+    for (int k = 0; k < THREADS; k++) {
+        WANT(pthread_join(threads[k], NULL) == 0);
+        stored += workers[k].stored;
+        parents += workers[k].parents;
+        bw_free(&workers[k].seat);
+    }
+    WANT(stored == (BLOB_LEN + BW_CHUNK_LEN - 1) / BW_CHUNK_LEN && parents == stored - 1);
+    /* The finished store serves the whole encoding, as it would be written. */
+    size_t text_len = 0;
+    uint8_t *text = room(holders[0].len);
+    WANT(bw_seat_serve_slice(&first, 0, UINT64_MAX, text, holders[0].len - 1, &text_len, &lacking) == BW_ROOM);
+    WANT(bw_seat_serve_slice(&first, 0, UINT64_MAX, text, holders[0].len, &text_len, &lacking) == BW_OK);
+    WANT(text_len == holders[0].len && memcmp(text, holders[0].text, text_len) == 0);
+    free(text);
+    WANT(bw_seat_read(&first, BLOB_LEN - 5, found, 5, &missing) == BW_OK && memcmp(found, blob + BLOB_LEN - 5, 5) == 0);
+    WANT(bw_seat_read(&first, BLOB_LEN - 5, found, 6, &missing) == BW_MISSING && missing == BLOB_LEN);
+    WANT(bw_seat_finish(&first, found, BLOB_LEN, &used) == BW_OK && used == BLOB_LEN);
+    WANT(memcmp(found, blob, BLOB_LEN) == 0);
+    bw_free(&first);
+    WANT(bw_seat_finish(&first, found, BLOB_LEN, &used) == BW_NO_HANDLE);
+    for (int k = 0; k < HOLDERS; k++) free(holders[k].text);
+    free(blob);
+    free(found);
+    return 0;
+}

@@ -1,0 +1,4 @@
+pub mod HandleValues
+pub mod SeatCalls
+pub mod Texts
+pub mod Values

@@ -1,0 +1,61 @@
+-- What calls of a seat come to: slices that C hands to a store, and what the store answers.
+use Rattle.std.specs.Prelude.{◌≡◌, ◌⊎◌, ℕ, List, length, Option}
+use Rattle.b3tree.specs.Hashing.{hash}
+use Rattle.bao_check.specs.Accepted.{IsAccepted, slice_nodes}
+use Rattle.store_commit.specs.Parents.{ParentsBind}
+use Rattle.store_core.specs.declared.fixed.Fixed.{Fixed}
+use Rattle.store_core.specs.declared.history.Call.TheVariants.{Commit, Parents, Serve, Settle}
+use Rattle.store_core.specs.declared.history.Piece.{Piece}
+use Rattle.store_core.specs.declared.history.Serving.TheVariants.{Text}
+use Rattle.store_core.specs.declared.history.Settling.TheVariants.{Known, Settled}
+use Rattle.store_core.specs.declared.history.Storing.TheVariants.{Stored}
+use Rattle.store_core.specs.declared.view.SeatView.{SeatView}
+use Rattle.store_core.specs.Stores.{ChunksBind, filled_count}
+use Rattle.store_read.specs.Reading.{DidRead, ReadBinds}
+use Rattle.store_read.specs.Serving.{SliceBinds}
+use Rattle.store_shared.specs.declared.assembly.Assembly.{Assembly}
+use Rattle.store_shared.specs.Seats.{fixed_of}
+use Rattle.store_steps.specs.Grips.{Gripped}
+use Rattle.store_steps.specs.Tells.{Called}
+use Rattle.berylwool.specs.Status.{IsRefused}
+
+-- the piece that a text is as the slice of `len` bytes from byte `start` on
+abbrev pub slice_piece : List ℕ → ℕ → ℕ → Piece
+slice_piece text start len = record { start = start; len = len; text = text }
+
+-- the text is accepted as this slice, under the store's root
+abbrev pub IsSliceOf : Assembly → List ℕ → ℕ → ℕ → Type 0
+IsSliceOf store text start len = IsAccepted (fixed_of store).mode (fixed_of store).root.0 text (slice_nodes text start len)
+
+-- or the status and the place are those of its first fault
+abbrev pub IsNoSliceOf : Assembly → List ℕ → ℕ → ℕ → ℕ → ℕ → Type 0
+IsNoSliceOf store text start len status at = IsRefused (fixed_of store).mode (fixed_of store).root.0 text (slice_nodes text start len) status at
+
+-- Chunks of the piece are stored: an event of the store, and for each blob with its root they are the blob's or a pair is named.
+pub record Commits (store : Assembly) (group : ℕ) (piece : Piece) (committed : ℕ) (old new : Gripped) : Type 0 where
+  pub called : Called (Commit group piece committed) old.view new.view
+  pub binds : ChunksBind (fixed_of store) piece group committed
+
+-- Parents of the piece are stored: an event of the store, and for each blob with its root those that the seat has seen held are the blob's
+-- or a pair is named.
+pub record StoresParents (group : ℕ) (piece : Piece) (stored : ℕ) (old new : Gripped) : Type 0 where
+  pub called : Called (Parents group piece (Stored stored)) old.view new.view
+  pub binds : ParentsBind new.view
+
+-- the piece's length is recorded: now, or as it was
+abbrev pub HasSettled : Piece → SeatView → SeatView → Type 0
+HasSettled piece old new = Called (Settle piece Settled) old new ⊎ Called (Settle piece Known) old new
+
+-- A read fills a buffer: an event of the store, and for each blob with its root the bytes are the blob's or a pair is named.
+pub record Reads (at : ℕ) (before after : List ℕ) (missing : Option ℕ) (old new : Gripped) : Type 0 where
+  pub did : DidRead old.view new.view at before after missing
+  pub binds : ReadBinds new.view at after (filled_count at (length before) missing)
+
+-- A slice is served: an event of the store, and for each blob with its root the text is the blob's slice or a pair is named.
+pub record Serves (start len : ℕ) (text : List ℕ) (old new : Gripped) : Type 0 where
+  pub called : Called (Serve start len (Text text)) old.view new.view
+  pub binds : SliceBinds new.view start len text
+
+-- the bytes have the root of the store
+abbrev pub HasRoot : Fixed → List ℕ → Type 0
+HasRoot fixed bytes = hash fixed.mode bytes ≡ fixed.root.0

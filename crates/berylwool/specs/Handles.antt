@@ -1,0 +1,82 @@
+-- What a handle owns, and what is so of it.
+use Rattle.std.specs.Prelude.{◌≡◌, ℕ, List, Option, None, Some}
+use Rattle.std.specs.Arc.{arc_value}
+use Rattle.std.specs.declared.alloc.Global.{Global}
+use Rattle.std.specs.contracts.impls.GlobalAllocator.TheImpl.{ghosts}
+use Rattle.std_alloc.specs.Box.Ownership.{box_owns}
+use Rattle.b3tree.specs.declared.mode.Mode.{Mode}
+use Rattle.b3tree.specs.Taken.{Holds}
+use Rattle.store_shared.specs.declared.assembly.Assembly.{Assembly}
+use Rattle.store_shared.specs.Seats.{IsSeatOf}
+use Rattle.store_steps.specs.Grips.{Gripped}
+use Rattle.berylwool.specs.declared.held.Held.{Held}
+use Rattle.berylwool.specs.declared.held.Held.TheVariants.{Gone, Hasher, Seat}
+use Rattle.berylwool.specs.contracts.held.Held.{the_row}
+use base.Fml.{Fml, ftrue, fex}
+use denote.RawPtr.{Ptr, block_ptr, null_ptr}
+
+-- a seat is one of the store beside it
+abbrev pub IsGood : Held → Type 0
+IsGood (Hasher hasher) = Unit {0}
+IsGood (Seat seated) = IsSeatOf (arc_value seated.store) seated.seat
+IsGood Gone = Unit {0}
+
+-- Of a value the right to its block, where what lies there is good. At null there is none.
+abbrev pub handle_owns : Ptr → Global → Option Held → Fml
+handle_owns null_ptr alloc None = ftrue
+handle_owns null_ptr alloc (Some held) = fex ⊥ (λ _. ftrue)
+handle_owns (block_ptr b o) alloc None = fex ⊥ (λ _. ftrue)
+handle_owns (block_ptr b o) alloc (Some held) = fex (IsGood held) (λ _. box_owns (ghosts.dealloc_token alloc) the_row (block_ptr b o) held)
+
+-- the handle has a hasher that took in these bytes in this mode
+abbrev pub HoldsIn : Option Held → Mode → List ℕ → Type 0
+HoldsIn None mode bytes = ⊥
+HoldsIn (Some (Hasher hasher)) mode bytes = Holds hasher mode bytes
+HoldsIn (Some (Seat seated)) mode bytes = ⊥
+HoldsIn (Some Gone) mode bytes = ⊥
+
+-- the handle has a hasher
+abbrev pub HasHasher : Option Held → Type 0
+HasHasher None = ⊥
+HasHasher (Some (Hasher hasher)) = Unit {0}
+HasHasher (Some (Seat seated)) = ⊥
+HasHasher (Some Gone) = ⊥
+
+-- the handle has a seat, and this is so of its store
+abbrev pub HasSeat : (Assembly → Gripped → Type 0) → Option Held → Type 0
+HasSeat so None = ⊥
+HasSeat so (Some (Hasher hasher)) = ⊥
+HasSeat so (Some (Seat seated)) = so (arc_value seated.store) seated.seat
+HasSeat so (Some Gone) = ⊥
+
+-- of a seat of one store, before and after a call, this is so
+abbrev pub OneSeat : (Assembly → Gripped → Gripped → Type 0) → Held → Held → Type 0
+OneSeat so (Seat old) (Seat new) = (arc_value new.store ≡ arc_value old.store) × so (arc_value old.store) old.seat new.seat
+OneSeat so (Seat old) (Hasher new) = ⊥
+OneSeat so (Seat old) Gone = ⊥
+OneSeat so (Hasher old) new = ⊥
+OneSeat so Gone new = ⊥
+
+-- the handle has a seat of one store before and after a call, and of them this is so
+abbrev pub SeatDid : (Assembly → Gripped → Gripped → Type 0) → Option Held → Option Held → Type 0
+SeatDid so None new = ⊥
+SeatDid so (Some old) None = ⊥
+SeatDid so (Some old) (Some new) = OneSeat so old new
+
+-- two parts of a seat, and the seat of one store before
+abbrev pub OnePart : (Gripped → Gripped → Gripped → Type 0) → Held → Held → Held → Type 0
+OnePart so (Seat old) (Seat first) (Seat second) =
+    (arc_value first.store ≡ arc_value old.store) × (arc_value second.store ≡ arc_value old.store) × so old.seat first.seat second.seat
+OnePart so (Seat old) (Seat first) (Hasher second) = ⊥
+OnePart so (Seat old) (Seat first) Gone = ⊥
+OnePart so (Seat old) (Hasher first) second = ⊥
+OnePart so (Seat old) Gone second = ⊥
+OnePart so (Hasher old) first second = ⊥
+OnePart so Gone first second = ⊥
+
+-- the handles have them
+abbrev pub SeatParts : (Gripped → Gripped → Gripped → Type 0) → Option Held → Option Held → Option Held → Type 0
+SeatParts so None first second = ⊥
+SeatParts so (Some old) None second = ⊥
+SeatParts so (Some old) (Some first) None = ⊥
+SeatParts so (Some old) (Some first) (Some second) = OnePart so old first second

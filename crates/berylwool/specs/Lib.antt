@@ -1,0 +1,6 @@
+pub mod Calls
+pub mod Handles
+pub mod Modes
+pub mod Pairs
+pub mod Served
+pub mod Status

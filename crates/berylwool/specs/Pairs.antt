@@ -1,0 +1,17 @@
+-- Inputs of the compression function as C has them, and what an audit says.
+use Rattle.std.specs.Prelude.{ℕ, List}
+use Rattle.b3tree.specs.declared.mode.Mode.{Mode}
+use Rattle.b3word.specs.declared.input.Input.{Input}
+use Rattle.bao_bind.specs.declared.verdict.Verdict.{Verdict}
+use Rattle.bao_bind.specs.Verdict.{Says}
+use Rattle.bao_check.specs.declared.checked.Checked.{Checked}
+use Rattle.bao_check.specs.Checked.{IsPiece}
+use Rattle.berylwool.specs.declared.auditing.BwInput.{BwInput}
+
+-- the input that it shows
+abbrev pub input_of : BwInput → Input
+input_of shown = record { h = shown.h; m = shown.m; t = shown.t; b = shown.b; d = shown.d }
+
+-- the text is accepted as this slice, and this is so of the blob and the piece that it is
+abbrev pub IsAudit : Mode → List ℕ → ℕ → ℕ → List ℕ → List ℕ → Verdict → Type 0
+IsAudit mode root start len text blob verdict = (piece : Checked) × IsPiece piece mode root start len text × Says blob piece verdict

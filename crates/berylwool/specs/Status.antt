@@ -1,0 +1,23 @@
+-- Faults as C has them: a number and a place.
+use Rattle.std.specs.Prelude.{◌≡◌, ℕ, List}
+use Rattle.b3tree.specs.declared.mode.Mode.{Mode}
+use Rattle.bao_text.specs.Nodes.{Node}
+use Rattle.bao_check.specs.declared.fault.CheckFault.{CheckFault}
+use Rattle.bao_check.specs.declared.fault.CheckFault.TheVariants.{Short, Mismatch, Trailing, Memory, Reader}
+use Rattle.bao_check.specs.Faults.{IsFirstFault, number_of}
+
+-- where a fault is
+abbrev pub place_of : CheckFault → ℕ
+place_of (Short at) = at
+place_of (Mismatch at) = at
+place_of (Trailing at) = at
+place_of Memory = 0
+place_of Reader = 0
+
+-- the number of the fault, and where it is
+abbrev pub IsStatusOf : CheckFault → ℕ → ℕ → Type 0
+IsStatusOf fault status at = (status ≡ number_of fault) × (at ≡ place_of fault)
+
+-- the status and the place are those of the text's first fault, by these nodes
+abbrev pub IsRefused : Mode → List ℕ → List ℕ → List Node → ℕ → ℕ → Type 0
+IsRefused mode root text nodes status at = (fault : CheckFault) × IsStatusOf fault status at × IsFirstFault mode root text nodes fault

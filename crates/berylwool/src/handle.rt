@@ -1,0 +1,101 @@
+ghost use Rattle.std.specs.Prelude.{◌≡◌, IfSome, Option, None, Some};
+ghost use Rattle.std.specs.Option.{option_map};
+ghost use Rattle.std.specs.contracts.option.Option as option;
+ghost use Rattle.berylwool.specs.declared.held.Held.{Held};
+ghost use Rattle.berylwool.specs.contracts.held.Held as held;
+ghost use Rattle.berylwool.specs.Handles.{IsGood, handle_owns};
+
+use crate::held::Held;
+use crate::loose::Loose;
+use std::alloc::Global;
+use std::marker::Model;
+use std::{mem, ptr};
+
+/// What C keeps of a value of this library: it is empty, or owns one. All bits 0 are an empty one.
+#[repr(C)]
+#[derive(Drop)]
+pub struct BwHandle {
+    at: *mut u8,
+    alloc: Global,
+    ghost held: { Option Held } by { (option.the_row held.the_row).coded },
+}
+
+impl Model for BwHandle {
+    ghost also_owns = { λ h. handle_owns h.at h.alloc h.held };
+}
+
+impl BwHandle {
+    // One that is empty.
+    pub(crate) fn empty(alloc: Global) -> BwHandle
+        ensures { result.held ≡ None }
+    {
+        BwHandle {
+            at: ptr::null_mut(),
+            alloc,
+        }
+    }
+
+    // One that owns what was in a box.
+    pub(crate) fn of(loose: Loose<Held, Global>) -> BwHandle
+        requires good { IsGood loose.value }
+        ensures held { result.held ≡ Some loose.value }
+    {
+        let Loose { at, alloc } = loose;
+        BwHandle {
+            at: at as *mut u8,
+            alloc,
+        }
+    }
+
+    // What it owns.
+    pub(crate) fn into_loose(self) -> Option<Loose<Held, Global>>
+        ensures good { IfSome result (λ loose. IsGood loose.value) }
+        ensures held { option_map (λ loose. loose.value) result ≡ self.held }
+    {
+        let BwHandle { at, alloc } = self;
+        if at.is_null() {
+            None
+        } else {
+            Some(Loose {
+                at: at as *mut Held,
+                alloc,
+            })
+        }
+    }
+}
+
+// That a value may go to another thread, as C is told.
+fn sent<T: Send>(value: T) -> T
+    ensures { result ≡ value }
+{
+    value
+}
+
+// Takes what a handle owns out of it.
+pub(crate) fn take(handle: &mut BwHandle, alloc: Global) -> Option<Box<Held, Global>>
+    ensures good { IfSome result (λ held. IsGood held.value) }
+    ensures held { option_map (λ held. held.value) result ≡ handle.old.held }
+    ensures empty { handle.new.held ≡ None }
+{
+    let taken = mem::replace(handle, BwHandle::empty(alloc));
+    match taken.into_loose() {
+        Some(loose) => Some(loose.into_box()),
+        None => None,
+    }
+}
+
+// Puts what a call had taken out of a handle back into it.
+pub(crate) fn put(handle: &mut BwHandle, held: Box<Held, Global>)
+    requires { IsGood held.value }
+    ensures { handle.new.held ≡ Some held.value }
+{
+    let _empty = mem::replace(handle, BwHandle::of(Loose::of(sent(held))));
+}
+
+/// Frees what a handle owns, if it owns something. It is empty then.
+#[unsafe(no_mangle)]
+pub extern "C" fn bw_free(alloc: Global, handle: &mut BwHandle)
+    ensures { handle.new.held ≡ None }
+{
+    let _held = take(handle, alloc);
+}

@@ -1,0 +1,117 @@
+ghost use Rattle.std.specs.Prelude.{◌≡◌, ◌≢◌, ◌↔◌, ◌+◌, ◌-◌, ◌^◌, ◌<◌, ℕ, List, [], ◌++◌, length, None};
+ghost use Rattle.b3tree.specs.declared.mode.Mode.{Mode};
+ghost use Rattle.b3tree.specs.Hashing.{hash, stream};
+ghost use Rattle.berylwool.specs.Handles.{HasHasher, HoldsIn};
+ghost use Rattle.berylwool.specs.Modes.{mode_of};
+
+use crate::handle::{BwHandle, put, take};
+use crate::held::Held;
+use crate::mode::BwMode;
+use crate::status::{NO_HANDLE, NO_MEMORY, PAST_OUTPUT};
+use b3tree::{Hasher, xof_fits};
+use std::alloc::Global;
+
+/// Makes a hasher that has taken in nothing. What the handle owned is freed.
+///
+/// 1203 where there is no memory: the handle is empty then.
+#[unsafe(no_mangle)]
+pub extern "C" fn bw_hasher_new(alloc: Global, mode: &BwMode, hasher: &mut BwHandle) -> u32
+    ensures made { result ≡ 0 → HoldsIn hasher.new.held (mode_of mode.now) [] }
+    ensures status { result ≢ 0 → result ≡ 1203 }
+    ensures empty { result ≢ 0 → hasher.new.held ≡ None }
+{
+    let _old = take(hasher, alloc);
+    match Box::new(alloc, Held::Hasher(Hasher::new(&mode.get()))) {
+        Ok(held) => {
+            put(hasher, held);
+            0
+        }
+        Err(_) => NO_MEMORY,
+    }
+}
+
+/// Takes in `bytes`, after those taken in before.
+///
+/// 201 exactly where there would be more than 2^64 - 1 bytes in all, and 1202 where the handle has no hasher. What it has is unchanged then.
+#[unsafe(no_mangle)]
+pub extern "C" fn bw_hasher_update(alloc: Global, hasher: &mut BwHandle, bytes: &[u8]) -> u32
+    ensures taken { (mode : Mode) (s : List ℕ) → HoldsIn hasher.old.held mode s → result ≡ 0 → HoldsIn hasher.new.held mode (s ++ bytes.now) }
+    ensures too_long { (mode : Mode) (s : List ℕ) → HoldsIn hasher.old.held mode s → (result ≡ 201 ↔ (2 ^ 64 - 1 < length s + length bytes.now)) }
+    ensures no_hasher { result ≡ 1202 ↔ (¬ HasHasher hasher.old.held) }
+    ensures status { result ≢ 0 → result ≢ 1202 → result ≡ 201 }
+    ensures same { result ≢ 0 → hasher.new.held ≡ hasher.old.held }
+{
+    let Some(mut held) = take(hasher, alloc) else {
+        return NO_HANDLE;
+    };
+    let status = match &mut *held {
+        Held::Hasher(it) => match it.update(bytes) {
+            Ok(()) => 0,
+            Err(fault) => u32::from(fault.code()),
+        },
+        Held::Seat(_) | Held::Gone => NO_HANDLE,
+    };
+    put(hasher, held);
+    status
+}
+
+/// The hash of the bytes taken in: 32 bytes, into `out`. The hasher can go on.
+///
+/// 1202 where the handle has no hasher. What it has is unchanged.
+#[unsafe(no_mangle)]
+pub extern "C" fn bw_hasher_finish(alloc: Global, hasher: &mut BwHandle, out: &mut [u8; 32]) -> u32
+    ensures hash { (mode : Mode) (s : List ℕ) → HoldsIn hasher.old.held mode s → out.new ≡ hash mode s }
+    ensures has { result ≡ 0 ↔ HasHasher hasher.old.held }
+    ensures status { result ≢ 0 → result ≡ 1202 }
+    ensures same { hasher.new.held ≡ hasher.old.held }
+{
+    let Some(held) = take(hasher, alloc) else {
+        return NO_HANDLE;
+    };
+    let status = match &*held {
+        Held::Hasher(it) => {
+            let hash = it.finalize();
+            let digest = hash.0;
+            *out = digest;
+            0
+        }
+        Held::Seat(_) | Held::Gone => NO_HANDLE,
+    };
+    put(hasher, held);
+    status
+}
+
+/// Fills `out` with the extended output of the bytes taken in, from byte `at` on, as `bw_xof` does. The hasher can go on.
+///
+/// 1208 where `at` and the length of `out` make more than 2^64 - 1, asked before all else, and 1202 where the handle has no hasher. What
+/// it has is unchanged.
+#[unsafe(no_mangle)]
+pub extern "C" fn bw_hasher_xof(
+    alloc: Global,
+    hasher: &mut BwHandle,
+    at: u64,
+    out: &mut [u8],
+) -> u32
+    ensures output { result ≡ 0 → (mode : Mode) (s : List ℕ) → HoldsIn hasher.old.held mode s → out.new ≡ stream mode s at (length out.old) }
+    ensures fits { result ≡ 1208 ↔ (2 ^ 64 - 1 < at + length out.old) }
+    ensures has { result ≡ 0 → HasHasher hasher.old.held }
+    ensures no_hasher { result ≡ 1202 → (¬ HasHasher hasher.old.held) }
+    ensures status { result ≢ 0 → result ≢ 1208 → result ≡ 1202 }
+    ensures same { hasher.new.held ≡ hasher.old.held }
+{
+    if !xof_fits(at, out.len() as u64) {
+        return PAST_OUTPUT;
+    }
+    let Some(held) = take(hasher, alloc) else {
+        return NO_HANDLE;
+    };
+    let status = match &*held {
+        Held::Hasher(it) => {
+            it.finalize_xof(at, out);
+            0
+        }
+        Held::Seat(_) | Held::Gone => NO_HANDLE,
+    };
+    put(hasher, held);
+    status
+}

@@ -1,0 +1,19 @@
+//! The libraries as a C library: the functions that `c/berylwool.h` declares.
+//!
+//! Each function here calls one of a library and states its clauses again. A status is 0 or the number of a fault.
+//! Nothing checks what C passes: it has to meet what the header says of each parameter.
+#![tactic(auto)]
+
+mod auditing;
+mod checking;
+mod handle;
+mod hasher;
+mod hashing;
+mod held;
+mod loose;
+mod mode;
+mod room;
+mod seats;
+mod serving;
+mod status;
+mod writing;

@@ -1,0 +1,443 @@
+ghost use Rattle.std.specs.Prelude.{◌≡◌, ◌≢◌, ◌↔◌, ◌<◌, ◌≤◌, ◌*◌, ◌-◌, ◌^◌, ◌⊎◌, None, Some, length, take};
+ghost use Rattle.store_core.specs.declared.history.Call.TheVariants.{Give, Length, Settle, Take};
+ghost use Rattle.store_core.specs.declared.history.Settling.TheVariants.{Differs};
+ghost use Rattle.store_core.specs.Pieces.{length_of};
+ghost use Rattle.store_shared.specs.Seats.{HasGroup, IsSeatOf, fixed_of};
+ghost use Rattle.store_steps.specs.Grips.{opening_view};
+ghost use Rattle.store_steps.specs.Parts.{ArePartsOf};
+ghost use Rattle.store_steps.specs.Tells.{Called};
+ghost use Rattle.berylwool.specs.Handles.{HasSeat, SeatDid, SeatParts};
+ghost use Rattle.berylwool.specs.Modes.{mode_of};
+ghost use Rattle.berylwool.specs.Calls.{Commits, HasRoot, HasSettled, IsNoSliceOf, IsSliceOf, Reads, slice_piece};
+
+use crate::checking::told;
+use crate::handle::{BwHandle, put, take};
+use crate::held::{Held, Seated};
+use crate::mode::BwMode;
+use crate::status::{
+    DIFFERS, MISSING, NO_HANDLE, NO_MEMORY, NO_TAIL, NOT_THE_ROOT, ROOM, TOO_LARGE, UNFINISHED,
+};
+use b3tree::{Hash, hash};
+use bao_check::check_slice;
+use std::alloc::Global;
+use std::mem;
+use std::sync::Arc;
+use store_core::Settling;
+use store_shared::{Assembly, Seat};
+
+/// Makes a store of a blob's chunks, which the seats that are split off share, and its first seat, which has seen nothing. `capacity` is
+/// a number of chunks. What the handle owned is freed.
+///
+/// 802 unless the capacity is 1 to 65,536 chunks, asked before all else, and 801 or 1203 where there is no memory: the handle is empty then.
+#[unsafe(no_mangle)]
+pub extern "C" fn bw_store_new(
+    alloc: Global,
+    mode: &BwMode,
+    root: &[u8; 32],
+    capacity: u32,
+    seat: &mut BwHandle,
+) -> u32
+    ensures fixed { result ≡ 0 → HasSeat (λ store _. fixed_of store ≡ record { root = record { 0 = root.now }; mode = mode_of mode.now; capacity = capacity }) seat.new.held }
+    ensures view { result ≡ 0 → HasSeat (λ store first. first.view ≡ opening_view (fixed_of store)) seat.new.held }
+    ensures capacity { result ≡ 802 ↔ (¬ ((0 < capacity) × (capacity ≤ 65536))) }
+    ensures empty { result ≢ 0 → seat.new.held ≡ None }
+{
+    let _old = take(seat, alloc);
+    let made = match Assembly::new(alloc, Hash(*root), mode.get(), capacity) {
+        Ok(made) => made,
+        Err(fault) => return u32::from(fault.code()),
+    };
+    let (assembly, first) = made;
+    let Ok(store) = Arc::new(alloc, assembly) else {
+        return NO_MEMORY;
+    };
+    match Box::new(alloc, Held::Seat(Seated { store, seat: first })) {
+        Ok(held) => {
+            put(seat, held);
+            0
+        }
+        Err(_) => NO_MEMORY,
+    }
+}
+
+/// Splits a seat in two: `seat` keeps its claims and its calls, and `other` has seen the same and has neither. What `other` owned is freed.
+///
+/// 806 or 1203 where there is no memory, and 1202 where `seat` has no seat: then what `seat` has is as it was, and `other` is empty.
+#[unsafe(no_mangle)]
+pub extern "C" fn bw_seat_split(alloc: Global, seat: &mut BwHandle, other: &mut BwHandle) -> u32
+    ensures parts { result ≡ 0 → SeatParts (λ old first second. ArePartsOf old.view first.view second.view) seat.old.held seat.new.held other.new.held }
+    ensures no_seat { result ≡ 1202 ↔ (¬ HasSeat (λ _ _. Unit) seat.old.held) }
+    ensures same { result ≢ 0 → seat.new.held ≡ seat.old.held }
+    ensures empty { result ≢ 0 → other.new.held ≡ None }
+{
+    let _old = take(other, alloc);
+    let Some(mut held) = take(seat, alloc) else {
+        return NO_HANDLE;
+    };
+    let status = match mem::replace(&mut *held, Held::Gone) {
+        Held::Seat(Seated { store, seat: whole }) => match Box::new(alloc, Held::Gone) {
+            Ok(mut room) => match Arc::try_clone(&store) {
+                Ok(again) => match store.split(whole) {
+                    Ok((first, second)) => {
+                        *held = Held::Seat(Seated { store, seat: first });
+                        *room = Held::Seat(Seated {
+                            store: again,
+                            seat: second,
+                        });
+                        put(other, room);
+                        0
+                    }
+                    Err(fault) => {
+                        let code = u32::from(fault.code());
+                        *held = Held::Seat(Seated {
+                            store,
+                            seat: fault.seat,
+                        });
+                        code
+                    }
+                },
+                Err(_) => {
+                    *held = Held::Seat(Seated { store, seat: whole });
+                    NO_MEMORY
+                }
+            },
+            Err(_) => {
+                *held = Held::Seat(Seated { store, seat: whole });
+                NO_MEMORY
+            }
+        },
+        kept => {
+            *held = kept;
+            NO_HANDLE
+        }
+    };
+    put(seat, held);
+    status
+}
+
+/// Claims the wanted chunks of a group of 64 that are below the capacity and neither held nor claimed, and answers their mask in `granted`:
+/// bit j stands for chunk 64 * group + j.
+///
+/// 803 exactly where there is no such group, and 1202 where the handle has no seat. Nothing is asked then.
+#[unsafe(no_mangle)]
+pub extern "C" fn bw_seat_take(
+    alloc: Global,
+    seat: &mut BwHandle,
+    group: u32,
+    want: u64,
+    granted: &mut u64,
+) -> u32
+    ensures called { result ≡ 0 → SeatDid (λ _ old new. Called (Take group want granted.new) old.view new.view) seat.old.held seat.new.held }
+    ensures group { result ≡ 0 ↔ HasSeat (λ store _. HasGroup store group) seat.old.held }
+    ensures no_seat { result ≡ 1202 ↔ (¬ HasSeat (λ _ _. Unit) seat.old.held) }
+    ensures status { result ≢ 0 → result ≢ 1202 → result ≡ 803 }
+    ensures same { result ≢ 0 → seat.new.held ≡ seat.old.held }
+{
+    let Some(mut held) = take(seat, alloc) else {
+        return NO_HANDLE;
+    };
+    let status = match &mut *held {
+        Held::Seat(it) => match it.store.take(&mut it.seat, group, want) {
+            Ok(mask) => {
+                *granted = mask;
+                0
+            }
+            Err(fault) => u32::from(fault.code()),
+        },
+        Held::Hasher(_) | Held::Gone => NO_HANDLE,
+    };
+    put(seat, held);
+    status
+}
+
+/// Ends the seat's claims among the mask of a group, and answers the mask of those that it had in `given`: 0 for a group that isn't there.
+///
+/// 1202 exactly where the handle has no seat.
+#[unsafe(no_mangle)]
+pub extern "C" fn bw_seat_give(
+    alloc: Global,
+    seat: &mut BwHandle,
+    group: u32,
+    mask: u64,
+    given: &mut u64,
+) -> u32
+    ensures called { result ≡ 0 → SeatDid (λ _ old new. Called (Give group mask given.new) old.view new.view) seat.old.held seat.new.held }
+    ensures has { result ≡ 0 ↔ HasSeat (λ _ _. Unit) seat.old.held }
+    ensures status { result ≢ 0 → result ≡ 1202 }
+    ensures same { result ≢ 0 → seat.new.held ≡ seat.old.held }
+{
+    let Some(mut held) = take(seat, alloc) else {
+        return NO_HANDLE;
+    };
+    let status = match &mut *held {
+        Held::Seat(it) => {
+            *given = it.store.give(&mut it.seat, group, mask);
+            0
+        }
+        Held::Hasher(_) | Held::Gone => NO_HANDLE,
+    };
+    put(seat, held);
+    status
+}
+
+// Commits a text to the seat's claims, as `bw_seat_commit` does.
+fn committed(
+    alloc: Global,
+    store: &Assembly,
+    seat: &mut Seat,
+    group: u32,
+    start: u64,
+    len: u64,
+    text: &[u8],
+    committed: &mut u64,
+    at: &mut u64,
+) -> u32
+    requires { IsSeatOf store.now seat.old }
+    ensures of { IsSeatOf store.now seat.new }
+    ensures accepted { result ≡ 0 ↔ IsSliceOf store.now text.now start len }
+    ensures fault { result ≢ 0 → IsNoSliceOf store.now text.now start len result at.new }
+    ensures commits { result ≡ 0 → Commits store.now group (slice_piece text.now start len) committed.new seat.old seat.new }
+    ensures same { result ≢ 0 → seat.new ≡ seat.old }
+    ensures low { result < 506 }
+{
+    match check_slice(alloc, &store.mode(), &store.root(), start, len, text) {
+        Ok(piece) => {
+            let Ok(mask) = store.commit(seat, group, &piece) else {
+                // The piece is of the store's root and mode.
+                unreachable!();
+            };
+            *committed = mask;
+            0
+        }
+        Err(fault) => told(&fault, at),
+    }
+}
+
+/// Checks `text` as the slice of `len` bytes from byte `start` on under the store's root, stores exactly the chunks of the group that the
+/// seat claims and the slice holds, ends these claims, and answers their mask in `committed`: 0 for a group that isn't there.
+///
+/// 501 to 503 as `bw_check_slice`, with the place in `at`, and 1202 where the handle has no seat. Nothing is asked then.
+#[unsafe(no_mangle)]
+pub extern "C" fn bw_seat_commit(
+    alloc: Global,
+    seat: &mut BwHandle,
+    group: u32,
+    start: u64,
+    len: u64,
+    text: &[u8],
+    committed: &mut u64,
+    at: &mut u64,
+) -> u32
+    ensures commits { result ≡ 0 → SeatDid (λ store old new. Commits store group (slice_piece text.now start len) committed.new old new) seat.old.held seat.new.held }
+    ensures accepted { result ≡ 0 ↔ HasSeat (λ store _. IsSliceOf store text.now start len) seat.old.held }
+    ensures fault { result ≢ 0 → result ≢ 1202 → HasSeat (λ store _. IsNoSliceOf store text.now start len result at.new) seat.old.held }
+    ensures no_seat { result ≡ 1202 ↔ (¬ HasSeat (λ _ _. Unit) seat.old.held) }
+    ensures same { result ≢ 0 → seat.new.held ≡ seat.old.held }
+{
+    let Some(mut held) = take(seat, alloc) else {
+        return NO_HANDLE;
+    };
+    let status = match &mut *held {
+        Held::Seat(it) => self::committed(
+            alloc,
+            &it.store,
+            &mut it.seat,
+            group,
+            start,
+            len,
+            text,
+            committed,
+            at,
+        ),
+        Held::Hasher(_) | Held::Gone => NO_HANDLE,
+    };
+    put(seat, held);
+    status
+}
+
+// Settles the length by a text, as `bw_seat_settle` does.
+fn settled(alloc: Global, store: &Assembly, seat: &mut Seat, text: &[u8], at: &mut u64) -> u32
+    requires { IsSeatOf store.now seat.old }
+    ensures of { IsSeatOf store.now seat.new }
+    ensures settled { result ≡ 0 → HasSettled (slice_piece text.now (2 ^ 64 - 1) 1) seat.old.view seat.new.view }
+    ensures differs { result ≡ 1206 → Called (Settle (slice_piece text.now (2 ^ 64 - 1) 1) Differs) seat.old.view seat.new.view }
+    ensures large { result ≡ 805 → 1024 * (fixed_of store.now).capacity < length_of (slice_piece text.now (2 ^ 64 - 1) 1) }
+    ensures fault { result ≢ 0 → result < 506 → IsNoSliceOf store.now text.now (2 ^ 64 - 1) 1 result at.new }
+    ensures accepted { result ≡ 0 → IsSliceOf store.now text.now (2 ^ 64 - 1) 1 }
+    ensures same { result ≢ 0 → result ≢ 1206 → seat.new ≡ seat.old }
+    ensures status { result ≢ 0 → 505 < result → (result ≡ 805) ⊎ ((result ≡ 1205) ⊎ (result ≡ 1206)) }
+{
+    match check_slice(alloc, &store.mode(), &store.root(), u64::MAX, 1, text) {
+        Ok(piece) => {
+            let Some(tail) = piece.tail() else {
+                return NO_TAIL;
+            };
+            match store.settle(seat, &tail) {
+                Settling::Settled | Settling::Known => 0,
+                Settling::Differs => DIFFERS,
+                Settling::TooLarge => TOO_LARGE,
+                // The piece is of the store's root and mode.
+                Settling::OtherRoot => unreachable!(),
+            }
+        }
+        Err(fault) => told(&fault, at),
+    }
+}
+
+/// Checks `text` as the slice (2^64 - 1, 1), which has the last chunk, under the store's root, and records the length that it certifies, if
+/// none is recorded. 0 where that length is recorded now, by this call or before.
+///
+/// 501 to 503 as `bw_check_slice`, with the place in `at`. 805 where the length is above what the store has room for, 1205 where the text
+/// doesn't have the last chunk of its length, and 1202 where the handle has no seat. Nothing is asked then. 1206 where another length is
+/// recorded, which stays.
+#[unsafe(no_mangle)]
+pub extern "C" fn bw_seat_settle(
+    alloc: Global,
+    seat: &mut BwHandle,
+    text: &[u8],
+    at: &mut u64,
+) -> u32
+    ensures settled { result ≡ 0 → SeatDid (λ _ old new. HasSettled (slice_piece text.now (2 ^ 64 - 1) 1) old.view new.view) seat.old.held seat.new.held }
+    ensures differs { result ≡ 1206 → SeatDid (λ _ old new. Called (Settle (slice_piece text.now (2 ^ 64 - 1) 1) Differs) old.view new.view) seat.old.held seat.new.held }
+    ensures large { result ≡ 805 → HasSeat (λ store _. 1024 * (fixed_of store).capacity < length_of (slice_piece text.now (2 ^ 64 - 1) 1)) seat.old.held }
+    ensures accepted { result ≡ 0 → HasSeat (λ store _. IsSliceOf store text.now (2 ^ 64 - 1) 1) seat.old.held }
+    ensures fault { result ≢ 0 → result < 506 → HasSeat (λ store _. IsNoSliceOf store text.now (2 ^ 64 - 1) 1 result at.new) seat.old.held }
+    ensures no_seat { result ≡ 1202 ↔ (¬ HasSeat (λ _ _. Unit) seat.old.held) }
+    ensures same { result ≢ 0 → result ≢ 1206 → seat.new.held ≡ seat.old.held }
+{
+    let Some(mut held) = take(seat, alloc) else {
+        return NO_HANDLE;
+    };
+    let status = match &mut *held {
+        Held::Seat(it) => settled(alloc, &it.store, &mut it.seat, text, at),
+        Held::Hasher(_) | Held::Gone => NO_HANDLE,
+    };
+    put(seat, held);
+    status
+}
+
+/// The recorded length in bytes, in `len`.
+///
+/// 901 where none is recorded, which the seat has seen then, and 1202 where the handle has no seat.
+#[unsafe(no_mangle)]
+pub extern "C" fn bw_seat_length(alloc: Global, seat: &mut BwHandle, len: &mut u64) -> u32
+    ensures called { result ≡ 0 → SeatDid (λ _ old new. Called (Length (Some len.new)) old.view new.view) seat.old.held seat.new.held }
+    ensures unknown { result ≡ 901 → SeatDid (λ _ old new. Called (Length None) old.view new.view) seat.old.held seat.new.held }
+    ensures no_seat { result ≡ 1202 ↔ (¬ HasSeat (λ _ _. Unit) seat.old.held) }
+    ensures status { result ≢ 0 → result ≢ 901 → result ≡ 1202 }
+    ensures same { result ≡ 1202 → seat.new.held ≡ seat.old.held }
+{
+    let Some(mut held) = take(seat, alloc) else {
+        return NO_HANDLE;
+    };
+    let status = match &mut *held {
+        Held::Seat(it) => match it.store.length(&mut it.seat) {
+            Some(length) => {
+                *len = length;
+                0
+            }
+            None => UNFINISHED,
+        },
+        Held::Hasher(_) | Held::Gone => NO_HANDLE,
+    };
+    put(seat, held);
+    status
+}
+
+// Fills a buffer, as `bw_seat_read` does.
+fn filled(store: &Assembly, seat: &mut Seat, at: u64, out: &mut [u8], missing: &mut u64) -> u32
+    requires { IsSeatOf store.now seat.old }
+    ensures of { IsSeatOf store.now seat.new }
+    ensures all { result ≡ 0 → Reads at out.old out.new None seat.old seat.new }
+    ensures part { result ≡ 1204 → Reads at out.old out.new (Some missing.new) seat.old seat.new }
+    ensures status { result ≢ 0 → result ≡ 1204 }
+{
+    match store.read(seat, at, out) {
+        Ok(()) => 0,
+        Err(place) => {
+            *missing = place.0;
+            MISSING
+        }
+    }
+}
+
+/// Fills `out` with the bytes from byte `at` of the blob on.
+///
+/// 1204 where a byte of them isn't held, with the first such position in `missing`: those before it are filled in, and the rest of `out` is
+/// unchanged. 1202 where the handle has no seat.
+#[unsafe(no_mangle)]
+pub extern "C" fn bw_seat_read(
+    alloc: Global,
+    seat: &mut BwHandle,
+    at: u64,
+    out: &mut [u8],
+    missing: &mut u64,
+) -> u32
+    ensures all { result ≡ 0 → SeatDid (λ _ old new. Reads at out.old out.new None old new) seat.old.held seat.new.held }
+    ensures part { result ≡ 1204 → SeatDid (λ _ old new. Reads at out.old out.new (Some missing.new) old new) seat.old.held seat.new.held }
+    ensures no_seat { result ≡ 1202 ↔ (¬ HasSeat (λ _ _. Unit) seat.old.held) }
+    ensures status { result ≢ 0 → result ≢ 1204 → result ≡ 1202 }
+    ensures same { result ≡ 1202 → seat.new.held ≡ seat.old.held }
+{
+    let Some(mut held) = take(seat, alloc) else {
+        return NO_HANDLE;
+    };
+    let status = match &mut *held {
+        Held::Seat(it) => filled(&it.store, &mut it.seat, at, out, missing),
+        Held::Hasher(_) | Held::Gone => NO_HANDLE,
+    };
+    put(seat, held);
+    status
+}
+
+// Puts the whole blob to the start of a buffer, as `bw_seat_finish` does.
+fn finished(store: &Assembly, seat: &mut Seat, out: &mut [u8], used: &mut usize) -> u32
+    requires { IsSeatOf store.now seat.old }
+    ensures of { IsSeatOf store.now seat.new }
+    ensures root { result ≡ 0 → HasRoot (fixed_of store.now) (take used.new out.new) }
+    ensures within { result ≡ 0 → used.new ≤ length out.new }
+    ensures status { result ≢ 0 → result ≢ 901 → result ≢ 902 → result ≡ 1201 }
+{
+    let Some(length) = store.length(seat) else {
+        return UNFINISHED;
+    };
+    if length > out.len() as u64 {
+        return ROOM;
+    }
+    let length = length as usize;
+    if store.read(seat, 0, &mut out[..length]).is_err() {
+        return UNFINISHED;
+    }
+    if hash(&store.mode(), &out[..length]) != store.root() {
+        return NOT_THE_ROOT;
+    }
+    *used = length;
+    0
+}
+
+/// Puts the whole blob to the start of `out`, once the hash of its bytes is the root, and how long it is to `used`.
+///
+/// 901 where no length is recorded or a byte isn't held, 1201 where `out` has no room, 902 where the hash isn't the root, and 1202 where the
+/// handle has no seat. The seat can go on.
+#[unsafe(no_mangle)]
+pub extern "C" fn bw_seat_finish(
+    alloc: Global,
+    seat: &mut BwHandle,
+    out: &mut [u8],
+    used: &mut usize,
+) -> u32
+    ensures root { result ≡ 0 → SeatDid (λ store _ _. HasRoot (fixed_of store) (take used.new out.new)) seat.old.held seat.new.held }
+    ensures within { result ≡ 0 → used.new ≤ length out.new }
+    ensures no_seat { result ≡ 1202 ↔ (¬ HasSeat (λ _ _. Unit) seat.old.held) }
+    ensures stays { HasSeat (λ _ _. Unit) seat.old.held → HasSeat (λ _ _. Unit) seat.new.held }
+{
+    let Some(mut held) = take(seat, alloc) else {
+        return NO_HANDLE;
+    };
+    let status = match &mut *held {
+        Held::Seat(it) => finished(&it.store, &mut it.seat, out, used),
+        Held::Hasher(_) | Held::Gone => NO_HANDLE,
+    };
+    put(seat, held);
+    status
+}

@@ -1,0 +1,190 @@
+ghost use Rattle.std.specs.Prelude.{◌≡◌, ◌≢◌, ◌↔◌, ◌<◌, ◌≤◌, ℕ, List, length, take};
+ghost use Rattle.store_core.specs.declared.history.Call.TheVariants.{Parents, Serve};
+ghost use Rattle.store_core.specs.declared.history.Serving.TheVariants.{Lacking, NoLength};
+ghost use Rattle.store_core.specs.declared.history.Storing.TheVariants.{OtherLength};
+ghost use Rattle.store_shared.specs.Seats.{IsSeatOf};
+ghost use Rattle.store_steps.specs.Tells.{Called, Sees};
+ghost use Rattle.berylwool.specs.Calls.{IsNoSliceOf, IsSliceOf, Serves, StoresParents, slice_piece};
+ghost use Rattle.berylwool.specs.Handles.{HasSeat, SeatDid};
+ghost use Rattle.berylwool.specs.Served.{node_of};
+
+use crate::checking::told;
+use crate::handle::{BwHandle, put, take};
+use crate::held::Held;
+use crate::room;
+use crate::status::{NO_HANDLE, ROOM};
+use bao_check::check_slice;
+use bao_text::Node;
+use std::alloc::Global;
+use store_shared::{Assembly, ParentsFault, Seat, ServeFault};
+
+// Stores the parents of a text, as `bw_seat_commit_parents` does.
+fn stored(
+    alloc: Global,
+    store: &Assembly,
+    seat: &mut Seat,
+    group: u32,
+    start: u64,
+    len: u64,
+    text: &[u8],
+    stored: &mut u64,
+    at: &mut u64,
+) -> u32
+    requires { IsSeatOf store.now seat.old }
+    ensures of { IsSeatOf store.now seat.new }
+    ensures stores { result ≡ 0 → StoresParents group (slice_piece text.now start len) stored.new seat.old seat.new }
+    ensures other_length { result ≡ 807 → Called (Parents group (slice_piece text.now start len) OtherLength) seat.old.view seat.new.view }
+    ensures fault { result ≢ 0 → result ≢ 807 → IsNoSliceOf store.now text.now start len result at.new }
+    ensures accepted { result ≡ 0 → IsSliceOf store.now text.now start len }
+    ensures same { result ≢ 0 → result ≢ 807 → seat.new ≡ seat.old }
+    ensures low { result < 808 }
+{
+    match check_slice(alloc, &store.mode(), &store.root(), start, len, text) {
+        Ok(piece) => match store.commit_parents(seat, group, &piece) {
+            Ok(mask) => {
+                *stored = mask;
+                0
+            }
+            Err(ParentsFault::OtherLength) => 807,
+            // The piece is of the store's root and mode.
+            Err(ParentsFault::OtherRoot) => unreachable!(),
+        },
+        Err(fault) => told(&fault, at),
+    }
+}
+
+/// Checks `text` as the slice of `len` bytes from byte `start` on under the store's root, stores parents of it at boundaries of a group,
+/// and answers their mask in `stored`: bit j stands for the parent whose right part begins at chunk 64 * group + j. They are parents that
+/// the text has, and that nobody holds or is storing yet: 0 for a group that isn't there.
+///
+/// 501 to 503 as `bw_check_slice`, with the place in `at`, and 1202 where the handle has no seat: nothing is asked then. 807 where the length
+/// that the text claims isn't the recorded one, or there is none.
+#[unsafe(no_mangle)]
+pub extern "C" fn bw_seat_commit_parents(
+    alloc: Global,
+    seat: &mut BwHandle,
+    group: u32,
+    start: u64,
+    len: u64,
+    text: &[u8],
+    stored: &mut u64,
+    at: &mut u64,
+) -> u32
+    ensures stores { result ≡ 0 → SeatDid (λ _ old new. StoresParents group (slice_piece text.now start len) stored.new old new) seat.old.held seat.new.held }
+    ensures other_length { result ≡ 807 → SeatDid (λ _ old new. Called (Parents group (slice_piece text.now start len) OtherLength) old.view new.view) seat.old.held seat.new.held }
+    ensures accepted { result ≡ 0 → HasSeat (λ store _. IsSliceOf store text.now start len) seat.old.held }
+    ensures fault { result ≢ 0 → result ≢ 807 → result ≢ 1202 → HasSeat (λ store _. IsNoSliceOf store text.now start len result at.new) seat.old.held }
+    ensures no_seat { result ≡ 1202 ↔ (¬ HasSeat (λ _ _. Unit) seat.old.held) }
+    ensures same { result ≢ 0 → result ≢ 807 → seat.new.held ≡ seat.old.held }
+{
+    let Some(mut held) = take(seat, alloc) else {
+        return NO_HANDLE;
+    };
+    let status = match &mut *held {
+        Held::Seat(it) => self::stored(
+            alloc,
+            &it.store,
+            &mut it.seat,
+            group,
+            start,
+            len,
+            text,
+            stored,
+            at,
+        ),
+        Held::Hasher(_) | Held::Gone => NO_HANDLE,
+    };
+    put(seat, held);
+    status
+}
+
+/// A node of a blob's tree, as C has it: `kind` 0 is the parent whose right part begins at chunk `number`, and 1 is chunk `number`.
+#[repr(C)]
+#[derive(Clone, Copy)]
+pub struct BwNode {
+    pub kind: u32,
+    pub number: u64,
+}
+
+// A node for C.
+fn shown(node: Node) -> BwNode
+    ensures { node_of result ≡ node }
+{
+    match node {
+        Node::Parent(number) => BwNode { kind: 0, number },
+        Node::Chunk(number) => BwNode { kind: 1, number },
+    }
+}
+
+// Serves a slice into a buffer, as `bw_seat_serve_slice` does.
+fn served(
+    store: &Assembly,
+    seat: &mut Seat,
+    start: u64,
+    len: u64,
+    out: &mut [u8],
+    used: &mut usize,
+    lacking: &mut BwNode,
+) -> u32
+    requires { IsSeatOf store.now seat.old }
+    ensures of { IsSeatOf store.now seat.new }
+    ensures serves { result ≡ 0 → Serves start len (take used.new out.new) seat.old seat.new }
+    ensures within { result ≡ 0 → used.new ≤ length out.new }
+    ensures no_room { result ≡ 1201 → (text : List ℕ) × Serves start len text seat.old seat.new × (length out.old < length text) }
+    ensures no_length { result ≡ 808 → Called (Serve start len NoLength) seat.old.view seat.new.view }
+    ensures lacking { result ≡ 809 → Called (Serve start len (Lacking (node_of lacking.new))) seat.old.view seat.new.view }
+    ensures memory { result ≡ 810 → Sees seat.old.view seat.new.view }
+    ensures same { result ≢ 0 → out.new ≡ out.old }
+    ensures low { result < 1202 }
+{
+    match store.serve_slice(seat, start, len) {
+        Ok(text) => {
+            if !room::put(text.as_slice(), out) {
+                return ROOM;
+            }
+            *used = text.len();
+            0
+        }
+        Err(ServeFault::NoLength) => 808,
+        Err(ServeFault::Lacking(node)) => {
+            *lacking = shown(node);
+            809
+        }
+        Err(ServeFault::Memory) => 810,
+    }
+}
+
+/// Puts the text of the slice (`start`, `len`) of the blob to the start of `out`, and how long it is to `used`: the recorded length, and the
+/// bytes of the slice's nodes. `bw_encoded_len` of the recorded length is always enough room.
+///
+/// 808 where no length is recorded, 809 where a node isn't held, with the first such in the text's order in `lacking`, 810 where there is no
+/// memory, 1201 where `out` has no room, and 1202 where the handle has no seat: then `out` is unchanged.
+#[unsafe(no_mangle)]
+pub extern "C" fn bw_seat_serve_slice(
+    alloc: Global,
+    seat: &mut BwHandle,
+    start: u64,
+    len: u64,
+    out: &mut [u8],
+    used: &mut usize,
+    lacking: &mut BwNode,
+) -> u32
+    ensures serves { result ≡ 0 → SeatDid (λ _ old new. Serves start len (take used.new out.new) old new) seat.old.held seat.new.held }
+    ensures within { result ≡ 0 → used.new ≤ length out.new }
+    ensures no_room { result ≡ 1201 → SeatDid (λ _ old new. (text : List ℕ) × Serves start len text old new × (length out.old < length text)) seat.old.held seat.new.held }
+    ensures no_length { result ≡ 808 → SeatDid (λ _ old new. Called (Serve start len NoLength) old.view new.view) seat.old.held seat.new.held }
+    ensures lacking { result ≡ 809 → SeatDid (λ _ old new. Called (Serve start len (Lacking (node_of lacking.new))) old.view new.view) seat.old.held seat.new.held }
+    ensures memory { result ≡ 810 → SeatDid (λ _ old new. Sees old.view new.view) seat.old.held seat.new.held }
+    ensures no_seat { result ≡ 1202 ↔ (¬ HasSeat (λ _ _. Unit) seat.old.held) }
+    ensures same { result ≢ 0 → out.new ≡ out.old }
+{
+    let Some(mut held) = take(seat, alloc) else {
+        return NO_HANDLE;
+    };
+    let status = match &mut *held {
+        Held::Seat(it) => served(&it.store, &mut it.seat, start, len, out, used, lacking),
+        Held::Hasher(_) | Held::Gone => NO_HANDLE,
+    };
+    put(seat, held);
+    status
+}

@@ -1,0 +1,37 @@
+// The statuses that no fault of the libraries has. 0 is success everywhere.
+
+/// Two inputs with one chaining value are named. Number 602.
+pub(crate) const COLLISION: u32 = 602;
+
+/// The length is above what the store has room for. Number 805.
+pub(crate) const TOO_LARGE: u32 = 805;
+
+/// No length is recorded, or a byte isn't held. Number 901.
+pub(crate) const UNFINISHED: u32 = 901;
+
+/// The hash of the bytes isn't the root. Number 902.
+pub(crate) const NOT_THE_ROOT: u32 = 902;
+
+/// A caller's buffer has no room for what is to be written. Number 1201.
+pub(crate) const ROOM: u32 = 1201;
+
+/// A handle is empty, or is of another kind than the call asks for. Number 1202.
+pub(crate) const NO_HANDLE: u32 = 1202;
+
+/// There was no memory for what a handle owns. Number 1203.
+pub(crate) const NO_MEMORY: u32 = 1203;
+
+/// A byte of the range isn't held. Number 1204.
+pub(crate) const MISSING: u32 = 1204;
+
+/// A piece has no last chunk, so that it certifies no length. Number 1205.
+pub(crate) const NO_TAIL: u32 = 1205;
+
+/// Another length is recorded than the piece certifies. Number 1206.
+pub(crate) const DIFFERS: u32 = 1206;
+
+/// The bytes aren't UTF-8. Number 1207.
+pub(crate) const NOT_UTF8: u32 = 1207;
+
+/// The output asked for ends above 2^64 - 1. Number 1208.
+pub(crate) const PAST_OUTPUT: u32 = 1208;

@@ -1,0 +1,164 @@
+ghost use Rattle.std.specs.Prelude.{◌≡◌, ◌≢◌, ◌+◌, ◌-◌, ◌*◌, ◌^◌, ◌<◌, ◌≤◌, ◌++◌, drop, length};
+ghost use Rattle.b3tree.specs.Hashing.{hash};
+ghost use Rattle.bao_text.specs.Choice.{chunk_count};
+ghost use Rattle.bao_text.specs.Texts.{combined_text, outboard_text, slice_text};
+ghost use Rattle.bao_text.specs.Cut.{cut_text};
+ghost use Rattle.berylwool.specs.Modes.{mode_of};
+
+use crate::mode::BwMode;
+use crate::room::put;
+use crate::status::ROOM;
+use bao_text::{combined, cut_slice, encoded_len, outboard, outboard_len, slice};
+use std::alloc::Global;
+
+/// How many bytes the combined encoding of `len` bytes has: 0 where that is above 2^64 - 1.
+#[unsafe(no_mangle)]
+pub extern "C" fn bw_encoded_len(len: u64) -> u64
+    ensures value { 8 + 64 * (chunk_count len - 1) + len < 2 ^ 64 → result ≡ 8 + 64 * (chunk_count len - 1) + len }
+    ensures above { 2 ^ 64 ≤ 8 + 64 * (chunk_count len - 1) + len → result ≡ 0 }
+{
+    match u64::try_from(encoded_len(len)) {
+        Ok(size) => size,
+        Err(_) => 0,
+    }
+}
+
+/// How many bytes the outboard encoding of `len` bytes has.
+#[unsafe(no_mangle)]
+pub extern "C" fn bw_outboard_len(len: u64) -> u64
+    ensures { result ≡ 8 + 64 * (chunk_count len - 1) }
+{
+    outboard_len(len) as u64
+}
+
+/// Writes the combined encoding of `bytes` to the start of `out`, how long it is to `used`, and the hash of `bytes` to `root`.
+///
+/// 401 where there is no memory, and 1201 where `out` has no room: then `out` is unchanged.
+#[unsafe(no_mangle)]
+pub extern "C" fn bw_encode(
+    alloc: Global,
+    mode: &BwMode,
+    bytes: &[u8],
+    out: &mut [u8],
+    used: &mut usize,
+    root: &mut [u8; 32],
+) -> u32
+    ensures text { result ≡ 0 → out.new ≡ combined_text (mode_of mode.now) bytes.now ++ drop used.new out.old }
+    ensures used { result ≡ 0 → used.new ≡ length (combined_text (mode_of mode.now) bytes.now) }
+    ensures root { result ≡ 0 → root.new ≡ hash (mode_of mode.now) bytes.now }
+    ensures room { result ≡ 1201 → length out.old < length (combined_text (mode_of mode.now) bytes.now) }
+    ensures status { result ≢ 0 → result ≢ 1201 → result ≡ 401 }
+    ensures same { result ≢ 0 → out.new ≡ out.old }
+{
+    match combined(alloc, &mode.get(), bytes) {
+        Ok((hash, text)) => {
+            if !put(text.as_slice(), out) {
+                return ROOM;
+            }
+            *used = text.len();
+            let digest = hash.0;
+            *root = digest;
+            0
+        }
+        Err(fault) => u32::from(fault.code()),
+    }
+}
+
+/// Writes the outboard encoding of `bytes`, as `bw_encode` writes the combined one.
+///
+/// 401 where there is no memory, and 1201 where `out` has no room: then `out` is unchanged.
+#[unsafe(no_mangle)]
+pub extern "C" fn bw_outboard(
+    alloc: Global,
+    mode: &BwMode,
+    bytes: &[u8],
+    out: &mut [u8],
+    used: &mut usize,
+    root: &mut [u8; 32],
+) -> u32
+    ensures text { result ≡ 0 → out.new ≡ outboard_text (mode_of mode.now) bytes.now ++ drop used.new out.old }
+    ensures used { result ≡ 0 → used.new ≡ length (outboard_text (mode_of mode.now) bytes.now) }
+    ensures root { result ≡ 0 → root.new ≡ hash (mode_of mode.now) bytes.now }
+    ensures room { result ≡ 1201 → length out.old < length (outboard_text (mode_of mode.now) bytes.now) }
+    ensures status { result ≢ 0 → result ≢ 1201 → result ≡ 401 }
+    ensures same { result ≢ 0 → out.new ≡ out.old }
+{
+    match outboard(alloc, &mode.get(), bytes) {
+        Ok((hash, text)) => {
+            if !put(text.as_slice(), out) {
+                return ROOM;
+            }
+            *used = text.len();
+            let digest = hash.0;
+            *root = digest;
+            0
+        }
+        Err(fault) => u32::from(fault.code()),
+    }
+}
+
+/// Writes the slice of `len` bytes from byte `start` on of `bytes` to the start of `out`, how long it is to `used`, and the hash of `bytes` to `root`.
+///
+/// 401 where there is no memory, and 1201 where `out` has no room: then `out` is unchanged.
+#[unsafe(no_mangle)]
+pub extern "C" fn bw_slice(
+    alloc: Global,
+    mode: &BwMode,
+    bytes: &[u8],
+    start: u64,
+    len: u64,
+    out: &mut [u8],
+    used: &mut usize,
+    root: &mut [u8; 32],
+) -> u32
+    ensures text { result ≡ 0 → out.new ≡ slice_text (mode_of mode.now) bytes.now start len ++ drop used.new out.old }
+    ensures used { result ≡ 0 → used.new ≡ length (slice_text (mode_of mode.now) bytes.now start len) }
+    ensures root { result ≡ 0 → root.new ≡ hash (mode_of mode.now) bytes.now }
+    ensures room { result ≡ 1201 → length out.old < length (slice_text (mode_of mode.now) bytes.now start len) }
+    ensures status { result ≢ 0 → result ≢ 1201 → result ≡ 401 }
+    ensures same { result ≢ 0 → out.new ≡ out.old }
+{
+    match slice(alloc, &mode.get(), bytes, start, len) {
+        Ok((hash, text)) => {
+            if !put(text.as_slice(), out) {
+                return ROOM;
+            }
+            *used = text.len();
+            let digest = hash.0;
+            *root = digest;
+            0
+        }
+        Err(fault) => u32::from(fault.code()),
+    }
+}
+
+/// Cuts the slice of `len` bytes from byte `start` on out of the combined encoding `text`, and checks nothing: what isn't there is left
+/// out. It is written to the start of `out`, and how long it is to `used`.
+///
+/// 401 where there is no memory, and 1201 where `out` has no room: then `out` is unchanged.
+#[unsafe(no_mangle)]
+pub extern "C" fn bw_cut_slice(
+    alloc: Global,
+    text: &[u8],
+    start: u64,
+    len: u64,
+    out: &mut [u8],
+    used: &mut usize,
+) -> u32
+    ensures text { result ≡ 0 → out.new ≡ cut_text text.now start len ++ drop used.new out.old }
+    ensures used { result ≡ 0 → used.new ≡ length (cut_text text.now start len) }
+    ensures room { result ≡ 1201 → length out.old < length (cut_text text.now start len) }
+    ensures status { result ≢ 0 → result ≢ 1201 → result ≡ 401 }
+    ensures same { result ≢ 0 → out.new ≡ out.old }
+{
+    match cut_slice(alloc, text, start, len) {
+        Ok(cut) => {
+            if !put(cut.as_slice(), out) {
+                return ROOM;
+            }
+            *used = cut.len();
+            0
+        }
+        Err(fault) => u32::from(fault.code()),
+    }
+}

@@ -1,0 +1,113 @@
+#!/usr/bin/env python3
+"""Holds c/berylwool.h to the sources and runs the C tests on the library that `make c-library` made.
+
+Needs cc. With c++, clang, the sanitizers of cc, valgrind, rustc it runs more, and it names what isn't installed. With
+BERYLWOOL_CI in the environment nothing may be missing. Its last line is 'the C library passed'."""
+import os
+import pathlib
+import shutil
+import subprocess
+import sys
+import tempfile
+
+ROOT = pathlib.Path(__file__).resolve().parent.parent
+OUT = ROOT / "out" / "c"
+ARCHIVE = ROOT / "out" / "libberylwool.a"
+SHARED = ROOT / "out" / "libberylwool.so"
+FLAGS = "-std=c11 -O1 -g -Wall -Wextra -Wpedantic -Werror -pthread".split() + [f"-I{ROOT}/c", f"-I{OUT}"]
+KINDS = {"hash": 0, "keyed": 1, "derive": 2}
+
+missing = []
+
+
+def run(*words, **more):
+    words = [str(it) for it in words]
+    ran = subprocess.run(words, cwd=ROOT, **more)
+    if ran.returncode:
+        sys.exit(f"c_test.py: status {ran.returncode}: {' '.join(words)}")
+    return ran
+
+
+def there(name):
+    """Whether a program is installed; it is named at the end if it isn't."""
+    if shutil.which(name):
+        return True
+    missing.append(name)
+    return False
+
+
+def sanitizes(compiler, flag):
+    with tempfile.TemporaryDirectory() as folder:
+        source = pathlib.Path(folder) / "a.c"
+        source.write_text("int main(void) { return 0; }\n")
+        words = [compiler, flag, source, "-o", f"{folder}/a"]
+        if subprocess.run(words, capture_output=True).returncode == 0:
+            return subprocess.run([f"{folder}/a"], capture_output=True).returncode == 0
+    missing.append(f"{compiler} {flag}")
+    return False
+
+
+def vectors():
+    """The rows of b3sum.tsv as C."""
+    rows, most = [], 0
+    for line in (ROOT / "scripts" / "b3sum.tsv").read_text().splitlines():
+        if line.startswith("#"):
+            continue
+        kind, length, out = line.split("\t")
+        most = max(most, int(length))
+        out_len = len(out) // 2
+        rows.append(f"    {{{KINDS[kind]}, {length}, {{{', '.join(str(it) for it in bytes.fromhex(out))}}}}},")
+    text = [
+        "#include <stdint.h>",
+        f"enum {{ ROWS_MAX_LEN = {most}, ROW_OUT_LEN = {out_len} }};",
+        '#define ROW_KEY "whats the Elvish word for friend"',
+        '#define ROW_CONTEXT "BLAKE3 2019-12-27 16:29:52 test vectors context"',
+        "typedef struct row {",
+        "    uint32_t kind;",
+        "    uint32_t len;",
+        "    uint8_t out[ROW_OUT_LEN];",
+        "} row;",
+        "static const row rows_of_b3sum[] = {",
+        *rows,
+        "};",
+    ]
+    (OUT / "vectors.h").write_text("\n".join(text) + "\n")
+
+
+def main():
+    if not shutil.which("cc"):
+        sys.exit("c_test.py: cc isn't installed")
+    OUT.mkdir(parents=True, exist_ok=True)
+    vectors()
+    with open(OUT / "tie.c", "w") as tie:
+        run(sys.executable, "scripts/header.py", "crates/berylwool/src", ARCHIVE, stdout=tie)
+    run("cc", *FLAGS, "-c", OUT / "tie.c", "-o", OUT / "tie.o")
+    if there("c++"):
+        run("c++", "-x", "c++", "-std=c++17", "-Wall", "-Wextra", "-Werror", "-fsyntax-only", "c/berylwool.h")
+    builds = [("cc", "plain", [])]
+    if there("clang"):
+        builds.append(("clang", "clang", []))
+    for name, flag in (("asan", "-fsanitize=address,undefined"), ("tsan", "-fsanitize=thread")):
+        if sanitizes("cc", flag):
+            builds.append(("cc", name, [flag]))
+    for compiler, name, more in builds:
+        run(compiler, *FLAGS, *more, "c/test.c", ARCHIVE, "-o", OUT / f"test-{name}")
+        run(OUT / f"test-{name}")
+    run("cc", *FLAGS, "-Wl,--wrap=malloc", "c/refuse.c", ARCHIVE, "-o", OUT / "refuse")
+    run(OUT / "refuse")
+    if there("valgrind"):
+        run("valgrind", "-q", "--leak-check=full", "--error-exitcode=1", OUT / "test-plain")
+        run("valgrind", "-q", "--leak-check=full", "--error-exitcode=1", OUT / "refuse")
+        run("valgrind", "-q", "--tool=helgrind", "--error-exitcode=1", OUT / "test-plain")
+    run(sys.executable, "c/examples/berylwool.py", SHARED)
+    if there("rustc"):
+        run("rustc", "--edition", "2021", "-O", "-D", "warnings", "-L", ARCHIVE.parent, "c/examples/berylwool.rs", "-o", OUT / "example")
+        run(OUT / "example")
+    for name in missing:
+        print(f"not run, since it isn't here: {name}")
+    if missing and os.environ.get("BERYLWOOL_CI"):
+        sys.exit("c_test.py: nothing may be missing here")
+    print("the C library passed")
+
+
+main()
