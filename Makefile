@@ -4,7 +4,7 @@ SHELL := bash
 .SHELLFLAGS := -eu -o pipefail -c
 .DEFAULT_GOAL := help
 .DELETE_ON_ERROR:
-.PHONY: help build run try install sum test wrong-bodies scenarios c-library c-test bench refuse fmt FORCE
+.PHONY: help build run try install sum test wrong-bodies scenarios c-library c-install c-test bench refuse fmt FORCE
 
 PREFIX ?= /usr/local
 
@@ -32,6 +32,7 @@ help:
 	@echo 'make wrong-bodies         tries the wrong bodies that the gate leaves out, of all crates or of CRATES="NAME .."'
 	@echo 'make scenarios            holds what the programs of scenarios have to print to replies made by the definitions alone'
 	@echo 'make c-library            proves the C library and builds it, as out/libberylwool.a and out/libberylwool.so (needs cc and binutils)'
+	@echo 'make c-install PREFIX=DIR copies the C library to DIR/lib and its header to DIR/include, with what pkg-config asks for'
 	@echo 'make c-test               holds c/berylwool.h to the sources, and runs the C tests, under what is installed of sanitizers, valgrind, clang and rustc'
 	@echo 'make bench                measures times and prints them with their ratios, beside b3sum where it is installed'
 	@echo 'make refuse               runs the program with one allocation refused after another (needs cc)'
@@ -116,6 +117,14 @@ out/libberylwool.so: out/libberylwool.a
 	@cc -shared -o $@ -Wl,--whole-archive $< -Wl,--no-whole-archive -Wl,-soname,libberylwool.so.0 -Wl,-z,defs
 
 c-library: out/libberylwool.a out/libberylwool.so
+
+c-install: c-library
+	install -D -m 644 c/berylwool.h '$(DESTDIR)$(PREFIX)/include/berylwool.h'
+	install -D -m 644 out/libberylwool.a '$(DESTDIR)$(PREFIX)/lib/libberylwool.a'
+	install -D -m 755 out/libberylwool.so '$(DESTDIR)$(PREFIX)/lib/libberylwool.so.0'
+	ln -sf libberylwool.so.0 '$(DESTDIR)$(PREFIX)/lib/libberylwool.so'
+	install -d '$(DESTDIR)$(PREFIX)/lib/pkgconfig'
+	sed 's|@PREFIX@|$(PREFIX)|' c/berylwool.pc.in > '$(DESTDIR)$(PREFIX)/lib/pkgconfig/berylwool.pc'
 
 c-test: c-library
 	@python3 scripts/c_test.py

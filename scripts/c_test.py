@@ -99,7 +99,8 @@ def main():
         run("valgrind", "-q", "--leak-check=full", "--error-exitcode=1", OUT / "test-plain")
         run("valgrind", "-q", "--leak-check=full", "--error-exitcode=1", OUT / "refuse")
         run("valgrind", "-q", "--tool=helgrind", "--error-exitcode=1", OUT / "test-plain")
-    run(sys.executable, "c/examples/berylwool.py", SHARED)
+    run("cc", *FLAGS, "c/examples/mirror.c", ARCHIVE, "-o", OUT / "mirror")
+    run(sys.executable, "c/examples/berylwool.py", SHARED, OUT / "mirror")
     if there("rustc"):
         run("rustc", "--edition", "2021", "-O", "-D", "warnings", "-L", ARCHIVE.parent, "c/examples/berylwool.rs", "-o", OUT / "example")
         run(OUT / "example")

@@ -1,127 +1,218 @@
-"""The C library from Python, by ctypes alone: hash(bytes), check_slice(..) and a Seat of a shared store."""
+"""The C library from Python, by ctypes alone.
+
+    library = Library("out/libberylwool.so")
+    root, text = library.encode(b"..")
+    library.check_slice(root, 0, 10, library.cut_slice(text, 0, 10))
+
+A fault is raised as Fault, with its status and, for a text, its place. Run as a program, it tries itself:
+
+    python3 berylwool.py LIBRARY MIRROR
+
+MIRROR is the program that c/examples/mirror.c makes.
+"""
 import ctypes
+import subprocess
 import sys
+import tempfile
+
+GROUP_LEN = 64 * 1024
+
+size, u32, u64 = ctypes.c_size_t, ctypes.c_uint32, ctypes.c_uint64
+data, hash_ = ctypes.c_char_p, ctypes.c_uint8 * 32
 
 
 class Mode(ctypes.Structure):
-    _fields_ = [("kind", ctypes.c_uint32), ("key", ctypes.c_uint8 * 32)]
+    """Plain hashing, or with kind 1 keyed hashing."""
+
+    _fields_ = [("kind", u32), ("key", hash_)]
+
+
+class Node(ctypes.Structure):
+    _fields_ = [("kind", u32), ("number", u64)]
 
 
 class Handle(ctypes.Structure):
     _fields_ = [("at", ctypes.c_void_p)]
 
 
+mode, handle, place, length = (ctypes.POINTER(it) for it in (Mode, Handle, u64, size))
+
+FUNCTIONS = {
+    "bw_free": (None, handle),
+    "bw_hash": (None, mode, data, size, hash_),
+    "bw_derive_key": (u32, data, size, data, size, data, size),
+    "bw_encoded_len": (u64, u64),
+    "bw_encode": (u32, mode, data, size, data, size, length, hash_),
+    "bw_cut_slice": (u32, data, size, u64, u64, data, size, length),
+    "bw_check_slice": (u32, mode, hash_, u64, u64, data, size, place),
+    "bw_store_new": (u32, mode, hash_, u32, handle),
+    "bw_seat_split": (u32, handle, handle),
+    "bw_seat_take": (u32, handle, u32, u64, place),
+    "bw_seat_give": (u32, handle, u32, u64, place),
+    "bw_seat_commit": (u32, handle, u32, u64, u64, data, size, place, place),
+    "bw_seat_commit_parents": (u32, handle, u32, u64, u64, data, size, place, place),
+    "bw_seat_settle": (u32, handle, data, size, place),
+    "bw_seat_length": (u32, handle, place),
+    "bw_seat_read": (u32, handle, u64, data, size, place),
+    "bw_seat_serve_slice": (u32, handle, u64, u64, data, size, length, ctypes.POINTER(Node)),
+    "bw_seat_finish": (u32, handle, data, size, length),
+}
+
+
 class Fault(Exception):
-    def __init__(self, status, at=None):
+    """A status that isn't 0, and the place of the fault in a text."""
+
+    def __init__(self, status: int, at: "int | None" = None):
         super().__init__(f"{status}" if at is None else f"{status} at {at}")
         self.status, self.at = status, at
 
 
-class Library:
-    def __init__(self, path):
-        it = ctypes.CDLL(path)  # a call lets go of the interpreter's lock
-        size, u32, u64, data, hash_ = ctypes.c_size_t, ctypes.c_uint32, ctypes.c_uint64, ctypes.c_char_p, ctypes.c_uint8 * 32
-        mode, handle, place = ctypes.POINTER(Mode), ctypes.POINTER(Handle), ctypes.POINTER(u64)
-        for name, result, *kinds in (
-            ("bw_hash", None, mode, data, size, hash_),
-            ("bw_check_slice", u32, mode, hash_, u64, u64, data, size, place),
-            ("bw_cut_slice", u32, data, size, u64, u64, data, size, ctypes.POINTER(size)),
-            ("bw_encoded_len", u64, u64),
-            ("bw_encode", u32, mode, data, size, data, size, ctypes.POINTER(size), hash_),
-            ("bw_store_new", u32, mode, hash_, u32, handle),
-            ("bw_seat_split", u32, handle, handle),
-            ("bw_seat_take", u32, handle, u32, u64, place),
-            ("bw_seat_commit", u32, handle, u32, u64, u64, data, size, place, place),
-            ("bw_seat_settle", u32, handle, data, size, place),
-            ("bw_seat_finish", u32, handle, data, size, ctypes.POINTER(size)),
-            ("bw_free", None, handle),
-        ):
-            function = getattr(it, name)
-            function.restype, function.argtypes = result, kinds
-        self.it, self.plain = it, Mode()
+def must(status: int, at: "ctypes.c_uint64 | None" = None) -> None:
+    if status:
+        raise Fault(status, at.value if at else None)
 
-    def hash(self, data):
-        out = (ctypes.c_uint8 * 32)()
-        self.it.bw_hash(self.plain, data, len(data), out)
+
+class Library:
+    """The functions of the shared object at `path`. A call lets go of the interpreter's lock."""
+
+    def __init__(self, path: str):
+        self.calls = ctypes.CDLL(path)
+        for name, (result, *kinds) in FUNCTIONS.items():
+            function = getattr(self.calls, name)
+            function.restype, function.argtypes = result, kinds
+        self.plain = Mode()
+
+    def hash(self, blob: bytes) -> bytes:
+        out = hash_()
+        self.calls.bw_hash(self.plain, blob, len(blob), out)
         return bytes(out)
 
-    def encode(self, data):
-        out, used, root = ctypes.create_string_buffer(self.it.bw_encoded_len(len(data))), ctypes.c_size_t(), (ctypes.c_uint8 * 32)()
-        self.fail(self.it.bw_encode(self.plain, data, len(data), out, len(out), used, root))
+    def derive_key(self, context: str, material: bytes, count: int = 32) -> bytes:
+        out, text = ctypes.create_string_buffer(max(count, 1)), context.encode()
+        must(self.calls.bw_derive_key(text, len(text), material, len(material), out, count))
+        return out.raw[:count]
+
+    def encode(self, blob: bytes) -> "tuple[bytes, bytes]":
+        """The hash and the combined encoding."""
+        out, used, root = ctypes.create_string_buffer(self.calls.bw_encoded_len(len(blob))), size(), hash_()
+        must(self.calls.bw_encode(self.plain, blob, len(blob), out, len(out), used, root))
         return bytes(root), out.raw[: used.value]
 
-    def cut(self, text, start, length):
-        out, used = ctypes.create_string_buffer(len(text)), ctypes.c_size_t()
-        self.fail(self.it.bw_cut_slice(text, len(text), start, length, out, len(out), used))
+    def cut_slice(self, text: bytes, start: int, count: int) -> bytes:
+        """A slice of a combined encoding, of which nothing is checked."""
+        out, used = ctypes.create_string_buffer(max(len(text), 1)), size()
+        must(self.calls.bw_cut_slice(text, len(text), start, count, out, len(text), used))
         return out.raw[: used.value]
 
-    def check_slice(self, root, start, length, text):
-        at = ctypes.c_uint64()
-        status = self.it.bw_check_slice(self.plain, (ctypes.c_uint8 * 32)(*root), start, length, text, len(text), at)
-        if status:
-            raise Fault(status, at.value)
-
-    def fail(self, status):
-        if status:
-            raise Fault(status)
+    def check_slice(self, root: bytes, start: int, count: int, text: bytes) -> None:
+        at = u64()
+        must(self.calls.bw_check_slice(self.plain, hash_(*root), start, count, text, len(text), at), at)
 
 
 class Seat:
-    def __init__(self, library, root=None, capacity=0):
+    """A seat of a store that threads share: one thread's at a time."""
+
+    def __init__(self, library: Library, root: "bytes | None" = None, capacity: int = 0):
         self.library, self.handle = library, Handle()
         if root is not None:
-            library.fail(library.it.bw_store_new(library.plain, (ctypes.c_uint8 * 32)(*root), capacity, self.handle))
-
-    def split(self):
-        other = Seat(self.library)
-        self.library.fail(self.library.it.bw_seat_split(self.handle, other.handle))
-        return other
-
-    def gather(self, group, texts):
-        left, got, at = ctypes.c_uint64(), ctypes.c_uint64(), ctypes.c_uint64()
-        self.library.fail(self.library.it.bw_seat_take(self.handle, group, 2**64 - 1, left))
-        for text in texts:
-            piece = self.library.cut(text, group * 65536, 65536)
-            if not self.library.it.bw_seat_commit(self.handle, group, group * 65536, 65536, piece, len(piece), got, at):
-                left.value &= ~got.value
-
-    def settle(self, text):
-        at, piece = ctypes.c_uint64(), self.library.cut(text, 2**64 - 1, 1)
-        self.library.fail(self.library.it.bw_seat_settle(self.handle, piece, len(piece), at))
-
-    def finish(self, room):
-        out, used = ctypes.create_string_buffer(max(room, 1)), ctypes.c_size_t()
-        self.library.fail(self.library.it.bw_seat_finish(self.handle, out, room, used))
-        return out.raw[: used.value]
+            must(library.calls.bw_store_new(library.plain, hash_(*root), capacity, self.handle))
 
     def __del__(self):
-        self.library.it.bw_free(self.handle)
+        self.library.calls.bw_free(self.handle)
+
+    def split(self) -> "Seat":
+        other = Seat(self.library)
+        must(self.library.calls.bw_seat_split(self.handle, other.handle))
+        return other
+
+    def settle(self, encoding: bytes) -> int:
+        """Records the length by the last chunk of a combined encoding, and answers it."""
+        at, text = u64(), self.library.cut_slice(encoding, 2**64 - 1, 1)
+        must(self.library.calls.bw_seat_settle(self.handle, text, len(text), at), at)
+        must(self.library.calls.bw_seat_length(self.handle, at))
+        return at.value
+
+    def gather(self, group: int, encodings: "list[bytes]") -> int:
+        """Stores what it can of a group, chunks and parents, and answers the mask of the chunks."""
+        calls, start = self.library.calls, group * GROUP_LEN
+        left, committed, stored, at, done = u64(), u64(), u64(), u64(), 0
+        must(calls.bw_seat_take(self.handle, group, 2**64 - 1, left))
+        for encoding in encodings:
+            text = self.library.cut_slice(encoding, start, GROUP_LEN)
+            if calls.bw_seat_commit(self.handle, group, start, GROUP_LEN, text, len(text), committed, at) == 0:
+                must(calls.bw_seat_commit_parents(self.handle, group, start, GROUP_LEN, text, len(text), stored, at), at)
+                done |= committed.value
+        must(calls.bw_seat_give(self.handle, group, left.value & ~done, at))
+        return done
+
+    def read(self, start: int, count: int) -> bytes:
+        out, missing = ctypes.create_string_buffer(max(count, 1)), u64()
+        must(self.library.calls.bw_seat_read(self.handle, start, out, count, missing), missing)
+        return out.raw[:count]
+
+    def serve_slice(self, start: int, count: int, room: int) -> bytes:
+        out, used = ctypes.create_string_buffer(max(room, 1)), size()
+        must(self.library.calls.bw_seat_serve_slice(self.handle, start, count, out, room, used, Node()))
+        return out.raw[: used.value]
+
+    def finish(self, room: int) -> bytes:
+        out, used = ctypes.create_string_buffer(max(room, 1)), size()
+        must(self.library.calls.bw_seat_finish(self.handle, out, room, used))
+        return out.raw[: used.value]
 
 
-def main():
+def want(holds: bool, what: str) -> None:
+    if not holds:
+        sys.exit(f"berylwool.py: this is not so: {what}")
+
+
+def status_of(call, *words) -> int:
+    try:
+        call(*words)
+        return 0
+    except Fault as fault:
+        return fault.status
+
+
+def main(path: str, mirror: str) -> None:
     import threading
 
-    library = Library(sys.argv[1])
-    assert library.hash(b"").hex() == "af1349b9f5f9a1a6a0404dea36dcc9499bcb25c9adc112b7cc9a93cae41f3262"
+    library = Library(path)
+    want(library.hash(b"").hex() == "af1349b9f5f9a1a6a0404dea36dcc9499bcb25c9adc112b7cc9a93cae41f3262", "the hash of nothing")
+    context = "BLAKE3 2019-12-27 16:29:52 test vectors context"
+    want(library.derive_key(context, b"", 4).hex() == "2cc39783", "the key derived from nothing")
     blob = bytes(i * 7 % 251 for i in range(200_000))
     root, text = library.encode(blob)
-    assert root == library.hash(blob)
-    library.check_slice(root, 70_000, 10, library.cut(text, 70_000, 10))
-    try:
-        library.check_slice(root, 70_000, 10, library.cut(text, 70_000, 10)[:-1] + b"?")
-        raise AssertionError("a damaged slice was accepted")
-    except Fault as fault:
-        assert fault.status == 502
-    bad = text[:1000] + b"?" + text[1001:]
+    want(root == library.hash(blob), "the root is the hash")
+    piece = library.cut_slice(text, 70_000, 10)
+    want(status_of(library.check_slice, root, 70_000, 10, piece) == 0, "a slice is accepted")
+    want(status_of(library.check_slice, root, 70_000, 10, piece[:-1] + b"?") == 502, "a damaged slice is refused")
+
+    def damaged(*places):
+        return bytes(it ^ (i in places) for i, it in enumerate(text))
+
+    copies = [damaged(1000), damaged(150_000), damaged(1000, 90_000)]
     first = Seat(library, root, 1024)
-    first.settle(text)
+    want(status_of(first.serve_slice, 0, 1, 9000) == 808, "no length is recorded")
+    want(first.settle(text) == len(blob), "the length")
+    want(status_of(first.read, 0, 1) == 1204, "a byte isn't held")
     seats = [first.split() for _ in range(4)]
-    threads = [threading.Thread(target=seat.gather, args=(group, [bad, text])) for group, seat in enumerate(seats)]
+    threads = [threading.Thread(target=seat.gather, args=(group, copies)) for group, seat in enumerate(seats)]
     for thread in threads:
         thread.start()
     for thread in threads:
         thread.join()
-    assert first.finish(len(blob)) == blob
+    want(first.finish(len(blob)) == blob, "the blob is gathered")
+    want(first.serve_slice(0, 2**64 - 1, len(text)) == text, "the encoding is served")
+    with tempfile.TemporaryDirectory() as folder:
+        files = [f"{folder}/{k}" for k in range(len(copies))]
+        for file, copy in zip(files, copies):
+            with open(file, "wb") as out:
+                out.write(copy)
+        ran = subprocess.run([mirror, root.hex(), *files], capture_output=True)
+        want(ran.returncode == 0 and ran.stdout == blob, "mirror.c gathers the blob")
+        want(subprocess.run([mirror, root.hex(), files[0]], capture_output=True).returncode == 1, "one damaged copy isn't enough")
 
 
-main()
+if __name__ == "__main__":
+    main(*sys.argv[1:])
