@@ -4,6 +4,7 @@ use Rattle.b3tree.specs.declared.mode.Mode.{Mode}
 use Rattle.bao_text.specs.Nodes.{Node}
 use Rattle.bao_check.specs.declared.fault.CheckFault.{CheckFault}
 use Rattle.bao_check.specs.declared.fault.CheckFault.TheVariants.{Short, Mismatch, Trailing, Memory, Reader}
+use Rattle.bao_check.specs.Bare.{IsBareFault}
 use Rattle.bao_check.specs.Faults.{IsFirstFault, number_of}
 
 -- where a fault is
@@ -21,3 +22,8 @@ IsStatusOf fault status at = (status ≡ number_of fault) × (at ≡ place_of fa
 -- the status and the place are those of the text's first fault, by these nodes
 abbrev pub IsRefused : Mode → List ℕ → List ℕ → List Node → ℕ → ℕ → Type 0
 IsRefused mode root text nodes status at = (fault : CheckFault) × IsStatusOf fault status at × IsFirstFault mode root text nodes fault
+
+-- or of the chunks beside an outboard text
+abbrev pub IsBareRefused : Mode → List ℕ → List ℕ → ℕ → ℕ → List ℕ → ℕ → ℕ → Type 0
+IsBareRefused mode root outboard first count chunks status at =
+    (fault : CheckFault) × IsStatusOf fault status at × IsBareFault mode root outboard first count chunks fault

@@ -1,11 +1,15 @@
-ghost use Rattle.std.specs.Prelude.{◌≡◌, ◌≢◌, ◌↔◌, ◌-◌, ◌^◌, ◌<◌};
+ghost use Rattle.std.specs.Prelude.{◌≡◌, ◌≢◌, ◌↔◌, ◌+◌, ◌-◌, ◌^◌, ◌<◌, ◌≤◌};
 ghost use Rattle.bao_check.specs.Accepted.{IsAccepted, outboard_nodes, slice_nodes};
+ghost use Rattle.bao_check.specs.Bare.{AreBare};
+ghost use Rattle.bao_text.specs.Choice.{chunk_count};
+ghost use Rattle.bao_text.specs.Cut.{claimed};
 ghost use Rattle.berylwool.specs.Modes.{mode_of};
-ghost use Rattle.berylwool.specs.Status.{IsRefused, IsStatusOf};
+ghost use Rattle.berylwool.specs.Status.{IsBareRefused, IsRefused, IsStatusOf};
 
 use crate::mode::BwMode;
+use crate::status::{NO_CHUNKS, NO_OUTBOARD};
 use b3tree::Hash;
-use bao_check::{CheckFault, check_combined, check_outboard, check_slice};
+use bao_check::{CheckFault, bare_fits, check_bare, check_combined, check_outboard, check_slice};
 use std::alloc::Global;
 
 // The number of a fault, and its place.
@@ -74,6 +78,40 @@ pub extern "C" fn bw_check_outboard(
     ensures fault { result ≢ 0 → IsRefused (mode_of mode.now) root.now text.now (outboard_nodes text.now) result at.new }
 {
     match check_outboard(alloc, &mode.get(), &Hash(*root), text) {
+        Ok(_) => 0,
+        Err(fault) => told(&fault, at),
+    }
+}
+
+/// Checks `chunks` as the bytes of the chunks from chunk `first` on, `count` in number, of the blob with the hash `root`: a part of a plain
+/// copy, beside the blob's outboard encoding, which is checked with them.
+///
+/// 0 where both are accepted. 1209 exactly where the outboard encoding isn't: `bw_check_outboard` tells its fault. 1210 where `count` is 0, or
+/// the length that it claims has no such chunks. Else the first fault of the chunks, 501 to 503, and at which byte of `chunks`, in `at`.
+#[unsafe(no_mangle)]
+pub extern "C" fn bw_check_bare(
+    alloc: Global,
+    mode: &BwMode,
+    root: &[u8; 32],
+    outboard: &[u8],
+    first: u64,
+    count: u64,
+    chunks: &[u8],
+    at: &mut u64,
+) -> u32
+    ensures accepted { result ≡ 0 → AreBare (mode_of mode.now) root.now outboard.now first count chunks.now }
+    ensures outboard { result ≡ 1209 ↔ (¬ IsAccepted (mode_of mode.now) root.now outboard.now (outboard_nodes outboard.now)) }
+    ensures chunks { result ≡ 1210 → (¬ ((1 ≤ count) × (first + count ≤ chunk_count (claimed outboard.now)))) }
+    ensures status { 505 < result → result ≢ 1209 → result ≡ 1210 }
+    ensures fault { result ≢ 0 → result < 506 → IsBareRefused (mode_of mode.now) root.now outboard.now first count chunks.now result at.new }
+{
+    let Ok(outline) = check_outboard(alloc, &mode.get(), &Hash(*root), outboard) else {
+        return NO_OUTBOARD;
+    };
+    if !bare_fits(&outline, first, count) {
+        return NO_CHUNKS;
+    }
+    match check_bare(&outline, first, count, chunks) {
         Ok(_) => 0,
         Err(fault) => told(&fault, at),
     }

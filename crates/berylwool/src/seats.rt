@@ -1,7 +1,7 @@
-ghost use Rattle.std.specs.Prelude.{◌≡◌, ◌≢◌, ◌↔◌, ◌<◌, ◌≤◌, ◌*◌, ◌-◌, ◌^◌, ◌⊎◌, None, Some, length, take};
+ghost use Rattle.std.specs.Prelude.{◌≡◌, ◌≢◌, ◌↔◌, ◌<◌, ◌≤◌, ◌*◌, ◌-◌, ◌^◌, None, Some, length, take};
 ghost use Rattle.store_core.specs.declared.history.Call.TheVariants.{Give, Length, Settle, Take};
 ghost use Rattle.store_core.specs.declared.history.Settling.TheVariants.{Differs};
-ghost use Rattle.store_core.specs.Pieces.{length_of};
+ghost use Rattle.store_core.specs.Pieces.{EndsBlob, length_of};
 ghost use Rattle.store_shared.specs.Seats.{HasGroup, IsSeatOf, fixed_of};
 ghost use Rattle.store_steps.specs.Grips.{opening_view};
 ghost use Rattle.store_steps.specs.Parts.{ArePartsOf};
@@ -40,6 +40,7 @@ pub extern "C" fn bw_store_new(
     ensures fixed { result ≡ 0 → HasSeat (λ store _. fixed_of store ≡ record { root = record { 0 = root.now }; mode = mode_of mode.now; capacity = capacity }) seat.new.held }
     ensures view { result ≡ 0 → HasSeat (λ store first. first.view ≡ opening_view (fixed_of store)) seat.new.held }
     ensures capacity { result ≡ 802 ↔ (¬ ((0 < capacity) × (capacity ≤ 65536))) }
+    ensures status { result ≢ 0 → result ≢ 801 → result ≢ 802 → result ≡ 1203 }
     ensures empty { result ≢ 0 → seat.new.held ≡ None }
 {
     let _old = take(seat, alloc);
@@ -67,6 +68,7 @@ pub extern "C" fn bw_store_new(
 pub extern "C" fn bw_seat_split(alloc: Global, seat: &mut BwHandle, other: &mut BwHandle) -> u32
     ensures parts { result ≡ 0 → SeatParts (λ old first second. ArePartsOf old.view first.view second.view) seat.old.held seat.new.held other.new.held }
     ensures no_seat { result ≡ 1202 ↔ (¬ HasSeat (λ _ _. Unit) seat.old.held) }
+    ensures status { result ≢ 0 → result ≢ 806 → result ≢ 1202 → result ≡ 1203 }
     ensures same { result ≢ 0 → seat.new.held ≡ seat.old.held }
     ensures empty { result ≢ 0 → other.new.held ≡ None }
 {
@@ -265,7 +267,8 @@ fn settled(alloc: Global, store: &Assembly, seat: &mut Seat, text: &[u8], at: &m
     ensures fault { result ≢ 0 → result < 506 → IsNoSliceOf store.now text.now (2 ^ 64 - 1) 1 result at.new }
     ensures accepted { result ≡ 0 → IsSliceOf store.now text.now (2 ^ 64 - 1) 1 }
     ensures same { result ≢ 0 → result ≢ 1206 → seat.new ≡ seat.old }
-    ensures status { result ≢ 0 → 505 < result → (result ≡ 805) ⊎ ((result ≡ 1205) ⊎ (result ≡ 1206)) }
+    ensures no_tail { result ≡ 1205 → (¬ EndsBlob (slice_piece text.now (2 ^ 64 - 1) 1)) }
+    ensures status { result ≢ 0 → 505 < result → result ≢ 805 → result ≢ 1205 → result ≡ 1206 }
 {
     match check_slice(alloc, &store.mode(), &store.root(), u64::MAX, 1, text) {
         Ok(piece) => {
@@ -300,9 +303,11 @@ pub extern "C" fn bw_seat_settle(
     ensures settled { result ≡ 0 → SeatDid (λ _ old new. HasSettled (slice_piece text.now (2 ^ 64 - 1) 1) old.view new.view) seat.old.held seat.new.held }
     ensures differs { result ≡ 1206 → SeatDid (λ _ old new. Called (Settle (slice_piece text.now (2 ^ 64 - 1) 1) Differs) old.view new.view) seat.old.held seat.new.held }
     ensures large { result ≡ 805 → HasSeat (λ store _. 1024 * (fixed_of store).capacity < length_of (slice_piece text.now (2 ^ 64 - 1) 1)) seat.old.held }
+    ensures no_tail { result ≡ 1205 → (¬ EndsBlob (slice_piece text.now (2 ^ 64 - 1) 1)) }
     ensures accepted { result ≡ 0 → HasSeat (λ store _. IsSliceOf store text.now (2 ^ 64 - 1) 1) seat.old.held }
     ensures fault { result ≢ 0 → result < 506 → HasSeat (λ store _. IsNoSliceOf store text.now (2 ^ 64 - 1) 1 result at.new) seat.old.held }
     ensures no_seat { result ≡ 1202 ↔ (¬ HasSeat (λ _ _. Unit) seat.old.held) }
+    ensures status { result ≢ 0 → 505 < result → result ≢ 805 → result ≢ 1202 → result ≢ 1205 → result ≡ 1206 }
     ensures same { result ≢ 0 → result ≢ 1206 → seat.new.held ≡ seat.old.held }
 {
     let Some(mut held) = take(seat, alloc) else {
@@ -429,6 +434,7 @@ pub extern "C" fn bw_seat_finish(
     ensures root { result ≡ 0 → SeatDid (λ store _ _. HasRoot (fixed_of store) (take used.new out.new)) seat.old.held seat.new.held }
     ensures within { result ≡ 0 → used.new ≤ length out.new }
     ensures no_seat { result ≡ 1202 ↔ (¬ HasSeat (λ _ _. Unit) seat.old.held) }
+    ensures status { result ≢ 0 → result ≢ 901 → result ≢ 902 → result ≢ 1202 → result ≡ 1201 }
     ensures stays { HasSeat (λ _ _. Unit) seat.old.held → HasSeat (λ _ _. Unit) seat.new.held }
 {
     let Some(mut held) = take(seat, alloc) else {

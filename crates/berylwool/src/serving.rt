@@ -134,8 +134,8 @@ fn served(
     ensures no_length { result ≡ 808 → Called (Serve start len NoLength) seat.old.view seat.new.view }
     ensures lacking { result ≡ 809 → Called (Serve start len (Lacking (node_of lacking.new))) seat.old.view seat.new.view }
     ensures memory { result ≡ 810 → Sees seat.old.view seat.new.view }
+    ensures status { result ≢ 0 → result ≢ 808 → result ≢ 809 → result ≢ 810 → result ≡ 1201 }
     ensures same { result ≢ 0 → out.new ≡ out.old }
-    ensures low { result < 1202 }
 {
     match store.serve_slice(seat, start, len) {
         Ok(text) => {
@@ -176,6 +176,7 @@ pub extern "C" fn bw_seat_serve_slice(
     ensures lacking { result ≡ 809 → SeatDid (λ _ old new. Called (Serve start len (Lacking (node_of lacking.new))) old.view new.view) seat.old.held seat.new.held }
     ensures memory { result ≡ 810 → SeatDid (λ _ old new. Sees old.view new.view) seat.old.held seat.new.held }
     ensures no_seat { result ≡ 1202 ↔ (¬ HasSeat (λ _ _. Unit) seat.old.held) }
+    ensures status { result ≢ 0 → result ≢ 808 → result ≢ 809 → result ≢ 810 → result ≢ 1202 → result ≡ 1201 }
     ensures same { result ≢ 0 → out.new ≡ out.old }
 {
     let Some(mut held) = take(seat, alloc) else {

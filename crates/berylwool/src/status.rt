@@ -35,3 +35,9 @@ pub(crate) const NOT_UTF8: u32 = 1207;
 
 /// The output asked for ends above 2^64 - 1. Number 1208.
 pub(crate) const PAST_OUTPUT: u32 = 1208;
+
+/// The outboard encoding beside the chunks isn't accepted. Number 1209.
+pub(crate) const NO_OUTBOARD: u32 = 1209;
+
+/// The blob hasn't so many chunks there. Number 1210.
+pub(crate) const NO_CHUNKS: u32 = 1210;
