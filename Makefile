@@ -4,7 +4,7 @@ SHELL := bash
 .SHELLFLAGS := -eu -o pipefail -c
 .DEFAULT_GOAL := help
 .DELETE_ON_ERROR:
-.PHONY: help build run try install sum test wrong-bodies scenarios c-library c-install c-test bench refuse fmt FORCE
+.PHONY: help build run try install sum test wrong-bodies scenarios c-library c-install c-test c-bench bench refuse fmt FORCE
 
 PREFIX ?= /usr/local
 
@@ -34,6 +34,7 @@ help:
 	@echo 'make c-library            proves the C library and builds it, as out/libberylwool.a and out/libberylwool.so (needs cc and binutils)'
 	@echo 'make c-install PREFIX=DIR copies the C library to DIR/lib and its header to DIR/include, with what pkg-config asks for'
 	@echo 'make c-test               holds c/berylwool.h to the sources, and runs the C tests, under what is installed of sanitizers, valgrind, clang and rustc'
+	@echo 'make c-bench              measures calls of the C library in one thread, and prints their times'
 	@echo 'make bench                measures times and prints them with their ratios, beside b3sum where it is installed'
 	@echo 'make refuse               runs the program with one allocation refused after another (needs cc)'
 	@echo 'make fmt                  lays out the files of each crate'
@@ -128,3 +129,6 @@ c-install: c-library
 
 c-test: c-library
 	@python3 scripts/c_test.py
+
+c-bench: c-library
+	@cc -std=c11 -O2 -Wall -Wextra -Ic c/bench.c out/libberylwool.a -o out/c/bench && out/c/bench

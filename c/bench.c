@@ -1,5 +1,5 @@
+/* Times of calls, in one thread: the least of 9 rounds. It judges none. */
 #define _POSIX_C_SOURCE 199309L
-/* Times of calls, in one thread: the least of 9 rounds. */
 #include "berylwool.h"
 
 #include <stdio.h>

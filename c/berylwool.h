@@ -57,7 +57,9 @@ enum {
     BW_NO_TAIL = 1205,       /* the text hasn't the last chunk of its length */
     BW_DIFFERS = 1206,       /* another length is recorded */
     BW_NOT_UTF8 = 1207,      /* the context isn't UTF-8 */
-    BW_PAST_OUTPUT = 1208    /* the output asked for ends above 2^64 - 1 */
+    BW_PAST_OUTPUT = 1208,   /* the output asked for ends above 2^64 - 1 */
+    BW_NO_OUTBOARD = 1209,   /* the outboard encoding isn't accepted */
+    BW_NO_CHUNKS = 1210      /* the blob hasn't so many chunks there */
 };
 
 /* A status in words. */
@@ -90,6 +92,8 @@ static inline const char *bw_strerror(bw_status status) {
     case BW_DIFFERS: return "another length is recorded";
     case BW_NOT_UTF8: return "the context isn't UTF-8";
     case BW_PAST_OUTPUT: return "the output asked for ends above 2^64 - 1";
+    case BW_NO_OUTBOARD: return "the outboard encoding isn't accepted";
+    case BW_NO_CHUNKS: return "the blob hasn't so many chunks there";
     default: return "no status of this library";
     }
 }
@@ -176,6 +180,11 @@ bw_status bw_check_combined(const bw_mode *mode, const uint8_t root[BW_AT_LEAST(
                             uint64_t *at);
 bw_status bw_check_outboard(const bw_mode *mode, const uint8_t root[BW_AT_LEAST(BW_HASH_LEN)], const uint8_t *text, size_t text_len,
                             uint64_t *at);
+
+/* Checks chunks `first` to `first + count - 1` of a plain copy, which begin at its byte 1,024 * first, by the blob's outboard encoding, which
+ * is checked with them. BW_NO_OUTBOARD: bw_check_outboard tells its fault. BW_NO_CHUNKS. Else the place in *at is one of `chunks`. */
+bw_status bw_check_bare(const bw_mode *mode, const uint8_t root[BW_AT_LEAST(BW_HASH_LEN)], const uint8_t *outboard, size_t outboard_len,
+                        uint64_t first, uint64_t count, const uint8_t *chunks, size_t chunks_len, uint64_t *at);
 
 /* Checks a slice, and compares it with a blob. BW_OK: it is accepted, each chunk of it is the blob's, and the length that it certifies, if it
  * does, is the blob's. BW_OTHER_BLOB: the blob's hash isn't the root. BW_COLLISION: *ours is an input that hashing the blob compresses, and

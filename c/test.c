@@ -169,6 +169,15 @@ static void texts(const uint8_t *blob, const uint8_t *root, holder *good) {
     WANT(bw_outboard(&plain, blob, BLOB_LEN, outboard, outboard_len, &used, again) == BW_OK);
     WANT(used == outboard_len && memcmp(again, root, sizeof again) == 0);
     WANT(bw_check_outboard(&plain, root, outboard, used, &at) == BW_OK && at == 7);
+    uint64_t all = (BLOB_LEN + BW_CHUNK_LEN - 1) / BW_CHUNK_LEN;
+    WANT(bw_check_bare(&plain, root, outboard, used, 0, all, blob, BLOB_LEN, &at) == BW_OK);
+    WANT(bw_check_bare(&plain, root, outboard, used, 5, 3, blob + 5 * 1024, 3 * 1024, &at) == BW_OK && at == 7);
+    WANT(bw_check_bare(&plain, root, outboard, used, 5, 3, blob + 5 * 1024, 3 * 1024 - 1, &at) == BW_SHORT && at == 2 * 1024);
+    WANT(bw_check_bare(&plain, root, outboard, used, 5, 3, blob + 5 * 1024, 3 * 1024 + 1, &at) == BW_TRAILING && at == 3 * 1024);
+    WANT(bw_check_bare(&plain, root, outboard, used, 6, 3, blob + 5 * 1024, 3 * 1024, &at) == BW_MISMATCH && at == 0);
+    WANT(bw_check_bare(&plain, root, outboard, used, 0, all + 1, blob, BLOB_LEN, &at) == BW_NO_CHUNKS);
+    WANT(bw_check_bare(&plain, root, outboard, used, 0, 0, blob, 0, &at) == BW_NO_CHUNKS);
+    WANT(bw_check_bare(&plain, root, outboard, used - 1, 0, 1, blob, 1024, &at) == BW_NO_OUTBOARD);
     outboard[8] ^= 1;
     WANT(bw_check_outboard(&plain, root, outboard, used, &at) == BW_MISMATCH && at == 8);
     free(outboard);

@@ -1,16 +1,23 @@
 #!/usr/bin/env python3
 """Writes a C file that compiles only if c/berylwool.h declares each export of crates/berylwool as its source has it.
 
-header.py SOURCE_DIR ARCHIVE > tie.c
+usage: python3 scripts/header.py SOURCE_DIR ARCHIVE > tie.c
 
-Every function and #[repr(C)] struct of the sources gives static assertions over the header's types: the type of the function, and
-the size and each field's place of the struct. The names that the archive defines for others have to be those of the sources."""
+Each exported function gives a static assertion over the type that the header has for it, and each #[repr(C)] struct assertions over its
+size and over the type and the place of each field. Each status of status.rt has to be one of the header's numbers. The names that the
+archive defines for others have to be those of the sources."""
 import pathlib
 import re
 import subprocess
 import sys
 
 NUMBERS = {"u8": ("uint8_t", 1), "u32": ("uint32_t", 4), "u64": ("uint64_t", 8), "usize": ("size_t", 8)}
+ARRAY = re.compile(r"\[(\w+); (\d+)\]")
+STRUCT = re.compile(r"#\[repr\(C\)\](?:\s*#\[[^\]]*\])*\s*pub struct (\w+) \{(.*?)\n\}", re.S)
+FIELD = re.compile(r"^\s*(?:pub )?(\w+): ([^,\n]+),", re.M)
+EXPORT = re.compile(r'#\[unsafe\(no_mangle\)\]\s*pub extern "C" fn (\w+)\((.*?)\)(?: -> (\w+))?\s*(?=\n\s+(?:requires|ensures|ghost)|\{)', re.S)
+STATUS = re.compile(r"^pub\(crate\) const (\w+): u32 = (\d+);", re.M)
+REFERENCE = re.compile(r"&(mut )?(?:\[(\w+)(?:; (\d+))?\]|(\w+))")
 
 
 def stop(text):
@@ -18,18 +25,19 @@ def stop(text):
 
 
 def c_struct(name):
-    return re.sub(r"(?<!^)([A-Z])", lambda m: "_" + m[1].lower(), name).lower()
+    """BwMode as bw_mode."""
+    return re.sub(r"(?<!^)([A-Z])", r"_\1", name).lower()
 
 
-def c_types(rattle, structs):
-    """The C types of one parameter."""
-    if rattle == "Global":
+def parameter(kind, structs):
+    """The C types of a parameter: none for the allocator, two for a slice."""
+    if kind == "Global":
         return []
-    if rattle in NUMBERS:
-        return [NUMBERS[rattle][0]]
-    found = re.fullmatch(r"&(mut )?(?:\[(\w+)(?:; (\d+))?\]|(\w+))", rattle)
+    if kind in NUMBERS:
+        return [NUMBERS[kind][0]]
+    found = REFERENCE.fullmatch(kind)
     if not found:
-        stop(f"no C type is known for {rattle}")
+        stop(f"no C type is known for {kind}")
     is_mut, element, count, name = found.groups()
     target = element or name
     if target in structs:
@@ -37,62 +45,71 @@ def c_types(rattle, structs):
     elif target in NUMBERS:
         target = NUMBERS[target][0]
     else:
-        stop(f"no C type is known for {rattle}")
+        stop(f"no C type is known for {kind}")
     pointer = f"{target} *" if is_mut else f"const {target} *"
     return [pointer, "size_t"] if element and not count else [pointer]
 
 
-def layout(fields, structs, text):
-    """The size, the alignment and each field's offset by the rules of C."""
-    at, widest, places = 0, 1, []
-    for name, kind in fields:
-        array = re.fullmatch(r"\[(\w+); (\d+)\]", kind)
-        if kind == "Global":
+def field(kind):
+    """The size, the alignment and the C type of a pointer to a field."""
+    if kind.startswith("*"):
+        return 8, 8, "void **"
+    array = ARRAY.fullmatch(kind)
+    one, count = (array[1], int(array[2])) if array else (kind, 1)
+    if one not in NUMBERS:
+        stop(f"no C type is known for {kind}")
+    name, size = NUMBERS[one]
+    return size * count, size, f"{name} (*)[{count}]" if array else f"{name} *"
+
+
+def struct_lines(name, fields):
+    at, widest = 0, 1
+    for field_name, kind in fields:
+        if kind == "Global":  # it takes no bytes
             continue
-        if kind.startswith("*"):
-            size = align = 8
-        else:
-            one, count = (array[1], int(array[2])) if array else (kind, 1)
-            if one not in NUMBERS:
-                stop(f"no size is known for {kind}")
-            align = NUMBERS[one][1]
-            size = align * count
+        size, align, pointer = field(kind)
         at = -(-at // align) * align
-        places.append((name, at))
+        place = f"{c_struct(name)}, {field_name}"
+        yield f'_Static_assert(offsetof({place}) == {at}, "{place}");'
+        yield f'_Static_assert(_Generic(&(({c_struct(name)} *)0)->{field_name}, {pointer}: 1, default: 0), "{place}");'
         at, widest = at + size, max(widest, align)
-    return -(-at // widest) * widest, places
+    yield f'_Static_assert(sizeof({c_struct(name)}) == {-(-at // widest) * widest}, "{name}");'
 
 
-def main():
-    folder, archive = sys.argv[1:]
-    text = "\n".join(file.read_text() for file in sorted(pathlib.Path(folder).glob("*.rt")))
-    text = re.sub(r"^\s*//.*$", "", text, flags=re.M)
-    structs = {}
-    for name, body in re.findall(r"#\[repr\(C\)\](?:\s*#\[[^\]]*\])*\s*pub struct (\w+) \{(.*?)\n\}", text, re.S):
-        fields = re.findall(r"^\s*(?:pub )?(\w+): ([^,\n]+),", body, re.M)
-        structs[name] = [it for it in fields if not it[1].startswith("{")]
+def function_line(name, parameters, result, structs):
+    kinds = [it.split(": ", 1)[1].strip() for it in re.split(r",\s*(?=\w+:|$)", parameters.strip()) if it.strip()]
+    taken = ", ".join(it for kind in kinds for it in parameter(kind, structs)) or "void"
+    given = NUMBERS[result][0] if result else "void"
+    return f'_Static_assert(_Generic(&{name}, {given} (*)({taken}): 1, default: 0), "{name}");'
+
+
+def main(folder, archive):
+    files = sorted(pathlib.Path(folder).glob("*.rt"))
+    text = re.sub(r"^\s*//.*$", "", "\n".join(file.read_text() for file in files), flags=re.M)
+    # A ghost field takes no bytes.
+    structs = {name: [it for it in FIELD.findall(body) if not it[1].startswith("{")] for name, body in STRUCT.findall(text)}
+    exports = EXPORT.findall(text)
+    statuses = STATUS.findall(text)
+    if len(exports) != text.count("no_mangle") or not structs or not statuses:
+        stop("not every export was read")
+    header = (pathlib.Path(__file__).resolve().parent.parent / "c" / "berylwool.h").read_text()
+    known = set(re.findall(r"^    BW_\w+ = (\d+)\b", header, re.M))
+    for name, number in statuses:
+        if number not in known:
+            stop(f"the header has no status {number}, {name}")
     print('#include "berylwool.h"\n')
     for name, fields in structs.items():
-        size, places = layout(fields, structs, text)
-        print(f'_Static_assert(sizeof({c_struct(name)}) == {size}, "{name}");')
-        for field, at in places:
-            kind = dict(fields)[field]
-            array = re.fullmatch(r"\[(\w+); (\d+)\]", kind)
-            pointed = "void **" if kind.startswith("*") else f"{NUMBERS[array[1]][0]} (*)[{array[2]}]" if array else f"{NUMBERS[kind][0]} *"
-            print(f'_Static_assert(offsetof({c_struct(name)}, {field}) == {at}, "{name}.{field}");')
-            print(f'_Static_assert(_Generic(&(({c_struct(name)} *)0)->{field}, {pointed}: 1, default: 0), "{name}.{field}");')
-    names = set()
-    pattern = r'#\[unsafe\(no_mangle\)\]\s*pub (?:unsafe )?extern "C" fn (\w+)\((.*?)\)(?: -> (\w+))?\s*(?=\n\s+(?:requires|ensures|ghost)|\{)'
-    for name, parameters, result in re.findall(pattern, text, re.S):
-        names.add(name)
-        kinds = [it.split(": ", 1)[1].strip() for it in re.split(r",\s*(?=\w+:|$)", parameters.strip()) if it.strip()]
-        taken = ", ".join(it for kind in kinds for it in c_types(kind, structs)) or "void"
-        given = NUMBERS[result][0] if result else "void"
-        print(f'_Static_assert(_Generic(&{name}, {given} (*)({taken}): 1, default: 0), "{name}");')
+        print("\n".join(struct_lines(name, fields)))
+    for name, parameters, result in exports:
+        print(function_line(name, parameters, result, structs))
     lines = subprocess.run(["nm", "-g", "--defined-only", archive], capture_output=True, text=True, check=True).stdout
     defined = {line.split()[-1] for line in lines.splitlines() if line.split()[1:2] == ["T"]}
+    names = {it[0] for it in exports}
     if names != defined:
-        stop(f"the sources export {sorted(names - defined)} beside the archive, and the archive {sorted(defined - names)} beside the sources")
+        stop(f"only the sources export {sorted(names - defined)}, and only the archive {sorted(defined - names)}")
 
 
-main()
+if __name__ == "__main__":
+    if len(sys.argv) != 3:
+        sys.exit(__doc__)
+    main(*sys.argv[1:])
