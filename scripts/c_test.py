@@ -1,7 +1,7 @@
 #!/usr/bin/env python3
 """Holds c/berylwool.h to the sources and runs the C tests on the library that `make c-library` made.
 
-Needs cc. With c++, clang, the sanitizers of cc, valgrind, rustc it runs more, and it names what isn't installed. With
+Needs cc. With c++, clang, the sanitizers of cc, valgrind and rustc it runs more, and it names what isn't installed. With
 BERYLWOOL_CI in the environment nothing may be missing. Its last line is 'the C library passed'."""
 import os
 import pathlib
@@ -101,6 +101,7 @@ def main():
         run("valgrind", "-q", "--tool=helgrind", "--error-exitcode=1", OUT / "test-plain")
     run("cc", *FLAGS, "c/examples/mirror.c", ARCHIVE, "-o", OUT / "mirror")
     run(sys.executable, "c/examples/berylwool.py", SHARED, OUT / "mirror")
+    run(sys.executable, "scripts/c_fuzz.py")
     if there("rustc"):
         run("rustc", "--edition", "2021", "-O", "-D", "warnings", "-L", ARCHIVE.parent, "c/examples/berylwool.rs", "-o", OUT / "example")
         run(OUT / "example")
