@@ -10,12 +10,20 @@ pub struct Mode {
 }
 
 #[repr(C)]
+#[derive(Default)]
+struct Node {
+    kind: u32,
+    number: u64,
+}
+
+#[repr(C)]
 struct Handle {
     at: *mut u8,
 }
 
 #[link(name = "berylwool", kind = "static")]
 unsafe extern "C" {
+    fn bw_free(handle: &mut Handle);
     fn bw_hash(mode: &Mode, bytes: *const u8, len: usize, out: &mut [u8; 32]);
     fn bw_encoded_len(len: u64) -> u64;
     fn bw_encode(mode: &Mode, bytes: *const u8, len: usize, out: *mut u8, out_len: usize, used: &mut usize, root: &mut [u8; 32]) -> u32;
@@ -25,19 +33,24 @@ unsafe extern "C" {
     fn bw_seat_split(seat: &mut Handle, other: &mut Handle) -> u32;
     fn bw_seat_take(seat: &mut Handle, group: u32, want: u64, granted: &mut u64) -> u32;
     fn bw_seat_commit(seat: &mut Handle, group: u32, start: u64, len: u64, text: *const u8, text_len: usize, committed: &mut u64, at: &mut u64) -> u32;
+    fn bw_seat_commit_parents(seat: &mut Handle, group: u32, start: u64, len: u64, text: *const u8, text_len: usize, stored: &mut u64, at: &mut u64) -> u32;
     fn bw_seat_settle(seat: &mut Handle, text: *const u8, text_len: usize, at: &mut u64) -> u32;
+    fn bw_seat_read(seat: &mut Handle, from: u64, out: *mut u8, out_len: usize, missing: &mut u64) -> u32;
+    fn bw_seat_serve_slice(seat: &mut Handle, start: u64, len: u64, out: *mut u8, out_len: usize, used: &mut usize, lacking: &mut Node) -> u32;
     fn bw_seat_finish(seat: &mut Handle, out: *mut u8, out_len: usize, used: &mut usize) -> u32;
-    fn bw_free(handle: &mut Handle);
 }
 
 pub const PLAIN: Mode = Mode { kind: 0, key: [0; 32] };
 
-/// The number of a fault.
+/// The number of a fault, and its place where it has one.
 #[derive(Debug, PartialEq)]
-pub struct Fault(pub u32);
+pub struct Fault {
+    pub status: u32,
+    pub at: u64,
+}
 
-fn told(status: u32) -> Result<(), Fault> {
-    if status == 0 { Ok(()) } else { Err(Fault(status)) }
+fn told(status: u32, at: u64) -> Result<(), Fault> {
+    if status == 0 { Ok(()) } else { Err(Fault { status, at }) }
 }
 
 pub fn hash(mode: &Mode, bytes: &[u8]) -> [u8; 32] {
@@ -46,28 +59,45 @@ pub fn hash(mode: &Mode, bytes: &[u8]) -> [u8; 32] {
     out
 }
 
+/// The hash and the combined encoding.
 pub fn encode(mode: &Mode, bytes: &[u8]) -> Result<([u8; 32], Vec<u8>), Fault> {
     let (mut root, mut used) = ([0; 32], 0);
     let mut out = vec![0; unsafe { bw_encoded_len(bytes.len() as u64) } as usize];
-    told(unsafe { bw_encode(mode, bytes.as_ptr(), bytes.len(), out.as_mut_ptr(), out.len(), &mut used, &mut root) })?;
+    told(unsafe { bw_encode(mode, bytes.as_ptr(), bytes.len(), out.as_mut_ptr(), out.len(), &mut used, &mut root) }, 0)?;
     out.truncate(used);
     Ok((root, out))
 }
 
+/// A slice of a combined encoding, of which nothing is checked.
 pub fn cut_slice(text: &[u8], start: u64, len: u64) -> Result<Vec<u8>, Fault> {
     let (mut out, mut used) = (vec![0; text.len()], 0);
-    told(unsafe { bw_cut_slice(text.as_ptr(), text.len(), start, len, out.as_mut_ptr(), out.len(), &mut used) })?;
+    told(unsafe { bw_cut_slice(text.as_ptr(), text.len(), start, len, out.as_mut_ptr(), out.len(), &mut used) }, 0)?;
     out.truncate(used);
     Ok(out)
 }
 
-/// The fault's number and its place.
-pub fn check_slice(mode: &Mode, root: &[u8; 32], start: u64, len: u64, text: &[u8]) -> Result<(), (Fault, u64)> {
-    let mut at = 0;
-    told(unsafe { bw_check_slice(mode, root, start, len, text.as_ptr(), text.len(), &mut at) }).map_err(|fault| (fault, at))
+/// A text that was accepted as a slice: it borrows the text, which can't change while it is there.
+#[derive(Clone, Copy, Debug)]
+pub struct Checked<'a> {
+    pub start: u64,
+    pub len: u64,
+    text: &'a [u8],
 }
 
-/// A seat of a shared store. It may go to another thread, and is used by one at a time: it is `Send`, and each call takes `&mut`.
+impl<'a> Checked<'a> {
+    pub fn new(mode: &Mode, root: &[u8; 32], start: u64, len: u64, text: &'a [u8]) -> Result<Checked<'a>, Fault> {
+        let mut at = 0;
+        let status = unsafe { bw_check_slice(mode, root, start, len, text.as_ptr(), text.len(), &mut at) };
+        told(status, at)?;
+        Ok(Checked { start, len, text })
+    }
+
+    pub fn text(&self) -> &'a [u8] {
+        self.text
+    }
+}
+
+/// A seat of a store that threads share. It goes to another thread, and is used by one at a time: `Send`, not `Sync`.
 pub struct Seat(Handle);
 
 unsafe impl Send for Seat {}
@@ -75,36 +105,55 @@ unsafe impl Send for Seat {}
 impl Seat {
     pub fn new(mode: &Mode, root: &[u8; 32], capacity: u32) -> Result<Seat, Fault> {
         let mut seat = Seat(Handle { at: ptr::null_mut() });
-        told(unsafe { bw_store_new(mode, root, capacity, &mut seat.0) })?;
+        told(unsafe { bw_store_new(mode, root, capacity, &mut seat.0) }, 0)?;
         Ok(seat)
     }
 
     pub fn split(&mut self) -> Result<Seat, Fault> {
         let mut other = Seat(Handle { at: ptr::null_mut() });
-        told(unsafe { bw_seat_split(&mut self.0, &mut other.0) })?;
+        told(unsafe { bw_seat_split(&mut self.0, &mut other.0) }, 0)?;
         Ok(other)
     }
 
     pub fn take(&mut self, group: u32, want: u64) -> Result<u64, Fault> {
         let mut granted = 0;
-        told(unsafe { bw_seat_take(&mut self.0, group, want, &mut granted) })?;
+        told(unsafe { bw_seat_take(&mut self.0, group, want, &mut granted) }, 0)?;
         Ok(granted)
     }
 
-    pub fn commit(&mut self, group: u32, start: u64, len: u64, text: &[u8]) -> Result<u64, (Fault, u64)> {
-        let (mut committed, mut at) = (0, 0);
-        told(unsafe { bw_seat_commit(&mut self.0, group, start, len, text.as_ptr(), text.len(), &mut committed, &mut at) }).map_err(|fault| (fault, at))?;
+    /// Stores the chunks of the group that the seat claims and the text has, and the text's parents there.
+    pub fn commit(&mut self, group: u32, start: u64, len: u64, text: &[u8]) -> Result<u64, Fault> {
+        let (mut committed, mut stored, mut at) = (0, 0, 0);
+        let status = unsafe { bw_seat_commit(&mut self.0, group, start, len, text.as_ptr(), text.len(), &mut committed, &mut at) };
+        told(status, at)?;
+        let status = unsafe { bw_seat_commit_parents(&mut self.0, group, start, len, text.as_ptr(), text.len(), &mut stored, &mut at) };
+        told(status, at)?;
         Ok(committed)
     }
 
-    pub fn settle(&mut self, text: &[u8]) -> Result<(), (Fault, u64)> {
+    pub fn settle(&mut self, text: &[u8]) -> Result<(), Fault> {
         let mut at = 0;
-        told(unsafe { bw_seat_settle(&mut self.0, text.as_ptr(), text.len(), &mut at) }).map_err(|fault| (fault, at))
+        let status = unsafe { bw_seat_settle(&mut self.0, text.as_ptr(), text.len(), &mut at) };
+        told(status, at)
+    }
+
+    pub fn read(&mut self, from: u64, out: &mut [u8]) -> Result<(), Fault> {
+        let mut missing = 0;
+        let status = unsafe { bw_seat_read(&mut self.0, from, out.as_mut_ptr(), out.len(), &mut missing) };
+        told(status, missing)
+    }
+
+    pub fn serve_slice(&mut self, start: u64, len: u64, out: &mut Vec<u8>) -> Result<(), Fault> {
+        let (mut used, mut lacking) = (0, Node::default());
+        let status = unsafe { bw_seat_serve_slice(&mut self.0, start, len, out.as_mut_ptr(), out.len(), &mut used, &mut lacking) };
+        told(status, lacking.number)?;
+        out.truncate(used);
+        Ok(())
     }
 
     pub fn finish(&mut self, out: &mut [u8]) -> Result<usize, Fault> {
         let mut used = 0;
-        told(unsafe { bw_seat_finish(&mut self.0, out.as_mut_ptr(), out.len(), &mut used) })?;
+        told(unsafe { bw_seat_finish(&mut self.0, out.as_mut_ptr(), out.len(), &mut used) }, 0)?;
         Ok(used)
     }
 }
@@ -123,10 +172,11 @@ fn main() {
     let mut bad = text.clone();
     bad[text.len() / 2..][..5000].fill(0);
     let mut piece = cut_slice(&text, 5000, 10).unwrap();
-    assert_eq!(check_slice(&PLAIN, &root, 5000, 10, &piece), Ok(()));
+    assert_eq!(Checked::new(&PLAIN, &root, 5000, 10, &piece).unwrap().text(), &piece[..]);
     *piece.last_mut().unwrap() ^= 1;
-    assert_eq!(check_slice(&PLAIN, &root, 5000, 10, &piece).unwrap_err().0, Fault(502));
+    assert_eq!(Checked::new(&PLAIN, &root, 5000, 10, &piece).unwrap_err().status, 502);
     let mut first = Seat::new(&PLAIN, &root, 1024).unwrap();
+    assert_eq!(first.read(5, &mut [0]), Err(Fault { status: 1204, at: 5 }));
     first.settle(&cut_slice(&text, u64::MAX, 1).unwrap()).unwrap();
     std::thread::scope(|scope| {
         for _ in 0..4 {
@@ -148,6 +198,9 @@ fn main() {
             });
         }
     });
+    let mut served = vec![0; text.len()];
+    first.serve_slice(0, u64::MAX, &mut served).unwrap();
+    assert!(served == text);
     let mut found = vec![0; blob.len()];
     assert_eq!(first.finish(&mut found), Ok(blob.len()));
     assert!(found == blob);
