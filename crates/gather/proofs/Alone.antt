@@ -24,13 +24,16 @@ use Rattle.store_core.specs.States.{State, claims}
 use Rattle.store_core.specs.Stores.{DidStore, IsEvent, IsSame, IsUnstored, Settles, fixed_of, state_of}
 use Rattle.gather.specs.Claims.{Among, AmongAnd, Without}
 use Rattle.gather.specs.Counts.{Still}
-use Rattle.gather.specs.Large.{IsTooLarge}
-use Rattle.gather.specs.Worked.{HasWorked, chunks_of, parents_of, worker, worker_claims}
+use Rattle.gather.specs.Holders.{IsIt, IsNone}
+use Rattle.gather.specs.Large.{EndsTooFar}
+use Rattle.gather.specs.Worked.{HasWorked, IsFrom, chunks_of, parents_of, worker, worker_claims}
 
-pub worked_one : (old new : Store) (call : Call) → IsEvent old new worker call → HasWorked old new (chunks_of call) (parents_of call)
-worked_one old new call event = record {
+pub worked_one : (handed : Piece → Type 0) (old new : Store) (call : Call) → IsFrom handed call → IsEvent old new worker call
+    → HasWorked handed old new (chunks_of call) (parents_of call)
+worked_one handed old new call from event = record {
   events = record { who = worker; call = call } ∷ [];
   own = (refl, tt);
+  from = (from, tt);
   legal = (event.right, tt);
   after = event.after;
   fixed = event.fixed;
@@ -38,8 +41,8 @@ worked_one old new call event = record {
   counts_parents = omega arith;
 }
 
-pub worked_none : (old new : Store) → IsSame old new → HasWorked old new 0 0
-worked_none old new same = record { events = []; own = tt; legal = tt; after = same.state; fixed = same.fixed; counts = refl; counts_parents = refl }
+pub worked_none : (handed : Piece → Type 0) (old new : Store) → IsSame old new → HasWorked handed old new 0 0
+worked_none handed old new same = record { events = []; own = tt; from = tt; legal = tt; after = same.state; fixed = same.fixed; counts = refl; counts_parents = refl }
 
 -- what is claimed after a call, by the state before it
 claims_after : (old new : Store) (call : Call) → IsEvent old new worker call → (c : ℕ) → worker_claims new c ≡ true
@@ -87,9 +90,9 @@ committed old new group piece mask event c is =
     ]
 
 pub take_gains : (old new : Store) (group want : ℕ) (result : Result ℕ StoreFault) → IfOk result (λ granted. IsEvent old new worker (Take group want granted))
-    → OnErr result (IsSame old new) → HasWorked old new 0 0
-take_gains old new group want (Ok granted) ok err = worked_one old new (Take group want granted) ok
-take_gains old new group want (Err fault) ok err = worked_none old new err
+    → OnErr result (IsSame old new) → HasWorked IsNone old new 0 0
+take_gains old new group want (Ok granted) ok err = worked_one IsNone old new (Take group want granted) tt ok
+take_gains old new group want (Err fault) ok err = worked_none IsNone old new err
 
 pub take_claims : (old new : Store) (group want : ℕ) (result : Result ℕ StoreFault) → IfOk result (λ granted. IsEvent old new worker (Take group want granted))
     → OnErr result (IsSame old new)
@@ -98,9 +101,9 @@ take_claims old new group want (Ok granted) ok err = taken old new group want gr
 take_claims old new group want (Err fault) ok err = among_same old new err
 
 pub commit_gains : (old new : Store) (group : ℕ) (piece : Piece) (result : Result ℕ StoreFault) → IfOk result (λ mask. IsEvent old new worker (Commit group piece mask))
-    → OnErr result (IsSame old new) → MatchResult result (λ mask. HasWorked old new (count_ones mask) 0) (λ _. HasWorked old new 0 0)
-commit_gains old new group piece (Ok mask) ok err = worked_one old new (Commit group piece mask) ok
-commit_gains old new group piece (Err fault) ok err = worked_none old new err
+    → OnErr result (IsSame old new) → MatchResult result (λ mask. HasWorked (IsIt piece) old new (count_ones mask) 0) (λ _. HasWorked (IsIt piece) old new 0 0)
+commit_gains old new group piece (Ok mask) ok err = worked_one (IsIt piece) old new (Commit group piece mask) refl ok
+commit_gains old new group piece (Err fault) ok err = worked_none (IsIt piece) old new err
 
 pub commit_claims : (old new : Store) (group : ℕ) (piece : Piece) (result : Result ℕ StoreFault) → IfOk result (λ mask. IsEvent old new worker (Commit group piece mask))
     → OnErr result (IsSame old new)
@@ -108,16 +111,16 @@ pub commit_claims : (old new : Store) (group : ℕ) (piece : Piece) (result : Re
 commit_claims old new group piece (Ok mask) ok err = committed old new group piece mask ok
 commit_claims old new group piece (Err fault) ok err = among_same old new err
 
-settle_still : (old new : Store) (piece : Piece) (answer : Settling) → IsEvent old new worker (Settle piece answer) → Still HasWorked worker_claims old new
+settle_still : (old new : Store) (piece : Piece) (answer : Settling) → IsEvent old new worker (Settle piece answer) → Still (HasWorked (IsIt piece)) worker_claims old new
 settle_still old new piece answer event =
-    (worked_one old new (Settle piece answer) event, λ c is. claims_after old new (Settle piece answer) event c is)
+    (worked_one (IsIt piece) old new (Settle piece answer) refl event, λ c is. claims_after old new (Settle piece answer) event c is)
 
-pub settles_still : (old new : Store) (piece : Checked) (answer : Settling) → Settles old new piece answer → Still HasWorked worker_claims old new
+pub settles_still : (old new : Store) (piece : Checked) (answer : Settling) → Settles old new piece answer → Still (HasWorked (IsIt (piece_of piece))) worker_claims old new
 settles_still old new piece Settled settles = settle_still old new (piece_of piece) Settled (settles worker)
 settles_still old new piece Known settles = settle_still old new (piece_of piece) Known (settles worker)
 settles_still old new piece Differs settles = settle_still old new (piece_of piece) Differs (settles worker)
-settles_still old new piece OtherRoot settles = (worked_none old new settles.1, among_same old new settles.1)
-settles_still old new piece TooLarge settles = (worked_none old new settles.2, among_same old new settles.2)
+settles_still old new piece OtherRoot settles = (worked_none (IsIt (piece_of piece)) old new settles.1, among_same old new settles.1)
+settles_still old new piece TooLarge settles = (worked_none (IsIt (piece_of piece)) old new settles.2, among_same old new settles.2)
 
 -- parents that are stored end no claim, and none that are not
 parents_event : (old new : Store) (group : ℕ) (piece : Piece) (answer : Storing) → IsEvent old new worker (Parents group piece answer) → Among (worker_claims old) (worker_claims new)
@@ -130,9 +133,9 @@ unstored_same old new group piece fault.OtherRoot unstored = unstored
 unstored_same old new group piece fault.OtherLength unstored = unstored.0
 
 pub parents_gain : (old new : Store) (group : ℕ) (piece : Checked) (result : Result ℕ StoreFault) → IfOk result (λ mask. DidStore old new group piece (Stored mask))
-    → IfErr result (λ fault. IsUnstored old new group piece fault) → MatchResult result (λ mask. HasWorked old new 0 (count_ones mask)) (λ _. HasWorked old new 0 0)
-parents_gain old new group piece (Ok mask) ok err = worked_one old new (Parents group (piece_of piece) (Stored mask)) (ok worker)
-parents_gain old new group piece (Err fault) ok err = worked_none old new (unstored_same old new group piece fault err)
+    → IfErr result (λ fault. IsUnstored old new group piece fault) → MatchResult result (λ mask. HasWorked (IsIt (piece_of piece)) old new 0 (count_ones mask)) (λ _. HasWorked (IsIt (piece_of piece)) old new 0 0)
+parents_gain old new group piece (Ok mask) ok err = worked_one (IsIt (piece_of piece)) old new (Parents group (piece_of piece) (Stored mask)) refl (ok worker)
+parents_gain old new group piece (Err fault) ok err = worked_none (IsIt (piece_of piece)) old new (unstored_same old new group piece fault err)
 
 pub parents_claims : (old new : Store) (group : ℕ) (piece : Checked) (result : Result ℕ StoreFault) → IfOk result (λ mask. DidStore old new group piece (Stored mask))
     → IfErr result (λ fault. IsUnstored old new group piece fault) → Among (worker_claims old) (worker_claims new)
@@ -142,13 +145,12 @@ parents_claims old new group piece (Err fault) ok err = among_same old new (unst
 -- the piece of a tail that is too large is an accepted one of the store's root and mode, with the last chunk
 pub settles_large : (old new : Store) (piece : Checked) (answer : Settling) → AreBytes (piece_text piece)
     → IsAccepted (piece_mode piece) (piece_root piece) (piece_text piece) (piece_nodes piece) → HoldsLast piece → Settles old new piece answer → answer ≡ TooLarge
-    → IsTooLarge (fixed_of old)
+    → EndsTooFar (fixed_of old) (piece_of piece)
 settles_large old new piece Settled bytes accepted last settles is = let no : Settled ≡ TooLarge = is in cc
 settles_large old new piece Known bytes accepted last settles is = let no : Known ≡ TooLarge = is in cc
 settles_large old new piece Differs bytes accepted last settles is = let no : Differs ≡ TooLarge = is in cc
 settles_large old new piece OtherRoot bytes accepted last settles is = let no : OtherRoot ≡ TooLarge = is in cc
 settles_large old new piece TooLarge bytes accepted last settles is = record {
-  piece = piece_of piece;
   accepted = record {
     bytes = bytes;
     accepted = subst (λ (mode : Mode). IsAccepted mode (fixed_of old).root.0 (piece_text piece) (piece_nodes piece)) settles.0.mode

@@ -1,49 +1,56 @@
 -- What comes from accepted texts is the blob's, or a pair is named.
-use Rattle.std.proofs.Common.{◌≡◌, ◌⊎◌, zero, suc, ℕ, ◌+◌, ◌-◌, ◌/◌, ◌<◌, List, length, Option, None, Some, is_some, true, false, slice_get, slice_index, refl, sym, subst, arith, inl, inr, below_more}
+use Rattle.std.proofs.Common.{Contains, map, option_map, ap, ◌∙◌, ◌≡◌, ◌⊎◌, zero, suc, ℕ, ◌+◌, ◌-◌, ◌/◌, ◌<◌, List, length, Option, None, Some, is_some, true, false, slice_get, slice_index, refl, sym, subst, arith, inl, inr, below_more}
 use Rattle.std.proofs.lemmas.List.{ext_get_or}
-use Rattle.std.proofs.lemmas.Option.{get_or_from_slice_get}
-use Rattle.std.proofs.Math.Logic.{∥∥₁_map}
+use Rattle.bao_check.proofs.Lists.{All-member}
+use Rattle.std.proofs.lemmas.Option.{slice_get-map, get_or_from_slice_get}
 use Rattle.b3tree.specs.Hashing.{hash}
 use Rattle.b3tree.specs.Valid.{IsKeyed}
 use Rattle.bao_check.specs.Laws.{AcceptedBinds}
 use Rattle.bao_check.specs.Pieces.{chunk_of}
 use Rattle.bao_text.specs.Choice.{chunk_count}
 use Rattle.store_core.specs.declared.fixed.Fixed.{Fixed}
+use Rattle.store_core.specs.declared.history.Piece.{Piece}
 use Rattle.store_core.specs.declared.store.Store.{Store}
 use Rattle.store_core.specs.Laws.{IsBlob, PairNamed}
 use Rattle.store_core.specs.Pieces.{chunk_bytes, length_of}
 use Rattle.store_core.specs.declared.history.Event.{Event}
+use Rattle.store_core.specs.Histories.{AreLegalFrom, IsLegal, run}
 use Rattle.store_core.specs.Reached.{IsReached}
-use Rattle.store_core.specs.Stores.{LengthBinds, PairCommitted, PairSettled, ReadBinds, fixed_of, state_of}
-use Rattle.gather.specs.Finished.{BindsNone}
+use Rattle.store_core.specs.Stores.{LengthBinds, PairCommitted, ReadBinds, fixed_of, state_of}
+use Rattle.gather.specs.declared.holder.Encoded.{Encoded}
+use Rattle.gather.specs.Encodings.{IsCut, IsCutOf, encoding}
+use Rattle.gather.specs.Holders.{IsHanded}
+use Rattle.gather.specs.Finished.{BindsNone, IsNamedIn}
 use Rattle.gather.specs.Large.{AreLonger, HasPair, IsOfNone, IsTooLarge}
-use Rattle.gather.specs.Worked.{AddsBlobs, AddsCertified, IsCertified}
+use Rattle.store_core.specs.States.{State, empty}
+use Rattle.gather.specs.Worked.{AreFrom, HasWorked, IsFrom, AddsBlobs, AddsCertified, IsCertified}
 
-certified_binds : AcceptedBinds → (fixed : Fixed) (blob : List ℕ) (c : ℕ) (bytes : List ℕ) → IsKeyed fixed.mode → IsBlob fixed blob → (from : IsCertified fixed c bytes)
+certified_binds : AcceptedBinds → (handed : Piece → Type 0) (fixed : Fixed) (blob : List ℕ) (c : ℕ) (bytes : List ℕ) → IsKeyed fixed.mode → IsBlob fixed blob
+    → (from : IsCertified handed fixed c bytes)
     → (chunk_of blob c ≡ Some bytes) ⊎ PairNamed fixed blob from.piece
-certified_binds law fixed blob c bytes keyed is from = elim (
+certified_binds law handed fixed blob c bytes keyed is from = elim (
     law fixed.mode fixed.root.0 from.piece.text blob from.piece.start from.piece.len c bytes keyed is.bytes from.accepted.bytes is.root from.accepted.accepted from.has
     ) [ inl same ↦ inl same.0 | inr named ↦ inr named ]
 
-pub adds_blobs : AcceptedBinds → (old new : Store) → IsKeyed (fixed_of old).mode → AddsCertified old new → AddsBlobs old new
-adds_blobs law old new keyed adds blob is c bytes held = elim (adds c bytes held) [
+pub adds_blobs : AcceptedBinds → (handed : Piece → Type 0) (old new : Store) → IsKeyed (fixed_of old).mode → AddsCertified handed old new → AddsBlobs handed old new
+adds_blobs law handed old new keyed adds blob is c bytes held = elim (adds c bytes held) [
   | inl before ↦ inl before
-  | inr from ↦ elim (certified_binds law (fixed_of old) blob c bytes keyed is from) [ inl same ↦ inr (inl same) | inr named ↦ inr (inr (from, named)) ]
+  | inr from ↦ elim (certified_binds law handed (fixed_of old) blob c bytes keyed is from) [ inl same ↦ inr (inl same) | inr named ↦ inr (inr (from, named)) ]
 ]
 
 some_bytes : (o : Option (List ℕ)) → is_some o ≡ true → (bytes : List ℕ) × (o ≡ Some bytes)
 some_bytes (Some bytes) is = (bytes, refl)
 some_bytes None is = let no : false ≡ true = is in cc
 
-pub are_longer : AcceptedBinds → (fixed : Fixed) → IsKeyed fixed.mode → IsTooLarge fixed → AreLonger fixed
-are_longer law fixed keyed large blob is =
-    let last = chunk_count (length_of large.piece) - 1 in
-    let there = some_bytes (chunk_bytes large.piece last) large.ends in
-    elim (
-    law fixed.mode fixed.root.0 large.piece.text blob large.piece.start large.piece.len last there.0 keyed is.bytes large.accepted.bytes is.root large.accepted.accepted there.1
-    ) [
-      | inl same ↦ let long : length_of large.piece ≡ length blob = same.1 (omega arith) in inl (omega (arith, long, large.above))
-      | inr named ↦ inr (record { piece = large.piece; accepted = large.accepted; pair = named })
+pub are_longer : AcceptedBinds → (handed : Piece → Type 0) (fixed : Fixed) → IsKeyed fixed.mode → IsTooLarge handed fixed → AreLonger handed fixed
+are_longer law handed fixed keyed too_large blob is =
+    let piece = too_large.piece in
+    let large = too_large.large in
+    let last = chunk_count (length_of piece) - 1 in
+    let there = some_bytes (chunk_bytes piece last) large.ends in
+    elim (law fixed.mode fixed.root.0 piece.text blob piece.start piece.len last there.0 keyed is.bytes large.accepted.bytes is.root large.accepted.accepted there.1) [
+      | inl same ↦ let long : length_of piece ≡ length blob = same.1 (omega arith) in inl (omega (arith, long, large.above))
+      | inr named ↦ inr (record { piece = piece; from = too_large.from; accepted = large.accepted; pair = named })
     ]
 
 -- the bytes read are the blob's up to some number, or there is a pair
@@ -84,11 +91,52 @@ binds_none store bytes recorded read other blob is by =
       ]
     ]
 
-pair_of : (fixed : Fixed) (history : List Event) (blob : List ℕ) → ((c : ℕ) × PairCommitted fixed history blob c) ⊎ ((l : ℕ) × PairSettled fixed history blob l) → HasPair fixed blob
-pair_of fixed history blob (inl from) = record { piece = from.1.committed.piece; accepted = from.1.committed.accepted; pair = from.1.pair }
-pair_of fixed history blob (inr from) = record { piece = from.1.settled.piece; accepted = from.1.settled.accepted; pair = from.1.pair }
+-- what holders over texts hand over is cut out of the texts
+pub handed_cut : (holders : List Encoded) (texts : List (List ℕ)) → map encoding holders ≡ texts → (piece : Piece) → IsHanded IsCut holders piece → IsCutOf texts piece
+handed_cut holders texts over piece from = record {
+  place = from.place;
+  text = encoding from.holder;
+  there = subst (λ (all : List (List ℕ)). slice_get all from.place ≡ Some (encoding from.holder)) over
+      (slice_get-map encoding holders from.place ∙ ap (λ (o : Option Encoded). option_map encoding o) from.there);
+  cut = from.given;
+}
 
--- some history leads to a store
-pub of_none : (store : Store) (fixed : Fixed) → fixed_of store ≡ fixed → ∥ IsReached (fixed_of store) (state_of store) ∥₁ → BindsNone store → IsOfNone fixed
-of_none store fixed same reached none =
-    subst (λ (f : Fixed). IsOfNone f) same (λ blob is. ∥∥₁_map reached (λ by. pair_of (fixed_of store) by.history blob (none blob is by)))
+pub pair_wider : (handed wider : Piece → Type 0) → ((piece : Piece) → handed piece → wider piece) → (fixed : Fixed) (blob : List ℕ) → HasPair handed fixed blob
+    → HasPair wider fixed blob
+pair_wider handed wider more fixed blob has = record { piece = has.piece; from = more has.piece has.from; accepted = has.accepted; pair = has.pair }
+
+pub longer_wider : (handed wider : Piece → Type 0) → ((piece : Piece) → handed piece → wider piece) → (fixed : Fixed) → AreLonger handed fixed → AreLonger wider fixed
+longer_wider handed wider more fixed are blob is = elim (are blob is) [ inl long ↦ inl long | inr has ↦ inr (pair_wider handed wider more fixed blob has) ]
+
+pub none_wider : (handed wider : Piece → Type 0) → ((piece : Piece) → handed piece → wider piece) → (fixed : Fixed) → IsOfNone handed fixed → IsOfNone wider fixed
+none_wider handed wider more fixed none blob is = pair_wider handed wider more fixed blob (none blob is)
+
+-- the piece of each event
+event_from : (handed : Piece → Type 0) (events : List Event) (e : Event) → AreFrom handed events → Contains events e → IsFrom handed e.call
+event_from handed events e from there = All-member (λ (it : Event). IsFrom handed it.call) events from e there
+
+-- a pair that is named from a piece of the worker's history
+pub pair_of : (handed : Piece → Type 0) (fixed : Fixed) (history : List Event) (blob : List ℕ) → AreFrom handed history → IsNamedIn fixed history blob → HasPair handed fixed blob
+pair_of handed fixed history blob of (inl from) =
+    let it = from.1.committed in
+    record { piece = it.piece; from = event_from handed history _ of it.there; accepted = it.accepted; pair = from.1.pair }
+pair_of handed fixed history blob of (inr from) =
+    let it = from.1.settled in
+    record { piece = it.piece; from = event_from handed history _ of it.there; accepted = it.accepted; pair = from.1.pair }
+
+-- the worker's history leads from a new store to the one that it leaves
+pub worked_reaches : (handed : Piece → Type 0) (old new : Store) (chunks parents : ℕ) → state_of old ≡ empty → HasWorked handed old new chunks parents
+    → IsReached (fixed_of new) (state_of new)
+worked_reaches handed old new chunks parents fresh worked = record {
+  history = worked.events;
+  legal = subst (λ (fixed : Fixed). IsLegal fixed worked.events) (sym worked.fixed)
+      (subst (λ (s : State). AreLegalFrom (fixed_of old) s worked.events) fresh worked.legal);
+  is = sym (worked.after ∙ ap (λ (s : State). run s worked.events) fresh);
+}
+
+pub of_none : (handed : Piece → Type 0) (old new : Store) (fixed : Fixed) (chunks parents : ℕ) → fixed_of old ≡ fixed → state_of old ≡ empty
+    → HasWorked handed old new chunks parents → BindsNone new → IsOfNone handed fixed
+unfolding worked_reaches
+of_none handed old new fixed chunks parents same fresh worked none =
+    subst (λ (f : Fixed). IsOfNone handed f) (worked.fixed ∙ same) (λ blob is.
+    pair_of handed (fixed_of new) worked.events blob worked.from (none blob is (worked_reaches handed old new chunks parents fresh worked)))

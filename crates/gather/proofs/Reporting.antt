@@ -1,197 +1,280 @@
 -- What a worker's report gains, from one seat to the next.
-use Rattle.std.proofs.Common.{◌≡◌, ◌⊎◌, ℕ, ◌+◌, ◌<◌, ◌≤◌, List, length, get_or, set, true, sym, subst, arith, inl, inr}
+use Rattle.std.proofs.Common.{◌≡◌, ◌⊎◌, ℕ, zero, suc, ◌+◌, ◌<◌, ◌≤◌, List, [], ◌∷◌, length, get_or, set, Some, slice_get, true, sym, subst, arith, inl, inr}
+use Rattle.std.proofs.lemmas.Option.{slice_get-get_or}
 use Rattle.std.specs.List.{sum_by}
 use Rattle.std.proofs.lemmas.List.Sums.{sum_by-set}
+use Rattle.b3tree.specs.declared.mode.Mode.{Mode}
+use Rattle.bao_check.specs.declared.checked.Checked.{Checked}
+use Rattle.bao_check.specs.Checked.{IsPiece, piece_text}
 use Rattle.bao_check.specs.declared.fault.CheckFault.{CheckFault}
 use Rattle.bao_check.specs.declared.fault.CheckFault.TheVariants.{Short, Mismatch, Trailing, Memory, Reader}
 use Rattle.store_core.specs.declared.fixed.Fixed.{Fixed}
+use Rattle.store_core.specs.declared.history.Piece.{Piece}
+use Rattle.store_core.specs.Pieces.{piece_of}
 use Rattle.gather.specs.declared.report.Report.{Report}
-use Rattle.gather.specs.Counts.{Fits, Reports, asked_once, checked_once, failed_once, memory_once, plus}
-use Rattle.gather.specs.Large.{IsTooLarge}
+use Rattle.gather.specs.Counts.{Fits, Goes, Reports, asked_once, checked_once, failed_once, memory_once, plus}
+use Rattle.gather.specs.Holders.{IsGiven, IsHanded, IsIt, IsNone}
+use Rattle.gather.specs.Large.{EndsTooFar, IsTooLarge}
 
--- one stretch of work, and then another
-pub onward : {S : Type 0} (fixed_of : S → Fixed) (gained : S → S → ℕ → ℕ → Type 0) (keeps : (s t : S) (n q : ℕ) → gained s t n q → fixed_of t ≡ fixed_of s)
-    (adds : (r s t : S) (m n p q : ℕ) → gained r s m p → gained s t n q → gained r t (m + n) (p + q)) (r s t : S) (a b c : ℕ) (x y z : Report)
-    → Reports fixed_of gained r s a b x y → Reports fixed_of gained s t b c y z → Reports fixed_of gained r t a c x z
-onward fixed_of gained keeps adds r s t a b c x y z first second = record {
-  chunks = first.chunks + second.chunks;
-  parents = first.parents + second.parents;
-  gains = adds r s t first.chunks second.chunks first.parents second.parents first.gains second.gains;
-  committed = omega (arith, first.committed, second.committed);
-  stored = omega (arith, first.stored, second.stored);
-  failed = omega (arith, first.failed, second.failed);
-  answered = λ is. second.answered (first.answered is);
-  too_large = λ is. elim (second.too_large is) [
-    | inl before ↦ first.too_large before
-    | inr large ↦ inr (subst (λ (fixed : Fixed). IsTooLarge fixed) (keeps r s first.chunks first.parents first.gains) large)
-  ];
-}
+-- a checked text is a piece that its holder gave
+pub piece_given : {H : Type 0} (gives : H → ℕ → ℕ → List ℕ → Type 0) (holder : H) (it : Checked) (mode : Mode) (root : List ℕ) (start len : ℕ) (text : List ℕ)
+    → IsPiece it mode root start len text → gives holder start len text → IsGiven gives holder (piece_of it)
+piece_given gives holder it mode root start len text is given =
+    subst (λ (k : ℕ). gives holder k it.len (piece_text it)) (sym is.start_is)
+    (subst (λ (k : ℕ). gives holder start k (piece_text it)) (sym is.len_is) (subst (λ (xs : List ℕ). gives holder start len xs) (sym is.text_is) given))
 
--- a call that stores nothing and counts nothing
-pub onward_none : {S : Type 0} (fixed_of : S → Fixed) (gained : S → S → ℕ → ℕ → Type 0) (adds : (r s t : S) (m n p q : ℕ) → gained r s m p → gained s t n q → gained r t (m + n) (p + q))
-    (r s t : S) (a b : ℕ) (x y : Report) → Reports fixed_of gained r s a b x y → gained s t 0 0 → Reports fixed_of gained r t a b x y
-onward_none fixed_of gained adds r s t a b x y first second = record {
-  chunks = first.chunks + 0;
-  parents = first.parents + 0;
-  gains = adds r s t first.chunks 0 first.parents 0 first.gains second;
-  committed = omega (arith, first.committed);
-  stored = omega (arith, first.stored);
-  failed = first.failed;
-  answered = first.answered;
-  too_large = first.too_large;
-}
+-- what stands in a list of which an element was set
+set_there : {H : Type 0} (xs : List H) (i j : ℕ) (y h : H) → slice_get (set xs i y) j ≡ Some h → (h ≡ y) ⊎ (slice_get xs j ≡ Some h)
+set_there [] i j y h e = inr e
+set_there (x ∷ xs) zero zero y h e = inl (let same : Some y ≡ Some h = e in cc)
+set_there (x ∷ xs) zero (suc j) y h e = inr e
+set_there (x ∷ xs) (suc i) zero y h e = inr e
+set_there (x ∷ xs) (suc i) (suc j) y h e = set_there xs i j y h e
 
--- one holder among others
-pub among_holders : {S H : Type 0} (fixed_of : S → Fixed) (gained : S → S → ℕ → ℕ → Type 0) (count : H → ℕ) (s t : S) (xs : List H) (i : ℕ) (x y : H) (p q : Report)
-    → i < length xs → Reports fixed_of gained s t (count (get_or xs i x)) (count y) p q
-    → Reports fixed_of gained s t (sum_by count xs) (sum_by count (set xs i y)) p q
-among_holders fixed_of gained count s t xs i x y p q below one =
-    let sums : sum_by count (set xs i y) + count (get_or xs i x) ≡ sum_by count xs + count y = sum_by-set count xs i y x below in
-    record {
-      chunks = one.chunks;
-      parents = one.parents;
-      gains = one.gains;
-      committed = one.committed;
-      stored = one.stored;
-      failed = omega (arith, one.failed, sums);
-      answered = one.answered;
-      too_large = one.too_large;
-    }
+-- what is handed over is handed over by more
+pub large_wider : (handed wider : Piece → Type 0) → ((piece : Piece) → handed piece → wider piece) → (fixed : Fixed) → IsTooLarge handed fixed → IsTooLarge wider fixed
+large_wider handed wider more fixed large = record { piece = large.piece; from = more large.piece large.from; large = large.large }
 
--- a fetch with a text, and no more
-pub fetch_some : {S : Type 0} (fixed_of : S → Fixed) (gained : S → S → ℕ → ℕ → Type 0) (s t : S) (a b : ℕ) (x y : Report) → gained s t 0 0 → Fits x
-    → (a ≤ b) × (y ≡ asked_once x) → Reports fixed_of gained s t a b x y
-fetch_some fixed_of gained s t a b x y still fits fetch = subst (λ (z : Report). Reports fixed_of gained s t a b x z) (sym fetch.1) (record {
-  chunks = 0;
-  parents = 0;
-  gains = still;
-  committed = omega (arith, fits.0);
-  stored = omega (arith, fits.1);
-  failed = omega (arith, fetch.0);
-  answered = λ is. omega (arith, is);
-  too_large = λ is. inl is;
-})
+module _ {S : Type 0} (fixed_of : S → Fixed) (gained : (Piece → Type 0) → S → S → ℕ → ℕ → Type 0) (goes : Goes fixed_of gained) where
+  -- nothing was called
+  pub none_gained : (handed : Piece → Type 0) (s : S) → gained handed s s 0 0
+  none_gained handed s = goes.wider IsNone handed (λ piece none. absurd none) s s 0 0 (goes.stays s)
 
--- a fetch without one
-pub fetch_none : {S : Type 0} (fixed_of : S → Fixed) (gained : S → S → ℕ → ℕ → Type 0) (s : S) (a b : ℕ) (x y : Report) → gained s s 0 0 → Fits x
-    → ((a < b) × (y ≡ failed_once (asked_once x))) ⊎ ((a ≤ b) × (y ≡ memory_once (asked_once x))) → Reports fixed_of gained s s a b x y
-fetch_none fixed_of gained s a b x y still fits (inl failed) = subst (λ (z : Report). Reports fixed_of gained s s a b x z) (sym failed.1) (record {
-  chunks = 0;
-  parents = 0;
-  gains = still;
-  committed = omega (arith, fits.0);
-  stored = omega (arith, fits.1);
-  failed = omega (arith, failed.0);
-  answered = λ is. omega (arith, is);
-  too_large = λ is. inl is;
-})
-fetch_none fixed_of gained s a b x y still fits (inr starved) = subst (λ (z : Report). Reports fixed_of gained s s a b x z) (sym starved.1) (record {
-  chunks = 0;
-  parents = 0;
-  gains = still;
-  committed = omega (arith, fits.0);
-  stored = omega (arith, fits.1);
-  failed = omega (arith, starved.0);
-  answered = λ is. omega (arith, is);
-  too_large = λ is. inl is;
-})
+  -- a call without a piece
+  pub still_gained : (handed : Piece → Type 0) (s t : S) → gained IsNone s t 0 0 → gained handed s t 0 0
+  still_gained handed s t still = goes.wider IsNone handed (λ piece none. absurd none) s t 0 0 still
 
--- a text that a check refused
-refused_some : {S : Type 0} (fixed_of : S → Fixed) (gained : S → S → ℕ → ℕ → Type 0) (s : S) (a b : ℕ) (x : Report) (fault : CheckFault) → gained s s 0 0 → Fits x
-    → a ≤ b → Reports fixed_of gained s s a b x (checked_once fault (asked_once x))
-refused_some fixed_of gained s a b x (Short at) still fits up = record { chunks = 0; parents = 0; gains = still; committed = omega (arith, fits.0); stored = omega (arith, fits.1); failed = omega (arith, up); answered = λ is. omega (arith, is); too_large = λ is. inl is }
-refused_some fixed_of gained s a b x (Mismatch at) still fits up = record { chunks = 0; parents = 0; gains = still; committed = omega (arith, fits.0); stored = omega (arith, fits.1); failed = omega (arith, up); answered = λ is. omega (arith, is); too_large = λ is. inl is }
-refused_some fixed_of gained s a b x (Trailing at) still fits up = record { chunks = 0; parents = 0; gains = still; committed = omega (arith, fits.0); stored = omega (arith, fits.1); failed = omega (arith, up); answered = λ is. omega (arith, is); too_large = λ is. inl is }
-refused_some fixed_of gained s a b x Memory still fits up = record { chunks = 0; parents = 0; gains = still; committed = omega (arith, fits.0); stored = omega (arith, fits.1); failed = omega (arith, up); answered = λ is. omega (arith, is); too_large = λ is. inl is }
-refused_some fixed_of gained s a b x Reader still fits up = record { chunks = 0; parents = 0; gains = still; committed = omega (arith, fits.0); stored = omega (arith, fits.1); failed = omega (arith, up); answered = λ is. omega (arith, is); too_large = λ is. inl is }
+  -- and one of a piece that was handed over
+  pub it_gained : (handed : Piece → Type 0) (s t : S) (it : Piece) (n q : ℕ) → handed it → gained (IsIt it) s t n q → gained handed s t n q
+  it_gained handed s t it n q is gains = goes.wider (IsIt it) handed (λ piece same. subst handed (sym same) is) s t n q gains
 
-pub refused_done : {S : Type 0} (fixed_of : S → Fixed) (gained : S → S → ℕ → ℕ → Type 0) (s : S) (a b : ℕ) (x y z : Report) (fault : CheckFault) → gained s s 0 0 → Fits x
-    → (a ≤ b) × (y ≡ asked_once x) → z ≡ checked_once fault y → Reports fixed_of gained s s a b x z
-refused_done fixed_of gained s a b x y z fault still fits fetch is =
-    let at_once : z ≡ checked_once fault (asked_once x) = subst (λ (r : Report). z ≡ checked_once fault r) fetch.1 is in
-    subst (λ (r : Report). Reports fixed_of gained s s a b x r) (sym at_once) (refused_some fixed_of gained s a b x fault still fits fetch.0)
+  -- one stretch of work, and then another
+  pub onward : (r s t : S) (A B C : Piece → Type 0) (a b c : ℕ) (x y z : Report) → Reports fixed_of gained r s A B a b x y → Reports fixed_of gained s t B C b c y z
+      → Reports fixed_of gained r t A C a c x z
+  onward r s t A B C a b c x y z first second = record {
+    chunks = first.chunks + second.chunks;
+    parents = first.parents + second.parents;
+    gains = goes.adds A r s t first.chunks second.chunks first.parents second.parents first.gains (goes.wider B A first.no_more s t second.chunks second.parents second.gains);
+    no_more = λ piece is. first.no_more piece (second.no_more piece is);
+    committed = omega (arith, first.committed, second.committed);
+    stored = omega (arith, first.stored, second.stored);
+    failed = omega (arith, first.failed, second.failed);
+    answered = λ is. second.answered (first.answered is);
+    too_large = λ is. elim (second.too_large is) [
+      | inl before ↦ first.too_large before
+      | inr large ↦
+          inr (subst (λ (fixed : Fixed). IsTooLarge A fixed) (goes.keeps A r s first.chunks first.parents first.gains) (large_wider B A first.no_more (fixed_of s) large))
+    ];
+  }
 
--- a text that certifies a length above what the store has room for
-pub fetch_large : {S : Type 0} (fixed_of : S → Fixed) (gained : S → S → ℕ → ℕ → Type 0) (s t : S) (a b : ℕ) (x y : Report) → gained s t 0 0 → Fits x
-    → (a ≤ b) × (y ≡ asked_once x) → IsTooLarge (fixed_of s) → Reports fixed_of gained s t a b x (record y { too_large = true })
-fetch_large fixed_of gained s t a b x y still fits fetch large =
-    subst (λ (z : Report). Reports fixed_of gained s t a b x (record z { too_large = true })) (sym fetch.1) (record {
-      chunks = 0;
-      parents = 0;
-      gains = still;
-      committed = omega (arith, fits.0);
-      stored = omega (arith, fits.1);
-      failed = omega (arith, fetch.0);
-      answered = λ is. omega (arith, is);
-      too_large = λ is. inr large;
-    })
+  -- a call that stores nothing and counts nothing
+  pub onward_none : (r s t : S) (A B : Piece → Type 0) (a b : ℕ) (x y : Report) → Reports fixed_of gained r s A B a b x y → gained IsNone s t 0 0
+      → Reports fixed_of gained r t A B a b x y
+  onward_none r s t A B a b x y first second = record {
+    chunks = first.chunks + 0;
+    parents = first.parents + 0;
+    gains = goes.adds A r s t first.chunks 0 first.parents 0 first.gains (still_gained A s t second);
+    no_more = first.no_more;
+    committed = omega (arith, first.committed);
+    stored = omega (arith, first.stored);
+    failed = first.failed;
+    answered = first.answered;
+    too_large = first.too_large;
+  }
 
--- Between two fetches no text is refused and no device fails: a call that stores chunks
-pub committed_some : {S : Type 0} (fixed_of : S → Fixed) (gained : S → S → ℕ → ℕ → Type 0) (s t : S) (a : ℕ) (x : Report) (chunks sum : ℕ) → gained s t chunks 0 → Fits x
-    → sum ≡ plus x.committed chunks → Reports fixed_of gained s t a a x (record x { committed = sum })
-committed_some fixed_of gained s t a x chunks sum gains fits is = record {
-  chunks = chunks;
-  parents = 0;
-  gains = gains;
-  committed = is;
-  stored = omega (arith, fits.1);
-  failed = omega arith;
-  answered = λ is. is;
-  too_large = λ is. inl is;
-}
+  -- nothing was asked, and a piece was handed over before
+  pub counted_none : (s t : S) (A : Piece → Type 0) (a : ℕ) (x : Report) → gained A s t 0 0 → Fits x → Reports fixed_of gained s t A A a a x x
+  counted_none s t A a x still fits = record {
+    chunks = 0;
+    parents = 0;
+    gains = still;
+    no_more = λ piece is. is;
+    committed = omega (arith, fits.0);
+    stored = omega (arith, fits.1);
+    failed = omega arith;
+    answered = λ is. is;
+    too_large = λ is. inl is;
+  }
 
--- one that stores parents
-pub stored_some : {S : Type 0} (fixed_of : S → Fixed) (gained : S → S → ℕ → ℕ → Type 0) (s t : S) (a : ℕ) (x : Report) (parents sum : ℕ) → gained s t 0 parents → Fits x
-    → sum ≡ plus x.parents parents → Reports fixed_of gained s t a a x (record x { parents = sum })
-stored_some fixed_of gained s t a x parents sum gains fits is = record {
-  chunks = 0;
-  parents = parents;
-  gains = gains;
-  committed = omega (arith, fits.0);
-  stored = is;
-  failed = omega arith;
-  answered = λ is. is;
-  too_large = λ is. inl is;
-}
+  -- a fetch with a text, whose piece some call had, and no more
+  pub fetch_some : (s t : S) (A B : Piece → Type 0) (a b : ℕ) (x y : Report) → gained A s t 0 0 → ((piece : Piece) → B piece → A piece) → Fits x
+      → (a ≤ b) × (y ≡ asked_once x) → Reports fixed_of gained s t A B a b x y
+  fetch_some s t A B a b x y still no_more fits fetch = subst (λ (z : Report). Reports fixed_of gained s t A B a b x z) (sym fetch.1) (record {
+    chunks = 0;
+    parents = 0;
+    gains = still;
+    no_more = no_more;
+    committed = omega (arith, fits.0);
+    stored = omega (arith, fits.1);
+    failed = omega (arith, fetch.0);
+    answered = λ is. omega (arith, is);
+    too_large = λ is. inl is;
+  })
 
--- and one that stores none
-pub stored_none : {S : Type 0} (fixed_of : S → Fixed) (gained : S → S → ℕ → ℕ → Type 0) (s t : S) (x : Report) → gained s t 0 0 → Fits x
-    → Reports fixed_of gained s t 0 0 x x
-stored_none fixed_of gained s t x still fits = record {
-  chunks = 0;
-  parents = 0;
-  gains = still;
-  committed = omega (arith, fits.0);
-  stored = omega (arith, fits.1);
-  failed = omega arith;
-  answered = λ is. is;
-  too_large = λ is. inl is;
-}
+  -- a fetch without one
+  pub fetch_none : (s : S) (A B : Piece → Type 0) (a b : ℕ) (x y : Report) → ((piece : Piece) → B piece → A piece) → Fits x
+      → ((a < b) × (y ≡ failed_once (asked_once x))) ⊎ ((a ≤ b) × (y ≡ memory_once (asked_once x))) → Reports fixed_of gained s s A B a b x y
+  fetch_none s A B a b x y no_more fits (inl failed) = subst (λ (z : Report). Reports fixed_of gained s s A B a b x z) (sym failed.1) (record {
+    chunks = 0;
+    parents = 0;
+    gains = none_gained A s;
+    no_more = no_more;
+    committed = omega (arith, fits.0);
+    stored = omega (arith, fits.1);
+    failed = omega (arith, failed.0);
+    answered = λ is. omega (arith, is);
+    too_large = λ is. inl is;
+  })
+  fetch_none s A B a b x y no_more fits (inr starved) = subst (λ (z : Report). Reports fixed_of gained s s A B a b x z) (sym starved.1) (record {
+    chunks = 0;
+    parents = 0;
+    gains = none_gained A s;
+    no_more = no_more;
+    committed = omega (arith, fits.0);
+    stored = omega (arith, fits.1);
+    failed = omega (arith, starved.0);
+    answered = λ is. omega (arith, is);
+    too_large = λ is. inl is;
+  })
 
--- a want of memory is counted beside
-pub starved : {S : Type 0} (fixed_of : S → Fixed) (gained : S → S → ℕ → ℕ → Type 0) (s t : S) (a b : ℕ) (x y : Report)
-    → Reports fixed_of gained s t a b x y → Reports fixed_of gained s t a b x (memory_once y)
-starved fixed_of gained s t a b x y one = record {
-  chunks = one.chunks;
-  parents = one.parents;
-  gains = one.gains;
-  committed = one.committed;
-  stored = one.stored;
-  failed = one.failed;
-  answered = one.answered;
-  too_large = one.too_large;
-}
+  -- a text that a check refused, for memory or for another cause
+  refused_memory : (s : S) (A B : Piece → Type 0) (a b : ℕ) (x : Report) → ((piece : Piece) → B piece → A piece) → Fits x → a ≤ b
+      → Reports fixed_of gained s s A B a b x (checked_once Memory (asked_once x))
+  refused_memory s A B a b x no_more fits up = record { chunks = 0; parents = 0; gains = none_gained A s; no_more = no_more; committed = omega (arith, fits.0); stored = omega (arith, fits.1); failed = omega (arith, up); answered = λ is. omega (arith, is); too_large = λ is. inl is }
 
--- the same beside some holders
-pub beside : {S : Type 0} (fixed_of : S → Fixed) (gained : S → S → ℕ → ℕ → Type 0) (s t : S) (a : ℕ) (x y : Report)
-    → Reports fixed_of gained s t 0 0 x y → Reports fixed_of gained s t a a x y
-beside fixed_of gained s t a x y one = record {
-  chunks = one.chunks;
-  parents = one.parents;
-  gains = one.gains;
-  committed = one.committed;
-  stored = one.stored;
-  failed = omega (arith, one.failed);
-  answered = one.answered;
-  too_large = one.too_large;
-}
+  refused_other : (s : S) (A B : Piece → Type 0) (a b at : ℕ) (x : Report) → ((piece : Piece) → B piece → A piece) → Fits x → a ≤ b
+      → Reports fixed_of gained s s A B a b x (checked_once (Short at) (asked_once x))
+  refused_other s A B a b at x no_more fits up = record { chunks = 0; parents = 0; gains = none_gained A s; no_more = no_more; committed = omega (arith, fits.0); stored = omega (arith, fits.1); failed = omega (arith, up); answered = λ is. omega (arith, is); too_large = λ is. inl is }
+
+  refused_some : (s : S) (A B : Piece → Type 0) (a b : ℕ) (x : Report) (fault : CheckFault) → ((piece : Piece) → B piece → A piece) → Fits x → a ≤ b
+      → Reports fixed_of gained s s A B a b x (checked_once fault (asked_once x))
+  refused_some s A B a b x (Short at) no_more fits up = refused_other s A B a b at x no_more fits up
+  refused_some s A B a b x (Mismatch at) no_more fits up = refused_other s A B a b at x no_more fits up
+  refused_some s A B a b x (Trailing at) no_more fits up = refused_other s A B a b at x no_more fits up
+  refused_some s A B a b x Memory no_more fits up = refused_memory s A B a b x no_more fits up
+  refused_some s A B a b x Reader no_more fits up = refused_other s A B a b 0 x no_more fits up
+
+  pub refused_done : (s : S) (A B : Piece → Type 0) (a b : ℕ) (x y z : Report) (fault : CheckFault) → ((piece : Piece) → B piece → A piece) → Fits x
+      → (a ≤ b) × (y ≡ asked_once x) → z ≡ checked_once fault y → Reports fixed_of gained s s A B a b x z
+  refused_done s A B a b x y z fault no_more fits fetch is =
+      let at_once : z ≡ checked_once fault (asked_once x) = subst (λ (r : Report). z ≡ checked_once fault r) fetch.1 is in
+      subst (λ (r : Report). Reports fixed_of gained s s A B a b x r) (sym at_once) (refused_some s A B a b x fault no_more fits fetch.0)
+
+  -- a text that certifies a length above what the store has room for
+  pub fetch_large : (s t : S) (A B : Piece → Type 0) (a b : ℕ) (x y : Report) (piece : Piece) → gained (IsIt piece) s t 0 0 → ((piece : Piece) → B piece → A piece) → Fits x
+      → (a ≤ b) × (y ≡ asked_once x) → A piece → EndsTooFar (fixed_of s) piece → Reports fixed_of gained s t A B a b x (record y { too_large = true })
+  fetch_large s t A B a b x y piece still no_more fits fetch from large =
+      subst (λ (z : Report). Reports fixed_of gained s t A B a b x (record z { too_large = true })) (sym fetch.1) (record {
+        chunks = 0;
+        parents = 0;
+        gains = it_gained A s t piece 0 0 from still;
+        no_more = no_more;
+        committed = omega (arith, fits.0);
+        stored = omega (arith, fits.1);
+        failed = omega (arith, fetch.0);
+        answered = λ is. omega (arith, is);
+        too_large = λ is. inr (record { piece = piece; from = from; large = large });
+      })
+
+  -- Between two fetches no text is refused and no device fails: a call that stores chunks
+  pub committed_some : (s t : S) (A : Piece → Type 0) (a : ℕ) (x : Report) (chunks sum : ℕ) → gained A s t chunks 0 → Fits x
+      → sum ≡ plus x.committed chunks → Reports fixed_of gained s t A A a a x (record x { committed = sum })
+  committed_some s t A a x chunks sum gains fits is = record {
+    chunks = chunks;
+    parents = 0;
+    gains = gains;
+    no_more = λ piece is. is;
+    committed = is;
+    stored = omega (arith, fits.1);
+    failed = omega arith;
+    answered = λ is. is;
+    too_large = λ is. inl is;
+  }
+
+  -- and one that stores parents
+  pub stored_some : (s t : S) (A : Piece → Type 0) (a : ℕ) (x : Report) (parents sum : ℕ) → gained A s t 0 parents → Fits x
+      → sum ≡ plus x.parents parents → Reports fixed_of gained s t A A a a x (record x { parents = sum })
+  stored_some s t A a x parents sum gains fits is = record {
+    chunks = 0;
+    parents = parents;
+    gains = gains;
+    no_more = λ piece is. is;
+    committed = omega (arith, fits.0);
+    stored = is;
+    failed = omega arith;
+    answered = λ is. is;
+    too_large = λ is. inl is;
+  }
+
+  -- a want of memory is counted beside
+  pub starved : (s t : S) (A B : Piece → Type 0) (a b : ℕ) (x y : Report) → Reports fixed_of gained s t A B a b x y → Reports fixed_of gained s t A B a b x (memory_once y)
+  starved s t A B a b x y one = record {
+    chunks = one.chunks;
+    parents = one.parents;
+    gains = one.gains;
+    no_more = one.no_more;
+    committed = one.committed;
+    stored = one.stored;
+    failed = one.failed;
+    answered = one.answered;
+    too_large = one.too_large;
+  }
+
+  -- the same of one piece that was handed over, beside some holders
+  pub beside : (s t : S) (A : Piece → Type 0) (it : Piece) (a : ℕ) (x y : Report) → A it → Reports fixed_of gained s t (IsIt it) (IsIt it) 0 0 x y
+      → Reports fixed_of gained s t A A a a x y
+  beside s t A it a x y is one = record {
+    chunks = one.chunks;
+    parents = one.parents;
+    gains = it_gained A s t it one.chunks one.parents is one.gains;
+    no_more = λ piece is. is;
+    committed = one.committed;
+    stored = one.stored;
+    failed = omega (arith, one.failed);
+    answered = one.answered;
+    too_large = λ large. elim (one.too_large large) [
+      | inl before ↦ inl before
+      | inr it_is ↦ inr (large_wider (IsIt it) A (λ piece same. subst A (sym same) is) (fixed_of s) it_is)
+    ];
+  }
+
+  -- what may be handed over afterwards is no more
+  pub narrowed : (s t : S) (A B : Piece → Type 0) (a b : ℕ) (x y : Report) → ((piece : Piece) → B piece → A piece) → Reports fixed_of gained s t A A a b x y
+      → Reports fixed_of gained s t A B a b x y
+  narrowed s t A B a b x y no_more one = record {
+    chunks = one.chunks;
+    parents = one.parents;
+    gains = one.gains;
+    no_more = no_more;
+    committed = one.committed;
+    stored = one.stored;
+    failed = one.failed;
+    answered = one.answered;
+    too_large = one.too_large;
+  }
+
+  -- one holder among others
+  pub among_holders : {H : Type 0} (gives : H → ℕ → ℕ → List ℕ → Type 0) (count : H → ℕ) (s t : S) (xs : List H) (i : ℕ) (x y : H) (p q : Report) → i < length xs
+      → Reports fixed_of gained s t (IsGiven gives (get_or xs i x)) (IsGiven gives y) (count (get_or xs i x)) (count y) p q
+      → Reports fixed_of gained s t (IsHanded gives xs) (IsHanded gives (set xs i y)) (sum_by count xs) (sum_by count (set xs i y)) p q
+  among_holders {H = H} gives count s t xs i x y p q below one =
+      let sums : sum_by count (set xs i y) + count (get_or xs i x) ≡ sum_by count xs + count y = sum_by-set count xs i y x below in
+      let here : (piece : Piece) → IsGiven gives (get_or xs i x) piece → IsHanded gives xs piece = λ piece is.
+      record { place = i; holder = get_or xs i x; there = slice_get-get_or xs i x below; given = is } in
+      record {
+        chunks = one.chunks;
+        parents = one.parents;
+        gains = goes.wider (IsGiven gives (get_or xs i x)) (IsHanded gives xs) here s t one.chunks one.parents one.gains;
+        no_more = λ piece is. elim (set_there xs i is.place y is.holder is.there) [
+          | inl same ↦ here piece (one.no_more piece (subst (λ (h : H). IsGiven gives h piece) same is.given))
+          | inr other ↦ record { place = is.place; holder = is.holder; there = other; given = is.given }
+        ];
+        committed = one.committed;
+        stored = one.stored;
+        failed = omega (arith, one.failed, sums);
+        answered = one.answered;
+        too_large = λ large. elim (one.too_large large) [
+          | inl before ↦ inl before
+          | inr it_is ↦ inr (large_wider (IsGiven gives (get_or xs i x)) (IsHanded gives xs) here (fixed_of s) it_is)
+        ];
+      }

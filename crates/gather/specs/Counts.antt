@@ -3,8 +3,10 @@ use Rattle.std.specs.Prelude.{◌≡◌, ◌⊎◌, ℕ, ◌+◌, ◌-◌, ◌^�
 use Rattle.bao_check.specs.declared.fault.CheckFault.{CheckFault}
 use Rattle.bao_check.specs.declared.fault.CheckFault.TheVariants.{Short, Mismatch, Trailing, Memory, Reader}
 use Rattle.store_core.specs.declared.fixed.Fixed.{Fixed}
+use Rattle.store_core.specs.declared.history.Piece.{Piece}
 use Rattle.gather.specs.declared.report.Report.{Report}
 use Rattle.gather.specs.Claims.{Among}
+use Rattle.gather.specs.Holders.{IsNone}
 use Rattle.gather.specs.Large.{IsTooLarge}
 
 -- a count goes up, and stays at 2^64 - 1 once there
@@ -49,19 +51,28 @@ Fits report = (report.committed < 2 ^ 64) × (report.parents < 2 ^ 64)
 abbrev pub IsAnswered : Report → Type 0
 IsAnswered report = min (report.refused + report.failed) (2 ^ 64 - 1) ≤ report.asked
 
--- What a worker's report gained is so, between two seats and two sums of its holders' counts of device faults: its
--- own calls stored the chunks and the parents that are counted, no more device faults are counted than the holders
--- counted, and a blob is called too large only where an accepted text certifies that it is.
-pub record Reports {S : Type 0} (fixed_of : S → Fixed) (gained : S → S → ℕ → ℕ → Type 0) (old new : S) (before after : ℕ) (report report' : Report) : Type 0 where
+-- What a worker's report gained is so, between two seats, what its holders may hand over before and after, and two sums
+-- of their counts of device faults: its own calls stored the chunks and the parents that are counted, of pieces that were
+-- handed over; no more device faults are counted than the holders counted; and a blob is called too large only where
+-- such a piece certifies that it is.
+pub record Reports {S : Type 0} (fixed_of : S → Fixed) (gained : (Piece → Type 0) → S → S → ℕ → ℕ → Type 0) (old new : S) (handed handed' : Piece → Type 0) (before after : ℕ) (report report' : Report) : Type 0 where
   pub chunks : ℕ
   pub parents : ℕ
-  pub gains : gained old new chunks parents
+  pub gains : gained handed old new chunks parents
+  pub no_more : (piece : Piece) → handed' piece → handed piece
   pub committed : report'.committed ≡ plus report.committed chunks
   pub stored : report'.parents ≡ plus report.parents parents
   pub failed : report'.failed + before ≤ report.failed + after
   pub answered : IsAnswered report → IsAnswered report'
-  pub too_large : IsTrue report'.too_large → IsTrue report.too_large ⊎ IsTooLarge (fixed_of old)
+  pub too_large : IsTrue report'.too_large → IsTrue report.too_large ⊎ IsTooLarge handed (fixed_of old)
 
 -- none was stored, and nothing more is claimed
 abbrev pub Still : {S : Type 0} → (S → S → ℕ → ℕ → Type 0) → (S → ℕ → Bool) → S → S → Type 0
 Still gained claims old new = gained old new 0 0 × Among (claims old) (claims new)
+
+-- how a seat's calls go on: nothing at all, with the same root, mode and capacity, one after another, and of more pieces
+pub record Goes {S : Type 0} (fixed_of : S → Fixed) (gained : (Piece → Type 0) → S → S → ℕ → ℕ → Type 0) : Type 1 where
+  pub stays : (s : S) → gained IsNone s s 0 0
+  pub keeps : (handed : Piece → Type 0) (s t : S) (n q : ℕ) → gained handed s t n q → fixed_of t ≡ fixed_of s
+  pub adds : (handed : Piece → Type 0) (r s t : S) (m n p q : ℕ) → gained handed r s m p → gained handed s t n q → gained handed r t (m + n) (p + q)
+  pub wider : (handed more : Piece → Type 0) → ((piece : Piece) → handed piece → more piece) → (s t : S) (n q : ℕ) → gained handed s t n q → gained more s t n q

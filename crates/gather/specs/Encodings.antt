@@ -1,6 +1,19 @@
--- The bytes of a holder over a combined encoding.
-use Rattle.std.specs.Prelude.{ℕ, List}
+-- The bytes of a holder over a combined encoding, and what it hands over.
+use Rattle.std.specs.Prelude.{◌≡◌, ℕ, List, Some, slice_get}
+use Rattle.bao_text.specs.Cut.{cut_text}
 use Rattle.gather.specs.declared.holder.Encoded.{Encoded}
+use Rattle.store_core.specs.declared.history.Piece.{Piece}
 
 abbrev pub encoding : Encoded → List ℕ
 encoding holder = holder.text.now
+
+-- the slice as it is cut out of them
+abbrev pub IsCut : Encoded → ℕ → ℕ → List ℕ → Type 0
+IsCut holder start len text = text ≡ cut_text (encoding holder) start len
+
+-- the piece is a slice that is cut out of one of these texts
+pub record IsCutOf (texts : List (List ℕ)) (piece : Piece) : Type 0 where
+  pub place : ℕ
+  pub text : List ℕ
+  pub there : slice_get texts place ≡ Some text
+  pub cut : piece.text ≡ cut_text text piece.start piece.len

@@ -2,6 +2,7 @@
 use Rattle.std.specs.Prelude.{◌≡◌, ◌≢◌, ◌⊎◌, ℕ, ◌<◌, List, length, None, Some}
 use Rattle.b3tree.specs.Hashing.{hash}
 use Rattle.store_core.specs.declared.fixed.Fixed.{Fixed}
+use Rattle.store_core.specs.declared.history.Event.{Event}
 use Rattle.store_core.specs.declared.store.Store.{Store}
 use Rattle.store_core.specs.Laws.{IsBlob}
 use Rattle.store_core.specs.Reached.{IsReached}
@@ -31,9 +32,11 @@ pub record IsOther (fixed : Fixed) (s : State) : Type 0 where
   pub whole : IsWhole s bytes
   pub hashed : hash fixed.mode bytes ≢ fixed.root.0
 
--- For each blob with the root and every legal history that leads to the store, two different inputs with one chaining
--- value are named: one of the blob's, and one of a piece's of which this history committed a chunk, or by which it
--- settled the length.
+-- Two different inputs with one chaining value are named: one of the blob's, and one of a piece's of which the history
+-- committed a chunk, or by which it settled the length.
+abbrev pub IsNamedIn : Fixed → List Event → List ℕ → Type 0
+IsNamedIn fixed history blob = ((c : ℕ) × PairCommitted fixed history blob c) ⊎ ((l : ℕ) × PairSettled fixed history blob l)
+
+-- so it is for each blob with the root and every legal history that leads to the store
 abbrev pub BindsNone : Store → Type 0
-BindsNone store = (blob : List ℕ) → IsBlob (fixed_of store) blob → (by : IsReached (fixed_of store) (state_of store))
-    → ((c : ℕ) × PairCommitted (fixed_of store) by.history blob c) ⊎ ((l : ℕ) × PairSettled (fixed_of store) by.history blob l)
+BindsNone store = (blob : List ℕ) → IsBlob (fixed_of store) blob → (by : IsReached (fixed_of store) (state_of store)) → IsNamedIn (fixed_of store) by.history blob

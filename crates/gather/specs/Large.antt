@@ -1,4 +1,4 @@
--- Blobs and the texts that are accepted under their roots.
+-- Blobs and the pieces that are accepted under their roots.
 use Rattle.std.specs.Prelude.{◌⊎◌, ℕ, ◌*◌, ◌<◌, List, length}
 use Rattle.b3tree.specs.declared.mode.Mode.{Mode}
 use Rattle.b3tree.specs.declared.values.Hash.{Hash}
@@ -7,26 +7,33 @@ use Rattle.store_core.specs.declared.history.Piece.{Piece}
 use Rattle.store_core.specs.Laws.{IsBlob, PairNamed}
 use Rattle.store_core.specs.Pieces.{EndsBlob, IsAcceptedPiece, length_of}
 
--- an accepted text certifies a length that is above what the store has room for
-pub record IsTooLarge (fixed : Fixed) : Type 0 where
-  pub piece : Piece
+-- an accepted piece certifies a length that is above what the store has room for
+pub record EndsTooFar (fixed : Fixed) (piece : Piece) : Type 0 where
   pub accepted : IsAcceptedPiece fixed piece
   pub ends : EndsBlob piece
   pub above : 1024 * fixed.capacity < length_of piece
 
--- two different inputs with one chaining value are named, one of the blob's and one of an accepted text's
-pub record HasPair (fixed : Fixed) (blob : List ℕ) : Type 0 where
+-- one of the pieces that were handed over does
+pub record IsTooLarge (handed : Piece → Type 0) (fixed : Fixed) : Type 0 where
   pub piece : Piece
+  pub from : handed piece
+  pub large : EndsTooFar fixed piece
+
+-- Two different inputs with one chaining value are named, one of the blob's and one of an accepted piece's that was
+-- handed over.
+pub record HasPair (handed : Piece → Type 0) (fixed : Fixed) (blob : List ℕ) : Type 0 where
+  pub piece : Piece
+  pub from : handed piece
   pub accepted : IsAcceptedPiece fixed piece
   pub pair : PairNamed fixed blob piece
 
 -- each blob with the root is longer than what the store has room for, or a pair is named
-abbrev pub AreLonger : Fixed → Type 0
-AreLonger fixed = (blob : List ℕ) → IsBlob fixed blob → (1024 * fixed.capacity < length blob) ⊎ HasPair fixed blob
+abbrev pub AreLonger : (Piece → Type 0) → Fixed → Type 0
+AreLonger handed fixed = (blob : List ℕ) → IsBlob fixed blob → (1024 * fixed.capacity < length blob) ⊎ HasPair handed fixed blob
 
 -- there is no blob with the root, or a pair is named
-abbrev pub IsOfNone : Fixed → Type 0
-IsOfNone fixed = (blob : List ℕ) → IsBlob fixed blob → ∥ HasPair fixed blob ∥₁
+abbrev pub IsOfNone : (Piece → Type 0) → Fixed → Type 0
+IsOfNone handed fixed = (blob : List ℕ) → IsBlob fixed blob → HasPair handed fixed blob
 
 -- a store's root, mode and capacity
 abbrev pub fixed_as : Hash → Mode → ℕ → Fixed

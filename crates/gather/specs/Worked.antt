@@ -59,28 +59,45 @@ IsOwn e = e.who ≡ worker
 abbrev pub worker_claims : Store → ℕ → Bool
 worker_claims store c = claims worker (state_of store) c
 
--- the bytes are the chunk in a text that is accepted under the store's root and in its mode
-pub record IsCertified (fixed : Fixed) (c : ℕ) (bytes : List ℕ) : Type 0 where
+-- the pieces of a call, if it has one, are of these
+abbrev pub IsFrom : (Piece → Type 0) → Call → Type 0
+IsFrom handed (Take group want granted) = Unit {0}
+IsFrom handed (Give group mask given) = Unit {0}
+IsFrom handed (Commit group piece committed) = handed piece
+IsFrom handed (Settle piece answer) = handed piece
+IsFrom handed (Read at len bytes) = Unit {0}
+IsFrom handed (Length recorded) = Unit {0}
+IsFrom handed (Parents group piece answer) = handed piece
+IsFrom handed (Serve start len answer) = Unit {0}
+
+abbrev pub AreFrom : (Piece → Type 0) → List Event → Type 0
+AreFrom handed events = AllByRecursion (λ (e : Event). IsFrom handed e.call) events
+
+-- the bytes are the chunk in a piece that was handed over and is accepted under the store's root and in its mode
+pub record IsCertified (handed : Piece → Type 0) (fixed : Fixed) (c : ℕ) (bytes : List ℕ) : Type 0 where
   pub piece : Piece
+  pub from : handed piece
   pub accepted : IsAcceptedPiece fixed piece
   pub has : chunk_bytes piece c ≡ Some bytes
 
 -- nothing but such chunks is stored
-abbrev pub AddsCertified : Store → Store → Type 0
-AddsCertified old new = (c : ℕ) (bytes : List ℕ) → (state_of new).held c ≡ Some bytes
-    → ((state_of old).held c ≡ Some bytes) ⊎ IsCertified (fixed_of old) c bytes
+abbrev pub AddsCertified : (Piece → Type 0) → Store → Store → Type 0
+AddsCertified handed old new = (c : ℕ) (bytes : List ℕ) → (state_of new).held c ≡ Some bytes
+    → ((state_of old).held c ≡ Some bytes) ⊎ IsCertified handed (fixed_of old) c bytes
 
 -- Each chunk stored is the one of that number of each blob with the root, or a pair is named from that blob and from
--- the text that the chunk comes from.
-abbrev pub AddsBlobs : Store → Store → Type 0
-AddsBlobs old new = (blob : List ℕ) → IsBlob (fixed_of old) blob → (c : ℕ) (bytes : List ℕ) → (state_of new).held c ≡ Some bytes
-    → ((state_of old).held c ≡ Some bytes) ⊎ (chunk_of blob c ≡ Some bytes) ⊎ ((from : IsCertified (fixed_of old) c bytes) × PairNamed (fixed_of old) blob from.piece)
+-- the piece that the chunk comes from.
+abbrev pub AddsBlobs : (Piece → Type 0) → Store → Store → Type 0
+AddsBlobs handed old new = (blob : List ℕ) → IsBlob (fixed_of old) blob → (c : ℕ) (bytes : List ℕ) → (state_of new).held c ≡ Some bytes
+    → ((state_of old).held c ≡ Some bytes) ⊎ (chunk_of blob c ≡ Some bytes) ⊎ ((from : IsCertified handed (fixed_of old) c bytes) × PairNamed (fixed_of old) blob from.piece)
 
 -- Calls of the worker, each with the right reply where it stands, lead from one state of a store to the other, and
--- store so many chunks and parents. They are of accepted texts alone: nothing is stored that the root doesn't certify.
-pub record HasWorked (old new : Store) (chunks parents : ℕ) : Type 0 where
+-- store so many chunks and parents. They are of accepted pieces alone, which were handed over: nothing is stored that the
+-- root doesn't certify.
+pub record HasWorked (handed : Piece → Type 0) (old new : Store) (chunks parents : ℕ) : Type 0 where
   pub events : List Event
   pub own : AllByRecursion IsOwn events
+  pub from : AreFrom handed events
   pub legal : AreLegalFrom (fixed_of old) (state_of old) events
   pub after : state_of new ≡ run (state_of old) events
   pub fixed : fixed_of new ≡ fixed_of old
@@ -88,9 +105,9 @@ pub record HasWorked (old new : Store) (chunks parents : ℕ) : Type 0 where
   pub counts_parents : parents ≡ parents_in events
 
 -- it has, and the report's counts are of the chunks and parents stored, as far as a count goes
-pub record Gains (old new : Store) (report : Report) : Type 0 where
+pub record Gains (handed : Piece → Type 0) (old new : Store) (report : Report) : Type 0 where
   pub chunks : ℕ
   pub parents : ℕ
-  pub worked : HasWorked old new chunks parents
+  pub worked : HasWorked handed old new chunks parents
   pub committed : report.committed ≡ min chunks (2 ^ 64 - 1)
   pub stored : report.parents ≡ min parents (2 ^ 64 - 1)

@@ -4,13 +4,18 @@ use Rattle.std.proofs.Common.{refl, sym, ap, subst, ◌∙◌}
 use Rattle.std.proofs.lemmas.List.Sums.{sum_by-append}
 use Rattle.std.specs.List.{AllByRecursion}
 use Rattle.store_core.specs.declared.fixed.Fixed.{Fixed}
+use Rattle.store_core.specs.declared.history.Call.{Call}
+use Rattle.store_core.specs.declared.history.Call.TheVariants.{Take, Give, Commit, Settle, Read, Length, Parents, Serve}
 use Rattle.store_core.specs.declared.history.Event.{Event}
+use Rattle.store_core.specs.declared.history.Piece.{Piece}
 use Rattle.store_core.specs.declared.store.Store.{Store}
 use Rattle.store_core.specs.Events.{after}
 use Rattle.store_core.specs.Histories.{AreLegalFrom, run}
 use Rattle.store_core.specs.States.{State}
 use Rattle.store_core.specs.Stores.{fixed_of, state_of}
-use Rattle.gather.specs.Worked.{HasWorked, IsOwn, chunks_in, chunks_of, parents_in, parents_of}
+use Rattle.gather.specs.Counts.{Goes}
+use Rattle.gather.specs.Holders.{IsNone}
+use Rattle.gather.specs.Worked.{AreFrom, HasWorked, IsFrom, IsOwn, chunks_in, chunks_of, parents_in, parents_of}
 
 run_append : (s : State) (first second : List Event) → run s (first ++ second) ≡ run (run s first) second
 run_append s [] second = refl
@@ -25,11 +30,42 @@ own_append : (first second : List Event) → AllByRecursion IsOwn first → AllB
 own_append [] second begun goes_on = goes_on
 own_append (e ∷ first) second begun goes_on = (begun.0, own_append first second begun.1 goes_on)
 
-pub no_work : (s : Store) → HasWorked s s 0 0
-no_work s = record { events = []; own = tt; legal = tt; after = refl; fixed = refl; counts = refl; counts_parents = refl }
+pub no_work : (s : Store) → HasWorked IsNone s s 0 0
+no_work s = record { events = []; own = tt; from = tt; legal = tt; after = refl; fixed = refl; counts = refl; counts_parents = refl }
 
-pub adds_work : (r s t : Store) (m n p q : ℕ) → HasWorked r s m p → HasWorked s t n q → HasWorked r t (m + n) (p + q)
-adds_work r s t m n p q first second =
+from_append : (handed : Piece → Type 0) (first second : List Event) → AreFrom handed first → AreFrom handed second → AreFrom handed (first ++ second)
+from_append handed [] second begun goes_on = goes_on
+from_append handed (e ∷ first) second begun goes_on = (begun.0, from_append handed first second begun.1 goes_on)
+
+call_wider : (handed wider : Piece → Type 0) → ((piece : Piece) → handed piece → wider piece) → (call : Call) → IsFrom handed call → IsFrom wider call
+call_wider handed wider more (Take group want granted) from = tt
+call_wider handed wider more (Give group mask given) from = tt
+call_wider handed wider more (Commit group piece committed) from = more piece from
+call_wider handed wider more (Settle piece answer) from = more piece from
+call_wider handed wider more (Read at len bytes) from = tt
+call_wider handed wider more (Length recorded) from = tt
+call_wider handed wider more (Parents group piece answer) from = more piece from
+call_wider handed wider more (Serve start len answer) from = tt
+
+pub from_wider : (handed wider : Piece → Type 0) → ((piece : Piece) → handed piece → wider piece) → (events : List Event) → AreFrom handed events → AreFrom wider events
+from_wider handed wider more [] from = tt
+from_wider handed wider more (e ∷ events) from = (call_wider handed wider more e.call from.0, from_wider handed wider more events from.1)
+
+pub wider_work : (handed wider : Piece → Type 0) → ((piece : Piece) → handed piece → wider piece) → (s t : Store) (n q : ℕ) → HasWorked handed s t n q
+    → HasWorked wider s t n q
+wider_work handed wider more s t n q worked = record {
+  events = worked.events;
+  own = worked.own;
+  from = from_wider handed wider more worked.events worked.from;
+  legal = worked.legal;
+  after = worked.after;
+  fixed = worked.fixed;
+  counts = worked.counts;
+  counts_parents = worked.counts_parents;
+}
+
+pub adds_work : (handed : Piece → Type 0) (r s t : Store) (m n p q : ℕ) → HasWorked handed r s m p → HasWorked handed s t n q → HasWorked handed r t (m + n) (p + q)
+adds_work handed r s t m n p q first second =
     let same_fixed : AreLegalFrom (fixed_of r) (state_of s) second.events =
     subst (λ (fixed : Fixed). AreLegalFrom fixed (state_of s) second.events) first.fixed second.legal in
     let from_there : AreLegalFrom (fixed_of r) (run (state_of r) first.events) second.events =
@@ -37,6 +73,7 @@ adds_work r s t m n p q first second =
     record {
       events = first.events ++ second.events;
       own = own_append first.events second.events first.own second.own;
+      from = from_append handed first.events second.events first.from second.from;
       legal = legal_append (fixed_of r) (state_of r) first.events second.events first.legal from_there;
       after = second.after ∙ ap (λ (state : State). run state second.events) first.after ∙ sym (run_append (state_of r) first.events second.events);
       fixed = second.fixed ∙ first.fixed;
@@ -44,5 +81,8 @@ adds_work r s t m n p q first second =
       counts_parents = ap (λ (k : ℕ). k + q) first.counts_parents ∙ ap (λ (k : ℕ). parents_in first.events + k) second.counts_parents ∙ sym (sum_by-append (λ (e : Event). parents_of e.call) first.events second.events);
     }
 
-pub keeps_fixed : (s t : Store) (n q : ℕ) → HasWorked s t n q → fixed_of t ≡ fixed_of s
-keeps_fixed s t n q worked = worked.fixed
+pub keeps_fixed : (handed : Piece → Type 0) (s t : Store) (n q : ℕ) → HasWorked handed s t n q → fixed_of t ≡ fixed_of s
+keeps_fixed handed s t n q worked = worked.fixed
+
+pub goes_work : Goes fixed_of HasWorked
+goes_work = record { stays = no_work; keeps = keeps_fixed; adds = adds_work; wider = wider_work }

@@ -1,6 +1,6 @@
-ghost use Rattle.std.specs.Prelude.{◌≡◌, ℕ, ◌<◌, ◌≤◌, ◌++◌, IsErrOf, OnErr, OnOk};
+ghost use Rattle.std.specs.Prelude.{◌≡◌, ℕ, List, ◌<◌, ◌≤◌, ◌++◌, IsErrOf, OnErr, OnOk};
 ghost use Rattle.gather.specs.declared.holder.HolderFault.TheVariants.{Device};
-ghost use Rattle.gather.specs.Holders.{Appends};
+ghost use Rattle.gather.specs.Holders.{Appends, GivesNoMore};
 
 use bao_text::cut_slice;
 use std::alloc::Global;
@@ -22,13 +22,18 @@ pub trait Holder {
     // How many faults of its device it has counted.
     ghost count: { Self → ℕ };
 
-    /// Appends to `into` what it has as the slice of `len` bytes from byte `start` on: any bytes.
+    // Which texts it may give as the slice of so many bytes from a byte on: any, where nothing is known of it.
+    ghost gives: { Self → ℕ → ℕ → List ℕ → Type 0 };
+
+    /// Appends to `into` what it has as the slice of `len` bytes from byte `start` on: any bytes, unless more is known of
+    /// what it gives.
     ///
     /// `Device` only where the count of faults rose during the call, `Memory` only where a growth was refused; `into`
     /// is then unchanged. Once the count is 2^64 - 1 it stays, and a fetch whose device fails answers Ok and appends
     /// nothing. The count never goes down.
     fn fetch(&mut self, start: u64, len: u64, into: &mut Vec<u8>) -> Result<(), HolderFault>
-        ensures appended { OnOk result (Appends into.old.items into.new.items) }
+        ensures appended { OnOk result (Appends (gives self.old start len) into.old.items into.new.items) }
+        ensures no_more { GivesNoMore gives self.old self.new }
         ensures unchanged { OnErr result (into.new.items ≡ into.old.items) }
         ensures device { IsErrOf result Device → count self.old < count self.new }
         ensures counts { count self.old ≤ count self.new };
@@ -58,13 +63,16 @@ impl<'a> Encoded<'a> {
 
 impl<'a> Holder for Encoded<'a> {
     ghost use Rattle.bao_text.specs.Cut.{cut_text};
-    ghost use Rattle.gather.specs.Encodings.{encoding};
+    ghost use Rattle.gather.specs.Encodings.{IsCut, encoding};
 
     ghost count = { λ _. 0 };
 
+    ghost gives = { λ holder start len text. IsCut holder start len text };
+
     /// Appends the slice as `cut_slice` cuts it out of the bytes. No device fails.
     fn fetch(&mut self, start: u64, len: u64, into: &mut Vec<u8>) -> Result<(), HolderFault>
-        ensures appended { OnOk result (Appends into.old.items into.new.items) }
+        ensures appended { OnOk result (Appends (IsCut self.old start len) into.old.items into.new.items) }
+        ensures no_more { GivesNoMore IsCut self.old self.new }
         ensures unchanged { OnErr result (into.new.items ≡ into.old.items) }
         ensures device { IsErrOf result Device → 0 < 0 }
         ensures counts { 0 ≤ 0 }

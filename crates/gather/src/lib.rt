@@ -7,7 +7,7 @@ pub use holder::{Encoded, Holder, HolderFault};
 pub use one::run_one;
 pub use report::Report;
 pub use shelf::Shelf;
-pub use texts::{GatherFault, cause, gather_texts};
+pub use texts::{GatherFault, cause, gather_texts, holders_over};
 pub use worker::{Place, work};
 
 mod fault;

@@ -2,6 +2,8 @@ ghost use Rattle.std.specs.Prelude.{◌≡◌, ◌≤◌, ◌+◌, IsTrue, sum_b
 ghost use Rattle.store_core.specs.Stores.{fixed_of};
 ghost use Rattle.gather.specs.Claims.{Among};
 ghost use Rattle.gather.specs.Counts.{IsAnswered};
+ghost use Rattle.gather.specs.Holders.{IsHanded};
+ghost use Rattle.store_core.specs.declared.history.Piece.{Piece};
 ghost use Rattle.gather.specs.Large.{AreLonger, IsTooLarge};
 ghost use Rattle.gather.specs.Worked.{AddsBlobs, AddsCertified, Gains, HasWorked, worker_claims};
 
@@ -21,7 +23,7 @@ const SEAT: u32 = 0;
 struct Alone;
 
 impl Shelf for Alone {
-    ghost use Rattle.gather.specs.Working.{adds_work, keeps_fixed, no_work};
+    ghost use Rattle.gather.specs.Working.{goes_work};
     ghost use Rattle.store_core.specs.Stores.{fixed_of};
 
     type Seat = Store;
@@ -32,7 +34,9 @@ impl Shelf for Alone {
 
     ghost claims = { λ store. worker_claims store };
 
-    ghost gained = { λ old new chunks parents. HasWorked old new chunks parents };
+    ghost gained = { λ handed old new chunks parents. HasWorked handed old new chunks parents };
+
+    ghost goes = { goes_work };
 
     fn fixed(&self, store: &Store) -> Fixed {
         store.fixed()
@@ -72,12 +76,6 @@ impl Shelf for Alone {
     fn length(&self, store: &mut Store) -> Option<u64> {
         store.length()
     }
-
-    ghost stays = { no_work };
-
-    ghost keeps = { keeps_fixed };
-
-    ghost adds = { adds_work };
 }
 
 /// Gathers what a store still lacks of its blob from holders that nobody trusts: one worker, whose seat is 0.
@@ -92,8 +90,8 @@ impl Shelf for Alone {
 /// It refuses nothing. Refused memory is counted in the report: where a take meets it the group is left, else the
 /// next holder is asked. Texts are checked under the store's root and in its mode.
 ///
-/// What the worker did is a history of its own calls, each with the right reply in its turn: so what is stored comes
-/// from texts accepted under the store's root. For each blob with that root, each chunk stored is the blob's of that
+/// What the worker did is a history of its own calls, each with the right reply in its turn, of pieces that its holders
+/// may have given: so what is stored comes from such texts, accepted under the store's root. For each blob with that root, each chunk stored is the blob's of that
 /// number, or two different inputs with one chaining value are named, one of the blob's and one of that text's. No
 /// claim is left that the worker took.
 ///
@@ -101,14 +99,15 @@ impl Shelf for Alone {
 /// the holders' counts rose together, and `too_large` is set only where an accepted text certifies a length above
 /// what the store has room for: each blob with the root is then longer, or such a pair is named.
 pub fn run_one<H: Holder>(alloc: Global, store: &mut Store, holders: &mut [H]) -> Report
-    ensures worked { Gains store.old store.new result }
-    ensures certified { AddsCertified store.old store.new }
-    ensures binds { AddsBlobs store.old store.new }
+    ensures worked { Gains (IsHanded H.gives holders.old) store.old store.new result }
+    ensures certified { AddsCertified (IsHanded H.gives holders.old) store.old store.new }
+    ensures binds { AddsBlobs (IsHanded H.gives holders.old) store.old store.new }
+    ensures no_more { (piece : Piece) → IsHanded H.gives holders.new piece → IsHanded H.gives holders.old piece }
     ensures claims { Among (worker_claims store.old) (worker_claims store.new) }
     ensures failed { result.failed + sum_by H.count holders.old ≤ sum_by H.count holders.new }
     ensures answered { IsAnswered result }
-    ensures too_large { IsTrue result.too_large → IsTooLarge (fixed_of store.old) }
-    ensures longer { IsTrue result.too_large → AreLonger (fixed_of store.old) }
+    ensures too_large { IsTrue result.too_large → IsTooLarge (IsHanded H.gives holders.old) (fixed_of store.old) }
+    ensures longer { IsTrue result.too_large → AreLonger (IsHanded H.gives holders.old) (fixed_of store.old) }
 {
     let place = Place {
         number: 0,

@@ -4,6 +4,8 @@ ghost use Rattle.bao_text.specs.NodeNames.{name};
 ghost use Rattle.gather.specs.Claims.{Among};
 ghost use Rattle.gather.specs.Counts.{Reports};
 ghost use Rattle.gather.specs.Groups.{IsNext};
+ghost use Rattle.gather.specs.Holders.{IsIt};
+ghost use Rattle.store_core.specs.Pieces.{piece_of};
 
 use crate::masks::{GROUP_LEN, MAX_GROUPS};
 use crate::report::Report;
@@ -40,7 +42,7 @@ pub(crate) fn store_parents<S: Shelf>(
 )
     requires { S.has shelf.now seat.old }
     ensures has { S.has shelf.now seat.new }
-    ensures reports { Reports S.fixed_of S.gained seat.old seat.new 0 0 report.old report.new }
+    ensures reports { Reports S.fixed_of S.gained seat.old seat.new (IsIt (piece_of piece.now)) (IsIt (piece_of piece.now)) 0 0 report.old report.new }
     ensures claims { Among (S.claims seat.old) (S.claims seat.new) }
 {
     report.fits();

@@ -2,8 +2,12 @@ ghost use Rattle.std.specs.Prelude.{◌≡◌, ℕ, ◌+◌, Bool, MatchResult, 
 ghost use Rattle.store_core.specs.declared.fixed.Fixed as fixed;
 ghost use Rattle.store_core.specs.declared.history.Settling.TheVariants.{TooLarge};
 ghost use Rattle.gather.specs.Claims.{Among, AmongAnd, Without};
-ghost use Rattle.gather.specs.Counts.{Still};
-ghost use Rattle.gather.specs.Large.{IsTooLarge};
+ghost use Rattle.bao_check.specs.Tail.{tail_piece};
+ghost use Rattle.store_core.specs.declared.history.Piece.{Piece};
+ghost use Rattle.store_core.specs.Pieces.{piece_of};
+ghost use Rattle.gather.specs.Counts.{Goes, Still};
+ghost use Rattle.gather.specs.Holders.{IsIt, IsNone};
+ghost use Rattle.gather.specs.Large.{EndsTooFar};
 
 use bao_check::{Checked, Tail};
 use store_core::{Fixed, Settling, StoreFault};
@@ -25,8 +29,12 @@ pub trait Shelf {
     // Which chunks the seat claims, by number.
     ghost claims: { Self.Seat → ℕ → Bool };
 
-    // The seat's own calls led from the one to the other, and stored so many chunks and so many parents.
-    ghost gained: { Self.Seat → Self.Seat → ℕ → ℕ → Type 0 };
+    // The seat's own calls, of such pieces alone, led from the one to the other, and stored so many chunks and so many
+    // parents.
+    ghost gained: { (Piece → Type 0) → Self.Seat → Self.Seat → ℕ → ℕ → Type 0 };
+
+    // How such calls go on, one after another.
+    ghost goes: { Goes fixed_of gained };
 
     /// The root and the mode of the store's blob, and how many chunks it has room for.
     fn fixed(&self, seat: &Self::Seat) -> Fixed
@@ -39,14 +47,14 @@ pub trait Shelf {
     fn take(&self, seat: &mut Self::Seat, group: u32, want: u64) -> Result<u64, StoreFault>
         requires { has self.now seat.old }
         ensures has { has self.now seat.new }
-        ensures gained { gained seat.old seat.new 0 0 }
+        ensures gained { gained IsNone seat.old seat.new 0 0 }
         ensures claims { MatchResult result (λ granted. AmongAnd (claims seat.old) group granted (claims seat.new)) (λ _. Among (claims seat.old) (claims seat.new)) };
 
     /// Ends the seat's claims among the mask of a group, and answers the mask of those that it had.
     fn give(&self, seat: &mut Self::Seat, group: u32, mask: u64) -> u64
         requires { has self.now seat.old }
         ensures has { has self.now seat.new }
-        ensures gained { gained seat.old seat.new 0 0 }
+        ensures gained { gained IsNone seat.old seat.new 0 0 }
         ensures claims { Without (claims seat.old) group mask (claims seat.new) };
 
     /// Stores the chunks of a group that the seat claims and the piece holds, ends these claims, and answers their mask.
@@ -60,7 +68,7 @@ pub trait Shelf {
     ) -> Result<u64, StoreFault>
         requires { has self.now seat.old }
         ensures has { has self.now seat.new }
-        ensures gained { MatchResult result (λ committed. gained seat.old seat.new (count_ones committed) 0) (λ _. gained seat.old seat.new 0 0) }
+        ensures gained { MatchResult result (λ committed. gained (IsIt (piece_of piece.now)) seat.old seat.new (count_ones committed) 0) (λ _. gained (IsIt (piece_of piece.now)) seat.old seat.new 0 0) }
         ensures claims { MatchResult result (λ committed. Without (claims seat.old) group committed (claims seat.new)) (λ _. Among (claims seat.old) (claims seat.new)) };
 
     /// Stores parents of the piece at boundaries of a group, and answers their mask: bit j stands for the parent whose
@@ -76,25 +84,19 @@ pub trait Shelf {
     ) -> Result<u64, StoreFault>
         requires { has self.now seat.old }
         ensures has { has self.now seat.new }
-        ensures gained { MatchResult result (λ stored. gained seat.old seat.new 0 (count_ones stored)) (λ _. gained seat.old seat.new 0 0) }
+        ensures gained { MatchResult result (λ stored. gained (IsIt (piece_of piece.now)) seat.old seat.new 0 (count_ones stored)) (λ _. gained (IsIt (piece_of piece.now)) seat.old seat.new 0 0) }
         ensures claims { Among (claims seat.old) (claims seat.new) };
 
     /// Records the length in bytes that a piece with the last chunk certifies, if none is recorded.
     fn settle(&self, seat: &mut Self::Seat, tail: &Tail<'_>) -> Settling
         requires { has self.now seat.old }
         ensures has { has self.now seat.new }
-        ensures still { Still gained claims seat.old seat.new }
-        ensures large { result ≡ TooLarge → IsTooLarge (fixed_of seat.old) };
+        ensures still { Still (gained (IsIt (piece_of (tail_piece tail.now)))) claims seat.old seat.new }
+        ensures large { result ≡ TooLarge → EndsTooFar (fixed_of seat.old) (piece_of (tail_piece tail.now)) };
 
     /// The recorded length in bytes, if there is one.
     fn length(&self, seat: &mut Self::Seat) -> Option<u64>
         requires { has self.now seat.old }
         ensures has { has self.now seat.new }
-        ensures still { Still gained claims seat.old seat.new };
-
-    ghost stays: { (s : Self.Seat) → gained s s 0 0 };
-
-    ghost keeps: { (s t : Self.Seat) (n q : ℕ) → gained s t n q → fixed_of t ≡ fixed_of s };
-
-    ghost adds: { (r s t : Self.Seat) (m n p q : ℕ) → gained r s m p → gained s t n q → gained r t (m + n) (p + q) };
+        ensures still { Still (gained IsNone) claims seat.old seat.new };
 }

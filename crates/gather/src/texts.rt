@@ -1,5 +1,6 @@
-ghost use Rattle.std.specs.Prelude.{◌≡◌, ◌↔◌, ◌⊎◌, ◌*◌, ◌<◌, ◌≤◌, Err, IfOk, IsErrOf, length};
+ghost use Rattle.std.specs.Prelude.{◌≡◌, ◌↔◌, ◌⊎◌, ◌*◌, ◌<◌, ◌≤◌, Err, IfOk, IsErrOf, length, map, vec_items};
 ghost use Rattle.b3tree.specs.Hashing.{hash};
+ghost use Rattle.gather.specs.Encodings.{IsCutOf, encoding};
 ghost use Rattle.gather.specs.Faults.{cause_of, number_of_gather};
 ghost use Rattle.gather.specs.Large.{AreLonger, IsOfNone, IsTooLarge, fixed_as};
 ghost use Rattle.gather.specs.declared.texts.GatherFault.TheVariants.{Capacity, NotTheRoot, TooLarge};
@@ -10,7 +11,7 @@ use crate::holder::Encoded;
 use crate::one::run_one;
 use crate::report::Report;
 use b3tree::{Hash, Mode};
-use std::alloc::Global;
+use std::alloc::{AllocError, Global};
 use store_core::{BadCapacity, Store};
 use thiserror::Error;
 
@@ -79,6 +80,17 @@ pub fn cause(report: &Report) -> GatherFault
     }
 }
 
+/// A holder over each text, in their order. The texts are not copied.
+pub fn holders_over<'a>(alloc: Global, texts: &'a [Vec<u8>]) -> Result<Vec<Encoded<'a>>, AllocError>
+    ensures { IfOk result (λ holders. map encoding holders.items ≡ map vec_items texts.now) }
+{
+    let mut holders = Vec::with_capacity(alloc, texts.len())?;
+    for text in texts {
+        holders.push(Encoded::new(alloc, text.as_slice()))?;
+    }
+    Ok(holders)
+}
+
 /// The blob with this root in this mode, out of texts that nobody trusts: each may be its combined encoding, or any
 /// bytes. One worker asks them in their order, as `run_one` says, and fills a store with room for `capacity` chunks
 /// with their chunks and parents; it is let go at the end. The texts are not copied.
@@ -89,7 +101,8 @@ pub fn cause(report: &Report) -> GatherFault
 /// where it met a length above 1,024 times the capacity, else 901 `Unfinished`.
 ///
 /// At 805 each blob with the root is longer than the capacity, and at 902 there is none; or two different inputs with
-/// one chaining value are named, one of the blob's and one of a text's that is accepted under the root.
+/// one chaining value are named, one of the blob's and one of a slice's that is cut out of one of these texts and
+/// accepted under the root. Such a slice certifies the length that is too large, too.
 pub fn gather_texts(
     alloc: Global,
     root: Hash,
@@ -100,19 +113,16 @@ pub fn gather_texts(
     ensures root { IfOk result (λ blob. hash mode blob.items ≡ root.0) }
     ensures fits { IfOk result (λ blob. length blob.items ≤ 1024 * capacity) }
     ensures capacity { (result ≡ Err Capacity) ↔ ((capacity ≡ 0) ⊎ (65536 < capacity)) }
-    ensures too_large { IsErrOf result TooLarge → IsTooLarge (fixed_as root mode capacity) }
-    ensures longer { IsErrOf result TooLarge → AreLonger (fixed_as root mode capacity) }
-    ensures none { IsErrOf result NotTheRoot → IsOfNone (fixed_as root mode capacity) }
+    ensures too_large { IsErrOf result TooLarge → IsTooLarge (IsCutOf (map vec_items texts.now)) (fixed_as root mode capacity) }
+    ensures longer { IsErrOf result TooLarge → AreLonger (IsCutOf (map vec_items texts.now)) (fixed_as root mode capacity) }
+    ensures none { IsErrOf result NotTheRoot → IsOfNone (IsCutOf (map vec_items texts.now)) (fixed_as root mode capacity) }
 {
     let mut store = Store::new(alloc, root, mode, capacity)?;
-    let mut holders = Vec::new(alloc);
-    for text in texts {
-        if holders.push(Encoded::new(alloc, text.as_slice())).is_err() {
-            return Err(GatherFault::Starved);
-        }
-    }
+    let mut holders = match holders_over(alloc, texts) {
+        Ok(holders) => holders,
+        Err(_) => return Err(GatherFault::Starved),
+    };
     let report = run_one(alloc, &mut store, holders.as_mut_slice());
-    store.is_reached();
     match finish_one(alloc, &store) {
         Ok(blob) => Ok(blob),
         Err(FinishFault::Unfinished) => Err(cause(&report)),

@@ -1,6 +1,7 @@
-ghost use Rattle.std.specs.Prelude.{◌≡◌, ℕ, ◌*◌, ◌<◌, ◌≤◌, Bool, nat_lt, sum_by};
+ghost use Rattle.std.specs.Prelude.{IfSome, ◌≡◌, ℕ, ◌*◌, ◌<◌, ◌≤◌, Bool, nat_lt, sum_by};
 ghost use Rattle.gather.specs.Claims.{Among, AmongAnd};
 ghost use Rattle.gather.specs.Counts.{Fits, IsFetch, Reports};
+ghost use Rattle.gather.specs.Holders.{GivesNoMore, IsGiven, IsHanded};
 
 use crate::holder::{Holder, HolderFault};
 use crate::masks::{GROUP_LEN, MAX_GROUPS, wanted, without};
@@ -32,6 +33,8 @@ fn fetched<H: Holder>(
     report: &mut Report,
 ) -> Option<Vec<u8>>
     ensures fetch { IsFetch (H.count holder.old) (H.count holder.new) result report.old report.new }
+    ensures gives { IfSome result (λ text. H.gives holder.old start len text.items) }
+    ensures no_more { GivesNoMore H.gives holder.old holder.new }
     ensures fits { Fits report.old }
 {
     report.fits();
@@ -61,7 +64,7 @@ fn ask_end<S: Shelf, H: Holder>(
 ) -> bool
     requires { S.has shelf.now seat.old }
     ensures has { S.has shelf.now seat.new }
-    ensures reports { Reports S.fixed_of S.gained seat.old seat.new (H.count holder.old) (H.count holder.new) report.old report.new }
+    ensures reports { Reports S.fixed_of S.gained seat.old seat.new (IsGiven H.gives holder.old) (IsGiven H.gives holder.new) (H.count holder.old) (H.count holder.new) report.old report.new }
     ensures claims { Among (S.claims seat.old) (S.claims seat.new) }
 {
     let Some(text) = fetched(alloc, holder, u64::MAX, 1, report) else {
@@ -109,7 +112,7 @@ fn agree<S: Shelf, H: Holder>(
 ) -> Option<u64>
     requires { S.has shelf.now seat.old }
     ensures has { S.has shelf.now seat.new }
-    ensures reports { Reports S.fixed_of S.gained seat.old seat.new (sum_by H.count holders.old) (sum_by H.count holders.new) report.old report.new }
+    ensures reports { Reports S.fixed_of S.gained seat.old seat.new (IsHanded H.gives holders.old) (IsHanded H.gives holders.new) (sum_by H.count holders.old) (sum_by H.count holders.new) report.old report.new }
     ensures claims { Among (S.claims seat.old) (S.claims seat.new) }
 {
     report.fits();
@@ -138,7 +141,7 @@ fn ask<S: Shelf, H: Holder>(
 ) -> u64
     requires { S.has shelf.now seat.old }
     ensures has { S.has shelf.now seat.new }
-    ensures reports { Reports S.fixed_of S.gained seat.old seat.new (H.count holder.old) (H.count holder.new) report.old report.new }
+    ensures reports { Reports S.fixed_of S.gained seat.old seat.new (IsGiven H.gives holder.old) (IsGiven H.gives holder.new) (H.count holder.old) (H.count holder.new) report.old report.new }
     ensures claims { (before : ℕ → Bool) → AmongAnd before group left (S.claims seat.old) → AmongAnd before group result (S.claims seat.new) }
 {
     let start = GROUP_BYTES * u64::from(group);
@@ -189,7 +192,7 @@ fn work_group<S: Shelf, H: Holder>(
 )
     requires { S.has shelf.now seat.old }
     ensures has { S.has shelf.now seat.new }
-    ensures reports { Reports S.fixed_of S.gained seat.old seat.new (sum_by H.count holders.old) (sum_by H.count holders.new) report.old report.new }
+    ensures reports { Reports S.fixed_of S.gained seat.old seat.new (IsHanded H.gives holders.old) (IsHanded H.gives holders.new) (sum_by H.count holders.old) (sum_by H.count holders.new) report.old report.new }
     ensures claims { Among (S.claims seat.old) (S.claims seat.new) }
 {
     report.fits();
@@ -236,7 +239,7 @@ pub fn work<S: Shelf, H: Holder>(
     requires has { S.has shelf.now seat.old }
     requires place { place.number < place.workers }
     ensures has { S.has shelf.now seat.new }
-    ensures reports { Reports S.fixed_of S.gained seat.old seat.new (sum_by H.count holders.old) (sum_by H.count holders.new) report.old report.new }
+    ensures reports { Reports S.fixed_of S.gained seat.old seat.new (IsHanded H.gives holders.old) (IsHanded H.gives holders.new) (sum_by H.count holders.old) (sum_by H.count holders.new) report.old report.new }
     ensures claims { Among (S.claims seat.old) (S.claims seat.new) }
 {
     report.fits();

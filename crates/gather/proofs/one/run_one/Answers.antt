@@ -4,7 +4,7 @@ use Rattle.store_core.specs.declared.fixed.Fixed.{Fixed}
 use Rattle.store_core.specs.Stores.{fixed_of}
 use Rattle.gather.specs.declared.report.Report.{Report}
 use Rattle.gather.specs.Worked.{HasWorked}
-use Rattle.gather.specs.Working.{adds_work, keeps_fixed}
+use Rattle.gather.specs.Working.{goes_work}
 use Rattle.gather.proofs.Binding.{adds_blobs, are_longer}
 use Rattle.gather.proofs.Certifying.{work_certified}
 use Rattle.gather.proofs.Reporting.{onward}
@@ -12,27 +12,35 @@ use Rattle.gather.proofs.one.run_one.Goals as goal
 
 pub returns-clause-worked : goal.returns-clause-worked
 returns-clause-worked g c =
-    let both = onward fixed_of HasWorked keeps_fixed adds_work _ _ _ _ _ _ _ _ _ c.work.ensures.reports c.work-2.ensures.reports in
+    let both = onward fixed_of HasWorked goes_work _ _ _ _ _ _ _ _ _ _ _ _ c.work.ensures.reports c.work-2.ensures.reports in
     let none : c.new-report.result.committed ≡ 0 = ap (λ (report : Report). report.committed) c.new-report.ensures in
     let no_parents : c.new-report.result.parents ≡ 0 = ap (λ (report : Report). report.parents) c.new-report.ensures in
     record { chunks = both.chunks; parents = both.parents; worked = both.gains; committed = omega (arith, both.committed, none); stored = omega (arith, both.stored, no_parents) }
 
 pub returns-clause-certified : goal.returns-clause-certified
 returns-clause-certified g c =
-    let both = onward fixed_of HasWorked keeps_fixed adds_work _ _ _ _ _ _ _ _ _ c.work.ensures.reports c.work-2.ensures.reports in
-    work_certified _ _ both.chunks both.parents both.gains
+    let both = onward fixed_of HasWorked goes_work _ _ _ _ _ _ _ _ _ _ _ _ c.work.ensures.reports c.work-2.ensures.reports in
+    work_certified _ _ _ both.chunks both.parents both.gains
 
 pub returns-clause-binds : goal.returns-clause-binds
 returns-clause-binds g c =
-    let both = onward fixed_of HasWorked keeps_fixed adds_work _ _ _ _ _ _ _ _ _ c.work.ensures.reports c.work-2.ensures.reports in
+    let both = onward fixed_of HasWorked goes_work _ _ _ _ _ _ _ _ _ _ _ _ c.work.ensures.reports c.work-2.ensures.reports in
     let keyed = subst (λ (fixed : Fixed). IsKeyed fixed.mode) c.fixed-fixed.ensures c.is_keyed.ensures in
-    adds_blobs c.accepted_binds.ensures c.args.store.now c.work-2.new.seat keyed (work_certified _ _ both.chunks both.parents both.gains)
+    adds_blobs c.accepted_binds.ensures _ c.args.store.now c.work-2.new.seat keyed (work_certified _ _ _ both.chunks both.parents both.gains)
 
 pub returns-clause-longer : goal.returns-clause-longer
 returns-clause-longer g c = λ large.
     let keyed = subst (λ (fixed : Fixed). IsKeyed fixed.mode) c.fixed-fixed.ensures c.is_keyed.ensures in
-    let both = onward fixed_of HasWorked keeps_fixed adds_work _ _ _ _ _ _ _ _ _ c.work.ensures.reports c.work-2.ensures.reports in
-    are_longer c.accepted_binds.ensures (fixed_of c.args.store.now) keyed (elim (both.too_large large) [
+    let both = onward fixed_of HasWorked goes_work _ _ _ _ _ _ _ _ _ _ _ _ c.work.ensures.reports c.work-2.ensures.reports in
+    are_longer c.accepted_binds.ensures _ (fixed_of c.args.store.now) keyed (elim (both.too_large large) [
       | inl before ↦ let no : IsTrue false = subst (λ (report : Report). IsTrue report.too_large) c.new-report.ensures before in cc
       | inr is ↦ is
     ])
+
+pub returns-clause-too_large : goal.returns-clause-too_large
+returns-clause-too_large g c = λ large.
+    let both = onward fixed_of HasWorked goes_work _ _ _ _ _ _ _ _ _ _ _ _ c.work.ensures.reports c.work-2.ensures.reports in
+    elim (both.too_large large) [
+      | inl before ↦ let no : IsTrue false = subst (λ (report : Report). IsTrue report.too_large) c.new-report.ensures before in cc
+      | inr is ↦ is
+    ]

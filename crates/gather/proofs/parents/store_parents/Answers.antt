@@ -1,27 +1,30 @@
 use Rattle.std.proofs.Common.{◌∙◌, sym, subst, arith}
 use Rattle.gather.specs.declared.report.Report.{Report}
 use Rattle.gather.specs.Counts.{Fits, Reports}
+use Rattle.gather.specs.Holders.{IsIt}
+use Rattle.store_core.specs.Pieces.{piece_of}
 use Rattle.gather.proofs.Gaining.{among_onward}
-use Rattle.gather.proofs.Reporting.{onward, starved, stored_none, stored_some}
+use Rattle.gather.proofs.Reporting.{counted_none, none_gained, onward, starved, stored_some}
 use Rattle.gather.proofs.parents.store_parents.Goals.{in-Ok, in-Err+then-eq, in-Err+else-eq}
 use Rattle.gather.proofs.parents.store_parents.Goals as goal
 
 pub loop-group-init : goal.loop-group-init
-loop-group-init g c = (c.requires, stored_none g.S.Shelf.fixed_of g.S.Shelf.gained _ _ _ (g.met.S.Shelf.stays c.args.seat.now) c.fits.ensures, λ _ is. is)
+loop-group-init g c = (c.requires, counted_none g.S.Shelf.fixed_of g.S.Shelf.gained g.S.Shelf.goes _ _ _ 0 _ (none_gained g.S.Shelf.fixed_of g.S.Shelf.gained g.S.Shelf.goes _ c.args.seat.now) c.fits.ensures, λ _ is. is)
 
 pub loop-group-preserved : goal.loop-group-preserved
 loop-group-preserved g c =
     let x = c.loop-group.report in
-    let Then : Report → Type 0 = λ y. Reports g.S.Shelf.fixed_of g.S.Shelf.gained c.loop-group.seat c.commit_parents.new.seat 0 0 x y in
+    let it = piece_of c.args.piece.now in
+    let Then : Report → Type 0 = λ y. Reports g.S.Shelf.fixed_of g.S.Shelf.gained c.loop-group.seat c.commit_parents.new.seat (IsIt it) (IsIt it) 0 0 x y in
     let fits : Fits x = (omega (arith, c.loop-group.invariant.1.committed), omega (arith, c.loop-group.invariant.1.stored)) in
     let one : Then c.match-commit_parents.report = elim c.match-commit_parents.branch [
       | in-Ok w ↦
-          subst Then (sym w.report-is) (stored_some g.S.Shelf.fixed_of g.S.Shelf.gained _ _ _ x _ w.saturating_add-report.result w.in-Ok.ensures.gained fits
+          subst Then (sym w.report-is) (stored_some g.S.Shelf.fixed_of g.S.Shelf.gained g.S.Shelf.goes _ _ (IsIt it) _ x _ w.saturating_add-report.result w.in-Ok.ensures.gained fits
           (omega (arith, w.saturating_add-report.ensures, w.from.ensures)))
-      | in-Err+then-eq w ↦ subst Then (sym (w.report-is ∙ w.count_memory.ensures)) (starved g.S.Shelf.fixed_of g.S.Shelf.gained _ _ _ _ x x (stored_none g.S.Shelf.fixed_of g.S.Shelf.gained _ _ x w.in-Err.ensures.gained fits))
-      | in-Err+else-eq w ↦ subst Then (sym w.report-is) (stored_none g.S.Shelf.fixed_of g.S.Shelf.gained _ _ x w.in-Err.ensures.gained fits)
+      | in-Err+then-eq w ↦ subst Then (sym (w.report-is ∙ w.count_memory.ensures)) (starved g.S.Shelf.fixed_of g.S.Shelf.gained g.S.Shelf.goes _ _ _ _ _ _ x x (counted_none g.S.Shelf.fixed_of g.S.Shelf.gained g.S.Shelf.goes _ _ (IsIt it) 0 x w.in-Err.ensures.gained fits))
+      | in-Err+else-eq w ↦ subst Then (sym w.report-is) (counted_none g.S.Shelf.fixed_of g.S.Shelf.gained g.S.Shelf.goes _ _ (IsIt it) 0 x w.in-Err.ensures.gained fits)
     ] in (
       c.commit_parents.ensures.has,
-      onward g.S.Shelf.fixed_of g.S.Shelf.gained g.met.S.Shelf.keeps g.met.S.Shelf.adds _ _ _ _ _ _ _ _ _ c.loop-group.invariant.1 one,
+      onward g.S.Shelf.fixed_of g.S.Shelf.gained g.S.Shelf.goes _ _ _ _ _ _ _ _ _ _ _ _ c.loop-group.invariant.1 one,
       among_onward _ _ _ c.loop-group.invariant.2 c.commit_parents.ensures.claims,
     )

@@ -1,30 +1,41 @@
-use Rattle.std.proofs.Common.{refl}
+use Rattle.std.proofs.Common.{ℕ, List, refl, sym, subst}
+use Rattle.bao_check.specs.declared.checked.Checked.{Checked}
+use Rattle.gather.specs.Holders.{IsGiven}
 use Rattle.gather.proofs.Gaining.{among_onward}
-use Rattle.gather.proofs.Reporting.{beside, fetch_large, fetch_none, fetch_some, onward, refused_done}
+use Rattle.gather.proofs.Reporting.{beside, fetch_large, fetch_none, fetch_some, it_gained, narrowed, none_gained, onward, piece_given, refused_done}
+use Rattle.store_core.specs.Pieces.{piece_of}
 use Rattle.gather.proofs.worker.ask_end.Goals as goal
 
 pub returns-in_default-tail-clause-reports : goal.returns-in_default-tail-clause-reports
 returns-in_default-tail-clause-reports g c =
-    fetch_some g.S.Shelf.fixed_of g.S.Shelf.gained _ _ _ _ _ _ (g.met.S.Shelf.stays c.args.seat.now) c.in-Some.ensures.fits c.in-Some.ensures.fetch
+    fetch_some g.S.Shelf.fixed_of g.S.Shelf.gained g.S.Shelf.goes _ _ _ _ _ _ _ _ (none_gained g.S.Shelf.fixed_of g.S.Shelf.gained g.S.Shelf.goes _ c.args.seat.now) (λ piece is. c.in-Some.ensures.no_more _ _ _ is) c.in-Some.ensures.fits c.in-Some.ensures.fetch
 
 pub returns-in-TooLarge-clause-reports : goal.returns-in-TooLarge-clause-reports
 returns-in-TooLarge-clause-reports g c =
-    fetch_large g.S.Shelf.fixed_of g.S.Shelf.gained _ _ _ _ _ _ c.in-TooLarge.ensures.still.0 c.in-Some.ensures.fits c.in-Some.ensures.fetch (c.in-TooLarge.ensures.large refl)
+    let given : IsGiven g.H.Holder.gives c.args.holder.now (piece_of c.in-Ok.piece) = piece_given g.H.Holder.gives c.args.holder.now c.in-Ok.piece _ _ _ _ _ c.in-Ok.ensures.piece
+    (subst (λ (xs : List ℕ). g.H.Holder.gives c.args.holder.now 18446744073709551615 1 xs) (sym c.as_slice.ensures.value) c.in-Some.ensures.gives) in
+    let of_tail = subst (λ (it : Checked). IsGiven g.H.Holder.gives c.args.holder.now (piece_of it)) (sym c.in-Some-tail.ensures.piece) given in
+    fetch_large g.S.Shelf.fixed_of g.S.Shelf.gained g.S.Shelf.goes _ _ _ _ _ _ _ _ _ c.in-TooLarge.ensures.still.0 (λ piece is. c.in-Some.ensures.no_more _ _ _ is) c.in-Some.ensures.fits c.in-Some.ensures.fetch of_tail
+    (c.in-TooLarge.ensures.large refl)
 
 pub returns-clause-reports : goal.returns-clause-reports
 returns-clause-reports g c =
-    refused_done g.S.Shelf.fixed_of g.S.Shelf.gained _ _ _ _ _ _ c.in-Err.fault (g.met.S.Shelf.stays c.args.seat.now) c.in-Some.ensures.fits c.in-Some.ensures.fetch c.count_refused.ensures
+    refused_done g.S.Shelf.fixed_of g.S.Shelf.gained g.S.Shelf.goes _ _ _ _ _ _ _ _ c.in-Err.fault (λ piece is. c.in-Some.ensures.no_more _ _ _ is) c.in-Some.ensures.fits c.in-Some.ensures.fetch c.count_refused.ensures
 
 pub returns-in_default-clause-reports : goal.returns-in_default-clause-reports
 returns-in_default-clause-reports g c =
-    fetch_none g.S.Shelf.fixed_of g.S.Shelf.gained _ _ _ _ _ (g.met.S.Shelf.stays c.args.seat.now) c.in_default.ensures.fits c.in_default.ensures.fetch
+    fetch_none g.S.Shelf.fixed_of g.S.Shelf.gained g.S.Shelf.goes _ _ _ _ _ _ _ (λ piece is. c.in_default.ensures.no_more _ _ _ is) c.in_default.ensures.fits c.in_default.ensures.fetch
 
 pub returns-in-Ok : goal.returns-in-Ok
 returns-in-Ok g c =
-    let settled = fetch_some g.S.Shelf.fixed_of g.S.Shelf.gained _ _ _ _ _ _ c.settle.ensures.still.0 c.in-Some.ensures.fits c.in-Some.ensures.fetch in
+    let A = IsGiven g.H.Holder.gives c.args.holder.now in
+    let given : A (piece_of c.in-Ok.piece) = piece_given g.H.Holder.gives c.args.holder.now c.in-Ok.piece _ _ _ _ _ c.in-Ok.ensures.piece
+    (subst (λ (xs : List ℕ). g.H.Holder.gives c.args.holder.now 18446744073709551615 1 xs) (sym c.as_slice.ensures.value) c.in-Some.ensures.gives) in
+    let of_tail = subst (λ (it : Checked). A (piece_of it)) (sym c.in-Some-tail.ensures.piece) given in
+    let settled = fetch_some g.S.Shelf.fixed_of g.S.Shelf.gained g.S.Shelf.goes _ _ A A _ _ _ _ (it_gained g.S.Shelf.fixed_of g.S.Shelf.gained g.S.Shelf.goes A _ _ _ 0 0 of_tail c.settle.ensures.still.0) (λ piece is. is) c.in-Some.ensures.fits c.in-Some.ensures.fetch in
     record {
       has = c.store_parents.ensures.has;
-      reports = onward g.S.Shelf.fixed_of g.S.Shelf.gained g.met.S.Shelf.keeps g.met.S.Shelf.adds _ _ _ _ _ _ _ _ _ settled
-          (beside g.S.Shelf.fixed_of g.S.Shelf.gained _ _ _ _ _ c.store_parents.ensures.reports);
+      reports = narrowed g.S.Shelf.fixed_of g.S.Shelf.gained g.S.Shelf.goes _ _ A _ _ _ _ _ (λ piece is. c.in-Some.ensures.no_more _ _ _ is)
+          (onward g.S.Shelf.fixed_of g.S.Shelf.gained g.S.Shelf.goes _ _ _ A A A _ _ _ _ _ _ settled (beside g.S.Shelf.fixed_of g.S.Shelf.gained g.S.Shelf.goes _ _ A _ _ _ _ given c.store_parents.ensures.reports));
       claims = among_onward _ _ _ c.settle.ensures.still.1 c.store_parents.ensures.claims;
     }

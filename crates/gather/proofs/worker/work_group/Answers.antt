@@ -2,6 +2,7 @@ use Rattle.std.proofs.Common.{ℕ, ◌≡◌, sym, subst, ◌∙◌, arith}
 use Rattle.std.specs.List.{sum_by}
 use Rattle.std.proofs.lemmas.List.{set-get_or}
 use Rattle.gather.specs.Counts.{Reports}
+use Rattle.gather.specs.Holders.{IsHanded}
 use Rattle.gather.specs.Claims.{AmongAnd}
 use Rattle.gather.proofs.Gaining.{among_and_none}
 use Rattle.gather.proofs.Reporting.{among_holders, onward, onward_none}
@@ -10,10 +11,10 @@ use Rattle.gather.proofs.worker.work_group.Goals as goal
 
 pub loop-holder-preserved : goal.loop-holder-preserved
 loop-holder-preserved g c =
-    let one = among_holders g.S.Shelf.fixed_of g.S.Shelf.gained g.H.Holder.count _ _ c.loop-holder.holders c.loop-holder.holder-index c.holder-item.result _ _ _
+    let one = among_holders g.S.Shelf.fixed_of g.S.Shelf.gained g.S.Shelf.goes g.H.Holder.gives g.H.Holder.count _ _ c.loop-holder.holders c.loop-holder.holder-index c.holder-item.result _ _ _
     (omega (arith, c.loop-holder-test.true)) c.ask-left.ensures.reports in (
       c.ask-left.ensures.has,
-      onward g.S.Shelf.fixed_of g.S.Shelf.gained g.met.S.Shelf.keeps g.met.S.Shelf.adds _ _ _ _ _ _ _ _ _ c.loop-holder.invariant.1 one,
+      onward g.S.Shelf.fixed_of g.S.Shelf.gained g.S.Shelf.goes _ _ _ _ _ _ _ _ _ _ _ _ c.loop-holder.invariant.1 one,
       c.ask-left.ensures.claims _ c.loop-holder.invariant.2,
     )
 
@@ -23,9 +24,9 @@ returns-clause-reports g c =
       | else-loop-holder-test w ↦ w.holders-is
       | then-loop-holder-test+then-left-eq0 w ↦ w.holders-is ∙ set-get_or c.loop-holder.holders c.loop-holder.holder-index w.holder-item.result
     ] in
-    let asked = subst (λ holders. Reports g.S.Shelf.fixed_of g.S.Shelf.gained c.args.seat.now c.loop-holder.seat (sum_by g.H.Holder.count c.args.holders.now) (sum_by g.H.Holder.count holders) c.args.report.now c.loop-holder.report)
+    let asked = subst (λ holders. Reports g.S.Shelf.fixed_of g.S.Shelf.gained c.args.seat.now c.loop-holder.seat (IsHanded g.H.Holder.gives c.args.holders.now) (IsHanded g.H.Holder.gives holders) (sum_by g.H.Holder.count c.args.holders.now) (sum_by g.H.Holder.count holders) c.args.report.now c.loop-holder.report)
     (sym same) c.loop-holder.invariant.1 in
-    onward_none g.S.Shelf.fixed_of g.S.Shelf.gained g.met.S.Shelf.adds _ _ _ _ _ _ _ asked c.give.ensures.gained
+    onward_none g.S.Shelf.fixed_of g.S.Shelf.gained g.S.Shelf.goes _ _ _ _ _ _ _ _ _ asked c.give.ensures.gained
 
 pub returns-then-left-eq0-2-clause-claims : goal.returns-then-left-eq0-2-clause-claims
 returns-then-left-eq0-2-clause-claims g c =
