@@ -4,7 +4,7 @@ use Rattle.std.proofs.lemmas.List.{drop_all}
 use Rattle.std.proofs.lemmas.Slice.Eq.{bytes_eq-Decides}
 use Rattle.b3tree.specs.Hashing.{hash}
 use Rattle.b3tree.specs.Valid.{IsKeyed}
-use Rattle.crews.specs.Finished.{Asks, BindsNone, PairCommitted}
+use Rattle.crews.specs.Finished.{Asks, BindsNone}
 use Rattle.gather.proofs.Binding.{both_same, same_bytes}
 use Rattle.gather.specs.Finished.{IsWhole, LacksByte}
 use Rattle.store_core.specs.declared.fixed.Fixed.{Fixed}
@@ -15,6 +15,7 @@ use Rattle.store_core.specs.declared.view.SeatView.{SeatView}
 use Rattle.store_core.specs.Events.{after_call}
 use Rattle.store_core.specs.Histories.{IsLegal, state_after}
 use Rattle.store_core.specs.Laws.{IsRead, IsSettled}
+use Rattle.store_core.specs.Stores.{PairCommitted}
 use Rattle.store_core.specs.States.{State, empty, read_bytes}
 use Rattle.store_core.specs.Views.{names_of}
 use Rattle.store_core.proofs.Bound.{byte_binds, record_binds}
@@ -97,14 +98,15 @@ pub binds_none : (fixed : Fixed) (history : List Event) (bytes : List ℕ) → I
     → (hash fixed.mode bytes ≡ fixed.root.0 → ⊥) → BindsNone fixed history
 binds_none fixed history bytes keyed legal whole other blob is =
     let held : IsRead (state_after history) 0 (length bytes) bytes = (read_means (state_after history) 0 (length bytes) bytes).0 (sym whole.held) in
-    let each : (i : ℕ) → i < length bytes → (slice_get blob (0 + i) ≡ Some (slice_index bytes i)) ⊎ PairCommitted fixed history blob = λ i below.
+    let P = (c : ℕ) × PairCommitted fixed history blob c in
+    let each : (i : ℕ) → i < length bytes → (slice_get blob (0 + i) ≡ Some (slice_index bytes i)) ⊎ P = λ i below.
     elim (byte_binds fixed history blob (0 + i) (slice_index bytes i) keyed is legal (held.held i below)) [
       | inl same ↦ inl same
-      | inr from ↦ inr (record { chunk = (0 + i) / 1024; bytes = from.0.bytes; committed = from.0.chunk; pair = from.1 })
+      | inr from ↦ inr ((0 + i) / 1024, record { bytes = from.0.bytes; committed = from.0.chunk; pair = from.1 })
     ] in
     elim (record_binds fixed history blob (length bytes) keyed is legal whole.recorded) [
-      | inr settled ↦ inr (record { recorded = length bytes; settled = settled.0; pair = settled.1 })
-      | inl long ↦ elim (each_same blob bytes (PairCommitted fixed history blob) (length bytes) each) [
+      | inr settled ↦ inr (length bytes, record { settled = settled.0; pair = settled.1 })
+      | inl long ↦ elim (each_same blob bytes P (length bytes) each) [
         | inr pair ↦ inl pair
         | inl same ↦ absurd (other (subst (λ (xs : List ℕ). hash fixed.mode xs ≡ fixed.root.0) (same_bytes blob bytes long same) is.root))
       ]

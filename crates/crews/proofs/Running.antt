@@ -16,7 +16,7 @@ seat_binds : (assembly : Assembly) (seat : Gripped) → IsKeyed (fixed_of assemb
 seat_binds assembly seat keyed of blob is c bytes held =
     held_binds seat.view.fixed seat.view.seen blob c bytes (subst (λ (f : Fixed). IsKeyed f.mode) (sym of.fixed_is) keyed) is of.legal held
 
-pub seats_bind : {H : Type 0} (assembly : Assembly) (count : H → ℕ) (old new : List (Crew H)) → IsKeyed (fixed_of assembly).mode
-    → Each (Worked assembly count) old new → All (λ (crew : Crew H). SeenBinds crew.seat.view) new
-seats_bind assembly count old new keyed each =
+pub seats_bind : {H : Type 0} (assembly : Assembly) (gives : H → ℕ → ℕ → List ℕ → Type 0) (count : H → ℕ) (old new : List (Crew H)) → IsKeyed (fixed_of assembly).mode
+    → Each (Worked assembly gives count) old new → All (λ (crew : Crew H). SeenBinds crew.seat.view) new
+seats_bind assembly gives count old new keyed each =
     all_each _ old new (λ x y worked. seat_binds assembly y.seat keyed worked.of) each

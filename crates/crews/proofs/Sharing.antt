@@ -1,5 +1,5 @@
 -- What a call of a shared store gains, and which claims it leaves.
-use Rattle.std.proofs.Common.{count_ones, Err, IfErr, IfOk, MatchResult, Ok, OnErr, Result, is_ok, ◌≡◌, ℕ, ◌/◌, ◌%◌, ◌==◌, true, false, not, ◌&&◌, ◌||◌, List, [], ◌∷◌, ◌++◌, append_assoc, arith, eqb-true, inl, inr, subst, sym, ◌∙◌}
+use Rattle.std.proofs.Common.{count_ones, Err, IfErr, IfOk, MatchResult, Ok, OnErr, Result, is_ok, ◌≡◌, ℕ, ◌/◌, ◌%◌, ◌==◌, true, false, not, ◌&&◌, ◌||◌, List, [], ◌∷◌, ◌++◌, append_assoc, arith, eqb-true, inl, inr, refl, subst, sym, ◌∙◌}
 use Rattle.std.proofs.lemmas.Bool.{and_from, and_parts, both_ways, cases_Bool}
 use Rattle.b3tree.specs.declared.mode.Mode.{Mode}
 use Rattle.b3tree.specs.declared.values.Hash.{Hash}
@@ -7,12 +7,14 @@ use Rattle.b3tree.specs.Valid.{AreBytes}
 use Rattle.bao_check.specs.declared.checked.Checked.{Checked}
 use Rattle.bao_check.specs.Accepted.{IsAccepted}
 use Rattle.bao_check.specs.Checked.{HoldsLast, piece_mode, piece_nodes, piece_root, piece_text}
-use Rattle.crews.specs.Going.{stays}
-use Rattle.crews.specs.Seats.{GoneOn, claims_of}
+use Rattle.crews.specs.Going.{goes}
+use Rattle.crews.specs.Seats.{GoneOn, claims_of, fixed_of}
 use Rattle.gather.specs.Claims.{Among, AmongAnd, Without}
 use Rattle.gather.specs.Counts.{Still}
-use Rattle.gather.specs.Large.{IsTooLarge}
-use Rattle.gather.specs.Worked.{chunks_of, parents_of}
+use Rattle.gather.specs.Holders.{IsIt, IsNone}
+use Rattle.gather.specs.Large.{EndsTooFar}
+use Rattle.gather.proofs.Reporting.{none_gained}
+use Rattle.gather.specs.Worked.{IsFrom, chunks_of, parents_of}
 use Rattle.store_core.specs.declared.fixed.Fixed.{Fixed}
 use Rattle.store_core.specs.declared.history.Call.{Call}
 use Rattle.store_core.specs.declared.history.Call.TheVariants.{Commit, Give, Parents, Settle, Take}
@@ -37,20 +39,22 @@ use Rattle.store_shared.specs.declared.fault.ParentsFault.TheVariants as unstore
 use Rattle.store_shared.specs.Calls.{IsUnstored, Settles}
 use Rattle.store_shared.proofs.Asking.{right_there}
 
-pub goes_on : (old new : Gripped) (call : Call) → Called call old.view new.view → GoneOn old new (chunks_of call) (parents_of call)
-goes_on old new call called = record {
+pub goes_on : (handed : Piece → Type 0) (old new : Gripped) (call : Call) → IsFrom handed call → Called call old.view new.view
+    → GoneOn handed old new (chunks_of call) (parents_of call)
+goes_on handed old new call from called = record {
   fixed_is = called.goes_on.fixed_is;
   names_are = called.goes_on.names_are;
   more = called.between ++ event_of old.view call ∷ [];
   seen_is = called.goes_on.seen_is ∙ append_assoc old.view.seen called.between (event_of old.view call ∷ []);
   own = event_of old.view call ∷ [];
+  from = (from, tt);
   mine_is = called.goes_on.mine_is;
   counts = omega arith;
   counts_parents = omega arith;
 }
 
-pub stays_same : (old new : Gripped) → new ≡ old → GoneOn old new 0 0
-stays_same old new same = subst (λ (seat : Gripped). GoneOn old seat 0 0) (sym same) (stays old)
+pub stays_same : (handed : Piece → Type 0) (old new : Gripped) → new ≡ old → GoneOn handed old new 0 0
+stays_same handed old new same = subst (λ (seat : Gripped). GoneOn handed old seat 0 0) (sym same) (none_gained fixed_of GoneOn goes handed old)
 
 pub among_same : (old new : Gripped) → new ≡ old → Among (claims_of old) (claims_of new)
 among_same old new same c is = subst (λ (seat : Gripped). claims_of seat c ≡ true) same is
@@ -102,26 +106,25 @@ given old new group mask result called c is =
           )
     ]
 
-still : (old new : Gripped) (piece : Piece) (answer : Settling) → Called (Settle piece answer) old.view new.view → Still GoneOn claims_of old new
-still old new piece answer called = (goes_on old new (Settle piece answer) called, λ c is. sym (called.claims_are c) ∙ is)
+still : (old new : Gripped) (piece : Piece) (answer : Settling) → Called (Settle piece answer) old.view new.view → Still (GoneOn (IsIt piece)) claims_of old new
+still old new piece answer called = (goes_on (IsIt piece) old new (Settle piece answer) refl called, λ c is. sym (called.claims_are c) ∙ is)
 
-pub settles_still : (fixed : Fixed) (old new : Gripped) (piece : Checked) (answer : Settling) → Settles fixed old new piece answer → Still GoneOn claims_of old new
+pub settles_still : (fixed : Fixed) (old new : Gripped) (piece : Checked) (answer : Settling) → Settles fixed old new piece answer → Still (GoneOn (IsIt (piece_of piece))) claims_of old new
 settles_still fixed old new piece Settled settles = still old new (piece_of piece) Settled settles.1
 settles_still fixed old new piece Known settles = still old new (piece_of piece) Known settles.1
 settles_still fixed old new piece Differs settles = still old new (piece_of piece) Differs settles.1
-settles_still fixed old new piece OtherRoot settles = (stays_same old new settles.1, among_same old new settles.1)
-settles_still fixed old new piece TooLarge settles = (stays_same old new settles.2, among_same old new settles.2)
+settles_still fixed old new piece OtherRoot settles = (stays_same (IsIt (piece_of piece)) old new settles.1, among_same old new settles.1)
+settles_still fixed old new piece TooLarge settles = (stays_same (IsIt (piece_of piece)) old new settles.2, among_same old new settles.2)
 
 -- the piece of a tail that is too large is an accepted one of the store's root and mode, with the last chunk
 pub settles_large : (fixed : Fixed) (old new : Gripped) (piece : Checked) (answer : Settling) → AreBytes (piece_text piece)
     → IsAccepted (piece_mode piece) (piece_root piece) (piece_text piece) (piece_nodes piece) → HoldsLast piece → Settles fixed old new piece answer → answer ≡ TooLarge
-    → IsTooLarge fixed
+    → EndsTooFar fixed (piece_of piece)
 settles_large fixed old new piece Settled bytes accepted last settles is = let no : Settled ≡ TooLarge = is in cc
 settles_large fixed old new piece Known bytes accepted last settles is = let no : Known ≡ TooLarge = is in cc
 settles_large fixed old new piece Differs bytes accepted last settles is = let no : Differs ≡ TooLarge = is in cc
 settles_large fixed old new piece OtherRoot bytes accepted last settles is = let no : OtherRoot ≡ TooLarge = is in cc
 settles_large fixed old new piece TooLarge bytes accepted last settles is = record {
-  piece = piece_of piece;
   accepted = record {
     bytes = bytes;
     accepted = subst (λ (mode : Mode). IsAccepted mode fixed.root.0 (piece_text piece) (piece_nodes piece)) settles.0.mode
@@ -132,24 +135,24 @@ settles_large fixed old new piece TooLarge bytes accepted last settles is = reco
 }
 
 pub take_gains : (old new : Gripped) (group want : ℕ) (result : Result ℕ NoGroup) → IfOk result (λ granted. Called (Take group want granted) old.view new.view)
-    → OnErr result (new ≡ old) → GoneOn old new 0 0
-take_gains old new group want (Ok granted) called same = goes_on old new (Take group want granted) called
-take_gains old new group want (Err fault) called same = stays_same old new same
+    → OnErr result (new ≡ old) → GoneOn IsNone old new 0 0
+take_gains old new group want (Ok granted) called same = goes_on IsNone old new (Take group want granted) tt called
+take_gains old new group want (Err fault) called same = stays_same IsNone old new same
 
 pub commit_gains : (old new : Gripped) (group : ℕ) (piece : Piece) (result : Result ℕ OtherRootFault) (answer : Result ℕ StoreFault) (Q : OtherRootFault → Type 0)
     → MatchResult result (λ committed. answer ≡ Ok committed) Q → is_ok answer ≡ is_ok result
     → IfOk result (λ committed. Called (Commit group piece committed) old.view new.view) → OnErr result (new ≡ old)
-    → MatchResult answer (λ committed. GoneOn old new (count_ones committed) 0) (λ _. GoneOn old new 0 0)
+    → MatchResult answer (λ committed. GoneOn (IsIt piece) old new (count_ones committed) 0) (λ _. GoneOn (IsIt piece) old new 0 0)
 commit_gains old new group piece (Ok committed) answer Q cases variant called same =
-    subst (λ (r : Result ℕ StoreFault). MatchResult r (λ committed. GoneOn old new (count_ones committed) 0) (λ _. GoneOn old new 0 0)) (sym cases)
-    (goes_on old new (Commit group piece committed) called)
+    subst (λ (r : Result ℕ StoreFault). MatchResult r (λ committed. GoneOn (IsIt piece) old new (count_ones committed) 0) (λ _. GoneOn (IsIt piece) old new 0 0)) (sym cases)
+    (goes_on (IsIt piece) old new (Commit group piece committed) refl called)
 commit_gains old new group piece (Err fault) (Ok committed) Q cases variant called same = cc
-commit_gains old new group piece (Err fault) (Err other) Q cases variant called same = stays_same old new same
+commit_gains old new group piece (Err fault) (Err other) Q cases variant called same = stays_same (IsIt piece) old new same
 
 -- parents that weren't stored
-unstored_gains : (old new : Gripped) (group : ℕ) (piece : Checked) (fault : ParentsFault) → IsUnstored group piece fault old new → GoneOn old new 0 0
-unstored_gains old new group piece unstored.OtherRoot same = stays_same old new same
-unstored_gains old new group piece unstored.OtherLength called = goes_on old new (Parents group (piece_of piece) storing.OtherLength) called
+unstored_gains : (old new : Gripped) (group : ℕ) (piece : Checked) (fault : ParentsFault) → IsUnstored group piece fault old new → GoneOn (IsIt (piece_of piece)) old new 0 0
+unstored_gains old new group piece unstored.OtherRoot same = stays_same (IsIt (piece_of piece)) old new same
+unstored_gains old new group piece unstored.OtherLength called = goes_on (IsIt (piece_of piece)) old new (Parents group (piece_of piece) storing.OtherLength) refl called
 
 unstored_claims : (old new : Gripped) (group : ℕ) (piece : Checked) (fault : ParentsFault) → IsUnstored group piece fault old new → Among (claims_of old) (claims_of new)
 unstored_claims old new group piece unstored.OtherRoot same = among_same old new same
@@ -158,10 +161,10 @@ unstored_claims old new group piece unstored.OtherLength called = λ c is. sym (
 pub parents_gain : (old new : Gripped) (group : ℕ) (piece : Checked) (result : Result ℕ ParentsFault) (answer : Result ℕ StoreFault) (Q : ParentsFault → Type 0)
     → MatchResult result (λ stored. answer ≡ Ok stored) Q → is_ok answer ≡ is_ok result
     → IfOk result (λ stored. Called (Parents group (piece_of piece) (storing.Stored stored)) old.view new.view) → IfErr result (λ fault. IsUnstored group piece fault old new)
-    → MatchResult answer (λ stored. GoneOn old new 0 (count_ones stored)) (λ _. GoneOn old new 0 0)
+    → MatchResult answer (λ stored. GoneOn (IsIt (piece_of piece)) old new 0 (count_ones stored)) (λ _. GoneOn (IsIt (piece_of piece)) old new 0 0)
 parents_gain old new group piece (Ok stored) answer Q cases variant called refused =
-    subst (λ (r : Result ℕ StoreFault). MatchResult r (λ stored. GoneOn old new 0 (count_ones stored)) (λ _. GoneOn old new 0 0)) (sym cases)
-    (goes_on old new (Parents group (piece_of piece) (storing.Stored stored)) called)
+    subst (λ (r : Result ℕ StoreFault). MatchResult r (λ stored. GoneOn (IsIt (piece_of piece)) old new 0 (count_ones stored)) (λ _. GoneOn (IsIt (piece_of piece)) old new 0 0)) (sym cases)
+    (goes_on (IsIt (piece_of piece)) old new (Parents group (piece_of piece) (storing.Stored stored)) refl called)
 parents_gain old new group piece (Err fault) (Ok stored) Q cases variant called refused = cc
 parents_gain old new group piece (Err fault) (Err other) Q cases variant called refused = unstored_gains old new group piece fault refused
 

@@ -1,12 +1,14 @@
 -- What all crews did, by what each did.
-use Rattle.std.proofs.Common.{subst, ◌≡◌, ℕ, suc, ◌+◌, ◌-◌, ◌^◌, ◌≤◌, true, false, IsTrue, List, [], ◌∷◌, min, arith, inl, inr}
+use Rattle.std.proofs.Common.{refl, subst, ◌≡◌, ℕ, suc, ◌+◌, ◌-◌, ◌^◌, ◌≤◌, true, false, IsTrue, List, [], ◌∷◌, min, arith, inl, inr}
 use Rattle.std.proofs.lemmas.Bool.{cases_Bool}
 use Rattle.std.proofs.lemmas.List.Sums.{sum_by-cons}
 use Rattle.std.specs.List.{All, sum_by}
 use Rattle.crews.specs.declared.crew.Crew.{Crew}
-use Rattle.crews.specs.Crews.{Each, Worked, all_of, all_faults, faults_of}
+use Rattle.crews.specs.Crews.{Each, IsHandedTo, Worked, all_of, all_faults, faults_of}
 use Rattle.gather.specs.Counts.{IsAnswered}
+use Rattle.gather.specs.Holders.{IsHanded}
 use Rattle.gather.specs.Large.{IsTooLarge}
+use Rattle.gather.proofs.Reporting.{large_wider}
 use Rattle.store_core.specs.declared.fixed.Fixed.{Fixed}
 use Rattle.store_shared.specs.declared.assembly.Assembly.{Assembly}
 use Rattle.store_shared.specs.Seats.{IsSeatOf, fixed_of as fixed_of_store}
@@ -24,46 +26,49 @@ each_rest R x y xs ys each = record {
 pub all_each : {C : Type 0} (R : C → C → Type 0) {P : C → Type 0} (old new : List C) → ((x y : C) → R x y → P y) → Each R old new → All P new
 all_each R old new gives each = λ k d below. gives _ _ (each.each k d (omega (arith, below, each.len)))
 
-module _ {H : Type 0} (assembly : Assembly) (count : H → ℕ) where
-  failed_sum : (xs ys : List (Crew H)) → Each (Worked assembly count) xs ys
+module _ {H : Type 0} (assembly : Assembly) (gives : H → ℕ → ℕ → List ℕ → Type 0) (count : H → ℕ) where
+  failed_sum : (xs ys : List (Crew H)) → Each (Worked assembly gives count) xs ys
       → sum_by (λ (crew : Crew H). crew.report.failed) ys + all_faults count xs ≤ all_faults count ys
   failed_sum [] [] each = omega arith
   failed_sum [] (y ∷ ys) each = absurd (omega (arith, each.len))
   failed_sum (x ∷ xs) [] each = absurd (omega (arith, each.len))
   failed_sum (x ∷ xs) (y ∷ ys) each =
-      let one = (each_first (Worked assembly count) x y xs ys each).reports.failed in
-      let rest = failed_sum xs ys (each_rest (Worked assembly count) x y xs ys each) in
+      let one = (each_first (Worked assembly gives count) x y xs ys each).reports.failed in
+      let rest = failed_sum xs ys (each_rest (Worked assembly gives count) x y xs ys each) in
       omega (arith, one, rest, sum_by-cons (λ (crew : Crew H). crew.report.failed) y ys, sum_by-cons (faults_of count) x xs, sum_by-cons (faults_of count) y ys)
 
-  pub failed_all : (xs ys : List (Crew H)) → Each (Worked assembly count) xs ys → (all_of ys).failed + all_faults count xs ≤ all_faults count ys
+  pub failed_all : (xs ys : List (Crew H)) → Each (Worked assembly gives count) xs ys → (all_of ys).failed + all_faults count xs ≤ all_faults count ys
   failed_all xs ys each = omega (arith, failed_sum xs ys each)
 
-  answered_sum : (xs ys : List (Crew H)) → Each (Worked assembly count) xs ys
+  answered_sum : (xs ys : List (Crew H)) → Each (Worked assembly gives count) xs ys
       → min (sum_by (λ (crew : Crew H). crew.report.refused) ys + sum_by (λ (crew : Crew H). crew.report.failed) ys) (2 ^ 64 - 1)
       ≤ sum_by (λ (crew : Crew H). crew.report.asked) ys
   answered_sum [] [] each = omega arith
   answered_sum [] (y ∷ ys) each = absurd (omega (arith, each.len))
   answered_sum (x ∷ xs) [] each = absurd (omega (arith, each.len))
   answered_sum (x ∷ xs) (y ∷ ys) each =
-      let one : IsAnswered y.report = (each_first (Worked assembly count) x y xs ys each).reports.answered (omega arith) in
-      let rest = answered_sum xs ys (each_rest (Worked assembly count) x y xs ys each) in
+      let one : IsAnswered y.report = (each_first (Worked assembly gives count) x y xs ys each).reports.answered (omega arith) in
+      let rest = answered_sum xs ys (each_rest (Worked assembly gives count) x y xs ys each) in
       omega (arith, one, rest, sum_by-cons (λ (crew : Crew H). crew.report.refused) y ys, sum_by-cons (λ (crew : Crew H). crew.report.failed) y ys, sum_by-cons (λ (crew : Crew H). crew.report.asked) y ys)
 
-  pub answered_all : (xs ys : List (Crew H)) → Each (Worked assembly count) xs ys → IsAnswered (all_of ys)
+  pub answered_all : (xs ys : List (Crew H)) → Each (Worked assembly gives count) xs ys → IsAnswered (all_of ys)
   answered_all xs ys each = omega (arith, answered_sum xs ys each)
 
-  -- one of them met a length above what the store has room for
-  pub large_all : (xs ys : List (Crew H)) → All (λ (crew : Crew H). IsSeatOf assembly crew.seat) xs → Each (Worked assembly count) xs ys
-      → IsTrue (all_of ys).too_large → IsTooLarge (fixed_of_store assembly)
+  -- one of them met a length above what the store has room for, in a piece that one of its holders gave
+  pub large_all : (xs ys : List (Crew H)) → All (λ (crew : Crew H). IsSeatOf assembly crew.seat) xs → Each (Worked assembly gives count) xs ys
+      → IsTrue (all_of ys).too_large → IsTooLarge (IsHandedTo gives xs) (fixed_of_store assembly)
   large_all [] [] of each large = let no : false ≡ true = large in cc
   large_all [] (y ∷ ys) of each large = absurd (omega (arith, each.len))
   large_all (x ∷ xs) [] of each large = absurd (omega (arith, each.len))
   large_all (x ∷ xs) (y ∷ ys) of each large = elim (cases_Bool y.report.too_large) [
-    | inl here ↦ elim ((each_first (Worked assembly count) x y xs ys each).reports.too_large here) [
+    | inl here ↦ elim ((each_first (Worked assembly gives count) x y xs ys each).reports.too_large here) [
       | inl before ↦ let no : false ≡ true = before in cc
-      | inr is ↦ subst (λ (f : Fixed). IsTooLarge f) (of 0 x (omega arith)).fixed_is is
+      | inr is ↦
+          subst (λ (f : Fixed). IsTooLarge (IsHandedTo gives (x ∷ xs)) f) (of 0 x (omega arith)).fixed_is
+          (large_wider (IsHanded gives x.holders.items) (IsHandedTo gives (x ∷ xs)) (λ piece handed. record { number = 0; crew = x; there = refl; handed = handed }) _ is)
     ]
     | inr not_here ↦
         let rest : IsTrue (all_of ys).too_large = rw not_here at large in
-        large_all xs ys (λ k d below. of (suc k) d (omega (arith, below))) (each_rest (Worked assembly count) x y xs ys each) rest
+        large_wider (IsHandedTo gives xs) (IsHandedTo gives (x ∷ xs)) (λ piece to. record { number = suc to.number; crew = to.crew; there = to.there; handed = to.handed }) _
+        (large_all xs ys (λ k d below. of (suc k) d (omega (arith, below))) (each_rest (Worked assembly gives count) x y xs ys each) rest)
   ]

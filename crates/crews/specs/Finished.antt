@@ -4,7 +4,8 @@ use Rattle.store_core.specs.declared.fixed.Fixed.{Fixed}
 use Rattle.store_core.specs.declared.history.Call.TheVariants.{Length, Read}
 use Rattle.store_core.specs.declared.history.Event.{Event}
 use Rattle.store_core.specs.declared.view.SeatView.{SeatView}
-use Rattle.store_core.specs.Laws.{IsBlob, IsCommitted, IsSettled, PairNamed}
+use Rattle.gather.specs.Finished.{IsNamedIn}
+use Rattle.store_core.specs.Laws.{IsBlob}
 use Rattle.store_steps.specs.Tells.{Called}
 
 -- the length was asked for
@@ -24,20 +25,7 @@ pub record AsksBytes (old new : SeatView) : Type 0 where
 abbrev pub Asks : SeatView → SeatView → Type 0
 Asks old new = AsksLength old new ⊎ AsksBytes old new
 
--- a pair is named from the blob and from a piece that the history committed
-pub record PairCommitted (fixed : Fixed) (history : List Event) (blob : List ℕ) : Type 0 where
-  pub chunk : ℕ
-  pub bytes : List ℕ
-  pub committed : IsCommitted fixed history chunk bytes
-  pub pair : PairNamed fixed blob committed.piece
-
--- or from one by which the history settled the length
-pub record PairSettled (fixed : Fixed) (history : List Event) (blob : List ℕ) : Type 0 where
-  pub recorded : ℕ
-  pub settled : IsSettled fixed history recorded
-  pub pair : PairNamed fixed blob settled.piece
-
 -- For each blob with the root, two different inputs with one chaining value are named: one of the blob's, and one of a
 -- piece's that the history committed, or by which it settled the length.
 abbrev pub BindsNone : Fixed → List Event → Type 0
-BindsNone fixed history = (blob : List ℕ) → IsBlob fixed blob → PairCommitted fixed history blob ⊎ PairSettled fixed history blob
+BindsNone fixed history = (blob : List ℕ) → IsBlob fixed blob → IsNamedIn fixed history blob

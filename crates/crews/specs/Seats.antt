@@ -1,7 +1,8 @@
 -- A worker's seat of a shared store: what it claims, and how what it has seen goes on.
 use Rattle.std.specs.Prelude.{◌≡◌, ◌⊎◌, ℕ, Bool, List, ◌++◌, Some}
 use Rattle.bao_check.specs.Pieces.{chunk_of}
-use Rattle.gather.specs.Worked.{chunks_in, parents_in}
+use Rattle.store_core.specs.declared.history.Piece.{Piece}
+use Rattle.gather.specs.Worked.{AreFrom, chunks_in, parents_in}
 use Rattle.store_core.specs.declared.fixed.Fixed.{Fixed}
 use Rattle.store_core.specs.declared.history.Event.{Event}
 use Rattle.store_core.specs.declared.view.SeatView.{SeatView}
@@ -19,13 +20,14 @@ abbrev pub claims_of : Gripped → ℕ → Bool
 claims_of seat c = seat_claims seat.view c
 
 -- A seat went on, with the same names in the same store. It has seen all that it had seen, and more after it. Of its own
--- calls there are so many more, which store so many chunks and so many parents.
-pub record GoneOn (old new : Gripped) (chunks parents : ℕ) : Type 0 where
+-- calls there are so many more, of pieces that were handed over, which store so many chunks and so many parents.
+pub record GoneOn (handed : Piece → Type 0) (old new : Gripped) (chunks parents : ℕ) : Type 0 where
   pub fixed_is : fixed_of new ≡ fixed_of old
   pub names_are : new.view.names ≡ old.view.names
   pub more : List Event
   pub seen_is : new.view.seen ≡ old.view.seen ++ more
   pub own : List Event
+  pub from : AreFrom handed own
   pub mine_is : mine new.view ≡ mine old.view ++ own
   pub counts : chunks ≡ chunks_in own
   pub counts_parents : parents ≡ parents_in own

@@ -20,7 +20,7 @@ fn go_round<H: Holder>(
 )
     requires of { IsSeatOf assembly.now crew.old.seat }
     requires number { (number < crews) × (crews ≤ 64) }
-    ensures { WorkedOn assembly.now H.count crew.old crew.new }
+    ensures { WorkedOn assembly.now H.gives H.count crew.old crew.new }
 {
     let place = Place {
         number: number as u32,
@@ -47,7 +47,7 @@ fn begin<H: Holder, G: Gate>(
 )
     requires of { IsSeatOf assembly.now crew.old.seat }
     requires number { (number < crews) × (crews ≤ 64) }
-    ensures { Worked assembly.now H.count crew.old crew.new }
+    ensures { Worked assembly.now H.gives H.count crew.old crew.new }
 {
     gate.pass(number);
     crew.report = Report::new();
@@ -64,7 +64,7 @@ fn first_round<R: Threads + Sync, H: Holder + Send, G: Gate + Sync>(
 )
     requires count { (0 < length crews.old) × (length crews.old ≤ 64) }
     requires of { All (λ crew. IsSeatOf assembly.now crew.seat) crews.old }
-    ensures { Each (Worked assembly.now H.count) crews.old crews.new }
+    ensures { Each (Worked assembly.now H.gives H.count) crews.old crews.new }
 {
     let workers = crews.len();
     for_each_mut(
@@ -79,7 +79,7 @@ fn first_round<R: Threads + Sync, H: Holder + Send, G: Gate + Sync>(
 fn last_round<H: Holder>(alloc: Global, assembly: &Assembly, crews: &mut [Crew<H>])
     requires count { length crews.old ≤ 64 }
     requires of { All (λ crew. IsSeatOf assembly.now crew.seat) crews.old }
-    ensures { Each (WorkedOn assembly.now H.count) crews.old crews.new }
+    ensures { Each (WorkedOn assembly.now H.gives H.count) crews.old crews.new }
 {
     let workers = crews.len();
     for number in 0..workers {
@@ -115,7 +115,7 @@ pub(crate) fn both_rounds<R: Threads + Sync, H: Holder + Send, G: Gate + Sync>(
 ) -> Report
     requires count { (0 < length crews.old) × (length crews.old ≤ 64) }
     requires of { All (λ crew. IsSeatOf assembly.now crew.seat) crews.old }
-    ensures each { Each (Worked assembly.now H.count) crews.old crews.new }
+    ensures each { Each (Worked assembly.now H.gives H.count) crews.old crews.new }
     ensures all { result ≡ all_of crews.new }
 {
     first_round(rt, alloc, assembly, crews, gate);

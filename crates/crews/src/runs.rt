@@ -2,7 +2,7 @@ ghost use Rattle.std.specs.Prelude.{◌≡◌, ◌<◌, ◌≤◌, ◌+◌, IsTr
 ghost use Rattle.gather.specs.Counts.{IsAnswered};
 ghost use Rattle.gather.specs.Large.{AreLonger, IsTooLarge};
 ghost use Rattle.store_shared.specs.Seats.{IsSeatOf, fixed_of};
-ghost use Rattle.crews.specs.Crews.{Each, Worked, all_faults, all_of};
+ghost use Rattle.crews.specs.Crews.{Each, IsHandedTo, Worked, all_faults, all_of};
 ghost use Rattle.crews.specs.Seats.{SeenBinds};
 
 use crate::crew::Crew;
@@ -46,13 +46,13 @@ pub fn run<R: Threads + Sync, H: Holder + Send, G: Gate + Sync>(
 ) -> Report
     requires count { (0 < length crews.old) × (length crews.old ≤ 64) }
     requires of { All (λ crew. IsSeatOf assembly.now crew.seat) crews.old }
-    ensures each { Each (Worked assembly.now H.count) crews.old crews.new }
+    ensures each { Each (Worked assembly.now H.gives H.count) crews.old crews.new }
     ensures all { result ≡ all_of crews.new }
     ensures binds { All (λ crew. SeenBinds crew.seat.view) crews.new }
     ensures failed { result.failed + all_faults H.count crews.old ≤ all_faults H.count crews.new }
     ensures answered { IsAnswered result }
-    ensures too_large { IsTrue result.too_large → IsTooLarge (fixed_of assembly.now) }
-    ensures longer { IsTrue result.too_large → AreLonger (fixed_of assembly.now) }
+    ensures too_large { IsTrue result.too_large → IsTooLarge (IsHandedTo H.gives crews.old) (fixed_of assembly.now) }
+    ensures longer { IsTrue result.too_large → AreLonger (IsHandedTo H.gives crews.old) (fixed_of assembly.now) }
 {
     assembly.mode().is_keyed();
     both_rounds(rt, alloc, assembly, crews, gate)

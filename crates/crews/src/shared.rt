@@ -9,7 +9,7 @@ pub(crate) struct Shared<'a>(pub(crate) &'a Assembly);
 
 impl Shelf for Shared<'_> {
     ghost use Rattle.store_shared.specs.Seats.{IsSeatOf};
-    ghost use Rattle.crews.specs.Going.{adds, keeps, stays};
+    ghost use Rattle.crews.specs.Going.{goes};
     ghost use Rattle.crews.specs.Seats.{GoneOn, claims_of, fixed_of};
 
     type Seat = Seat;
@@ -20,7 +20,9 @@ impl Shelf for Shared<'_> {
 
     ghost claims = { λ seat. claims_of seat };
 
-    ghost gained = { λ old new chunks parents. GoneOn old new chunks parents };
+    ghost gained = { λ handed old new chunks parents. GoneOn handed old new chunks parents };
+
+    ghost goes = { goes };
 
     fn fixed(&self, _seat: &Seat) -> Fixed {
         Fixed {
@@ -68,10 +70,4 @@ impl Shelf for Shared<'_> {
     fn length(&self, seat: &mut Seat) -> Option<u64> {
         self.0.length(seat)
     }
-
-    ghost stays = { stays };
-
-    ghost keeps = { keeps };
-
-    ghost adds = { adds };
 }

@@ -1,6 +1,7 @@
 ghost use Rattle.std.specs.Prelude.{◌≡◌, ◌↔◌, ◌⊎◌, ◌*◌, ◌<◌, ◌≤◌, All, Err, IfErr, IfOk, IsErrOf, length, map, vec_items, vec_len};
 ghost use Rattle.b3tree.specs.Hashing.{hash};
-ghost use Rattle.gather.specs.Encodings.{encoding};
+ghost use Rattle.gather.specs.Encodings.{IsCutOf, encoding};
+ghost use Rattle.gather.specs.Holders.{IsAny};
 ghost use Rattle.gather.specs.Large.{AreLonger, IsOfNone, IsTooLarge, fixed_as};
 ghost use Rattle.crews.specs.declared.fault.CrewsFault.TheVariants.{Gather};
 ghost use Rattle.gather.specs.declared.texts.GatherFault.TheVariants.{Capacity, NotTheRoot, Starved, TooLarge};
@@ -12,24 +13,13 @@ use crate::fault::CrewsFault;
 use crate::runs::run;
 use b3par::Open;
 use b3tree::{Hash, Mode};
-use gather::{Encoded, FinishFault, GatherFault, cause};
-use std::alloc::{AllocError, Global};
+use gather::{Encoded, FinishFault, GatherFault, cause, holders_over};
+use std::alloc::Global;
 use std::thread::Threads;
 use store_shared::{Assembly, Seat};
 
 // The most workers that gather.
 const MOST_WORKERS: u32 = 64;
-
-// A holder over each text.
-fn holders_over<'a>(alloc: Global, texts: &'a [Vec<u8>]) -> Result<Vec<Encoded<'a>>, AllocError>
-    ensures { IfOk result (λ holders. map encoding holders.items ≡ map vec_items texts.now) }
-{
-    let mut holders = Vec::with_capacity(alloc, texts.len())?;
-    for text in texts {
-        holders.push(Encoded::new(alloc, text.as_slice()))?;
-    }
-    Ok(holders)
-}
 
 /// So many crews, each with a seat of its own that is split off this one, and holders over all texts in their order;
 /// and the seat that stays. The texts are not copied.
@@ -76,8 +66,10 @@ pub fn crews_over<'a>(
 /// unfinished blob is 911 where a worker met a want of memory, else 805 `TooLarge` where one met a length above 1,024
 /// times the capacity, else 901 `Unfinished`.
 ///
-/// At 805 each blob with the root is longer than the capacity, and at 902 there is none; or two different inputs with
-/// one chaining value are named, one of the blob's and one of a text's that is accepted under the root.
+/// At 805 each blob with the root is longer than the capacity, or two different inputs with one chaining value are named,
+/// one of the blob's and one of a slice's that is cut out of one of these texts and accepted under the root; such a slice
+/// certifies the length that is too large, too. At 902 there is no blob with the root, or such a pair is named from a
+/// piece that is accepted under the root.
 pub fn gather_texts<R: Threads + Sync>(
     rt: &R,
     alloc: Global,
@@ -90,9 +82,9 @@ pub fn gather_texts<R: Threads + Sync>(
     ensures root { IfOk result (λ blob. hash mode blob.items ≡ root.0) }
     ensures fits { IfOk result (λ blob. length blob.items ≤ 1024 * capacity) }
     ensures capacity { (result ≡ Err (Gather Capacity)) ↔ ((capacity ≡ 0) ⊎ (65536 < capacity)) }
-    ensures too_large { IsErrOf result (Gather TooLarge) → IsTooLarge (fixed_as root mode capacity) }
-    ensures longer { IsErrOf result (Gather TooLarge) → AreLonger (fixed_as root mode capacity) }
-    ensures none { IsErrOf result (Gather NotTheRoot) → IsOfNone (fixed_as root mode capacity) }
+    ensures too_large { IsErrOf result (Gather TooLarge) → IsTooLarge (IsCutOf (map vec_items texts.now)) (fixed_as root mode capacity) }
+    ensures longer { IsErrOf result (Gather TooLarge) → AreLonger (IsCutOf (map vec_items texts.now)) (fixed_as root mode capacity) }
+    ensures none { IsErrOf result (Gather NotTheRoot) → IsOfNone IsAny (fixed_as root mode capacity) }
 {
     let (assembly, seat) = Assembly::new(alloc, root, mode, capacity)?;
     let workers = workers.clamp(1, MOST_WORKERS);

@@ -33,7 +33,7 @@ own_append (e ∷ first) second begun goes_on = (begun.0, own_append first secon
 pub no_work : (s : Store) → HasWorked IsNone s s 0 0
 no_work s = record { events = []; own = tt; from = tt; legal = tt; after = refl; fixed = refl; counts = refl; counts_parents = refl }
 
-from_append : (handed : Piece → Type 0) (first second : List Event) → AreFrom handed first → AreFrom handed second → AreFrom handed (first ++ second)
+pub from_append : (handed : Piece → Type 0) (first second : List Event) → AreFrom handed first → AreFrom handed second → AreFrom handed (first ++ second)
 from_append handed [] second begun goes_on = goes_on
 from_append handed (e ∷ first) second begun goes_on = (begun.0, from_append handed first second begun.1 goes_on)
 

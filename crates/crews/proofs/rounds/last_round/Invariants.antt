@@ -7,4 +7,4 @@ abbrev pub invariant-loop-number : goal.invariant-loop-number
 invariant-loop-number g l =
     ((i : ℕ) (d : Crew g.row.H.Denot) → i < length l.crews → l.number ≤ i → slice_index_or l.crews i d ≡ slice_index_or l.fn.crews i d)
     × ((i : ℕ) (d : Crew g.row.H.Denot) → i < l.number
-    → WorkedOn l.assembly g.H.Holder.count (slice_index_or l.fn.crews i d) (slice_index_or l.crews i d))
+    → WorkedOn l.assembly g.H.Holder.gives g.H.Holder.count (slice_index_or l.fn.crews i d) (slice_index_or l.crews i d))

@@ -12,20 +12,20 @@ use Rattle.store_shared.specs.Seats.{fixed_of}
 
 pub returns-clause-binds : goal.returns-clause-binds
 returns-clause-binds g c =
-    seats_bind c.args.assembly.now g.H.Holder.count _ _ (subst (λ (mode : Mode). IsKeyed mode) c.mode.ensures c.is_keyed.ensures) c.both_rounds.ensures.each
+    seats_bind c.args.assembly.now g.H.Holder.gives g.H.Holder.count _ _ (subst (λ (mode : Mode). IsKeyed mode) c.mode.ensures c.is_keyed.ensures) c.both_rounds.ensures.each
 
 pub returns-clause-failed : goal.returns-clause-failed
-returns-clause-failed g c = rw c.both_rounds.ensures.all (failed_all c.args.assembly.now g.H.Holder.count _ _ c.both_rounds.ensures.each)
+returns-clause-failed g c = rw c.both_rounds.ensures.all (failed_all c.args.assembly.now g.H.Holder.gives g.H.Holder.count _ _ c.both_rounds.ensures.each)
 
 pub returns-clause-answered : goal.returns-clause-answered
 returns-clause-answered g c =
-    subst (λ (report : Report). IsAnswered report) (sym c.both_rounds.ensures.all) (answered_all c.args.assembly.now g.H.Holder.count _ _ c.both_rounds.ensures.each)
+    subst (λ (report : Report). IsAnswered report) (sym c.both_rounds.ensures.all) (answered_all c.args.assembly.now g.H.Holder.gives g.H.Holder.count _ _ c.both_rounds.ensures.each)
 
 pub returns-clause-too_large : goal.returns-clause-too_large
 returns-clause-too_large g c = λ large.
-    large_all c.args.assembly.now g.H.Holder.count _ _ c.requires.of c.both_rounds.ensures.each (subst (λ (report : Report). IsTrue report.too_large) c.both_rounds.ensures.all large)
+    large_all c.args.assembly.now g.H.Holder.gives g.H.Holder.count _ _ c.requires.of c.both_rounds.ensures.each (subst (λ (report : Report). IsTrue report.too_large) c.both_rounds.ensures.all large)
 
 pub returns-clause-longer : goal.returns-clause-longer
 returns-clause-longer g c = λ large.
-    are_longer accepted_binds (fixed_of c.args.assembly.now) (subst (λ (mode : Mode). IsKeyed mode) c.mode.ensures c.is_keyed.ensures)
-    (large_all c.args.assembly.now g.H.Holder.count _ _ c.requires.of c.both_rounds.ensures.each (subst (λ (report : Report). IsTrue report.too_large) c.both_rounds.ensures.all large))
+    are_longer accepted_binds _ (fixed_of c.args.assembly.now) (subst (λ (mode : Mode). IsKeyed mode) c.mode.ensures c.is_keyed.ensures)
+    (large_all c.args.assembly.now g.H.Holder.gives g.H.Holder.count _ _ c.requires.of c.both_rounds.ensures.each (subst (λ (report : Report). IsTrue report.too_large) c.both_rounds.ensures.all large))
