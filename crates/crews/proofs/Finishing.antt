@@ -1,11 +1,11 @@
 -- What finishing a blob found, in the state after all that its seat has seen.
-use Rattle.std.proofs.Common.{bytes_eq, true, false, not, ◌≡◌, ◌⊎◌, zero, suc, ℕ, ◌+◌, ◌*◌, ◌/◌, ◌<◌, ◌≤◌, List, [], ◌∷◌, ◌++◌, append_assoc, append-nil, length, drop, slice_get, slice_index, Option, None, Some, refl, sym, ap, subst, ◌∙◌, arith, inl, inr}
+use Rattle.std.proofs.Common.{bytes_eq, true, false, not, ◌≡◌, ℕ, ◌+◌, ◌*◌, ◌≤◌, List, [], ◌∷◌, ◌++◌, append_assoc, append-nil, length, drop, Option, None, Some, refl, sym, ap, subst, ◌∙◌, arith, inl, inr}
 use Rattle.std.proofs.lemmas.List.{drop_all}
 use Rattle.std.proofs.lemmas.Slice.Eq.{bytes_eq-Decides}
 use Rattle.b3tree.specs.Hashing.{hash}
 use Rattle.b3tree.specs.Valid.{IsKeyed}
 use Rattle.crews.specs.Finished.{Asks, BindsNone}
-use Rattle.gather.proofs.Binding.{both_same, same_bytes}
+use Rattle.gather.proofs.Handing.{whole_binds}
 use Rattle.gather.specs.Finished.{IsWhole, LacksByte}
 use Rattle.store_core.specs.declared.fixed.Fixed.{Fixed}
 use Rattle.store_core.specs.declared.history.Call.{Call}
@@ -15,10 +15,8 @@ use Rattle.store_core.specs.declared.view.SeatView.{SeatView}
 use Rattle.store_core.specs.Events.{after_call}
 use Rattle.store_core.specs.Histories.{IsLegal, state_after}
 use Rattle.store_core.specs.Laws.{IsRead, IsSettled}
-use Rattle.store_core.specs.Stores.{PairCommitted}
 use Rattle.store_core.specs.States.{State, empty, read_bytes}
 use Rattle.store_core.specs.Views.{names_of}
-use Rattle.store_core.proofs.Bound.{byte_binds, record_binds}
 use Rattle.store_core.proofs.Lasting.{record_lasts, run-append}
 use Rattle.store_core.proofs.Origins.{record_is_settled}
 use Rattle.store_core.proofs.ReadLaws.{read_means}
@@ -87,30 +85,13 @@ asks_both old then new before after l missing long asked read =
 pub differs : (xs ys : List ℕ) → true ≡ not (bytes_eq xs ys) → xs ≡ ys → ⊥
 differs xs ys apart same = let alike : bytes_eq xs ys ≡ true = (bytes_eq-Decides xs ys).1 same in let no : true ≡ false = rw alike at apart in cc
 
--- the bytes are the blob's, or there is a pair
-each_same : (blob bytes : List ℕ) (P : Type 0) (n : ℕ) → ((i : ℕ) → i < n → (slice_get blob (0 + i) ≡ Some (slice_index bytes i)) ⊎ P)
-    → ((i : ℕ) → i < n → slice_get blob (0 + i) ≡ Some (slice_index bytes i)) ⊎ P
-each_same blob bytes P zero each = inl (λ i below. absurd (omega (arith, below)))
-each_same blob bytes P (suc n) each = both_same blob bytes P n (each_same blob bytes P n (λ i below. each i (omega (arith, below)))) (each n (omega arith))
-
 -- bytes whose hash isn't the root are no blob's with the root, so that a pair is named
 pub binds_none : (fixed : Fixed) (history : List Event) (bytes : List ℕ) → IsKeyed fixed.mode → IsLegal fixed history → IsWhole (state_after history) bytes
     → (hash fixed.mode bytes ≡ fixed.root.0 → ⊥) → BindsNone fixed history
-binds_none fixed history bytes keyed legal whole other blob is =
-    let held : IsRead (state_after history) 0 (length bytes) bytes = (read_means (state_after history) 0 (length bytes) bytes).0 (sym whole.held) in
-    let P = (c : ℕ) × PairCommitted fixed history blob c in
-    let each : (i : ℕ) → i < length bytes → (slice_get blob (0 + i) ≡ Some (slice_index bytes i)) ⊎ P = λ i below.
-    elim (byte_binds fixed history blob (0 + i) (slice_index bytes i) keyed is legal (held.held i below)) [
-      | inl same ↦ inl same
-      | inr from ↦ inr ((0 + i) / 1024, record { bytes = from.0.bytes; committed = from.0.chunk; pair = from.1 })
-    ] in
-    elim (record_binds fixed history blob (length bytes) keyed is legal whole.recorded) [
-      | inr settled ↦ inr (length bytes, record { settled = settled.0; pair = settled.1 })
-      | inl long ↦ elim (each_same blob bytes P (length bytes) each) [
-        | inr pair ↦ inl pair
-        | inl same ↦ absurd (other (subst (λ (xs : List ℕ). hash fixed.mode xs ≡ fixed.root.0) (same_bytes blob bytes long same) is.root))
-      ]
-    ]
+binds_none fixed history bytes keyed legal whole other blob is = elim (whole_binds fixed history bytes blob keyed is legal whole) [
+  | inl same ↦ absurd (other (subst (λ (xs : List ℕ). hash fixed.mode xs ≡ fixed.root.0) same is.root))
+  | inr named ↦ named
+]
 
 -- a recorded length is one
 pub no_none : (recorded : Option ℕ) (l : ℕ) → recorded ≡ Some l → recorded ≡ None → ⊥

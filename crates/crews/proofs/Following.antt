@@ -5,7 +5,7 @@ use Rattle.crews.specs.Crews.{Each, Worked, WorkedOn}
 use Rattle.crews.specs.Going.{goes}
 use Rattle.crews.specs.Seats.{GoneOn, fixed_of}
 use Rattle.gather.proofs.Gaining.{among_onward}
-use Rattle.gather.proofs.Reporting.{onward}
+use Rattle.gather.proofs.Reporting.{later_then, onward}
 use Rattle.store_shared.specs.declared.assembly.Assembly.{Assembly}
 
 module _ {H : Type 0} (assembly : Assembly) (gives : H → ℕ → ℕ → List ℕ → Type 0) (count : H → ℕ) where
@@ -15,7 +15,7 @@ module _ {H : Type 0} (assembly : Assembly) (gives : H → ℕ → ℕ → List 
     of = goes_on.of;
     reports = onward fixed_of GoneOn goes _ _ _ _ _ _ _ _ _ _ _ _ begun.reports goes_on.reports;
     claimed = among_onward _ _ _ begun.claimed goes_on.claimed;
-    holders = goes_on.holders ∙ begun.holders;
+    holders = later_then gives _ _ _ begun.holders goes_on.holders;
   }
 
   pub each_then : (first second third : List (Crew H)) → Each (Worked assembly gives count) first second → Each (WorkedOn assembly gives count) second third

@@ -78,7 +78,7 @@ committed old new group piece mask called c is =
     ]
 
 -- what a seat claims it still claims where its next call stands
-claimed_there : (call : Call) (old new : Gripped) (called : Called call old.view new.view) (c : ℕ) → claims_of old c ≡ true
+pub claimed_there : (call : Call) (old new : Gripped) (called : Called call old.view new.view) (c : ℕ) → claims_of old c ≡ true
     → claims (names_of old.view) (state_after (old.view.seen ++ called.between)) c ≡ true
 claimed_there call old new called c is =
     let legal = (legal-append new.view.fixed empty (old.view.seen ++ called.between) (event_of old.view call ∷ [])

@@ -6,7 +6,7 @@ use Rattle.gather.specs.declared.report.Report.{Report}
 use Rattle.gather.specs.Claims.{Among}
 use Rattle.crews.specs.Seats.{GoneOn, claims_of, fixed_of}
 use Rattle.gather.specs.Counts.{Reports, no_counts}
-use Rattle.gather.specs.Holders.{IsHanded}
+use Rattle.gather.specs.Holders.{AreLater, IsHanded}
 use Rattle.store_core.specs.declared.history.Piece.{Piece}
 use Rattle.store_shared.specs.declared.assembly.Assembly.{Assembly}
 use Rattle.store_shared.specs.Seats.{IsSeatOf}
@@ -33,12 +33,12 @@ all_faults count crews = sum_by (faults_of count) crews
 
 -- A worker of a shared store did what its report gained from what it was: its seat is one of the store's still, the
 -- chunks and parents that are counted are those of its own calls, of pieces that its holders may have given, it claims
--- nothing more, and it has as many holders.
+-- nothing more, and each of its holders stands where it stood.
 pub record WorkedFrom {H : Type 0} (assembly : Assembly) (gives : H → ℕ → ℕ → List ℕ → Type 0) (count : H → ℕ) (report : Report) (old new : Crew H) : Type 0 where
   pub of : IsSeatOf assembly new.seat
   pub reports : Reports fixed_of GoneOn old.seat new.seat (IsHanded gives old.holders.items) (IsHanded gives new.holders.items) (faults_of count old) (faults_of count new) report new.report
   pub claimed : Among (claims_of old.seat) (claims_of new.seat)
-  pub holders : length new.holders.items ≡ length old.holders.items
+  pub holders : AreLater gives old.holders.items new.holders.items
 
 -- its report is begun anew
 abbrev pub Worked : {H : Type 0} → Assembly → (H → ℕ → ℕ → List ℕ → Type 0) → (H → ℕ) → Crew H → Crew H → Type 0

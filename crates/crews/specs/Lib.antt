@@ -1,5 +1,6 @@
 pub mod Seats
 pub mod Going
+pub mod Lasting
 pub mod Crews
 pub mod Finished
 pub mod Faults

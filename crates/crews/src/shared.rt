@@ -10,6 +10,7 @@ pub(crate) struct Shared<'a>(pub(crate) &'a Assembly);
 impl Shelf for Shared<'_> {
     ghost use Rattle.store_shared.specs.Seats.{IsSeatOf};
     ghost use Rattle.crews.specs.Going.{goes};
+    ghost use Rattle.crews.specs.Lasting.{Holds, IsBusy, Records, lasts};
     ghost use Rattle.crews.specs.Seats.{GoneOn, claims_of, fixed_of};
 
     type Seat = Seat;
@@ -23,6 +24,14 @@ impl Shelf for Shared<'_> {
     ghost gained = { λ handed old new chunks parents. GoneOn handed old new chunks parents };
 
     ghost goes = { goes };
+
+    ghost records = { λ seat l. Records seat l };
+
+    ghost holds = { λ seat c. Holds seat c };
+
+    ghost busy = { λ seat c. IsBusy seat c };
+
+    ghost lasts = { lasts };
 
     fn fixed(&self, _seat: &Seat) -> Fixed {
         Fixed {

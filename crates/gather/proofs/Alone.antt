@@ -126,7 +126,7 @@ settles_still old new piece TooLarge settles = (worked_none (IsIt (piece_of piec
 parents_event : (old new : Store) (group : ℕ) (piece : Piece) (answer : Storing) → IsEvent old new worker (Parents group piece answer) → Among (worker_claims old) (worker_claims new)
 parents_event old new group piece answer event c is = claims_after old new (Parents group piece answer) event c is
 
-unstored_same : (old new : Store) (group : ℕ) (piece : Checked) (fault : StoreFault) → IsUnstored old new group piece fault → IsSame old new
+pub unstored_same : (old new : Store) (group : ℕ) (piece : Checked) (fault : StoreFault) → IsUnstored old new group piece fault → IsSame old new
 unstored_same old new group piece fault.Memory unstored = unstored
 unstored_same old new group piece fault.NoGroup unstored = unstored
 unstored_same old new group piece fault.OtherRoot unstored = unstored

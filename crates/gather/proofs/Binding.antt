@@ -38,7 +38,7 @@ adds_blobs law handed old new keyed adds blob is c bytes held = elim (adds c byt
   | inr from ↦ elim (certified_binds law handed (fixed_of old) blob c bytes keyed is from) [ inl same ↦ inr (inl same) | inr named ↦ inr (inr (from, named)) ]
 ]
 
-some_bytes : (o : Option (List ℕ)) → is_some o ≡ true → (bytes : List ℕ) × (o ≡ Some bytes)
+pub some_bytes : (o : Option (List ℕ)) → is_some o ≡ true → (bytes : List ℕ) × (o ≡ Some bytes)
 some_bytes (Some bytes) is = (bytes, refl)
 some_bytes None is = let no : false ≡ true = is in cc
 
@@ -60,7 +60,7 @@ both_same blob bytes P n (inl before) (inl here) = inl (λ i below. below_more _
 both_same blob bytes P n (inl before) (inr pair) = inr pair
 both_same blob bytes P n (inr pair) here = inr pair
 
-all_same : (blob bytes : List ℕ) (P : Type 0) (n : ℕ) → ((i : ℕ) → i < n → (slice_get blob (0 + i) ≡ Some (slice_index bytes i)) ⊎ P)
+pub all_same : (blob bytes : List ℕ) (P : Type 0) (n : ℕ) → ((i : ℕ) → i < n → (slice_get blob (0 + i) ≡ Some (slice_index bytes i)) ⊎ P)
     → ((i : ℕ) → i < n → slice_get blob (0 + i) ≡ Some (slice_index bytes i)) ⊎ P
 all_same blob bytes P zero each = inl (λ i below. absurd (omega (arith, below)))
 all_same blob bytes P (suc n) each =

@@ -4,5 +4,9 @@ pub mod Grouping
 pub mod Binding
 pub mod Reporting
 pub mod Alone
+pub mod Knowing
 pub mod Certifying
+pub mod Serving
+pub mod Served
 pub mod Finishing
+pub mod Handing

@@ -1,5 +1,5 @@
 -- What a worker's report gains, from one seat to the next.
-use Rattle.std.proofs.Common.{◌≡◌, ◌⊎◌, ℕ, zero, suc, ◌+◌, ◌<◌, ◌≤◌, List, [], ◌∷◌, length, get_or, set, Some, slice_get, true, sym, subst, arith, inl, inr}
+use Rattle.std.proofs.Common.{◌≡◌, ◌⊎◌, ℕ, zero, suc, ◌+◌, ◌<◌, ◌≤◌, List, [], ◌∷◌, length, get_or, set, None, Some, slice_get, true, refl, sym, subst, ◌∙◌, length-set, arith, inl, inr}
 use Rattle.std.proofs.lemmas.Option.{slice_get-get_or}
 use Rattle.std.specs.List.{sum_by}
 use Rattle.std.proofs.lemmas.List.Sums.{sum_by-set}
@@ -13,7 +13,7 @@ use Rattle.store_core.specs.declared.history.Piece.{Piece}
 use Rattle.store_core.specs.Pieces.{piece_of}
 use Rattle.gather.specs.declared.report.Report.{Report}
 use Rattle.gather.specs.Counts.{Fits, Goes, Reports, asked_once, checked_once, failed_once, memory_once, plus}
-use Rattle.gather.specs.Holders.{IsGiven, IsHanded, IsIt, IsNone}
+use Rattle.gather.specs.Holders.{AreLater, GivesNoMore, IsGiven, IsHanded, IsIt, IsNone}
 use Rattle.gather.specs.Large.{EndsTooFar, IsTooLarge}
 
 -- a checked text is a piece that its holder gave
@@ -30,6 +30,36 @@ set_there (x ∷ xs) zero zero y h e = inl (let same : Some y ≡ Some h = e in 
 set_there (x ∷ xs) zero (suc j) y h e = inr e
 set_there (x ∷ xs) (suc i) zero y h e = inr e
 set_there (x ∷ xs) (suc i) (suc j) y h e = set_there xs i j y h e
+
+later_there : {H : Type 0} (gives : H → ℕ → ℕ → List ℕ → Type 0) (xs : List H) (i : ℕ) (x y : H) → GivesNoMore gives (get_or xs i x) y → (place : ℕ) (holder : H)
+    → slice_get xs place ≡ Some holder → (later : H) × (slice_get (set xs i y) place ≡ Some later) × GivesNoMore gives holder later
+later_there gives [] i x y no_more place holder e = let no : None ≡ Some holder = e in cc
+later_there gives (a ∷ xs) zero x y no_more zero holder e =
+    let same : a ≡ holder = cc in (y, refl, subst (λ h. GivesNoMore gives h y) same no_more)
+later_there gives (a ∷ xs) zero x y no_more (suc place) holder e = (holder, e, λ start len text is. is)
+later_there gives (a ∷ xs) (suc i) x y no_more zero holder e = (holder, e, λ start len text is. is)
+later_there gives (a ∷ xs) (suc i) x y no_more (suc place) holder e = later_there gives xs i x y no_more place holder e
+
+-- one of the holders was asked, none, or some after others
+pub later_one : {H : Type 0} (gives : H → ℕ → ℕ → List ℕ → Type 0) (xs : List H) (i : ℕ) (x y : H) → GivesNoMore gives (get_or xs i x) y → AreLater gives xs (set xs i y)
+later_one gives xs i x y no_more = record { len = length-set xs i y; each = later_there gives xs i x y no_more }
+
+pub later_none : {H : Type 0} (gives : H → ℕ → ℕ → List ℕ → Type 0) (xs : List H) → AreLater gives xs xs
+later_none gives xs = record { len = refl; each = λ place holder e. (holder, e, λ start len text is. is) }
+
+pub later_then : {H : Type 0} (gives : H → ℕ → ℕ → List ℕ → Type 0) (xs ys zs : List H) → AreLater gives xs ys → AreLater gives ys zs → AreLater gives xs zs
+later_then gives xs ys zs first second = record {
+  len = second.len ∙ first.len;
+  each = λ place holder e.
+      let then = first.each place holder e in
+      let last = second.each place then.0 then.1 in
+      (last.0, last.1, λ start len text is. then.2 start len text (last.2 start len text is));
+}
+
+-- what a holder gives is handed over by the holders
+pub handed_here : {H : Type 0} (gives : H → ℕ → ℕ → List ℕ → Type 0) (xs : List H) (i : ℕ) (x : H) → i < length xs → (piece : Piece) → IsGiven gives (get_or xs i x) piece
+    → IsHanded gives xs piece
+handed_here gives xs i x below piece is = record { place = i; holder = get_or xs i x; there = slice_get-get_or xs i x below; given = is }
 
 -- what is handed over is handed over by more
 pub large_wider : (handed wider : Piece → Type 0) → ((piece : Piece) → handed piece → wider piece) → (fixed : Fixed) → IsTooLarge handed fixed → IsTooLarge wider fixed
@@ -60,6 +90,7 @@ module _ {S : Type 0} (fixed_of : S → Fixed) (gained : (Piece → Type 0) → 
     stored = omega (arith, first.stored, second.stored);
     failed = omega (arith, first.failed, second.failed);
     answered = λ is. second.answered (first.answered is);
+    no_less = (omega (arith, first.no_less.0, second.no_less.0), omega (arith, first.no_less.1, second.no_less.1));
     too_large = λ is. elim (second.too_large is) [
       | inl before ↦ first.too_large before
       | inr large ↦
@@ -79,6 +110,7 @@ module _ {S : Type 0} (fixed_of : S → Fixed) (gained : (Piece → Type 0) → 
     stored = omega (arith, first.stored);
     failed = first.failed;
     answered = first.answered;
+    no_less = first.no_less;
     too_large = first.too_large;
   }
 
@@ -93,6 +125,7 @@ module _ {S : Type 0} (fixed_of : S → Fixed) (gained : (Piece → Type 0) → 
     stored = omega (arith, fits.1);
     failed = omega arith;
     answered = λ is. is;
+    no_less = (omega arith, omega arith);
     too_large = λ is. inl is;
   }
 
@@ -108,6 +141,7 @@ module _ {S : Type 0} (fixed_of : S → Fixed) (gained : (Piece → Type 0) → 
     stored = omega (arith, fits.1);
     failed = omega (arith, fetch.0);
     answered = λ is. omega (arith, is);
+    no_less = (omega arith, omega arith);
     too_large = λ is. inl is;
   })
 
@@ -123,6 +157,7 @@ module _ {S : Type 0} (fixed_of : S → Fixed) (gained : (Piece → Type 0) → 
     stored = omega (arith, fits.1);
     failed = omega (arith, failed.0);
     answered = λ is. omega (arith, is);
+    no_less = (omega (arith, fits.2), omega (arith, fits.3));
     too_large = λ is. inl is;
   })
   fetch_none s A B a b x y no_more fits (inr starved) = subst (λ (z : Report). Reports fixed_of gained s s A B a b x z) (sym starved.1) (record {
@@ -134,17 +169,18 @@ module _ {S : Type 0} (fixed_of : S → Fixed) (gained : (Piece → Type 0) → 
     stored = omega (arith, fits.1);
     failed = omega (arith, starved.0);
     answered = λ is. omega (arith, is);
+    no_less = (omega (arith, fits.2), omega (arith, fits.3));
     too_large = λ is. inl is;
   })
 
   -- a text that a check refused, for memory or for another cause
   refused_memory : (s : S) (A B : Piece → Type 0) (a b : ℕ) (x : Report) → ((piece : Piece) → B piece → A piece) → Fits x → a ≤ b
       → Reports fixed_of gained s s A B a b x (checked_once Memory (asked_once x))
-  refused_memory s A B a b x no_more fits up = record { chunks = 0; parents = 0; gains = none_gained A s; no_more = no_more; committed = omega (arith, fits.0); stored = omega (arith, fits.1); failed = omega (arith, up); answered = λ is. omega (arith, is); too_large = λ is. inl is }
+  refused_memory s A B a b x no_more fits up = record { chunks = 0; parents = 0; gains = none_gained A s; no_more = no_more; committed = omega (arith, fits.0); stored = omega (arith, fits.1); failed = omega (arith, up); answered = λ is. omega (arith, is); no_less = (omega (arith, fits.2), omega (arith, fits.3)); too_large = λ is. inl is }
 
   refused_other : (s : S) (A B : Piece → Type 0) (a b at : ℕ) (x : Report) → ((piece : Piece) → B piece → A piece) → Fits x → a ≤ b
       → Reports fixed_of gained s s A B a b x (checked_once (Short at) (asked_once x))
-  refused_other s A B a b at x no_more fits up = record { chunks = 0; parents = 0; gains = none_gained A s; no_more = no_more; committed = omega (arith, fits.0); stored = omega (arith, fits.1); failed = omega (arith, up); answered = λ is. omega (arith, is); too_large = λ is. inl is }
+  refused_other s A B a b at x no_more fits up = record { chunks = 0; parents = 0; gains = none_gained A s; no_more = no_more; committed = omega (arith, fits.0); stored = omega (arith, fits.1); failed = omega (arith, up); answered = λ is. omega (arith, is); no_less = (omega (arith, fits.2), omega (arith, fits.3)); too_large = λ is. inl is }
 
   refused_some : (s : S) (A B : Piece → Type 0) (a b : ℕ) (x : Report) (fault : CheckFault) → ((piece : Piece) → B piece → A piece) → Fits x → a ≤ b
       → Reports fixed_of gained s s A B a b x (checked_once fault (asked_once x))
@@ -173,6 +209,7 @@ module _ {S : Type 0} (fixed_of : S → Fixed) (gained : (Piece → Type 0) → 
         stored = omega (arith, fits.1);
         failed = omega (arith, fetch.0);
         answered = λ is. omega (arith, is);
+        no_less = (omega arith, omega arith);
         too_large = λ is. inr (record { piece = piece; from = from; large = large });
       })
 
@@ -188,6 +225,7 @@ module _ {S : Type 0} (fixed_of : S → Fixed) (gained : (Piece → Type 0) → 
     stored = omega (arith, fits.1);
     failed = omega arith;
     answered = λ is. is;
+    no_less = (omega arith, omega arith);
     too_large = λ is. inl is;
   }
 
@@ -203,12 +241,13 @@ module _ {S : Type 0} (fixed_of : S → Fixed) (gained : (Piece → Type 0) → 
     stored = is;
     failed = omega arith;
     answered = λ is. is;
+    no_less = (omega arith, omega arith);
     too_large = λ is. inl is;
   }
 
   -- a want of memory is counted beside
-  pub starved : (s t : S) (A B : Piece → Type 0) (a b : ℕ) (x y : Report) → Reports fixed_of gained s t A B a b x y → Reports fixed_of gained s t A B a b x (memory_once y)
-  starved s t A B a b x y one = record {
+  pub starved : (s t : S) (A B : Piece → Type 0) (a b : ℕ) (x y : Report) → Fits x → Reports fixed_of gained s t A B a b x y → Reports fixed_of gained s t A B a b x (memory_once y)
+  starved s t A B a b x y fits one = record {
     chunks = one.chunks;
     parents = one.parents;
     gains = one.gains;
@@ -217,6 +256,7 @@ module _ {S : Type 0} (fixed_of : S → Fixed) (gained : (Piece → Type 0) → 
     stored = one.stored;
     failed = one.failed;
     answered = one.answered;
+    no_less = (omega (arith, one.no_less.0, fits.2), omega (arith, one.no_less.1));
     too_large = one.too_large;
   }
 
@@ -232,6 +272,7 @@ module _ {S : Type 0} (fixed_of : S → Fixed) (gained : (Piece → Type 0) → 
     stored = one.stored;
     failed = omega (arith, one.failed);
     answered = one.answered;
+    no_less = one.no_less;
     too_large = λ large. elim (one.too_large large) [
       | inl before ↦ inl before
       | inr it_is ↦ inr (large_wider (IsIt it) A (λ piece same. subst A (sym same) is) (fixed_of s) it_is)
@@ -250,6 +291,7 @@ module _ {S : Type 0} (fixed_of : S → Fixed) (gained : (Piece → Type 0) → 
     stored = one.stored;
     failed = one.failed;
     answered = one.answered;
+    no_less = one.no_less;
     too_large = one.too_large;
   }
 
@@ -259,8 +301,7 @@ module _ {S : Type 0} (fixed_of : S → Fixed) (gained : (Piece → Type 0) → 
       → Reports fixed_of gained s t (IsHanded gives xs) (IsHanded gives (set xs i y)) (sum_by count xs) (sum_by count (set xs i y)) p q
   among_holders {H = H} gives count s t xs i x y p q below one =
       let sums : sum_by count (set xs i y) + count (get_or xs i x) ≡ sum_by count xs + count y = sum_by-set count xs i y x below in
-      let here : (piece : Piece) → IsGiven gives (get_or xs i x) piece → IsHanded gives xs piece = λ piece is.
-      record { place = i; holder = get_or xs i x; there = slice_get-get_or xs i x below; given = is } in
+      let here = handed_here gives xs i x below in
       record {
         chunks = one.chunks;
         parents = one.parents;
@@ -273,6 +314,7 @@ module _ {S : Type 0} (fixed_of : S → Fixed) (gained : (Piece → Type 0) → 
         stored = one.stored;
         failed = omega (arith, one.failed, sums);
         answered = one.answered;
+        no_less = one.no_less;
         too_large = λ large. elim (one.too_large large) [
           | inl before ↦ inl before
           | inr it_is ↦ inr (large_wider (IsGiven gives (get_or xs i x)) (IsHanded gives xs) here (fixed_of s) it_is)

@@ -43,9 +43,17 @@ IsFetch before after (Some text) report report' = (before ≤ after) × (report'
 IsFetch before after None report report' =
     ((before < after) × (report' ≡ failed_once (asked_once report))) ⊎ ((before ≤ after) × (report' ≡ memory_once (asked_once report)))
 
--- both counts of what was stored are of 64 bits
+-- memory was refused, or a device failed
+abbrev pub HasFailed : Report → Type 0
+HasFailed report = (0 < report.memory) ⊎ (0 < report.failed)
+
+-- counts of both go up
+abbrev pub FailsNoLess : Report → Report → Type 0
+FailsNoLess old new = (old.memory ≤ new.memory) × (old.failed ≤ new.failed)
+
+-- its counts are of 64 bits
 abbrev pub Fits : Report → Type 0
-Fits report = (report.committed < 2 ^ 64) × (report.parents < 2 ^ 64)
+Fits report = (report.committed < 2 ^ 64) × (report.parents < 2 ^ 64) × (report.memory < 2 ^ 64) × (report.failed < 2 ^ 64)
 
 -- no more texts were refused and devices failed than fetches made
 abbrev pub IsAnswered : Report → Type 0
@@ -64,6 +72,7 @@ pub record Reports {S : Type 0} (fixed_of : S → Fixed) (gained : (Piece → Ty
   pub stored : report'.parents ≡ plus report.parents parents
   pub failed : report'.failed + before ≤ report.failed + after
   pub answered : IsAnswered report → IsAnswered report'
+  pub no_less : FailsNoLess report report'
   pub too_large : IsTrue report'.too_large → IsTrue report.too_large ⊎ IsTooLarge handed (fixed_of old)
 
 -- none was stored, and nothing more is claimed

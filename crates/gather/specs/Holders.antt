@@ -1,5 +1,5 @@
 -- What a fetch does to the bytes that it appends to, and what holders hand over.
-use Rattle.std.specs.Prelude.{◌≡◌, ℕ, List, ◌++◌, Some, slice_get}
+use Rattle.std.specs.Prelude.{◌≡◌, ℕ, List, ◌++◌, Some, length, slice_get}
 use Rattle.store_core.specs.declared.history.Piece.{Piece}
 
 -- one of these texts follows
@@ -11,6 +11,12 @@ pub record Appends (P : List ℕ → Type 0) (old new : List ℕ) : Type 0 where
 -- what a holder may give after a fetch it might have given before it
 abbrev pub GivesNoMore : {H : Type 0} → (H → ℕ → ℕ → List ℕ → Type 0) → H → H → Type 0
 GivesNoMore gives old new = (start len : ℕ) (text : List ℕ) → gives new start len text → gives old start len text
+
+-- Each holder stands where it stood, and gives nothing that it might not have given before.
+pub record AreLater {H : Type 0} (gives : H → ℕ → ℕ → List ℕ → Type 0) (old new : List H) : Type 0 where
+  pub len : length new ≡ length old
+  pub each : (place : ℕ) (holder : H) → slice_get old place ≡ Some holder
+      → (later : H) × (slice_get new place ≡ Some later) × GivesNoMore gives holder later
 
 -- the piece is a text that the holder may give as its slice
 abbrev pub IsGiven : {H : Type 0} → (H → ℕ → ℕ → List ℕ → Type 0) → H → Piece → Type 0

@@ -3,8 +3,11 @@ pub mod Holders
 pub mod Encodings
 pub mod Claims
 pub mod Large
+pub mod HandedOut
 pub mod Counts
+pub mod Available
 pub mod Groups
 pub mod Worked
 pub mod Working
+pub mod Lasting
 pub mod Finished

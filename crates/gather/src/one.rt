@@ -1,9 +1,12 @@
-ghost use Rattle.std.specs.Prelude.{◌≡◌, ◌≤◌, ◌+◌, IsTrue, sum_by};
+ghost use Rattle.std.specs.Prelude.{◌≡◌, ◌≤◌, ◌+◌, ◌⊎◌, ℕ, List, IsTrue, length, sum_by};
 ghost use Rattle.store_core.specs.Stores.{fixed_of};
 ghost use Rattle.gather.specs.Claims.{Among};
-ghost use Rattle.gather.specs.Counts.{IsAnswered};
-ghost use Rattle.gather.specs.Holders.{IsHanded};
-ghost use Rattle.store_core.specs.declared.history.Piece.{Piece};
+ghost use Rattle.bao_text.specs.Choice.{chunk_count};
+ghost use Rattle.gather.specs.Available.{HasTrue, IsFilled};
+ghost use Rattle.gather.specs.Counts.{HasFailed, IsAnswered};
+ghost use Rattle.gather.specs.Lasting.{Holds, IsBusy, Records};
+ghost use Rattle.store_core.specs.Laws.{IsBlob};
+ghost use Rattle.gather.specs.Holders.{AreLater, IsHanded};
 ghost use Rattle.gather.specs.Large.{AreLonger, IsTooLarge};
 ghost use Rattle.gather.specs.Worked.{AddsBlobs, AddsCertified, Gains, HasWorked, worker_claims};
 
@@ -24,6 +27,7 @@ struct Alone;
 
 impl Shelf for Alone {
     ghost use Rattle.gather.specs.Working.{goes_work};
+    ghost use Rattle.gather.specs.Lasting.{Holds, IsBusy, Records, lasts_work};
     ghost use Rattle.store_core.specs.Stores.{fixed_of};
 
     type Seat = Store;
@@ -37,6 +41,14 @@ impl Shelf for Alone {
     ghost gained = { λ handed old new chunks parents. HasWorked handed old new chunks parents };
 
     ghost goes = { goes_work };
+
+    ghost records = { λ store l. Records store l };
+
+    ghost holds = { λ store c. Holds store c };
+
+    ghost busy = { λ store c. IsBusy store c };
+
+    ghost lasts = { lasts_work };
 
     fn fixed(&self, store: &Store) -> Fixed {
         store.fixed()
@@ -95,6 +107,10 @@ impl Shelf for Alone {
 /// number, or two different inputs with one chaining value are named, one of the blob's and one of that text's. No
 /// claim is left that the worker took.
 ///
+/// Where one of the holders gives nothing but the slices of a blob with the root, for which the store has room, and
+/// neither memory was refused nor a device failed, nor an accepted text certifies a length that is too large: a length
+/// is recorded, and if it is that blob's, each of its chunks is held, or was claimed by somebody before.
+///
 /// The report's `committed` is the number of chunks stored and `parents` that of parents, `failed` is at most what
 /// the holders' counts rose together, and `too_large` is set only where an accepted text certifies a length above
 /// what the store has room for: each blob with the root is then longer, or such a pair is named.
@@ -102,12 +118,15 @@ pub fn run_one<H: Holder>(alloc: Global, store: &mut Store, holders: &mut [H]) -
     ensures worked { Gains (IsHanded H.gives holders.old) store.old store.new result }
     ensures certified { AddsCertified (IsHanded H.gives holders.old) store.old store.new }
     ensures binds { AddsBlobs (IsHanded H.gives holders.old) store.old store.new }
-    ensures no_more { (piece : Piece) → IsHanded H.gives holders.new piece → IsHanded H.gives holders.old piece }
+    ensures later { AreLater H.gives holders.old holders.new }
     ensures claims { Among (worker_claims store.old) (worker_claims store.new) }
     ensures failed { result.failed + sum_by H.count holders.old ≤ sum_by H.count holders.new }
     ensures answered { IsAnswered result }
     ensures too_large { IsTrue result.too_large → IsTooLarge (IsHanded H.gives holders.old) (fixed_of store.old) }
     ensures longer { IsTrue result.too_large → AreLonger (IsHanded H.gives holders.old) (fixed_of store.old) }
+    ensures available { (blob : List ℕ) → IsBlob (fixed_of store.old) blob → chunk_count (length blob) ≤ (fixed_of store.old).capacity
+        → HasTrue H.gives (fixed_of store.old).mode blob holders.old
+        → HasFailed result ⊎ IsTooLarge (IsHanded H.gives holders.old) (fixed_of store.old) ⊎ IsFilled Records Holds IsBusy store.old store.new blob }
 {
     let place = Place {
         number: 0,

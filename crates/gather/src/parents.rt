@@ -1,6 +1,7 @@
 ghost use Rattle.std.specs.Prelude.{map};
 ghost use Rattle.bao_check.specs.Checked.{piece_nodes};
 ghost use Rattle.bao_text.specs.NodeNames.{name};
+ghost use Rattle.gather.specs.Available.{Keeps};
 ghost use Rattle.gather.specs.Claims.{Among};
 ghost use Rattle.gather.specs.Counts.{Reports};
 ghost use Rattle.gather.specs.Groups.{IsNext};
@@ -44,10 +45,12 @@ pub(crate) fn store_parents<S: Shelf>(
     ensures has { S.has shelf.now seat.new }
     ensures reports { Reports S.fixed_of S.gained seat.old seat.new (IsIt (piece_of piece.now)) (IsIt (piece_of piece.now)) 0 0 report.old report.new }
     ensures claims { Among (S.claims seat.old) (S.claims seat.new) }
+    ensures keeps { Keeps (S.claims seat.old) (S.claims seat.new) }
 {
     report.fits();
     let mut from = 0;
     while let Some(group) = next_group(piece, from) {
+        report.fits();
         match shelf.commit_parents(seat, group, piece) {
             Ok(stored) => {
                 report.parents = report

@@ -38,12 +38,14 @@ impl Report {
         }
     }
 
-    // Its counts of what was stored are of 64 bits.
+    // Its counts are of 64 bits: a field that is read tells its range.
     pub(crate) fn fits(&self)
         ensures { Fits self.now }
     {
         let _committed = self.committed;
         let _parents = self.parents;
+        let _memory = self.memory;
+        let _failed = self.failed;
     }
 
     // Counts a growth that was refused.

@@ -1,10 +1,14 @@
-ghost use Rattle.std.specs.Prelude.{◌≡◌, ℕ, ◌+◌, Bool, MatchResult, count_ones};
+ghost use Rattle.std.specs.Prelude.{◌≡◌, ◌≢◌, ◌⊎◌, ℕ, ◌*◌, ◌/◌, ◌<◌, ◌≤◌, Bool, true, IfErr, IfOk, IfSome, Some, MatchResult, count_ones};
 ghost use Rattle.store_core.specs.declared.fixed.Fixed as fixed;
-ghost use Rattle.store_core.specs.declared.history.Settling.TheVariants.{TooLarge};
+ghost use Rattle.store_core.specs.declared.history.Settling.TheVariants.{OtherRoot, TooLarge};
 ghost use Rattle.gather.specs.Claims.{Among, AmongAnd, Without};
 ghost use Rattle.bao_check.specs.Tail.{tail_piece};
 ghost use Rattle.store_core.specs.declared.history.Piece.{Piece};
-ghost use Rattle.store_core.specs.Pieces.{piece_of};
+ghost use Rattle.gather.specs.Available.{IsWanted, Keeps, KeepsBut, Lasts};
+ghost use Rattle.store_core.specs.declared.fault.StoreFault.TheVariants.{Memory};
+ghost use Rattle.store_core.specs.Masks.{in_mask};
+ghost use Rattle.store_core.specs.Stores.{IsOf};
+ghost use Rattle.store_core.specs.Pieces.{holds_chunk, piece_of};
 ghost use Rattle.gather.specs.Counts.{Goes, Still};
 ghost use Rattle.gather.specs.Holders.{IsIt, IsNone};
 ghost use Rattle.gather.specs.Large.{EndsTooFar};
@@ -36,6 +40,18 @@ pub trait Shelf {
     // How such calls go on, one after another.
     ghost goes: { Goes fixed_of gained };
 
+    // The length is known to be recorded.
+    ghost records: { Self.Seat → ℕ → Type 0 };
+
+    // A chunk is known to be held.
+    ghost holds: { Self.Seat → ℕ → Type 0 };
+
+    // Somebody may claim a chunk.
+    ghost busy: { Self.Seat → ℕ → Type 0 };
+
+    // What is known lasts.
+    ghost lasts: { Lasts gained claims records holds busy };
+
     /// The root and the mode of the store's blob, and how many chunks it has room for.
     fn fixed(&self, seat: &Self::Seat) -> Fixed
         requires { has self.now seat.now }
@@ -48,7 +64,11 @@ pub trait Shelf {
         requires { has self.now seat.old }
         ensures has { has self.now seat.new }
         ensures gained { gained IsNone seat.old seat.new 0 0 }
-        ensures claims { MatchResult result (λ granted. AmongAnd (claims seat.old) group granted (claims seat.new)) (λ _. Among (claims seat.old) (claims seat.new)) };
+        ensures claims { MatchResult result (λ granted. AmongAnd (claims seat.old) group granted (claims seat.new)) (λ _. Among (claims seat.old) (claims seat.new)) }
+        ensures granted { IfOk result (λ granted. (c : ℕ) → in_mask group granted c ≡ true → IsWanted group want c × (claims seat.new c ≡ true)) }
+        ensures rest { IfOk result (λ granted. (c : ℕ) → IsWanted group want c → c < (fixed_of seat.old).capacity
+            → (in_mask group granted c ≡ true) ⊎ holds seat.old c ⊎ busy seat.old c) }
+        ensures refused { IfErr result (λ fault. (fault ≡ Memory) ⊎ ((fixed_of seat.old).capacity ≤ 64 * group)) };
 
     /// Ends the seat's claims among the mask of a group, and answers the mask of those that it had.
     fn give(&self, seat: &mut Self::Seat, group: u32, mask: u64) -> u64
@@ -69,7 +89,11 @@ pub trait Shelf {
         requires { has self.now seat.old }
         ensures has { has self.now seat.new }
         ensures gained { MatchResult result (λ committed. gained (IsIt (piece_of piece.now)) seat.old seat.new (count_ones committed) 0) (λ _. gained (IsIt (piece_of piece.now)) seat.old seat.new 0 0) }
-        ensures claims { MatchResult result (λ committed. Without (claims seat.old) group committed (claims seat.new)) (λ _. Among (claims seat.old) (claims seat.new)) };
+        ensures claims { MatchResult result (λ committed. Without (claims seat.old) group committed (claims seat.new)) (λ _. Among (claims seat.old) (claims seat.new)) }
+        ensures keeps { MatchResult result (λ committed. KeepsBut group committed (claims seat.old) (claims seat.new)) (λ _. Keeps (claims seat.old) (claims seat.new)) }
+        ensures all { IfOk result (λ committed. (c : ℕ) → c / 64 ≡ group → claims seat.old c ≡ true → holds_chunk (piece_of piece.now) c ≡ true → in_mask group committed c ≡ true) }
+        ensures held { IfOk result (λ committed. (c : ℕ) → in_mask group committed c ≡ true → holds seat.new c) }
+        ensures refused { IfErr result (λ fault. (fault ≡ Memory) ⊎ (¬ IsOf (fixed_of seat.old) piece.now)) };
 
     /// Stores parents of the piece at boundaries of a group, and answers their mask: bit j stands for the parent whose
     /// right part begins at chunk 64 * group + j.
@@ -85,18 +109,23 @@ pub trait Shelf {
         requires { has self.now seat.old }
         ensures has { has self.now seat.new }
         ensures gained { MatchResult result (λ stored. gained (IsIt (piece_of piece.now)) seat.old seat.new 0 (count_ones stored)) (λ _. gained (IsIt (piece_of piece.now)) seat.old seat.new 0 0) }
-        ensures claims { Among (claims seat.old) (claims seat.new) };
+        ensures claims { Among (claims seat.old) (claims seat.new) }
+        ensures keeps { Keeps (claims seat.old) (claims seat.new) };
 
     /// Records the length in bytes that a piece with the last chunk certifies, if none is recorded.
     fn settle(&self, seat: &mut Self::Seat, tail: &Tail<'_>) -> Settling
         requires { has self.now seat.old }
         ensures has { has self.now seat.new }
         ensures still { Still (gained (IsIt (piece_of (tail_piece tail.now)))) claims seat.old seat.new }
-        ensures large { result ≡ TooLarge → EndsTooFar (fixed_of seat.old) (piece_of (tail_piece tail.now)) };
+        ensures large { result ≡ TooLarge → EndsTooFar (fixed_of seat.old) (piece_of (tail_piece tail.now)) }
+        ensures other { result ≡ OtherRoot → ¬ IsOf (fixed_of seat.old) (tail_piece tail.now) }
+        ensures records { result ≢ TooLarge → result ≢ OtherRoot → (l : ℕ) × records seat.new l };
 
     /// The recorded length in bytes, if there is one.
     fn length(&self, seat: &mut Self::Seat) -> Option<u64>
         requires { has self.now seat.old }
         ensures has { has self.now seat.new }
-        ensures still { Still (gained IsNone) claims seat.old seat.new };
+        ensures still { Still (gained IsNone) claims seat.old seat.new }
+        ensures records { IfSome result (λ l. records seat.new l) }
+        ensures known { (l : ℕ) → records seat.old l → result ≡ Some l };
 }

@@ -1,4 +1,8 @@
-ghost use Rattle.std.specs.Prelude.{◌≡◌, ◌↔◌, ◌⊎◌, ◌*◌, ◌<◌, ◌≤◌, Err, IfOk, IsErrOf, length, map, vec_items};
+ghost use Rattle.std.specs.Prelude.{◌≡◌, ◌↔◌, ◌⊎◌, ◌*◌, ◌<◌, ◌≤◌, Err, IfOk, IsErrOf, length, map, Some, slice_get, ℕ, List, vec_items};
+ghost use Rattle.bao_text.specs.Choice.{chunk_count};
+ghost use Rattle.bao_text.specs.Texts.{combined_text};
+ghost use Rattle.gather.specs.HandedOut.{IsHandedOut};
+ghost use Rattle.store_core.specs.Laws.{IsBlob};
 ghost use Rattle.b3tree.specs.Hashing.{hash};
 ghost use Rattle.gather.specs.Encodings.{IsCutOf, encoding};
 ghost use Rattle.gather.specs.Faults.{cause_of, number_of_gather};
@@ -100,6 +104,9 @@ pub fn holders_over<'a>(alloc: Global, texts: &'a [Vec<u8>]) -> Result<Vec<Encod
 /// is no memory for the blob. An unfinished blob is 911 where the worker met a want of memory, else 805 `TooLarge`
 /// where it met a length above 1,024 times the capacity, else 901 `Unfinished`.
 ///
+/// Where one of the texts is the combined encoding of a blob with the root, of at most `capacity` chunks, that blob is
+/// answered, whatever the other texts are, or there was no memory, or such a pair as follows is named.
+///
 /// At 805 each blob with the root is longer than the capacity, and at 902 there is none; or two different inputs with
 /// one chaining value are named, one of the blob's and one of a slice's that is cut out of one of these texts and
 /// accepted under the root. Such a slice certifies the length that is too large, too.
@@ -116,7 +123,11 @@ pub fn gather_texts(
     ensures too_large { IsErrOf result TooLarge → IsTooLarge (IsCutOf (map vec_items texts.now)) (fixed_as root mode capacity) }
     ensures longer { IsErrOf result TooLarge → AreLonger (IsCutOf (map vec_items texts.now)) (fixed_as root mode capacity) }
     ensures none { IsErrOf result NotTheRoot → IsOfNone (IsCutOf (map vec_items texts.now)) (fixed_as root mode capacity) }
+    ensures available { (blob : List ℕ) (i : ℕ) → IsBlob (fixed_as root mode capacity) blob → chunk_count (length blob) ≤ capacity
+        → slice_get (map vec_items texts.now) i ≡ Some (combined_text mode blob)
+        → IsHandedOut (IsCutOf (map vec_items texts.now)) (fixed_as root mode capacity) blob result }
 {
+    mode.is_keyed();
     let mut store = Store::new(alloc, root, mode, capacity)?;
     let mut holders = match holders_over(alloc, texts) {
         Ok(holders) => holders,

@@ -1,7 +1,11 @@
-ghost use Rattle.std.specs.Prelude.{IfSome, ◌≡◌, ℕ, ◌*◌, ◌<◌, ◌≤◌, Bool, nat_lt, sum_by};
+ghost use Rattle.std.specs.Prelude.{IfSome, IsSome, IsTrue, List, length, true, false, ◌⊎◌, ◌≡◌, ℕ, ◌*◌, ◌<◌, ◌≤◌, Bool, nat_lt, sum_by};
 ghost use Rattle.gather.specs.Claims.{Among, AmongAnd};
-ghost use Rattle.gather.specs.Counts.{Fits, IsFetch, Reports};
-ghost use Rattle.gather.specs.Holders.{GivesNoMore, IsGiven, IsHanded};
+ghost use Rattle.bao_text.specs.Choice.{chunk_count};
+ghost use Rattle.store_core.specs.Masks.{in_mask};
+ghost use Rattle.gather.specs.Available.{GivesSlices, HasTrue, IsFilled, IsServed, IsWanted};
+ghost use Rattle.gather.specs.Counts.{Fits, HasFailed, IsFetch, Reports};
+ghost use Rattle.gather.specs.Large.{IsTooLarge};
+ghost use Rattle.gather.specs.Holders.{AreLater, GivesNoMore, IsGiven, IsHanded};
 
 use crate::holder::{Holder, HolderFault};
 use crate::masks::{GROUP_LEN, MAX_GROUPS, wanted, without};
@@ -65,7 +69,11 @@ fn ask_end<S: Shelf, H: Holder>(
     requires { S.has shelf.now seat.old }
     ensures has { S.has shelf.now seat.new }
     ensures reports { Reports S.fixed_of S.gained seat.old seat.new (IsGiven H.gives holder.old) (IsGiven H.gives holder.new) (H.count holder.old) (H.count holder.new) report.old report.new }
+    ensures no_more { GivesNoMore H.gives holder.old holder.new }
     ensures claims { Among (S.claims seat.old) (S.claims seat.new) }
+    ensures agreed { (blob : List ℕ) → IsServed (S.fixed_of seat.old) blob → GivesSlices H.gives (S.fixed_of seat.old).mode blob holder.old
+        → HasFailed report.new ⊎ ((l : ℕ) × S.records seat.new l) }
+    ensures large { IsTrue result → IsTooLarge (IsGiven H.gives holder.old) (S.fixed_of seat.old) }
 {
     let Some(text) = fetched(alloc, holder, u64::MAX, 1, report) else {
         return false;
@@ -113,7 +121,11 @@ fn agree<S: Shelf, H: Holder>(
     requires { S.has shelf.now seat.old }
     ensures has { S.has shelf.now seat.new }
     ensures reports { Reports S.fixed_of S.gained seat.old seat.new (IsHanded H.gives holders.old) (IsHanded H.gives holders.new) (sum_by H.count holders.old) (sum_by H.count holders.new) report.old report.new }
+    ensures later { AreLater H.gives holders.old holders.new }
     ensures claims { Among (S.claims seat.old) (S.claims seat.new) }
+    ensures records { IfSome result (λ l. S.records seat.new l) }
+    ensures agreed { (blob : List ℕ) → IsServed (S.fixed_of seat.old) blob → HasTrue H.gives (S.fixed_of seat.old).mode blob holders.old
+        → HasFailed report.new ⊎ IsTooLarge (IsHanded H.gives holders.old) (S.fixed_of seat.old) ⊎ IsSome result }
 {
     report.fits();
     let mut length = shelf.length(seat);
@@ -142,7 +154,14 @@ fn ask<S: Shelf, H: Holder>(
     requires { S.has shelf.now seat.old }
     ensures has { S.has shelf.now seat.new }
     ensures reports { Reports S.fixed_of S.gained seat.old seat.new (IsGiven H.gives holder.old) (IsGiven H.gives holder.new) (H.count holder.old) (H.count holder.new) report.old report.new }
+    ensures no_more { GivesNoMore H.gives holder.old holder.new }
     ensures claims { (before : ℕ → Bool) → AmongAnd before group left (S.claims seat.old) → AmongAnd before group result (S.claims seat.new) }
+    ensures fewer { (c : ℕ) → in_mask group result c ≡ true → in_mask group left c ≡ true }
+    ensures kept { (c : ℕ) → in_mask group left c ≡ true → S.claims seat.old c ≡ true
+        → ((in_mask group result c ≡ true) × (S.claims seat.new c ≡ true)) ⊎ ((in_mask group result c ≡ false) × S.holds seat.new c) }
+    ensures served { (blob : List ℕ) → IsServed (S.fixed_of seat.old) blob → GivesSlices H.gives (S.fixed_of seat.old).mode blob holder.old
+        → ((c : ℕ) → in_mask group left c ≡ true → (S.claims seat.old c ≡ true) × (c < chunk_count (length blob)))
+        → HasFailed report.new ⊎ ((c : ℕ) → in_mask group result c ≡ false) }
 {
     let start = GROUP_BYTES * u64::from(group);
     let Some(text) = fetched(alloc, holder, start, GROUP_BYTES, report) else {
@@ -193,10 +212,14 @@ fn work_group<S: Shelf, H: Holder>(
     requires { S.has shelf.now seat.old }
     ensures has { S.has shelf.now seat.new }
     ensures reports { Reports S.fixed_of S.gained seat.old seat.new (IsHanded H.gives holders.old) (IsHanded H.gives holders.new) (sum_by H.count holders.old) (sum_by H.count holders.new) report.old report.new }
+    ensures later { AreLater H.gives holders.old holders.new }
     ensures claims { Among (S.claims seat.old) (S.claims seat.new) }
+    ensures served { (blob : List ℕ) → IsServed (S.fixed_of seat.old) blob → HasTrue H.gives (S.fixed_of seat.old).mode blob holders.old
+        → ((c : ℕ) → IsWanted group want c → c < chunk_count (length blob))
+        → HasFailed report.new ⊎ ((c : ℕ) → IsWanted group want c → S.holds seat.new c ⊎ S.busy seat.old c) }
 {
     report.fits();
-    let mut left = match shelf.take(seat, group, want) {
+    let granted = match shelf.take(seat, group, want) {
         Ok(granted) => granted,
         Err(fault) => {
             if fault == StoreFault::Memory {
@@ -205,6 +228,7 @@ fn work_group<S: Shelf, H: Holder>(
             return;
         }
     };
+    let mut left = granted;
     for holder in holders.iter_mut() {
         if left == 0 {
             break;
@@ -240,7 +264,10 @@ pub fn work<S: Shelf, H: Holder>(
     requires place { place.number < place.workers }
     ensures has { S.has shelf.now seat.new }
     ensures reports { Reports S.fixed_of S.gained seat.old seat.new (IsHanded H.gives holders.old) (IsHanded H.gives holders.new) (sum_by H.count holders.old) (sum_by H.count holders.new) report.old report.new }
+    ensures later { AreLater H.gives holders.old holders.new }
     ensures claims { Among (S.claims seat.old) (S.claims seat.new) }
+    ensures served { (blob : List ℕ) → IsServed (S.fixed_of seat.old) blob → HasTrue H.gives (S.fixed_of seat.old).mode blob holders.old
+        → HasFailed report.new ⊎ IsTooLarge (IsHanded H.gives holders.old) (S.fixed_of seat.old) ⊎ IsFilled S.records S.holds S.busy seat.old seat.new blob }
 {
     report.fits();
     let Some(length) = agree(alloc, shelf, seat, holders, report) else {

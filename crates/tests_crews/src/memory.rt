@@ -17,6 +17,8 @@ struct Starving<'a> {
 impl Holder for Starving<'_> {
     ghost count = { λ _. 0 };
 
+    ghost gives = { λ _ _ _ _. Unit {0} };
+
     fn fetch(&mut self, start: u64, len: u64, into: &mut Vec<u8>) -> Result<(), HolderFault> {
         if self.fetches == 0 {
             self.refused.fetch_add(1, Ordering::SeqCst);

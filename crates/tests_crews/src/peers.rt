@@ -61,6 +61,8 @@ struct Third<'a> {
 impl Holder for Third<'_> {
     ghost count = { λ _. 0 };
 
+    ghost gives = { λ _ _ _ _. Unit {0} };
+
     fn fetch(&mut self, start: u64, len: u64, into: &mut Vec<u8>) -> Result<(), HolderFault> {
         if start != u64::MAX && start / 65_536 != self.group {
             return Ok(());

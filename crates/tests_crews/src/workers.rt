@@ -150,6 +150,8 @@ struct Late<'a> {
 impl Holder for Late<'_> {
     ghost count = { λ _. 0 };
 
+    ghost gives = { λ _ _ _ _. Unit {0} };
+
     fn fetch(&mut self, start: u64, len: u64, into: &mut Vec<u8>) -> Result<(), HolderFault> {
         if self.waits {
             self.waits = false;
@@ -224,6 +226,8 @@ struct Peer<'a> {
 
 impl Holder for Peer<'_> {
     ghost count = { λ peer. peer.faults };
+
+    ghost gives = { λ _ _ _ _. Unit {0} };
 
     fn fetch(&mut self, start: u64, len: u64, into: &mut Vec<u8>) -> Result<(), HolderFault> {
         match &mut self.whole {

@@ -198,6 +198,8 @@ struct Peer<'a> {
 impl Holder for Peer<'_> {
     ghost count = { λ peer. peer.faults };
 
+    ghost gives = { λ _ _ _ _. Unit {0} };
+
     fn fetch(&mut self, start: u64, len: u64, into: &mut Vec<u8>) -> Result<(), HolderFault> {
         match &mut self.kind {
             Kind::Broken => {

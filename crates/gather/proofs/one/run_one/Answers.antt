@@ -8,6 +8,9 @@ use Rattle.gather.specs.Working.{goes_work}
 use Rattle.gather.proofs.Binding.{adds_blobs, are_longer}
 use Rattle.gather.proofs.Certifying.{work_certified}
 use Rattle.gather.proofs.Reporting.{onward}
+use Rattle.gather.specs.Lasting.{lasts_work}
+use Rattle.gather.proofs.Served.{served}
+use Rattle.gather.proofs.Serving.{fails_on}
 use Rattle.gather.proofs.one.run_one.Goals as goal
 
 pub returns-clause-worked : goal.returns-clause-worked
@@ -43,4 +46,23 @@ returns-clause-too_large g c = λ large.
     elim (both.too_large large) [
       | inl before ↦ let no : IsTrue false = subst (λ (report : Report). IsTrue report.too_large) c.new-report.ensures before in cc
       | inr is ↦ is
+    ]
+
+pub returns-clause-available : goal.returns-clause-available
+returns-clause-available g c = λ blob is room has.
+    let keyed = subst (λ (fixed : Fixed). IsKeyed fixed.mode) c.fixed-fixed.ensures c.is_keyed.ensures in
+    let slices = served (fixed_of c.args.store.now) blob keyed is room c.args.store.now.limit in
+    let second = c.work-2.ensures.reports in
+    elim (c.work.ensures.served blob slices has) [
+      | inl failed ↦ inl (fails_on c.work.new.report c.work-2.new.report second.no_less failed)
+      | inr (inl large) ↦ inr (inl large)
+      | inr (inr filled) ↦
+          inr (inr (record {
+            recorded = filled.recorded;
+            is = lasts_work.length _ _ _ second.chunks second.parents filled.recorded second.gains filled.is;
+            chunks = λ same n below. elim (filled.chunks same n below) [
+              | inl held ↦ inl (lasts_work.chunk _ _ _ second.chunks second.parents n second.gains held)
+              | inr busy ↦ inr busy
+            ];
+          }))
     ]

@@ -9,22 +9,23 @@ use Rattle.gather.proofs.parents.store_parents.Goals.{in-Ok, in-Err+then-eq, in-
 use Rattle.gather.proofs.parents.store_parents.Goals as goal
 
 pub loop-group-init : goal.loop-group-init
-loop-group-init g c = (c.requires, counted_none g.S.Shelf.fixed_of g.S.Shelf.gained g.S.Shelf.goes _ _ _ 0 _ (none_gained g.S.Shelf.fixed_of g.S.Shelf.gained g.S.Shelf.goes _ c.args.seat.now) c.fits.ensures, λ _ is. is)
+loop-group-init g c = (c.requires, counted_none g.S.Shelf.fixed_of g.S.Shelf.gained g.S.Shelf.goes _ _ _ 0 _ (none_gained g.S.Shelf.fixed_of g.S.Shelf.gained g.S.Shelf.goes _ c.args.seat.now) c.fits.ensures, λ _ is. is, λ _ is. is)
 
 pub loop-group-preserved : goal.loop-group-preserved
 loop-group-preserved g c =
     let x = c.loop-group.report in
     let it = piece_of c.args.piece.now in
     let Then : Report → Type 0 = λ y. Reports g.S.Shelf.fixed_of g.S.Shelf.gained c.loop-group.seat c.commit_parents.new.seat (IsIt it) (IsIt it) 0 0 x y in
-    let fits : Fits x = (omega (arith, c.loop-group.invariant.1.committed), omega (arith, c.loop-group.invariant.1.stored)) in
+    let fits : Fits x = c.fits-in-Some.ensures in
     let one : Then c.match-commit_parents.report = elim c.match-commit_parents.branch [
       | in-Ok w ↦
           subst Then (sym w.report-is) (stored_some g.S.Shelf.fixed_of g.S.Shelf.gained g.S.Shelf.goes _ _ (IsIt it) _ x _ w.saturating_add-report.result w.in-Ok.ensures.gained fits
           (omega (arith, w.saturating_add-report.ensures, w.from.ensures)))
-      | in-Err+then-eq w ↦ subst Then (sym (w.report-is ∙ w.count_memory.ensures)) (starved g.S.Shelf.fixed_of g.S.Shelf.gained g.S.Shelf.goes _ _ _ _ _ _ x x (counted_none g.S.Shelf.fixed_of g.S.Shelf.gained g.S.Shelf.goes _ _ (IsIt it) 0 x w.in-Err.ensures.gained fits))
+      | in-Err+then-eq w ↦ subst Then (sym (w.report-is ∙ w.count_memory.ensures)) (starved g.S.Shelf.fixed_of g.S.Shelf.gained g.S.Shelf.goes _ _ _ _ _ _ x x fits (counted_none g.S.Shelf.fixed_of g.S.Shelf.gained g.S.Shelf.goes _ _ (IsIt it) 0 x w.in-Err.ensures.gained fits))
       | in-Err+else-eq w ↦ subst Then (sym w.report-is) (counted_none g.S.Shelf.fixed_of g.S.Shelf.gained g.S.Shelf.goes _ _ (IsIt it) 0 x w.in-Err.ensures.gained fits)
     ] in (
       c.commit_parents.ensures.has,
       onward g.S.Shelf.fixed_of g.S.Shelf.gained g.S.Shelf.goes _ _ _ _ _ _ _ _ _ _ _ _ c.loop-group.invariant.1 one,
       among_onward _ _ _ c.loop-group.invariant.2 c.commit_parents.ensures.claims,
+      λ n is. c.commit_parents.ensures.keeps n (c.loop-group.invariant.3 n is),
     )

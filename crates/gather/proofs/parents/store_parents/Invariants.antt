@@ -1,4 +1,5 @@
 use Rattle.std.proofs.Common.{◌-◌}
+use Rattle.gather.specs.Available.{Keeps}
 use Rattle.gather.specs.Claims.{Among}
 use Rattle.gather.specs.Counts.{Reports}
 use Rattle.gather.specs.Holders.{IsIt}
@@ -9,6 +10,7 @@ abbrev pub invariant-loop-group : goal.invariant-loop-group
 invariant-loop-group g l = g.S.Shelf.has l.shelf l.seat
     × Reports g.S.Shelf.fixed_of g.S.Shelf.gained l.fn.seat l.seat (IsIt (piece_of l.piece)) (IsIt (piece_of l.piece)) 0 0 l.fn.report l.report
     × Among (g.S.Shelf.claims l.fn.seat) (g.S.Shelf.claims l.seat)
+    × Keeps (g.S.Shelf.claims l.fn.seat) (g.S.Shelf.claims l.seat)
 
 abbrev pub decreases-loop-group : goal.decreases-loop-group
 decreases-loop-group g l = 1024 - l.from

@@ -1,4 +1,4 @@
-use Rattle.std.proofs.Common.{Err, List, map, ap, subst, refl, Bool, true, false, nat_lt, if◌then◌else◌, ◌∙◌, ◌≡◌}
+use Rattle.std.proofs.Common.{length, sym, ltb-false, ℕ, ◌⊎◌, ◌≤◌, inl, inr, arith, Err, List, map, ap, subst, refl, Bool, true, false, nat_lt, if◌then◌else◌, ◌∙◌, ◌≡◌}
 use Rattle.gather.specs.declared.texts.GatherFault.TheVariants.{Starved, TooLarge, Unfinished}
 use Rattle.gather.specs.Faults.{cause_of}
 use Rattle.std.specs.Prelude.{vec_items}
@@ -9,6 +9,19 @@ use Rattle.gather.specs.Large.{AreLonger, IsTooLarge, fixed_as}
 use Rattle.gather.proofs.Reporting.{large_wider}
 use Rattle.store_core.specs.declared.fixed.Fixed.{Fixed}
 use Rattle.gather.proofs.Binding.{handed_cut, longer_wider, none_wider, of_none}
+use Rattle.b3tree.specs.Valid.{IsKeyed}
+use Rattle.gather.specs.Available.{HasTrue}
+use Rattle.gather.specs.declared.report.Report.{Report}
+use Rattle.gather.specs.HandedOut.{IsExcused}
+use Rattle.gather.specs.Large.{HasPair}
+use Rattle.bao_check.proofs.Laws.{accepted_binds}
+use Rattle.bao_text.specs.Choice.{chunk_count}
+use Rattle.gather.specs.declared.texts.GatherFault.{GatherFault}
+use Rattle.gather.proofs.Binding.{are_longer, pair_wider}
+use Rattle.gather.proofs.Handing.{encoding_true, never_failed, unfinished_pair, whole_pair}
+use Rattle.std.proofs.lemmas.Bool.{cases_Bool}
+use Rattle.store_core.specs.Laws.{IsBlob}
+use Rattle.store_core.specs.Stores.{fixed_of}
 use Rattle.gather.proofs.texts.gather_texts.Goals as goal
 
 pub returns-in-Err-NotTheRoot-clause-none : goal.returns-in-Err-NotTheRoot-clause-none
@@ -47,3 +60,66 @@ returns-in-Err-Unfinished-clause-longer c = λ e.
     longer_wider (IsHanded IsCut holders) (IsCutOf texts) (handed_cut holders texts over) (fixed_as c.args.root c.args.mode c.args.capacity)
     (subst (λ (fixed : Fixed). AreLonger (IsHanded IsCut holders) fixed) c.in_ok-store.ensures.made.fixed
     (c.run_one-report.ensures.longer (large_of (nat_lt 0 report.memory) report.too_large large)))
+
+-- why a report is called unfinished
+cause_handed : (report : Report) (P : Type 0) → ((report.memory ≡ 0) → (report.too_large ≡ true) → P) → ((report.memory ≡ 0) → (report.too_large ≡ false) → P)
+    → IsExcused (cause_of report) ⊎ P
+cause_handed report P large small = elim (cases_Bool (nat_lt 0 report.memory)) [
+  | inl starved ↦ inl (rw starved tt)
+  | inr fed ↦
+      let none : report.memory ≡ 0 = omega (arith, ltb-false 0 report.memory fed) in
+      elim (cases_Bool report.too_large) [ inl is ↦ inr (large none is) | inr not ↦ inr (small none not) ]
+]
+
+pub returns-in-Ok-finish_one-clause-available : goal.returns-in-Ok-finish_one-clause-available
+returns-in-Ok-finish_one-clause-available c = λ blob i is room there.
+    let holders = c.as_mut_slice.result.now in
+    let texts = map vec_items c.args.texts.now in
+    let over : map encoding holders ≡ texts = ap (λ (all : List Encoded). map encoding all) c.as_mut_slice.ensures.value ∙ c.in-Ok.ensures in
+    let F = fixed_as c.args.root c.args.mode c.args.capacity in
+    let made = c.in_ok-store.ensures.made in
+    let gains = c.run_one-report.ensures.worked in
+    let known = subst (λ (f : Fixed). (b : List ℕ) → IsKeyed f.mode → IsBlob f b → (c.in-Ok-finish_one.blob.items ≡ b) ⊎ HasPair (IsHanded IsCut holders) f b) made.fixed
+    (λ b keyed blob_is. whole_pair (IsHanded IsCut holders) c.in_ok-store.store c.run_one-report.new.store gains.chunks gains.parents b c.in-Ok-finish_one.blob.items keyed blob_is made.state gains.worked c.in-Ok-finish_one.ensures.whole) in
+    elim (known blob c.is_keyed.ensures is) [
+      | inl same ↦ inl same
+      | inr pair ↦ inr (pair_wider (IsHanded IsCut holders) (IsCutOf texts) (handed_cut holders texts over) F blob pair)
+    ]
+
+pub returns-in-Err-NotTheRoot-clause-available : goal.returns-in-Err-NotTheRoot-clause-available
+returns-in-Err-NotTheRoot-clause-available c = λ blob i is room there. inr (returns-in-Err-NotTheRoot-clause-none c refl blob is)
+
+pub returns-in-Err-Unfinished-clause-available : goal.returns-in-Err-Unfinished-clause-available
+returns-in-Err-Unfinished-clause-available c = λ blob i is room there.
+    let report = c.run_one-report.result in
+    let holders = c.as_mut_slice.result.now in
+    let texts = map vec_items c.args.texts.now in
+    let over : map encoding holders ≡ texts = ap (λ (all : List Encoded). map encoding all) c.as_mut_slice.ensures.value ∙ c.in-Ok.ensures in
+    let F = fixed_as c.args.root c.args.mode c.args.capacity in
+    let made = c.in_ok-store.ensures.made in
+    let met = c.run_one-report.ensures in
+    let gains = met.worked in
+    let small : c.args.capacity ≤ 65536 = subst (λ (f : Fixed). f.capacity ≤ 65536) made.fixed c.in_ok-store.store.limit in
+    let has : HasTrue IsCut c.args.mode blob holders = encoding_true holders texts c.args.mode blob i over (omega (arith, room, small)) there in
+    let P = HasPair (IsHanded IsCut holders) F blob in
+    let longer : IsTooLarge (IsHanded IsCut holders) (fixed_of c.in_ok-store.store) → P = λ large.
+    elim (are_longer accepted_binds (IsHanded IsCut holders) F c.is_keyed.ensures (subst (λ (f : Fixed). IsTooLarge (IsHanded IsCut holders) f) made.fixed large) blob is) [
+      | inl long ↦ absurd (omega (arith, long, room))
+      | inr pair ↦ pair
+    ] in
+    let unfinished = c.in-Err-Unfinished.ensures.unfinished (ap (λ fault. Err fault) c.in-Err-Unfinished.field-0-is) in
+    let handed : IsExcused (cause_of report) ⊎ P = cause_handed report P (λ none is_large. longer (met.too_large is_large)) (λ none not_large.
+    elim (met.available blob (subst (λ (f : Fixed). IsBlob f blob) (sym made.fixed) is) (subst (λ (f : Fixed). chunk_count (length blob) ≤ f.capacity) (sym made.fixed) room)
+    (subst (λ (f : Fixed). HasTrue IsCut f.mode blob holders) (sym made.fixed) has)) [
+      | inl (inl memory) ↦ absurd (omega (arith, memory, none))
+      | inl (inr failed) ↦ absurd (omega (arith, failed, met.failed, never_failed c.run_one-report.new.holders))
+      | inr (inl large) ↦ longer large
+      | inr (inr filled) ↦
+          subst (λ (f : Fixed). HasPair (IsHanded IsCut holders) f blob) made.fixed
+          (unfinished_pair (IsHanded IsCut holders) c.in_ok-store.store c.run_one-report.new.store gains.chunks gains.parents blob
+          (subst (λ (f : Fixed). IsKeyed f.mode) (sym made.fixed) c.is_keyed.ensures) (subst (λ (f : Fixed). IsBlob f blob) (sym made.fixed) is) made.state gains.worked met.binds filled unfinished)
+    ]) in
+    elim handed [
+      | inl excused ↦ inl (subst (λ (fault : GatherFault). IsExcused fault) (sym c.cause.ensures) excused)
+      | inr pair ↦ inr (pair_wider (IsHanded IsCut holders) (IsCutOf texts) (handed_cut holders texts over) F blob pair)
+    ]

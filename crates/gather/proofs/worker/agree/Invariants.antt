@@ -1,10 +1,20 @@
 use Rattle.gather.specs.Claims.{Among}
 use Rattle.std.specs.List.{sum_by}
 use Rattle.gather.specs.Counts.{Reports}
-use Rattle.gather.specs.Holders.{IsHanded}
+use Rattle.gather.specs.Holders.{AreLater, IsHanded}
 use Rattle.gather.proofs.worker.agree.Given as goal
+use Rattle.std.specs.Prelude.{◌≡◌, ◌⊎◌, ℕ, ◌<◌, ◌≤◌, List, IfSome, IsSome, IsTrue, slice_get}
+use Rattle.gather.specs.Available.{HasTrue, IsServed}
+use Rattle.gather.specs.Counts.{HasFailed}
+use Rattle.gather.specs.Large.{IsTooLarge}
 
 abbrev pub invariant-loop-holder : goal.invariant-loop-holder
 invariant-loop-holder g l = g.S.Shelf.has l.shelf l.seat
     × Reports g.S.Shelf.fixed_of g.S.Shelf.gained l.fn.seat l.seat (IsHanded g.H.Holder.gives l.fn.holders) (IsHanded g.H.Holder.gives l.holders) (sum_by g.H.Holder.count l.fn.holders) (sum_by g.H.Holder.count l.holders) l.fn.report l.report
     × Among (g.S.Shelf.claims l.fn.seat) (g.S.Shelf.claims l.seat)
+    × AreLater g.H.Holder.gives l.fn.holders l.holders
+    × ((k : ℕ) → l.holder-index ≤ k → slice_get l.holders k ≡ slice_get l.fn.holders k)
+    × IfSome l.length (λ n. g.S.Shelf.records l.seat n)
+    × (IsTrue l.too_large → IsTooLarge (IsHanded g.H.Holder.gives l.fn.holders) (g.S.Shelf.fixed_of l.fn.seat))
+    × ((blob : List ℕ) → IsServed (g.S.Shelf.fixed_of l.fn.seat) blob → (has : HasTrue g.H.Holder.gives (g.S.Shelf.fixed_of l.fn.seat).mode blob l.fn.holders) → has.place < l.holder-index
+    → HasFailed l.report ⊎ IsTooLarge (IsHanded g.H.Holder.gives l.fn.holders) (g.S.Shelf.fixed_of l.fn.seat) ⊎ IsSome l.length)

@@ -5,6 +5,15 @@ use Rattle.gather.specs.Holders.{IsGiven}
 use Rattle.gather.proofs.Gaining.{among_and_onward, among_committed}
 use Rattle.gather.proofs.Reporting.{starved, beside, committed_some, fetch_none, fetch_some, it_gained, narrowed, none_gained, onward, piece_given, refused_done}
 use Rattle.store_core.specs.Pieces.{piece_of}
+use Rattle.std.proofs.Common.{◌≡◌, ◌/◌, ◌%◌, ◌==◌, false, true, ap, inl, inr, eqb-true}
+use Rattle.std.proofs.lemmas.Bool.{and_parts, both_ways, cases_Bool}
+use Rattle.bao_text.specs.Texts.{slice_text}
+use Rattle.gather.specs.Available.{slice_of}
+use Rattle.gather.proofs.Bits.{in_without}
+use Rattle.gather.proofs.Serving.{memory_failed, fetch_failed, is_of, rest_parts, slice_good, slice_is}
+use Rattle.store_core.specs.declared.history.Piece.{Piece}
+use Rattle.store_core.specs.Masks.{has_bit, in_mask}
+use Rattle.store_core.specs.Pieces.{holds_chunk}
 use Rattle.gather.proofs.worker.ask.Goals.{else-eq, then-eq}
 use Rattle.gather.proofs.worker.ask.Goals as goal
 
@@ -35,6 +44,49 @@ returns-in-Ok-commit-clause-reports g c =
     narrowed g.S.Shelf.fixed_of g.S.Shelf.gained g.S.Shelf.goes _ _ A _ _ _ _ _ (λ piece is. c.in-Some.ensures.no_more _ _ _ is)
     (onward g.S.Shelf.fixed_of g.S.Shelf.gained g.S.Shelf.goes _ _ _ A A A _ _ _ _ _ _ both (beside g.S.Shelf.fixed_of g.S.Shelf.gained g.S.Shelf.goes _ _ A _ _ _ _ given c.store_parents.ensures.reports))
 
+pub returns-in_default-clause-served : goal.returns-in_default-clause-served
+returns-in_default-clause-served g c = λ blob served slices asked. inl (fetch_failed _ _ _ _ c.in_default.ensures.fetch)
+
+pub returns-in-Ok-commit-clause-fewer : goal.returns-in-Ok-commit-clause-fewer
+returns-in-Ok-commit-clause-fewer g c = λ n hit. (rest_parts c.args.group c.args.left c.in-Ok-commit.committed _ n c.without.ensures hit).0
+
+pub returns-in-Ok-commit-clause-kept : goal.returns-in-Ok-commit-clause-kept
+returns-in-Ok-commit-clause-kept g c = λ n asked claimed.
+    let stored = c.store_parents.ensures.reports in
+    elim (cases_Bool (in_mask c.args.group c.in-Ok-commit.committed n)) [
+      | inl hit ↦
+          let gone : in_mask c.args.group c.without.result n ≡ false = elim (cases_Bool (in_mask c.args.group c.without.result n)) [
+            | inl rest ↦ absurd (both_ways _ (rest_parts c.args.group c.args.left c.in-Ok-commit.committed _ n c.without.ensures rest).1 hit)
+            | inr out ↦ out
+          ] in
+          inr (gone, g.S.Shelf.lasts.chunk _ _ _ stored.chunks stored.parents n stored.gains (c.in-Ok-commit.ensures.held n hit))
+      | inr miss ↦
+          inl (in_without c.args.group c.args.left c.in-Ok-commit.committed _ n c.without.ensures asked miss, c.store_parents.ensures.keeps n (c.in-Ok-commit.ensures.keeps n claimed miss))
+    ]
+
+pub returns-in-Ok-commit-clause-served : goal.returns-in-Ok-commit-clause-served
+returns-in-Ok-commit-clause-served g c = λ blob served slices asked.
+    let F = g.S.Shelf.fixed_of c.args.seat.now in
+    let start : 65536 * c.from-start.result ≡ 65536 * c.args.group = ap (λ (k : ℕ). 65536 * k) c.from-start.ensures in
+    let text : c.as_slice.result.now ≡ slice_text F.mode blob (65536 * c.from-start.result) 65536 = c.as_slice.ensures.value ∙ slices _ _ _ c.in-Some.ensures.gives in
+    let is : piece_of c.in-Ok.piece ≡ slice_of F.mode blob (65536 * c.args.group) 65536 =
+    slice_is F c.in-Ok.piece _ _ _ _ blob _ c.in-Ok.ensures.piece text ∙ ap (λ (k : ℕ). slice_of F.mode blob k 65536) start in
+    inr (λ n. elim (cases_Bool (in_mask c.args.group c.without.result n)) [
+      | inr out ↦ out
+      | inl rest ↦
+          let parts = rest_parts c.args.group c.args.left c.in-Ok-commit.committed _ n c.without.ensures rest in
+          let here : n / 64 ≡ c.args.group = eqb-true (n / 64) c.args.group (and_parts (n / 64 == c.args.group) (has_bit c.args.left (n % 64)) parts.0).0 in
+          let known = asked n parts.0 in
+          let has : holds_chunk (piece_of c.in-Ok.piece) n ≡ true = subst (λ (piece : Piece). holds_chunk piece n ≡ true) (sym is) (served.holds c.args.group n here known.1) in
+          absurd (both_ways _ parts.1 (c.in-Ok-commit.ensures.all n here known.0 has))
+    ])
+
+pub returns-clause-served : goal.returns-clause-served
+returns-clause-served g c = λ blob served slices asked.
+    let F = g.S.Shelf.fixed_of c.args.seat.now in
+    let text : c.as_slice.result.now ≡ slice_text F.mode blob (65536 * c.from-start.result) 65536 = c.as_slice.ensures.value ∙ slices _ _ _ c.in-Some.ensures.gives in
+    let no : false ≡ true = c.in-Err.ensures.accepted.1 (slice_good F c.fixed-fixed.result blob c.as_slice.result.now (65536 * c.from-start.result) 65536 served c.fixed-fixed.ensures text) in cc
+
 pub returns-in-Ok-clause-reports : goal.returns-in-Ok-clause-reports
 returns-in-Ok-clause-reports g c =
     let A = IsGiven g.H.Holder.gives c.args.holder.now in
@@ -45,6 +97,17 @@ returns-in-Ok-clause-reports g c =
     let Then : Report → Type 0 = λ y. Reports g.S.Shelf.fixed_of g.S.Shelf.gained c.args.seat.now c.commit.new.seat A (IsGiven g.H.Holder.gives c.fetched.new.holder)
     (g.H.Holder.count c.args.holder.now) (g.H.Holder.count c.fetched.new.holder) c.args.report.now y in
     elim c.if-eq.branch [
-      | then-eq w ↦ subst Then (sym (w.report-is ∙ w.count_memory.ensures)) (starved g.S.Shelf.fixed_of g.S.Shelf.gained g.S.Shelf.goes _ _ _ _ _ _ _ _ asked)
+      | then-eq w ↦ subst Then (sym (w.report-is ∙ w.count_memory.ensures)) (starved g.S.Shelf.fixed_of g.S.Shelf.gained g.S.Shelf.goes _ _ _ _ _ _ _ _ c.in-Some.ensures.fits asked)
       | else-eq w ↦ subst Then (sym w.report-is) asked
+    ]
+
+pub returns-in-Ok-clause-served : goal.returns-in-Ok-clause-served
+returns-in-Ok-clause-served g c = λ blob served slices asked.
+    let F = g.S.Shelf.fixed_of c.args.seat.now in
+    elim c.if-eq.branch [
+      | then-eq w ↦ inl (memory_failed _ _ (w.report-is ∙ w.count_memory.ensures))
+      | else-eq w ↦ elim c.in-Err-commit.ensures.refused [
+        | inl memory ↦ let no : false ≡ true = rw memory at w.if-eq.ensures in cc
+        | inr other ↦ absurd (other (is_of F c.fixed-fixed.result c.in-Ok.piece _ _ _ c.fixed-fixed.ensures c.in-Ok.ensures.piece))
+      ]
     ]

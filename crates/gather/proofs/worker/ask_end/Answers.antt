@@ -1,9 +1,13 @@
-use Rattle.std.proofs.Common.{ℕ, List, refl, sym, subst}
+use Rattle.std.proofs.Common.{◌∙◌, ◌≡◌, false, true, ap, inl, inr, ℕ, List, refl, sym, subst}
 use Rattle.bao_check.specs.declared.checked.Checked.{Checked}
 use Rattle.gather.specs.Holders.{IsGiven}
 use Rattle.gather.proofs.Gaining.{among_onward}
 use Rattle.gather.proofs.Reporting.{beside, fetch_large, fetch_none, fetch_some, it_gained, narrowed, none_gained, onward, piece_given, refused_done}
 use Rattle.store_core.specs.Pieces.{piece_of}
+use Rattle.store_core.specs.Stores.{IsOf}
+use Rattle.bao_text.specs.Texts.{slice_text}
+use Rattle.gather.specs.Available.{slice_of}
+use Rattle.gather.proofs.Serving.{fetch_failed, holds_last, is_of, never_large, slice_good, slice_is}
 use Rattle.gather.proofs.worker.ask_end.Goals as goal
 
 pub returns-in_default-tail-clause-reports : goal.returns-in_default-tail-clause-reports
@@ -37,5 +41,50 @@ returns-in-Ok g c =
       has = c.store_parents.ensures.has;
       reports = narrowed g.S.Shelf.fixed_of g.S.Shelf.gained g.S.Shelf.goes _ _ A _ _ _ _ _ (λ piece is. c.in-Some.ensures.no_more _ _ _ is)
           (onward g.S.Shelf.fixed_of g.S.Shelf.gained g.S.Shelf.goes _ _ _ A A A _ _ _ _ _ _ settled (beside g.S.Shelf.fixed_of g.S.Shelf.gained g.S.Shelf.goes _ _ A _ _ _ _ given c.store_parents.ensures.reports));
+      no_more = c.in-Some.ensures.no_more;
+      large = λ no. cc;
+      agreed = λ blob served slices.
+          let stored = c.store_parents.ensures.reports in
+          let F = g.S.Shelf.fixed_of c.args.seat.now in
+          let text : c.as_slice.result.now ≡ slice_text F.mode blob 18446744073709551615 1 = c.as_slice.ensures.value ∙ slices _ _ _ c.in-Some.ensures.gives in
+          let is : piece_of c.in-Ok.piece ≡ slice_of F.mode blob 18446744073709551615 1 = slice_is F c.in-Ok.piece _ _ _ _ blob _ c.in-Ok.ensures.piece text in
+          let tail_is = ap (λ (it : Checked). piece_of it) c.in-Some-tail.ensures.piece ∙ is in
+          let of : IsOf F c.in-Ok.piece = is_of F c.fixed-fixed.result c.in-Ok.piece _ _ _ c.fixed-fixed.ensures c.in-Ok.ensures.piece in
+          let known = c.settle.ensures.records (λ large. never_large F _ blob _ _ served tail_is (c.settle.ensures.large large))
+          (λ other. c.settle.ensures.other other (subst (λ (it : Checked). IsOf F it) (sym c.in-Some-tail.ensures.piece) of)) in
+          inr (known.0, g.S.Shelf.lasts.length _ _ _ stored.chunks stored.parents known.0 stored.gains known.1);
       claims = among_onward _ _ _ c.settle.ensures.still.1 c.store_parents.ensures.claims;
     }
+
+pub returns-in_default-tail-clause-agreed : goal.returns-in_default-tail-clause-agreed
+returns-in_default-tail-clause-agreed g c = λ blob served slices.
+    let F = g.S.Shelf.fixed_of c.args.seat.now in
+    let text : c.as_slice.result.now ≡ slice_text F.mode blob 18446744073709551615 1 = c.as_slice.ensures.value ∙ slices _ _ _ c.in-Some.ensures.gives in
+    let is : piece_of c.in-Ok.piece ≡ slice_of F.mode blob 18446744073709551615 1 = slice_is F c.in-Ok.piece _ _ _ _ blob _ c.in-Ok.ensures.piece text in
+    let no : false ≡ true = c.in_default-tail.ensures.there.1 (holds_last F c.in-Ok.piece blob served is) in
+    cc
+
+pub returns-in-TooLarge-clause-agreed : goal.returns-in-TooLarge-clause-agreed
+returns-in-TooLarge-clause-agreed g c = λ blob served slices.
+    let F = g.S.Shelf.fixed_of c.args.seat.now in
+    let text : c.as_slice.result.now ≡ slice_text F.mode blob 18446744073709551615 1 = c.as_slice.ensures.value ∙ slices _ _ _ c.in-Some.ensures.gives in
+    let is : piece_of c.in-Ok.piece ≡ slice_of F.mode blob 18446744073709551615 1 = slice_is F c.in-Ok.piece _ _ _ _ blob _ c.in-Ok.ensures.piece text in
+    let tail_is = ap (λ (it : Checked). piece_of it) c.in-Some-tail.ensures.piece ∙ is in
+    absurd (never_large F _ blob _ _ served tail_is (c.in-TooLarge.ensures.large refl))
+
+pub returns-in-TooLarge-clause-large : goal.returns-in-TooLarge-clause-large
+returns-in-TooLarge-clause-large g c = λ _.
+    let A = IsGiven g.H.Holder.gives c.args.holder.now in
+    let given : A (piece_of c.in-Ok.piece) = piece_given g.H.Holder.gives c.args.holder.now c.in-Ok.piece _ _ _ _ _ c.in-Ok.ensures.piece
+    (subst (λ (xs : List ℕ). g.H.Holder.gives c.args.holder.now 18446744073709551615 1 xs) (sym c.as_slice.ensures.value) c.in-Some.ensures.gives) in
+    record { piece = _; from = subst (λ (it : Checked). A (piece_of it)) (sym c.in-Some-tail.ensures.piece) given; large = c.in-TooLarge.ensures.large refl }
+
+pub returns-clause-agreed : goal.returns-clause-agreed
+returns-clause-agreed g c = λ blob served slices.
+    let F = g.S.Shelf.fixed_of c.args.seat.now in
+    let text : c.as_slice.result.now ≡ slice_text F.mode blob 18446744073709551615 1 = c.as_slice.ensures.value ∙ slices _ _ _ c.in-Some.ensures.gives in
+    let no : false ≡ true = c.in-Err.ensures.accepted.1 (slice_good F c.fixed-fixed.result blob c.as_slice.result.now 18446744073709551615 1 served c.fixed-fixed.ensures text) in
+    cc
+
+pub returns-in_default-clause-agreed : goal.returns-in_default-clause-agreed
+returns-in_default-clause-agreed g c = λ blob served slices. inl (fetch_failed _ _ _ _ c.in_default.ensures.fetch)

@@ -1,5 +1,11 @@
 use Rattle.gather.proofs.Gaining.{among_onward}
-use Rattle.gather.proofs.Reporting.{onward}
+use Rattle.gather.proofs.Reporting.{later_then, onward}
+use Rattle.std.proofs.Common.{IsSome, Option, false, true, ap, ◌∙◌, ◌+◌, ◌*◌, ◌%◌, ◌≡◌, ◌<◌, ◌/◌, ◌==◌, ℕ, length, sym, subst, arith, inl, inr, eqb-true, eq-eqb}
+use Rattle.std.proofs.lemmas.Bool.{both_ways, cases_Bool, cases_lt}
+use Rattle.bao_text.specs.Choice.{chunk_count}
+use Rattle.gather.specs.Available.{HasTrue, IsServed}
+use Rattle.gather.proofs.Serving.{begins_within, fails_on, later_true, round_meets, wanted_below, wanted_there}
+use Rattle.store_core.specs.declared.fixed.Fixed.{Fixed}
 use Rattle.gather.proofs.worker.work.Goals as goal
 
 pub loop-step-preserved : goal.loop-step-preserved
@@ -7,4 +13,66 @@ loop-step-preserved g c = (
   c.work_group.ensures.has,
   onward g.S.Shelf.fixed_of g.S.Shelf.gained g.S.Shelf.goes _ _ _ _ _ _ _ _ _ _ _ _ c.loop-step.invariant.1 c.work_group.ensures.reports,
   among_onward _ _ _ c.loop-step.invariant.2 c.work_group.ensures.claims,
+  later_then g.H.Holder.gives _ _ _ c.loop-step.invariant.3 c.work_group.ensures.later,
+  λ blob served has long.
+      let x = c.loop-step in
+      let met = c.work_group.ensures in
+      let F = g.S.Shelf.fixed_of c.args.seat.now in
+      let same : g.S.Shelf.fixed_of x.seat ≡ F = g.S.Shelf.goes.keeps _ _ _ _ _ x.invariant.1.gains in
+      let chunks : c.max-chunks.result ≡ chunk_count (length blob) = omega (arith, c.div_ceil.ensures, c.max-chunks.ensures, long) in
+      let has_now : HasTrue g.H.Holder.gives (g.S.Shelf.fixed_of x.seat).mode blob x.holders =
+      subst (λ (f : Fixed). HasTrue g.H.Holder.gives f.mode blob x.holders) (sym same) (later_true g.H.Holder.gives F.mode blob _ _ x.invariant.3 has) in
+      elim (met.served blob (subst (λ (f : Fixed). IsServed f blob) (sym same) served) has_now
+      (λ n wanted. omega (arith, chunks, wanted_below c.max-chunks.result _ c.wanted.result c.wanted.ensures n wanted))) [
+        | inl failed ↦ inl failed
+        | inr here ↦ elim (x.invariant.4 blob served has long) [
+          | inl failed ↦ inl (fails_on x.report c.work_group.new.report met.reports.no_less failed)
+          | inr before ↦ inr (λ k n early at below. elim (cases_lt k x.step) [
+            | inl sooner ↦ elim (before k n sooner at below) [
+              | inl held ↦ inl (g.S.Shelf.lasts.chunk _ _ _ met.reports.chunks met.reports.parents n met.reports.gains held)
+              | inr busy ↦ inr busy
+            ]
+            | inr not_sooner ↦
+                let now : k ≡ x.step = omega (arith, early, not_sooner) in
+                elim (here n (wanted_there c.max-chunks.result _ c.wanted.result c.wanted.ensures n (at ∙ ap (λ (j : ℕ). (c.from.result * c.min-groups.result / c.from-2.result + j) % c.min-groups.result) now) (omega (arith, chunks, below)))) [
+                  | inl held ↦ inl held
+                  | inr busy ↦ elim (g.S.Shelf.lasts.frees _ _ _ x.invariant.1.chunks x.invariant.1.parents n x.invariant.1.gains x.invariant.2 busy) [
+                    | inl was ↦ inr was
+                    | inr held ↦ inl (g.S.Shelf.lasts.chunk _ _ _ met.reports.chunks met.reports.parents n met.reports.gains held)
+                  ]
+                ]
+          ])
+        ]
+      ],
+  g.S.Shelf.lasts.length _ _ _ c.work_group.ensures.reports.chunks c.work_group.ensures.reports.parents c.in-Some.length c.work_group.ensures.reports.gains c.loop-step.invariant.5,
 )
+
+pub returns-in_default-clause-served : goal.returns-in_default-clause-served
+returns-in_default-clause-served g c = λ blob served has. elim (c.agree.ensures.agreed blob served has) [
+  | inl failed ↦ inl failed
+  | inr (inl large) ↦ inr (inl large)
+  | inr (inr some) ↦ let no : false ≡ true = subst (λ (o : Option ℕ). IsSome o) c.in_default.is some in cc
+]
+
+pub returns-clause-served : goal.returns-clause-served
+returns-clause-served g c = λ blob served has.
+    let x = c.loop-step in
+    let recorded = x.invariant.5 in
+    elim (cases_Bool (c.in-Some.length == length blob)) [
+      | inr other ↦
+          inr (inr (record { recorded = c.in-Some.length; is = recorded; chunks = λ long. absurd (both_ways _ other (eq-eqb c.in-Some.length (length blob) long)) }))
+      | inl same ↦
+          let long : c.in-Some.length ≡ length blob = eqb-true c.in-Some.length (length blob) same in
+          elim (x.invariant.4 blob served has long) [
+            | inl failed ↦ inl failed
+            | inr visited ↦
+                inr (inr (record {
+                  recorded = c.in-Some.length;
+                  is = recorded;
+                  chunks = λ _ n below.
+                      let group : n / 64 < c.min-groups.result = omega (arith, below, served.few, long, c.div_ceil.ensures, c.max-chunks.ensures, c.div_ceil-2.ensures, c.min-groups.ensures) in
+                      let met = round_meets _ c.min-groups.result (n / 64) (subst (λ (n : ℕ). n * c.min-groups.result / c.from-2.result < c.min-groups.result) (sym c.from.ensures) (subst (λ (w : ℕ). c.args.place.number * c.min-groups.result / w < c.min-groups.result) (sym c.from-2.ensures) (begins_within c.args.place.number c.args.place.workers c.min-groups.result c.requires.place (omega (arith, group))))) group in
+                      visited met.0 n (omega (arith, met.1, c.loop-step-test.false)) met.2 below;
+                }))
+          ]
+    ]

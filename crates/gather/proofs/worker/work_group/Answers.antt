@@ -1,21 +1,61 @@
-use Rattle.std.proofs.Common.{ℕ, ◌≡◌, sym, subst, ◌∙◌, arith}
+use Rattle.std.proofs.Common.{false, true, refl, ◌<◌, get_or, length, inl, inr, ℕ, ◌≡◌, sym, subst, ◌∙◌, arith}
 use Rattle.std.specs.List.{sum_by}
 use Rattle.std.proofs.lemmas.List.{set-get_or}
 use Rattle.gather.specs.Counts.{Reports}
 use Rattle.gather.specs.Holders.{IsHanded}
 use Rattle.gather.specs.Claims.{AmongAnd}
 use Rattle.gather.proofs.Gaining.{among_and_none}
-use Rattle.gather.proofs.Reporting.{among_holders, onward, onward_none}
+use Rattle.gather.proofs.Bits.{in_mask_zero}
+use Rattle.gather.proofs.Reporting.{counted_none, still_gained, later_none, among_holders, later_one, later_then, onward, onward_none}
 use Rattle.gather.proofs.worker.work_group.Goals.{else-loop-holder-test, then-loop-holder-test+then-left-eq0}
+use Rattle.std.proofs.lemmas.Option.{slice_get_within}
+use Rattle.std.proofs.lemmas.Bool.{both_ways, cases_Bool, cases_lt}
+use Rattle.gather.specs.Available.{GivesSlices, IsServed}
+use Rattle.gather.proofs.Serving.{fails_on, get_set_after, true_here}
+use Rattle.store_core.specs.declared.fixed.Fixed.{Fixed}
+use Rattle.store_core.specs.Masks.{in_mask}
 use Rattle.gather.proofs.worker.work_group.Goals as goal
 
 pub loop-holder-preserved : goal.loop-holder-preserved
 loop-holder-preserved g c =
-    let one = among_holders g.S.Shelf.fixed_of g.S.Shelf.gained g.S.Shelf.goes g.H.Holder.gives g.H.Holder.count _ _ c.loop-holder.holders c.loop-holder.holder-index c.holder-item.result _ _ _
-    (omega (arith, c.loop-holder-test.true)) c.ask-left.ensures.reports in (
-      c.ask-left.ensures.has,
-      onward g.S.Shelf.fixed_of g.S.Shelf.gained g.S.Shelf.goes _ _ _ _ _ _ _ _ _ _ _ _ c.loop-holder.invariant.1 one,
-      c.ask-left.ensures.claims _ c.loop-holder.invariant.2,
+    let x = c.loop-holder in
+    let met = c.ask-left.ensures in
+    let group = c.args.group in
+    let F = g.S.Shelf.fixed_of c.args.seat.now in
+    let here : x.holder-index < length x.holders = omega (arith, c.loop-holder-test.true) in
+    let one = among_holders g.S.Shelf.fixed_of g.S.Shelf.gained g.S.Shelf.goes g.H.Holder.gives g.H.Holder.count _ _ x.holders x.holder-index c.holder-item.result _ _ _ here met.reports in
+    let same : g.S.Shelf.fixed_of x.seat ≡ F = g.S.Shelf.goes.keeps _ _ _ _ _ x.invariant.1.gains in (
+      met.has,
+      onward g.S.Shelf.fixed_of g.S.Shelf.gained g.S.Shelf.goes _ _ _ _ _ _ _ _ _ _ _ _ x.invariant.1 one,
+      met.claims _ x.invariant.2,
+      later_then g.H.Holder.gives _ _ _ x.invariant.3 (later_one g.H.Holder.gives x.holders x.holder-index c.holder-item.result _ met.no_more),
+      λ k after. get_set_after x.holders x.holder-index k _ (omega (arith, after)) ∙ x.invariant.4 k (omega (arith, after)),
+      λ n is. x.invariant.5 n (met.fewer n is),
+      λ n is. elim (x.invariant.6 n is) [
+        | inl left ↦ met.kept n left.0 left.1
+        | inr held ↦
+            let gone : in_mask group c.ask-left.result n ≡ false = elim (cases_Bool (in_mask group c.ask-left.result n)) [
+              | inl is ↦ absurd (both_ways _ held.0 (met.fewer n is))
+              | inr out ↦ out
+            ] in
+            inr (gone, g.S.Shelf.lasts.chunk _ _ _ met.reports.chunks met.reports.parents n met.reports.gains held.1)
+      ],
+      λ blob served has before bound. elim (cases_lt has.place x.holder-index) [
+        | inl sooner ↦ elim (x.invariant.7 blob served has sooner bound) [
+          | inl failed ↦ inl (fails_on x.report c.ask-left.new.report met.reports.no_less failed)
+          | inr none ↦ inr (λ n. elim (cases_Bool (in_mask group c.ask-left.result n)) [ inl is ↦ absurd (both_ways _ (none n) (met.fewer n is)) | inr out ↦ out ])
+        ]
+        | inr not_sooner ↦
+            let at : has.place ≡ x.holder-index = omega (arith, before, not_sooner) in
+            let slices : GivesSlices g.H.Holder.gives F.mode blob (get_or x.holders x.holder-index c.holder-item.result) =
+            subst (λ (k : ℕ). GivesSlices g.H.Holder.gives F.mode blob (get_or x.holders k c.holder-item.result)) at
+            (true_here g.H.Holder.gives F.mode blob c.args.holders.now x.holders c.holder-item.result has (x.invariant.4 has.place (omega (arith, at)))) in
+            met.served blob (subst (λ (f : Fixed). IsServed f blob) (sym same) served)
+            (subst (λ (f : Fixed). GivesSlices g.H.Holder.gives f.mode blob (get_or x.holders x.holder-index c.holder-item.result)) (sym same) slices) (λ n asked. (
+              elim (x.invariant.6 n (x.invariant.5 n asked)) [ inl left ↦ left.1 | inr held ↦ absurd (both_ways _ held.0 asked) ],
+              bound n (x.invariant.5 n asked),
+            ))
+      ],
     )
 
 pub returns-clause-reports : goal.returns-clause-reports
@@ -32,3 +72,50 @@ pub returns-then-left-eq0-2-clause-claims : goal.returns-then-left-eq0-2-clause-
 returns-then-left-eq0-2-clause-claims g c =
     let none_left = subst (λ (left : ℕ). AmongAnd (g.S.Shelf.claims c.args.seat.now) c.args.group left (g.S.Shelf.claims c.loop-holder.seat)) c.if-left-eq0-2.true c.loop-holder.invariant.2 in
     among_and_none _ _ c.args.group none_left
+
+pub returns-then-left-eq0-2-clause-served : goal.returns-then-left-eq0-2-clause-served
+returns-then-left-eq0-2-clause-served g c = λ blob served has wanted.
+    let x = c.loop-holder in
+    let group = c.args.group in
+    inr (λ n asked. elim (c.in-Ok.ensures.rest n asked (omega (arith, wanted n asked, served.room))) [
+      | inr (inl held) ↦ inl (g.S.Shelf.lasts.chunk _ _ _ x.invariant.1.chunks x.invariant.1.parents n x.invariant.1.gains held)
+      | inr (inr busy) ↦ inr busy
+      | inl granted ↦ elim (x.invariant.6 n granted) [
+        | inl left ↦ let in_none : in_mask group 0 n ≡ true = subst (λ (mask : ℕ). in_mask group mask n ≡ true) c.if-left-eq0-2.true left.0 in absurd (both_ways _ (in_mask_zero group n) in_none)
+        | inr held ↦ inl held.1
+      ]
+    ])
+
+pub returns-clause-served : goal.returns-clause-served
+returns-clause-served g c = λ blob served has wanted.
+    let x = c.loop-holder in
+    let group = c.args.group in
+    let still = c.give.ensures.gained in
+    let on : (n : ℕ) → g.S.Shelf.holds x.seat n → g.S.Shelf.holds c.give.new.seat n = λ n held. g.S.Shelf.lasts.chunk _ _ _ _ _ n still held in
+    let over : has.place < x.holder-index = elim c.loop-holder-test.branch [
+      | else-loop-holder-test w ↦ omega (arith, slice_get_within c.args.holders.now has.place has.holder has.there, x.invariant.3.len, w.loop-holder-test.false)
+      | then-loop-holder-test+then-left-eq0 w ↦ absurd (c.if-left-eq0-2.false w.if-left-eq0.true)
+    ] in
+    elim (x.invariant.7 blob served has over (λ n granted. wanted n (c.in-Ok.ensures.granted n granted).0)) [
+      | inl failed ↦ inl failed
+      | inr none ↦ inr (λ n asked. elim (c.in-Ok.ensures.rest n asked (omega (arith, wanted n asked, served.room))) [
+        | inr (inl held) ↦ inl (on n (g.S.Shelf.lasts.chunk _ _ _ x.invariant.1.chunks x.invariant.1.parents n x.invariant.1.gains held))
+        | inr (inr busy) ↦ inr busy
+        | inl granted ↦ elim (x.invariant.6 n granted) [
+          | inl left ↦ absurd (both_ways _ (none n) left.0)
+          | inr held ↦ inl (on n held.1)
+        ]
+      ])
+    ]
+
+pub loop-holder-init : goal.loop-holder-init
+loop-holder-init g c = (
+  c.in-Ok.ensures.has,
+  counted_none g.S.Shelf.fixed_of g.S.Shelf.gained g.S.Shelf.goes _ _ _ _ _ (still_gained g.S.Shelf.fixed_of g.S.Shelf.gained g.S.Shelf.goes _ _ _ c.in-Ok.ensures.gained) c.fits.ensures,
+  c.in-Ok.ensures.claims,
+  later_none g.H.Holder.gives _,
+  λ k _. refl,
+  λ n is. is,
+  λ n is. inl (is, (c.in-Ok.ensures.granted n is).1),
+  λ blob served has before bound. absurd (omega (arith, before)),
+)

@@ -1,4 +1,5 @@
 use Rattle.gather.proofs.Alone.{parents_claims, parents_gain}
+use Rattle.gather.proofs.Knowing.{parents_keep}
 use Rattle.gather.proofs.one.AloneShelf.commit_parents.Goals as goal
 
 pub returns-clause-gained : goal.returns-clause-gained
@@ -8,3 +9,7 @@ returns-clause-gained c =
 pub returns-clause-claims : goal.returns-clause-claims
 returns-clause-claims c =
     parents_claims c.args.store.now c.commit_parents.new.self c.args.group c.args.piece.now c.commit_parents.result c.commit_parents.ensures.ok c.commit_parents.ensures.refused
+
+pub returns-clause-keeps : goal.returns-clause-keeps
+returns-clause-keeps c =
+    parents_keep c.args.store.now c.commit_parents.new.self c.args.group c.args.piece.now c.commit_parents.result c.commit_parents.ensures.ok c.commit_parents.ensures.refused

@@ -1,0 +1,100 @@
+-- What a call of a shared store leaves its seat to know.
+use Rattle.std.proofs.Common.{◌≡◌, ◌≢◌, ℕ, ◌/◌, ◌%◌, ◌==◌, true, ◌&&◌, List, [], ◌∷◌, ◌++◌, Option, None, Some, IfOk, IfSome, MatchResult, Ok, Err, Result, is_ok, refl, sym, ap, subst, ◌∙◌, inl, inr, eqb-true, eq-eqb}
+use Rattle.std.proofs.lemmas.Bool.{and_from, and_parts, cases_Bool}
+use Rattle.bao_check.specs.declared.checked.Checked.{Checked}
+use Rattle.crews.specs.Lasting.{Records}
+use Rattle.crews.specs.Seats.{claims_of}
+use Rattle.crews.proofs.Finishing.{length_there}
+use Rattle.crews.proofs.Sharing.{claimed_there}
+use Rattle.gather.specs.Available.{IsWanted}
+use Rattle.store_core.specs.declared.fault.StoreFault.{StoreFault}
+use Rattle.store_core.specs.declared.fixed.Fixed.{Fixed}
+use Rattle.store_core.specs.declared.history.Call.TheVariants.{Commit, Length, Settle, Take}
+use Rattle.store_core.specs.declared.history.Event.{Event}
+use Rattle.store_core.specs.declared.history.Piece.{Piece}
+use Rattle.store_core.specs.declared.history.Settling.{Settling}
+use Rattle.store_core.specs.declared.history.Settling.TheVariants.{Differs, Known, OtherRoot, Settled, TooLarge}
+use Rattle.store_core.specs.Events.{is_free, recorded_after, settling}
+use Rattle.store_core.specs.Histories.{IsLegal, state_after}
+use Rattle.store_core.specs.Masks.{has_bit, in_mask}
+use Rattle.store_core.specs.Pieces.{holds_chunk, length_of, piece_of}
+use Rattle.store_core.specs.States.{State, empty}
+use Rattle.store_core.proofs.Lasting.{legal-append, record_lasts, run-append}
+use Rattle.store_shared.specs.declared.fault.NoGroup.{NoGroup}
+use Rattle.store_shared.specs.declared.fault.OtherRoot.{OtherRoot as OtherRootFault}
+use Rattle.store_shared.specs.Calls.{Settles}
+use Rattle.store_shared.proofs.Asking.{right_there}
+use Rattle.store_steps.specs.Grips.{Gripped}
+use Rattle.store_steps.specs.Tells.{Called, event_of}
+
+granted_there : (old new : Gripped) (group want granted : ℕ) → Called (Take group want granted) old.view new.view → (c : ℕ) → in_mask group granted c ≡ true
+    → IsWanted group want c × (claims_of new c ≡ true)
+granted_there old new group want granted called c hit =
+    let right = right_there (Take group want granted) old.view new.view called in
+    let parts = and_parts (c / 64 == group) (has_bit granted (c % 64)) hit in
+    let here : c / 64 ≡ group = eqb-true (c / 64) group parts.0 in
+    let both : (has_bit want (c % 64) && is_free new.view.fixed (state_after (old.view.seen ++ called.between)) c) ≡ true = sym (right.bits c here) ∙ parts.1 in
+    let wanted : IsWanted group want c = (here, (and_parts _ _ both).0) in
+    (wanted, called.claims_are c ∙ rw hit refl)
+
+pub take_granted : (old new : Gripped) (group want : ℕ) (result : Result ℕ NoGroup) (answer : Result ℕ StoreFault) (Q : NoGroup → Type 0)
+    → MatchResult result (λ granted. answer ≡ Ok granted) Q → is_ok answer ≡ is_ok result → IfOk result (λ granted. Called (Take group want granted) old.view new.view)
+    → IfOk answer (λ granted. (c : ℕ) → in_mask group granted c ≡ true → IsWanted group want c × (claims_of new c ≡ true))
+take_granted old new group want (Ok granted) answer Q cases variant called =
+    subst (λ (r : Result ℕ StoreFault). IfOk r (λ mask. (c : ℕ) → in_mask group mask c ≡ true → IsWanted group want c × (claims_of new c ≡ true))) (sym cases)
+    (granted_there old new group want granted called)
+take_granted old new group want (Err fault) (Ok granted) Q cases variant called = cc
+take_granted old new group want (Err fault) (Err other) Q cases variant called = tt
+
+pub commit_all : (old new : Gripped) (group : ℕ) (piece : Piece) (result : Result ℕ OtherRootFault) (answer : Result ℕ StoreFault) (Q : OtherRootFault → Type 0)
+    → MatchResult result (λ committed. answer ≡ Ok committed) Q → is_ok answer ≡ is_ok result
+    → IfOk result (λ committed. Called (Commit group piece committed) old.view new.view)
+    → IfOk answer (λ committed. (c : ℕ) → c / 64 ≡ group → claims_of old c ≡ true → holds_chunk piece c ≡ true → in_mask group committed c ≡ true)
+commit_all old new group piece (Ok committed) answer Q cases variant called =
+    subst (λ (r : Result ℕ StoreFault). IfOk r (λ mask. (c : ℕ) → c / 64 ≡ group → claims_of old c ≡ true → holds_chunk piece c ≡ true → in_mask group mask c ≡ true)) (sym cases)
+    (λ c here claimed has.
+    and_from (c / 64 == group) (has_bit committed (c % 64)) (eq-eqb (c / 64) group here)
+    ((right_there (Commit group piece committed) old.view new.view called).1.bits c here
+    ∙ and_from _ _ (claimed_there (Commit group piece committed) old new called c claimed) has))
+commit_all old new group piece (Err fault) (Ok committed) Q cases variant called = cc
+commit_all old new group piece (Err fault) (Err other) Q cases variant called = tt
+
+-- what is recorded after all that was seen is so after whatever follows
+recorded_on : (seat : Gripped) (l : ℕ) → (state_after seat.view.seen).recorded ≡ Some l → Records seat l
+recorded_on seat l is more legal = record_lasts seat.view.fixed seat.view.seen more l legal is
+
+pub length_records : (old new : Gripped) (result : Option ℕ) → Called (Length result) old.view new.view → IfSome result (λ l. Records new l)
+length_records old new None called = tt
+length_records old new (Some l) called = recorded_on new l (length_there old.view new.view (Some l) called)
+
+pub length_known : (old new : Gripped) (result : Option ℕ) → Called (Length result) old.view new.view → (l : ℕ) → Records old l → result ≡ Some l
+length_known old new result called l is =
+    let legal = (legal-append new.view.fixed empty (old.view.seen ++ called.between) (event_of old.view (Length result) ∷ [])
+    (subst (λ (h : List Event). IsLegal new.view.fixed h) called.goes_on.seen_is called.goes_on.legal)).0 in
+    right_there (Length result) old.view new.view called
+    ∙ is called.between (subst (λ (fixed : Fixed). IsLegal fixed (old.view.seen ++ called.between)) called.goes_on.fixed_is legal)
+
+-- a length that was settled, or met, is recorded then
+recorded_then : (o : Option ℕ) (l : ℕ) (answer : Settling) → answer ≡ settling o l → (k : ℕ) × (recorded_after answer l o ≡ Some k)
+recorded_then None l answer is = (l, subst (λ (a : Settling). recorded_after a l None ≡ Some l) (sym is) refl)
+recorded_then (Some k) l answer is = elim (cases_Bool (k == l)) [
+  | inl same ↦ let known : answer ≡ Known = rw same at is in (k, subst (λ (a : Settling). recorded_after a l (Some k) ≡ Some k) (sym known) refl)
+  | inr other ↦ let differs : answer ≡ Differs = rw other at is in (k, subst (λ (a : Settling). recorded_after a l (Some k) ≡ Some k) (sym differs) refl)
+]
+
+settled_there : (old new : Gripped) (piece : Piece) (answer : Settling) → Called (Settle piece answer) old.view new.view → (l : ℕ) × Records new l
+settled_there old new piece answer called =
+    let before : State = state_after (old.view.seen ++ called.between) in
+    let met = recorded_then before.recorded (length_of piece) answer (right_there (Settle piece answer) old.view new.view called).3 in
+    let then : (state_after new.view.seen).recorded ≡ recorded_after answer (length_of piece) before.recorded =
+    ap (λ (h : List Event). (state_after h).recorded) called.goes_on.seen_is
+    ∙ ap (λ (s : State). s.recorded) (run-append empty (old.view.seen ++ called.between) (event_of old.view (Settle piece answer) ∷ [])) in
+    (met.0, recorded_on new met.0 (then ∙ met.1))
+
+pub settle_records : (fixed : Fixed) (old new : Gripped) (piece : Checked) (answer : Settling) → Settles fixed old new piece answer → answer ≢ TooLarge → answer ≢ OtherRoot
+    → (l : ℕ) × Records new l
+settle_records fixed old new piece Settled settles small same = settled_there old new (piece_of piece) Settled settles.1
+settle_records fixed old new piece Known settles small same = settled_there old new (piece_of piece) Known settles.1
+settle_records fixed old new piece Differs settles small same = settled_there old new (piece_of piece) Differs settles.1
+settle_records fixed old new piece OtherRoot settles small same = absurd (same refl)
+settle_records fixed old new piece TooLarge settles small same = absurd (small refl)

@@ -1,0 +1,54 @@
+-- The slices of a blob with the root, for which the store has room.
+use Rattle.std.proofs.Common.{◌≡◌, ℕ, ◌+◌, ◌-◌, ◌*◌, ◌/◌, ◌^◌, ◌<◌, ◌≤◌, List, length, true, IsSome, Option, None, Some, refl, sym, subst, arith}
+use Rattle.std.specs.Option.{option_map}
+use Rattle.b3tree.specs.Valid.{IsKeyed}
+use Rattle.bao_check.specs.Accepted.{IsAccepted, places_of, slice_nodes}
+use Rattle.bao_check.specs.Spans.{chunk_place}
+use Rattle.bao_check.proofs.Locating.{chunk_in-place}
+use Rattle.bao_check.proofs.Presence.{slice_present}
+use Rattle.bao_check.proofs.Written.{claimed-chosen_text, slice_accepted}
+use Rattle.bao_text.specs.Choice.{chunk_count, of_slice, slice_end, slice_start}
+use Rattle.bao_text.specs.Nodes.{nodes}
+use Rattle.bao_text.specs.Texts.{slice_text}
+use Rattle.gather.specs.Available.{IsServed, slice_of}
+use Rattle.store_core.specs.declared.fixed.Fixed.{Fixed}
+use Rattle.store_core.specs.Laws.{IsBlob}
+use Rattle.store_core.specs.Pieces.{EndsBlob, holds_chunk, length_of}
+
+some_mapped : {X Y : Type 0} (f : X → Y) (o : Option X) → IsSome o → IsSome (option_map f o)
+some_mapped f None is = is
+some_mapped f (Some x) is = refl
+
+module _ (fixed : Fixed) (blob : List ℕ) (short : length blob < 2 ^ 64) where
+  long : (start len : ℕ) → length_of (slice_of fixed.mode blob start len) ≡ length blob
+  long start len = claimed-chosen_text (of_slice (length blob) start len) fixed.mode blob short
+
+  present : (start len c : ℕ) → slice_start (length blob) start / 1024 ≤ c → c < (slice_end (length blob) start len + 1023) / 1024
+      → holds_chunk (slice_of fixed.mode blob start len) c ≡ true
+  present start len c first last =
+      let text = slice_text fixed.mode blob start len in
+      let there = (slice_present (length blob) start len 8 c).1 (first, last) in
+      let placed = subst (λ (total : ℕ). IsSome (chunk_place (places_of (nodes total start len)) c)) (sym (long start len)) there in
+      subst (λ (o : Option (List ℕ)). IsSome o) (sym (chunk_in-place text (places_of (slice_nodes text start len)) c)) (some_mapped _ _ placed)
+
+  last_there : EndsBlob (slice_of fixed.mode blob (2 ^ 64 - 1) 1)
+  last_there =
+      let n = length blob in
+      subst (λ (total : ℕ). holds_chunk (slice_of fixed.mode blob (2 ^ 64 - 1) 1) (chunk_count total - 1) ≡ true) (sym (long (2 ^ 64 - 1) 1))
+      (present (2 ^ 64 - 1) 1 (chunk_count n - 1) (omega (arith, short)) (omega (arith, short)))
+
+pub served : (fixed : Fixed) (blob : List ℕ) → IsKeyed fixed.mode → IsBlob fixed blob → chunk_count (length blob) ≤ fixed.capacity → fixed.capacity ≤ 65536
+    → IsServed fixed blob
+served fixed blob keyed is room limit =
+    let short : length blob < 2 ^ 64 = omega (arith, room, limit) in
+    record {
+      fits = omega (arith, room);
+      room = room;
+      few = omega (arith, room, limit);
+      accepted = λ start len.
+          subst (λ (root : List ℕ). IsAccepted fixed.mode root (slice_text fixed.mode blob start len) (slice_nodes (slice_text fixed.mode blob start len) start len)) is.root
+          (slice_accepted fixed.mode blob start len keyed short);
+      claims = long fixed blob short;
+      ends = last_there fixed blob short;
+      holds = λ group c here below. present fixed blob short (65536 * group) 65536 c (omega (arith, here)) (omega (arith, here, below));
+    }

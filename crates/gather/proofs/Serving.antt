@@ -1,0 +1,138 @@
+-- What a worker does with the slices of a blob that a holder gives.
+use Rattle.std.proofs.Common.{◌≡◌, ◌⊎◌, ℕ, ◌+◌, ◌-◌, ◌*◌, ◌/◌, ◌%◌, ◌^◌, ◌<◌, ◌≤◌, ◌==◌, ◌&&◌, not, Bool, true, false, List, [], ◌∷◌, zero, suc, get_or, set, slice_get, IfSome, IsSome, Option, None, Some, length, refl, sym, ap, subst, ◌∙◌, arith, inl, inr, ltb-true, mul_comm, nat_lt}
+use Rattle.std.proofs.lemmas.Option.{get_or_from_slice_get}
+use Rattle.std.proofs.lemmas.Bool.{and_parts, cases_lt, lt-ltb}
+use Rattle.std.proofs.Math.Nat.{add-mod_right, div-lt_iff_lt-mul, mod-eq_of_lt, mul-lt-mul_of_pos_right}
+use Rattle.gather.specs.Holders.{AreLater}
+use Rattle.b3tree.specs.declared.mode.Mode.{Mode}
+use Rattle.bao_check.specs.Accepted.{IsAccepted, slice_nodes}
+use Rattle.bao_check.specs.Checked.{HoldsLast, IsPiece}
+use Rattle.bao_check.specs.declared.checked.Checked.{Checked}
+use Rattle.bao_text.specs.Texts.{slice_text}
+use Rattle.gather.specs.Available.{GivesSlices, HasTrue, IsServed, IsWanted, slice_of}
+use Rattle.gather.specs.Counts.{HasFailed, asked_once, failed_once, memory_once}
+use Rattle.gather.specs.declared.report.Report.{Report}
+use Rattle.gather.specs.Large.{EndsTooFar}
+use Rattle.store_core.specs.declared.fixed.Fixed.{Fixed}
+use Rattle.store_core.specs.declared.history.Piece.{Piece}
+use Rattle.store_core.specs.Masks.{has_bit, in_mask}
+use Rattle.store_core.specs.Pieces.{EndsBlob, length_of, piece_of}
+use Rattle.store_core.specs.Stores.{IsOf}
+
+-- a slice is accepted under the store's root and in its mode
+pub slice_good : (fixed known : Fixed) (blob text : List ℕ) (start len : ℕ) → IsServed fixed blob → known ≡ fixed → text ≡ slice_text fixed.mode blob start len
+    → IsAccepted known.mode known.root.0 text (slice_nodes text start len)
+slice_good fixed known blob text start len served same is =
+    subst (λ (f : Fixed). IsAccepted f.mode f.root.0 text (slice_nodes text start len)) (sym same)
+    (subst (λ (xs : List ℕ). IsAccepted fixed.mode fixed.root.0 xs (slice_nodes xs start len)) (sym is) (served.accepted start len))
+
+-- the piece that it is
+pub piece_is : (it : Checked) (mode : Mode) (root : List ℕ) (start len : ℕ) (text : List ℕ) → IsPiece it mode root start len text
+    → piece_of it ≡ record { start = start; len = len; text = text }
+piece_is it mode root start len text is = λ i. record { start = is.start_is i; len = is.len_is i; text = is.text_is i }
+
+pub slice_is : (fixed : Fixed) (it : Checked) (mode : Mode) (root : List ℕ) (start len : ℕ) (blob text : List ℕ) → IsPiece it mode root start len text
+    → text ≡ slice_text fixed.mode blob start len → piece_of it ≡ slice_of fixed.mode blob start len
+slice_is fixed it mode root start len blob text is same = piece_is it mode root start len text is ∙ ap (λ (xs : List ℕ). record { start = start; len = len; text = xs }) same
+
+-- it is of the store's root and mode
+pub is_of : (fixed known : Fixed) (it : Checked) (start len : ℕ) (text : List ℕ) → known ≡ fixed → IsPiece it known.mode known.root.0 start len text → IsOf fixed it
+is_of fixed known it start len text same is = record {
+  root = (λ i. record { 0 = is.root_is i }) ∙ ap (λ (f : Fixed). f.root) same;
+  mode = is.mode_is ∙ ap (λ (f : Fixed). f.mode) same;
+}
+
+-- the slice of the last byte has the last chunk
+pub holds_last : (fixed : Fixed) (it : Checked) (blob : List ℕ) → IsServed fixed blob → piece_of it ≡ slice_of fixed.mode blob (2 ^ 64 - 1) 1 → HoldsLast it
+holds_last fixed it blob served is = subst (λ (piece : Piece). EndsBlob piece) (sym is) served.ends
+
+-- and its length is never too large
+pub never_large : (fixed : Fixed) (piece : Piece) (blob : List ℕ) (start len : ℕ) → IsServed fixed blob → piece ≡ slice_of fixed.mode blob start len → EndsTooFar fixed piece → ⊥
+never_large fixed piece blob start len served is large =
+    let long : length_of piece ≡ length blob = ap (λ (p : Piece). length_of p) is ∙ served.claims start len in
+    omega (arith, long, large.above, served.fits)
+
+-- a fetch without a text is one that failed
+pub fetch_failed : (a b : ℕ) (x y : Report) → ((a < b) × (y ≡ failed_once (asked_once x))) ⊎ ((a ≤ b) × (y ≡ memory_once (asked_once x))) → HasFailed y
+fetch_failed a b x y (inl failed) = inr (subst (λ (r : Report). 0 < r.failed) (sym failed.1) (omega arith))
+fetch_failed a b x y (inr starved) = inl (subst (λ (r : Report). 0 < r.memory) (sym starved.1) (omega arith))
+
+pub memory_failed : (x y : Report) → y ≡ memory_once x → HasFailed y
+memory_failed x y is = inl (subst (λ (r : Report). 0 < r.memory) (sym is) (omega arith))
+
+pub fails_on : (x y : Report) → (x.memory ≤ y.memory) × (x.failed ≤ y.failed) → HasFailed x → HasFailed y
+fails_on x y no_less (inl memory) = inl (omega (arith, memory, no_less.0))
+fails_on x y no_less (inr failed) = inr (omega (arith, failed, no_less.1))
+
+not_true : (b : Bool) → not b ≡ true → b ≡ false
+not_true true is = let no : false ≡ true = is in cc
+not_true false is = refl
+
+-- chunks of a mask without another
+pub rest_parts : (group mask other rest c : ℕ) → ((j : ℕ) → j < 64 → has_bit rest j ≡ (has_bit mask j && not (has_bit other j)))
+    → in_mask group rest c ≡ true → (in_mask group mask c ≡ true) × (in_mask group other c ≡ false)
+rest_parts group mask other rest c bits hit =
+    let parts = and_parts (c / 64 == group) (has_bit rest (c % 64)) hit in
+    let both : (has_bit mask (c % 64) && not (has_bit other (c % 64))) ≡ true = sym (bits (c % 64) (omega arith)) ∙ parts.1 in
+    let halves = and_parts (has_bit mask (c % 64)) (not (has_bit other (c % 64))) both in
+    let here : (c / 64 == group) ≡ true = parts.0 in
+    let off : has_bit other (c % 64) ≡ false = not_true (has_bit other (c % 64)) halves.1 in (
+      rw here halves.0,
+      rw here off,
+    )
+
+-- an element after the one that was set
+pub get_set_after : {H : Type 0} (xs : List H) (i k : ℕ) (y : H) → i < k → slice_get (set xs i y) k ≡ slice_get xs k
+get_set_after [] i k y after = refl
+get_set_after (x ∷ xs) zero zero y after = absurd (omega (arith, after))
+get_set_after (x ∷ xs) zero (suc k) y after = refl
+get_set_after (x ∷ xs) (suc i) zero y after = absurd (omega (arith, after))
+get_set_after (x ∷ xs) (suc i) (suc k) y after = get_set_after xs i k y (omega (arith, after))
+
+-- the holder that gives the blob's slices, when it is asked
+pub true_here : {H : Type 0} (gives : H → ℕ → ℕ → List ℕ → Type 0) (mode : Mode) (blob : List ℕ) (all now : List H) (d : H) (is : HasTrue gives mode blob all)
+    → slice_get now is.place ≡ slice_get all is.place → GivesSlices gives mode blob (get_or now is.place d)
+true_here gives mode blob all now d is same =
+    subst (λ h. GivesSlices gives mode blob h) (sym (get_or_from_slice_get now is.place is.holder d (same ∙ is.there))) is.gives_slices
+
+-- what is recorded is answered again
+pub known_some : (o then : Option ℕ) (P : ℕ → Type 0) → IfSome o P → IsSome o → ((n : ℕ) → P n → then ≡ Some n) → IsSome then
+known_some None then P has is known = let no : false ≡ true = is in cc
+known_some (Some n) then P has is known = subst (λ (x : Option ℕ). IsSome x) (sym (known n has)) refl
+
+-- the wanted chunks of a group are those of the first ones
+pub wanted_below : (chunks group want : ℕ) → ((j : ℕ) → j < 64 → has_bit want j ≡ nat_lt (64 * group + j) chunks) → (c : ℕ) → IsWanted group want c → c < chunks
+wanted_below chunks group want bits c (here, bit) =
+    let below : 64 * group + c % 64 < chunks = ltb-true (64 * group + c % 64) chunks (sym (bits (c % 64) (omega arith)) ∙ bit) in
+    omega (arith, here, below)
+
+pub wanted_there : (chunks group want : ℕ) → ((j : ℕ) → j < 64 → has_bit want j ≡ nat_lt (64 * group + j) chunks) → (c : ℕ) → c / 64 ≡ group → c < chunks
+    → IsWanted group want c
+wanted_there chunks group want bits c here below =
+    (here, bits (c % 64) (omega arith) ∙ lt-ltb (64 * group + c % 64) chunks (omega (arith, here, below)))
+
+-- a round over groups meets each of them
+pub round_meets : (first groups group : ℕ) → first < groups → group < groups → (k : ℕ) × (k < groups) × (group ≡ (first + k) % groups)
+round_meets first groups group begun there = elim (cases_lt group first) [
+  | inl before ↦
+      let k = group + groups - first in
+      let sum : first + k ≡ group + groups = omega (arith, begun, before) in
+      (k, omega (arith, begun, before), sym (ap (λ (n : ℕ). n % groups) sum ∙ add-mod_right group groups ∙ mod-eq_of_lt there))
+  | inr after ↦
+      let k = group - first in
+      let sum : first + k ≡ group = omega (arith, after) in
+      (k, omega (arith, begun, there, after), sym (ap (λ (n : ℕ). n % groups) sum ∙ mod-eq_of_lt there))
+]
+
+-- a holder that gives the slices of a blob goes on to
+pub later_true : {H : Type 0} (gives : H → ℕ → ℕ → List ℕ → Type 0) (mode : Mode) (blob : List ℕ) (old new : List H) → AreLater gives old new → HasTrue gives mode blob old
+    → HasTrue gives mode blob new
+later_true gives mode blob old new later has =
+    let then = later.each has.place has.holder has.there in
+    record { place = has.place; holder = then.0; there = then.1; gives_slices = λ start len text is. has.gives_slices start len text (then.2 start len text is) }
+
+-- a worker begins at one of the groups
+pub begins_within : (number workers groups : ℕ) → number < workers → 0 < groups → number * groups / workers < groups
+begins_within number workers groups below some =
+    let scaled : number * groups < workers * groups = mul-lt-mul_of_pos_right below some in
+    (div-lt_iff_lt-mul (omega (arith, below))).1 (subst (λ (m : ℕ). number * groups < m) (mul_comm workers groups) scaled)
