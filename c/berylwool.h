@@ -8,7 +8,7 @@
  *   - malloc, realloc and free are of one allocator and align to 16.
  *   - No function is called from a signal handler, or in the forked child of a process with threads.
  * A function has no hidden state: calls on different memory may run at once, in any threads. No function starts a thread, waits, takes a
- * lock, opens a file or prints. Memory is malloc's, and each refusal of it is a status. A call needs up to 256 KiB of stack.
+ * lock, opens a file or prints. Memory is malloc's, and each refusal of it is a status. A thread that calls has 256 KiB of stack or more.
  *
  * A status is BW_OK, which is 0, or the number of a fault. Where it isn't 0, only what is named beside the fault is written. */
 #ifndef BERYLWOOL_H
