@@ -43,7 +43,7 @@ fn shown(input: &Input) -> BwInput
 /// Audits `text`, the slice of `len` bytes from byte `start` on of the blob with the hash `root`, against `blob`.
 ///
 /// 0 where the text is accepted and each chunk of it is the blob's, and the length that it certifies, if it does, is the blob's. 501 to
-/// 503 as `bw_check_slice`. 601 where the hash of `blob` isn't `root`. 602 where two different inputs with one chaining value are named:
+/// 503 as `bw_check_slice`. 601 exactly where it is accepted and the hash of `blob` isn't `root`. 602 where two different inputs with one chaining value are named:
 /// `ours` is one of those that hashing the blob compresses, and `theirs` one of those that checking the text compresses.
 #[unsafe(no_mangle)]
 pub extern "C" fn bw_audit(
@@ -60,7 +60,7 @@ pub extern "C" fn bw_audit(
 ) -> u32
     ensures agrees { result ≡ 0 → IsAudit (mode_of mode.now) root.now start len text.now blob.now Agrees }
     ensures collision { result ≡ 602 → IsAudit (mode_of mode.now) root.now start len text.now blob.now (Collision (input_of ours.new) (input_of theirs.new)) }
-    ensures other_root { result ≡ 601 → hash (mode_of mode.now) blob.now ≢ root.now }
+    ensures other_root { IsAccepted (mode_of mode.now) root.now text.now (slice_nodes text.now start len) → (result ≡ 601 ↔ (hash (mode_of mode.now) blob.now ≢ root.now)) }
     ensures status { result ≢ 0 → result ≢ 602 → result ≢ 601 → IsRefused (mode_of mode.now) root.now text.now (slice_nodes text.now start len) result at.new }
 {
     match check_slice(alloc, &mode.get(), &Hash(*root), start, len, text) {
