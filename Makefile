@@ -4,7 +4,7 @@ SHELL := bash
 .SHELLFLAGS := -eu -o pipefail -c
 .DEFAULT_GOAL := help
 .DELETE_ON_ERROR:
-.PHONY: help build run try install sum test wrong-bodies scenarios c-library c-install c-test c-bench bench refuse fmt FORCE
+.PHONY: help build run try install sum test wrong-bodies scenarios docs c-library c-install c-test c-bench bench refuse fmt FORCE
 
 PREFIX ?= /usr/local
 
@@ -27,9 +27,10 @@ help:
 	@echo 'make run ARGS="WORD .."   builds where something changed, and runs bao_gather on the words'
 	@echo 'make try ARGS="WORD .."   runs bao_gather on the words within a minute, unproved, in the folder crates/bao_gather'
 	@echo 'make sum                  prints the checksum of the built bao_gather'
-	@echo 'make install PREFIX=DIR   copies bao_gather to DIR/bin (PREFIX is /usr/local if left out; DESTDIR goes before it)'
+	@echo 'make install PREFIX=DIR   copies bao_gather to DIR/bin, its manual page and completions to DIR/share (PREFIX is /usr/local if left out; DESTDIR goes before it)'
 	@echo 'make test                 the gate, rt ci: every proof from nothing, the must-fail edits, the tests and the programs'
 	@echo 'make wrong-bodies         tries the wrong bodies that the gate leaves out, of all crates or of CRATES="NAME .."'
+	@echo 'make docs                 runs the shell examples of README and docs/CLI.md, and compares what they print'
 	@echo 'make scenarios            holds what the programs of scenarios have to print to replies made by the definitions alone'
 	@echo 'make c-library            proves the C library and builds it, as out/libberylwool.a and out/libberylwool.so (needs cc and binutils)'
 	@echo 'make c-install PREFIX=DIR copies the C library to DIR/lib and its header to DIR/include, with what pkg-config asks for'
@@ -53,7 +54,12 @@ sum: out/bao_gather
 	@sha256sum out/bao_gather
 
 install: out/bao_gather
+	@python3 scripts/manual.py out/manual
 	install -D -m 755 out/bao_gather '$(DESTDIR)$(PREFIX)/bin/bao_gather'
+	install -D -m 644 out/manual/bao_gather.1 '$(DESTDIR)$(PREFIX)/share/man/man1/bao_gather.1'
+	install -D -m 644 out/manual/bao_gather.bash '$(DESTDIR)$(PREFIX)/share/bash-completion/completions/bao_gather'
+	install -D -m 644 out/manual/_bao_gather '$(DESTDIR)$(PREFIX)/share/zsh/site-functions/_bao_gather'
+	install -D -m 644 out/manual/bao_gather.fish '$(DESTDIR)$(PREFIX)/share/fish/vendor_completions.d/bao_gather.fish'
 
 test:
 	@python3 scripts/wrong_bodies.py --read
@@ -64,6 +70,9 @@ wrong-bodies:
 
 scenarios:
 	@python3 scripts/scenarios.py
+
+docs: out/bao_gather
+	@python3 scripts/docs.py out/bao_gather
 
 bench: out/bao_gather out/bench
 	@python3 scripts/bench.py
