@@ -103,9 +103,9 @@ impl Shelf for Alone {
 /// next holder is asked. Texts are checked under the store's root and in its mode.
 ///
 /// What the worker did is a history of its own calls, each with the right reply in its turn, of pieces that its holders
-/// may have given: so what is stored comes from such texts, accepted under the store's root. For each blob with that root, each chunk stored is the blob's of that
-/// number, or two different inputs with one chaining value are named, one of the blob's and one of that text's. No
-/// claim is left that the worker took.
+/// may have given: so what is stored comes from such texts, accepted under the store's root. For each blob with that
+/// root, each chunk stored is the blob's of that number, or two different inputs with one chaining value are named, one
+/// of the blob's and one of that text's. No claim is left that the worker took.
 ///
 /// Where one of the holders gives nothing but the slices of a blob with the root, for which the store has room, and
 /// neither memory was refused nor a device failed, nor an accepted text certifies a length that is too large: a length
