@@ -35,3 +35,12 @@ pub fn put_back(
     seats[number] = Some(seat);
     Ok(())
 }
+
+// One seat more, which is the last.
+pub fn put_last(store: &Assembly, seats: &mut Vec<Option<Seat>>, seat: Seat) -> Result<()>
+    requires seats { AreSeatsOf store.now seats.old.items }
+    requires seat { IsSeatOf store.now seat }
+    ensures { AreSeatsOf store.now seats.new.items }
+{
+    seats.push(Some(seat)).ok().context("room")
+}

@@ -2,7 +2,7 @@ ghost use Rattle.std.specs.Prelude.{◌<◌, ◌≤◌, IfOk, length};
 
 use crate::draw::Draw;
 use crate::piece::Piece;
-use crate::places::{put_back, take_out};
+use crate::places::{put_back, put_last, take_out};
 use anyhow::{Context, Result, bail};
 use b3tree::{CHUNK_LEN, Hash, Mode, hash};
 use bao_text::Node;
@@ -270,7 +270,7 @@ impl Room {
         let (first, second) = self.shared.split(seat).ok().context("a second seat")?;
         put_back(&self.shared, &mut self.seats, number as usize, first)?;
         let next = self.seats.len();
-        self.seats.push(Some(second)).ok().context("room")?;
+        put_last(&self.shared, &mut self.seats, second)?;
         Ok(format!(in alloc; "seat {next}")?)
     }
 
