@@ -237,7 +237,7 @@ RATIOS = [
     ("one thread", SERVED_SHARED, READ_SHARED, "at most 3"),
     ("one thread", SERVED_ALONE, READ_ALONE, "at most 3"),
     ("several threads", RUN_ONE, RUN_FOUR, "at least 2.5 on four processors"),
-    ("one thread", PARENTS_ALONE, RUN_ONE, "at most 0.09: a gathering at most 1.1 of one that stores no parents"),
+    ("one thread", PARENTS_ALONE, RUN_ONE, "at most 0.09, by these calls alone: finding their groups is not counted"),
 ]
 
 
