@@ -5,8 +5,8 @@ use crate::measure::print_row;
 use anyhow::{Context, Result, ensure};
 use b3tree::{CHUNK_LEN, Hash, Mode};
 use bao_check::{Checked, check_slice};
-use bao_text::{Node, combined, cut_slice};
-use std::alloc::Global;
+use bao_text::{combined, cut_slice};
+use gather::boundary_groups;
 use std::io;
 use std::rt::Clock;
 use std::time::{Duration, Instant};
@@ -19,26 +19,10 @@ const ROUNDS: u32 = 5;
 // The most bytes that a store has room for.
 const MOST: usize = 1 << 26;
 
-// The chunks of a group, and their bytes.
-const GROUP_CHUNKS: u64 = 64;
+// Bytes of a group.
+const GROUP_LEN: u64 = 64 * CHUNK_LEN as u64;
 
-const GROUP_LEN: u64 = GROUP_CHUNKS * CHUNK_LEN as u64;
-
-// The groups in which the piece has a parent, each once.
-fn groups_of(alloc: Global, piece: &Checked<'_>) -> Result<Vec<u32>> {
-    let mut groups = Vec::new(alloc);
-    for node in piece.nodes() {
-        if let Node::Parent(boundary) = node {
-            let group = u32::try_from(boundary / GROUP_CHUNKS).unwrap_or(u32::MAX);
-            if !groups.contains(&group) {
-                groups.push(group)?;
-            }
-        }
-    }
-    Ok(groups)
-}
-
-// How long the parents of a piece take to be stored, and how many of them were not held before.
+// How long the parents of a piece take to be found and stored, and how many of them were not held before.
 fn timed_piece<R: Clock + AllocGlobal>(
     rt: &R,
     store: &Assembly,
@@ -48,12 +32,13 @@ fn timed_piece<R: Clock + AllocGlobal>(
     requires { IsSeatOf store.now seat.old }
     ensures { IsSeatOf store.now seat.new }
 {
-    let groups = groups_of(rt.alloc(), piece)?;
     let mut stored = 0u64;
     let start = Instant::now(rt)?;
-    for group in &groups {
-        let mask = store.commit_parents(seat, *group, piece)?;
-        stored = stored.saturating_add(u64::from(mask.count_ones()));
+    for (group, has) in boundary_groups(piece).iter().enumerate() {
+        if *has {
+            let mask = store.commit_parents(seat, group as u32, piece)?;
+            stored = stored.saturating_add(u64::from(mask.count_ones()));
+        }
     }
     Ok((start.elapsed(rt)?, stored))
 }
@@ -103,7 +88,7 @@ fn timed_parents<R: Clock + AllocGlobal>(
 }
 
 /// Stores the parents of the first bytes of `bytes`, of 64 MiB of them at most, out of their groups' slices, several times,
-/// and answers the least time of the store's calls alone. Fails where not all are stored.
+/// and answers the least time of finding their groups and of the store's calls. Fails where not all are stored.
 pub fn least_time<R: Clock + AllocGlobal>(rt: &R, bytes: &[u8]) -> Result<Duration> {
     let blob = &bytes[..bytes.len().min(MOST)];
     let (root, encoding) = combined(rt.alloc(), &Mode::hash(), blob)?;

@@ -1,65 +1,60 @@
--- A walk over nodes that keeps the least group of their boundaries so far.
-use Rattle.std.proofs.Common.{◌≡◌, ◌⊎◌, ℕ, ◌/◌, ◌<◌, ◌≤◌, ◌==◌, ◌||◌, Bool, true, false, List, [], ◌∷◌, None, Some, refl, ◌∙◌, arith, inl, inr, eq-eqb, ne_eqb}
+-- A walk over nodes that marks the groups of their boundaries.
+use Rattle.std.proofs.Common.{◌≡◌, ℕ, ◌/◌, ◌<◌, ◌≤◌, ◌==◌, ◌||◌, Bool, true, false, List, [], ◌∷◌, length, refl, sym, ap, ◌∙◌, arith, inl, inr, ne_eqb, replicate}
+use Rattle.std.proofs.lemmas.Bool.Decides.{eqb_tells}
+use Rattle.std.proofs.lemmas.Grind.{get_or-set_at}
+use Rattle.std.proofs.lemmas.List.{get_or-replicate, get_or-set_other, length-replicate, length-set}
+use Rattle.std.specs.List.{slice_index_or, slice_set}
 use Rattle.bao_text.specs.declared.walk.Node.{Node}
 use Rattle.bao_text.specs.declared.walk.Node.TheVariants.{Parent}
-use Rattle.gather.specs.Groups.{IsNext, has_in, is_in}
+use Rattle.gather.specs.Groups.{AreGroups, has_in, is_in}
 
--- of all nodes those that came don't have a boundary in a group from `from` on below `next`, and some node has one in
--- that, unless it is the first that no store has
-pub record IsNearing (all rest : List Node) (from next : ℕ) : Type 0 where
-  pub within : next ≤ 1024
-  pub more : (g : ℕ) → has_in rest g ≡ true → has_in all g ≡ true
-  pub before : (g : ℕ) → from ≤ g → g < next → has_in all g ≡ has_in rest g
-  pub there : (next ≡ 1024) ⊎ ((from ≤ next) × (has_in all next ≡ true))
+-- the groups that have a boundary among all nodes are those that are marked, and those of the nodes that are left
+pub record AreMarked (all rest : List Node) (groups : List Bool) : Type 0 where
+  pub count : length groups ≡ 1024
+  pub each : (g : ℕ) → g < 1024 → (slice_index_or groups g false || has_in rest g) ≡ has_in all g
 
-pub nearing_begun : (all : List Node) (from : ℕ) → IsNearing all all from 1024
-nearing_begun all from = record { within = omega arith; more = λ g is. is; before = λ g _ _. refl; there = inl refl }
+pub marked_begun : (all : List Node) → AreMarked all all (replicate 1024 false)
+marked_begun all = record {
+  count = length-replicate 1024 false;
+  each = λ g low. ap (λ (b : Bool). b || has_in all g) (get_or-replicate 1024 g false false low);
+}
 
-or_right : (a b : Bool) → b ≡ true → (a || b) ≡ true
-or_right true b is = refl
-or_right false b is = is
+or_true : (a b : Bool) → b ≡ true → (a || b) ≡ true
+or_true true b is = refl
+or_true false b is = is
 
-or_left : (a b : Bool) → a ≡ true → (a || b) ≡ true
-or_left true b is = refl
-or_left false b is = cc
-
-or_none : (a b : Bool) → a ≡ false → (a || b) ≡ b
-or_none true b is = cc
-or_none false b is = refl
-
--- a node without a boundary in these groups
-pub nearing_on : (all rest : List Node) (node : Node) (from next : ℕ) → ((g : ℕ) → from ≤ g → g < next → is_in g node ≡ false)
-    → IsNearing all (node ∷ rest) from next → IsNearing all rest from next
-nearing_on all rest node from next none near = record {
-  within = near.within;
-  more = λ g is. near.more g (or_right (is_in g node) (has_in rest g) is);
-  before = λ g after below. near.before g after below ∙ or_none (is_in g node) (has_in rest g) (none g after below);
-  there = near.there;
+-- a node without a boundary in the groups that a store can have
+pub marked_on : (all rest : List Node) (node : Node) (groups : List Bool) → ((g : ℕ) → g < 1024 → is_in g node ≡ false)
+    → AreMarked all (node ∷ rest) groups → AreMarked all rest groups
+marked_on all rest node groups none marked = record {
+  count = marked.count;
+  each = λ g low. ap (λ (b : Bool). slice_index_or groups g false || b) (sym (ap (λ (b : Bool). b || has_in rest g) (none g low))) ∙ marked.each g low;
 }
 
 -- a parent with one
-pub nearing_at : (all rest : List Node) (m from next : ℕ) → from ≤ m / 64 → m / 64 < next
-    → IsNearing all (Parent m ∷ rest) from next → IsNearing all rest from (m / 64)
-nearing_at all rest m from next after below near = record {
-  within = omega (arith, near.within, below);
-  more = λ g is. near.more g (or_right (is_in g (Parent m)) (has_in rest g) is);
-  before = λ g late early.
-      near.before g late (omega (arith, early, below))
-      ∙ or_none (m / 64 == g) (has_in rest g) (ne_eqb (m / 64) g (λ same. absurd (omega (arith, same, early))));
-  there = inr (after, near.more (m / 64) (or_left (m / 64 == m / 64) (has_in rest (m / 64)) (eq-eqb (m / 64) (m / 64) refl)));
+pub marked_at : (all rest : List Node) (m : ℕ) (groups : List Bool) → m / 64 < 1024
+    → AreMarked all (Parent m ∷ rest) groups → AreMarked all rest (slice_set groups (m / 64) true)
+marked_at all rest m groups below marked = record {
+  count = length-set groups (m / 64) true ∙ marked.count;
+  each = λ g low. elim (eqb_tells (m / 64) g) [
+    | inl same ↦
+        ap (λ (b : Bool). b || has_in rest g) (get_or-set_at groups (m / 64) g true false (sym same.1) (omega (arith, below, marked.count)))
+        ∙ (sym (or_true (slice_index_or groups g false) (m / 64 == g || has_in rest g) (ap (λ (b : Bool). b || has_in rest g) same.0)) ∙ marked.each g low)
+    | inr other ↦
+        ap (λ (b : Bool). b || has_in rest g) (get_or-set_other groups (m / 64) g true false (λ same. other.1 (sym same)))
+        ∙ (ap (λ (b : Bool). slice_index_or groups g false || b) (sym (ap (λ (b : Bool). b || has_in rest g) other.0)) ∙ marked.each g low)
+  ];
 }
 
 -- a parent with none
-pub nearing_past : (all rest : List Node) (m from next : ℕ) → ((from ≤ m / 64) × (m / 64 < next) → ⊥)
-    → IsNearing all (Parent m ∷ rest) from next → IsNearing all rest from next
-nearing_past all rest m from next out near =
-    nearing_on all rest (Parent m) from next (λ g after below. ne_eqb (m / 64) g (λ same. out (omega (arith, same, after), omega (arith, same, below)))) near
+pub marked_past : (all rest : List Node) (m : ℕ) (groups : List Bool) → 1024 ≤ m / 64
+    → AreMarked all (Parent m ∷ rest) groups → AreMarked all rest groups
+marked_past all rest m groups above marked =
+    marked_on all rest (Parent m) groups (λ g low. ne_eqb (m / 64) g (λ same. absurd (omega (arith, same, above, low)))) marked
 
-pub nearing_done : (all : List Node) (from next : ℕ) → IsNearing all [] from next → next < 1024 → IsNext from all (Some next)
-nearing_done all from next near below = elim near.there [
-  | inl end ↦ absurd (omega (arith, end, below))
-  | inr there ↦ (there.0, below, there.1, λ other after before. near.before other after before)
-]
+or_false : (b : Bool) → (b || false) ≡ b
+or_false true = refl
+or_false false = refl
 
-pub nearing_none : (all : List Node) (from next : ℕ) → IsNearing all [] from next → next ≡ 1024 → IsNext from all None
-nearing_none all from next near end other after below = near.before other after (omega (arith, below, end))
+pub marked_done : (all : List Node) (groups : List Bool) → AreMarked all [] groups → AreGroups all groups
+marked_done all groups marked g low = sym (or_false (slice_index_or groups g false)) ∙ marked.each g low

@@ -5,6 +5,7 @@ pub use fault::FinishFault;
 pub use finish::finish_one;
 pub use holder::{Encoded, Holder, HolderFault};
 pub use one::run_one;
+pub use parents::boundary_groups;
 pub use report::Report;
 pub use shelf::Shelf;
 pub use texts::{GatherFault, cause, gather_texts, holders_over};

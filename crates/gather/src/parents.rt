@@ -4,7 +4,7 @@ ghost use Rattle.bao_text.specs.NodeNames.{name};
 ghost use Rattle.gather.specs.Available.{Keeps};
 ghost use Rattle.gather.specs.Claims.{Among};
 ghost use Rattle.gather.specs.Counts.{Reports};
-ghost use Rattle.gather.specs.Groups.{IsNext};
+ghost use Rattle.gather.specs.Groups.{AreGroups, IsNext};
 ghost use Rattle.gather.specs.Holders.{IsIt};
 ghost use Rattle.store_core.specs.Pieces.{piece_of};
 
@@ -15,23 +15,35 @@ use bao_check::Checked;
 use bao_text::Node;
 use store_core::StoreFault;
 
-// The least group from `from` on in which the piece has a boundary, if it is one that a store can have.
-fn next_group(piece: &Checked<'_>, from: u32) -> Option<u32>
-    ensures { IsNext from (map name (piece_nodes piece.now)) result }
+const GROUPS: usize = MAX_GROUPS as usize;
+
+/// Which of the 1,024 groups of 64 boundaries that a store can have have a parent of the piece: those of which
+/// `commit_parents` can store any from it. It takes no memory.
+pub fn boundary_groups(piece: &Checked<'_>) -> [bool; GROUPS]
+    ensures { AreGroups (map name (piece_nodes piece.now)) result }
 {
-    let mut next = MAX_GROUPS;
+    let mut groups = [false; GROUPS];
     for node in piece.nodes() {
         if let Node::Parent(boundary) = node {
             let group = boundary / GROUP_LEN;
-            if u64::from(from) <= group && group < next {
-                next = group;
+            if group < MAX_GROUPS {
+                groups[group as usize] = true;
             }
         }
     }
-    if next == MAX_GROUPS {
-        return None;
+    groups
+}
+
+// The least group from `from` on that is marked.
+fn next_group(groups: &[bool; GROUPS], from: u32) -> Option<u32>
+    ensures { IsNext from groups.now result }
+{
+    for group in from..MAX_GROUPS as u32 {
+        if groups[group as usize] {
+            return Some(group);
+        }
     }
-    Some(next as u32)
+    None
 }
 
 // Stores the piece's parents, one group that has any of their boundaries after another.
@@ -48,8 +60,9 @@ pub(crate) fn store_parents<S: Shelf>(
     ensures keeps { Keeps (S.claims seat.old) (S.claims seat.new) }
 {
     report.fits();
+    let groups = boundary_groups(piece);
     let mut from = 0;
-    while let Some(group) = next_group(piece, from) {
+    while let Some(group) = next_group(&groups, from) {
         report.fits();
         match shelf.commit_parents(seat, group, piece) {
             Ok(stored) => {
