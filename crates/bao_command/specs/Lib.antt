@@ -3,3 +3,4 @@ pub mod ModeWords
 pub mod Printed
 pub mod Outcome
 pub mod Tasks
+pub mod Numbers

@@ -1,4 +1,5 @@
 ghost use Rattle.std.specs.Prelude.{◌≡◌};
+ghost use Rattle.bao_command.specs.Numbers.{number_of};
 ghost use Rattle.bao_command.specs.Status.{check_status_of, decode_status_of, file_status_of, gather_status_of, gathered_status_of, replay_status_of, rerun_status_of, status_of};
 
 use bao_check::CheckFault;
@@ -142,6 +143,24 @@ impl Fault<'_> {
             Fault::Decode(fault) => decode_status(fault),
             Fault::Gather(fault) => gathered_status(fault),
             Fault::Replay(fault) => rerun_status(fault),
+        }
+    }
+
+    /// The fault's number, where its text has one.
+    pub fn code(&self) -> Option<u16>
+        ensures { result ≡ number_of self.now }
+    {
+        match self {
+            Fault::Word
+            | Fault::Root
+            | Fault::Key
+            | Fault::KeyAndContext
+            | Fault::OutputRange
+            | Fault::TooManyFiles => None,
+            Fault::File(fault) => fault.code(),
+            Fault::Decode(fault) => fault.code(),
+            Fault::Gather(fault) => fault.code(),
+            Fault::Replay(fault) => fault.code(),
         }
     }
 

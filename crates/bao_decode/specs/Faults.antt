@@ -1,6 +1,8 @@
--- what a fault of decoding says
+-- what a fault of decoding says, and its number
 use Rattle.std.specs.Borrow.{Bor}
-use Rattle.std.specs.Prelude.{ℕ, List}
+use Rattle.std.specs.Prelude.{ℕ, List, Option, Some}
+use Rattle.bao_check.specs.Faults.{number_of as check_number_of}
+use Rattle.bao_files.specs.Faults.{number_of as file_number_of}
 use Rattle.bao_files.specs.Printed as file
 use Rattle.bao_decode.specs.declared.fault.DecodeFault.{DecodeFault}
 use Rattle.bao_decode.specs.declared.fault.DecodeFault.TheVariants.{Check, File}
@@ -14,3 +16,8 @@ IsQuiet (Check fault) = Unit {0}
 abbrev pub NamesPaths : Bor (List ℕ) → Bor (List ℕ) → DecodeFault → Type 0
 NamesPaths input output (File fault) = file.NamesPaths input output fault
 NamesPaths input output (Check fault) = Unit {0}
+
+-- the number of the fault, where its text has one
+abbrev pub number_of : DecodeFault → Option ℕ
+number_of (File fault) = file_number_of fault
+number_of (Check fault) = Some (check_number_of fault)

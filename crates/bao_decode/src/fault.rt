@@ -13,6 +13,21 @@ pub enum DecodeFault<'a> {
     Check(CheckFault),
 }
 
+impl DecodeFault<'_> {
+    ghost use Rattle.std.specs.Prelude.{◌≡◌};
+    ghost use Rattle.bao_decode.specs.Faults.{number_of};
+
+    /// The fault's number, where its text has one: 401, or 501 to 504.
+    pub fn code(&self) -> Option<u16>
+        ensures { result ≡ number_of self.now }
+    {
+        match self {
+            DecodeFault::File(fault) => fault.code(),
+            DecodeFault::Check(fault) => Some(fault.code()),
+        }
+    }
+}
+
 impl<'a> From<FileFault<'a>> for DecodeFault<'a> {
     ghost use Rattle.std.specs.Prelude.{◌≡◌};
     ghost use Rattle.bao_decode.specs.declared.fault.DecodeFault.TheVariants as DecodeFault;

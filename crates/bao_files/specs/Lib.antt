@@ -1,3 +1,4 @@
 pub mod Printed
 pub mod Reading
 pub mod Encoded
+pub mod Faults

@@ -21,6 +21,22 @@ pub enum FileFault<'a> {
     Memory,
 }
 
+impl FileFault<'_> {
+    ghost use Rattle.std.specs.Prelude.{◌≡◌};
+    ghost use Rattle.bao_files.specs.Faults.{number_of};
+
+    /// The fault's number, where its text has one: 401.
+    pub fn code(&self) -> Option<u16>
+        ensures { result ≡ number_of self.now }
+    {
+        match self {
+            FileFault::Encoding => Some(401),
+            FileFault::Read(_) | FileFault::Write(_) | FileFault::Output | FileFault::Memory =>
+                None,
+        }
+    }
+}
+
 impl From<AllocError> for FileFault<'_> {
     ghost use Rattle.std.specs.Prelude.{◌≡◌};
     ghost use Rattle.bao_files.specs.declared.fault.FileFault.TheVariants as FileFault;

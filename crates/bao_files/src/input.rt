@@ -1,4 +1,4 @@
-ghost use Rattle.std.specs.Prelude.{◌≡◌, ℕ, List, [], ◌++◌, ◌≤◌, ◌⊎◌, length, IfErr, IfOk, IfSome, OnErr, OnOk};
+ghost use Rattle.std.specs.Prelude.{◌≡◌, ℕ, List, [], ◌++◌, ◌≤◌, ◌⊎◌, length, IfErr, IfOk, IfSome, None, OnErr, OnOk};
 ghost use Rattle.std.specs.Io.KnownBytes.{Consumes, IsAtEnd, Keeps};
 ghost use Rattle.bao_files.specs.Reading.{Gains};
 
@@ -22,6 +22,15 @@ pub enum ReadFault {
     Memory,
     /// A read answered a fault, of whatever kind.
     Reader,
+}
+
+impl ReadFault {
+    /// The fault's number: none.
+    pub fn code(&self) -> Option<u16>
+        ensures { result ≡ None }
+    {
+        None
+    }
 }
 
 // Appends what one read gives, and answers how many bytes that is: none only at the reader's end. A fault

@@ -1,7 +1,9 @@
--- what a fault of gathering says
+-- what a fault of gathering says, and its number
 use Rattle.std.specs.Borrow.{Bor}
-use Rattle.std.specs.Prelude.{◌≡◌, ℕ, List, Some, slice_get}
+use Rattle.std.specs.Prelude.{◌≡◌, ℕ, List, Option, Some, slice_get}
+use Rattle.bao_files.specs.Faults.{number_of as file_number_of}
 use Rattle.bao_files.specs.Printed as file
+use Rattle.crews.specs.Faults.{number_of as crews_number_of}
 use Rattle.bao_gathered.specs.declared.fault.GatheredFault.{GatheredFault}
 use Rattle.bao_gathered.specs.declared.fault.GatheredFault.TheVariants.{File, Gather}
 
@@ -18,3 +20,8 @@ NamesPaths input output (Gather fault) = Unit {0}
 -- the same, where the first of the inputs is named
 abbrev pub NamesFirst : List (Bor (List ℕ)) → Bor (List ℕ) → GatheredFault → Type 0
 NamesFirst inputs output fault = (first : Bor (List ℕ)) → slice_get inputs 0 ≡ Some first → NamesPaths first output fault
+
+-- the number of the fault, where its text has one
+abbrev pub number_of : GatheredFault → Option ℕ
+number_of (File fault) = file_number_of fault
+number_of (Gather fault) = Some (crews_number_of fault)

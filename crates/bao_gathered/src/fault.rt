@@ -13,6 +13,21 @@ pub enum GatheredFault<'a> {
     Gather(CrewsFault),
 }
 
+impl GatheredFault<'_> {
+    ghost use Rattle.std.specs.Prelude.{◌≡◌};
+    ghost use Rattle.bao_gathered.specs.Faults.{number_of};
+
+    /// The fault's number, where its text has one: 401, 801, 802, 805, 806, 901 to 903, or 911.
+    pub fn code(&self) -> Option<u16>
+        ensures { result ≡ number_of self.now }
+    {
+        match self {
+            GatheredFault::File(fault) => fault.code(),
+            GatheredFault::Gather(fault) => Some(fault.code()),
+        }
+    }
+}
+
 impl<'a> From<FileFault<'a>> for GatheredFault<'a> {
     ghost use Rattle.std.specs.Prelude.{◌≡◌};
     ghost use Rattle.bao_gathered.specs.declared.fault.GatheredFault.TheVariants as GatheredFault;

@@ -16,6 +16,22 @@ pub enum RerunFault<'a> {
     Replay(ReplayScriptFault),
 }
 
+impl RerunFault<'_> {
+    ghost use Rattle.std.specs.Prelude.{◌≡◌};
+    ghost use Rattle.bao_replay.specs.Faults.{number_of};
+
+    /// The fault's number, where its text has one: 401, 501 to 504, 701, 702 or 802.
+    pub fn code(&self) -> Option<u16>
+        ensures { result ≡ number_of self.now }
+    {
+        match self {
+            RerunFault::File(fault) => fault.code(),
+            RerunFault::Script(_) => None,
+            RerunFault::Replay(fault) => fault.code(),
+        }
+    }
+}
+
 impl<'a> From<FileFault<'a>> for RerunFault<'a> {
     ghost use Rattle.std.specs.Prelude.{◌≡◌};
     ghost use Rattle.bao_replay.specs.declared.fault.RerunFault.TheVariants as RerunFault;

@@ -1,0 +1,20 @@
+-- the numbers of the faults whose text has one
+use Rattle.std.specs.Prelude.{ℕ, Option, None}
+use Rattle.bao_decode.specs.Faults.{number_of as decode_number_of}
+use Rattle.bao_files.specs.Faults.{number_of as file_number_of}
+use Rattle.bao_gathered.specs.Faults.{number_of as gathered_number_of}
+use Rattle.bao_replay.specs.Faults.{number_of as rerun_number_of}
+use Rattle.bao_command.specs.declared.fault.Fault.{Fault}
+use Rattle.bao_command.specs.declared.fault.Fault.TheVariants.{Word, Root, Key, KeyAndContext, OutputRange, TooManyFiles, File, Decode, Gather, Replay}
+
+abbrev pub number_of : Fault → Option ℕ
+number_of Word = None
+number_of Root = None
+number_of Key = None
+number_of KeyAndContext = None
+number_of OutputRange = None
+number_of TooManyFiles = None
+number_of (File fault) = file_number_of fault
+number_of (Decode fault) = decode_number_of fault
+number_of (Gather fault) = gathered_number_of fault
+number_of (Replay fault) = rerun_number_of fault
