@@ -1,4 +1,4 @@
-ghost use Rattle.std.specs.Prelude.{◌≡◌, ℕ, ◌+◌, ◌-◌, ◌*◌, ◌^◌, ◌≤◌, ◌<◌, List, length, min, IfSome};
+ghost use Rattle.std.specs.Prelude.{◌≡◌, ℕ, ◌+◌, ◌-◌, ◌*◌, ◌^◌, ◌≤◌, ◌<◌, List, length, min, is_some, IfSome};
 ghost use Rattle.std.specs.Option.{option_copied};
 ghost use Rattle.bao_text.specs.Nodes.{Side, placed, subtree_nodes, subtree_size};
 ghost use Rattle.bao_check.specs.Parents.{parent_in, parent_place};
@@ -50,6 +50,13 @@ impl<'a> Checked<'a> {
         ensures within { IfSome result (λ at. at + 64 ≤ length (piece_text self.now)) }
     {
         find_parent(&self.choice(), 0, self.claimed(), LENGTH_LEN, m)
+    }
+
+    /// Whether the piece has a parent whose right part begins at chunk `m`: sooner told than `parent`.
+    pub fn has_parent(&self, m: u64) -> bool
+        ensures { result ≡ is_some (parent_in (piece_text self.now) (piece_places self.now) m) }
+    {
+        self.parent_at(m).is_some()
     }
 
     /// The 64 bytes of the parent whose right part begins at chunk `m`, where they stand: the chaining

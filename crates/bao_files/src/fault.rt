@@ -31,8 +31,7 @@ impl FileFault<'_> {
     {
         match self {
             FileFault::Encoding => Some(401),
-            FileFault::Read(_) | FileFault::Write(_) | FileFault::Output | FileFault::Memory =>
-                None,
+            _ => None,
         }
     }
 }

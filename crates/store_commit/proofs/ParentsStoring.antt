@@ -1,6 +1,5 @@
 -- A parent is stored word by word, and a group's parents one after another.
-use Rattle.std.proofs.Common.{◌≡◌, ℕ, ◌+◌, ◌*◌, ◌/◌, ◌%◌, ◌<◌, ◌==◌, nat_lt, true, false, ◌&&◌, List, [], ◌∷◌, Option, None, Some, is_some, Bor, sym, ap, subst, ◌∙◌, arith, inl, inr, refl, eqb-true, ltb-true}
-use Rattle.std.specs.Option.{option_copied}
+use Rattle.std.proofs.Common.{◌≡◌, ℕ, ◌+◌, ◌*◌, ◌/◌, ◌%◌, ◌<◌, ◌==◌, nat_lt, true, false, ◌&&◌, List, [], ◌∷◌, Some, sym, ap, subst, ◌∙◌, arith, inl, inr, refl, eqb-true, ltb-true}
 use Rattle.std.proofs.lemmas.Bool.{and_parts, cases_eq, false≢true}
 use Rattle.store_core.specs.declared.fixed.Fixed.{Fixed}
 use Rattle.store_core.specs.declared.history.Piece.{Piece}
@@ -80,11 +79,6 @@ pub storing_now : (view now : SeatView) (group mask m : ℕ) → view.storing �
 storing_now view now group mask m only rest hit =
     let is : now.storing ≡ record { group = group; mask = mask } ∷ [] = ap (λ (v : SeatView). v.storing) rest ∙ only in
     rw is (rw hit refl)
-
--- what is copied from an option is there where the option has something
-pub some_copied : (o : Option (Bor (List ℕ))) → is_some o ≡ is_some (option_copied o)
-some_copied None = refl
-some_copied (Some x) = refl
 
 -- claims are among the boundaries that were wanted
 pub claimed_parents : (fixed : Fixed) (group want mask : ℕ) (piece : Piece) → IsMaskOf group want (λ m. nat_lt m fixed.capacity && holds_parent piece m)

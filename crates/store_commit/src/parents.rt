@@ -26,7 +26,7 @@ fn parents_in(piece: &Checked<'_>, group: u32, capacity: u32) -> u64
     let mut mask = 0;
     for j in 0..GROUP_LEN {
         let boundary = start + j;
-        if boundary < u64::from(capacity) && piece.parent(boundary).is_some() {
+        if boundary < u64::from(capacity) && piece.has_parent(boundary) {
             mask = with_bit(mask, j);
         }
     }

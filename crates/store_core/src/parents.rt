@@ -29,7 +29,7 @@ fn is_held(parents: &[Option<[u8; 64]>], m: usize) -> bool
 fn is_in(piece: &Checked<'_>, m: u64) -> bool
     ensures { result ≡ holds_parent (piece_of piece.now) m }
 {
-    matches!(piece.parent(m), Some(_))
+    piece.has_parent(m)
 }
 
 // The mask of the group's boundaries of which the piece holds the parent and none is held yet.
