@@ -1,14 +1,14 @@
 -- A worker's seat of a shared store: what it claims, and how what it has seen goes on.
-use Rattle.std.specs.Prelude.{◌≡◌, ◌⊎◌, ℕ, Bool, List, ◌++◌, Some}
+use Rattle.std.specs.Prelude.{◌≡◌, ◌⊎◌, ℕ, Bool, false, List, ◌++◌, Some}
 use Rattle.bao_check.specs.Pieces.{chunk_of}
 use Rattle.store_core.specs.declared.history.Piece.{Piece}
 use Rattle.gather.specs.Worked.{AreFrom, chunks_in, parents_in}
 use Rattle.store_core.specs.declared.fixed.Fixed.{Fixed}
 use Rattle.store_core.specs.declared.history.Event.{Event}
 use Rattle.store_core.specs.declared.view.SeatView.{SeatView}
-use Rattle.store_core.specs.Histories.{state_after}
+use Rattle.store_core.specs.Histories.{AreOfOthers, state_after}
 use Rattle.store_core.specs.Laws.{IsBlob, IsCommitted, PairNamed}
-use Rattle.store_core.specs.Views.{mine, seat_claims}
+use Rattle.store_core.specs.Views.{mine, names_of, seat_claims}
 use Rattle.store_steps.specs.Grips.{Gripped}
 
 -- the root and the mode of the store's blob, and how many chunks it has room for
@@ -37,3 +37,16 @@ pub record GoneOn (handed : Piece → Type 0) (old new : Gripped) (chunks parent
 abbrev pub SeenBinds : SeatView → Type 0
 SeenBinds view = (blob : List ℕ) → IsBlob view.fixed blob → (c : ℕ) (bytes : List ℕ) → (state_after view.seen).held c ≡ Some bytes
     → (chunk_of blob c ≡ Some bytes) ⊎ ((from : IsCommitted view.fixed view.seen c bytes) × PairNamed view.fixed blob from.piece)
+
+-- A new seat has seen what a seat had seen, and has neither calls nor claims.
+pub record BeginsAfter (given new : SeatView) : Type 0 where
+  pub fixed_is : new.fixed ≡ given.fixed
+  pub seen_is : new.seen ≡ given.seen
+  pub no_calls : AreOfOthers (names_of new) new.seen
+  pub no_claims : (c : ℕ) → seat_claims new c ≡ false
+
+-- A seat has the same names, so that its calls and its claims are the same, and has seen the same. More may have split off
+-- from it.
+pub record KeepsItsOwn (given stays : SeatView) : Type 0 where
+  pub names_are : names_of stays ≡ names_of given
+  pub rest_is : stays ≡ record given { names = stays.names }

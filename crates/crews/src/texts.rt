@@ -6,6 +6,7 @@ ghost use Rattle.gather.specs.Large.{AreLonger, IsOfNone, IsTooLarge, fixed_as};
 ghost use Rattle.crews.specs.declared.fault.CrewsFault.TheVariants.{Gather};
 ghost use Rattle.gather.specs.declared.texts.GatherFault.TheVariants.{Capacity, NotTheRoot, Starved, TooLarge};
 ghost use Rattle.store_shared.specs.Seats.{IsSeatOf};
+ghost use Rattle.crews.specs.Seats.{BeginsAfter, KeepsItsOwn};
 
 use crate::blob::finish;
 use crate::crew::Crew;
@@ -24,6 +25,9 @@ const MOST_WORKERS: u32 = 64;
 /// So many crews, each with a seat of its own that is split off this one, and holders over all texts in their order;
 /// and the seat that stays. The texts are not copied.
 ///
+/// Each crew's seat has seen what this seat had seen, and has neither claims nor calls of its own. The seat that stays
+/// keeps all of this one's: what it had seen, its calls and its claims.
+///
 /// 806 `Seat` where there was no memory for a seat, and 911 `Starved` for the crews and their lists of texts. The
 /// seats are let go then.
 pub fn crews_over<'a>(
@@ -37,7 +41,9 @@ pub fn crews_over<'a>(
     ensures of { IfOk result (λ made. All (λ crew. IsSeatOf assembly.now crew.seat) made.0.items) }
     ensures count { IfOk result (λ made. vec_len made.0 ≡ workers) }
     ensures holders { IfOk result (λ made. All (λ crew. map encoding crew.holders.items ≡ map vec_items texts.now) made.0.items) }
+    ensures begin { IfOk result (λ made. All (λ crew. BeginsAfter seat.view crew.seat.view) made.0.items) }
     ensures stays { IfOk result (λ made. IsSeatOf assembly.now made.1) }
+    ensures keeps { IfOk result (λ made. KeepsItsOwn seat.view made.1.view) }
     ensures fault { IfErr result (λ fault. (fault ≡ CrewsFault.Seat) ⊎ (fault ≡ Gather Starved)) }
 {
     let starved = CrewsFault::Gather(GatherFault::Starved);
