@@ -42,7 +42,7 @@ impl Assembly {
     ghost use Rattle.store_shared.specs.Calls.{IsUnstored, Settles};
     ghost use Rattle.store_shared.specs.Seats.{HasGroup, IsSeatOf, fixed_of};
     ghost use Rattle.store_steps.specs.Grips.{opening_view};
-    ghost use Rattle.store_steps.specs.Parts.{AreMet, ArePartsOf, IsMerged, KeepsClaims, NoneIsClaimedByBoth};
+    ghost use Rattle.store_steps.specs.Parts.{AreMet, ArePartsOf, IsMerged, KeepsClaims, LooksRound, NoneIsClaimedByBoth};
     ghost use Rattle.store_steps.specs.Tells.{Called};
 
     /// A store that holds, claims and records nothing, and its first seat, which has seen nothing. `capacity` is a number
@@ -142,6 +142,16 @@ impl Assembly {
         put_masks(claims.as_mut_slice(), others.as_slice());
         let grip = self.words.merge(grip, other);
         Seat { grip, claims }
+    }
+
+    /// Sees all that was called so far, and makes no call. Where the seat has all names that there are, as one with which
+    /// all others were joined, no other call was made than its own. It takes no memory.
+    pub fn look_round(&self, seat: &mut Seat)
+        requires of { IsSeatOf self.now seat.old }
+        ensures of { IsSeatOf self.now seat.new }
+        ensures looked { LooksRound seat.old.view seat.new.view }
+    {
+        self.words.look_round(&mut seat.grip);
     }
 
     /// Lets two seats meet: afterwards both have seen one history, which begins with what each had seen. Their calls and

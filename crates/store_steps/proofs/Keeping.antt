@@ -22,6 +22,7 @@ use Rattle.store_steps.specs.Layout.{cell_at}
 use Rattle.store_steps.specs.Rule.{AreApart, AreParentsKept, Fits, FitsParents, HasView, IsKept, IsLater, IsNamed, StandFor, StandForParents}
 use Rattle.store_steps.proofs.ParentsStanding.{LeavesParents, fits_left, fits_same, parents_left}
 use Rattle.store_steps.proofs.Storers.{stores_on}
+use Rattle.store_steps.proofs.Callers.{callers-append, callers_by}
 use Rattle.store_steps.proofs.Lists.{AreBy, apart_from, entry_of, one_part, others-append, others_by}
 
 -- the names of views that have the same entries
@@ -71,6 +72,7 @@ apart_still views later history own apart before id at view has by = record {
   new_to_calls = λ named k name l.
       let is = named_before views later before named k in
       others-append (name ∷ []) history own (apart.new_to_calls named is name l) (new_names_by views history apart id at view has own by named is name l);
+  callers = callers-append history own apart.callers (callers_by view.names own (apart.named id at view has) by);
 }
 
 -- a view goes on to fit where others call and its chunks' cells are left

@@ -1,6 +1,7 @@
 pub mod Bits
 pub mod Standing
 pub mod Lists
+pub mod Callers
 pub mod Calls
 pub mod Keeping
 pub mod Opening
@@ -17,6 +18,7 @@ pub mod Regrouping
 pub mod Parting
 pub mod Meeting
 pub mod Going
+pub mod Wholes
 pub mod LastLoad
 pub mod OneByte
 pub mod Simulating

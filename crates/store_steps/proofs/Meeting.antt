@@ -257,6 +257,7 @@ module _ (fixed : Fixed) (s : Table Unit (List SeatView)) (k : IsKept fixed s) (
       ordered = λ i j v h. merge_ordered i j v (merge_found i j v h);
       new_to_views = λ first other a b. k.names.new_to_views first other (merge_is first a) (merge_is other b);
       new_to_calls = λ named is. k.names.new_to_calls named (merge_is named is);
+      callers = k.names.callers;
     }) (record {
       storer = storer_then;
       stand = stand_moved fixed s.words (state_after k.history).parents k.parents.storer to k.parents.stand;

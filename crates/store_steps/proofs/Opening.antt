@@ -72,6 +72,7 @@ opens fixed = record {
         let base : one.name ≡ [] = ap (λ (n : Named). n.name) (the_name fixed one a) in
         let never : [] ≡ (one.splits + later.number) ∷ later.rest = sym name ∙ later.is ∙ ap (λ (n : Name). n ++ (one.splits + later.number) ∷ later.rest) base in cc;
     new_to_calls = λ named is name later. refl;
+    callers = tt;
   };
   parents = record {
     storer = λ m. None;

@@ -252,6 +252,7 @@ module _ (fixed : Fixed) (s : Table Unit (List SeatView)) (k : IsKept fixed s) (
     new_to_views = λ one other a b. never_later one other (entry_of_later one a) (entry_of_later other b);
     new_to_calls = λ one is name l.
         let o = older one (entry_of_later one is) in k.names.new_to_calls o.old o.is name (o.later_too name l);
+    callers = k.names.callers;
   }) (record {
     storer = k.parents.storer;
     stand = k.parents.stand;

@@ -100,6 +100,7 @@ regroup fixed s t same k to moved goes = rekept fixed s t same k
       ordered = λ seat part view h. let m = moved seat part view h in k.names.ordered m.old_seat m.old_part view m.has;
       new_to_views = λ one other a b. k.names.new_to_views one other (moved_named s.views t.views to moved one a) (moved_named s.views t.views to moved other b);
       new_to_calls = λ named is. k.names.new_to_calls named (moved_named s.views t.views to moved named is);
+      callers = k.names.callers;
     })
     (parents_moved fixed s.words s.views t.views (state_after k.history).parents k.parents to moved goes)
 

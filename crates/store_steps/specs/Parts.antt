@@ -1,10 +1,12 @@
 -- How seats part, merge and meet.
-use Rattle.std.specs.Prelude.{◌≡◌, ℕ, false, true, List}
+use Rattle.std.specs.Prelude.{◌≡◌, ℕ, ◌<◌, false, true, List, [], ◌∷◌, ◌++◌, map, Contains}
 use Rattle.store_core.specs.declared.history.Event.{Event}
+use Rattle.store_core.specs.declared.view.Named.{Named}
 use Rattle.store_core.specs.declared.view.SeatView.{SeatView}
 use Rattle.store_core.specs.Histories.{AreOfOthers, IsLegal}
-use Rattle.store_core.specs.Names.{share_name}
-use Rattle.store_core.specs.Views.{Continues, IsJoined, names_of, seat_claims, split_first, split_second}
+use Rattle.store_core.specs.Names.{has_name, share_name}
+use Rattle.store_core.specs.Views.{Continues, IsJoined, mine, names_of, seat_claims, split_first, split_second}
+use Rattle.store_steps.specs.Tells.{Sees}
 
 -- The first keeps all but the count of its splits. The second has seen the same, and its new name has neither calls nor
 -- claims.
@@ -20,6 +22,18 @@ pub record IsMerged (first second merged : SeatView) : Type 0 where
   pub apart : share_name (names_of first) (names_of second) ≡ false
   pub joined : IsJoined first second merged
   pub legal : IsLegal merged.fixed merged.seen
+
+-- Of all names there are none but these: they have the first name, which is empty, and with each of them all that were
+-- split off from it.
+pub record AreAllNames (names : List Named) : Type 0 where
+  pub first : has_name (map (λ named. named.name) names) [] ≡ true
+  pub split : (named : Named) (number : ℕ) → Contains names named → number < named.splits
+      → has_name (map (λ named. named.name) names) (named.name ++ number ∷ []) ≡ true
+
+-- The seat has seen more and made no call. Where it has all names that there are, each call that it has seen is its own.
+pub record LooksRound (old new : SeatView) : Type 0 where
+  pub sees : Sees old new
+  pub alone : AreAllNames old.names → mine new ≡ new.seen
 
 -- no chunk is claimed by both
 abbrev pub NoneIsClaimedByBoth : SeatView → SeatView → Type 0

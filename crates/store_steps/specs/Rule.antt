@@ -86,8 +86,13 @@ pub record IsLater (named : Named) (name : Name) : Type 0 where
   pub rest : Name
   pub is : name ≡ named.name ++ (named.splits + number) ∷ rest
 
+-- each event has a caller with a name
+abbrev pub HaveCallers : List Event → Type 0
+HaveCallers [] = Unit {0}
+HaveCallers (e ∷ events) = (0 < length e.who) × HaveCallers events
+
 -- Each view has a name, and its names stand in dictionary order, each once. Each name has one view: its owner is the place
--- of that view. No name that a later split gives is another view's or has called.
+-- of that view. No name that a later split gives is another view's or has called. Each call has a caller with a name.
 pub record AreApart (views : List (List SeatView)) (history : List Event) : Type 0 where
   pub owner : Name → ℕ × ℕ
   pub owned : (seat part : ℕ) (view : SeatView) → HasView views seat part view → (name : Name) → has_name (names_of view) name ≡ true
@@ -96,6 +101,7 @@ pub record AreApart (views : List (List SeatView)) (history : List Event) : Type
   pub ordered : (seat part : ℕ) (view : SeatView) → HasView views seat part view → AreInOrder (names_of view)
   pub new_to_views : (one other : Named) → IsNamed views one → IsNamed views other → IsLater one other.name → ⊥
   pub new_to_calls : (named : Named) → IsNamed views named → (name : Name) → IsLater named name → AreOfOthers (name ∷ []) history
+  pub callers : HaveCallers history
 
 -- There is one legal history. The words stand for the state after it, each view fits it, and the views' names are apart.
 pub record IsKept (fixed : Fixed) (table : Table Unit (List SeatView)) : Type 0 where

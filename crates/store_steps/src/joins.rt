@@ -24,6 +24,16 @@ impl Play<(), LinkedList<SeatView>> for Parting {
     ghost then = { λ step me found later. OfOne Parts me later };
 }
 
+// A load by which a seat sees all that was called.
+pub(crate) struct LookingRound;
+
+impl Play<(), LinkedList<SeatView>> for LookingRound {
+    ghost use Rattle.store_steps.specs.Parts.{LooksRound};
+    ghost use Rattle.store_steps.specs.Plays.{OfOne};
+
+    ghost then = { λ step me found later. OfOne LooksRound me later };
+}
+
 // A seat takes another's view in, and has both.
 pub(crate) struct Both;
 

@@ -3,7 +3,7 @@ ghost use Rattle.store_steps.specs.Layout.{word_count};
 
 use crate::fault::NewFault;
 use crate::grip::Grip;
-use crate::joins::{Both, Entering, Leaving, Meeting, Merging, Parting, Parts};
+use crate::joins::{Both, Entering, Leaving, LookingRound, Meeting, Merging, Parting, Parts};
 use crate::lengths::{length_in, settling};
 use crate::places::{
     cell_place, chunks_below, claim_place, has_node, held_place, length_place, node_place,
@@ -55,7 +55,7 @@ impl Words {
     ghost use Rattle.store_core.specs.Views.{is_storing};
     ghost use Rattle.store_steps.specs.Asks.{AreClaimed, AreHeldClaims, AreParentsWritten, AreWritten};
     ghost use Rattle.store_steps.specs.Grips.{opening_view};
-    ghost use Rattle.store_steps.specs.Parts.{AreMet, ArePartsOf, IsMerged};
+    ghost use Rattle.store_steps.specs.Parts.{AreMet, ArePartsOf, IsMerged, LooksRound};
     ghost use Rattle.store_steps.specs.Reads.{read_events};
     ghost use Rattle.store_core.specs.Serves.{node_held};
     ghost use Rattle.store_steps.specs.Slices.{node_events, number_of, unserved_events, unstored_events};
@@ -577,6 +577,16 @@ impl Words {
         self.table.shared.load::<Parting>(&mut seat, 0);
         let other = self.table.shared.split_seat::<Parts>(&mut seat);
         Ok((Grip { seat }, Grip { seat: other }))
+    }
+
+    /// Sees all that was called so far. Where the grip has all names that there are, no other call was made than its own.
+    /// One load, which changes nothing.
+    pub fn look_round(&self, grip: &mut Grip)
+        requires of { IsOf self.now grip.old }
+        ensures of { IsOf self.now grip.new }
+        ensures looked { LooksRound grip.old.view grip.new.view }
+    {
+        self.table.shared.load::<LookingRound>(&mut grip.seat, 0);
     }
 
     /// Merges two grips to one, with the calls, the claims and the stored words of both. What it has seen begins with
