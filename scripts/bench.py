@@ -2,8 +2,10 @@
 """Times the programs of this repository, as `make bench` built them, beside b3sum, and prints a table.
 
 Every command is run several times, in turns and twice in a row, and its least time counts. No time is judged: this fails only where a
-program fails, or where two of them print different hashes."""
+program fails, where two of them print different hashes, or where what was decoded or gathered isn't what was encoded. What is wanted of each
+ratio stands here alone, in MEMORY and RATIOS."""
 import argparse
+import filecmp
 import os
 import shutil
 import subprocess
@@ -265,30 +267,33 @@ def measure(room, mib, runs):
     with open(path, "wb") as it:
         for _ in range(mib):
             it.write(os.urandom(MIB))
-    commands = [(HASH, [PROGRAM, "hash", path]), (HASH_ONE, [PROGRAM, "hash", *ONE_THREAD, path])]
+    # Of each its name, its words, and the file that the one that it makes has to be like.
+    commands = [(HASH, [PROGRAM, "hash", path], None), (HASH_ONE, [PROGRAM, "hash", *ONE_THREAD, path], None)]
     b3sum = shutil.which("b3sum")
     if b3sum:
         for name, words in ((B3SUM_ONE, ["1"]), (B3SUM_FOUR, ["4"]), (B3SUM_READ_ONE, ["1", "--no-mmap"]), (B3SUM_READ_FOUR, ["4", "--no-mmap"])):
-            commands.append((name, [b3sum, "--no-names", "--num-threads", *words, path]))
+            commands.append((name, [b3sum, "--no-names", "--num-threads", *words, path], None))
     else:
         print("b3sum is not installed, so there are no times of it (Debian: apt-get install b3sum).")
     for name, command in ((OUTBOARD, "outboard"), (ENCODE, "encode")):
         if knows(command):
-            commands.append((name, [PROGRAM, command, path, made]))
+            commands.append((name, [PROGRAM, command, path, made], None))
         else:
             print(f"The program knows no command {command}, so there is no time of it.")
     encoding = f"{room}/encoding"
     root = output([PROGRAM, "encode", path, encoding]).strip()
-    commands.append((DECODE, [PROGRAM, "decode", root, encoding, made]))
+    commands.append((DECODE, [PROGRAM, "decode", root, encoding, made], path))
     blob, root, encoding, damaged = holders(room, path)
-    commands.append((GATHER, [PROGRAM, "gather", root, made, encoding]))
-    commands.append((GATHER_TEN, [PROGRAM, "gather", root, made, *damaged]))
+    commands.append((GATHER, [PROGRAM, "gather", root, made, encoding], blob))
+    commands.append((GATHER_TEN, [PROGRAM, "gather", root, made, *damaged], blob))
     times, hashes = Times(), set()
     for _ in range(runs):
-        for name, words in commands:
+        for name, words, like in commands:
             printed = times.run(name, words, made)
             if made not in words:
                 hashes.add(printed[:64])
+            if like and not filecmp.cmp(made, like, shallow=False):
+                fail(f"what {name} wrote isn't {os.path.basename(like)}")
         times.run(HASH_GATHERED, [PROGRAM, "hash", blob])
         times.run_in_process(path)
     if len(hashes) > 1:
