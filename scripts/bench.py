@@ -190,7 +190,7 @@ ROWS = [
     (READ_ALONE, "store_core's read of the same bytes, the mean of 16"),
     (RUN_ONE, "crews::run in one process, one worker, of the combined encoding of the first 64 MiB"),
     (RUN_FOUR, "as before, four workers"),
-    (PARENTS_ALONE, "store_shared's commit_parents of the same groups' slices in one process, one seat on one thread, where the length is recorded, by those calls alone"),
+    (PARENTS_ALONE, "store_shared's commit_parents of the same groups' slices in one process, one seat on one thread, where the length is recorded, with finding these groups"),
 ]
 
 # The table of memory: a name, how it was measured, and what is wanted of it.
@@ -239,7 +239,7 @@ RATIOS = [
     ("one thread", SERVED_SHARED, READ_SHARED, "at most 3"),
     ("one thread", SERVED_ALONE, READ_ALONE, "at most 3"),
     ("several threads", RUN_ONE, RUN_FOUR, "at least 2.5 on four processors"),
-    ("one thread", PARENTS_ALONE, RUN_ONE, "at most 0.09, by these calls alone: finding their groups is not counted"),
+    ("one thread", PARENTS_ALONE, RUN_ONE, "at most 0.09: so run takes at most 1.1 of its time without parents"),
 ]
 
 
