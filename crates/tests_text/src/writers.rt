@@ -103,6 +103,27 @@ fn ends_at_the_first_failed_write(rt: HostRuntime) -> Result<(), Fail> {
     Ok(())
 }
 
+#[test]
+fn a_write_fails_after_each_number_of_bytes(rt: HostRuntime) -> Result<(), Fail> {
+    let mode = Mode::hash();
+    let bytes = blob(&rt, 2049)?;
+    let (_, text) = combined(rt.alloc(), &mode, bytes.as_slice())?;
+    assert_eq!(rt; text.len(), 2185);
+    for full in 0..text.len() {
+        let mut out = Choppy {
+            held: Vec::new(rt.alloc()),
+            most: 1000,
+            full,
+            end: Some(ErrorKind::BrokenPipe),
+        };
+        let result = write_combined(rt.alloc(), &mode, bytes.as_slice(), &mut out);
+        let written = full as u128;
+        assert_eq!(rt; result, Err(WriteFault::Writer { written }));
+        assert_eq!(rt; Some(out.held.as_slice()), text.get(..full));
+    }
+    Ok(())
+}
+
 // A blob of more than a piece goes out in several writes, each of at most 72 KiB, whose parts fit.
 #[test]
 fn writes_a_large_blob_in_pieces(rt: HostRuntime) -> Result<(), Fail> {
