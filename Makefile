@@ -4,7 +4,7 @@ SHELL := bash
 .SHELLFLAGS := -eu -o pipefail -c
 .DEFAULT_GOAL := help
 .DELETE_ON_ERROR:
-.PHONY: help build run try install sum test wrong-bodies scenarios docs c-library c-install c-test c-bench bench refuse fmt FORCE
+.PHONY: help build run try install dist sum test wrong-bodies scenarios docs c-library c-install c-test c-bench bench refuse stress fmt FORCE
 
 PREFIX ?= /usr/local
 
@@ -28,7 +28,8 @@ help:
 	@echo 'make try ARGS="WORD .."   runs bao_gather on the words within a minute, unproved, in the folder crates/bao_gather'
 	@echo 'make sum                  prints the checksum of the built bao_gather'
 	@echo 'make install PREFIX=DIR   copies bao_gather to DIR/bin, its manual page and completions to DIR/share (PREFIX is /usr/local if left out; DESTDIR goes before it)'
-	@echo 'make test                 the gate, rt ci: every proof from nothing, the must-fail edits, the tests and the programs'
+	@echo 'make dist                 makes the folder of a release, out/dist, of a commit: programs for both processor levels, manual page, completions, checksums'
+	@echo 'make test                 the gate: rt ci, which does every proof from nothing, the must-fail edits, the tests and the programs; then make docs and make refuse'
 	@echo 'make wrong-bodies         tries the wrong bodies that the gate leaves out, of all crates or of CRATES="NAME .."'
 	@echo 'make docs                 runs the shell examples of README and docs/CLI.md, and compares what they print'
 	@echo 'make scenarios            holds what the programs of scenarios have to print to replies made by the definitions alone'
@@ -37,7 +38,8 @@ help:
 	@echo 'make c-test               holds c/berylwool.h to the sources, and runs the C tests, under what is installed of sanitizers, valgrind, clang and rustc'
 	@echo 'make c-bench              measures calls of the C library in one thread, and prints their times'
 	@echo 'make bench                measures times and prints them with their ratios, beside b3sum where it is installed'
-	@echo 'make refuse               runs the program with one allocation refused after another (needs cc)'
+	@echo 'make refuse               runs each task where holders lie, and with one allocation, read, write or other call failing after another (needs cc)'
+	@echo 'make stress               runs the tests that start threads 200 times, many at once'
 	@echo 'make fmt                  lays out the files of each crate'
 	@echo 'CPU=x86-64 or CPU=x86-64-v3 picks the processor level, which is $(CPU) if left out; JOBS=N is the number of jobs of a proof, or of wrong bodies at a time'
 
@@ -61,9 +63,19 @@ install: out/bao_gather
 	install -D -m 644 out/manual/_bao_gather '$(DESTDIR)$(PREFIX)/share/zsh/site-functions/_bao_gather'
 	install -D -m 644 out/manual/bao_gather.fish '$(DESTDIR)$(PREFIX)/share/fish/vendor_completions.d/bao_gather.fish'
 
+# The levels one after another: the second one wants a machine that has it, and proves and builds anew.
+dist:
+	@for cpu in x86-64 x86-64-v3; do $(MAKE) CPU=$$cpu out/bao_gather; install -D -m 755 out/bao_gather out/levels/$$cpu/bao_gather; done
+	@python3 scripts/dist.py out/dist x86-64=out/levels/x86-64/bao_gather x86-64-v3=out/levels/x86-64-v3/bao_gather
+
+# What rt ci built of the program stays in its crate's out/, so nothing is built again for what comes after it.
 test:
 	@python3 scripts/wrong_bodies.py --read
 	rt ci
+	@mkdir -p out
+	@python3 scripts/docs.py crates/bao_gather/out/bao_gather > out/docs.log || { cat out/docs.log; exit 1; }
+	@if command -v cc > /dev/null; then python3 scripts/refuse.py crates/bao_gather/out/bao_gather > out/refuse.log || { cat out/refuse.log; exit 1; }; \
+	    else echo 'make refuse was left out: there is no cc.' >&2; fi
 
 wrong-bodies:
 	@python3 scripts/wrong_bodies.py $(if $(JOBS),--jobs $(JOBS)) $(CRATES)
@@ -79,6 +91,9 @@ bench: out/bao_gather out/bench
 
 refuse: out/bao_gather
 	@python3 scripts/refuse.py
+
+stress:
+	@python3 scripts/stress.py $(CRATES)
 
 fmt:
 	@for crate in crates/*/; do (cd "$$crate" && rt fmt); done

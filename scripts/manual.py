@@ -124,15 +124,16 @@ def fish(helps):
     return "\n".join(out) + "\n"
 
 
-def main():
-    if len(sys.argv) != 2:
-        sys.exit(__doc__)
+def write(folder):
+    """Writes the four texts into the folder, which is made."""
     helps = {name: Help(lines) for name, lines in texts().items()}
-    os.makedirs(sys.argv[1], exist_ok=True)
+    os.makedirs(folder, exist_ok=True)
     for name, made in [(f"{NAME}.1", manual), (f"{NAME}.bash", bash), (f"_{NAME}", zsh), (f"{NAME}.fish", fish)]:
-        with open(f"{sys.argv[1]}/{name}", "w") as out:
+        with open(f"{folder}/{name}", "w") as out:
             out.write(made(helps))
 
 
 if __name__ == "__main__":
-    main()
+    if len(sys.argv) != 2:
+        sys.exit(__doc__)
+    write(sys.argv[1])

@@ -1,114 +1,344 @@
 #!/usr/bin/env python3
-"""Runs the program that `make build` made with one allocation refused after another, and looks at how each run ends:
-with the right output and status 0, or with a fault of memory, status 4, nothing on standard output and OUT as it was, or
-whole where the digits of the hash found no room after it.
+"""Runs the program where memory, devices and holders fail, and holds each run to the definitions.
 
-Needs cc, for a library that stands before malloc and realloc."""
+usage: python3 scripts/refuse.py [--lanes N] [--only TEXT] [PROGRAM]
+
+PROGRAM is the built bao_gather, out/bao_gather where it is left out.
+
+Holders that lie are tried, with a true one among them or none. And each task is run with one call of the C library failing, and so with each
+such call in turn, until a run meets none: an allocation, a thread's start, an open, a read, a write, a close, or the question how long
+a file is (scripts/shim.c). It fails as FAULTS says, that once or from then on. What has to come is what scripts/scenarios.py gives by the
+definitions alone, of the files as the run found them, or a fault of docs/CLI.md: never another text, status or byte of OUT.
+Prints each case, each run that ended otherwise, and last 'N passed, M failed'. The exit status is 1 where one failed. Needs cc.
+"""
+import argparse
+import errno
+import functools
+import multiprocessing
 import os
 import subprocess
 import sys
 import tempfile
+from dataclasses import dataclass
 
-ROOT = os.path.dirname(os.path.dirname(os.path.abspath(__file__)))
-PROGRAM = f"{ROOT}/out/bao_gather"
+sys.dont_write_bytecode = True
+import definitions as bao
+import scenarios
 
-SHIM = r"""
-#define _GNU_SOURCE
-#include <dlfcn.h>
-#include <stdatomic.h>
-#include <stdlib.h>
+HERE = os.path.dirname(os.path.abspath(__file__))
 
-static atomic_long calls;
+OUT, KEPT, STDOUT, STDERR = "out", b"kept", "standard output", "standard error"
+PLAIN = b"bao_gather: memory\n"
 
-static int refused(void) {
-    static long wanted = -1;
-    if (wanted < 0) {
-        const char *text = getenv("REFUSE");
-        wanted = text ? atol(text) : 0;
+# No run comes near these seconds: it is held for ever.
+HELD = 120
+
+# After so many runs in a row that met no failure all calls were tried: threads make some in one run and not in another.
+QUIET = 3
+
+
+@dataclass(frozen=True)
+class Fault:
+    """How a call fails: by a number of errno, or as the shim says, and once or from then on."""
+
+    call: str
+    how: str
+    on: bool = False
+
+    def __str__(self):
+        how = errno.errorcode[int(self.how)] if self.how.isdigit() else self.how
+        return f"{self.call} {how}{' from there on' if self.on else ''}"
+
+
+def faults_of(call, *hows, on=()):
+    number = lambda it: str(getattr(errno, it, it))
+    return [Fault(call, number(it)) for it in hows] + [Fault(call, number(it), True) for it in on]
+
+
+FAULTS = [
+    *faults_of("malloc", "ENOMEM", on=["ENOMEM"]),
+    *faults_of("pthread_create", "EAGAIN", on=["EAGAIN"]),
+    *faults_of("open", "EIO", "ENOSPC", "EINTR", "EMFILE", on=["EIO"]),
+    *faults_of("statx", "EIO", "less", "more", on=["EIO", "less", "more"]),
+    *faults_of("read", "EIO", "EINTR", "short", "none", on=["EIO", "short"]),
+    *faults_of("pread", "EIO", "EINTR", "short", "none", on=["EIO", "short", "none"]),
+    *faults_of("write", "EIO", "ENOSPC", "EINTR", "short", "none", on=["EIO", "ENOSPC", "short"]),
+    *faults_of("close", "EIO", "EINTR", on=["EIO"]),
+]
+
+# What changes nothing of what has to come: a file has the bytes that it has.
+HARMLESS = ["short", "less", "more"]
+
+# What may change nothing, since there is another way, or the call may be tried again.
+AVOIDABLE_CALLS, AVOIDABLE = ["statx", "pread", "close"], [str(errno.EINTR)]
+
+# The faults of memory that a task has of its own, beside that without a number. Each comes from some refused allocation.
+OWN = {
+    "hash": [],
+    "encode": ["401"],
+    "outboard": ["401"],
+    "slice": ["401"],
+    "decode": ["504"],
+    "decode-slice": ["504"],
+    "gather": ["801", "806", "903", "911"],
+    "replay": ["401", "701"],
+}
+
+
+@dataclass(frozen=True)
+class Ending:
+    """How a run ended: its status, what it printed, and what stands at OUT."""
+
+    status: int
+    printed: bytes
+    complaint: bytes
+    out: bytes
+
+
+class Case:
+    """A run of the program on words, over files."""
+
+    def __init__(self, words, files, sizes=None, is_avoidable=False):
+        self.words, self.files, self.sizes = words, {**files, OUT: KEPT}, sizes or {}
+        own = OWN[words[0]] + (["401"] if "--encode" in words else [])
+        self.memory = {f"bao_gather: {it} memory\n".encode() for it in own} | {PLAIN}
+        # A long file is encoded in another way where there is no memory for the first.
+        self.needed = {PLAIN} if is_avoidable else self.memory
+        self.name = " ".join(it if len(it) < 64 else f"{it[:6]}.." for it in words)
+
+    @functools.lru_cache(maxsize=None)
+    def ending(self, changes=frozenset()):
+        """How it ends by the definitions, where some files can't be read (None), or end at a byte."""
+        model = scenarios.Programs()
+        model.files = dict(self.files)
+        for file, end in changes:
+            if end is None:
+                model.files.pop(file, None)
+            else:
+                model.files[file] = model.files[file][:end]
+        status, *lines = model.do("run", " ".join(self.words))
+        told = {name: "".join(f"{it[5:]}\n" for it in lines if it.startswith(f"{name}: ")).encode() for name in ("out", "err")}
+        return Ending(int(status.split()[1]), told["out"], told["err"], model.files[OUT])
+
+    def lay_out(self, folder):
+        """Writes its files. One that has a size is zeros up to there, of which only the first are in the model."""
+        for file, data in self.files.items():
+            if "/" not in file:
+                with open(f"{folder}/{file}", "wb") as it:
+                    it.write(data)
+                    it.truncate(self.sizes.get(file, len(data)))
+
+    def run(self, program, folder, settings):
+        """Runs it, with OUT as before, and answers how it ended and the calls that were met: of each the file and its place there."""
+        with open(f"{folder}/{OUT}", "wb") as it:
+            it.write(KEPT)
+        met = f"{folder}.met"
+        if os.path.exists(met):
+            os.remove(met)
+        source = f"{folder}/blob" if "/dev/stdin" in self.files else os.devnull
+        with open(source, "rb") as stdin:
+            try:
+                ran = subprocess.run(
+                    [program, *self.words], stdin=stdin, capture_output=True, cwd=folder, timeout=HELD, env={**os.environ, **settings, "MET": met}
+                )
+            except subprocess.TimeoutExpired:
+                return Ending(-1, b"", b"held for ever", b""), []
+        with open(f"{folder}/{OUT}", "rb") as it:
+            ended = Ending(ran.returncode, ran.stdout, ran.stderr, it.read())
+        if not os.path.exists(met):
+            return ended, []
+        with open(met, encoding="utf-8") as it:
+            return ended, [line.rstrip("\n").split(" ", 1) for line in it]
+
+    def is_right(self, fault, met, ended):
+        """Whether it ended as promised, where these calls were met."""
+        whole = self.ending()
+        if fault.call == "malloc":
+            return ended == whole or self.is_of_memory(ended)
+        if fault.call == "pthread_create" or fault.how in HARMLESS:
+            return ended == whole
+        ends_early = fault.call == "read" and fault.how == "none"
+        changes = frozenset((file, int(byte) if ends_early else None) for byte, file in met if file in self.files and file != OUT)
+        if ended == whole and (fault.call in AVOIDABLE_CALLS or fault.how in AVOIDABLE):
+            return True
+        return self.is_ending(self.ending(changes), {file for _, file in met}, ended)
+
+    def is_of_memory(self, ended):
+        """It ended with a fault of memory of its own, and OUT is as it was, or whole where the line on standard output found no room."""
+        left = [KEPT, self.ending().out] if ended.complaint == PLAIN else [KEPT]
+        return ended.status == 4 and not ended.printed and ended.complaint in self.memory and ended.out in left
+
+    def is_ending(self, wanted, places, ended):
+        """It ended so, but for what a call on one of these places took away."""
+        status, printed, complaint, out = wanted.status, [wanted.printed], wanted.complaint, ended.out == wanted.out
+        if status == 0 and OUT in places:
+            status, printed, complaint = 3, [b""], f"bao_gather: cannot write {OUT}\n".encode()
+            out = ended.out == KEPT or wanted.out.startswith(ended.out)
+        elif status == 0 and STDOUT in places:
+            printed = [wanted.printed[:k] for k in range(len(wanted.printed))]
+            status, complaint = 3, b"bao_gather: cannot write output\n"
+        told = complaint.startswith(ended.complaint) if STDERR in places else ended.complaint == complaint
+        return ended.status == status and ended.printed in printed and told and out
+
+
+def tried(case, faults, program, shim, room):
+    """Runs a case with each fault at each call in turn, and answers how many runs ended right, and what to say of the others."""
+    passed, wrong, seen = 0, [], set()
+    with tempfile.TemporaryDirectory(dir=room) as folder:
+        case.lay_out(folder)
+        ended, _ = case.run(program, folder, {})
+        if ended != case.ending():
+            return 0, [f"{case.name}: {ended} in place of {case.ending()}"]
+        passed += 1
+        for fault in faults:
+            number = quiet = 0
+            while quiet < QUIET and len(wrong) < 20:
+                number += 1
+                settings = {"LD_PRELOAD": shim, "CALL": fault.call, "AT": str(number), "HOW": fault.how, **({"ON": "1"} if fault.on else {})}
+                ended, met = case.run(program, folder, settings)
+                quiet = 0 if met else quiet + 1
+                seen.add(ended.complaint)
+                if case.is_right(fault, met, ended):
+                    passed += 1
+                else:
+                    wrong.append(f"{case.name}: {fault}, call {number}, at {met}: {ended}"[:900])
+        for file, data in case.files.items():
+            if file != OUT and "/" not in file:
+                with open(f"{folder}/{file}", "rb") as it:
+                    wrong += [f"{case.name}: {file} was changed"] if it.read(len(data)) != data else []
+    wrong += [f"{case.name}: never {it!r}" for it in case.needed - seen if faults]
+    return passed, wrong
+
+
+MODES = [[], ["--key", "77686174732074686520456c7669736820776f726420666f7220667269656e64"], ["--context", "of-the-trials"]]
+
+
+def blob_of(length):
+    return bytes(i % 251 for i in range(length))
+
+
+def tasks(options):
+    """Each task of the program, in one mode."""
+    mode = scenarios.Programs().mode_of(*(options[1] if options[:1] == [it] else None for it in ("--key", "--context")))
+    # Two groups of 64 chunks, and a capacity that takes little time to make room for.
+    blob = blob_of(70_000)
+    root, whole, piece = mode.hash(blob).hex(), bao.combined(mode, blob), bao.slice_text(mode, blob, 5, 9999)
+    damaged = whole[:40_000] + bytes([whole[40_000] ^ 1]) + whole[40_001:]
+    steps = b"claim 1 0 1\nhash 1 0 0 1\nload 2 0 3\nfill 1 0\npublish 1 0\nload 2 0 3\nhash 1 1 69000 1000\nsettle 1\nlength 2\n"
+
+    def case(words, files):
+        name, *rest = words.split()
+        return Case([name, *options, *rest], files)
+
+    yield case("hash blob", {"blob": blob})
+    yield case("hash --at 7 --length 99 blob", {"blob": blob})
+    yield case("hash /dev/stdin", {"blob": blob, "/dev/stdin": blob})
+    yield case("encode blob out", {"blob": blob})
+    yield case("outboard blob out", {"blob": blob})
+    yield case("slice 5 9999 blob out", {"blob": blob})
+    yield case(f"decode {root} whole out", {"whole": whole})
+    yield case(f"decode {root} damaged out", {"damaged": damaged})
+    yield case(f"decode-slice {root} 5 9999 piece out", {"piece": piece})
+    yield case(f"gather --capacity 100 {root} out piece whole", {"piece": piece, "whole": whole})
+    yield case(f"gather --capacity 100 --workers 1 {root} out whole", {"whole": whole})
+    yield case(f"gather --capacity 100 --encode {root} out whole damaged copy", {"whole": whole, "copy": whole, "damaged": damaged})
+    yield case(f"gather --workers 3 --capacity 69 {root} out damaged", {"damaged": damaged})
+    yield case(f"replay --capacity 100 {root} script whole damaged", {"script": steps, "whole": whole, "damaged": damaged})
+
+
+# So long that it is read at places, on several threads.
+LONG = (4 << 20) + 1000
+
+
+def long_tasks():
+    blob = blob_of(LONG)
+    return [Case(words, {"blob": blob}, is_avoidable=True) for words in (["hash", "blob"], ["encode", "blob", OUT], ["outboard", "blob", OUT])]
+
+
+def liars(mode, blob):
+    """Texts that aren't the blob's combined encoding, and that no part of the blob has to come from."""
+    whole, other = bao.combined(mode, blob), bao.combined(mode, blob[1:])
+    most = (2**64 - 1).to_bytes(8, "little")
+    changed = bytearray(whole)
+    for at in range(8, len(whole), 1024):
+        changed[at] ^= 1
+    return {
+        "empty": b"",
+        "short": whole[:7],
+        "first": whole[:8],
+        "most": most,
+        "most-and-more": most + whole[8:],
+        "longer": (len(blob) + 1024).to_bytes(8, "little") + whole[8:],
+        "none": bytes(8) + whole[8:],
+        "other": other,
+        "changed": bytes(changed),
+        "zeros": bytes(len(whole)),
+        "blob": blob,
+        "outboard": bao.outboard(mode, blob),
     }
-    return atomic_fetch_add(&calls, 1) + 1 == wanted;
-}
-
-void *malloc(size_t size) {
-    static void *(*real)(size_t);
-    if (!real) real = (void *(*)(size_t))dlsym(RTLD_NEXT, "malloc");
-    return refused() ? 0 : real(size);
-}
-
-void *realloc(void *old, size_t size) {
-    static void *(*real)(void *, size_t);
-    if (!real) real = (void *(*)(void *, size_t))dlsym(RTLD_NEXT, "realloc");
-    return refused() ? 0 : real(old, size);
-}
-"""
-
-NAMES = ("", "401 ", "504 ", "801 ", "806 ", "903 ", "911 ")
-MEMORY = {name.strip(): f"bao_gather: {name}memory\n".encode() for name in NAMES}
-
-# The faults of memory that a task has of its own.
-OWN = {"hash": [""], "decode": ["504"], "decode-slice": ["504"], "gather": ["801", "806", "903", "911"]}
-
-# After how many runs in a row that ended well the last allocation is behind: a worker that gathers goes on after a
-# refusal.
-QUIET = {"gather": 500}
 
 
-def run(shim, number, words):
-    env = dict(os.environ, LD_PRELOAD=shim, REFUSE=str(number))
-    ran = subprocess.run([PROGRAM, *words], stdin=subprocess.DEVNULL, capture_output=True, env=env)
-    return ran.returncode, ran.stdout, ran.stderr
+def holders():
+    """Holders that lie, with a true one among them or none."""
+    mode, blob = bao.Mode(), blob_of(70_000)
+    root, whole, lies = mode.hash(blob).hex(), bao.combined(mode, blob), liars(mode, blob)
+    files, names = {**lies, "whole": whole}, list(lies)
+    gather = lambda given, *options: Case(["gather", *(options or ["--capacity", "100"]), root, OUT, *given], files)
+    for name in [*names, "nofile", "/", "."]:
+        yield gather([name])
+        yield gather([name, "whole"])
+        yield gather([name, name, "whole"], "--workers", "1")
+        for task in (["decode", root, name, OUT], ["decode-slice", root, "1000", "100", name, OUT], ["hash", name]):
+            yield Case(task, files)
+    # A file of 2^40 bytes that has none on the disk.
+    for task in (["decode", root, "zeros", OUT], ["decode-slice", root, "1000", "100", "zeros", OUT]):
+        yield Case(task, files, {"zeros": 1 << 40})
+    yield gather(names)
+    yield gather([*names[:10], "whole"])
+    yield gather([*names[:10], "whole"], "--workers", "1")
+    yield gather(["whole", "whole"])
+    yield gather(["whole"] * 64, "--workers", "64")
+    # Of 64 files one is true, at each place in turn.
+    many = [names[k % len(names)] for k in range(64)]
+    for place in range(64):
+        yield gather([*many[:place], "whole", *many[place + 1 :]])
 
 
-def contents(path):
-    with open(path, "rb") as it:
-        return it.read()
-
-
-def look(shim, words, out):
-    """How many runs ended with a fault of memory, until one that reached no refusal. The task's own fault is among them."""
-    whole = run(shim, 0, words)
-    text = contents(out)
-    faults = quiet = number = 0
-    seen = set()
-    while quiet < QUIET.get(words[0], 20):
-        number += 1
-        with open(out, "wb") as it:
-            it.write(b"kept")
-        status, printed, complaint = run(shim, number, words)
-        if (status, printed, complaint) == whole and ("hash" in words or contents(out) == text):
-            quiet += 1
-            continue
-        quiet = 0
-        left = [b"kept", text] if complaint == MEMORY[""] else [b"kept"]
-        if status != 4 or printed or complaint not in MEMORY.values() or contents(out) not in left:
-            sys.exit(f"refuse: allocation {number} of {' '.join(words)}: status {status}, {printed!r}, {complaint!r}")
-        faults += 1
-        seen.add(complaint)
-    for own in OWN.get(words[0], ["401"]):
-        if MEMORY[own] not in seen:
-            sys.exit(f"refuse: {words[0]} never ended with {MEMORY[own]!r}")
-    return faults
+def work(given):
+    """One part of the trials: some cases, with the faults to try. Answers what to print, how many runs passed and how many failed."""
+    name, cases, faults, *where = given
+    passed, wrong = 0, []
+    for case in cases:
+        try:
+            right, others = tried(case, faults, *where)
+        except Exception as error:
+            right, others = 0, [f"{case.name}: {error!r}"]
+        passed, wrong = passed + right, wrong + others
+    return "\n    ".join([f"{name}: {passed} passed, {len(wrong)} failed", *wrong]), passed, len(wrong)
 
 
 def main():
+    asked = argparse.ArgumentParser(description=__doc__, formatter_class=argparse.RawDescriptionHelpFormatter)
+    asked.add_argument("--lanes", type=int, default=os.cpu_count(), help="how many cases at a time (one a processor)")
+    asked.add_argument("--only", default="", help="cases alone whose words have this text in them")
+    asked.add_argument("program", nargs="?", default="out/bao_gather", metavar="PROGRAM", help="the built bao_gather (out/bao_gather)")
+    asked = asked.parse_args()
+    passed = failed = 0
     with tempfile.TemporaryDirectory(prefix="refuse-") as room:
-        shim, blob, out = f"{room}/shim.so", f"{room}/blob", f"{room}/out"
-        with open(f"{room}/shim.c", "w", encoding="utf-8") as it:
-            it.write(SHIM)
-        subprocess.run(["cc", "-shared", "-fPIC", "-o", shim, f"{room}/shim.c", "-ldl"], check=True)
-        with open(blob, "wb") as it:
-            it.write(bytes(i % 251 for i in range(200_000)))
-        encoding, piece = f"{room}/encoding", f"{room}/piece"
-        root = run(shim, 0, ["encode", blob, encoding])[1].decode().strip()
-        run(shim, 0, ["slice", "5", "9999", blob, piece])
-        writers = (["encode", blob, out], ["outboard", blob, out], ["slice", "5", "9999", blob, out])
-        decoders = (["decode", root, encoding, out], ["decode-slice", root, "5", "9999", piece, out])
-        gatherer = ["gather", root, out, piece, encoding]
-        for words in (["hash", blob], ["hash", "--length", "99", blob], *writers, *decoders, gatherer):
-            with open(out, "wb"):
-                pass
-            print(f"{words[0]}: {look(shim, words, out)} runs ended with a fault of memory, and the others as they should")
+        shim = f"{room}/shim.so"
+        where = (os.path.abspath(asked.program), shim, room)
+        subprocess.run(["cc", "-shared", "-fPIC", "-O1", "-o", shim, f"{HERE}/shim.c", "-ldl"], check=True)
+        chosen = lambda cases: [it for it in cases if asked.only in it.name]
+        parts = [("a file that is read at places", chosen(long_tasks()), FAULTS, *where)]
+        parts.append(("holders", chosen(holders()), [], *where))
+        parts += [(case.name, [case], FAULTS, *where) for options in MODES for case in chosen(tasks(options))]
+        with multiprocessing.Pool(asked.lanes) as pool:
+            for said, right, wrong in pool.imap_unordered(work, [it for it in parts if it[1]]):
+                print(said, flush=True)
+                passed, failed = passed + right, failed + wrong
+    print(f"{passed} passed, {failed} failed")
+    return 1 if failed else 0
 
 
 if __name__ == "__main__":
-    main()
+    sys.exit(main())
