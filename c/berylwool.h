@@ -119,6 +119,19 @@ typedef struct bw_node {
     uint64_t number;
 } bw_node;
 
+/* What bw_gather did: chunks that it committed, parents that it stored, slices that it asked for, texts that a check refused, fetches whose
+ * device failed (there is none here), refusals of memory, and 1 where a certified length was above what the store has room for. A count
+ * stays at 2^64 - 1 once there. */
+typedef struct bw_report {
+    uint64_t committed;
+    uint64_t parents;
+    uint64_t asked;
+    uint64_t refused;
+    uint64_t failed;
+    uint64_t memory;
+    uint32_t too_large;
+} bw_report;
+
 /* A handle owns a hasher or a seat, or is empty. Only this library reads or writes `at` and what lies behind it. A handle may be moved as
  * bytes, and has one owner: a copy that is used beside it breaks everything. It may go from one thread to another by what orders memory:
  * a thread's start or join, a lock, a sequentially consistent atomic. Set one to BW_EMPTY before its first use, and end with bw_free. */
@@ -224,6 +237,13 @@ bw_status bw_seat_settle(bw_handle *seat, const uint8_t *text, size_t text_len, 
  * *stored stands for the parent whose right part begins at chunk 64 * group + j. BW_SHORT, BW_MISMATCH, BW_TRAILING, BW_OTHER_LENGTH. */
 bw_status bw_seat_commit_parents(bw_handle *seat, uint32_t group, uint64_t start, uint64_t len, const uint8_t *text, size_t text_len,
                                  uint64_t *stored, uint64_t *at);
+
+/* One worker's round over one text, which may be the blob's combined encoding, or any bytes: N threads with a seat each are N workers, with
+ * the numbers 0 to N - 1. Where no length is recorded, it cuts out the slice of the last byte and settles the length that this certifies;
+ * it ends where there is none, or where it is too large. Then it goes once round all groups, from its own part of them on, takes each group's
+ * chunks, cuts out their slice, commits from it and stores its parents, and gives back what is left. What it did is added to *report, which
+ * begins as all 0. The answer is BW_OK also where nothing was committed; another text is another call. Its seat claims nothing more. */
+bw_status bw_gather(bw_handle *seat, uint32_t number, uint32_t workers, const uint8_t *text, size_t text_len, bw_report *report);
 
 /* The recorded length of the blob. BW_UNFINISHED: none is. */
 bw_status bw_seat_length(bw_handle *seat, uint64_t *len);

@@ -96,6 +96,62 @@ static void *work(void *arg) {
     return NULL;
 }
 
+/* A worker that bw_gather makes of a thread: it goes over its texts in its own order. */
+typedef struct gatherer {
+    bw_handle seat;
+    const holder *holders;
+    uint32_t number;
+    bw_report report;
+} gatherer;
+
+static void *gather(void *arg) {
+    gatherer *it = arg;
+    for (uint32_t k = 0; k < HOLDERS; k++) {
+        const holder *from = &it->holders[(it->number + k) % HOLDERS];
+        WANT(bw_gather(&it->seat, it->number, THREADS, from->text, from->len, &it->report) == BW_OK);
+    }
+    return NULL;
+}
+
+/* Four threads fill a store by bw_gather, and then each chunk and each parent was stored once. */
+static void gathering(const uint8_t *blob, const uint8_t *root, const holder *holders) {
+    bw_handle first = BW_EMPTY;
+    bw_report report = {1, 2, 3, 4, 5, 6, 0};
+    WANT(bw_gather(&first, 0, 1, holders[0].text, holders[0].len, &report) == BW_NO_HANDLE && report.committed == 1 && report.memory == 6);
+    /* A length that is too large is told, and another seat's later round still ends well. */
+    WANT(bw_store_new(&plain, root, 10, &first) == BW_OK);
+    WANT(bw_gather(&first, 7, 0, holders[0].text, holders[0].len, &report) == BW_OK && report.too_large == 1 && report.committed == 1);
+    WANT(bw_store_new(&plain, root, 1024, &first) == BW_OK);
+    report = (bw_report){0, 0, 0, 0, 0, 0, 0};
+    WANT(bw_gather(&first, 0, 1, blob, BLOB_LEN, &report) == BW_OK && report.committed == 0 && report.asked == 1 && report.refused == 1);
+    pthread_t threads[THREADS];
+    gatherer workers[THREADS];
+    for (uint32_t k = 0; k < THREADS; k++) {
+        workers[k] = (gatherer){BW_EMPTY, holders, k, {0, 0, 0, 0, 0, 0, 0}};
+        WANT(bw_seat_split(&first, &workers[k].seat) == BW_OK);
+        WANT(pthread_create(&threads[k], NULL, gather, &workers[k]) == 0);
+    }
+    uint64_t committed = 0, parents = 0;
+    for (int k = 0; k < THREADS; k++) {
+        WANT(pthread_join(threads[k], NULL) == 0);
+        committed += workers[k].report.committed;
+        parents += workers[k].report.parents;
+        WANT(workers[k].report.failed == 0 && workers[k].report.memory == 0 && workers[k].report.too_large == 0);
+        bw_free(&workers[k].seat);
+    }
+    uint64_t chunks = (BLOB_LEN + BW_CHUNK_LEN - 1) / BW_CHUNK_LEN;
+    uint8_t *found = room(BLOB_LEN);
+    size_t used = 0;
+    WANT(committed <= chunks && parents <= chunks - 1);
+    /* A chunk that one thread held while the others passed it, and whose text was damaged, may be left for a closing round. */
+    WANT(bw_gather(&first, 0, 1, holders[0].text, holders[0].len, &report) == BW_OK);
+    WANT(bw_gather(&first, 0, 1, holders[1].text, holders[1].len, &report) == BW_OK);
+    WANT(committed + report.committed == chunks && parents + report.parents == chunks - 1);
+    WANT(bw_seat_finish(&first, found, BLOB_LEN, &used) == BW_OK && used == BLOB_LEN && memcmp(found, blob, BLOB_LEN) == 0);
+    free(found);
+    bw_free(&first);
+}
+
 /* Each row in one piece and in two, as hash and as output. */
 static void rows(void) {
     static uint8_t bytes[ROWS_MAX_LEN];
@@ -228,6 +284,7 @@ int main(void) {
     /* Two are damaged: one in 40 bytes all over it, and one in its second half. */
     for (size_t i = 1; i <= 40; i++) holders[1].text[holders[1].len / 41 * i] ^= 4;
     memset(holders[2].text + holders[2].len / 2, 0, 1000);
+    gathering(blob, root, holders);
 
     bw_handle first = BW_EMPTY;
     uint64_t at = 0, len = 0, missing = 0;

@@ -1,4 +1,5 @@
 pub mod HandleValues
+pub mod Rounds
 pub mod SeatCalls
 pub mod Texts
 pub mod Values

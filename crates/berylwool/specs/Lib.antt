@@ -1,4 +1,5 @@
 pub mod Calls
+pub mod Gathering
 pub mod Handles
 pub mod Modes
 pub mod Pairs

@@ -6,6 +6,7 @@
 
 mod auditing;
 mod checking;
+mod gathering;
 mod handle;
 mod hasher;
 mod hashing;
@@ -15,5 +16,6 @@ mod mode;
 mod room;
 mod seats;
 mod serving;
+mod shelf;
 mod status;
 mod writing;

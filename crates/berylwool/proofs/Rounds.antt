@@ -1,0 +1,80 @@
+-- What a worker's round over one text comes to.
+use Rattle.std.proofs.Common.{◌≡◌, ◌⊎◌, ℕ, List, [], ◌∷◌, ◌∙◌, IsTrue, map, arith, inl, inr, refl, sym, subst}
+use Rattle.std.specs.List.{sum_by}
+use Rattle.b3tree.specs.Valid.{IsKeyed}
+use Rattle.bao_check.proofs.Laws.{accepted_binds}
+use Rattle.crews.specs.Going.{goes}
+use Rattle.crews.specs.Lasting.{Holds, IsBusy, Records}
+use Rattle.crews.specs.Seats.{GoneOn, SeenBinds, claims_of, fixed_of as fixed_at}
+use Rattle.gather.specs.declared.holder.Encoded.{Encoded}
+use Rattle.gather.specs.declared.report.Report.{Report}
+use Rattle.gather.specs.Available.{HasTrue, IsFilled, IsServed}
+use Rattle.gather.specs.Claims.{Among}
+use Rattle.gather.specs.Counts.{HasFailed, Reports}
+use Rattle.gather.specs.Encodings.{IsCut, encoding}
+use Rattle.gather.specs.Holders.{IsHanded}
+use Rattle.gather.specs.Large.{IsTooLarge}
+use Rattle.gather.proofs.Binding.{are_longer, handed_cut}
+use Rattle.gather.proofs.Handing.{never_failed}
+use Rattle.gather.proofs.Reporting.{large_wider}
+use Rattle.store_core.specs.declared.fixed.Fixed.{Fixed}
+use Rattle.store_core.proofs.Bound.{held_binds}
+use Rattle.store_shared.specs.declared.assembly.Assembly.{Assembly}
+use Rattle.store_shared.specs.Seats.{IsSeatOf, fixed_of}
+use Rattle.store_steps.specs.Grips.{Gripped}
+use Rattle.berylwool.specs.Gathering.{Gathers, HasSlices, IsOutOf}
+
+seat_keyed : (store : Assembly) (seat : Gripped) → IsKeyed (fixed_of store).mode → IsSeatOf store seat → IsKeyed (fixed_at seat).mode
+seat_keyed store seat keyed of = subst (λ (f : Fixed). IsKeyed f.mode) (sym of.fixed_is) keyed
+
+seen_binds : (store : Assembly) (seat : Gripped) → IsKeyed (fixed_of store).mode → IsSeatOf store seat → SeenBinds seat.view
+seen_binds store seat keyed of blob is c bytes held = held_binds seat.view.fixed seat.view.seen blob c bytes (seat_keyed store seat keyed of) is of.legal held
+
+-- the one holder gives the slices of the blob
+has_true : (text blob : List ℕ) (holder : Encoded) (seat : Gripped) → encoding holder ≡ text → HasSlices text seat blob → HasTrue IsCut (fixed_at seat).mode blob (holder ∷ [])
+has_true text blob holder seat is slices = record {
+  place = 0;
+  holder = holder;
+  there = refl;
+  gives_slices = λ start len t given. given ∙ subst (λ (whole : List ℕ). HasSlices whole seat blob) (sym is) slices start len;
+}
+
+pub gathers : (store : Assembly) (text : List ℕ) (holder : Encoded) (later : List Encoded) (report report' : Report) (old new : Gripped)
+    → IsKeyed (fixed_of store).mode → encoding holder ≡ text → IsSeatOf store old → IsSeatOf store new
+    → Reports fixed_at GoneOn old new (IsHanded IsCut (holder ∷ [])) (IsHanded IsCut later) (sum_by (λ (h : Encoded). 0) (holder ∷ [])) (sum_by (λ (h : Encoded). 0) later) report report'
+    → Among (claims_of old) (claims_of new)
+    → ((blob : List ℕ) → IsServed (fixed_at old) blob → HasTrue IsCut (fixed_at old).mode blob (holder ∷ [])
+    → HasFailed report' ⊎ IsTooLarge (IsHanded IsCut (holder ∷ [])) (fixed_at old) ⊎ IsFilled Records Holds IsBusy old new blob)
+    → Gathers text report report' old new
+gathers store text holder later report report' old new keyed is of of' reports claimed served =
+    let holders : List Encoded = holder ∷ [] in
+    let over : map encoding holders ≡ text ∷ [] = λ i. is i ∷ [] in
+    let cut = handed_cut holders (text ∷ []) over in
+    let wider = large_wider (IsHanded IsCut holders) (IsOutOf text) cut (fixed_at old) in
+    let large : IsTrue report'.too_large → IsTrue report.too_large ⊎ IsTooLarge (IsOutOf text) (fixed_at old) = λ so.
+    elim (reports.too_large so) [ inl was ↦ inl was | inr now ↦ inr (wider now) ] in
+    record {
+      reports = record {
+        chunks = reports.chunks;
+        parents = reports.parents;
+        gains = goes.wider (IsHanded IsCut holders) (IsOutOf text) cut old new reports.chunks reports.parents reports.gains;
+        no_more = λ piece from. from;
+        committed = reports.committed;
+        stored = reports.stored;
+        failed = omega (arith, reports.failed, never_failed holders, never_failed later);
+        answered = reports.answered;
+        no_less = reports.no_less;
+        too_large = large;
+      };
+      claimed = claimed;
+      binds = seen_binds store new keyed of';
+      longer = λ so. elim (large so) [
+        | inl was ↦ inl was
+        | inr now ↦ inr (are_longer accepted_binds (IsOutOf text) (fixed_at old) (seat_keyed store old keyed of) now)
+      ];
+      served = λ blob can slices. elim (served blob can (has_true text blob holder old is slices)) [
+        | inl failed ↦ inl failed
+        | inr (inl now) ↦ inr (inl (wider now))
+        | inr (inr filled) ↦ inr (inr (filled.recorded, filled.is))
+      ];
+    }

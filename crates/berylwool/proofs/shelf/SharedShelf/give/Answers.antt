@@ -1,0 +1,10 @@
+use Rattle.crews.proofs.Sharing.{given, goes_on}
+use Rattle.gather.specs.Holders.{IsNone}
+use Rattle.berylwool.proofs.shelf.SharedShelf.give.Goals as goal
+use Rattle.store_core.specs.declared.history.Call.TheVariants.{Give}
+
+pub returns-clause-gained : goal.returns-clause-gained
+returns-clause-gained c = goes_on IsNone c.args.seat.now c.give.new.seat (Give c.args.group c.args.mask c.give.result) tt c.give.ensures.called
+
+pub returns-clause-claims : goal.returns-clause-claims
+returns-clause-claims c = given c.args.seat.now c.give.new.seat c.args.group c.args.mask c.give.result c.give.ensures.called

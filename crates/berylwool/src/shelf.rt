@@ -1,0 +1,82 @@
+use bao_check::{Checked, Tail};
+use gather::Shelf;
+use store_core::{Fixed, Settling, StoreFault};
+use store_shared::{Assembly, ParentsFault, Seat};
+
+// A shared store as one of its workers sees it, by the laws of `crews`.
+#[derive(Clone, Copy)]
+pub(crate) struct Shared<'a>(pub(crate) &'a Assembly);
+
+impl Shelf for Shared<'_> {
+    ghost use Rattle.store_shared.specs.Seats.{IsSeatOf};
+    ghost use Rattle.crews.specs.Going.{goes};
+    ghost use Rattle.crews.specs.Lasting.{Holds, IsBusy, Records, lasts};
+    ghost use Rattle.crews.specs.Seats.{GoneOn, claims_of, fixed_of};
+
+    type Seat = Seat;
+
+    ghost has = { λ shared seat. IsSeatOf shared.0.now seat };
+
+    ghost fixed_of = { λ seat. fixed_of seat };
+
+    ghost claims = { λ seat. claims_of seat };
+
+    ghost gained = { λ handed old new chunks parents. GoneOn handed old new chunks parents };
+
+    ghost goes = { goes };
+
+    ghost records = { λ seat l. Records seat l };
+
+    ghost holds = { λ seat c. Holds seat c };
+
+    ghost busy = { λ seat c. IsBusy seat c };
+
+    ghost lasts = { lasts };
+
+    fn fixed(&self, _seat: &Seat) -> Fixed {
+        Fixed {
+            root: self.0.root(),
+            mode: self.0.mode(),
+            capacity: self.0.capacity(),
+        }
+    }
+
+    fn take(&self, seat: &mut Seat, group: u32, want: u64) -> Result<u64, StoreFault> {
+        self.0
+            .take(seat, group, want)
+            .map_err(|_| StoreFault::NoGroup)
+    }
+
+    fn give(&self, seat: &mut Seat, group: u32, mask: u64) -> u64 {
+        self.0.give(seat, group, mask)
+    }
+
+    fn commit(&self, seat: &mut Seat, group: u32, piece: &Checked<'_>) -> Result<u64, StoreFault> {
+        self.0
+            .commit(seat, group, piece)
+            .map_err(|_| StoreFault::OtherRoot)
+    }
+
+    fn commit_parents(
+        &self,
+        seat: &mut Seat,
+        group: u32,
+        piece: &Checked<'_>,
+    ) -> Result<u64, StoreFault> {
+        self.0
+            .commit_parents(seat, group, piece)
+            .map_err(|fault| match fault {
+                ParentsFault::OtherRoot => StoreFault::OtherRoot,
+                ParentsFault::OtherLength => StoreFault::OtherLength,
+            })
+    }
+
+    fn settle(&self, seat: &mut Seat, tail: &Tail<'_>) -> Settling {
+        tail.is_last();
+        self.0.settle(seat, tail)
+    }
+
+    fn length(&self, seat: &mut Seat) -> Option<u64> {
+        self.0.length(seat)
+    }
+}
