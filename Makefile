@@ -34,7 +34,7 @@ help:
 	@echo 'make docs                 runs the shell examples of README and docs/CLI.md, and compares what they print'
 	@echo 'make scenarios            holds what the programs of scenarios have to print to replies made by the definitions alone'
 	@echo 'make c-library            proves the C library and builds it, as out/libberylwool.a and out/libberylwool.so (needs cc and binutils)'
-	@echo 'make c-install PREFIX=DIR copies the C library to DIR/lib and its header to DIR/include, with what pkg-config asks for'
+	@echo 'make c-install PREFIX=DIR copies the C library to DIR/lib, its header to DIR/include and its manual pages to DIR/share/man, with what pkg-config asks for'
 	@echo 'make c-test               holds c/berylwool.h to the sources, and runs the C tests, under what is installed of sanitizers, valgrind, clang and rustc'
 	@echo 'make c-bench              measures calls of the C library in one thread, and prints their times'
 	@echo 'make bench                measures times and prints them with their ratios, beside b3sum where it is installed'
@@ -149,6 +149,9 @@ c-install: c-library
 	install -D -m 755 out/libberylwool.so '$(DESTDIR)$(PREFIX)/lib/libberylwool.so.0'
 	ln -sf libberylwool.so.0 '$(DESTDIR)$(PREFIX)/lib/libberylwool.so'
 	install -d '$(DESTDIR)$(PREFIX)/lib/pkgconfig'
+	@python3 scripts/c_manual.py out/c/manual
+	install -d '$(DESTDIR)$(PREFIX)/share/man/man3'
+	install -m 644 out/c/manual/*.3 '$(DESTDIR)$(PREFIX)/share/man/man3/'
 	sed 's|@PREFIX@|$(PREFIX)|' c/berylwool.pc.in > '$(DESTDIR)$(PREFIX)/lib/pkgconfig/berylwool.pc'
 
 c-test: c-library
