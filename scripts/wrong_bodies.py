@@ -7,8 +7,11 @@ usage: python3 scripts/wrong_bodies.py [--jobs N] [--all] [CRATE ..]
 At the top of the repository. A wrong body is a file crates/NAME/wrong-bodies/FUNCTION.WHAT.edit, in the form of those of
 crates/NAME/must-fail/, which the gate tries; with --all those of must-fail/ are tried too. With no CRATE it is all that
 crates.txt names. The crates below are proved first, where they aren't. Work is done on copies: first each crate is proved
-over what `rt check` kept of it, then N edits at a time are tried, each over a copy of that. What isn't refused there is
-tried again from nothing, so the verdict on an edit is that of `rt must-fail`.
+over what `rt check` kept of it, then N lanes try its edits, each over a copy of that. Edits of the bodies of different
+functions are tried together, up to BATCH of them: a function is proved from the contracts of those that it calls, so one
+that isn't proved, and for another reason than a callee without a proof, has its own edit to thank. What isn't refused so is
+tried without those that were, and then alone, at last from nothing, as `rt must-fail` does: so is an edit that changes anything but
+one function's body.
 Prints a line for each edit and last 'N refused, M not refused'. The exit status is 1 where one isn't refused.
 Where all of a crate's are refused, its file wrong-bodies/TRIED says so, with a sum of the crate's text and these edits.
 --read proves nothing and takes a second: it fails on an edit of either folder that can't be applied any more, or that
@@ -30,9 +33,15 @@ sys.dont_write_bytecode = True
 import rt_module
 
 OURS, GATES = "wrong-bodies", "must-fail"
+# How many edits are tried together at the most: a check that refuses many is long, and lanes are to end together.
+BATCH = 12
 EDIT = re.compile(r"[A-Za-z0-9_-][A-Za-z0-9_.-]*\.edit")
 # What `rt check` doesn't read.
 TESTS = re.compile(r"src/tests[^/]*(/.*)?")
+# A function's first line, with its indent and name.
+HEAD = re.compile(r"( *)(?:pub(?:\([^)]*\))? )?(?:(?:const|unsafe|final|extern \"C\") )*fn (\w+)")
+# What the prover says of a function that is not proved by itself, and of one that waits for another's proof.
+FAILS, WAITS = re.compile(r"not proved|no proof: expected answers"), re.compile(r"no proof: it calls")
 
 
 def edits_of(crate, part):
@@ -80,12 +89,58 @@ def read_alone(rt, crates, is_strict):
     return 1 if unread or is_strict and stale else 0
 
 
+def body_of(lines, number):
+    """Returns the name of the function whose body has the line with this number, and where that begins, or None."""
+    for first in range(number, -1, -1):
+        head = HEAD.match(lines[first])
+        if not head:
+            continue
+        indent, name = head.groups()
+        opens = next((it for it in range(first, len(lines)) if re.fullmatch(indent + r"(\S.*)?\{", lines[it])), len(lines))
+        ends = next((it for it in range(opens, len(lines)) if lines[it] == indent + "}"), -1)
+        if ends > first:
+            return (name, first) if opens < number < ends else None
+    return None
+
+
+class Change:
+    """What an edit of one function's body changes: lines of a file."""
+
+    def __init__(self, file, first, name, lines):
+        self.file, self.place, self.name, self.lines = file, (file, first), name, lines
+
+    @staticmethod
+    def of(rt, crate, edit):
+        """Returns the edit's change, or None where it changes anything else, or can't be applied."""
+        texts, _ = rt.read_edit(edit, crate.folder)
+        if not texts or len(texts) != 1:
+            return None
+        (file, text), = texts.items()
+        old, new = rt.rtlib.text_of(f"{crate.folder}/{file}").split("\n"), text.split("\n")
+        if not file.startswith("src/") or len(old) != len(new):
+            return None
+        lines = {it: new[it] for it in range(len(old)) if old[it] != new[it]}
+        places = {body_of(old, it) for it in lines}
+        if len(places) != 1 or None in places:
+            return None
+        (name, first), = places
+        return Change(file, first, name, lines)
+
+    def is_of(self, crate, function):
+        """Returns whether this may be the function of that name, as the prover gives it."""
+        parts = self.file.removeprefix("src/").removesuffix(".rt").split("/")
+        module = [crate.name, *(it for it in parts if it not in ("lib", "main", "mod"))]
+        found = function.split("::")
+        return found[: len(module)] == module and found[-1] == self.name and len(found) - len(module) in (1, 2)
+
+
 class Work:
     """The edits of one crate, with a copy of its text and of what its proof kept."""
 
     def __init__(self, rt, crate, edits, room, jobs, keeps):
         self.rt, self.edits, self.jobs, self.room = rt, edits, jobs, f"{room}/{crate.name}"
         self.lock, self.left, self.is_proved, self.is_well = threading.Lock(), len(edits), None, True
+        self.changes, self.counts = {}, (rt.REFUSED, rt.AT_LIMIT)
         self.had, self.tried_file = f"{crate.folder}/out/incremental", f"{crate.folder}/{OURS}/TRIED"
         self.sum = sum_of(rt, crate.folder, edits) if keeps else None
         self.crate = copy.copy(crate)
@@ -114,14 +169,59 @@ class Work:
             shutil.copytree(f"{self.room}/kept", kept)
         return kept
 
+    def batches(self):
+        """Returns the edits in lists that are to be tried together: those of different bodies, and else one alone."""
+        lists = []
+        for edit in self.edits:
+            change = self.changes[edit] = Change.of(self.rt, self.crate, edit)
+            fits = (it for it in lists if change and len(it) < BATCH and all(self.is_apart(change, other) for other in it))
+            room = next(fits, None)
+            if room is None:
+                lists.append(room := [])
+            room.append(edit)
+        return lists
+
+    def is_apart(self, change, other):
+        other = self.changes[other]
+        return other is not None and other.place != change.place
+
+    def tried_together(self, edits, lane):
+        """Returns those of these edits that were refused, with what to say of each, and those that wait for another's proof."""
+        texts = {}
+        for edit in edits:
+            change = self.changes[edit]
+            text = texts.setdefault(change.file, self.rt.rtlib.text_of(f"{self.crate.folder}/{change.file}").split("\n"))
+            for number, line in change.lines.items():
+                text[number] = line
+        ran = self.rt.checked(self.crate, {it: "\n".join(text) for it, text in texts.items()}, ["--jobs", "1"], self.kept_of(lane))
+        said = ran.stdout.rstrip("\n").split("\n")
+        refused, waiting = {}, []
+        if ran.returncode != 1 or not said[-1].startswith("logic=not-proved"):
+            return refused, waiting
+        told = [it.groups() for it in map(re.compile(r"fn (\S+): (.*)").match, said) if it]
+        for edit in edits:
+            change, label = self.changes[edit], f"{self.crate.name}/{os.path.basename(edit)}"
+            of = [(function, why) for function, why in told if change.is_of(self.crate, function)]
+            if len(of) == 1 and FAILS.match(of[0][1]):
+                first = next((it for it in said if self.speaks_of(it, change, of[0][0])), of[0][1])
+                refused[edit] = f"{label}: refused, as it must be: {first[:160]}"
+            elif len(of) == 1 and WAITS.match(of[0][1]):
+                waiting.append(edit)
+        return refused, waiting
+
+    def speaks_of(self, line, change, function):
+        """Returns whether the line is about this function's proof."""
+        folder = "/".join(function.split("::")[1:])
+        return re.match(rf"(note: [^ ]* ?(of )?)?(\./)?proofs/\+?{re.escape(folder)}/\S*", line) is not None
+
     def tried(self, edit, lane):
-        """Returns whether the edit was refused, and what to say."""
+        """Returns whether the edit, tried alone, was refused, and what to say."""
         if not self.prove():
             return False, f"{self.crate.name}/{os.path.basename(edit)}: NOT TRIED: the crate itself is not proved"
-        refused, text = self.rt.must_fail(self.crate, edit, ["--jobs", "1"], self.kept_of(lane))
-        if not refused:
-            refused, text = self.rt.must_fail(self.crate, edit, ["--jobs", "1"])
-        return refused, text.removeprefix("must-fail ")
+        came_to, text = self.rt.must_fail(self.crate, edit, ["--jobs", "1"], self.kept_of(lane))
+        if came_to not in self.counts:
+            came_to, text = self.rt.must_fail(self.crate, edit, ["--jobs", "1"])
+        return came_to in self.counts, text.removeprefix("must-fail ")
 
     def ended(self, is_refused):
         """Counts an edit that was tried. After the last one it removes the copies, and writes TRIED where all were refused."""
@@ -142,18 +242,47 @@ def try_all(rt, crates, parts, jobs):
     def lane(number):
         while True:
             try:
-                work, edit = todo.get_nowait()
+                work, edits = todo.get_nowait()
             except queue.Empty:
                 return
-            began = time.monotonic()
-            try:
-                is_refused, text = work.tried(edit, number)
-            except Exception as error:
-                is_refused, text = False, f"{work.crate.name}/{os.path.basename(edit)}: NOT TRIED: {error!r}"
-            with printing:
-                print(f"{text} ({time.monotonic() - began:.0f} s)", flush=True)
-                (refused if is_refused else failed).append(edit)
-            work.ended(is_refused)
+            if len(edits) > 1 and work.prove():
+                together(number, work, edits)
+            else:
+                for edit in edits:
+                    alone(number, work, edit)
+
+    def together(number, work, edits):
+        """Tries the edits at once, and then those that were not refused: without those that were, or each alone."""
+        began = time.monotonic()
+        try:
+            gone, waiting = work.tried_together(edits, number)
+        except Exception as error:
+            print(f"wrong-bodies: {work.crate.name}: {error!r}", file=sys.stderr)
+            gone, waiting = {}, []
+        each = (time.monotonic() - began) / max(1, len(gone))
+        for edit, text in gone.items():
+            ended(work, edit, True, text, each)
+        if 1 < len(waiting) < len(edits):
+            together(number, work, waiting)
+        else:
+            waiting = []
+        for edit in edits:
+            if edit not in gone and edit not in waiting:
+                alone(number, work, edit)
+
+    def alone(number, work, edit):
+        began = time.monotonic()
+        try:
+            is_refused, text = work.tried(edit, number)
+        except Exception as error:
+            is_refused, text = False, f"{work.crate.name}/{os.path.basename(edit)}: NOT TRIED: {error!r}"
+        ended(work, edit, is_refused, text, time.monotonic() - began)
+
+    def ended(work, edit, is_refused, text, seconds):
+        with printing:
+            print(f"{text} ({seconds:.0f} s)", flush=True)
+            (refused if is_refused else failed).append(edit)
+        work.ended(is_refused)
 
     with tempfile.TemporaryDirectory(prefix="wrong-bodies-") as room:
         for crate in crates:
@@ -166,7 +295,7 @@ def try_all(rt, crates, parts, jobs):
                 if any(it.build_rlib(["--jobs", str(jobs)], anew=False) for it in crate.below()):
                     sys.exit(f"wrong-bodies: a library below {crate.name} is not proved")
                 work = Work(rt, crate, edits, room, jobs, keeps=parts == [OURS])
-                for it in edits:
+                for it in work.batches():
                     todo.put((work, it))
         lanes = [threading.Thread(target=lane, args=(it,)) for it in range(jobs)]
         for it in lanes:
