@@ -29,7 +29,7 @@ help:
 	@echo 'make sum                  prints the checksum of the built bao_gather'
 	@echo 'make install PREFIX=DIR   copies bao_gather to DIR/bin, its manual page and completions to DIR/share (PREFIX is /usr/local if left out; DESTDIR goes before it)'
 	@echo 'make dist                 makes the folder of a release, out/dist, of a commit: programs for both processor levels, manual page, completions, checksums'
-	@echo 'make test                 the gate, rt ci: every proof from nothing, the must-fail edits, the tests and the programs'
+	@echo 'make test                 the gate: rt ci (every proof from nothing, the must-fail edits, the tests and the programs), then what make docs and make refuse do'
 	@echo 'make wrong-bodies         tries the wrong bodies that the gate leaves out, of all crates or of CRATES="NAME .."'
 	@echo 'make docs                 runs the shell examples of README and docs/CLI.md, and compares what they print'
 	@echo 'make scenarios            holds what the programs of scenarios have to print to replies made by the definitions alone'
@@ -68,9 +68,12 @@ dist:
 	@for cpu in x86-64 x86-64-v3; do $(MAKE) CPU=$$cpu out/bao_gather; install -D -m 755 out/bao_gather out/levels/$$cpu/bao_gather; done
 	@python3 scripts/dist.py out/dist x86-64=out/levels/x86-64/bao_gather x86-64-v3=out/levels/x86-64-v3/bao_gather
 
+# What rt ci leaves is the program that it proved.
 test:
 	@python3 scripts/wrong_bodies.py --read
 	rt ci
+	@python3 scripts/docs.py crates/bao_gather/out/bao_gather
+	@python3 scripts/refuse.py crates/bao_gather/out/bao_gather
 
 wrong-bodies:
 	@python3 scripts/wrong_bodies.py $(if $(JOBS),--jobs $(JOBS)) $(CRATES)

@@ -30,19 +30,22 @@ def texts():
 
 
 class Help:
-    """One help text: what the command does, its usage, and its arguments and options with their texts."""
+    """One help text: what the command does, its usage, its arguments and options with their texts, and what is said below them."""
 
     def __init__(self, lines):
-        self.does, self.usage, self.parts = lines[0], "", {}
+        self.does, self.usage, self.parts, self.notes = lines[0], "", {}, []
         part = None
         for line in lines[1:]:
             if line.startswith("Usage: "):
                 self.usage = line[len("Usage: ") :]
-            elif line.endswith(":") and not line.startswith(" "):
+            elif line in ("Commands:", "Arguments:", "Options:"):
                 part = self.parts.setdefault(line[:-1], [])
             elif part is not None and line.strip():
-                words, _, text = line.strip().partition("  ")
-                part.append((words, text.strip()))
+                if self.notes or not line.startswith(" "):
+                    self.notes.append(line)
+                else:
+                    words, _, text = line.strip().partition("  ")
+                    part.append((words, text.strip()))
 
     def options(self):
         """Its options: the long word, whether a value follows, and the text."""
@@ -78,6 +81,9 @@ def manual(helps):
         for words, text in it.parts.get("Arguments", []) + it.parts.get("Options", []):
             if not words.startswith("-h"):
                 out += [".TP", f".B {roff(words)}", roff(text)]
+        out += [".PP"] if it.notes else []
+        for line in it.notes:
+            out += [".br", roff(line)] if line.startswith(" ") else [roff(line)]
     out += [".SH EXIT STATUS", "A fault is one line on standard error, after the name of the program."]
     for status, when, text in statuses():
         out += [".TP", f".B {status}", roff(when) + (f": {roff(text)}" if text != "nothing" else "")]

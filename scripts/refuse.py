@@ -98,8 +98,8 @@ class Ending:
 class Case:
     """A run of the program on words, over files."""
 
-    def __init__(self, words, files, sizes=None, is_avoidable=False):
-        self.words, self.files, self.sizes = words, {**files, OUT: KEPT}, sizes or {}
+    def __init__(self, words, files, sizes=None, is_avoidable=False, pipes=()):
+        self.words, self.files, self.sizes, self.pipes = words, {**files, OUT: KEPT}, sizes or {}, pipes
         own = OWN[words[0]] + (["401"] if "--encode" in words else [])
         self.memory = {f"bao_gather: {it} memory\n".encode() for it in own} | {PLAIN}
         # A long file is encoded in another way where there is no memory for the first.
@@ -121,7 +121,9 @@ class Case:
         return Ending(int(status.split()[1]), told["out"], told["err"], model.files[OUT])
 
     def lay_out(self, folder):
-        """Writes its files. One that has a size is zeros up to there, of which only the first are in the model."""
+        """Writes its files. One that has a size is zeros up to there, of which only the first are in the model; nobody writes to a pipe."""
+        for file in self.pipes:
+            os.mkfifo(f"{folder}/{file}")
         for file, data in self.files.items():
             if "/" not in file:
                 with open(f"{folder}/{file}", "wb") as it:
@@ -293,6 +295,9 @@ def holders():
     # A file of 2^40 bytes that has none on the disk.
     for task in (["decode", root, "zeros", OUT], ["decode-slice", root, "1000", "100", "zeros", OUT]):
         yield Case(task, files, {"zeros": 1 << 40})
+    yield Case(["gather", "--capacity", "100", root, OUT, "zeros", "whole"], files, {"zeros": 1 << 40})
+    for given in (["pipe", "whole"], ["/dev/stdin", "pipe", "whole", "nofile", "pipe"]):
+        yield Case(["gather", "--capacity", "100", root, OUT, *given], files, pipes=["pipe"])
     yield gather(names)
     yield gather([*names[:10], "whole"])
     yield gather([*names[:10], "whole"], "--workers", "1")
@@ -302,6 +307,17 @@ def holders():
     many = [names[k % len(names)] for k in range(64)]
     for place in range(64):
         yield gather([*many[:place], "whole", *many[place + 1 :]])
+
+
+def is_quiet(program, words):
+    """Whether help that nobody reads any more ends with 0 and says nothing."""
+    reader, writer = os.pipe()
+    os.close(reader)
+    try:
+        ran = subprocess.run([program, *words], stdin=subprocess.DEVNULL, stdout=writer, stderr=subprocess.PIPE, restore_signals=False)
+    finally:
+        os.close(writer)
+    return ran.returncode == 0 and not ran.stderr
 
 
 def work(given):
@@ -336,6 +352,10 @@ def main():
             for said, right, wrong in pool.imap_unordered(work, [it for it in parts if it[1]]):
                 print(said, flush=True)
                 passed, failed = passed + right, failed + wrong
+        for words in [["--help"], ["--version"], ["gather", "--help"]] if not asked.only else []:
+            is_right = is_quiet(asked.program, words)
+            print(f"{' '.join(words)} into a closed pipe: {'passed' if is_right else 'failed'}")
+            passed, failed = passed + is_right, failed + (not is_right)
     print(f"{passed} passed, {failed} failed")
     return 1 if failed else 0
 

@@ -631,6 +631,10 @@ class Programs:
 
     CONTEXT_SPACE, MOST_FILES = "_", 64
 
+    # Which word after the command's name is OUT, and the names that it may not have.
+    OUTS = {"encode": 1, "outboard": 1, "slice": 3, "decode": 2, "decode-slice": 4, "gather": 1}
+    STANDARD_OUTPUT = ["/dev/stdout", "/dev/fd/1", "/proc/self/fd/1"]
+
     def __init__(self):
         self.files, self.digits, self.written = {}, "", written("clap.txt")
 
@@ -673,6 +677,8 @@ class Programs:
         try:
             root = self.root_of(given[0]) if name in ("decode", "decode-slice", "gather", "replay") else None
             mode = self.mode_of(options.get("--key"), options.get("--context"))
+            if name in self.OUTS and given[self.OUTS[name]] in self.STANDARD_OUTPUT:
+                raise Refused(2, "usage: OUT is standard output")
             return [f"status {0}", *(f"out: {it}" for it in getattr(self, name.replace("-", "_"))(mode, root, options, given).splitlines())]
         except Refused as fault:
             return [f"status {fault.status}", f"err: bao_gather: {fault}"]

@@ -5,7 +5,7 @@ use Rattle.bao_files.specs.Faults.{number_of as file_number_of}
 use Rattle.bao_gathered.specs.Faults.{number_of as gathered_number_of}
 use Rattle.bao_replay.specs.Faults.{number_of as rerun_number_of}
 use Rattle.bao_command.specs.declared.fault.Fault.{Fault}
-use Rattle.bao_command.specs.declared.fault.Fault.TheVariants.{Word, Root, Key, KeyAndContext, OutputRange, TooManyFiles, File, Decode, Gather, Replay}
+use Rattle.bao_command.specs.declared.fault.Fault.TheVariants.{Word, Root, Key, KeyAndContext, OutputRange, TooManyFiles, OutIsOutput, File, Decode, Gather, Replay}
 
 abbrev pub number_of : Fault → Option ℕ
 number_of Word = None
@@ -14,6 +14,7 @@ number_of Key = None
 number_of KeyAndContext = None
 number_of OutputRange = None
 number_of TooManyFiles = None
+number_of OutIsOutput = None
 number_of (File fault) = file_number_of fault
 number_of (Decode fault) = decode_number_of fault
 number_of (Gather fault) = gathered_number_of fault

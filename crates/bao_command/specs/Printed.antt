@@ -4,7 +4,7 @@ use Rattle.std.specs.Io.KnownBytes.{Appends, Keeps}
 use Rattle.bao_files.specs.Printed as file
 use Rattle.bao_files.specs.declared.fault.FileFault.{FileFault}
 use Rattle.bao_command.specs.declared.fault.Fault.{Fault}
-use Rattle.bao_command.specs.declared.fault.Fault.TheVariants.{Word, Root, Key, KeyAndContext, OutputRange, TooManyFiles, File, Decode, Gather, Replay}
+use Rattle.bao_command.specs.declared.fault.Fault.TheVariants.{Word, Root, Key, KeyAndContext, OutputRange, TooManyFiles, OutIsOutput, File, Decode, Gather, Replay}
 
 -- what a fault leaves of the line that was to be printed: a beginning where it is that of standard
 -- output, and nothing else
@@ -15,6 +15,7 @@ Leaves line old new Key = Keeps old new
 Leaves line old new KeyAndContext = Keeps old new
 Leaves line old new OutputRange = Keeps old new
 Leaves line old new TooManyFiles = Keeps old new
+Leaves line old new OutIsOutput = Keeps old new
 Leaves line old new (File fault) = file.Leaves line old new fault
 Leaves line old new (Decode fault) = Keeps old new
 Leaves line old new (Gather fault) = Keeps old new

@@ -1,12 +1,12 @@
 -- what a task prints, and what it writes to its file OUT
-use Rattle.std.specs.Prelude.{◌≡◌, ◌≤◌, ℕ, ◌*◌, List, length, Option, Result, Ok, Err}
+use Rattle.std.specs.Prelude.{◌≡◌, ◌≢◌, ◌≤◌, ℕ, ◌*◌, List, length, Option, Result, Ok, Err, codes}
 use Rattle.std.specs.Io.KnownBytes.{Appends, Keeps}
 use Rattle.std.specs.Option.{option_copied}
 use Rattle.b3tree.specs.declared.mode.Mode.{Mode}
 use Rattle.b3tree.specs.declared.values.Hash.{Hash as Root32}
 use Rattle.b3tree.specs.Hashing.{hash, stream}
 use Rattle.bao_command.specs.declared.fault.Fault.{Fault}
-use Rattle.bao_command.specs.declared.fault.Fault.TheVariants.{Word, Root, Key, KeyAndContext, OutputRange, TooManyFiles, File, Decode as Undecoded, Gather as Ungathered, Replay as Unreplayed}
+use Rattle.bao_command.specs.declared.fault.Fault.TheVariants.{Word, Root, Key, KeyAndContext, OutputRange, TooManyFiles, OutIsOutput, File, Decode as Undecoded, Gather as Ungathered, Replay as Unreplayed}
 use Rattle.bao_files.specs.declared.fault.FileFault.{FileFault}
 use Rattle.bao_files.specs.declared.fault.FileFault.TheVariants as file
 use Rattle.bao_files.specs.declared.kinds.Part.{Part}
@@ -40,6 +40,18 @@ HasRoot (Decode root part file out) = IsDigits root.now
 HasRoot (Gather root workers capacity encode files out) = IsDigits root.now
 HasRoot (Replay root capacity script files) = IsDigits root.now
 
+-- the path isn't one of the three names of standard output
+abbrev pub IsNoOutput : List ℕ → Type 0
+IsNoOutput path = (path ≢ codes "/dev/stdout") × (path ≢ codes "/dev/fd/1") × (path ≢ codes "/proc/self/fd/1")
+
+-- what the task writes to a file doesn't go where its line is printed
+abbrev pub WritesApart : Task → Type 0
+WritesApart (Hash at length file) = Unit {0}
+WritesApart (Encode encoding file out) = IsNoOutput out.now
+WritesApart (Decode root part file out) = IsNoOutput out.now
+WritesApart (Gather root workers capacity encode files out) = IsNoOutput out.now
+WritesApart (Replay root capacity script files) = Unit {0}
+
 -- the text of a part of the blob with this root, in hexadecimal digits, is accepted
 abbrev pub IsRightPart : Mode → List ℕ → Part → List ℕ → Type 0
 IsRightPart mode root part bytes = (key : List ℕ) × ((decode_of root ≡ Ok key) × IsPartText mode key part bytes)
@@ -67,10 +79,10 @@ IsRight mode (Replay root capacity script files) bytes = (length files.items ≤
 abbrev pub HasMode : Request → Mode → Type 0
 HasMode request mode = GivesMode (option_copied request.key) (option_copied request.context) (Ok mode)
 
--- the line of the request on some bytes, in the request's mode, was printed
+-- the line of the request on some bytes, in the request's mode, was printed, and nothing of its file OUT beside it
 abbrev pub PrintsLine : Request → Option (List ℕ) → Option (List ℕ) → Type 0
 PrintsLine request old new =
-    (mode : Mode) × (bytes : List ℕ) × HasMode request mode × IsRight mode request.task bytes × Appends old new (line_of mode request.task bytes)
+    (mode : Mode) × (bytes : List ℕ) × HasMode request mode × WritesApart request.task × IsRight mode request.task bytes × Appends old new (line_of mode request.task bytes)
 
 -- a beginning of it, if anything
 abbrev pub PrintsBeginning : Request → Option (List ℕ) → Option (List ℕ) → Type 0
@@ -91,6 +103,7 @@ LeavesOf request old new Key = Keeps old new
 LeavesOf request old new KeyAndContext = Keeps old new
 LeavesOf request old new OutputRange = Keeps old new
 LeavesOf request old new TooManyFiles = Keeps old new
+LeavesOf request old new OutIsOutput = Keeps old new
 LeavesOf request old new (File fault) = LeavesOfFile request old new fault
 LeavesOf request old new (Undecoded fault) = Keeps old new
 LeavesOf request old new (Ungathered fault) = Keeps old new

@@ -1,4 +1,4 @@
-ghost use Rattle.std.specs.Prelude.{◌≡◌, ◌≢◌, ◌+◌, ◌-◌, ◌*◌, ◌^◌, ◌<◌, ◌≤◌, ℕ, List, length, map, string_bytes, IfErr, IfOk, IsErrAnd, OnOk};
+ghost use Rattle.std.specs.Prelude.{◌≡◌, ◌≢◌, true, false, ◌+◌, ◌-◌, ◌*◌, ◌^◌, ◌<◌, ◌≤◌, ℕ, List, length, map, string_bytes, IfErr, IfOk, IsErrAnd, OnOk};
 ghost use Rattle.bao_command.specs.declared.fault.Fault.TheVariants as Fault;
 ghost use Rattle.std.specs.Io.KnownBytes.{Keeps};
 ghost use Rattle.b3tree.specs.Hashing.{hash as hash_of, stream};
@@ -8,7 +8,7 @@ ghost use Rattle.bao_request.specs.CommandLine.{IsHelp};
 ghost use Rattle.bao_files.specs.Printed.{digits_line, ok_line};
 ghost use Rattle.bao_command.specs.Outcome.{Begun, Done};
 ghost use Rattle.bao_command.specs.Printed.{Prints, told_of};
-ghost use Rattle.bao_command.specs.Tasks.{Answers, HasHash, HasRoot, IsReplay, IsRight, IsRightPart, line_of, part_line};
+ghost use Rattle.bao_command.specs.Tasks.{Answers, HasHash, HasRoot, IsReplay, IsRight, IsRightPart, WritesApart, line_of, part_line};
 
 use crate::fault::Fault;
 use crate::mode::mode_of;
@@ -23,6 +23,7 @@ use bao_replay::replay_files;
 use bao_request::{Request, Task, parse};
 use clap::error::ErrorKind;
 use std::fs::File;
+use std::io;
 use std::io::Write;
 use std::rt::Files;
 use std::thread::Threads;
@@ -64,15 +65,21 @@ fn serve<'a, R: Files<File = File> + AllocGlobal + Threads + Sync, O: Write>(
 ) -> Result<(), Fault<'a>>
     ensures answer { Answers request.now (O.contents out.old) (O.contents out.new) result }
     ensures root { ¬ HasRoot request.now.task → IsErrAnd result (λ fault. fault ≡ Fault.Root) }
+    ensures mixed { IfErr result (λ fault. fault ≡ Fault.OutIsOutput → ¬ WritesApart request.now.task) }
 {
     check_root(&request.task)?;
     let mode = mode_of(request.key, request.context)?;
-    serve_task(rt, &mode, &request.task, out)
+    if writes_apart(&request.task) {
+        serve_task(rt, &mode, &request.task, out)
+    } else {
+        Err(Fault::OutIsOutput)
+    }
 }
 
 // The answer of printing, as a fault of the program.
 fn told<'a>(printed: Result<(), FileFault<'a>>) -> Result<(), Fault<'a>>
-    ensures { result ≡ told_of printed.entry }
+    ensures prints { result ≡ told_of printed.entry }
+    ensures apart { IfErr result (λ fault. fault ≢ Fault.OutIsOutput) }
 {
     match printed {
         Ok(()) => Ok(()),
@@ -100,7 +107,8 @@ fn hash<'a, R: Files<File = File> + AllocGlobal + Threads + Sync, O: Write>(
     file: &'a str,
     out: &mut O,
 ) -> Result<(), Fault<'a>>
-    ensures { (bytes : List ℕ) × Prints (digits_line (stream mode.now bytes at len)) (O.contents out.old) (O.contents out.new) result }
+    ensures prints { (bytes : List ℕ) × Prints (digits_line (stream mode.now bytes at len)) (O.contents out.old) (O.contents out.new) result }
+    ensures apart { IfErr result (λ fault. fault ≢ Fault.OutIsOutput) }
 {
     if !xof_fits(at, u64::from(len)) {
         return Err(Fault::OutputRange);
@@ -122,7 +130,8 @@ fn encode<'a, R: Files<File = File> + AllocGlobal + Threads + Sync, O: Write>(
     path: &'a str,
     out: &mut O,
 ) -> Result<(), Fault<'a>>
-    ensures { (bytes : List ℕ) × Prints (digits_line (hash_of mode.now bytes)) (O.contents out.old) (O.contents out.new) result }
+    ensures prints { (bytes : List ℕ) × Prints (digits_line (hash_of mode.now bytes)) (O.contents out.old) (O.contents out.new) result }
+    ensures apart { IfErr result (λ fault. fault ≢ Fault.OutIsOutput) }
 {
     match encode_file(rt, mode, encoding, file, path) {
         Ok(hash) => told(print_digits(rt.alloc(), &hash.0, out)),
@@ -140,8 +149,9 @@ fn decode<'a, R: Files + AllocGlobal, O: Write>(
     path: &'a str,
     out: &mut O,
 ) -> Result<(), Fault<'a>>
-    ensures { (bytes : List ℕ) × OnOk result (IsRightPart mode.now digits.now part.now bytes)
+    ensures prints { (bytes : List ℕ) × OnOk result (IsRightPart mode.now digits.now part.now bytes)
         × Prints (part_line part.now bytes) (O.contents out.old) (O.contents out.new) result }
+    ensures apart { IfErr result (λ fault. fault ≢ Fault.OutIsOutput) }
 {
     let root = root_of(digits)?;
     match decode_file(rt, mode, &root, part, file, path) {
@@ -164,6 +174,7 @@ fn gather<'a, R: Files + AllocGlobal + Threads + Sync, O: Write>(
         × Prints (ok_line (length blob)) (O.contents out.old) (O.contents out.new) result }
     ensures few { OnOk result (length files.now ≤ 64) }
     ensures many { 64 < length files.now → IsErrAnd result (λ fault. fault ≡ Fault.TooManyFiles) }
+    ensures apart { IfErr result (λ fault. fault ≢ Fault.OutIsOutput) }
 {
     if files.len() > MOST_FILES {
         return Err(Fault::TooManyFiles);
@@ -189,6 +200,7 @@ fn replay<'a, R: Files + AllocGlobal, O: Write>(
         × Prints text (O.contents out.old) (O.contents out.new) result }
     ensures few { OnOk result (length files.now ≤ 64) }
     ensures many { 64 < length files.now → IsErrAnd result (λ fault. fault ≡ Fault.TooManyFiles) }
+    ensures apart { IfErr result (λ fault. fault ≢ Fault.OutIsOutput) }
 {
     if files.len() > MOST_FILES {
         return Err(Fault::TooManyFiles);
@@ -207,8 +219,9 @@ fn serve_task<'a, R: Files<File = File> + AllocGlobal + Threads + Sync, O: Write
     task: &Task<'a>,
     out: &mut O,
 ) -> Result<(), Fault<'a>>
-    ensures { (bytes : List ℕ) × OnOk result (IsRight mode.now task.now bytes)
+    ensures prints { (bytes : List ℕ) × OnOk result (IsRight mode.now task.now bytes)
         × Prints (line_of mode.now task.now bytes) (O.contents out.old) (O.contents out.new) result }
+    ensures apart { IfErr result (λ fault. fault ≢ Fault.OutIsOutput) }
 {
     match task {
         Task::Hash { at, length, file } => hash(rt, mode, *at, *length, file, out),
@@ -262,7 +275,25 @@ fn check_root<'a>(task: &Task<'a>) -> Result<(), Fault<'a>>
     }
 }
 
-// Prints what `clap` has to say: help and the version on `out`, a refusal on `err`.
+// Whether what the task writes to a file goes elsewhere than its line.
+fn writes_apart(task: &Task<'_>) -> bool
+    ensures yes { result ≡ true → WritesApart task.now }
+    ensures no { result ≡ false → ¬ WritesApart task.now }
+{
+    let path = match task {
+        Task::Encode { out, .. } | Task::Decode { out, .. } | Task::Gather { out, .. } => out,
+        Task::Hash { .. } | Task::Replay { .. } => return true,
+    };
+    !matches!(*path, "/dev/stdout" | "/dev/fd/1" | "/proc/self/fd/1")
+}
+
+// Prints help or the version.
+fn show<O: Write>(error: &clap::Error, out: &mut O) -> io::Result<()> {
+    write!(Once(out), "{error}")?;
+    out.flush()
+}
+
+// Prints what `clap` has to say: help and the version on `out`, whose reader may have read enough, a refusal on `err`.
 fn answer_clap<O: Write, E: Write>(error: &clap::Error, out: &mut O, err: &mut E) -> u8
     ensures status { result ≤ 4 }
     ensures done { result ≡ 0 → IsHelp (kind_of error.now) }
@@ -276,9 +307,9 @@ fn answer_clap<O: Write, E: Write>(error: &clap::Error, out: &mut O, err: &mut E
         let _ = write!(Once(err), "{error}");
         return 2;
     }
-    let shown = write!(Once(out), "{error}");
-    if shown.is_err() || out.flush().is_err() {
-        return Fault::File(FileFault::Output).report(err);
+    match show(error, out) {
+        Ok(()) => 0,
+        Err(error) if error.kind() == io::ErrorKind::BrokenPipe => 0,
+        Err(_) => Fault::File(FileFault::Output).report(err),
     }
-    0
 }

@@ -35,6 +35,9 @@ pub enum Fault<'a> {
     /// More than 64 files are given. Status 2.
     #[error("usage: too many files")]
     TooManyFiles,
+    /// OUT is a name of standard output, where the line with the hash or with `ok` goes. Status 2.
+    #[error("usage: OUT is standard output")]
+    OutIsOutput,
     /// A file or standard output was not read or written. Status 3, and 4 for want of memory.
     #[error("{0}")]
     File(FileFault<'a>),
@@ -138,7 +141,8 @@ impl Fault<'_> {
             | Fault::Key
             | Fault::KeyAndContext
             | Fault::OutputRange
-            | Fault::TooManyFiles => 2,
+            | Fault::TooManyFiles
+            | Fault::OutIsOutput => 2,
             Fault::File(fault) => file_status(fault),
             Fault::Decode(fault) => decode_status(fault),
             Fault::Gather(fault) => gathered_status(fault),
@@ -156,7 +160,8 @@ impl Fault<'_> {
             | Fault::Key
             | Fault::KeyAndContext
             | Fault::OutputRange
-            | Fault::TooManyFiles => None,
+            | Fault::TooManyFiles
+            | Fault::OutIsOutput => None,
             Fault::File(fault) => fault.code(),
             Fault::Decode(fault) => fault.code(),
             Fault::Gather(fault) => fault.code(),

@@ -10,36 +10,42 @@ use crate::fault::GatheredFault;
 use b3tree::{Hash, Mode};
 use bao_files::{FileFault, LateFile, read_file};
 use bao_text::{WriteFault, write_combined, write_text};
-use crews::gather_texts;
+use crews::{CrewsFault, gather_texts};
+use gather::GatherFault;
 use std::alloc::Global;
+use std::fs;
 use std::io::Write;
 use std::rt::Files;
 use std::thread::Threads;
 
-// The bytes of those files that can be read, in the order of the paths. Where none can, the fault names the first.
-fn read_files<'a, R: Files + AllocGlobal>(
+// Whether a read of the path ends by itself: it names a regular file.
+fn is_regular<R: Files>(rt: &R, path: &str) -> bool {
+    match fs::metadata(rt, path) {
+        Ok(metadata) => metadata.is_file(),
+        Err(_) => false,
+    }
+}
+
+// Appends the bytes of those files that can be read, the regular ones or all others, to `texts`, and answers whether one
+// of them found no room.
+fn read_files<R: Files + AllocGlobal>(
     rt: &R,
-    paths: &[&'a str],
-) -> Result<Vec<Vec<u8>>, FileFault<'a>>
-    ensures { IfErr result (λ fault. (fault ≡ FileFault.Memory)
-        ⊎ ((first : Bor (List ℕ)) × (slice_get paths.now 0 ≡ Some first) × (fault ≡ FileFault.Read first))) }
-{
-    let mut texts = Vec::with_capacity(rt.alloc(), paths.len())?;
-    'files: for path in paths {
+    paths: &[&str],
+    regular: bool,
+    texts: &mut Vec<Vec<u8>>,
+) -> bool {
+    let mut starved = false;
+    for path in paths {
+        if is_regular(rt, path) != regular {
+            continue;
+        }
         match read_file(rt, path) {
-            Ok(text) => {
-                if texts.push(text).is_err() {
-                    return Err(FileFault::Memory);
-                }
-            }
-            Err(FileFault::Memory) => return Err(FileFault::Memory),
+            Ok(text) => starved |= texts.push(text).is_err(),
+            Err(FileFault::Memory) => starved = true,
             Err(_) => {}
         }
     }
-    match paths.first() {
-        Some(first) if texts.is_empty() => Err(FileFault::Read(first)),
-        _ => Ok(texts),
-    }
+    starved
 }
 
 /// How a blob is gathered, and what is written of it.
@@ -107,13 +113,45 @@ pub fn write_gathered<'a, R: AllocGlobal + Threads + Sync, W: Write>(
     Ok(blob.len() as u64)
 }
 
+// Whether another holder's text might make the blob whole.
+fn is_unfinished(fault: CrewsFault) -> bool {
+    match fault {
+        CrewsFault::Store | CrewsFault::Seat => false,
+        CrewsFault::Gather(fault) => match fault {
+            GatherFault::Unfinished | GatherFault::TooLarge | GatherFault::Starved => true,
+            GatherFault::Capacity | GatherFault::NotTheRoot | GatherFault::Memory => false,
+        },
+    }
+}
+
+// Why no blob came together: there was no memory for a file; what gathering those that were read met; or none was read.
+fn cause_of<'a>(
+    starved: bool,
+    met: Option<CrewsFault>,
+    files: &[&'a str],
+    path: &'a str,
+) -> GatheredFault<'a>
+    ensures quiet { IsQuiet result }
+    ensures paths { NamesFirst files.now path.entry result }
+{
+    if starved {
+        return GatheredFault::File(FileFault::Memory);
+    }
+    match (met, files.first()) {
+        (None, Some(first)) => GatheredFault::File(FileFault::Read(first)),
+        (None, None) => GatheredFault::Gather(CrewsFault::Gather(GatherFault::Unfinished)),
+        (Some(fault), _) => GatheredFault::Gather(fault),
+    }
+}
+
 /// Gathers the blob with this root, of at most `capacity` chunks, out of the files, each a combined encoding from a
 /// holder that nobody trusts, writes it, or its combined encoding, to the file at `path`, made anew once the blob was
-/// verified, and answers how many bytes the blob has. A file that can't be read is left out.
+/// verified, and answers how many bytes the blob has. A file that can't be read, or for which there is no memory, is
+/// left out. What isn't a regular file, as a pipe, is opened only where the regular ones leave the blob unfinished.
 ///
-/// Refuses files of which none can be read (`File` with `Read` of the first), a blob that did not come together (`Gather`),
-/// one for whose encoding there was no memory (`File` with `Encoding`), and an output that can't be made or written (`File`
-/// with `Write`).
+/// Refuses files of which none can be read (`File` with `Read` of the first), a blob that did not come together (`Gather`,
+/// or `File` with `Memory` where there was none for one of the files), one for whose encoding there was no memory (`File`
+/// with `Encoding`), and an output that can't be made or written (`File` with `Write`).
 pub fn gather_files<'a, R: Files + AllocGlobal + Threads + Sync>(
     rt: &R,
     mode: &Mode,
@@ -126,7 +164,23 @@ pub fn gather_files<'a, R: Files + AllocGlobal + Threads + Sync>(
     ensures err { IfErr result IsQuiet }
     ensures paths { IfErr result (NamesFirst files.now path.entry) }
 {
-    let texts = read_files(rt, files)?;
+    let mut texts = match Vec::with_capacity(rt.alloc(), files.len()) {
+        Ok(texts) => texts,
+        Err(_) => return Err(GatheredFault::File(FileFault::Memory)),
+    };
     let mut out = LateFile::new(rt, path);
-    write_gathered(rt, mode, root, how, texts.as_slice(), path, &mut out)
+    let mut starved = false;
+    let mut met = None;
+    for regular in [true, false] {
+        let known = texts.len();
+        starved |= read_files(rt, files, regular, &mut texts);
+        if texts.len() == known {
+            continue;
+        }
+        match write_gathered(rt, mode, root, how, texts.as_slice(), path, &mut out) {
+            Err(GatheredFault::Gather(fault)) if is_unfinished(fault) => met = Some(fault),
+            ended => return ended,
+        }
+    }
+    Err(cause_of(starved, met, files, path))
 }

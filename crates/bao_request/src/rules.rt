@@ -15,6 +15,24 @@ const MOST_CHUNKS: i64 = 65_536;
 // The most workers that gather.
 const MOST_WORKERS: i64 = 64;
 
+// What help says below the options.
+const OF_PROGRAM: &str =
+    "FILE, ENC, SLICE and SCRIPT may be /dev/stdin. Exit status: 0 done; 1 what was given doesn't verify, or is unfinished;\n2 wrong words; 3 a file can't be read or written; 4 out of memory.";
+
+const OF_SLICE: &str =
+    "The range ends where FILE does; a LEN of 0 counts as 1, and a START at or past the end as that of the last byte.";
+
+const OF_DECODE: &str = "OUT is made once the encoding was accepted.";
+
+const OF_DECODE_SLICE: &str =
+    "OUT gets the bytes of the range that the blob has, which are none where it has fewer than START. It is made once the\nslice was accepted.";
+
+const OF_GATHER: &str =
+    "A FILE may be cut, changed or of another blob; one that can't be read is left out. What isn't a regular file, as\n/dev/stdin, is read only where the regular ones leave the blob unfinished. OUT is made once the blob was verified.";
+
+const OF_REPLAY: &str =
+    "A line of SCRIPT is empty or has one of nine forms, its words one space apart, and ends with a line feed, before which no\ncarriage return stands. S is a seat, G a group of 64 chunks, MASK a mask of these, C a chunk, F a FILE, counted from 0:\n  claim S G MASK       S takes chunks of G\n  hash S F START LEN   the slice cut out of F becomes the piece of S\n  write S C W          S writes word W, 0 to 128, of the cell of C\n  fill S C             S writes all of them\n  publish S G          S commits what it claims of G and its piece has\n  give S G MASK        S gives chunks of G back\n  load S AT LEN        S loads a word of its read of LEN bytes from AT on\n  settle S             S settles the length that its piece certifies\n  length S             S asks for the length";
+
 // The option `--id NAME`.
 fn option<'a>(alloc: Global, id: &'a str, name: &'a str) -> Arg<'a>
     ensures rule { rule_of result ≡ option_rule id.entry.now }
@@ -114,6 +132,7 @@ fn slice_command<'a>(alloc: Global) -> Result<Command<'a>, AllocError>
     let len = number_place(alloc, "LEN", "How many bytes the range has; 0 counts as 1");
     let command = Command::new(alloc, "slice")
         .about("Writes the Bao slice of a range of a file, and prints the hash of the file")
+        .after_help(OF_SLICE)
         .arg(start)?
         .arg(len)?;
     with_files(alloc, command)
@@ -124,6 +143,7 @@ fn decode_command<'a>(alloc: Global) -> Result<Command<'a>, AllocError>
 {
     let command = Command::new(alloc, "decode")
         .about("Checks a combined Bao encoding under a root, and writes the blob")
+        .after_help(OF_DECODE)
         .arg(place(alloc, "ROOT", "The hash of the blob, 64 hexadecimal digits"))?
         .arg(place(alloc, "ENC", "The encoding to check"))?
         .arg(place(alloc, "OUT", "The file to write"))?;
@@ -156,7 +176,10 @@ fn decode_slice_command<'a>(alloc: Global) -> Result<Command<'a>, AllocError>
     ensures { IfOk result (IsApp decode_slice_app) }
 {
     let about = "Checks a Bao slice under a root, and writes its bytes";
-    let command = with_range(alloc, Command::new(alloc, "decode-slice").about(about))?;
+    let command = Command::new(alloc, "decode-slice")
+        .about(about)
+        .after_help(OF_DECODE_SLICE);
+    let command = with_range(alloc, command)?;
     with_slice(alloc, command)
 }
 
@@ -215,6 +238,7 @@ fn gather_command<'a>(alloc: Global) -> Result<Command<'a>, AllocError>
 {
     let command = Command::new(alloc, "gather")
         .about("Gathers the blob with a root out of combined Bao encodings, and writes it")
+        .after_help(OF_GATHER)
         .arg(workers_option(alloc))?
         .arg(capacity_option(alloc))?
         .arg(encode_flag(alloc))?;
@@ -241,6 +265,7 @@ fn replay_command<'a>(alloc: Global) -> Result<Command<'a>, AllocError>
 {
     let command = Command::new(alloc, "replay")
         .about("Runs a schedule of steps on a store of a blob's chunks, and prints the replies")
+        .after_help(OF_REPLAY)
         .arg(capacity_option(alloc))?;
     with_script(alloc, command)
 }
@@ -254,6 +279,7 @@ fn writers<'a>(alloc: Global) -> Result<Command<'a>, AllocError>
         .about(
             "Hashes files with BLAKE3, writes and checks their Bao encodings, and gathers blobs from them",
         )
+        .after_help(OF_PROGRAM)
         .subcommand_required(true)
         .subcommand(hash_command(alloc)?)?
         .subcommand(encode_command(alloc)?)?

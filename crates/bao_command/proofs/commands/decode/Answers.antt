@@ -1,7 +1,6 @@
-use Rattle.std.proofs.Common.{◌≡◌, ℕ, List, OnOk, Option, Result, Ok, Err, subst, sym}
+use Rattle.std.proofs.Common.{ℕ, List, OnOk, Option, Result, Ok, Err, subst, sym}
 use Rattle.bao_files.specs.Printed as file
 use Rattle.bao_files.specs.declared.fault.FileFault.{FileFault}
-use Rattle.bao_decode.specs.Ranges.{written_count}
 use Rattle.bao_command.specs.declared.fault.Fault.{Fault}
 use Rattle.bao_command.specs.Printed.{Prints, told_of}
 use Rattle.bao_command.specs.Tasks.{IsRightPart, part_line}
@@ -27,4 +26,4 @@ returns-in-Ok g c =
     let right : IsRightPart mode c.args.digits.now part bytes = (c.in_ok-root.root.0, (c.in_ok-root.ensures.ok, made.1)) in
     let printed = subst (λ (n : ℕ). file.Prints (file.ok_line n) old new c.print_count.result) made.2 c.print_count.ensures.prints in
     let told = told_prints (part_line part bytes) old new c.print_count.result printed in
-    (bytes, on_ok c.told.result right, subst (Prints (part_line part bytes) old new) (sym c.told.ensures) told)
+    record { prints = (bytes, on_ok c.told.result right, subst (Prints (part_line part bytes) old new) (sym c.told.ensures.prints) told); apart = c.told.ensures.apart }

@@ -1,36 +1,37 @@
 use Rattle.std.proofs.Common.{OnOk, ℕ, List, Option, Result, Ok, Err, subst}
 use Rattle.b3tree.specs.declared.mode.Mode.{Mode}
 use Rattle.bao_command.specs.declared.fault.Fault.{Fault}
-use Rattle.bao_command.specs.declared.fault.Fault.TheVariants.{Word, Root, Key, KeyAndContext, OutputRange, TooManyFiles, File, Decode, Gather, Replay}
+use Rattle.bao_command.specs.declared.fault.Fault.TheVariants.{Word, Root, Key, KeyAndContext, OutputRange, TooManyFiles, OutIsOutput, File, Decode, Gather, Replay}
 use Rattle.bao_files.specs.declared.fault.FileFault.TheVariants as file
 use Rattle.bao_request.specs.declared.tasks.Request.{Request}
 use Rattle.bao_command.specs.Printed.{Prints}
 use Rattle.std.specs.Option.{option_copied}
 use Rattle.bao_command.specs.ModeWords.{GivesMode}
-use Rattle.bao_command.specs.Tasks.{Answers, HasMode, IsRight, line_of}
+use Rattle.bao_command.specs.Tasks.{Answers, HasMode, IsRight, WritesApart, line_of}
 use Rattle.bao_command.proofs.commands.serve.Goals as goal
 
 -- what was printed of the line in the request's mode answers the request
 answers : (request : Request) (mode : Mode) (bytes : List ℕ) (old new : Option (List ℕ)) (result : Result Unit Fault) →
-    HasMode request mode → OnOk result (IsRight mode request.task bytes) → Prints (line_of mode request.task bytes) old new result → Answers request old new result
-answers request mode bytes old new (Ok done) has right prints = (mode, bytes, has, right, prints)
-answers request mode bytes old new (Err Word) has right prints = prints
-answers request mode bytes old new (Err Root) has right prints = prints
-answers request mode bytes old new (Err Key) has right prints = prints
-answers request mode bytes old new (Err KeyAndContext) has right prints = prints
-answers request mode bytes old new (Err OutputRange) has right prints = prints
-answers request mode bytes old new (Err TooManyFiles) has right prints = prints
-answers request mode bytes old new (Err (File (file.Read path))) has right prints = prints
-answers request mode bytes old new (Err (File (file.Write path))) has right prints = prints
-answers request mode bytes old new (Err (File file.Output)) has right prints = (mode, bytes, has, prints)
-answers request mode bytes old new (Err (File file.Encoding)) has right prints = prints
-answers request mode bytes old new (Err (File file.Memory)) has right prints = prints
-answers request mode bytes old new (Err (Decode fault)) has right prints = prints
-answers request mode bytes old new (Err (Gather fault)) has right prints = prints
-answers request mode bytes old new (Err (Replay fault)) has right prints = prints
+    HasMode request mode → WritesApart request.task → OnOk result (IsRight mode request.task bytes) → Prints (line_of mode request.task bytes) old new result → Answers request old new result
+answers request mode bytes old new (Ok done) has apart right prints = (mode, bytes, has, apart, right, prints)
+answers request mode bytes old new (Err Word) has apart right prints = prints
+answers request mode bytes old new (Err Root) has apart right prints = prints
+answers request mode bytes old new (Err Key) has apart right prints = prints
+answers request mode bytes old new (Err KeyAndContext) has apart right prints = prints
+answers request mode bytes old new (Err OutputRange) has apart right prints = prints
+answers request mode bytes old new (Err TooManyFiles) has apart right prints = prints
+answers request mode bytes old new (Err OutIsOutput) has apart right prints = prints
+answers request mode bytes old new (Err (File (file.Read path))) has apart right prints = prints
+answers request mode bytes old new (Err (File (file.Write path))) has apart right prints = prints
+answers request mode bytes old new (Err (File file.Output)) has apart right prints = (mode, bytes, has, prints)
+answers request mode bytes old new (Err (File file.Encoding)) has apart right prints = prints
+answers request mode bytes old new (Err (File file.Memory)) has apart right prints = prints
+answers request mode bytes old new (Err (Decode fault)) has apart right prints = prints
+answers request mode bytes old new (Err (Gather fault)) has apart right prints = prints
+answers request mode bytes old new (Err (Replay fault)) has apart right prints = prints
 
-pub returns-clause-answer : goal.returns-clause-answer
-returns-clause-answer g c =
+pub returns-then-writes_apart-clause-answer : goal.returns-then-writes_apart-clause-answer
+returns-then-writes_apart-clause-answer g c =
     let request = c.args.request.now in
     let has = subst (GivesMode (option_copied request.key) (option_copied request.context)) c.in_ok-mode.was c.mode_of.ensures in
-    answers request c.in_ok-mode.mode c.serve_task.ensures.0 (g.O.Write.contents c.args.out.now) (g.O.Write.contents c.serve_task.new.out) c.serve_task.result has c.serve_task.ensures.1 c.serve_task.ensures.2
+    answers request c.in_ok-mode.mode c.serve_task.ensures.prints.0 (g.O.Write.contents c.args.out.now) (g.O.Write.contents c.serve_task.new.out) c.serve_task.result has (c.writes_apart.ensures.yes c.if-writes_apart.true) c.serve_task.ensures.prints.1 c.serve_task.ensures.prints.2

@@ -18,8 +18,10 @@ returns-in-Gather g c =
     let few : OnOk result (length c.in-Gather.files.items ≤ 64) =
     subst (λ (files : List (Bor (List ℕ))). OnOk result (length files ≤ 64)) c.as_slice.ensures.value c.gather.ensures.few in
     let answer = c.gather.ensures.answer in
+    let prints =
     subst (λ (task : Task). (bytes : List ℕ) × OnOk result (IsRight mode task bytes) × Prints (line_of mode task bytes) old new result) (sym c.in-Gather.is)
-    (answer.0, both _ _ result few answer.1, answer.2)
+    (answer.0, both _ _ result few answer.1, answer.2) in
+    record { prints = prints; apart = c.gather.ensures.apart }
 
 pub returns-in-Replay : goal.returns-in-Replay
 returns-in-Replay g c =
@@ -33,5 +35,7 @@ returns-in-Replay g c =
     (λ (files : List (Bor (List ℕ))). OnOk result ((length files ≤ 64) × IsReplay mode c.in-Replay.root.now c.in-Replay.capacity (length files) answer.0))
     c.as_slice-in-Replay.ensures.value
     (both _ _ result c.replay.ensures.few answer.1) in
+    let prints =
     subst (λ (task : Task). (bytes : List ℕ) × OnOk result (IsRight mode task bytes) × Prints (line_of mode task bytes) old new result) (sym c.in-Replay.is)
-    (answer.0, right, answer.2)
+    (answer.0, right, answer.2) in
+    record { prints = prints; apart = c.replay.ensures.apart }
