@@ -1,13 +1,13 @@
 -- Masks made bit by bit, and chunks marked bit by bit.
-use Rattle.std.proofs.Common.{zero, suc, ◌≡◌, ◌≢◌, ℕ, ◌+◌, ◌*◌, ◌%◌, ◌^◌, ◌<◌, ◌≤◌, nat_eq, Bool, true, false, ◌&&◌, if◌then◌else◌, List, length, set, refl, sym, ap, subst, ◌∙◌, arith, inl, inr, get_or-set_other, get_or, ◌++◌, [], ◌∷◌, length-append, get_or-append-add}
+use Rattle.std.proofs.Common.{zero, suc, ◌≡◌, ◌≢◌, ℕ, ◌+◌, ◌*◌, ◌%◌, ◌^◌, ◌<◌, ◌≤◌, Bool, true, false, ◌&&◌, if◌then◌else◌, List, length, set, refl, sym, ap, subst, ◌∙◌, arith, inl, inr, get_or-set_other, get_or, ◌++◌, [], ◌∷◌, length-append, get_or-append-add}
 use Rattle.std.proofs.lemmas.Bool.{cases_eq}
-use Rattle.std.proofs.lemmas.Nat.Bits.{bit_at-zero}
 use Rattle.std.proofs.lemmas.Option.{get_or_from_slice_get, slice_get-get_or}
 use Rattle.store_core.specs.declared.slot.Slot.{Slot}
 use Rattle.store_core.specs.declared.slot.Slot.TheVariants.{Free}
 use Rattle.store_core.specs.Masks.{IsMaskOf, has_bit, in_mask}
 use Rattle.bao_check.specs.declared.checked.Checked.{Checked}
 use Rattle.store_core.specs.Slots.{AreCopies, IsCopy, slot_at}
+use Rattle.store_core.proofs.Bits.{has_bit-zero}
 use Rattle.store_core.proofs.Putting as putting
 use Rattle.store_core.proofs.Putting.{IsPutBelow}
 
@@ -16,10 +16,6 @@ pub record IsMaskUpTo (group mask j : ℕ) (test : ℕ → Bool) : Type 0 where
   pub small : mask < 2 ^ 64
   pub below : (k : ℕ) → k < j → has_bit mask k ≡ test (64 * group + k)
   pub above : (k : ℕ) → j ≤ k → has_bit mask k ≡ false
-
-pub has_bit-zero : (k : ℕ) → has_bit 0 k ≡ false
-unfolding has_bit
-has_bit-zero k = ap (λ x. nat_eq x 1) (bit_at-zero k)
 
 pub up_to_none : (group : ℕ) (test : ℕ → Bool) → IsMaskUpTo group 0 0 test
 up_to_none group test = record { small = omega arith; below = λ k h. absurd (omega arith); above = λ k h. has_bit-zero k }

@@ -29,3 +29,5 @@ pub mod ParentOrigins
 pub mod ServingLaws
 pub mod ServingSteps
 pub mod StoredParents
+pub mod Bits
+pub mod Going

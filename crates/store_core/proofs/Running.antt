@@ -20,7 +20,7 @@ use Rattle.store_core.specs.Machine.{Machine, Reading, Seat, copied, current_byt
 use Rattle.store_core.specs.Pieces.{length_of}
 use Rattle.store_core.specs.Schedules.{AreTexts, HasTail, IsLegalStep, IsReply, IsWritten, Runs, after_step, commit_by, current_length, event_by, is_last_load, length_answer, read_after, read_before, settle_by, step_events}
 use Rattle.store_core.specs.States.{State, byte_and, byte_at, empty, read_bytes}
-use Rattle.store_core.proofs.Choosing.{has_bit-zero}
+use Rattle.store_core.proofs.Bits.{has_bit-zero}
 use Rattle.store_core.proofs.Lasting.{legal-join, run-append, sound_empty}
 use Rattle.store_core.proofs.ReadLaws.{is_read}
 use Rattle.store_core.specs.Served.{IsKept, IsPart, IsServed}

@@ -1,9 +1,6 @@
 -- What the machine of schedules keeps, and what each of its steps is as an event of the store.
-use Rattle.std.proofs.Common.{◌≡◌, ℕ, ◌+◌, ◌/◌, ◌%◌, ◌<◌, ◌≤◌, max, nat_lt, ◌==◌, Bool, true, false, not, ◌&&◌, ◌||◌, if◌then◌else◌, List, [], ◌∷◌, length, drop, slice_get, slice_index, Option, None, Some, is_some, option_and_then, option_map, bit_or, refl, sym, ap, subst, ◌∙◌, arith, inl, inr, eqb-true, eq-eqb}
-use Rattle.std.specs.Int.{bit_at}
+use Rattle.std.proofs.Common.{◌≡◌, ℕ, ◌+◌, ◌/◌, ◌%◌, ◌≤◌, nat_lt, ◌==◌, Bool, true, false, not, ◌&&◌, ◌||◌, if◌then◌else◌, List, [], ◌∷◌, length, drop, slice_get, slice_index, Option, None, Some, is_some, option_and_then, option_map, refl, sym, ap, subst, ◌∙◌, arith, inl, inr, eqb-true, eq-eqb}
 use Rattle.std.proofs.lemmas.Bool.{both_ways, cases_Bool, false_from_ne_true}
-use Rattle.std.proofs.lemmas.Bool.Decides.{nat_tests}
-use Rattle.std.proofs.lemmas.Nat.Bits.{bit_at-lt, bit_at_or}
 use Rattle.b3tree.specs.Valid.{AreBytes}
 use Rattle.b3tree.proofs.BlockWords.{AreBytes-drop, AreBytes-take}
 use Rattle.bao_text.specs.Nodes.{Node, size}
@@ -18,7 +15,6 @@ use Rattle.store_core.specs.Events.{is_free}
 use Rattle.store_core.specs.Histories.{AreLegalFrom, run}
 use Rattle.store_core.specs.Laws.{IsSound}
 use Rattle.store_core.specs.Machine.{Machine, is_number, is_shown, seat_has, shown_byte, store_of}
-use Rattle.store_core.specs.Masks.{has_bit}
 use Rattle.store_core.specs.Pieces.{IsAcceptedPiece, chunk_bytes}
 use Rattle.store_core.specs.Served.{IsKept, IsPart, IsServed}
 use Rattle.store_core.specs.Slots.{caller}
@@ -105,14 +101,6 @@ pub byte_lasts : (fixed : Fixed) (s : State) (events : List Event) → IsSound f
     → byte_at (run s events) q ≡ Some x
 byte_lasts fixed s events sound legal q x h =
     byte_stays (s.held (q / 1024)) ((run s events).held (q / 1024)) (q % 1024) x h (λ bytes is. held_from fixed s events sound legal (q / 1024) bytes is)
-
--- the bits of a join of masks
-max_bit : (x y : ℕ) → x < 2 → y < 2 → (max x y == 1) ≡ ((x == 1) || (y == 1))
-max_bit x y a b = grind (arith, nat_tests)
-
-pub has_bit-or : (a b j : ℕ) → has_bit (bit_or a b) j ≡ (has_bit a j || has_bit b j)
-unfolding has_bit
-has_bit-or a b j = ap (λ (x : ℕ). x == 1) (bit_at_or a b j) ∙ max_bit (bit_at a j) (bit_at b j) (bit_at-lt a j) (bit_at-lt b j)
 
 -- after steps that leave the reads under way
 pub keeps : (fixed : Fixed) (m next : Machine) (events : List Event) → IsServed fixed m → AreLegalFrom fixed (store_of m) events → run (store_of m) events ≡ store_of next

@@ -19,7 +19,8 @@ use Rattle.store_core.specs.Schedules.{AreTexts, HasPiece, IsWritten, after_step
 use Rattle.store_core.specs.Slots.{caller}
 use Rattle.store_core.specs.States.{claims}
 use Rattle.store_core.specs.Served.{IsServed}
-use Rattle.store_core.proofs.Served.{IsStep, chunk_fits, chunk_valid, claimed_hidden, claims_seat, free_same, has_bit-or, keeps, one_seat}
+use Rattle.store_core.proofs.Served.{IsStep, chunk_fits, chunk_valid, claimed_hidden, claims_seat, free_same, keeps, one_seat}
+use Rattle.store_core.proofs.Bits.{has_bit-or}
 use Rattle.store_core.proofs.CellWords.{cell_is}
 use Rattle.store_core.proofs.Stored.{mask_same, same_state}
 use Rattle.store_core.proofs.Tells.{masked}

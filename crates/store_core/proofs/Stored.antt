@@ -28,7 +28,7 @@ use Rattle.store_core.specs.Names.{Name}
 use Rattle.store_core.specs.Reached.{IsReached}
 use Rattle.store_core.specs.Slots.{AreCopies, IsCopy, caller, claim_in, claimed_slot, held_in, is_free_slot, is_of, slot_at, state_in}
 use Rattle.store_core.specs.States.{State, claims, empty, is_among}
-use Rattle.store_core.proofs.Choosing.{has_bit-zero}
+use Rattle.store_core.proofs.Bits.{has_bit-zero}
 use Rattle.store_core.proofs.Lasting.{legal-join, run-append}
 use Rattle.store_core.proofs.Tells.{masked}
 

@@ -20,7 +20,7 @@ use Rattle.store_core.specs.Pieces.{IsAcceptedPiece, holds_parent, length_of, pa
 use Rattle.store_core.specs.Slots.{parents_in, state_in, with_parents}
 use Rattle.store_core.specs.States.{State}
 use Rattle.store_core.specs.Stores.{IsSame, IsUnstored}
-use Rattle.store_core.proofs.Choosing.{has_bit-zero}
+use Rattle.store_core.proofs.Bits.{has_bit-zero}
 
 -- parents that are the same at each boundary make the same state
 pub same_parents : (s : State) (old new : List (Option (List ℕ))) → ((m : ℕ) → parents_in new m ≡ parents_in old m) → with_parents s new ≡ with_parents s old

@@ -18,3 +18,4 @@ pub mod Replays
 pub mod Stages
 pub mod Orders
 pub mod Serves
+pub mod Knowledge

@@ -1,22 +1,48 @@
-ghost use Rattle.std.specs.Prelude.{◌≡◌, ◌≢◌, ℕ, ◌<◌, true};
-ghost use Rattle.store_core.specs.Masks.{has_bit};
+ghost use Rattle.std.specs.Prelude.{◌≡◌, ◌≢◌, ℕ, ◌<◌, nat_lt, true};
+ghost use Rattle.store_core.specs.Masks.{IsMaskOf, has_bit};
 
-/// How many chunks a group has.
-pub const GROUP_LEN: usize = 64;
+use b3tree::CHUNK_LEN;
 
-// Whether bit j of the mask is set.
-pub(crate) fn has_bit(mask: u64, j: u32) -> bool
+/// How many chunks a group has, and how many boundaries.
+pub const GROUP_LEN: u32 = 64;
+
+/// How many bytes a group's chunks have room for.
+pub const GROUP_BYTES: u64 = GROUP_LEN as u64 * CHUNK_LEN as u64;
+
+/// How many words a chunk's cell has: the size, then 128 words of eight bytes.
+pub const CELL_WORDS: u8 = 129;
+
+/// How many words a parent has, of eight bytes each.
+pub const PARENT_WORDS: u8 = 8;
+
+/// Whether bit `j` of the mask is set: it stands for chunk, or boundary, 64 * group + j.
+#[inline(always)]
+pub fn has_bit(mask: u64, j: u32) -> bool
     requires { j < 64 }
     ensures { result ≡ has_bit mask j }
 {
     (mask >> j) & 1 == 1
 }
 
-// The mask with bit j set.
-pub(crate) fn with_bit(mask: u64, j: u32) -> u64
+/// The mask with bit `j` set, and all others as they were.
+#[inline(always)]
+pub fn with_bit(mask: u64, j: u32) -> u64
     requires { j < 64 }
     ensures same { has_bit result j ≡ true }
     ensures others { (k : ℕ) → k ≢ j → has_bit result k ≡ has_bit mask k }
 {
     mask | (1 << j)
+}
+
+/// The mask of the group's chunks, or boundaries, whose numbers are below `end`.
+pub fn mask_below(group: u32, end: u64) -> u64
+    ensures { IsMaskOf group result (λ c. nat_lt c end) }
+{
+    let start = GROUP_LEN as u64 * u64::from(group);
+    let count = end.saturating_sub(start);
+    if count < GROUP_LEN as u64 {
+        (1 << count) - 1
+    } else {
+        u64::MAX
+    }
 }

@@ -1,10 +1,9 @@
 ghost use Rattle.std.specs.Prelude.{◌≡◌, ◌+◌, ◌^◌, ◌<◌, ◌≤◌, length};
 
+use crate::masks::GROUP_BYTES;
 use crate::micro::{ReadBytes, Reply};
 use crate::store::Store;
 use std::alloc::{AllocError, Global};
-
-const GROUP_BYTES: u64 = 65_536;
 
 // A read under way: its first position, its length, and the bytes that it has so far.
 #[derive(Drop)]

@@ -12,16 +12,13 @@ ghost use Rattle.store_core.specs.States.{claims};
 ghost use Rattle.store_core.specs.Stores.{fixed_of, state_of};
 
 use crate::fault::ReplayFault;
-use crate::masks::{GROUP_LEN, has_bit};
+use crate::masks::{CELL_WORDS, GROUP_LEN, has_bit};
 use crate::micro::{MicroStep, Reply};
 use crate::reading::Reading;
 use crate::store::Store;
 use b3tree::{Hash, Mode};
 use bao_check::Checked;
 use std::alloc::{AllocError, Global};
-
-// A cell has its chunk's size and 128 words of eight bytes.
-const CELL_WORDS: usize = 129;
 
 // The most bytes that a read of a schedule asks for.
 const MAX_READ: u32 = 65_536;
@@ -102,8 +99,8 @@ fn add(replies: &mut Vec<Reply>, reply: Option<Reply>) -> Result<(), AllocError>
 fn is_written(written: &[bool], chunk: u32) -> bool
     ensures { IsTrue result ↔ ((w : ℕ) → w < 129 → is_marked written.now chunk w ≡ true) }
 {
-    let first = CELL_WORDS * chunk as usize;
-    for w in 0..CELL_WORDS {
+    let first = CELL_WORDS as usize * chunk as usize;
+    for w in 0..CELL_WORDS as usize {
         if first + w >= written.len() || !written[first + w] {
             return false;
         }
@@ -127,7 +124,7 @@ fn mark(written: &mut Vec<bool>, chunk: u32, word: u8) -> Result<(), AllocError>
     requires { word < 129 }
     ensures { OnOk result ((c w : ℕ) → w < 129 → is_marked written.new.items c w ≡ ((c == chunk) && (w == word) || is_marked written.old.items c w)) }
 {
-    let i = CELL_WORDS * chunk as usize + word as usize;
+    let i = CELL_WORDS as usize * chunk as usize + word as usize;
     grow(written, i + 1)?;
     written[i] = true;
     Ok(())
@@ -137,8 +134,8 @@ fn mark(written: &mut Vec<bool>, chunk: u32, word: u8) -> Result<(), AllocError>
 fn unmark(written: &mut [bool], chunk: u32)
     ensures { IsCleared (λ c. c == chunk) written.old written.new }
 {
-    let first = CELL_WORDS * chunk as usize;
-    for w in 0..CELL_WORDS {
+    let first = CELL_WORDS as usize * chunk as usize;
+    for w in 0..CELL_WORDS as usize {
         if first + w < written.len() {
             written[first + w] = false;
         }
@@ -152,7 +149,7 @@ fn unmark_group(written: &mut [bool], group: u32, mask: u64)
 {
     for j in 0..64u32 {
         if has_bit(mask, j) {
-            unmark(written, GROUP_LEN as u32 * group + j);
+            unmark(written, GROUP_LEN * group + j);
         }
     }
 }
@@ -225,7 +222,7 @@ impl<'a> Stage<'a> {
     {
         let player = take_player(&mut self.players, seat);
         let holds = does_hold(&player, chunk);
-        if word as usize >= CELL_WORDS || !holds || !self.store.has_claim(seat, chunk) {
+        if word >= CELL_WORDS || !holds || !self.store.has_claim(seat, chunk) {
             return Err(StepFault::Illegal);
         }
         mark(&mut self.written, chunk, word)?;
@@ -259,7 +256,7 @@ impl<'a> Stage<'a> {
         ensures { IsTrue result ↔ IsFilled self.now.store self.now.written.items seat group piece.now }
     {
         for j in 0..64u32 {
-            let chunk = GROUP_LEN as u32 * group + j;
+            let chunk = GROUP_LEN * group + j;
             if self.store.has_claim(seat, chunk)
                 && piece.chunk(u64::from(chunk)).is_some()
                 && !is_written(self.written.as_slice(), chunk)

@@ -93,7 +93,7 @@ pub(crate) fn chosen(slots: &[Slot], group: u32, among: u64, pick: &Pick<'_>) ->
     requires { group < 1024 }
     ensures { IsMaskOf group result (λ c. has_bit among (c % 64) && (nat_lt c (length slots.now) && picks pick.now c (slot_at slots.now c))) }
 {
-    let first = GROUP_LEN * group as usize;
+    let first = GROUP_LEN as usize * group as usize;
     let mut mask = 0;
     for j in 0..64u32 {
         if has_bit(among, j) && is_picked(slots, first + j as usize, pick) {
@@ -119,7 +119,7 @@ pub(crate) fn put_claims(slots: &mut [Slot], group: u32, mask: u64, seat: Option
     requires within { (c : ℕ) → in_mask group mask c ≡ true → c < length slots.old }
     ensures { (c : ℕ) → slot_at slots.new c ≡ (if in_mask group mask c then claimed_slot seat else slot_at slots.old c) }
 {
-    let first = GROUP_LEN * group as usize;
+    let first = GROUP_LEN as usize * group as usize;
     for j in 0..64u32 {
         if has_bit(mask, j) {
             slots[first + j as usize] = claimed_slot(seat);
@@ -180,7 +180,7 @@ pub(crate) fn put_ready(slots: &mut [Slot], group: u32, mask: u64, ready: &mut [
     requires full { length ready.old ≡ 64 }
     ensures { (c : ℕ) → slot_at slots.new c ≡ (if in_mask group mask c then slot_at ready.old (c % 64) else slot_at slots.old c) }
 {
-    let first = GROUP_LEN * group as usize;
+    let first = GROUP_LEN as usize * group as usize;
     for j in 0..64u32 {
         if has_bit(mask, j) {
             slots[first + j as usize] = replace(&mut ready[j as usize], Slot::Free);

@@ -85,7 +85,7 @@ impl Store {
     pub(crate) fn groups(&self) -> u32
         ensures { result ≡ groups (fixed_of self.now) }
     {
-        self.fixed.capacity.div_ceil(GROUP_LEN as u32)
+        self.fixed.groups()
     }
 
     // How many bytes it has room for.
@@ -124,7 +124,7 @@ impl Store {
         if group >= self.groups() {
             return Err(StoreFault::NoGroup);
         }
-        let end = (GROUP_LEN * (group as usize + 1)).min(self.fixed.capacity as usize);
+        let end = (GROUP_LEN as usize * (group as usize + 1)).min(self.fixed.capacity as usize);
         grow(&mut self.slots, end)?;
         let granted = chosen(self.slots.as_slice(), group, want, &Pick::Free);
         put_claims(self.slots.as_mut_slice(), group, granted, Some(seat));
@@ -307,7 +307,7 @@ impl Store {
         if mask == 0 {
             return Ok(0);
         }
-        make_room(&mut self.parents, GROUP_LEN * (group as usize + 1))?;
+        make_room(&mut self.parents, GROUP_LEN as usize * (group as usize + 1))?;
         put_parents(self.parents.as_mut_slice(), group, mask, piece);
         Ok(mask)
     }

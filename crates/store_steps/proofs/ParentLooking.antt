@@ -21,7 +21,7 @@ use Rattle.store_core.specs.Pieces.{IsAcceptedPiece, length_of, parent_bytes}
 use Rattle.store_core.specs.Serves.{node_held, serving}
 use Rattle.store_core.specs.States.{State}
 use Rattle.store_core.specs.Views.{names_of}
-use Rattle.store_core.proofs.Choosing.{has_bit-zero}
+use Rattle.store_core.proofs.Bits.{has_bit-zero}
 use Rattle.store_core.proofs.ParentOrigins.{parent_lasts}
 use Rattle.store_steps.specs.Layout.{length_place, parent_place}
 use Rattle.store_steps.specs.Plays.{CopiesParent, LoadsNode, LoadsToServe, LoadsToStore, length_in}
