@@ -5,10 +5,7 @@ ghost use Rattle.bao_script.specs.Steps.{fill_steps, pieces_in};
 use crate::line::Line;
 use crate::numbered::NumberedLine;
 use std::alloc::{AllocError, Global};
-use store_core::MicroStep;
-
-// A cell has its chunk's size and 128 words of eight bytes.
-const CELL_WORDS: u8 = 129;
+use store_core::{CELL_WORDS, MicroStep};
 
 // Adds the writes of all words of a chunk's cell.
 fn push_fill(steps: &mut Vec<MicroStep>, seat: u32, chunk: u32) -> Result<(), AllocError>

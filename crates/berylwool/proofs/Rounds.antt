@@ -20,15 +20,14 @@ use Rattle.gather.proofs.Reporting.{large_wider}
 use Rattle.store_core.specs.declared.fixed.Fixed.{Fixed}
 use Rattle.store_core.proofs.Bound.{held_binds}
 use Rattle.store_shared.specs.declared.assembly.Assembly.{Assembly}
-use Rattle.store_shared.specs.Seats.{IsSeatOf, fixed_of}
-use Rattle.store_steps.specs.Grips.{Gripped}
+use Rattle.store_shared.specs.Seats.{Gripped, IsSeatOf, fixed_of}
 use Rattle.berylwool.specs.Gathering.{Gathers, HasSlices, IsOutOf}
 
 seat_keyed : (store : Assembly) (seat : Gripped) → IsKeyed (fixed_of store).mode → IsSeatOf store seat → IsKeyed (fixed_at seat).mode
-seat_keyed store seat keyed of = subst (λ (f : Fixed). IsKeyed f.mode) (sym of.fixed_is) keyed
+seat_keyed store seat keyed of = subst (λ (f : Fixed). IsKeyed f.mode) (sym of.knows.fixed_is) keyed
 
 seen_binds : (store : Assembly) (seat : Gripped) → IsKeyed (fixed_of store).mode → IsSeatOf store seat → SeenBinds seat.view
-seen_binds store seat keyed of blob is c bytes held = held_binds seat.view.fixed seat.view.seen blob c bytes (seat_keyed store seat keyed of) is of.legal held
+seen_binds store seat keyed of blob is c bytes held = held_binds seat.view.fixed seat.view.seen blob c bytes (seat_keyed store seat keyed of) is of.knows.legal held
 
 -- the one holder gives the slices of the blob
 has_true : (text blob : List ℕ) (holder : Encoded) (seat : Gripped) → encoding holder ≡ text → HasSlices text seat blob → HasTrue IsCut (fixed_at seat).mode blob (holder ∷ [])

@@ -9,11 +9,10 @@ use Rattle.store_core.specs.declared.history.Piece.{Piece}
 use Rattle.store_core.specs.declared.history.Serving.TheVariants.{Text}
 use Rattle.store_core.specs.Pieces.{piece_of}
 use Rattle.store_core.specs.Stores.{ChunksBind}
-use Rattle.store_read.specs.Serving.{SliceBinds}
+use Rattle.store_calls.specs.Serving.{SliceBinds}
 use Rattle.store_shared.specs.declared.assembly.Assembly.{Assembly}
-use Rattle.store_shared.specs.Seats.{fixed_of}
-use Rattle.store_steps.specs.Grips.{Gripped}
-use Rattle.store_steps.specs.Tells.{Called}
+use Rattle.store_shared.specs.Seats.{Gripped, fixed_of}
+use Rattle.store_core.specs.Knowledge.{Called}
 use Rattle.berylwool.specs.Calls.{Commits, Serves, slice_piece}
 use Rattle.berylwool.proofs.Texts.{piece_is}
 

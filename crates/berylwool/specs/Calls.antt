@@ -2,7 +2,7 @@
 use Rattle.std.specs.Prelude.{◌≡◌, ◌⊎◌, ℕ, List, length, Option}
 use Rattle.b3tree.specs.Hashing.{hash}
 use Rattle.bao_check.specs.Accepted.{IsAccepted, slice_nodes}
-use Rattle.store_commit.specs.Parents.{ParentsBind}
+use Rattle.store_calls.specs.Parents.{ParentsBind}
 use Rattle.store_core.specs.declared.fixed.Fixed.{Fixed}
 use Rattle.store_core.specs.declared.history.Call.TheVariants.{Commit, Parents, Serve, Settle}
 use Rattle.store_core.specs.declared.history.Piece.{Piece}
@@ -11,12 +11,11 @@ use Rattle.store_core.specs.declared.history.Settling.TheVariants.{Known, Settle
 use Rattle.store_core.specs.declared.history.Storing.TheVariants.{Stored}
 use Rattle.store_core.specs.declared.view.SeatView.{SeatView}
 use Rattle.store_core.specs.Stores.{ChunksBind, filled_count}
-use Rattle.store_read.specs.Reading.{DidRead, ReadBinds}
-use Rattle.store_read.specs.Serving.{SliceBinds}
+use Rattle.store_calls.specs.Reading.{DidRead, ReadBinds}
+use Rattle.store_calls.specs.Serving.{SliceBinds}
 use Rattle.store_shared.specs.declared.assembly.Assembly.{Assembly}
-use Rattle.store_shared.specs.Seats.{fixed_of}
-use Rattle.store_steps.specs.Grips.{Gripped}
-use Rattle.store_steps.specs.Tells.{Called}
+use Rattle.store_shared.specs.Seats.{Gripped, fixed_of}
+use Rattle.store_core.specs.Knowledge.{Called}
 use Rattle.berylwool.specs.Status.{IsRefused}
 
 -- the piece that a text is as the slice of `len` bytes from byte `start` on

@@ -11,7 +11,7 @@ use Rattle.gather.specs.Counts.{HasFailed, Reports}
 use Rattle.gather.specs.Encodings.{IsCutOf}
 use Rattle.gather.specs.Large.{AreLonger, IsTooLarge}
 use Rattle.store_core.specs.declared.history.Piece.{Piece}
-use Rattle.store_steps.specs.Grips.{Gripped}
+use Rattle.store_shared.specs.Seats.{Gripped}
 use Rattle.berylwool.specs.declared.gathering.BwReport.{BwReport}
 
 -- the counts that it shows

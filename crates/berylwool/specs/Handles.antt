@@ -7,8 +7,7 @@ use Rattle.std_alloc.specs.Box.Ownership.{box_owns}
 use Rattle.b3tree.specs.declared.mode.Mode.{Mode}
 use Rattle.b3tree.specs.Taken.{Holds}
 use Rattle.store_shared.specs.declared.assembly.Assembly.{Assembly}
-use Rattle.store_shared.specs.Seats.{IsSeatOf}
-use Rattle.store_steps.specs.Grips.{Gripped}
+use Rattle.store_shared.specs.Seats.{Gripped, IsSeatOf}
 use Rattle.berylwool.specs.declared.held.Held.{Held}
 use Rattle.berylwool.specs.declared.held.Held.TheVariants.{Gone, Hasher, Seat}
 use Rattle.berylwool.specs.contracts.held.Held.{the_row}

@@ -3,9 +3,7 @@ ghost use Rattle.store_core.specs.declared.history.Call.TheVariants.{Give, Lengt
 ghost use Rattle.store_core.specs.declared.history.Settling.TheVariants.{Differs};
 ghost use Rattle.store_core.specs.Pieces.{EndsBlob, length_of};
 ghost use Rattle.store_shared.specs.Seats.{HasGroup, IsSeatOf, fixed_of};
-ghost use Rattle.store_steps.specs.Grips.{opening_view};
-ghost use Rattle.store_steps.specs.Parts.{ArePartsOf};
-ghost use Rattle.store_steps.specs.Tells.{Called};
+ghost use Rattle.store_core.specs.Knowledge.{ArePartsOf, Called, opening_view};
 ghost use Rattle.berylwool.specs.Handles.{HasSeat, SeatDid, SeatParts};
 ghost use Rattle.berylwool.specs.Modes.{mode_of};
 ghost use Rattle.berylwool.specs.Calls.{Commits, HasRoot, HasSettled, IsNoSliceOf, IsSliceOf, Reads, slice_piece};

@@ -3,7 +3,7 @@ ghost use Rattle.store_core.specs.declared.history.Call.TheVariants.{Parents, Se
 ghost use Rattle.store_core.specs.declared.history.Serving.TheVariants.{Lacking, NoLength};
 ghost use Rattle.store_core.specs.declared.history.Storing.TheVariants.{OtherLength};
 ghost use Rattle.store_shared.specs.Seats.{IsSeatOf};
-ghost use Rattle.store_steps.specs.Tells.{Called, Sees};
+ghost use Rattle.store_core.specs.Knowledge.{Called, Sees};
 ghost use Rattle.berylwool.specs.Calls.{IsNoSliceOf, IsSliceOf, Serves, StoresParents, slice_piece};
 ghost use Rattle.berylwool.specs.Handles.{HasSeat, SeatDid};
 ghost use Rattle.berylwool.specs.Served.{node_of};

@@ -20,8 +20,8 @@ use Rattle.store_core.specs.Views.{names_of}
 use Rattle.store_core.proofs.Lasting.{record_lasts, run-append}
 use Rattle.store_core.proofs.Origins.{record_is_settled}
 use Rattle.store_core.proofs.ReadLaws.{read_means}
-use Rattle.store_read.specs.Reading.{DidRead}
-use Rattle.store_steps.specs.Tells.{Called, event_of}
+use Rattle.store_calls.specs.Reading.{DidRead}
+use Rattle.store_core.specs.Knowledge.{Called, event_of}
 use Rattle.store_shared.proofs.Asking.{right_there}
 
 -- a call that changes nothing leaves the state in which it stands

@@ -24,8 +24,8 @@ use Rattle.store_shared.specs.declared.fault.NoGroup.{NoGroup}
 use Rattle.store_shared.specs.declared.fault.OtherRoot.{OtherRoot as OtherRootFault}
 use Rattle.store_shared.specs.Calls.{Settles}
 use Rattle.store_shared.proofs.Asking.{right_there}
-use Rattle.store_steps.specs.Grips.{Gripped}
-use Rattle.store_steps.specs.Tells.{Called, event_of}
+use Rattle.store_shared.specs.Seats.{Gripped}
+use Rattle.store_core.specs.Knowledge.{Called, event_of}
 
 granted_there : (old new : Gripped) (group want granted : ℕ) → Called (Take group want granted) old.view new.view → (c : ℕ) → in_mask group granted c ≡ true
     → IsWanted group want c × (claims_of new c ≡ true)

@@ -29,8 +29,8 @@ use Rattle.store_core.specs.Pieces.{piece_of}
 use Rattle.store_core.specs.States.{claims, empty}
 use Rattle.store_core.specs.Views.{names_of}
 use Rattle.store_core.proofs.Lasting.{claims_last, legal-append}
-use Rattle.store_steps.specs.Grips.{Gripped}
-use Rattle.store_steps.specs.Tells.{Called, event_of}
+use Rattle.store_shared.specs.Seats.{Gripped}
+use Rattle.store_core.specs.Knowledge.{Called, event_of}
 use Rattle.store_core.specs.declared.fault.StoreFault.{StoreFault}
 use Rattle.store_shared.specs.declared.fault.NoGroup.{NoGroup}
 use Rattle.store_shared.specs.declared.fault.OtherRoot.{OtherRoot as OtherRootFault}

@@ -64,7 +64,7 @@ module _ {H : Type 0} (assembly : Assembly) (gives : H → ℕ → ℕ → List 
     | inl here ↦ elim ((each_first (Worked assembly gives count) x y xs ys each).reports.too_large here) [
       | inl before ↦ let no : false ≡ true = before in cc
       | inr is ↦
-          subst (λ (f : Fixed). IsTooLarge (IsHandedTo gives (x ∷ xs)) f) (of 0 x (omega arith)).fixed_is
+          subst (λ (f : Fixed). IsTooLarge (IsHandedTo gives (x ∷ xs)) f) (of 0 x (omega arith)).knows.fixed_is
           (large_wider (IsHanded gives x.holders.items) (IsHandedTo gives (x ∷ xs)) (λ piece handed. record { number = 0; crew = x; there = refl; handed = handed }) _ is)
     ]
     | inr not_here ↦

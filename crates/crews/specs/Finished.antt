@@ -6,7 +6,7 @@ use Rattle.store_core.specs.declared.history.Event.{Event}
 use Rattle.store_core.specs.declared.view.SeatView.{SeatView}
 use Rattle.gather.specs.Finished.{IsNamedIn}
 use Rattle.store_core.specs.Laws.{IsBlob}
-use Rattle.store_steps.specs.Tells.{Called}
+use Rattle.store_core.specs.Knowledge.{Called}
 
 -- the length was asked for
 pub record AsksLength (old new : SeatView) : Type 0 where

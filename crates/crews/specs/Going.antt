@@ -9,7 +9,7 @@ use Rattle.store_core.specs.declared.history.Piece.{Piece}
 use Rattle.gather.specs.Worked.{chunks_in, chunks_of, parents_in, parents_of}
 use Rattle.store_core.specs.declared.history.Event.{Event}
 use Rattle.store_core.specs.Views.{mine}
-use Rattle.store_steps.specs.Grips.{Gripped}
+use Rattle.store_shared.specs.Seats.{Gripped}
 
 stays : (s : Gripped) → GoneOn IsNone s s 0 0
 stays s = record {

@@ -6,7 +6,7 @@ use Rattle.crews.specs.Seats.{GoneOn, claims_of}
 use Rattle.store_core.specs.declared.history.Event.{Event}
 use Rattle.store_core.specs.Histories.{IsLegal, state_after}
 use Rattle.store_core.specs.declared.history.Piece.{Piece}
-use Rattle.store_steps.specs.Grips.{Gripped}
+use Rattle.store_shared.specs.Seats.{Gripped}
 
 -- the length is recorded after all that was seen, and after whatever legally follows
 abbrev pub Records : Gripped → ℕ → Type 0

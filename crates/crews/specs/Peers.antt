@@ -4,10 +4,10 @@ use Rattle.bao_text.specs.declared.walk.Node.{Node}
 use Rattle.store_core.specs.declared.history.Call.TheVariants.{Serve}
 use Rattle.store_core.specs.declared.history.Serving.TheVariants.{Lacking, NoLength, Text}
 use Rattle.store_core.specs.declared.view.SeatView.{SeatView}
-use Rattle.store_read.specs.Serving.{SliceBinds}
+use Rattle.store_calls.specs.Serving.{SliceBinds}
 use Rattle.store_shared.specs.declared.assembly.Assembly.{Assembly}
-use Rattle.store_steps.specs.Grips.{Gripped}
-use Rattle.store_steps.specs.Tells.{Called, Sees}
+use Rattle.store_shared.specs.Seats.{Gripped}
+use Rattle.store_core.specs.Knowledge.{Called, Sees}
 
 -- a store, and a seat of it
 pub record Peered : Type 0 where

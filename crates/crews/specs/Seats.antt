@@ -9,7 +9,7 @@ use Rattle.store_core.specs.declared.view.SeatView.{SeatView}
 use Rattle.store_core.specs.Histories.{AreOfOthers, state_after}
 use Rattle.store_core.specs.Laws.{IsBlob, IsCommitted, PairNamed}
 use Rattle.store_core.specs.Views.{mine, names_of, seat_claims}
-use Rattle.store_steps.specs.Grips.{Gripped}
+use Rattle.store_shared.specs.Seats.{Gripped}
 
 -- the root and the mode of the store's blob, and how many chunks it has room for
 abbrev pub fixed_of : Gripped → Fixed

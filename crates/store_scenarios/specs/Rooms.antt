@@ -1,8 +1,7 @@
 -- which seats a room has
 use Rattle.std.specs.Prelude.{List, Option, IfSome, All}
-use Rattle.store_shared.specs.Seats.{IsSeatOf}
+use Rattle.store_shared.specs.Seats.{Gripped, IsSeatOf}
 use Rattle.store_shared.specs.declared.assembly.Assembly.{Assembly}
-use Rattle.store_steps.specs.Grips.{Gripped}
 use Rattle.store_scenarios.specs.declared.room.Room.{Room}
 
 -- each seat that isn't away is one of this store's

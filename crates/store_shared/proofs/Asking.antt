@@ -15,8 +15,8 @@ use Rattle.store_core.specs.Pieces.{length_of, piece_of}
 use Rattle.store_core.specs.States.{empty}
 use Rattle.store_core.specs.Views.{names_of}
 use Rattle.store_core.proofs.Lasting.{legal-append}
-use Rattle.store_steps.specs.Grips.{Gripped}
-use Rattle.store_steps.specs.Tells.{Called, Did, event_of}
+use Rattle.store_shared.specs.Seats.{Gripped}
+use Rattle.store_core.specs.Knowledge.{Called, Did, event_of}
 use Rattle.store_shared.specs.Calls.{MaySettle, Settles}
 
 pub called : (call : Call) (old new : SeatView) → Did call old new → Called call old new

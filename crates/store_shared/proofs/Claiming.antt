@@ -19,10 +19,8 @@ use Rattle.store_core.specs.Views.{names_of, seat_claims, split_first}
 use Rattle.store_core.proofs.Joining.{claims_continued, join_keeps, split_keeps}
 use Rattle.store_core.proofs.Tells.{claims_apart}
 use Rattle.store_steps.specs.Asks.{AreClaimed}
-use Rattle.store_steps.specs.Grips.{opening_view}
-use Rattle.store_steps.specs.Parts.{AreMet, ArePartsOf, IsMerged, KeepsClaims, NoneIsClaimedByBoth}
-use Rattle.store_steps.specs.Tells.{Did}
-use Rattle.store_steps.proofs.Bits.{and_small, has_bit-and, has_bit-not, has_bit-or, has_bit-zero}
+use Rattle.store_core.specs.Knowledge.{AreMet, ArePartsOf, Did, IsMerged, KeepsClaims, NoneIsClaimedByBoth, opening_view}
+use Rattle.store_core.proofs.Bits.{and_small, has_bit-and, has_bit-not, has_bit-or, has_bit-zero}
 use Rattle.store_steps.proofs.Standing.{left, put}
 use Rattle.store_shared.specs.Seats.{AreClaims}
 

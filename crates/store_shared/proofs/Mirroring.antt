@@ -27,7 +27,7 @@ use Rattle.store_core.specs.Stores.{fixed_of, state_of}
 use Rattle.store_core.proofs.Determined.{state_determines}
 use Rattle.store_core.proofs.Lasting.{sound_call, sound_empty}
 use Rattle.store_core.proofs.Stored.{mask_same, same_state}
-use Rattle.store_steps.proofs.Bits.{has_bit-ones}
+use Rattle.store_core.proofs.Bits.{has_bit-ones}
 use Rattle.store_shared.specs.Partner.{Answers, AskTheSame, Asked, IsSeat, Numbering, RepliesAreTheStores, calls, calls_in, moved, moves}
 
 -- the one-thread store's name for the seat of a name

@@ -10,8 +10,8 @@ use Rattle.store_core.specs.Pieces.{length_of, piece_of}
 use Rattle.store_core.specs.Stores.{IsOf}
 use Rattle.store_shared.specs.declared.fault.ParentsFault.{ParentsFault}
 use Rattle.store_shared.specs.declared.fault.ParentsFault.TheVariants as unstored
-use Rattle.store_steps.specs.Grips.{Gripped}
-use Rattle.store_steps.specs.Tells.{Called}
+use Rattle.store_shared.specs.Seats.{Gripped}
+use Rattle.store_core.specs.Knowledge.{Called}
 
 -- the piece is of the store's root and mode, and the store has room for the length that it certifies
 pub record MaySettle (fixed : Fixed) (piece : Checked) : Type 0 where

@@ -6,7 +6,7 @@ use Rattle.store_core.specs.Machine.{groups}
 use Rattle.store_core.specs.Masks.{has_bit}
 use Rattle.store_core.specs.Views.{seat_claims}
 use Rattle.store_shared.specs.declared.assembly.Assembly.{Assembly}
-use Rattle.store_steps.specs.Grips.{Gripped}
+pub use Rattle.store_steps.specs.Grips.{Gripped}
 use Rattle.store_steps.specs.Words.{HasGroup as WordsHaveGroup, IsOf, fixed_of as fixed_of_words}
 
 -- one word a group, with the bits of exactly the chunks that the seat claims; and the seat is storing no parents

@@ -6,13 +6,9 @@ use crate::seat::Seat;
 use b3tree::{CHUNK_LEN, Hash, Mode};
 use bao_check::{Checked, Tail};
 use std::alloc::Global;
-use store_commit::{commit, commit_parents};
-use store_core::{MAX_CAPACITY, Missing, ServeFault, Settling, Storing};
-use store_read::{read, serve_slice};
+use store_calls::{commit, commit_parents, read, serve_slice};
+use store_core::{GROUP_LEN, MAX_CAPACITY, Missing, ServeFault, Settling, Storing};
 use store_steps::{NewFault, Words};
-
-// How many chunks a group has.
-const GROUP_LEN: u32 = 64;
 
 /// A store of one blob's chunks, shared by reference: which are held, which seat claims which, and the blob's length once
 /// it is known. Nothing is taken on anybody's word: what it holds comes from texts accepted under its root.
@@ -33,17 +29,15 @@ impl Assembly {
     ghost use Rattle.store_core.specs.declared.history.Call.TheVariants.{Commit, Give, Length, Parents, Serve, Take};
     ghost use Rattle.store_core.specs.declared.history.Serving.TheVariants.{Text};
     ghost use Rattle.store_core.specs.declared.history.Storing.TheVariants.{Stored};
-    ghost use Rattle.store_commit.specs.Parents.{ParentsBind};
-    ghost use Rattle.store_read.specs.Serving.{IsRefused, SliceBinds};
+    ghost use Rattle.store_calls.specs.Parents.{ParentsBind};
+    ghost use Rattle.store_calls.specs.Serving.{IsRefused, SliceBinds};
     ghost use Rattle.store_core.specs.Machine.{groups};
     ghost use Rattle.store_core.specs.Pieces.{piece_of};
     ghost use Rattle.store_core.specs.Stores.{ChunksBind, IsOf, filled_count, missing_in};
-    ghost use Rattle.store_read.specs.Reading.{DidRead, ReadBinds};
+    ghost use Rattle.store_calls.specs.Reading.{DidRead, ReadBinds};
     ghost use Rattle.store_shared.specs.Calls.{IsUnstored, Settles};
     ghost use Rattle.store_shared.specs.Seats.{HasGroup, IsSeatOf, fixed_of};
-    ghost use Rattle.store_steps.specs.Grips.{opening_view};
-    ghost use Rattle.store_steps.specs.Parts.{AreMet, ArePartsOf, IsMerged, KeepsClaims, LooksRound, NoneIsClaimedByBoth};
-    ghost use Rattle.store_steps.specs.Tells.{Called};
+    ghost use Rattle.store_core.specs.Knowledge.{AreMet, ArePartsOf, Called, IsMerged, KeepsClaims, LooksRound, NoneIsClaimedByBoth, opening_view};
 
     /// A store that holds, claims and records nothing, and its first seat, which has seen nothing. `capacity` is a number
     /// of chunks.

@@ -22,7 +22,7 @@ use Rattle.store_core.proofs.Tells.{claims-claimed}
 use Rattle.store_steps.specs.Layout.{length_code}
 use Rattle.store_steps.specs.Plays.{Gives, Publishes}
 use Rattle.store_steps.specs.Rule.{IsKept, StandFor}
-use Rattle.store_steps.proofs.Bits.{has_bit-zero}
+use Rattle.store_core.proofs.Bits.{has_bit-zero}
 use Rattle.store_steps.proofs.Giving.{cells_beside, ended_written}
 use Rattle.store_steps.proofs.Stepping.{Steps, did_step}
 

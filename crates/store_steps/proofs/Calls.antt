@@ -12,7 +12,7 @@ use Rattle.store_core.specs.Names.{Name, least_name, share_name}
 use Rattle.store_core.specs.States.{State, claims, is_among}
 use Rattle.store_core.proofs.Joining.{plain}
 use Rattle.store_core.proofs.Tells.{same_name-refl}
-use Rattle.store_steps.specs.Tells.{claims_after}
+use Rattle.store_core.specs.Knowledge.{claims_after}
 use Rattle.store_steps.proofs.Lists.{AreBy}
 
 -- a set of names shares one with itself

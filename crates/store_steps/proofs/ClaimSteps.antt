@@ -17,7 +17,7 @@ use Rattle.store_core.proofs.Served.{claim_seat}
 use Rattle.store_core.proofs.Tells.{masked}
 use Rattle.store_steps.specs.Layout.{cell_place, claim_place, claim_word, length_place}
 use Rattle.store_steps.specs.Simulates.{GiveIsGiveBack, TakeIsClaim}
-use Rattle.store_steps.proofs.Bits.{and_small, has_bit-and, has_bit-not, has_bit-or}
+use Rattle.store_core.proofs.Bits.{and_small, has_bit-and, has_bit-not, has_bit-or}
 use Rattle.store_steps.proofs.Simulating.{hidden, others_not, read_on, seat_is, stands_after, stays_stored, stored_is}
 use Rattle.store_steps.proofs.Standing.{left, put}
 

@@ -23,7 +23,7 @@ use Rattle.store_steps.specs.Asks.{AreClaimed}
 use Rattle.store_steps.specs.Layout.{cell_at, cell_place, claim_place, claim_word}
 use Rattle.store_steps.specs.Plays.{Gives}
 use Rattle.store_steps.specs.Rule.{IsKept, StandFor}
-use Rattle.store_steps.proofs.Bits.{has_bit-and, has_bit-not}
+use Rattle.store_core.proofs.Bits.{has_bit-and, has_bit-not}
 use Rattle.store_steps.proofs.Standing.{claims_stand, left}
 use Rattle.store_steps.proofs.Stepping.{Steps, did_step, fitting, claims_now}
 

@@ -23,7 +23,8 @@ use Rattle.store_steps.specs.Rule.{AreApart, AreParentsKept, Fits, FitsParents, 
 use Rattle.store_steps.proofs.ParentsStanding.{LeavesParents, fits_left, fits_same, parents_left}
 use Rattle.store_steps.proofs.Storers.{stores_on}
 use Rattle.store_steps.proofs.Callers.{callers-append, callers_by}
-use Rattle.store_steps.proofs.Lists.{AreBy, apart_from, entry_of, one_part, others-append, others_by}
+use Rattle.store_steps.proofs.Lists.{AreBy, apart_from, entry_of, one_part, others_by}
+use Rattle.store_core.proofs.Going.{others-append}
 
 -- the names of views that have the same entries
 names_same : (names others : List Named) → names ≡ others → plain names ≡ plain others

@@ -1,4 +1,3 @@
-pub mod Bits
 pub mod Standing
 pub mod Lists
 pub mod Callers
@@ -17,7 +16,6 @@ pub mod Naming
 pub mod Regrouping
 pub mod Parting
 pub mod Meeting
-pub mod Going
 pub mod Wholes
 pub mod LastLoad
 pub mod OneByte

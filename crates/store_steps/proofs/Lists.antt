@@ -1,14 +1,13 @@
 -- Views of seats, names among them, and events of others.
 use Rattle.std.proofs.Common.{◌≡◌, ℕ, zero, suc, true, false, List, [], ◌∷◌, ◌++◌, Contains, refl, sym, ap, ◌∙◌, inl, inr}
 use Rattle.std.proofs.lemmas.Bool.{false_from_ne_true, or_cases, or_left, or_right}
-use Rattle.std.proofs.lemmas.List.Elements.{filter-append}
 use mathlib.Core.Option.{some, some-injective, some-ne-none}
 use lib.ListN.{get_elem?}
 use Rattle.bao_check.proofs.Lists.{Contains-head, Contains-tail}
 use Rattle.store_core.specs.declared.history.Event.{Event}
 use Rattle.store_core.specs.declared.view.Named.{Named}
 use Rattle.store_core.specs.declared.view.SeatView.{SeatView}
-use Rattle.store_core.specs.Histories.{AreOfOthers, events_of, is_by}
+use Rattle.store_core.specs.Histories.{AreOfOthers, is_by}
 use Rattle.store_core.specs.Names.{Name, has_name, same_name, share_name}
 use Rattle.store_core.proofs.Joining.{plain}
 use Rattle.store_steps.specs.Grips.{first_of}
@@ -38,11 +37,6 @@ entry_of (named ∷ names) name h = elim (or_cases (same_name name named.name) (
 pub one_part : (view other : SeatView) (part : ℕ) → get_elem? (view ∷ []) part ≡ some other → (part ≡ 0) × (other ≡ view)
 one_part view other zero h = (refl, sym (some-injective view other h))
 one_part view other (suc part) h = absurd (some-ne-none other (sym h))
-
--- events of others, joined
-pub others-append : (names : List Name) (first second : List Event) → AreOfOthers names first → AreOfOthers names second → AreOfOthers names (first ++ second)
-others-append names first second a b =
-    filter-append (is_by names) first second ∙ ap (λ (events : List Event). events ++ events_of names second) a ∙ b
 
 -- all events are by callers with these names
 abbrev pub AreBy : List Name → List Event → Type 0

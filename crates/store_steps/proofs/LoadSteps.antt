@@ -35,7 +35,7 @@ use Rattle.store_steps.specs.Plays.{Loads}
 use Rattle.store_steps.specs.Reads.{group_end, is_last, read_events}
 use Rattle.store_steps.specs.Rule.{Fits, HasView, IsKept}
 use Rattle.store_steps.specs.Simulates.{LoadIsLoad, load_events, load_reply}
-use Rattle.store_steps.specs.Tells.{event_of}
+use Rattle.store_core.specs.Knowledge.{event_of}
 use Rattle.store_steps.proofs.LastLoad.{is_last-false, is_last-true}
 use Rattle.store_steps.proofs.Looking.{reads_quiet}
 use Rattle.store_steps.proofs.Simulating.{read_is_of, read_on, seat_is, set_at, stands_after, stored_is}

@@ -18,7 +18,7 @@ use Rattle.store_steps.specs.Layout.{cell_place, held_word, length_code, length_
 use Rattle.store_steps.specs.Plays.{Answers, Copies, Loads, length_in}
 use Rattle.store_steps.specs.Reads.{is_last, read_events}
 use Rattle.store_steps.specs.Rule.{IsKept}
-use Rattle.store_steps.specs.Tells.{event_of}
+use Rattle.store_core.specs.Knowledge.{event_of}
 use Rattle.store_steps.proofs.Lists.{AreBy}
 use Rattle.store_steps.proofs.Stepping.{Steps, fitting, look_step, still_step}
 

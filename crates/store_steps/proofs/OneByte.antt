@@ -10,8 +10,8 @@ use Rattle.store_core.specs.Masks.{has_bit, in_mask}
 use Rattle.store_core.specs.Pieces.{chunk_bytes, holds_chunk}
 use Rattle.store_core.specs.Views.{seat_claims, stored}
 use Rattle.store_steps.specs.Asks.{AreHeldClaims, AreWritten}
-use Rattle.store_steps.specs.Tells.{Did}
-use Rattle.store_steps.proofs.Bits.{has_bit-ones}
+use Rattle.store_core.specs.Knowledge.{Did}
+use Rattle.store_core.proofs.Bits.{has_bit-ones}
 
 first_bit : in_mask 0 1 0 ≡ true
 unfolding has_bit

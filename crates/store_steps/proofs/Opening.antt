@@ -12,10 +12,10 @@ use Rattle.store_core.specs.Names.{Name}
 use Rattle.store_core.specs.Orders.{AreInOrder}
 use Rattle.store_core.specs.States.{empty}
 use Rattle.store_core.specs.Views.{names_of}
-use Rattle.store_steps.specs.Grips.{opening_view}
+use Rattle.store_core.specs.Knowledge.{opening_view}
 use Rattle.store_steps.specs.Layout.{claim_place, length_place, parent_claim_place, parent_held_place, word_count}
 use Rattle.store_steps.specs.Rule.{Fits, FitsParents, HasView, IsKept, IsNamed, StandFor}
-use Rattle.store_steps.proofs.Bits.{has_bit-zero}
+use Rattle.store_core.proofs.Bits.{has_bit-zero}
 use Rattle.store_steps.proofs.Lists.{one_part}
 
 pub zero_at : (count i : ℕ) → i < count → slice_index (replicate count 0) i ≡ 0

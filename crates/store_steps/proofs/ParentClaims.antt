@@ -16,7 +16,7 @@ use Rattle.store_core.specs.Views.{is_boundary, is_storing}
 use Rattle.store_steps.specs.Layout.{parent_claim_place, parent_claim_word, parent_held_place, parent_place}
 use Rattle.store_steps.specs.Plays.{ClaimsParents}
 use Rattle.store_steps.specs.Rule.{FitsParents, IsKept, StandForParents, StoresAt}
-use Rattle.store_steps.proofs.Bits.{has_bit-and, has_bit-not, has_bit-or}
+use Rattle.store_core.proofs.Bits.{has_bit-and, has_bit-not, has_bit-or}
 use Rattle.store_steps.proofs.Keeping.{Found, found, its}
 use Rattle.store_steps.proofs.ParentsAside.{aside_step}
 use Rattle.store_steps.proofs.Standing.{left, put}

@@ -27,7 +27,7 @@ use Rattle.store_steps.specs.Layout.{length_place, parent_place}
 use Rattle.store_steps.specs.Plays.{CopiesParent, LoadsNode, LoadsToServe, LoadsToStore, length_in}
 use Rattle.store_steps.specs.Rule.{IsKept}
 use Rattle.store_steps.specs.Slices.{is_recorded, node_events, node_place, number_of, unserved_events, unstored_events}
-use Rattle.store_steps.specs.Tells.{event_of}
+use Rattle.store_core.specs.Knowledge.{event_of}
 use Rattle.store_steps.proofs.Lists.{AreBy}
 use Rattle.store_steps.proofs.Looking.{length_back}
 use Rattle.store_steps.proofs.Stepping.{Steps, fitting, look_step, still_step}

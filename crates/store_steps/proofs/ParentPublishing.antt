@@ -23,8 +23,8 @@ use Rattle.store_steps.specs.Asks.{AreParentsWritten}
 use Rattle.store_steps.specs.Layout.{parent_at, parent_claim_place, parent_held_place, parent_held_word, parent_place, parent_word}
 use Rattle.store_steps.specs.Plays.{PublishesParents}
 use Rattle.store_steps.specs.Rule.{FitsParents, IsKept, StandForParents, StoresAt}
-use Rattle.store_steps.specs.Tells.{event_of}
-use Rattle.store_steps.proofs.Bits.{has_bit-or}
+use Rattle.store_core.specs.Knowledge.{event_of}
+use Rattle.store_core.proofs.Bits.{has_bit-or}
 use Rattle.store_steps.proofs.Keeping.{Found, found, its}
 use Rattle.store_steps.proofs.ParentsAside.{parents_step}
 use Rattle.store_steps.proofs.ParentsStanding.{same_seat}

@@ -23,7 +23,7 @@ use Rattle.store_core.proofs.Lasting.{legal-join, legal_is_sound, run-append}
 use Rattle.store_core.proofs.Tells.{claims-claimed}
 use Rattle.store_steps.specs.Layout.{cell_at, cell_place, claim_place, length_place, parents_place}
 use Rattle.store_steps.specs.Rule.{AreParentsKept, Fits, IsKept, StandFor}
-use Rattle.store_steps.specs.Tells.{EndsStoring, GoesOn, event_of}
+use Rattle.store_core.specs.Knowledge.{EndsStoring, GoesOn, event_of}
 use Rattle.store_steps.proofs.Keeping.{kept_step}
 use Rattle.store_steps.proofs.Standing.{left}
 use Rattle.store_steps.proofs.Stepping.{Steps, after_own, claims_now, fitting, goes_on}

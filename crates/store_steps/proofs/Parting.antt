@@ -4,7 +4,7 @@ use Rattle.std.proofs.lemmas.Bool.{false_from_ne_true}
 use Rattle.std.proofs.lemmas.List.Elements.{filter-append}
 use mathlib.Core.Option.{some}
 use lib.ListN.{get_elem?}
-use Rattle.atomic_table.specs.Table.{State as Table}
+use Rattle.atomic_table.specs.Table.{Splits, State as Table}
 use Rattle.bao_check.proofs.Lists.{Contains-cons_cases}
 use Rattle.store_core.specs.declared.fixed.Fixed.{Fixed}
 use Rattle.store_core.specs.declared.history.Event.{Event}
@@ -20,9 +20,8 @@ use Rattle.store_core.proofs.Lasting.{claims_from, legal-append}
 use Rattle.store_core.proofs.Ordering.{split_keeps_order}
 use Rattle.store_core.proofs.Tells.{same_name-true, same_name-refl}
 use Rattle.store_steps.specs.Layout.{cell_at}
-use Rattle.store_steps.specs.Parts.{ArePartsOf}
+use Rattle.store_core.specs.Knowledge.{ArePartsOf}
 use Rattle.store_steps.specs.Rule.{Fits, FitsParents, HasView, IsKept, IsLater, IsNamed}
-use Rattle.atomic_table.specs.Table.{Splits}
 use Rattle.store_steps.specs.Grips.{first_of}
 use Rattle.store_steps.specs.Plays.{Parts}
 use Rattle.store_steps.proofs.Stepping.{Steps, still_step}

@@ -23,7 +23,7 @@ use Rattle.store_steps.specs.Asks.{AreHeldClaims, AreWritten}
 use Rattle.store_steps.specs.Layout.{cell_at, held_word}
 use Rattle.store_steps.specs.Plays.{Publishes}
 use Rattle.store_steps.specs.Rule.{IsKept, StandFor}
-use Rattle.store_steps.proofs.Bits.{has_bit-or}
+use Rattle.store_core.proofs.Bits.{has_bit-or}
 use Rattle.store_steps.proofs.Giving.{cells_beside, ended_written}
 use Rattle.store_steps.proofs.Standing.{held_stand}
 use Rattle.store_steps.proofs.Stepping.{Steps, did_step, fitting, claims_now}

@@ -21,7 +21,7 @@ use Rattle.store_steps.specs.Layout.{cell_place, claim_place, length_place, word
 use Rattle.store_steps.specs.Machines.{StandsForMachine}
 use Rattle.store_steps.specs.Rule.{HasView}
 use Rattle.store_steps.specs.Simulates.{AbsentStays, CopyStays, HashIsNoStep, LookStays, OpeningIsStart, PartStays, after_load}
-use Rattle.store_steps.proofs.Bits.{has_bit-zero}
+use Rattle.store_core.proofs.Bits.{has_bit-zero}
 use Rattle.store_steps.proofs.CellSteps.{seen_legal}
 use Rattle.store_steps.proofs.Lists.{one_part}
 use Rattle.store_steps.proofs.Opening.{the_view, zero_at, zero_bit}

@@ -23,7 +23,7 @@ use Rattle.store_steps.specs.Layout.{cell_at, claim_word, held_word, length_code
 use Rattle.store_steps.specs.Machines.{HasClaim, HasRead, HasStored, IsAtMachine, IsUnderWay, StandsForMachine}
 use Rattle.store_steps.specs.Rule.{HasView}
 use Rattle.store_steps.specs.Simulates.{after_load}
-use Rattle.store_steps.specs.Tells.{GoesOn}
+use Rattle.store_core.specs.Knowledge.{GoesOn}
 use Rattle.store_steps.proofs.Lists.{one_part}
 
 -- a seat that has other views

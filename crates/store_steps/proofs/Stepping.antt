@@ -21,7 +21,7 @@ use Rattle.store_steps.specs.Grips.{first_of}
 use Rattle.store_steps.specs.Layout.{cell_at, parents_place}
 use Rattle.store_steps.specs.Plays.{OfOne}
 use Rattle.store_steps.specs.Rule.{Fits, IsKept, StandFor}
-use Rattle.store_steps.specs.Tells.{Did, GoesOn, Looked, event_of}
+use Rattle.store_core.specs.Knowledge.{Did, GoesOn, Looked, event_of}
 use Rattle.store_steps.proofs.Calls.{claims_after-same, claims_then, least_among, own_all, shares_itself}
 use Rattle.store_steps.proofs.Keeping.{its, kept_step, parents_kept}
 use Rattle.store_steps.proofs.ParentsStanding.{LeavesParents, leaves_low, leaves_same}

@@ -21,7 +21,7 @@ use Rattle.store_core.proofs.Joining.{plain}
 use Rattle.store_steps.specs.Layout.{cell_at, cell_place, claim_place, claim_word}
 use Rattle.store_steps.specs.Plays.{Takes}
 use Rattle.store_steps.specs.Rule.{IsKept, StandFor}
-use Rattle.store_steps.proofs.Bits.{and_small, has_bit-and, has_bit-not, has_bit-or}
+use Rattle.store_core.proofs.Bits.{and_small, has_bit-and, has_bit-not, has_bit-or}
 use Rattle.store_steps.proofs.Calls.{least_among}
 use Rattle.store_steps.proofs.Standing.{claims_stand, left}
 use Rattle.store_steps.proofs.Stepping.{Steps, did_step, fitting, some_names}

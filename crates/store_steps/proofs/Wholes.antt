@@ -13,7 +13,7 @@ use Rattle.store_core.specs.Names.{Name, has_name, share_name}
 use Rattle.store_core.specs.Views.{mine}
 use Rattle.store_core.proofs.Joining.{plain}
 use Rattle.store_core.proofs.Tells.{same_name-refl}
-use Rattle.store_steps.specs.Parts.{AreAllNames, LooksRound}
+use Rattle.store_core.specs.Knowledge.{AreAllNames, LooksRound}
 use Rattle.store_steps.specs.Rule.{HasView, HaveCallers, IsKept, IsLater}
 use Rattle.store_steps.proofs.Storers.{gets}
 use Rattle.store_steps.proofs.Lists.{entry_of}

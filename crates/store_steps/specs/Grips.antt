@@ -2,7 +2,6 @@
 use Rattle.std.specs.Prelude.{List, [], ◌∷◌}
 use Rattle.atomic_table.specs.Seated.{TableId}
 use Rattle.b3tree.specs.Modes.{plain}
-use Rattle.store_core.specs.declared.fixed.Fixed.{Fixed}
 use Rattle.store_core.specs.declared.view.SeatView.{SeatView}
 
 -- what a grip is: of which table it is a seat, and what it knows
@@ -18,7 +17,3 @@ no_view = record { fixed = record { root = record { 0 = [] }; mode = plain; capa
 abbrev pub first_of : List SeatView → SeatView
 first_of [] = no_view
 first_of (view ∷ views) = view
-
--- the view of the first seat: its name is the empty list, and it has seen nothing
-abbrev pub opening_view : Fixed → SeatView
-opening_view fixed = record { fixed = fixed; names = record { name = []; splits = 0 } ∷ []; seen = []; written = []; storing = []; parent_words = [] }

@@ -4,7 +4,6 @@ pub mod Grips
 pub mod Tells
 pub mod Reads
 pub mod Slices
-pub mod Parts
 pub mod Plays
 pub mod Asks
 pub mod Words

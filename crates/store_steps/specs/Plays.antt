@@ -13,10 +13,10 @@ use Rattle.store_core.specs.Masks.{has_bit}
 use Rattle.store_core.specs.Pieces.{length_of}
 use Rattle.store_core.specs.Serves.{node_held}
 use Rattle.store_core.specs.Views.{split_first, split_second}
-use Rattle.store_steps.specs.Parts.{AreMet, ArePartsOf, IsMerged}
+use Rattle.store_core.specs.Knowledge.{AreMet, ArePartsOf, Did, EndsStoring, IsMerged, Looked}
 use Rattle.store_steps.specs.Reads.{read_events}
 use Rattle.store_steps.specs.Slices.{node_events, number_of, unserved_events, unstored_events}
-use Rattle.store_steps.specs.Tells.{Did, EndsStoring, FindsHeld, FindsParentWord, FindsWord, Looked}
+use Rattle.store_steps.specs.Tells.{FindsHeld, FindsParentWord, FindsWord}
 
 -- a seat with one view has one afterwards, of which this is told
 abbrev pub OfOne : (SeatView → SeatView → Type 0) → Me Unit (List SeatView) → Me Unit (List SeatView) → Type 0

@@ -5,7 +5,7 @@ use Rattle.store_core.specs.declared.history.Call.TheVariants.{Read}
 use Rattle.store_core.specs.declared.history.Event.{Event}
 use Rattle.store_core.specs.declared.view.SeatView.{SeatView}
 use Rattle.store_core.specs.States.{State, read_bytes}
-use Rattle.store_steps.specs.Tells.{event_of}
+use Rattle.store_core.specs.Knowledge.{event_of}
 
 -- where a read ends at the latest: at the end of its range, or of the positions that the store has room for
 abbrev pub read_end : Fixed → ℕ → ℕ → ℕ

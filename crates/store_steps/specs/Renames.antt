@@ -8,7 +8,7 @@ use Rattle.store_core.specs.declared.view.SeatView.{SeatView}
 use Rattle.store_core.specs.Machine.{Machine, Reading, is_number, no_seat}
 use Rattle.store_core.specs.Views.{seat_claims}
 use Rattle.store_steps.specs.Machines.{IsUnderWay, StandsForMachine}
-use Rattle.store_steps.specs.Parts.{AreMet, IsMerged}
+use Rattle.store_core.specs.Knowledge.{AreMet, IsMerged}
 use Rattle.store_steps.specs.Rule.{IsKept}
 use Rattle.store_steps.specs.Simulates.{after_load}
 

@@ -23,13 +23,13 @@ use Rattle.store_core.specs.Schedules.{AreTexts, IsLegalStep, IsWritten, after_s
 use Rattle.store_core.specs.States.{State}
 use Rattle.store_core.specs.Views.{seat_claims, split_first, split_second}
 use Rattle.store_steps.specs.Asks.{AreClaimed, AreHeldClaims, AreWritten}
-use Rattle.store_steps.specs.Grips.{opening_view}
+use Rattle.store_core.specs.Knowledge.{Looked, event_of, opening_view}
 use Rattle.store_steps.specs.Layout.{cell_at, cell_place, claim_place, claim_word, held_word, length_place, length_word, word_count}
 use Rattle.store_steps.specs.Machines.{IsAtMachine, IsMachineStep, StandsForMachine}
 use Rattle.store_steps.specs.Plays.{Answers, Copies, Gives, Loads, Parts, Publishes, Settles, Takes, length_in}
 use Rattle.store_steps.specs.Reads.{read_events}
 use Rattle.store_steps.specs.Rule.{IsKept}
-use Rattle.store_steps.specs.Tells.{Looked, Stores, event_of}
+use Rattle.store_steps.specs.Tells.{Stores}
 
 -- Take is Claim: an or on the claim word with the wanted chunks below the capacity.
 abbrev pub TakeIsClaim : Type 0

@@ -13,7 +13,7 @@ use Rattle.store_core.specs.Pieces.{length_of}
 use Rattle.store_core.specs.Serves.{node_held, serving}
 use Rattle.store_core.specs.States.{State}
 use Rattle.store_steps.specs.Layout.{parent_held_place}
-use Rattle.store_steps.specs.Tells.{event_of}
+use Rattle.store_core.specs.Knowledge.{event_of}
 
 -- a chunk's number, or a parent's boundary
 abbrev pub number_of : Node → ℕ

@@ -1,10 +1,8 @@
 -- Which grips are of which words.
 use Rattle.std.specs.Prelude.{◌≡◌, ℕ, ◌<◌}
 use Rattle.store_core.specs.declared.fixed.Fixed.{Fixed}
-use Rattle.store_core.specs.Histories.{IsLegal}
+use Rattle.store_core.specs.Knowledge.{IsViewOf}
 use Rattle.store_core.specs.Machine.{groups}
-use Rattle.store_core.specs.Orders.{AreInOrder}
-use Rattle.store_core.specs.Views.{names_of}
 use Rattle.store_steps.specs.declared.words.Words.{Words}
 use Rattle.store_steps.specs.Grips.{Gripped}
 
@@ -16,9 +14,7 @@ fixed_of words = words.fixed
 -- dictionary order, each once.
 pub record IsOf (words : Words) (grip : Gripped) : Type 0 where
   pub table_is : grip.table_id ≡ words.table.shared.table_id
-  pub fixed_is : grip.view.fixed ≡ words.fixed
-  pub legal : IsLegal grip.view.fixed grip.view.seen
-  pub ordered : AreInOrder (names_of grip.view)
+  pub knows : IsViewOf words.fixed grip.view
 
 -- there is such a group
 abbrev pub HasGroup : Words → ℕ → Type 0

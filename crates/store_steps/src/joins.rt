@@ -28,7 +28,7 @@ impl Play<(), LinkedList<SeatView>> for Parting {
 pub(crate) struct LookingRound;
 
 impl Play<(), LinkedList<SeatView>> for LookingRound {
-    ghost use Rattle.store_steps.specs.Parts.{LooksRound};
+    ghost use Rattle.store_core.specs.Knowledge.{LooksRound};
     ghost use Rattle.store_steps.specs.Plays.{OfOne};
 
     ghost then = { λ step me found later. OfOne LooksRound me later };

@@ -5,7 +5,6 @@
 pub use fault::NewFault;
 pub use grip::Grip;
 pub use law::{joined_seats_are_renamed, side_steps_stay, steps_are_the_machines};
-pub use places::CELL_LEN;
 pub use words::Words;
 
 mod fault;

@@ -1,34 +1,25 @@
-ghost use Rattle.std.specs.Prelude.{◌≡◌, ◌+◌, ◌*◌, ◌<◌, ◌≤◌, ◌^◌, ◌%◌, ◌/◌, ℕ, nat_lt};
+ghost use Rattle.std.specs.Prelude.{◌≡◌, ◌+◌, ◌*◌, ◌<◌, ◌≤◌, ◌^◌, ◌%◌};
 ghost use Rattle.store_core.specs.Machine.{groups};
 ghost use Rattle.store_core.specs.Masks.{has_bit};
 ghost use Rattle.store_steps.specs.Layout.{cell_place, claim_place, length_place, parent_claim_place, parent_held_place, parent_place, word_count};
 ghost use Rattle.store_steps.specs.Slices.{node_place, number_of};
 
 use bao_text::Node;
-use store_core::Fixed;
-
-/// How many words a chunk's cell has: the size, then 128 words of data.
-pub const CELL_LEN: usize = 129;
-
-// How many words a parent has.
-const PARENT_WORDS: usize = 8;
-
-// How many chunks a group has.
-const GROUP_LEN: u32 = 64;
+use store_core::{CELL_WORDS, Fixed, PARENT_WORDS, has_bit};
 
 // How many groups a store has.
 fn groups(fixed: &Fixed) -> usize
     ensures count { result ≡ groups fixed.now }
     ensures few { result ≤ 2 ^ 26 }
 {
-    fixed.capacity.div_ceil(GROUP_LEN) as usize
+    fixed.groups() as usize
 }
 
 // How many words a store has.
 pub(crate) fn word_count(fixed: &Fixed) -> usize
     ensures { result ≡ word_count fixed.now }
 {
-    length_place(fixed) + 1 + 2 * groups(fixed) + PARENT_WORDS * fixed.capacity as usize
+    length_place(fixed) + 1 + 2 * groups(fixed) + PARENT_WORDS as usize * fixed.capacity as usize
 }
 
 // Where the held word of a group stands.
@@ -57,7 +48,7 @@ pub(crate) fn cell_place(fixed: &Fixed, chunk: u32, word: u8) -> usize
     ensures place { result ≡ cell_place fixed.now (129 * chunk + word) }
     ensures within { result < word_count fixed.now }
 {
-    2 * groups(fixed) + CELL_LEN * chunk as usize + word as usize
+    2 * groups(fixed) + CELL_WORDS as usize * chunk as usize + word as usize
 }
 
 // Where the length word stands.
@@ -66,7 +57,7 @@ pub(crate) fn length_place(fixed: &Fixed) -> usize
     ensures within { result < word_count fixed.now }
     ensures small { result < 2 ^ 40 }
 {
-    2 * groups(fixed) + CELL_LEN * fixed.capacity as usize
+    2 * groups(fixed) + CELL_WORDS as usize * fixed.capacity as usize
 }
 
 // Where the held word of a group of boundaries stands.
@@ -99,21 +90,13 @@ pub(crate) fn node_place(fixed: &Fixed, node: &Node) -> usize
     }
 }
 
-// Whether bit j of the mask is set.
-fn has_bit(mask: u64, j: u64) -> bool
-    requires { j < 64 }
-    ensures { result ≡ has_bit mask j }
-{
-    (mask >> j) & 1 == 1
-}
-
 // Whether a node's bit is set in its held word.
 pub(crate) fn has_node(held: u64, node: &Node) -> bool
     ensures { result ≡ has_bit held (number_of node.now % 64) }
 {
     match node {
-        Node::Chunk(chunk) => has_bit(held, *chunk % 64),
-        Node::Parent(boundary) => has_bit(held, *boundary % 64),
+        Node::Chunk(chunk) => has_bit(held, (*chunk % 64) as u32),
+        Node::Parent(boundary) => has_bit(held, (*boundary % 64) as u32),
     }
 }
 
@@ -124,18 +107,9 @@ pub(crate) fn parent_place(fixed: &Fixed, boundary: u32, word: u8) -> usize
     ensures place { result ≡ parent_place fixed.now (8 * boundary + word) }
     ensures within { result < word_count fixed.now }
 {
-    length_place(fixed) + 1 + 2 * groups(fixed) + PARENT_WORDS * boundary as usize + word as usize
-}
-
-// The mask of the group's chunks that are below the capacity.
-pub(crate) fn chunks_below(fixed: &Fixed, group: u32) -> u64
-    requires { group < groups fixed.now }
-    ensures { (c : ℕ) → c / 64 ≡ group → has_bit result (c % 64) ≡ nat_lt c fixed.now.capacity }
-{
-    let rest = fixed.capacity - GROUP_LEN * group;
-    if rest < GROUP_LEN {
-        (1 << rest) - 1
-    } else {
-        u64::MAX
-    }
+    length_place(fixed)
+        + 1
+        + 2 * groups(fixed)
+        + PARENT_WORDS as usize * boundary as usize
+        + word as usize
 }

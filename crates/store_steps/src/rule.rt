@@ -7,7 +7,7 @@ pub(crate) struct Law;
 
 impl TableRule<(), LinkedList<SeatView>, Fixed> for Law {
     ghost use Rattle.std.specs.Prelude.{[], ◌∷◌};
-    ghost use Rattle.store_steps.specs.Grips.{opening_view};
+    ghost use Rattle.store_core.specs.Knowledge.{opening_view};
     ghost use Rattle.store_steps.specs.Rule.{IsKept};
 
     ghost holds = { IsKept };

@@ -6,8 +6,8 @@ use crate::grip::Grip;
 use crate::joins::{Both, Entering, Leaving, LookingRound, Meeting, Merging, Parting, Parts};
 use crate::lengths::{length_in, settling};
 use crate::places::{
-    cell_place, chunks_below, claim_place, has_node, held_place, length_place, node_place,
-    parent_claim_place, parent_held_place, parent_place, word_count,
+    cell_place, claim_place, has_node, held_place, length_place, node_place, parent_claim_place,
+    parent_held_place, parent_place, word_count,
 };
 use crate::plays::{
     Answering, Asked, AskedNode, ClaimingParents, Copying, CopyingParent, Giving, Loading,
@@ -23,7 +23,7 @@ use std::alloc::Global;
 use std::collections::LinkedList;
 use std::marker::Brand;
 use std::mem::replace;
-use store_core::{Fixed, SeatView, Settling};
+use store_core::{Fixed, SeatView, Settling, mask_below};
 
 /// The words of a store that many threads share: of each group of 64 chunks a held word and a claim word, of each chunk
 /// a cell of 129 words, and the length word. Each call makes steps on one word at a time, so that no thread waits for
@@ -44,24 +44,20 @@ pub struct Words {
 impl Words {
     ghost use Rattle.bao_check.specs.Checked.{piece_claimed};
     ghost use Rattle.bao_check.specs.Tail.{tail_piece};
-    ghost use Rattle.store_core.specs.declared.history.Call.TheVariants.{Commit, Give, Length, Settle, Take};
-    ghost use Rattle.store_core.specs.Pieces.{piece_of};
+    ghost use Rattle.store_core.specs.declared.history.Call.TheVariants.{Commit, Give, Length, Parents, Settle, Take};
+    ghost use Rattle.store_core.specs.Pieces.{length_of, piece_of};
     ghost use Rattle.store_core.specs.Stores.{IsOf as IsOfStore};
-    ghost use Rattle.store_core.specs.Views.{seat_claims};
-    ghost use Rattle.store_core.specs.declared.history.Call.TheVariants.{Parents};
+    ghost use Rattle.store_core.specs.Views.{is_storing, seat_claims};
     ghost use Rattle.store_core.specs.declared.history.Storing.TheVariants.{Stored};
     ghost use Rattle.store_core.specs.Histories.{state_after};
-    ghost use Rattle.store_core.specs.Pieces.{length_of};
-    ghost use Rattle.store_core.specs.Views.{is_storing};
     ghost use Rattle.store_steps.specs.Asks.{AreClaimed, AreHeldClaims, AreParentsWritten, AreWritten};
-    ghost use Rattle.store_steps.specs.Grips.{opening_view};
-    ghost use Rattle.store_steps.specs.Parts.{AreMet, ArePartsOf, IsMerged, LooksRound};
+    ghost use Rattle.store_core.specs.Knowledge.{AreMet, ArePartsOf, Did, EndsStoring, IsMerged, Looked, LooksRound, opening_view};
     ghost use Rattle.store_steps.specs.Reads.{read_events};
     ghost use Rattle.store_core.specs.Serves.{node_held};
     ghost use Rattle.store_steps.specs.Slices.{node_events, number_of, unserved_events, unstored_events};
     ghost use Rattle.store_core.specs.Masks.{has_bit};
     ghost use Rattle.store_steps.specs.Plays.{StoresParent};
-    ghost use Rattle.store_steps.specs.Tells.{Did, EndsStoring, FindsHeld, FindsParentWord, FindsWord, IsStoringNow, Looked, Stores};
+    ghost use Rattle.store_steps.specs.Tells.{FindsHeld, FindsParentWord, FindsWord, IsStoringNow, Stores};
     ghost use Rattle.store_steps.specs.Words.{HasGroup, IsOf, fixed_of};
 
     /// Words of which none is held, claimed or recorded, and their first grip, which has seen nothing. `capacity` is a
@@ -116,7 +112,7 @@ impl Words {
         ensures of { IsOf self.now grip.new }
         ensures did { Did (Take group want result) grip.old.view grip.new.view }
     {
-        let mask = want & chunks_below(&self.fixed, group);
+        let mask = want & mask_below(group, u64::from(self.fixed.capacity));
         let place = claim_place(&self.fixed, group);
         let found = self
             .table
@@ -486,7 +482,7 @@ impl Words {
         ensures claimed { IsStoringNow group result grip.old.view grip.new.view }
         ensures among { (j : ℕ) → has_bit result j ≡ true → has_bit want j ≡ true }
     {
-        let wanted = chunks_below(&self.fixed, group) & want;
+        let wanted = mask_below(group, u64::from(self.fixed.capacity)) & want;
         let place = parent_claim_place(&self.fixed, group);
         let before = self
             .table

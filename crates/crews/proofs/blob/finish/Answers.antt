@@ -59,7 +59,7 @@ returns-then-ne-clause-none c = λ _.
     (omega (arith, c.read.auto.out, ap length c.as_mut_slice.ensures.value)) in
     let keyed : IsKeyed (fixed_of c.args.assembly.now).mode = subst (λ (mode : Mode). IsKeyed mode) c.mode-mode.ensures c.is_keyed.ensures in
     let legal : IsLegal (fixed_of c.args.assembly.now) c.read.new.seat.view.seen =
-    subst (λ (fixed : Fixed). IsLegal fixed c.read.new.seat.view.seen) c.in_ok-read.ensures.of.fixed_is c.in_ok-read.ensures.of.legal in
+    subst (λ (fixed : Fixed). IsLegal fixed c.read.new.seat.view.seen) c.in_ok-read.ensures.of.knows.fixed_is c.in_ok-read.ensures.of.knows.legal in
     binds_none (fixed_of c.args.assembly.now) c.read.new.seat.view.seen c.read.new.out keyed legal whole
     (λ same. differs c.hash.result.0 c.root.result.0 c.if-ne.ensures
     (c.hash.ensures.value ∙ ap (λ (mode : Mode). hash mode c.as_slice.result.now) c.mode-mode.ensures
@@ -85,7 +85,7 @@ returns-clause-fits c =
     read_whole _ _ _ c.as_mut_slice.result.now c.read.new.out c.in-Some.length long c.in-Some.ensures.called c.in_ok-read.ensures.event in
     let put = with_items_is c.in_ok-blob.blob c.read.new.out (omega (arith, c.read.auto.out, ap length c.as_mut_slice.ensures.value)) in
     let legal : IsLegal (fixed_of c.args.assembly.now) c.read.new.seat.view.seen =
-    subst (λ (fixed : Fixed). IsLegal fixed c.read.new.seat.view.seen) c.in_ok-read.ensures.of.fixed_is c.in_ok-read.ensures.of.legal in
+    subst (λ (fixed : Fixed). IsLegal fixed c.read.new.seat.view.seen) c.in_ok-read.ensures.of.knows.fixed_is c.in_ok-read.ensures.of.knows.legal in
     subst (λ (xs : List ℕ). length xs ≤ 1024 * (fixed_of c.args.assembly.now).capacity) (sym put)
     (recorded_fits (fixed_of c.args.assembly.now) c.read.new.seat.view.seen c.read.new.out legal whole)
 

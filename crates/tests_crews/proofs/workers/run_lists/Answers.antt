@@ -3,8 +3,7 @@ use Rattle.std.proofs.lemmas.List.Elements.{All-push}
 use Rattle.std.specs.List.{All}
 use Rattle.tests_crews.proofs.workers.run_lists.Goals as goal
 use Rattle.crews.specs.declared.crew.Crew.{Crew}
-use Rattle.store_shared.specs.Seats.{IsSeatOf}
-use Rattle.store_steps.specs.Grips.{Gripped}
+use Rattle.store_shared.specs.Seats.{Gripped, IsSeatOf}
 
 pub loop-holders-preserved : goal.loop-holders-preserved
 loop-holders-preserved g c =

@@ -13,7 +13,7 @@ returns-clause-still c = settles_still (fixed_of c.args.self.now.0.now) c.args.s
 
 pub returns-clause-large : goal.returns-clause-large
 returns-clause-large c = λ large.
-    subst (λ (f : Fixed). EndsTooFar f (piece_of (tail_piece c.args.tail.now))) (sym c.requires.fixed_is)
+    subst (λ (f : Fixed). EndsTooFar f (piece_of (tail_piece c.args.tail.now))) (sym c.requires.knows.fixed_is)
     (settles_large (fixed_of c.args.self.now.0.now) c.args.seat.now c.settle.new.seat (tail_piece c.args.tail.now) c.settle.result
     c.is_last.ensures.bytes c.is_last.ensures.accepted c.is_last.ensures.last c.settle.ensures.settles large)
 

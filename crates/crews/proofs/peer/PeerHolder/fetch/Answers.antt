@@ -2,8 +2,8 @@ use Rattle.std.proofs.Common.{ℕ, List, [], ◌++◌, ◌∙◌, ap, append-nil
 use Rattle.store_core.specs.declared.fault.ServeFault.{ServeFault}
 use Rattle.store_core.specs.declared.history.Call.TheVariants.{Serve}
 use Rattle.store_core.specs.declared.history.Serving.TheVariants.{Lacking, NoLength, Text}
-use Rattle.store_read.specs.Serving.{IsRefused}
-use Rattle.store_steps.specs.Tells.{Called}
+use Rattle.store_calls.specs.Serving.{IsRefused}
+use Rattle.store_core.specs.Knowledge.{Called}
 use Rattle.crews.specs.Peers.{Peered}
 use Rattle.crews.proofs.peer.PeerHolder.fetch.Goals as goal
 

@@ -3,7 +3,7 @@ use Rattle.std.proofs.lemmas.List.{get_or_default}
 use Rattle.store_core.specs.declared.fixed.Fixed.{Fixed}
 use Rattle.store_core.specs.Machine.{groups}
 use Rattle.store_core.specs.Pieces.{piece_of}
-use Rattle.store_steps.specs.Grips.{Gripped}
+use Rattle.store_shared.specs.Seats.{Gripped}
 use Rattle.store_shared.proofs.Claiming.{claims_ended, none_bind}
 use Rattle.store_shared.proofs.assembly.Assembly.commit.Goals as goal
 
@@ -13,7 +13,7 @@ returns-then-group-groups-clause-binds c = none_bind c.args.self.now.words.fixed
 pub invariant_of-seat-2 : goal.invariant_of-seat-2
 invariant_of-seat-2 c =
     let fixed : Fixed = c.args.self.now.words.fixed in
-    let same : c.seat.inside.grip.view.fixed ≡ fixed = ap (λ (x : Gripped). x.view.fixed) c.seat.view_is ∙ c.requires.of.fixed_is in
+    let same : c.seat.inside.grip.view.fixed ≡ fixed = ap (λ (x : Gripped). x.view.fixed) c.seat.view_is ∙ c.requires.of.knows.fixed_is in
     let within : c.args.group < groups c.seat.inside.grip.view.fixed =
     subst (λ (f : Fixed). c.args.group < groups f) (sym same) (omega (arith, c.if-group-groups.false, c.groups.ensures)) in
     claims_ended c.seat.inside.grip.view c.commit-committed.new.grip.view c.seat.inside.claims.items c.args.group c.commit-committed.result c.index_mut.result.now

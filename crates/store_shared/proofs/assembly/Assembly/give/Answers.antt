@@ -2,15 +2,15 @@ use Rattle.std.proofs.Common.{◌≡◌, ◌<◌, ap, sym, subst, ◌∙◌, ari
 use Rattle.std.proofs.lemmas.List.{get_or_default}
 use Rattle.store_core.specs.declared.fixed.Fixed.{Fixed}
 use Rattle.store_core.specs.Machine.{groups}
-use Rattle.store_steps.specs.Grips.{Gripped}
-use Rattle.store_steps.proofs.Bits.{and_small}
+use Rattle.store_shared.specs.Seats.{Gripped}
+use Rattle.store_core.proofs.Bits.{and_small}
 use Rattle.store_shared.proofs.Claiming.{claimed_among, claims_ended}
 use Rattle.store_shared.proofs.assembly.Assembly.give.Goals as goal
 
 pub give-requires-clause-given : goal.give-requires-clause-given
 give-requires-clause-given c =
     let fixed : Fixed = c.args.self.now.words.fixed in
-    let same : c.seat.inside.grip.view.fixed ≡ fixed = ap (λ (x : Gripped). x.view.fixed) c.seat.view_is ∙ c.requires.of.fixed_is in
+    let same : c.seat.inside.grip.view.fixed ≡ fixed = ap (λ (x : Gripped). x.view.fixed) c.seat.view_is ∙ c.requires.of.knows.fixed_is in
     let within : c.args.group < groups c.seat.inside.grip.view.fixed =
     subst (λ (f : Fixed). c.args.group < groups f) (sym same) (omega (arith, c.if-group-groups.false, c.groups.ensures)) in
     claimed_among c.seat.inside.grip.view c.seat.inside.claims.items c.args.group c.args.mask c.index.result.now c.seat.invariant within
@@ -20,7 +20,7 @@ give-requires-clause-given c =
 pub invariant_of-seat-2 : goal.invariant_of-seat-2
 invariant_of-seat-2 c =
     let fixed : Fixed = c.args.self.now.words.fixed in
-    let same : c.seat.inside.grip.view.fixed ≡ fixed = ap (λ (x : Gripped). x.view.fixed) c.seat.view_is ∙ c.requires.of.fixed_is in
+    let same : c.seat.inside.grip.view.fixed ≡ fixed = ap (λ (x : Gripped). x.view.fixed) c.seat.view_is ∙ c.requires.of.knows.fixed_is in
     let within : c.args.group < groups c.seat.inside.grip.view.fixed =
     subst (λ (f : Fixed). c.args.group < groups f) (sym same) (omega (arith, c.if-group-groups.false, c.groups.ensures)) in
     claims_ended c.seat.inside.grip.view c.give.new.grip.view c.seat.inside.claims.items c.args.group _ c.index_mut.result.now c.seat.invariant

@@ -1,6 +1,6 @@
 use Rattle.std.proofs.Common.{subst}
-use Rattle.store_steps.specs.Grips.{Gripped}
-use Rattle.store_steps.specs.Parts.{AreMet}
+use Rattle.store_shared.specs.Seats.{Gripped}
+use Rattle.store_core.specs.Knowledge.{AreMet}
 use Rattle.store_shared.proofs.Claiming.{met_apart, met_first, met_keeps_first, met_keeps_second, met_second, were_apart}
 use Rattle.store_shared.proofs.assembly.Assembly.meet.Goals as goal
 

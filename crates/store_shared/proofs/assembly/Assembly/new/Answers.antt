@@ -1,6 +1,6 @@
 use Rattle.std.proofs.Common.{ap, ◌∙◌, arith}
 use Rattle.store_core.specs.declared.fixed.Fixed.{Fixed}
-use Rattle.store_steps.specs.Grips.{opening_view}
+use Rattle.store_core.specs.Knowledge.{opening_view}
 use Rattle.store_shared.proofs.Claiming.{opening_claims}
 use Rattle.store_shared.proofs.assembly.Assembly.new.Goals as goal
 

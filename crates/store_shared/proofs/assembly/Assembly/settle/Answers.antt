@@ -3,7 +3,7 @@ use Rattle.bao_check.specs.declared.checked.Checked.{Checked}
 use Rattle.bao_check.specs.Tail.{tail_piece}
 use Rattle.store_core.specs.declared.fixed.Fixed.{Fixed}
 use Rattle.store_core.proofs.Stored.{is_of_piece}
-use Rattle.store_steps.specs.Grips.{Gripped}
+use Rattle.store_shared.specs.Seats.{Gripped}
 use Rattle.store_shared.specs.Calls.{MaySettle, Settles}
 use Rattle.store_shared.proofs.Asking.{called, settled}
 use Rattle.store_shared.proofs.assembly.Assembly.settle.Goals as goal

@@ -1,7 +1,6 @@
-use Rattle.std.proofs.Common.{◌≡◌, ◌<◌, ◌-◌, ◌/◌, ◌%◌, ℕ, [], true, bit_or, sym, ap, subst, ◌∙◌, arith}
+use Rattle.std.proofs.Common.{[], ap, arith, bit_or, ltb-true, subst, sym, nat_lt, true, ℕ, ◌%◌, ◌-◌, ◌/◌, ◌<◌, ◌∙◌, ◌≡◌}
 use Rattle.std.proofs.lemmas.Bool.{and_parts}
 use Rattle.std.specs.Int.Bits.{bit_and}
-use Rattle.std.proofs.Common.{ltb-true}
 use Rattle.store_core.specs.declared.fixed.Fixed.{Fixed}
 use Rattle.store_core.specs.declared.view.SeatView.{SeatView}
 use Rattle.store_core.specs.Machine.{groups}
@@ -9,7 +8,7 @@ use Rattle.store_core.specs.Masks.{has_bit}
 use Rattle.store_steps.specs.Grips.{Gripped, first_of}
 use Rattle.store_steps.specs.Layout.{parent_claim_place}
 use Rattle.store_steps.specs.Plays.{ClaimsParents}
-use Rattle.store_steps.proofs.Bits.{has_bit-and}
+use Rattle.store_core.proofs.Bits.{has_bit-and}
 use Rattle.store_steps.proofs.ParentClaims.{claim_parents_steps}
 use Rattle.store_steps.proofs.Stepping.{at_code}
 use Rattle.store_steps.proofs.words.Words.claim_parents_asked.Goals as goal
@@ -22,13 +21,13 @@ fetch_or-before-requires g c =
     let view : SeatView = first_of seat.me.0 in
     let its : view ≡ c.args.grip.now.view = ap (λ (x : Gripped). x.view) c.grip.view_is in
     let group : ℕ = g.A.Asked.group in
-    let mask : ℕ = bit_and c.chunks_below.result c.args.want in
+    let mask : ℕ = bit_and c.mask_below.result c.args.want in
     let same : group ≡ c.args.group = c.requires.asked in
     let there : group < groups fixed = omega (arith, same, c.requires.group) in
     let asks : (m : ℕ) → m / 64 ≡ group → has_bit mask (m % 64) ≡ true → m < fixed.capacity =
     λ m here is.
-    let both = and_parts (has_bit c.chunks_below.result (m % 64)) (has_bit c.args.want (m % 64)) (sym (has_bit-and c.chunks_below.result c.args.want (m % 64)) ∙ is) in
-    ltb-true m fixed.capacity (sym (c.chunks_below.ensures m (here ∙ same)) ∙ both.0) in
+    let both = and_parts (has_bit c.mask_below.result (m % 64)) (has_bit c.args.want (m % 64)) (sym (has_bit-and c.mask_below.result c.args.want (m % 64)) ∙ is) in
+    ltb-true m fixed.capacity (sym (c.mask_below.ensures.bits m (here ∙ same) ∙ ap (λ (e : ℕ). nat_lt m e) c.from.ensures) ∙ both.0) in
     let none : view.storing ≡ [] = subst (λ (v : SeatView). v.storing ≡ []) (sym its) c.requires.none in (
       ap (λ (x : Gripped). x.table_id) c.grip.view_is ∙ c.requires.of.table_is,
       omega (arith, c.parent_claim_place-place.ensures.within, words.count),
@@ -40,7 +39,7 @@ fetch_or-before-requires g c =
 
 pub returns-clause-among : goal.returns-clause-among
 returns-clause-among g c = λ j is.
-    let mask : ℕ = bit_and c.chunks_below.result c.args.want in
+    let mask : ℕ = bit_and c.mask_below.result c.args.want in
     let free : ℕ = 18446744073709551615 - c.fetch_or-before.result in
     let granted = and_parts (has_bit mask j) (has_bit free j) (sym (has_bit-and mask free j) ∙ is) in
-    (and_parts (has_bit c.chunks_below.result j) (has_bit c.args.want j) (sym (has_bit-and c.chunks_below.result c.args.want j) ∙ granted.0)).1
+    (and_parts (has_bit c.mask_below.result j) (has_bit c.args.want j) (sym (has_bit-and c.mask_below.result c.args.want j) ∙ granted.0)).1

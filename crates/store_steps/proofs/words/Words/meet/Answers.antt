@@ -6,7 +6,7 @@ use Rattle.store_core.specs.Histories.{IsLegal}
 use Rattle.store_core.specs.Orders.{AreInOrder}
 use Rattle.store_core.specs.Views.{names_of}
 use Rattle.store_steps.specs.Grips.{Gripped, first_of}
-use Rattle.store_steps.specs.Parts.{AreMet}
+use Rattle.store_core.specs.Knowledge.{AreMet}
 use Rattle.store_steps.specs.Plays.{Meets, rest_of}
 use Rattle.store_steps.proofs.Lists.{only, two_of}
 use Rattle.store_steps.proofs.Meeting.{at_two, meet_turns}
@@ -137,9 +137,11 @@ returns-clause-first c =
     let m : AreMet first second (first_of c.split_seat.new.seat.me.0) (first_of c.split_seat.result.me.0) = returns-clause-met c in
     record {
       table_is = c.split_seat.ensures.0 ∙ c.load.ensures.0 ∙ c.join_seat.ensures.0 ∙ ap (λ (x : Gripped). x.table_id) c.first.view_is ∙ c.requires.first.table_is;
-      fixed_is = ap (λ (v : SeatView). v.fixed) m.first_is ∙ c.requires.first.fixed_is;
-      legal = subst (λ (v : SeatView). IsLegal v.fixed v.seen) (sym m.first_is) m.legal;
-      ordered = subst (λ (v : SeatView). AreInOrder (names_of v)) (sym m.first_is) c.requires.first.ordered;
+      knows = record {
+        fixed_is = ap (λ (v : SeatView). v.fixed) m.first_is ∙ c.requires.first.knows.fixed_is;
+        legal = subst (λ (v : SeatView). IsLegal v.fixed v.seen) (sym m.first_is) m.legal;
+        ordered = subst (λ (v : SeatView). AreInOrder (names_of v)) (sym m.first_is) c.requires.first.knows.ordered;
+      };
     }
 
 pub returns-clause-second : goal.returns-clause-second
@@ -147,10 +149,12 @@ returns-clause-second c =
     let first : SeatView = c.args.first.now.view in
     let second : SeatView = c.args.second.now.view in
     let m : AreMet first second (first_of c.split_seat.new.seat.me.0) (first_of c.split_seat.result.me.0) = returns-clause-met c in
-    let same : first.fixed ≡ second.fixed = c.requires.first.fixed_is ∙ sym c.requires.second.fixed_is in
+    let same : first.fixed ≡ second.fixed = c.requires.first.knows.fixed_is ∙ sym c.requires.second.knows.fixed_is in
     record {
       table_is = c.split_seat.ensures.3 ∙ c.load.ensures.0 ∙ c.join_seat.ensures.0 ∙ ap (λ (x : Gripped). x.table_id) c.first.view_is ∙ c.requires.first.table_is;
-      fixed_is = ap (λ (v : SeatView). v.fixed) m.second_is ∙ c.requires.second.fixed_is;
-      legal = subst (λ (v : SeatView). IsLegal v.fixed v.seen) (sym m.second_is) (subst (λ (f : Fixed). IsLegal f m.history) same m.legal);
-      ordered = subst (λ (v : SeatView). AreInOrder (names_of v)) (sym m.second_is) c.requires.second.ordered;
+      knows = record {
+        fixed_is = ap (λ (v : SeatView). v.fixed) m.second_is ∙ c.requires.second.knows.fixed_is;
+        legal = subst (λ (v : SeatView). IsLegal v.fixed v.seen) (sym m.second_is) (subst (λ (f : Fixed). IsLegal f m.history) same m.legal);
+        ordered = subst (λ (v : SeatView). AreInOrder (names_of v)) (sym m.second_is) c.requires.second.knows.ordered;
+      };
     }

@@ -3,7 +3,7 @@ use Rattle.atomic_table.specs.Table.{Me}
 use Rattle.store_core.specs.declared.view.SeatView.{SeatView}
 use Rattle.store_core.proofs.Ordering.{join_keeps_order}
 use Rattle.store_steps.specs.Grips.{Gripped, first_of}
-use Rattle.store_steps.specs.Parts.{IsMerged}
+use Rattle.store_core.specs.Knowledge.{IsMerged}
 use Rattle.store_steps.specs.Plays.{Merges}
 use Rattle.store_steps.proofs.Lists.{only, two_of}
 use Rattle.store_steps.proofs.Meeting.{at_two, merge_turns}
@@ -68,7 +68,9 @@ returns-clause-of c =
     let m : IsMerged c.args.first.view c.args.second.view (first_of c.load.new.seat.me.0) = returns-clause-merged c in
     record {
       table_is = c.load.ensures.0 ∙ c.join_seat.ensures.0 ∙ ap (λ (x : Gripped). x.table_id) c.first.view_is ∙ c.requires.first.table_is;
-      fixed_is = m.joined.fixed_first ∙ c.requires.first.fixed_is;
-      legal = m.legal;
-      ordered = join_keeps_order c.args.first.view c.args.second.view (first_of c.load.new.seat.me.0) m.joined m.apart c.requires.first.ordered c.requires.second.ordered;
+      knows = record {
+        fixed_is = m.joined.fixed_first ∙ c.requires.first.knows.fixed_is;
+        legal = m.legal;
+        ordered = join_keeps_order c.args.first.view c.args.second.view (first_of c.load.new.seat.me.0) m.joined m.apart c.requires.first.knows.ordered c.requires.second.knows.ordered;
+      };
     }

@@ -10,7 +10,7 @@ use Rattle.store_core.proofs.Stored.{accepted_piece}
 use Rattle.store_steps.specs.Asks.{AreHeldClaims, AreWritten}
 use Rattle.store_steps.specs.Grips.{Gripped, first_of}
 use Rattle.store_steps.specs.Plays.{Publishes}
-use Rattle.store_steps.specs.Tells.{Did}
+use Rattle.store_core.specs.Knowledge.{Did}
 use Rattle.store_steps.proofs.Stepping.{at_code, told_by}
 use Rattle.store_steps.proofs.Publishing.{publish_steps}
 use Rattle.store_steps.proofs.words.Words.publish_asked.Goals as goal

@@ -13,7 +13,7 @@ use Rattle.store_core.proofs.Stored.{accepted_piece}
 use Rattle.store_steps.specs.Grips.{Gripped, first_of}
 use Rattle.store_steps.specs.Layout.{length_place}
 use Rattle.store_steps.specs.Plays.{Settles, length_in}
-use Rattle.store_steps.specs.Tells.{Did}
+use Rattle.store_core.specs.Knowledge.{Did}
 use Rattle.store_steps.proofs.Stepping.{Steps, at_code, told_by}
 use Rattle.store_steps.proofs.Settling.{settle_steps}
 use Rattle.store_steps.proofs.words.Words.settle_asked.Goals as goal

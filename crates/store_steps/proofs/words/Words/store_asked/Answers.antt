@@ -11,8 +11,8 @@ use Rattle.store_steps.proofs.words.Words.store_asked.Goals as goal
 
 pub cell_place-place-requires-clause-chunk : goal.cell_place-place-requires-clause-chunk
 cell_place-place-requires-clause-chunk g c =
-    let low = claimed_low c.args.grip.now.view c.requires.of.legal c.args.chunk c.requires.claimed in
-    subst (λ (f : Fixed). c.args.chunk < f.capacity) c.requires.of.fixed_is low
+    let low = claimed_low c.args.grip.now.view c.requires.of.knows.legal c.args.chunk c.requires.claimed in
+    subst (λ (f : Fixed). c.args.chunk < f.capacity) c.requires.of.knows.fixed_is low
 
 pub store-requires : goal.store-requires
 store-requires g c =

@@ -1,0 +1,10 @@
+pub mod Filling
+pub mod Holding
+pub mod Ending
+pub mod CopiedParents
+pub mod Slices
+pub mod Eights
+pub mod Storing
+pub mod CommittedChunks
+pub mod ParentsStoring
+pub mod ParentsCommitting

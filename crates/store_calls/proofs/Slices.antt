@@ -1,0 +1,287 @@
+-- What a slice of several loads has come to, and how its last load ends it.
+use Rattle.std.proofs.Common.{◌≡◌, ℕ, ◌+◌, ◌*◌, ◌<◌, ◌≤◌, max, Bool, true, false, ◌||◌, if◌then◌else◌, List, [], ◌∷◌, ◌++◌, length, map, Option, None, Some, is_none, is_some, not, refl, sym, ap, subst, ◌∙◌, arith, inl, inr, append-nil, append_assoc}
+use Rattle.std.specs.List.{AllByRecursion}
+use Rattle.std.specs.Option.{MatchOption}
+use Rattle.std.proofs.lemmas.Bool.{cases_Bool, cases_lt, lt-ltb}
+use Rattle.b3tree.specs.Valid.{IsKeyed}
+use Rattle.bao_text.specs.declared.choice.Choice.{Choice}
+use Rattle.bao_text.specs.declared.walk.Node.{Node}
+use Rattle.bao_text.specs.declared.walk.Node.TheVariants.{Chunk, Parent}
+use Rattle.bao_text.specs.Choice.{chunk_count, of_slice, wants}
+use Rattle.bao_text.specs.NodeNames.{boundary, name, names_of, slice_names}
+use Rattle.bao_text.specs.Nodes.{Node as Place, nodes}
+use Rattle.bao_text.specs.Texts.{length_text}
+use Rattle.bao_text.proofs.NodeNaming.{names-anywhere, names-chunk, names-parent}
+use Rattle.bao_check.proofs.Lists.{All-from_members, All-member}
+use Rattle.bao_check.proofs.Locating.{IsWithin, numbers_within}
+use Rattle.bao_check.proofs.Parenting.{IsInside, boundaries_inside}
+use Rattle.store_core.specs.declared.fixed.Fixed.{Fixed}
+use Rattle.store_core.specs.declared.history.Call.{Call}
+use Rattle.store_core.specs.declared.history.Call.TheVariants.{Serve}
+use Rattle.store_core.specs.declared.history.Event.{Event}
+use Rattle.store_core.specs.declared.history.Serving.{Serving}
+use Rattle.store_core.specs.declared.history.Serving.TheVariants.{Lacking, NoLength, Text}
+use Rattle.store_core.specs.declared.view.SeatView.{SeatView}
+use Rattle.store_core.specs.Events.{IsRight}
+use Rattle.store_core.specs.Histories.{AreLegalFrom, IsLegal, run, state_after}
+use Rattle.store_core.specs.Laws.{IsSettled, IsSound}
+use Rattle.store_core.specs.Serves.{after_bytes, node_and, node_held, served, serving, serving_of}
+use Rattle.store_core.specs.States.{State, empty}
+use Rattle.store_core.specs.Stores.{GainsNode}
+use Rattle.store_core.specs.Views.{names_of as calls_as}
+use Rattle.store_core.proofs.Lasting.{held_from, legal-append, legal_is_sound, recorded_from, run-append}
+use Rattle.store_core.proofs.Origins.{record_is_settled}
+use Rattle.store_core.proofs.ParentOrigins.{parents_from}
+use Rattle.store_core.proofs.ServingLaws.{served_binds}
+use Rattle.store_steps.specs.Slices.{node_events, number_of, unserved_events}
+use Rattle.store_core.specs.Knowledge.{Called, GoesOn, Looked, Sees, event_of}
+use Rattle.store_core.proofs.Going.{LeavesClaims, called_then, looked_state, sees_none, sees_then}
+use Rattle.store_calls.specs.Serving.{SliceBinds}
+
+-- what the one state holds of nodes the other holds too, and it has the same length recorded
+pub record Keeps (s t : State) : Type 0 where
+  pub nodes : (node : Node) (bytes : List ℕ) → node_held s node ≡ Some bytes → node_held t node ≡ Some bytes
+  pub recorded : (l : ℕ) → s.recorded ≡ Some l → t.recorded ≡ Some l
+
+keeps_same : (s : State) → Keeps s s
+keeps_same s = record { nodes = λ node bytes h. h; recorded = λ l h. h }
+
+keeps_then : (s t u : State) → Keeps s t → Keeps t u → Keeps s u
+keeps_then s t u one two = record { nodes = λ node bytes h. two.nodes node bytes (one.nodes node bytes h); recorded = λ l h. two.recorded l (one.recorded l h) }
+
+-- What is held stays, and so does a recorded length.
+node_stays : (fixed : Fixed) (s : State) (events : List Event) → IsSound fixed s → AreLegalFrom fixed s events → (node : Node) (bytes : List ℕ)
+    → node_held s node ≡ Some bytes → node_held (run s events) node ≡ Some bytes
+node_stays fixed s events sound more (Chunk c) bytes h = held_from fixed s events sound more c bytes h
+node_stays fixed s events sound more (Parent m) bytes h = parents_from fixed s events more m bytes h
+
+pub keeps_seen : (view new : SeatView) (between own : List Event) → GoesOn view new between own → Keeps (state_after view.seen) (state_after new.seen)
+keeps_seen view new between own on =
+    let s : State = state_after view.seen in
+    let more : List Event = between ++ own in
+    let seen : new.seen ≡ view.seen ++ more = on.seen_is ∙ append_assoc view.seen between own in
+    let legal = legal-append new.fixed empty view.seen more (subst (λ (h : List Event). IsLegal new.fixed h) seen on.legal) in
+    let later : state_after new.seen ≡ run s more = ap (λ (h : List Event). state_after h) seen ∙ run-append empty view.seen more in
+    let sound = legal_is_sound new.fixed view.seen legal.0 in
+    subst (λ (t : State). Keeps s t) (sym later) (record {
+      nodes = λ node bytes h. node_stays new.fixed s more sound legal.1 node bytes h;
+      recorded = λ l h. recorded_from new.fixed s more legal.1 l h;
+    })
+
+-- A slice of which the bytes so far are `out`: `next` and then `rest` are the nodes that are left. Between two nodes the seat
+-- has seen more, and in each state that keeps what it has seen the bytes and the nodes left make up the slice. After the
+-- last node the text is served.
+abbrev pub IsServing : SeatView → SeatView → ℕ → ℕ → Option Node → List Node → List ℕ → Type 0
+IsServing first view start len None rest out = Called (Serve start len (Text out)) first view
+IsServing first view start len (Some node) rest out =
+    Sees first view × ((t : State) → Keeps (state_after view.seen) t → after_bytes out (served t (node ∷ rest)) ≡ serving t start len)
+
+-- the numbers of the nodes left are below the capacity
+abbrev pub AreBelow : ℕ → Option Node → List Node → Type 0
+AreBelow capacity None rest = Unit {0}
+AreBelow capacity (Some node) rest = (number_of node < capacity) × AllByRecursion (λ node. number_of node < capacity) rest
+
+-- how many nodes are left
+abbrev pub left_count : Option Node → List Node → ℕ
+left_count None rest = 0
+left_count (Some node) rest = length rest + 1
+
+-- what an iterator's step tells
+abbrev pub Steps : Option Node → List Node → List Node → Type 0
+Steps next old rest = MatchOption next ((old ≡ []) × (rest ≡ [])) (λ x. old ≡ x ∷ rest)
+
+pub below_next : (capacity : ℕ) (next : Option Node) (old rest : List Node) → Steps next old rest → AllByRecursion (λ node. number_of node < capacity) old
+    → AreBelow capacity next rest
+below_next capacity None old rest steps all = tt
+below_next capacity (Some node) old rest steps all = subst (λ (nodes : List Node). AllByRecursion (λ node. number_of node < capacity) nodes) steps all
+
+pub fewer_left : (node : Node) (next : Option Node) (old rest : List Node) → Steps next old rest → left_count next rest < left_count (Some node) old
+fewer_left node None old rest steps = omega arith
+fewer_left node (Some x) old rest steps = omega (arith, ap (λ (nodes : List Node). length nodes) steps)
+
+-- none is left where there is no other
+pub none_told : (b : Bool) (next : Option Node) → is_some next ≡ not b → b ≡ is_none next
+none_told true None h = refl
+none_told false None h = cc
+none_told true (Some node) h = cc
+none_told false (Some node) h = refl
+
+-- bytes before bytes
+after_both : (out bytes : List ℕ) (rest : Serving) → after_bytes out (after_bytes bytes rest) ≡ after_bytes (out ++ bytes) rest
+after_both out bytes NoLength = refl
+after_both out bytes (Lacking node) = refl
+after_both out bytes (Text text) = ap (λ (xs : List ℕ). Text xs) (sym (append_assoc out bytes text))
+
+serve_leaves : (start len : ℕ) (answer : Serving) → LeavesClaims (Serve start len answer)
+serve_leaves start len answer = λ claimed c. refl
+
+-- a Serve leaves the state
+quiet_if : (b : Bool) (view : SeatView) (start len : ℕ) (s : State) → run s (if b then event_of view (Serve start len (serving s start len)) ∷ [] else []) ≡ s
+quiet_if true view start len s = refl
+quiet_if false view start len s = refl
+
+-- a node that is left, which is held
+gained_some : (o : Option (List ℕ)) (out more : List ℕ) → GainsNode o out more true → (bytes : List ℕ) × ((o ≡ Some bytes) × (more ≡ out ++ bytes))
+gained_some None out more h = cc
+gained_some (Some bytes) out more h = (bytes, (refl, h.1))
+
+gained_none : (o : Option (List ℕ)) (out more : List ℕ) → GainsNode o out more false → o ≡ None
+gained_none None out more h = refl
+gained_none (Some bytes) out more h = let bad : false ≡ true = h.0 in cc
+
+module _ (first view new : SeatView) (start len : ℕ) (node : Node) (next : Option Node) (old rest : List Node) (out more : List ℕ)
+    (going : IsServing first view start len (Some node) old out) (steps : Steps next old rest) (last : Bool) (last_is : last ≡ is_none next)
+    (looked : Looked (node_events view node last start len) view new) where
+  abbrev seen_state : State
+  seen_state = state_after new.seen
+
+  -- the state at the load
+  abbrev there : State
+  there = state_after (view.seen ++ looked.between)
+
+  state_is : seen_state ≡ there
+  state_is = looked_state (node_events view node last start len) view new (λ s. quiet_if (last || is_none (node_held s node)) view start len s) looked
+
+  keeps : Keeps (state_after view.seen) seen_state
+  keeps = keeps_seen view new looked.between (node_events view node last start len there) looked.goes_on
+
+  events_are : (b : Bool) → (last || is_none (node_held seen_state node)) ≡ b
+      → node_events view node last start len there ≡ (if b then event_of view (Serve start len (serving seen_state start len)) ∷ [] else [])
+  events_are b is =
+      ap (λ (s : State). node_events view node last start len s) (sym state_is)
+      ∙ ap (λ (c : Bool). if c then event_of view (Serve start len (serving seen_state start len)) ∷ [] else []) is
+
+  makes : (t : State) → Keeps seen_state t → after_bytes out (served t (node ∷ old)) ≡ serving t start len
+  makes t k = going.1 t (keeps_then (state_after view.seen) seen_state t keeps k)
+
+  ends : (answer : Serving) → (last || is_none (node_held seen_state node)) ≡ true → answer ≡ serving seen_state start len
+      → Called (Serve start len answer) first new
+  ends answer is same =
+      called_then first view new (node_events view node last start len) going.0 looked (Serve start len answer) (serve_leaves start len answer)
+      (events_are true is ∙ ap (λ (a : Serving). event_of view (Serve start len a) ∷ []) (sym same))
+
+  pub lacks : GainsNode (node_held seen_state node) out more false → Called (Serve start len (Lacking node)) first new
+  lacks h =
+      let none : node_held seen_state node ≡ None = gained_none (node_held seen_state node) out more h in
+      let answer : Lacking node ≡ serving seen_state start len =
+      ap (λ (o : Option (List ℕ)). after_bytes out (node_and node o (served seen_state old))) (sym none) ∙ makes seen_state (keeps_same seen_state) in
+      elim (cases_Bool last) [
+        | inl only ↦ ends (Lacking node) (rw only refl) answer
+        | inr more_left ↦ ends (Lacking node) (rw (more_left, none) refl) answer
+      ]
+
+  -- the bytes of the node are put to those before it
+  module _ (h : GainsNode (node_held seen_state node) out more true) where
+    abbrev got : (bytes : List ℕ) × ((node_held seen_state node ≡ Some bytes) × (more ≡ out ++ bytes))
+    got = gained_some (node_held seen_state node) out more h
+
+    makes_more : (t : State) → Keeps seen_state t → after_bytes more (served t old) ≡ serving t start len
+    makes_more t k =
+        ap (λ (xs : List ℕ). after_bytes xs (served t old)) got.1.1
+        ∙ sym (after_both out got.0 (served t old))
+        ∙ ap (λ (o : Option (List ℕ)). after_bytes out (node_and node o (served t old))) (sym (k.nodes node got.0 got.1.0))
+        ∙ makes t k
+
+  pub serves_on : GainsNode (node_held seen_state node) out more true → (n : Option Node) → n ≡ next → IsServing first new start len n rest more
+  serves_on h None is =
+      let none : old ≡ [] = (subst (λ (o : Option Node). Steps o old rest) (sym is) steps).0 in
+      let only : last ≡ true = last_is ∙ ap (λ (o : Option Node). is_none o) (sym is) in
+      ends (Text more) (rw only refl)
+      (ap (λ (xs : List ℕ). Text xs) (sym (append-nil more)) ∙ ap (λ (nodes : List Node). after_bytes more (served seen_state nodes)) (sym none)
+      ∙ makes_more h seen_state (keeps_same seen_state))
+  serves_on h (Some x) is =
+      let own : old ≡ x ∷ rest = subst (λ (o : Option Node). Steps o old rest) (sym is) steps in
+      let more_left : last ≡ false = last_is ∙ ap (λ (o : Option Node). is_none o) (sym is) in
+      let some : node_held seen_state node ≡ Some (got h).0 = (got h).1.0 in (
+        sees_then first view new (node_events view node last start len) going.0 looked (events_are false (rw (more_left, some) refl)),
+        λ t k. ap (λ (nodes : List Node). after_bytes more (served t nodes)) (sym own) ∙ makes_more h t k,
+      )
+
+-- The length's load comes first. Where none is recorded that is all.
+module _ (first new : SeatView) (start len : ℕ) (legal : IsLegal first.fixed first.seen) (looked : Looked (unserved_events first start len) first new) where
+  abbrev state_new : State
+  state_new = state_after new.seen
+
+  abbrev at_load : State
+  at_load = state_after (first.seen ++ looked.between)
+
+  same_state : state_new ≡ at_load
+  same_state = looked_state (unserved_events first start len) first new (λ s. quiet_if (is_none s.recorded) first start len s) looked
+
+  unserved_are : (o : Option ℕ) → state_new.recorded ≡ o
+      → unserved_events first start len at_load ≡ (if is_none o then event_of first (Serve start len (serving_of o state_new start len)) ∷ [] else [])
+  unserved_are o is =
+      ap (λ (s : State). unserved_events first start len s) (sym same_state)
+      ∙ ap (λ (p : Option ℕ). if is_none p then event_of first (Serve start len (serving_of p state_new start len)) ∷ [] else []) is
+
+  pub no_length : state_new.recorded ≡ None → Called (Serve start len NoLength) first new
+  no_length none =
+      called_then first first new (unserved_events first start len) (sees_none first legal) looked (Serve start len NoLength) (serve_leaves start len NoLength) (unserved_are None none)
+
+  pub has_length : (l : ℕ) → state_new.recorded ≡ Some l → Sees first new
+  has_length l some = sees_then first first new (unserved_events first start len) (sees_none first legal) looked (unserved_are (Some l) some)
+
+-- a slice has a node
+slice_wants : (l start len : ℕ) → wants (of_slice l start len) (1024 * 0) l ≡ true
+slice_wants l start len =
+    let choice : Choice = of_slice l start len in
+    let a : 0 < choice.end = omega arith in
+    let b : choice.start < 0 + max l 1 = omega arith in
+    rw (lt-ltb 0 choice.end a, lt-ltb choice.start (0 + max l 1) b) refl
+
+slice_some : (l start len : ℕ) → slice_names l start len ≡ [] → ⊥
+slice_some l start len none =
+    let choice : Choice = of_slice l start len in
+    let named : slice_names l start len ≡ names_of choice 0 l = names-anywhere choice 0 l [] 8 in
+    elim (cases_lt 1024 l) [
+      | inl more ↦ let bad = sym none ∙ named ∙ names-parent choice 0 l (slice_wants l start len) more in cc
+      | inr one ↦ let bad = sym none ∙ named ∙ names-chunk choice 0 l (slice_wants l start len) refl one in cc
+    ]
+
+pub serves_first : (first new : SeatView) (start len l : ℕ) (next : Option Node) (old rest : List Node) (out : List ℕ) → Sees first new
+    → (state_after new.seen).recorded ≡ Some l → old ≡ slice_names l start len → Steps next old rest → out ≡ length_text l → IsServing first new start len next rest out
+serves_first first new start len l None old rest out sees some names steps is = absurd (slice_some l start len (sym names ∙ steps.0))
+serves_first first new start len l (Some node) old rest out sees some names steps is = (
+  sees,
+  λ t k.
+      (λ i. after_bytes (is i) (served t ((sym steps ∙ names) i)))
+      ∙ ap (λ (o : Option ℕ). serving_of o t start len) (sym (k.recorded l some)),
+)
+
+-- the nodes of a slice of a recorded length are below the capacity
+All-map : (P : Node → Type 0) (places : List Place) → AllByRecursion (λ place. P (name place)) places → AllByRecursion P (map name places)
+All-map P [] all = tt
+All-map P (place ∷ places) all = (all.0, All-map P places all.1)
+
+pub names_below : (fixed : Fixed) (history : List Event) (l start len : ℕ) → IsLegal fixed history → (state_after history).recorded ≡ Some l → 0 < fixed.capacity
+    → AllByRecursion (λ node. number_of node < fixed.capacity) (slice_names l start len)
+names_below fixed history l start len legal some capacity =
+    let k : IsSettled fixed history l = record_is_settled fixed history l legal some in
+    let choice : Choice = of_slice l start len in
+    let all : List Place = nodes l start len in
+    let fits : chunk_count l ≤ fixed.capacity = omega (arith, k.fits, k.is, capacity) in
+    All-map (λ node. number_of node < fixed.capacity) all
+    (All-from_members (λ place. number_of (name place) < fixed.capacity) all (λ x h. elim (cases_Bool x.is_chunk) [
+      | inl chunk ↦
+          let w : IsWithin 0 (chunk_count l) x = All-member (IsWithin 0 (chunk_count l)) all (numbers_within choice 0 l [] 8) x h in
+          let high : x.number < 0 + chunk_count l = w.1 in
+          rw chunk (omega (arith, high, fits))
+      | inr parent ↦
+          let w = All-member (IsInside 0 (chunk_count l)) all (boundaries_inside choice 0 l [] 8) x h parent in
+          let high : boundary x < 0 + chunk_count l = w.1 in
+          rw parent (omega (arith, high, fits))
+    ]))
+
+-- What was served is a blob's slice, or a pair is named.
+pub serve_binds : (first new : SeatView) (start len : ℕ) (text : List ℕ) → IsKeyed new.fixed.mode → Called (Serve start len (Text text)) first new → SliceBinds new start len text
+serve_binds first new start len text keyed called blob is =
+    let call : Call = Serve start len (Text text) in
+    let on : GoesOn first new called.between (event_of first call ∷ []) = called.goes_on in
+    let s : State = state_after (first.seen ++ called.between) in
+    let state : state_after new.seen ≡ s =
+    ap (λ (h : List Event). state_after h) on.seen_is ∙ run-append empty (first.seen ++ called.between) (event_of first call ∷ []) in
+    let right : IsRight new.fixed s (calls_as first) call =
+    (legal-append new.fixed empty (first.seen ++ called.between) (event_of first call ∷ [])
+    (subst (λ (h : List Event). IsLegal new.fixed h) on.seen_is on.legal)).1.0 in
+    let answer : Text text ≡ serving s start len = right in
+    served_binds new.fixed new.seen blob start len text keyed is on.legal (ap (λ (t : State). serving t start len) state ∙ sym answer)

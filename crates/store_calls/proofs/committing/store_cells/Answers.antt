@@ -1,0 +1,42 @@
+use Rattle.std.proofs.Common.{◌≡◌, ℕ, ◌+◌, ◌*◌, List, Option, Some, Bor, sym, ap, subst, ◌∙◌, arith}
+use Rattle.std.specs.Option.{option_copied}
+use Rattle.store_core.specs.declared.history.Piece.{Piece}
+use Rattle.store_core.specs.declared.view.SeatView.{SeatView}
+use Rattle.store_core.specs.Pieces.{chunk_bytes, piece_of}
+use Rattle.store_calls.specs.Stored.{HasCells}
+use Rattle.store_steps.specs.Grips.{Gripped}
+use Rattle.store_steps.specs.Words.{IsOf}
+use Rattle.store_calls.proofs.CommittedChunks.{claimed_held, there}
+use Rattle.store_calls.proofs.Storing.{cells_more, cells_same}
+use Rattle.store_calls.proofs.committing.store_cells.Goals as goal
+use Rattle.store_calls.proofs.committing.store_cells.Goals.{then-has_bit, else-has_bit}
+
+pub unwrap-bytes-requires : goal.unwrap-bytes-requires
+unwrap-bytes-requires c =
+    let piece : Piece = piece_of c.args.piece.now in
+    let chunk : ℕ = 64 * c.from.result + c.loop-j.j in
+    let both = claimed_held c.args.grip.now.view c.args.group c.args.mask piece c.loop-j.j chunk c.requires.mask (omega arith) c.loop-j-test.true
+    (sym c.if-has_bit.ensures) in
+    there c.chunk.result (chunk_bytes piece chunk) c.chunk.ensures.value both.1
+
+pub loop-j-preserved : goal.loop-j-preserved
+loop-j-preserved c =
+    let group : ℕ = c.args.group in
+    let piece : Piece = piece_of c.args.piece.now in
+    let j : ℕ = c.loop-j.j in
+    let chunk : ℕ = 64 * c.from.result + j in
+    let old : SeatView = c.args.grip.now.view in
+    let new : SeatView = c.loop-j.grip.view in
+    elim c.if-has_bit.branch [
+      | then-has_bit w ↦
+          let has : chunk_bytes piece chunk ≡ Some w.unwrap-bytes.result.now =
+          sym w.chunk.ensures.value ∙ ap (λ (o : Option (Bor (List ℕ))). option_copied o) w.unwrap-bytes.ensures in
+          subst (λ (g : Gripped). IsOf c.args.words.now g × HasCells group c.args.mask piece (j + 1) old g.view) (sym w.grip-is) (
+            w.store_cell.ensures.of,
+            cells_more group c.args.mask piece j chunk w.unwrap-bytes.result.now old new w.store_cell.new.grip.view c.loop-j.invariant.1 (omega arith) c.loop-j-test.true has
+                w.store_cell.ensures.stored,
+          )
+      | else-has_bit w ↦
+          subst (λ (g : Gripped). IsOf c.args.words.now g × HasCells group c.args.mask piece (j + 1) old g.view) (sym w.grip-is)
+          (c.loop-j.invariant.0, cells_same group c.args.mask piece j old new c.loop-j.invariant.1 (sym c.has_bit.ensures ∙ w.if-has_bit.false))
+    ]

@@ -1,0 +1,82 @@
+use Rattle.std.proofs.Common.{◌≡◌, ℕ, nat_lt, true, false, Option, Some, sym, ap, subst, ◌∙◌, arith}
+use Rattle.std.proofs.lemmas.Bool.{le-ltb, lt-ltb}
+use Rattle.b3tree.specs.Valid.{IsKeyed}
+use Rattle.store_core.specs.declared.fixed.Fixed.{Fixed}
+use Rattle.store_core.specs.declared.history.Piece.{Piece}
+use Rattle.store_core.specs.Machine.{groups}
+use Rattle.store_core.specs.Pieces.{length_of, piece_of}
+use Rattle.store_core.proofs.StoredParents.{recorded_is}
+use Rattle.store_steps.specs.Slices.{is_recorded}
+use Rattle.store_calls.specs.Parents.{AreParentsOf}
+use Rattle.store_calls.proofs.ParentsCommitting.{group_absent, length_differs, length_stays, other_is, parents_bind, parents_stored, words_written}
+use Rattle.store_calls.proofs.ParentsStoring.{claimed_parents}
+use Rattle.store_calls.proofs.parents.commit_parents.Goals as goal
+
+pub returns-then-ne-clause-called : goal.returns-then-ne-clause-called
+returns-then-ne-clause-called c =
+    let piece : Piece = piece_of c.args.piece.now in
+    let load = c.length_to_store-length in
+    let differs : is_recorded load.result (length_of piece) ≡ false =
+    ap (λ (l : ℕ). is_recorded load.result l) (sym c.claimed.ensures) ∙ other_is load.result c.claimed.result c.ne.result c.ne.ensures c.if-ne.true in
+    length_differs c.args.group piece c.args.grip.now.view load.new.grip.view c.requires.of.knows.legal load.ensures.looked
+    (ap (λ (o : Option ℕ). is_recorded o (length_of piece)) (sym load.ensures.recorded) ∙ differs)
+
+pub returns-then-ne-clause-binds : goal.returns-then-ne-clause-binds
+returns-then-ne-clause-binds c =
+    parents_bind c.args.words.now c.length_to_store-length.new.grip (subst (λ (f : Fixed). IsKeyed f.mode) c.fixed-fixed.ensures c.is_keyed.ensures)
+    c.length_to_store-length.ensures.of
+
+pub returns-then-group-div_ceil-clause-called : goal.returns-then-group-div_ceil-clause-called
+returns-then-group-div_ceil-clause-called c =
+    let piece : Piece = piece_of c.args.piece.now in
+    let load = c.length_to_store-length in
+    let is : load.result ≡ Some (length_of piece) =
+    recorded_is load.result c.claimed.result c.ne.result c.ne.ensures c.if-ne.false ∙ ap (λ (l : ℕ). Some l) c.claimed.ensures in
+    let count : c.fixed-fixed.result.capacity ≡ c.args.words.now.fixed.capacity = ap (λ (f : Fixed). f.capacity) c.fixed-fixed.ensures in
+    let absent : nat_lt c.args.group (groups c.args.grip.now.view.fixed) ≡ false =
+    ap (λ (f : Fixed). nat_lt c.args.group (groups f)) c.requires.of.knows.fixed_is ∙ le-ltb c.args.group (groups c.args.words.now.fixed) (omega (arith, count)) in
+    group_absent c.args.group piece c.args.grip.now.view load.new.grip.view c.requires.of.knows.legal load.ensures.looked (sym load.ensures.recorded ∙ is) absent
+
+pub returns-then-group-div_ceil-clause-binds : goal.returns-then-group-div_ceil-clause-binds
+returns-then-group-div_ceil-clause-binds c =
+    parents_bind c.args.words.now c.length_to_store-length.new.grip (subst (λ (f : Fixed). IsKeyed f.mode) c.fixed-fixed.ensures c.is_keyed.ensures)
+    c.length_to_store-length.ensures.of
+
+pub store_parents-requires-clause-mask : goal.store_parents-requires-clause-mask
+store_parents-requires-clause-mask c =
+    let piece : Piece = piece_of c.args.piece.now in
+    subst (λ (f : Fixed). AreParentsOf f c.args.group c.claim_parents-mask.result piece) c.fixed-fixed.ensures
+    (claimed_parents c.fixed-fixed.result c.args.group c.parents_in-want.result c.claim_parents-mask.result piece c.parents_in-want.ensures c.claim_parents-mask.ensures.among)
+
+pub publish_parents-requires-clause-length : goal.publish_parents-requires-clause-length
+publish_parents-requires-clause-length c =
+    let piece : Piece = piece_of c.args.piece.now in
+    let load = c.length_to_store-length in
+    length_stays c.args.group c.claim_parents-mask.result piece load.new.grip.view c.claim_parents-mask.new.grip.view c.store_parents.new.grip.view
+    c.claim_parents-mask.ensures.claimed c.store_parents.ensures.stored
+    ∙ sym load.ensures.recorded ∙ recorded_is load.result c.claimed.result c.ne.result c.ne.ensures c.if-ne.false ∙ ap (λ (l : ℕ). Some l) c.claimed.ensures
+
+pub publish_parents-requires-clause-written : goal.publish_parents-requires-clause-written
+publish_parents-requires-clause-written c =
+    let piece : Piece = piece_of c.args.piece.now in
+    words_written c.args.group c.claim_parents-mask.result piece c.length_to_store-length.new.grip.view c.claim_parents-mask.new.grip.view c.store_parents.new.grip.view
+    c.claim_parents-mask.ensures.claimed c.store_parents.ensures.stored c.fixed-fixed.result
+    (claimed_parents c.fixed-fixed.result c.args.group c.parents_in-want.result c.claim_parents-mask.result piece c.parents_in-want.ensures c.claim_parents-mask.ensures.among)
+
+pub returns-clause-called : goal.returns-clause-called
+returns-clause-called c =
+    let piece : Piece = piece_of c.args.piece.now in
+    let load = c.length_to_store-length in
+    let is : load.result ≡ Some (length_of piece) =
+    recorded_is load.result c.claimed.result c.ne.result c.ne.ensures c.if-ne.false ∙ ap (λ (l : ℕ). Some l) c.claimed.ensures in
+    let count : c.fixed-fixed.result.capacity ≡ c.args.words.now.fixed.capacity = ap (λ (f : Fixed). f.capacity) c.fixed-fixed.ensures in
+    let within : nat_lt c.args.group (groups c.args.grip.now.view.fixed) ≡ true =
+    ap (λ (f : Fixed). nat_lt c.args.group (groups f)) c.requires.of.knows.fixed_is ∙ lt-ltb c.args.group (groups c.args.words.now.fixed) (omega (arith, count)) in
+    parents_stored c.args.group piece c.args.grip.now.view load.new.grip.view c.requires.of.knows.legal load.ensures.looked
+    c.claim_parents-mask.result c.claim_parents-mask.new.grip.view c.store_parents.new.grip.view c.publish_parents.new.grip.view
+    (sym load.ensures.recorded ∙ is) within c.requires.none c.claim_parents-mask.ensures.claimed c.store_parents.ensures.stored c.publish_parents.ensures.called
+
+pub returns-clause-binds : goal.returns-clause-binds
+returns-clause-binds c =
+    parents_bind c.args.words.now c.publish_parents.new.grip (subst (λ (f : Fixed). IsKeyed f.mode) c.fixed-fixed.ensures c.is_keyed.ensures)
+    c.publish_parents.ensures.of

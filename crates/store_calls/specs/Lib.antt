@@ -1,0 +1,5 @@
+pub mod Filled
+pub mod Reading
+pub mod Serving
+pub mod Stored
+pub mod Parents

@@ -1,0 +1,30 @@
+-- A slice that is served from a shared store: an event of its history.
+use Rattle.std.specs.Prelude.{◌≡◌, ◌⊎◌, ℕ, List}
+use Rattle.bao_text.specs.declared.walk.Node.{Node}
+use Rattle.bao_text.specs.declared.walk.Node.TheVariants.{Chunk, Parent}
+use Rattle.bao_text.specs.Texts.{slice_text}
+use Rattle.store_core.specs.declared.fault.ServeFault.{ServeFault}
+use Rattle.store_core.specs.declared.fault.ServeFault.TheVariants as refused
+use Rattle.store_core.specs.declared.history.Call.TheVariants.{Serve}
+use Rattle.store_core.specs.declared.history.Serving.TheVariants.{Lacking, NoLength}
+use Rattle.store_core.specs.declared.view.SeatView.{SeatView}
+use Rattle.store_core.specs.Laws.{IsBlob, PairFrom}
+use Rattle.store_core.specs.Knowledge.{Called, Sees}
+
+-- how many bytes a node has at most
+abbrev pub room_of : Node → ℕ
+room_of (Chunk c) = 1024
+room_of (Parent m) = 64
+
+-- What a refused slice says: with no length recorded, or with a node that isn't held, it is an event of the store. For want
+-- of memory it is none.
+abbrev pub IsRefused : ℕ → ℕ → ServeFault → SeatView → SeatView → Type 0
+IsRefused start len refused.NoLength old new = Called (Serve start len NoLength) old new
+IsRefused start len (refused.Lacking node) old new = Called (Serve start len (Lacking node)) old new
+IsRefused start len refused.Memory old new = Sees old new
+
+-- For each blob with the store's root a text that is served is the blob's slice, or a pair is named from the blob and a piece
+-- that a call, in what the seat has seen, committed, settled or stored parents of.
+abbrev pub SliceBinds : SeatView → ℕ → ℕ → List ℕ → Type 0
+SliceBinds view start len text =
+    (blob : List ℕ) → IsBlob view.fixed blob → (text ≡ slice_text view.fixed.mode blob start len) ⊎ PairFrom view.fixed view.seen blob

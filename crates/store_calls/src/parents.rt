@@ -1,0 +1,102 @@
+ghost use Rattle.std.specs.Prelude.{◌≡◌, ◌⊎◌, ◌&&◌, ◌<◌, ℕ, [], ◌∷◌, length, nat_lt, true};
+ghost use Rattle.store_core.specs.declared.history.Call.TheVariants.{Parents};
+ghost use Rattle.store_core.specs.declared.history.Storing.TheVariants.{OtherLength, Stored};
+ghost use Rattle.store_core.specs.Masks.{IsMaskOf};
+ghost use Rattle.store_core.specs.Pieces.{holds_parent, piece_of};
+ghost use Rattle.store_core.specs.Stores.{IsOf as IsOfStore};
+ghost use Rattle.store_core.specs.Views.{is_storing};
+ghost use Rattle.store_calls.specs.Parents.{AreParentsOf, HasParent, HasParents, ParentsBind};
+ghost use Rattle.store_core.specs.Knowledge.{Called};
+ghost use Rattle.store_steps.specs.Words.{HasGroup, IsOf, fixed_of};
+
+use crate::cell::{WORD_LEN, whole_word};
+use bao_check::Checked;
+use store_core::{GROUP_LEN, PARENT_WORDS, Storing, has_bit, with_bit};
+use store_steps::{Grip, Words};
+
+// The mask of the group's boundaries below the capacity of which the piece holds the parent.
+fn parents_in(piece: &Checked<'_>, group: u32, capacity: u32) -> u64
+    ensures { IsMaskOf group result (λ m. nat_lt m capacity && holds_parent (piece_of piece.now) m) }
+{
+    let start = GROUP_LEN as u64 * u64::from(group);
+    let mut mask = 0;
+    for j in 0..GROUP_LEN {
+        let boundary = start + j as u64;
+        if boundary < u64::from(capacity) && piece.has_parent(boundary) {
+            mask = with_bit(mask, j);
+        }
+    }
+    mask
+}
+
+// Stores the parent at a boundary that the grip is storing, with these bytes.
+fn store_parent(words: &Words, grip: &mut Grip, boundary: u32, bytes: &[u8])
+    requires of { IsOf words.now grip.old }
+    requires storing { is_storing grip.old.view boundary ≡ true }
+    requires boundary { boundary < (fixed_of words.now).capacity }
+    requires bytes { length bytes.now ≡ 64 }
+    ensures of { IsOf words.now grip.new }
+    ensures stored { HasParent boundary bytes.now 8 grip.old.view grip.new.view }
+{
+    for word in 0..PARENT_WORDS {
+        let value = whole_word(bytes, WORD_LEN * usize::from(word));
+        words.store_parent(grip, boundary, word, value);
+    }
+}
+
+// Stores the parents at the group's boundaries of the mask, which the grip is storing.
+fn store_parents(words: &Words, grip: &mut Grip, group: u32, piece: &Checked<'_>, mask: u64)
+    requires of { IsOf words.now grip.old }
+    requires group { HasGroup words.now group }
+    requires storing { grip.old.view.storing ≡ record { group = group; mask = mask } ∷ [] }
+    requires mask { AreParentsOf (fixed_of words.now) group mask (piece_of piece.now) }
+    ensures of { IsOf words.now grip.new }
+    ensures stored { HasParents group mask (piece_of piece.now) 64 grip.old.view grip.new.view }
+{
+    let start = GROUP_LEN as u64 * u64::from(group);
+    for j in 0..GROUP_LEN {
+        if has_bit(mask, j) {
+            let boundary = start + j as u64;
+            let bytes = piece.parent(boundary).unwrap();
+            store_parent(words, grip, boundary as u32, bytes);
+        }
+    }
+}
+
+/// Stores parents of a group of boundaries, those that the piece holds, and answers their mask: bit j stands for boundary
+/// 64 * group + j. Left out are those that are held already or that another grip is storing just then. Of a group that
+/// isn't there none is stored. `OtherLength` where the piece claims another length than the recorded one, or none is
+/// recorded.
+///
+/// It is one event of the store, also where the mask is 0: of each parent 8 words are stored, and then one `fetch_or` on
+/// the held word of boundaries shows them all. So no reader sees a part of a parent. Where the length is another or the
+/// group isn't there, the load of the length is the event. The grip is storing no parents before the call, and none after
+/// it. It takes no memory.
+///
+/// For each blob with the store's root, each parent that the grip has seen held is the blob's at that boundary; or two
+/// different inputs with one chaining value are named, one of the blob's and one of a piece's that the grip has seen
+/// committed or settled or whose parents it has seen stored.
+pub fn commit_parents(words: &Words, grip: &mut Grip, group: u32, piece: &Checked<'_>) -> Storing
+    requires of { IsOf words.now grip.old }
+    requires piece { IsOfStore (fixed_of words.now) piece.now }
+    requires none { grip.old.view.storing ≡ [] }
+    ensures of { IsOf words.now grip.new }
+    ensures called { Called (Parents group (piece_of piece.now) result) grip.old.view grip.new.view }
+    ensures absent { ¬ HasGroup words.now group → (result ≡ OtherLength) ⊎ (result ≡ Stored 0) }
+    ensures binds { ParentsBind grip.new.view }
+{
+    let fixed = words.fixed();
+    fixed.mode.is_keyed();
+    let length = words.length_to_store(grip, group, piece);
+    if length != Some(piece.claimed()) {
+        return Storing::OtherLength;
+    }
+    if group >= fixed.capacity.div_ceil(GROUP_LEN) {
+        return Storing::Stored(0);
+    }
+    let want = parents_in(piece, group, fixed.capacity);
+    let mask = words.claim_parents(grip, group, want);
+    store_parents(words, grip, group, piece, mask);
+    words.publish_parents(grip, group, piece, mask);
+    Storing::Stored(mask)
+}

@@ -1,0 +1,80 @@
+ghost use Rattle.std.specs.Prelude.{◌≡◌, ◌+◌, ◌*◌, ◌<◌, ◌≤◌, length};
+ghost use Rattle.store_core.specs.Stores.{filled_count, missing_in};
+ghost use Rattle.store_calls.specs.Reading.{DidRead, ReadBinds};
+ghost use Rattle.store_steps.specs.Words.{IsOf, fixed_of};
+
+use crate::groups::{copy_group, end_of};
+use b3tree::CHUNK_LEN;
+use store_core::{Fixed, GROUP_BYTES, Missing};
+use store_steps::{Grip, Words};
+
+// Where the positions end that a store has room for.
+fn limit_of(fixed: &Fixed) -> u64
+    ensures { result ≡ 1024 * fixed.now.capacity }
+{
+    CHUNK_LEN as u64 * u64::from(fixed.capacity)
+}
+
+// A read of at least one byte, from a position on that the store has room for.
+fn read_groups(words: &Words, grip: &mut Grip, at: u64, out: &mut [u8]) -> Result<(), Missing>
+    requires of { IsOf words.now grip.old }
+    requires at { at < 1024 * (fixed_of words.now).capacity }
+    requires some { 0 < length out.old }
+    ensures of { IsOf words.now grip.new }
+    ensures read { DidRead grip.old.view grip.new.view at out.old out.new (missing_in result) }
+{
+    let limit = limit_of(&words.fixed());
+    let mut group = (at / GROUP_BYTES) as u32;
+    let mut done = 0;
+    'groups: loop {
+        let held = words.load(grip, group, at, out.len() as u64);
+        let next = copy_group(words, grip, group, held, at, out, done);
+        if next == out.len() {
+            return Ok(());
+        }
+        let position = at + next as u64;
+        if position < end_of(group) || limit <= position {
+            return Err(Missing(position));
+        }
+        done = next;
+        group += 1;
+    }
+}
+
+// A read from any position on.
+fn read_event(words: &Words, grip: &mut Grip, at: u64, out: &mut [u8]) -> Result<(), Missing>
+    requires of { IsOf words.now grip.old }
+    ensures of { IsOf words.now grip.new }
+    ensures read { DidRead grip.old.view grip.new.view at out.old out.new (missing_in result) }
+{
+    if out.is_empty() {
+        words.load(grip, 0, at, out.len() as u64);
+        return Ok(());
+    }
+    if at >= limit_of(&words.fixed()) {
+        words.load(grip, 0, at, out.len() as u64);
+        return Err(Missing(at));
+    }
+    read_groups(words, grip, at, out)
+}
+
+/// Fills `out` with the bytes from position `at` on, in bytes. It takes no memory and waits for nobody.
+///
+/// `Missing(p)`: p is the least position of the range that isn't held. The bytes before it are filled in, and the rest of
+/// `out` is unchanged. A position is held if its chunk is and has more bytes than come before it there; none at or above
+/// 1,024 times the capacity is. An empty buffer is Ok.
+///
+/// The read is an event of the store at its last load of a held word, and right there: what was copied before is held
+/// there too, with the same bytes. The grip claims what it claimed before, and all that it had seen it still has.
+///
+/// For each blob with the store's root, each byte filled in is the blob's byte there; or two different inputs with one
+/// chaining value are named, one of the blob's and one of a piece's that was committed.
+pub fn read(words: &Words, grip: &mut Grip, at: u64, out: &mut [u8]) -> Result<(), Missing>
+    requires of { IsOf words.now grip.old }
+    ensures of { IsOf words.now grip.new }
+    ensures read { DidRead grip.old.view grip.new.view at out.old out.new (missing_in result) }
+    ensures binds { ReadBinds grip.new.view at out.new (filled_count at (length out.old) (missing_in result)) }
+{
+    words.fixed().mode.is_keyed();
+    read_event(words, grip, at, out)
+}

@@ -1,9 +1,0 @@
-use Rattle.store_commit.proofs.Storing.{cell_more}
-use Rattle.store_commit.proofs.cell.store_cell.Goals as goal
-
-pub loop-word-preserved : goal.loop-word-preserved
-loop-word-preserved c = (
-  c.store.ensures.of,
-  cell_more c.args.chunk c.args.bytes.now c.loop-word.word c.cell_word.result c.args.grip.now.view c.loop-word.grip.view c.store.new.grip.view
-      c.loop-word.invariant.1 c.loop-word-test.true c.cell_word.ensures c.store.ensures.stored,
-)

@@ -1,6 +1,0 @@
-use Rattle.store_steps.specs.Words.{IsOf}
-use Rattle.store_commit.specs.Stored.{HasCell}
-use Rattle.store_commit.proofs.cell.store_cell.Given as goal
-
-abbrev pub invariant-loop-word : goal.invariant-loop-word
-invariant-loop-word l = IsOf l.words l.grip × HasCell l.chunk l.bytes l.word l.initial.grip.view l.grip.view

@@ -1,8 +1,0 @@
-use Rattle.std.proofs.Common.{ap, nat_eq}
-use Rattle.std.proofs.lemmas.Nat.Bits.{shr_and_one}
-use Rattle.store_core.specs.Masks.{has_bit}
-use Rattle.store_steps.proofs.places.has_bit.Goals as goal
-
-pub returns : goal.returns
-unfolding has_bit
-returns c = ap (λ x. nat_eq x 1) (shr_and_one c.args.mask c.args.j)
