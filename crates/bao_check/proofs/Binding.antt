@@ -12,9 +12,9 @@ use Rattle.b3word.proofs.Ranges.{length-cv}
 use Rattle.b3tree.specs.declared.mode.Mode.{Mode}
 use Rattle.b3tree.specs.Bytes.{word_at, words_of}
 use Rattle.b3tree.specs.Chunk.{block_count, last_chunk_input}
-use Rattle.b3tree.specs.Hashing.{hash, rooted}
+use Rattle.b3tree.specs.Hashing.{rooted}
 use Rattle.b3tree.specs.Tree.{left_len, parent_input, subtree_cv, top_input}
-use Rattle.b3tree.specs.Valid.{AreBytes, IsKeyed}
+use Rattle.b3tree.specs.Valid.{AreBytes}
 use Rattle.b3tree.proofs.BlockWords.{AreBytes-drop, AreBytes-take}
 use Rattle.b3tree.proofs.InputFlags.{chunk_input_low, not_parent, parent_low}
 use Rattle.b3tree.proofs.Ranges.{words_of-hash}

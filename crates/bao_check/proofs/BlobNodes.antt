@@ -1,5 +1,5 @@
 -- What a blob has at the nodes of a slice of it.
-use Rattle.std.proofs.Common.{◌≡◌, ◌⊎◌, ℕ, zero, suc, ◌+◌, ◌-◌, ◌*◌, ◌/◌, ◌%◌, ◌<◌, ◌≤◌, ◌==◌, min, max, None, Some, Option, Bool, List, [], ◌∷◌, ◌++◌, length, take, drop, true, false, refl, sym, ap, subst, ◌∙◌, arith, inl, inr, length-drop}
+use Rattle.std.proofs.Common.{◌≡◌, ◌⊎◌, ℕ, zero, suc, ◌+◌, ◌-◌, ◌*◌, ◌/◌, ◌<◌, ◌≤◌, ◌==◌, min, None, Some, List, [], ◌∷◌, ◌++◌, length, take, drop, true, false, refl, sym, ap, subst, ◌∙◌, arith, inl, inr, length-drop}
 use Rattle.std.specs.List.{AllByRecursion, Contains, flat_map}
 use Rattle.std.specs.Option.{option_map}
 use Rattle.std.proofs.lemmas.Bool.{cases_Bool, cases_lt, eqb-true, lt-ltb}
@@ -10,7 +10,7 @@ use Rattle.b3tree.specs.Tree.{left_len}
 use Rattle.bao_text.specs.declared.choice.Choice.{Choice}
 use Rattle.bao_text.specs.Choice.{chunk_count, of_combined, of_slice, wants}
 use Rattle.bao_text.specs.Nodes.{Node, Side, chosen_nodes, left, nodes, right, subtree_nodes, subtree_size}
-use Rattle.bao_text.specs.Texts.{length_text, node_text, slice_text}
+use Rattle.bao_text.specs.Texts.{length_text, node_text}
 use Rattle.bao_text.proofs.Everything.{wants_all}
 use Rattle.bao_text.proofs.Laws.{chosen_text-nodes}
 use Rattle.bao_text.proofs.SubtreeNodes.{parent_node, subtree_nodes-parent, subtree_nodes-unwanted}
@@ -20,9 +20,8 @@ use Rattle.bao_text.specs.NodeNames.{boundary}
 use Rattle.bao_check.specs.Parents.{find_parent, is_parent_at, parent_of}
 use Rattle.bao_check.specs.Pieces.{chunk_of}
 use Rattle.bao_check.proofs.Lists.{All-append, All-from_members, All-member, Contains-head, Contains-tail}
-use Rattle.bao_check.proofs.Locating.{count_parts}
 use Rattle.bao_check.proofs.Parenting.{IsInside, boundaries_inside, not_parent_at}
-use Rattle.bao_check.proofs.Walking.{chunk_node, leaf_nodes, leaf_without}
+use Rattle.bao_check.proofs.Walking.{leaf_nodes, leaf_without}
 
 find_parent-first : (xs ys : List Node) (m : ℕ) (node : Node) → find_parent xs m ≡ Some node → find_parent (xs ++ ys) m ≡ Some node
 find_parent-first [] ys m node h = let bad : None ≡ Some node = h in cc

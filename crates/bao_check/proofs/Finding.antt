@@ -1,5 +1,5 @@
 -- What the digits of a number tell of its chunk or its parent, as a search finds them.
-use Rattle.std.proofs.Common.{◌≡◌, ℕ, zero, suc, ◌+◌, ◌-◌, ◌*◌, ◌/◌, ◌%◌, ◌^◌, ◌<◌, ◌≤◌, max, min, List, [], ◌∷◌, ◌++◌, Bool, true, false, None, Some, Option, IsSome, refl, sym, ap, subst, ◌∙◌, arith, inl, inr, pow_pos, bit_xor}
+use Rattle.std.proofs.Common.{◌≡◌, ℕ, zero, suc, ◌+◌, ◌-◌, ◌*◌, ◌/◌, ◌%◌, ◌^◌, ◌<◌, ◌≤◌, min, List, [], ◌∷◌, ◌++◌, Bool, true, false, None, Some, Option, IsSome, is_some, refl, sym, ap, subst, ◌∙◌, arith, inl, inr, bit_xor}
 use Rattle.std.specs.Int.Count.{count_trailing_zeros, ones}
 use Rattle.std.proofs.lemmas.Bool.{cases_Bool, cases_lt}
 use Rattle.std.proofs.lemmas.Nat.{leading_length, one_shl, xor_lt}
@@ -9,7 +9,6 @@ use Rattle.bao_text.specs.declared.choice.Choice.{Choice}
 use Rattle.bao_text.specs.Choice.{chunk_count, wants}
 use Rattle.bao_text.proofs.SubtreeText.{Parts, left_len-Parts}
 use Rattle.bao_text.specs.Nodes.{Side, left, placed, right, subtree_nodes, subtree_size}
-use Rattle.bao_check.specs.declared.locate.Span.{Span}
 use Rattle.bao_check.specs.Parents.{parent_place}
 use Rattle.bao_check.specs.Spans.{Counts, HasDigits, bytes_before, chunk_place, first_of}
 use Rattle.bao_check.proofs.Digits.{IsSplit, trailing_split}
@@ -73,9 +72,17 @@ module _ (choice : Choice) (number n at m : ℕ) (low : number < m) (high : m - 
       ap (parent_place (placed at (subtree_nodes choice number n sides source))) (sym sum_is)
       ∙ parent_lacks n choice number n sides source at zeros lowest_of.2.0 (omega arith) (omega (arith, sum_is, high)) (wants_is ∙ skipped)
 
-  module _ (wanted : wants choice (1024 * (number + (m - number - half))) (min (1024 * (2 * half)) (n - 1024 * (m - number - half))) ≡ true)
-      (bytes parents : ℕ) (bytes_are : bytes ≡ bytes_before choice number (m - number - half))
-      (counted : (t : ℕ) → HasDigits (bit_xor (chunk_count n - 1) (m - number - half)) t → Counts (m - number - half) t (min (first_of choice number) (m - number - half)) parents) where
+  -- and one that has it
+  pub wanted_there : (sides : List Side) (source : ℕ) → is_some (parent_place (placed at (subtree_nodes choice number n sides source)) m) ≡ true
+      → wants choice (1024 * (number + (m - number - half))) (min (1024 * (2 * half)) (n - 1024 * (m - number - half))) ≡ true
+  wanted_there sides source there =
+      elim (cases_Bool (wants choice (1024 * (number + (m - number - half))) (min (1024 * (2 * half)) (n - 1024 * (m - number - half))))) [
+        | inl wanted ↦ wanted
+        | inr skipped ↦
+            let bad : false ≡ true = ap (λ (o : Option ℕ). is_some o) (sym (parent_unwanted skipped sides source)) ∙ there in cc
+      ]
+
+  module _ (wanted : wants choice (1024 * (number + (m - number - half))) (min (1024 * (2 * half)) (n - 1024 * (m - number - half))) ≡ true) where
     abbrev first : ℕ
     first = m - number - half
 
@@ -91,23 +98,73 @@ module _ (choice : Choice) (number n at m : ℕ) (low : number < m) (high : m - 
         subst (ParentStands choice number n sides source at digits.0 zeros) first_is
         (parent_stands n choice number n sides source at zeros lowest_of.2.0 digits.0 (omega arith) (omega (arith, sum_is, high)) meets here)
 
-    pub parent_there : (sides : List Side) (source : ℕ)
-        → (suc zeros ≤ parents) × (bytes + 64 * (parents - suc zeros) ≤ subtree_size n)
-        × (parent_place (placed at (subtree_nodes choice number n sides source)) m ≡ Some (at + bytes + 64 * (parents - suc zeros)))
-    parent_there sides source =
+    pub is_there : (sides : List Side) (source : ℕ) → is_some (parent_place (placed at (subtree_nodes choice number n sides source)) m) ≡ true
+    is_there sides source =
         let found = stands sides source in
-        let p : ℕ = found.0 in
-        let few : p + suc zeros < chunk_count n = found.1.1 in
-        let one : p + suc zeros + ones (first % 2 ^ digits.0) + min (first_of choice number) first ≡ first + digits.0 + ones (min (first_of choice number) first) = found.1.0 in
-        let two : parents + ones (first % 2 ^ digits.0) + min (first_of choice number) first ≡ first + digits.0 + ones (min (first_of choice number) first) = counted digits.0 digits.1 in
-        let same : parents ≡ p + suc zeros = omega (arith, one, two) in
-        let most : bytes_before choice number first ≤ 1024 * first = bytes_few choice number first in
         let sum : number + (first + 2 ^ zeros) ≡ m = omega (arith, lowest_of.1, lowest_of.2.1) in
-        let place : at + bytes_before choice number first + 64 * p ≡ at + bytes + 64 * (parents - suc zeros) = omega (arith, same, bytes_are) in (
-          omega (arith, same),
-          omega (arith, same, bytes_are, most, few, high),
-          ap (parent_place (placed at (subtree_nodes choice number n sides source))) (sym sum) ∙ found.2 ∙ (λ i. Some (place i)),
-        )
+        ap (λ (b : ℕ). is_some (parent_place (placed at (subtree_nodes choice number n sides source)) b)) (sym sum)
+        ∙ ap (λ (o : Option ℕ). is_some o) found.2
+
+    module _ (bytes parents : ℕ) (bytes_are : bytes ≡ bytes_before choice number (m - number - half))
+        (counted : (t : ℕ) → HasDigits (bit_xor (chunk_count n - 1) (m - number - half)) t → Counts (m - number - half) t (min (first_of choice number) (m - number - half)) parents) where
+      pub parent_there : (sides : List Side) (source : ℕ)
+          → (suc zeros ≤ parents) × (bytes + 64 * (parents - suc zeros) ≤ subtree_size n)
+          × (parent_place (placed at (subtree_nodes choice number n sides source)) m ≡ Some (at + bytes + 64 * (parents - suc zeros)))
+      parent_there sides source =
+          let found = stands sides source in
+          let p : ℕ = found.0 in
+          let few : p + suc zeros < chunk_count n = found.1.1 in
+          let one : p + suc zeros + ones (first % 2 ^ digits.0) + min (first_of choice number) first ≡ first + digits.0 + ones (min (first_of choice number) first) = found.1.0 in
+          let two : parents + ones (first % 2 ^ digits.0) + min (first_of choice number) first ≡ first + digits.0 + ones (min (first_of choice number) first) = counted digits.0 digits.1 in
+          let same : parents ≡ p + suc zeros = omega (arith, one, two) in
+          let most : bytes_before choice number first ≤ 1024 * first = bytes_few choice number first in
+          let sum : number + (first + 2 ^ zeros) ≡ m = omega (arith, lowest_of.1, lowest_of.2.1) in
+          let place : at + bytes_before choice number first + 64 * p ≡ at + bytes + 64 * (parents - suc zeros) = omega (arith, same, bytes_are) in (
+            omega (arith, same),
+            omega (arith, same, bytes_are, most, few, high),
+            ap (parent_place (placed at (subtree_nodes choice number n sides source))) (sym sum) ∙ found.2 ∙ (λ i. Some (place i)),
+          )
+
+pub none_of : {X : Type 0} (o : Option X) → is_some o ≡ false → o ≡ None
+none_of None h = refl
+none_of (Some x) h = cc
+
+-- a subtree that has such a boundary
+pub inside_there : (choice : Choice) (number n : ℕ) (sides : List Side) (source at m : ℕ) → is_some (parent_place (placed at (subtree_nodes choice number n sides source)) m) ≡ true
+    → (number < m) × (m < number + chunk_count n)
+inside_there choice number n sides source at m there = elim (cases_lt number m) [
+  | inl low ↦
+      elim (cases_lt m (number + chunk_count n)) [
+        | inl high ↦ (low, high)
+        | inr past ↦
+            let bad : false ≡ true = ap (λ (o : Option ℕ). is_some o) (sym (parent_outside choice number n sides source at m (λ h. omega (arith, h.1, past)))) ∙ there in cc
+      ]
+  | inr before ↦
+      let bad : false ≡ true = ap (λ (o : Option ℕ). is_some o) (sym (parent_outside choice number n sides source at m (λ h. omega (arith, h.0, before)))) ∙ there in cc
+]
+
+-- what is known where it was found out that the subtree has the parent
+module _ (choice : Choice) (number n m : ℕ) (range : n ≤ 2 ^ 64 - 1) (there : Bool) (yes : there ≡ true)
+    (tells : (sides : List Side) (source at : ℕ) → there ≡ is_some (parent_place (placed at (subtree_nodes choice number n sides source)) m)) where
+  has : (sides : List Side) (source at : ℕ) → is_some (parent_place (placed at (subtree_nodes choice number n sides source)) m) ≡ true
+  has sides source at = sym (tells sides source at) ∙ yes
+
+  within : (number < m) × (m - number < chunk_count n)
+  within =
+      let inside = inside_there choice number n [] 0 0 m (has [] 0 0) in
+      (inside.0, omega (arith, inside.0, inside.1))
+
+  pub found_at : (number < m) × (m - number < chunk_count n) × (count_trailing_zeros 64 (m - number) < 54) × ((1 * 2 ^ count_trailing_zeros 64 (m - number)) % 2 ^ 64 ≤ m - number)
+  found_at = let low = lowest_of choice number n 0 m within.0 within.1 range in (within.0, within.1, low.0, omega (arith, low.1, low.2.1))
+
+  pub found_place : (at bytes parents : ℕ) → bytes ≡ bytes_before choice number (m - number - (1 * 2 ^ count_trailing_zeros 64 (m - number)) % 2 ^ 64)
+      → ((t : ℕ) → HasDigits (bit_xor (chunk_count n - 1) (m - number - (1 * 2 ^ count_trailing_zeros 64 (m - number)) % 2 ^ 64)) t
+      → Counts (m - number - (1 * 2 ^ count_trailing_zeros 64 (m - number)) % 2 ^ 64) t (min (first_of choice number) (m - number - (1 * 2 ^ count_trailing_zeros 64 (m - number)) % 2 ^ 64)) parents)
+      → (sides : List Side) (source : ℕ)
+      → (suc (count_trailing_zeros 64 (m - number)) ≤ parents) × (bytes + 64 * (parents - suc (count_trailing_zeros 64 (m - number))) ≤ subtree_size n)
+      × (parent_place (placed at (subtree_nodes choice number n sides source)) m ≡ Some (at + bytes + 64 * (parents - suc (count_trailing_zeros 64 (m - number)))))
+  found_place at bytes parents bytes_are counted =
+      parent_there choice number n at m within.0 within.1 range (wanted_there choice number n at m within.0 within.1 range [] 0 (has [] 0 at)) bytes parents bytes_are counted
 
 not_some : {X : Type 0} (o : Option X) → (IsSome o → ⊥) → o ≡ None
 not_some None h = refl

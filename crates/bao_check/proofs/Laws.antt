@@ -1,15 +1,13 @@
 -- The laws of accepted texts, from what they certify and what a certificate binds.
-use Rattle.std.proofs.Common.{◌≡◌, ℕ, ◌==◌, ◌&&◌, None, Some, List, [], ◌∷◌, ◌++◌, drop, sym, subst, ◌∙◌, arith, inl, inr}
+use Rattle.std.proofs.Common.{◌≡◌, ℕ, Some, List, ◌∷◌, ◌++◌, sym, subst, ◌∙◌, arith, inl, inr}
 use Rattle.std.specs.List.{AllByRecursion}
-use Rattle.std.proofs.lemmas.Bool.{cases_Bool}
 use Rattle.b3tree.specs.declared.mode.Mode.{Mode}
 use Rattle.b3tree.specs.Valid.{AreBytes}
-use Rattle.b3tree.proofs.BlockWords.{AreBytes-drop, AreBytes-take}
 use Rattle.bao_text.specs.Cut.{claimed}
-use Rattle.bao_text.specs.Nodes.{Node, size}
+use Rattle.bao_text.specs.Nodes.{Node}
 use Rattle.bao_check.specs.declared.fault.CheckFault.{CheckFault}
 use Rattle.bao_check.specs.declared.fault.CheckFault.TheVariants.{Short, Mismatch, Trailing, Memory, Reader}
-use Rattle.bao_check.specs.Accepted.{IsAccepted, IsGood, bytes_at, places_of, slice_nodes}
+use Rattle.bao_check.specs.Accepted.{IsAccepted, IsGood, places_of, slice_nodes}
 use Rattle.bao_check.specs.Certificate.{Certificate}
 use Rattle.bao_check.specs.Faults.{IsFirstBad, IsFirstFault}
 use Rattle.bao_check.specs.Inputs.{blob_inputs, certificate_inputs, text_inputs}

@@ -1,5 +1,5 @@
 -- An accepted text of a blob's length binds its nodes: each is the blob's, or a pair of inputs is named.
-use Rattle.std.proofs.Common.{◌≡◌, ◌⊎◌, ℕ, zero, suc, ◌+◌, ◌-◌, ◌*◌, ◌/◌, ◌<◌, ◌≤◌, ◌==◌, None, Some, Bool, List, [], ◌∷◌, ◌++◌, length, take, drop, true, false, refl, sym, ap, subst, ◌∙◌, arith, inl, inr, length-drop}
+use Rattle.std.proofs.Common.{◌≡◌, ◌⊎◌, ℕ, zero, suc, ◌+◌, ◌-◌, ◌*◌, ◌/◌, ◌<◌, ◌≤◌, None, Some, Bool, List, [], ◌∷◌, ◌++◌, length, take, drop, true, false, refl, sym, ap, subst, ◌∙◌, arith, inl, inr, length-drop}
 use Rattle.std.specs.List.{AllByRecursion, Contains}
 use Rattle.std.proofs.lemmas.Bool.{cases_Bool, cases_lt}
 use Rattle.std.proofs.lemmas.List.{drop_at, length-take-le, take_all, take_at}
@@ -25,10 +25,9 @@ use Rattle.bao_text.proofs.SubtreeNodes.{parent_node, subtree_nodes-unwanted}
 use Rattle.bao_text.proofs.SubtreeText.{Parts, left_len-Parts}
 use Rattle.bao_text.proofs.TextNodes.{length-span, span, span-left, span-right}
 use Rattle.bao_check.specs.Accepted.{IsAccepted, bytes_at, part_value, places_of, slice_nodes}
-use Rattle.bao_check.specs.Inputs.{NamesPair, blob_inputs, is_top, marked, text_inputs, whole_chunk}
+use Rattle.bao_check.specs.Inputs.{NamesPair, is_top, marked, text_inputs, whole_chunk}
 use Rattle.bao_check.specs.Laws.{ParentBinds}
-use Rattle.bao_text.specs.NodeNames.{boundary}
-use Rattle.bao_check.specs.Parents.{is_parent_at, parent_in, parent_of}
+use Rattle.bao_check.specs.Parents.{is_parent_at, parent_in}
 use Rattle.bao_check.specs.Walk.{AreGood}
 use Rattle.bao_check.specs.Ways.{asked_of}
 use Rattle.bao_check.proofs.Binding.{left_there, length-part_value, parent_there, right_there, top_parent}

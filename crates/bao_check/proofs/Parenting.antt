@@ -1,5 +1,5 @@
 -- Where the nodes of a subtree have a parent.
-use Rattle.std.proofs.Common.{◌≡◌, ◌≢◌, ℕ, zero, suc, ◌+◌, ◌-◌, ◌*◌, ◌/◌, ◌<◌, ◌≤◌, List, [], ◌∷◌, ◌++◌, take, drop, true, false, None, Some, IfSome, refl, sym, ap, subst, ◌∙◌, arith, inl, inr}
+use Rattle.std.proofs.Common.{◌≡◌, ◌≢◌, ℕ, zero, suc, ◌+◌, ◌-◌, ◌*◌, ◌/◌, ◌<◌, ◌≤◌, List, [], ◌∷◌, ◌++◌, take, drop, true, false, None, Some, Option, is_some, IfSome, refl, sym, ap, subst, ◌∙◌, arith, inl, inr}
 use Rattle.std.specs.List.{AllByRecursion}
 use Rattle.std.specs.Option.{option_map}
 use Rattle.std.specs.Prelude.{◌==◌}
@@ -176,6 +176,15 @@ parent_in-place text (place ∷ places) m = elim (cases_Bool place.1.is_chunk) [
         | inr other ↦ rw (parent, other) (parent_in-place text places m)
       ]
 ]
+
+some_too : (f : ℕ → List ℕ) (place : Option ℕ) → is_some (option_map f place) ≡ is_some place
+some_too f None = refl
+some_too f (Some at) = refl
+
+-- so it has bytes where it has a place
+pub parent_in-some : (text : List ℕ) (places : List (ℕ × Node)) (m : ℕ) → is_some (parent_in text places m) ≡ is_some (parent_place places m)
+parent_in-some text places m =
+    ap (λ (bytes : Option (List ℕ)). is_some bytes) (parent_in-place text places m) ∙ some_too (λ at. take 64 (drop at text)) (parent_place places m)
 
 -- a parent of an accepted text lies within it
 pub parent_place-within : (size : ℕ) (places : List (ℕ × Node)) (m : ℕ) → AllByRecursion (λ place. end_of place ≤ size) places

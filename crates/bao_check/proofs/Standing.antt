@@ -11,7 +11,7 @@ use Rattle.bao_text.proofs.Everything.{chunk_part}
 use Rattle.bao_text.proofs.SubtreeNodes.{subtree_nodes-leaf, subtree_nodes-parent, subtree_nodes-unwanted}
 use Rattle.bao_check.specs.Parents.{parent_place}
 use Rattle.bao_check.specs.Spans.{Counts, HasDigits, bytes_before, chunk_place, first_of}
-use Rattle.bao_check.proofs.Digits.{Halves, Split, all_low, apart, far_sum, few_digits, halves, low_digits, ones_above, ones_power, ones_zero, same_digits, split, together, zeros_whole}
+use Rattle.bao_check.proofs.Digits.{Halves, all_low, apart, far_sum, few_digits, halves, low_digits, ones_above, ones_power, ones_zero, same_digits, split, together, zeros_whole}
 use Rattle.bao_check.proofs.Lists.{nodes_size}
 use Rattle.bao_check.proofs.Locating.{chunk_place-far, chunk_place-leaf, chunk_place-near}
 use Rattle.bao_check.proofs.Parenting.{parent_place-far, parent_place-here, parent_place-near, parent_place-unwanted}

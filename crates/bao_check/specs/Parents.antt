@@ -1,5 +1,6 @@
 -- Which parents a text has.
-use Rattle.std.specs.Prelude.{ℕ, ◌==◌, List, [], ◌∷◌, length, Bool, false, Option, None, Some, if◌then◌else◌}
+use Rattle.std.specs.Prelude.{◌≡◌, ℕ, ◌+◌, ◌*◌, ◌<◌, ◌==◌, is_some, List, [], ◌∷◌, length, Bool, false, Option, None, Some, if◌then◌else◌}
+use Rattle.std.specs.Int.{bit_at}
 use Rattle.std.specs.Option.{option_map}
 use Rattle.b3tree.specs.declared.mode.Mode.{Mode}
 use Rattle.bao_text.specs.Choice.{of_combined}
@@ -21,6 +22,10 @@ parent_in text (place ∷ places) m = if is_parent_at m place.1 then Some (bytes
 abbrev pub parent_place : List (ℕ × Node) → ℕ → Option ℕ
 parent_place [] m = None
 parent_place (place ∷ places) m = if is_parent_at m place.1 then Some place.0 else parent_place places m
+
+-- bit i of the mask is set exactly where the text has the parent whose right part begins at chunk 64 * group + i
+abbrev pub IsParentMask : List ℕ → List (ℕ × Node) → ℕ → ℕ → Type 0
+IsParentMask text places group mask = (i : ℕ) → i < 64 → (bit_at mask i == 1) ≡ is_some (parent_in text places (64 * group + i))
 
 -- the parent among nodes whose right part begins at chunk `m`
 abbrev pub find_parent : List Node → ℕ → Option Node

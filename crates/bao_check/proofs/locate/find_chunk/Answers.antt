@@ -1,4 +1,4 @@
-use Rattle.std.proofs.Common.{◌≡◌, ℕ, ◌+◌, ◌-◌, ◌*◌, ◌^◌, ◌<◌, ◌≤◌, [], Some, sym, ap, ◌∙◌, arith}
+use Rattle.std.proofs.Common.{◌≡◌, ◌+◌, ◌*◌, [], Some, sym, ◌∙◌, arith}
 use Rattle.bao_check.proofs.Finding.{chunk_lacks, chunk_there, chunk_unwanted, chunkless}
 use Rattle.bao_check.proofs.locate.find_chunk.Goals as goal
 use Rattle.bao_check.proofs.locate.find_chunk.Goals.{then-not-has_chunks-via-then-not-has_chunks, then-not-has_chunks-via-else-not-has_chunks+then-i-number, then-not-has_chunks-via-else-not-has_chunks+else-i-number+then-i-number-2}
