@@ -41,6 +41,11 @@ up_to_all group mask test up = record {
   bits = λ c h. let place : 64 * group + c % 64 ≡ c = omega (arith, h) in up.below (c % 64) (omega arith) ∙ ap test place;
 }
 
+-- bit j of a mask that is right
+pub bit_of : (group mask j : ℕ) (test : ℕ → Bool) → IsMaskOf group mask test → j < 64 → has_bit mask j ≡ test (64 * group + j)
+bit_of group mask j test is below =
+    let at : (64 * group + j) % 64 ≡ j = omega arith in ap (λ (k : ℕ). has_bit mask k) (sym at) ∙ is.bits (64 * group + j) (omega arith)
+
 -- the chunks of the group's mask whose bits are below j have the slots of their bits, and all others those they had
 abbrev pub IsPutUpTo : ℕ → ℕ → ℕ → (ℕ → Slot) → List Slot → List Slot → Type 0
 IsPutUpTo group mask j slot old new = IsPutBelow Slot Free group mask j slot old new

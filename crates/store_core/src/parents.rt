@@ -25,11 +25,11 @@ fn is_held(parents: &[Option<[u8; 64]>], m: usize) -> bool
     matches!(parents.get(m), Some(Some(_)))
 }
 
-// Whether the piece holds the parent at a boundary.
-fn is_in(piece: &Checked<'_>, m: u64) -> bool
-    ensures { result ≡ holds_parent (piece_of piece.now) m }
+// The mask of the group's boundaries of which the piece holds the parent.
+fn held_in(piece: &Checked<'_>, group: u32) -> u64
+    ensures { IsMaskOf group result (λ m. holds_parent (piece_of piece.now) m) }
 {
-    piece.has_parent(m)
+    piece.parents_of(u64::from(group))
 }
 
 // The mask of the group's boundaries of which the piece holds the parent and none is held yet.
@@ -37,10 +37,11 @@ pub(crate) fn wanted(parents: &[Option<[u8; 64]>], group: u32, piece: &Checked<'
     ensures { IsMaskOf group result (λ m. holds_parent (piece_of piece.now) m && not (is_some (parents_in parents.now m))) }
 {
     let first = GROUP_LEN as u64 * u64::from(group);
+    let has = held_in(piece, group);
     let mut mask = 0;
     for j in 0..64u32 {
         let m = first + u64::from(j);
-        if is_in(piece, m) && !is_held(parents, m as usize) {
+        if has_bit(has, j) && !is_held(parents, m as usize) {
             mask = with_bit(mask, j);
         }
     }
