@@ -1,5 +1,6 @@
 -- A parent is stored word by word, and a group's parents one after another.
 use Rattle.std.proofs.Common.{◌≡◌, ℕ, ◌+◌, ◌*◌, ◌/◌, ◌%◌, ◌<◌, ◌==◌, nat_lt, true, false, ◌&&◌, List, [], ◌∷◌, Some, sym, ap, subst, ◌∙◌, arith, inl, inr, refl, eqb-true, ltb-true}
+use Rattle.std.specs.Int.Bits.{bit_and}
 use Rattle.std.proofs.lemmas.Bool.{and_parts, cases_eq, false≢true}
 use Rattle.store_core.specs.declared.fixed.Fixed.{Fixed}
 use Rattle.store_core.specs.declared.history.Piece.{Piece}
@@ -9,6 +10,7 @@ use Rattle.store_core.specs.Masks.{IsMaskOf, has_bit, in_mask}
 use Rattle.store_core.specs.Pieces.{holds_parent, parent_bytes}
 use Rattle.store_core.specs.Views.{is_storing, stored}
 use Rattle.store_core.proofs.Putting.{in_mask_at}
+use Rattle.store_core.proofs.Bits.{and_small, has_bit-and}
 use Rattle.store_steps.specs.Layout.{parent_word}
 use Rattle.store_steps.specs.Plays.{StoresParent}
 use Rattle.store_calls.specs.Parents.{AreParentsOf, HasParent, HasParents}
@@ -79,6 +81,14 @@ pub storing_now : (view now : SeatView) (group mask m : ℕ) → view.storing �
 storing_now view now group mask m only rest hit =
     let is : now.storing ≡ record { group = group; mask = mask } ∷ [] = ap (λ (v : SeatView). v.storing) rest ∙ only in
     rw is (rw hit refl)
+
+-- the piece's boundaries of a group that are below the capacity
+pub below_capacity : (group capacity below has : ℕ) (piece : Piece) → IsMaskOf group below (λ m. nat_lt m capacity) → IsMaskOf group has (λ m. holds_parent piece m)
+    → IsMaskOf group (bit_and below has) (λ m. nat_lt m capacity && holds_parent piece m)
+below_capacity group capacity below has piece low is = record {
+  small = and_small below has low.small;
+  bits = λ m at. has_bit-and below has (m % 64) ∙ (λ i. low.bits m at i && is.bits m at i);
+}
 
 -- claims are among the boundaries that were wanted
 pub claimed_parents : (fixed : Fixed) (group want mask : ℕ) (piece : Piece) → IsMaskOf group want (λ m. nat_lt m fixed.capacity && holds_parent piece m)

@@ -11,22 +11,14 @@ ghost use Rattle.store_steps.specs.Words.{HasGroup, IsOf, fixed_of};
 
 use crate::cell::{WORD_LEN, whole_word};
 use bao_check::Checked;
-use store_core::{GROUP_LEN, PARENT_WORDS, Storing, has_bit, with_bit};
+use store_core::{GROUP_LEN, PARENT_WORDS, Storing, has_bit, mask_below};
 use store_steps::{Grip, Words};
 
 // The mask of the group's boundaries below the capacity of which the piece holds the parent.
 fn parents_in(piece: &Checked<'_>, group: u32, capacity: u32) -> u64
     ensures { IsMaskOf group result (λ m. nat_lt m capacity && holds_parent (piece_of piece.now) m) }
 {
-    let start = GROUP_LEN as u64 * u64::from(group);
-    let mut mask = 0;
-    for j in 0..GROUP_LEN {
-        let boundary = start + j as u64;
-        if boundary < u64::from(capacity) && piece.has_parent(boundary) {
-            mask = with_bit(mask, j);
-        }
-    }
-    mask
+    mask_below(group, u64::from(capacity)) & piece.parents_of(u64::from(group))
 }
 
 // Stores the parent at a boundary that the grip is storing, with these bytes.

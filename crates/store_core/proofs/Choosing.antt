@@ -6,6 +6,9 @@ use Rattle.store_core.specs.declared.slot.Slot.{Slot}
 use Rattle.store_core.specs.declared.slot.Slot.TheVariants.{Free}
 use Rattle.store_core.specs.Masks.{IsMaskOf, has_bit, in_mask}
 use Rattle.bao_check.specs.declared.checked.Checked.{Checked}
+use Rattle.bao_check.specs.Checked.{piece_places, piece_text}
+use Rattle.bao_check.specs.Parents.{IsParentMask}
+use Rattle.store_core.specs.Pieces.{holds_parent, piece_of}
 use Rattle.store_core.specs.Slots.{AreCopies, IsCopy, slot_at}
 use Rattle.store_core.proofs.Bits.{has_bit-zero}
 use Rattle.store_core.proofs.Putting as putting
@@ -45,6 +48,15 @@ up_to_all group mask test up = record {
 pub bit_of : (group mask j : ℕ) (test : ℕ → Bool) → IsMaskOf group mask test → j < 64 → has_bit mask j ≡ test (64 * group + j)
 bit_of group mask j test is below =
     let at : (64 * group + j) % 64 ≡ j = omega arith in ap (λ (k : ℕ). has_bit mask k) (sym at) ∙ is.bits (64 * group + j) (omega arith)
+
+-- a mask of a piece's parents, as a check tells it
+pub parents_marked : (piece : Checked) (group mask : ℕ) → mask < 2 ^ 64 → IsParentMask (piece_text piece) (piece_places piece) group mask
+    → IsMaskOf group mask (λ m. holds_parent (piece_of piece) m)
+unfolding has_bit
+parents_marked piece group mask small marked = record {
+  small = small;
+  bits = λ m at. let place : 64 * group + m % 64 ≡ m = omega (arith, at) in marked (m % 64) (omega arith) ∙ ap (holds_parent (piece_of piece)) place;
+}
 
 -- the chunks of the group's mask whose bits are below j have the slots of their bits, and all others those they had
 abbrev pub IsPutUpTo : ℕ → ℕ → ℕ → (ℕ → Slot) → List Slot → List Slot → Type 0
