@@ -5,3 +5,5 @@ pub mod Knowing
 pub mod Running
 pub mod Finishing
 pub mod OfNone
+pub mod Uniting
+pub mod Whence

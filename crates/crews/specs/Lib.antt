@@ -5,3 +5,4 @@ pub mod Crews
 pub mod Finished
 pub mod Faults
 pub mod Peers
+pub mod Joined

@@ -13,6 +13,7 @@ pub use texts::{crews_over, gather_texts};
 mod blob;
 mod crew;
 mod fault;
+mod joining;
 mod peer;
 mod rounds;
 mod runs;

@@ -1,16 +1,18 @@
 ghost use Rattle.std.specs.Prelude.{◌≡◌, ◌↔◌, ◌⊎◌, ◌*◌, ◌<◌, ◌≤◌, All, Err, IfErr, IfOk, IsErrOf, length, map, vec_items, vec_len};
 ghost use Rattle.b3tree.specs.Hashing.{hash};
 ghost use Rattle.gather.specs.Encodings.{IsCutOf, encoding};
-ghost use Rattle.gather.specs.Holders.{IsAny};
 ghost use Rattle.gather.specs.Large.{AreLonger, IsOfNone, IsTooLarge, fixed_as};
 ghost use Rattle.crews.specs.declared.fault.CrewsFault.TheVariants.{Gather};
 ghost use Rattle.gather.specs.declared.texts.GatherFault.TheVariants.{Capacity, NotTheRoot, Starved, TooLarge};
 ghost use Rattle.store_shared.specs.Seats.{IsSeatOf};
+ghost use Rattle.store_steps.specs.Parts.{AreAllNames};
+ghost use Rattle.crews.specs.Joined.{HaveAllNames};
 ghost use Rattle.crews.specs.Seats.{BeginsAfter, KeepsItsOwn};
 
 use crate::blob::finish;
 use crate::crew::Crew;
 use crate::fault::CrewsFault;
+use crate::joining::all_joined;
 use crate::runs::run;
 use b3par::Open;
 use b3tree::{Hash, Mode};
@@ -44,6 +46,7 @@ pub fn crews_over<'a>(
     ensures begin { IfOk result (λ made. All (λ crew. BeginsAfter seat.view crew.seat.view) made.0.items) }
     ensures stays { IfOk result (λ made. IsSeatOf assembly.now made.1) }
     ensures keeps { IfOk result (λ made. KeepsItsOwn seat.view made.1.view) }
+    ensures names { IfOk result (λ made. AreAllNames seat.view.names → HaveAllNames made.1.view made.0.items) }
     ensures fault { IfErr result (λ fault. (fault ≡ CrewsFault.Seat) ⊎ (fault ≡ Gather Starved)) }
 {
     let starved = CrewsFault::Gather(GatherFault::Starved);
@@ -74,8 +77,7 @@ pub fn crews_over<'a>(
 ///
 /// At 805 each blob with the root is longer than the capacity, or two different inputs with one chaining value are named,
 /// one of the blob's and one of a slice's that is cut out of one of these texts and accepted under the root; such a slice
-/// certifies the length that is too large, too. At 902 there is no blob with the root, or such a pair is named from a
-/// piece that is accepted under the root.
+/// certifies the length that is too large, too. At 902 there is no blob with the root, or such a pair is named.
 pub fn gather_texts<R: Threads + Sync>(
     rt: &R,
     alloc: Global,
@@ -90,13 +92,16 @@ pub fn gather_texts<R: Threads + Sync>(
     ensures capacity { (result ≡ Err (Gather Capacity)) ↔ ((capacity ≡ 0) ⊎ (65536 < capacity)) }
     ensures too_large { IsErrOf result (Gather TooLarge) → IsTooLarge (IsCutOf (map vec_items texts.now)) (fixed_as root mode capacity) }
     ensures longer { IsErrOf result (Gather TooLarge) → AreLonger (IsCutOf (map vec_items texts.now)) (fixed_as root mode capacity) }
-    ensures none { IsErrOf result (Gather NotTheRoot) → IsOfNone IsAny (fixed_as root mode capacity) }
+    ensures none { IsErrOf result (Gather NotTheRoot) → IsOfNone (IsCutOf (map vec_items texts.now)) (fixed_as root mode capacity) }
 {
     let (assembly, seat) = Assembly::new(alloc, root, mode, capacity)?;
     let workers = workers.clamp(1, MOST_WORKERS);
-    let (mut crews, mut seat) = crews_over(alloc, &assembly, seat, workers, texts)?;
+    let (mut crews, seat) = crews_over(alloc, &assembly, seat, workers, texts)?;
     let report = run(rt, alloc, &assembly, crews.as_mut_slice(), &Open);
-    match finish(alloc, &assembly, &mut seat) {
+    let mut seat = all_joined(&assembly, seat, crews);
+    let finished = finish(alloc, &assembly, &mut seat);
+    assembly.look_round(&mut seat);
+    match finished {
         Ok(blob) => Ok(blob),
         Err(FinishFault::Unfinished) => Err(CrewsFault::Gather(cause(&report))),
         Err(FinishFault::NotTheRoot) => Err(CrewsFault::Gather(GatherFault::NotTheRoot)),

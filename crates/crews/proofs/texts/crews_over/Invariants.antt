@@ -1,6 +1,8 @@
 use Rattle.std.specs.Prelude.{◌≡◌, All, map, vec_items, vec_len}
 use Rattle.gather.specs.Encodings.{encoding}
 use Rattle.store_shared.specs.Seats.{IsSeatOf}
+use Rattle.store_steps.specs.Parts.{AreAllNames}
+use Rattle.crews.specs.Joined.{HaveAllNames}
 use Rattle.crews.specs.Seats.{BeginsAfter, KeepsItsOwn}
 use Rattle.crews.proofs.texts.crews_over.Given as goal
 
@@ -9,3 +11,4 @@ invariant-loop l =
     IsSeatOf l.assembly l.stays × All (λ crew. IsSeatOf l.assembly crew.seat) l.crews.items × (vec_len l.crews ≡ l.counter)
     × All (λ crew. map encoding crew.holders.items ≡ map vec_items l.texts) l.crews.items
     × KeepsItsOwn l.fn.seat.view l.stays.view × All (λ crew. BeginsAfter l.fn.seat.view crew.seat.view) l.crews.items
+    × (AreAllNames l.fn.seat.view.names → HaveAllNames l.stays.view l.crews.items)
