@@ -1,6 +1,7 @@
 -- What comes of texts of which one is the combined encoding of a blob with the root.
-use Rattle.std.proofs.Common.{◌≡◌, ◌⊎◌, ℕ, ◌+◌, ◌*◌, ◌/◌, ◌%◌, ◌^◌, ◌<◌, true, false, List, [], ◌∷◌, zero, suc, refl, length, take, drop, map, get_or, Option, None, Some, option_and_then, slice_get, slice_index, sym, ap, subst, ◌∙◌, arith, inl, inr, length-drop, lt-ltb}
+use Rattle.std.proofs.Common.{nat_lt, ltb-false, ◌≡◌, ◌⊎◌, ℕ, ◌+◌, ◌*◌, ◌/◌, ◌%◌, ◌^◌, ◌<◌, true, false, List, [], ◌∷◌, zero, suc, refl, length, take, drop, map, get_or, Option, None, Some, option_and_then, slice_get, slice_index, sym, ap, subst, ◌∙◌, arith, inl, inr, length-drop, lt-ltb}
 use Rattle.std.specs.List.{sum_by}
+use Rattle.std.proofs.lemmas.Bool.{cases_Bool}
 use Rattle.std.proofs.lemmas.List.{length-take}
 use Rattle.std.proofs.lemmas.List.Sums.{sum_by-cons}
 use Rattle.std.proofs.lemmas.Option.{slice_get-get_or}
@@ -14,6 +15,9 @@ use Rattle.bao_text.proofs.Laws.{cut_text-combined}
 use Rattle.gather.specs.Available.{HasTrue, IsFilled}
 use Rattle.gather.specs.declared.holder.Encoded.{Encoded}
 use Rattle.gather.specs.Encodings.{IsCut, encoding}
+use Rattle.gather.specs.declared.report.Report.{Report}
+use Rattle.gather.specs.Faults.{cause_of}
+use Rattle.gather.specs.HandedOut.{IsExcused}
 use Rattle.gather.specs.Finished.{IsNamedIn, IsUnfinished, IsWhole}
 use Rattle.gather.specs.Large.{HasPair}
 use Rattle.gather.specs.Lasting.{Holds, IsBusy, Records}
@@ -55,7 +59,7 @@ chunk_is : (blob bytes : List ℕ) (n : ℕ) → n < chunk_count (length blob) �
 chunk_is blob bytes n below is =
     let there : Some (take 1024 (drop (1024 * n) blob)) ≡ Some bytes = rw (lt-ltb n (chunk_count (length blob)) below) at is in cc
 
-byte_there : (s : State) (blob bytes : List ℕ) (p : ℕ) → p < length blob → s.held (p / 1024) ≡ Some bytes → chunk_of blob (p / 1024) ≡ Some bytes → byte_at s p ≡ None → ⊥
+pub byte_there : (s : State) (blob bytes : List ℕ) (p : ℕ) → p < length blob → s.held (p / 1024) ≡ Some bytes → chunk_of blob (p / 1024) ≡ Some bytes → byte_at s p ≡ None → ⊥
 byte_there s blob bytes p below held chunk missing =
     let same = chunk_is blob bytes (p / 1024) (omega (arith, below)) chunk in
     let long : p % 1024 < length bytes =
@@ -136,3 +140,13 @@ encoding_true holders texts mode blob i over short is =
 pub never_failed : (holders : List Encoded) → sum_by (λ (holder : Encoded). 0) holders ≡ 0
 never_failed [] = refl
 never_failed (x ∷ holders) = omega (arith, sum_by-cons (λ (holder : Encoded). 0) x holders, never_failed holders)
+
+-- why a report is called unfinished
+pub cause_handed : (report : Report) (P : Type 0) → ((report.memory ≡ 0) → (report.too_large ≡ true) → P) → ((report.memory ≡ 0) → (report.too_large ≡ false) → P)
+    → IsExcused (cause_of report) ⊎ P
+cause_handed report P large small = elim (cases_Bool (nat_lt 0 report.memory)) [
+  | inl starved ↦ inl (rw starved tt)
+  | inr fed ↦
+      let none : report.memory ≡ 0 = omega (arith, ltb-false 0 report.memory fed) in
+      elim (cases_Bool report.too_large) [ inl is ↦ inr (large none is) | inr not ↦ inr (small none not) ]
+]

@@ -18,7 +18,7 @@ use Rattle.bao_check.proofs.Laws.{accepted_binds}
 use Rattle.bao_text.specs.Choice.{chunk_count}
 use Rattle.gather.specs.declared.texts.GatherFault.{GatherFault}
 use Rattle.gather.proofs.Binding.{are_longer, pair_wider}
-use Rattle.gather.proofs.Handing.{encoding_true, never_failed, unfinished_pair, whole_pair}
+use Rattle.gather.proofs.Handing.{cause_handed, encoding_true, never_failed, unfinished_pair, whole_pair}
 use Rattle.std.proofs.lemmas.Bool.{cases_Bool}
 use Rattle.store_core.specs.Laws.{IsBlob}
 use Rattle.store_core.specs.Stores.{fixed_of}
@@ -60,16 +60,6 @@ returns-in-Err-Unfinished-clause-longer c = λ e.
     longer_wider (IsHanded IsCut holders) (IsCutOf texts) (handed_cut holders texts over) (fixed_as c.args.root c.args.mode c.args.capacity)
     (subst (λ (fixed : Fixed). AreLonger (IsHanded IsCut holders) fixed) c.in_ok-store.ensures.made.fixed
     (c.run_one-report.ensures.longer (large_of (nat_lt 0 report.memory) report.too_large large)))
-
--- why a report is called unfinished
-cause_handed : (report : Report) (P : Type 0) → ((report.memory ≡ 0) → (report.too_large ≡ true) → P) → ((report.memory ≡ 0) → (report.too_large ≡ false) → P)
-    → IsExcused (cause_of report) ⊎ P
-cause_handed report P large small = elim (cases_Bool (nat_lt 0 report.memory)) [
-  | inl starved ↦ inl (rw starved tt)
-  | inr fed ↦
-      let none : report.memory ≡ 0 = omega (arith, ltb-false 0 report.memory fed) in
-      elim (cases_Bool report.too_large) [ inl is ↦ inr (large none is) | inr not ↦ inr (small none not) ]
-]
 
 pub returns-in-Ok-finish_one-clause-available : goal.returns-in-Ok-finish_one-clause-available
 returns-in-Ok-finish_one-clause-available c = λ blob i is room there.
