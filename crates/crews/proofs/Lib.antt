@@ -6,4 +6,6 @@ pub mod Running
 pub mod Finishing
 pub mod OfNone
 pub mod Uniting
+pub mod Alone
 pub mod Whence
+pub mod HandingOut

@@ -47,6 +47,7 @@ goes_on handed old new call from called = record {
   more = called.between ++ event_of old.view call ∷ [];
   seen_is = called.goes_on.seen_is ∙ append_assoc old.view.seen called.between (event_of old.view call ∷ []);
   own = event_of old.view call ∷ [];
+  by = (refl, tt);
   from = (from, tt);
   mine_is = called.goes_on.mine_is;
   counts = omega arith;

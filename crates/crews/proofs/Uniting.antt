@@ -4,16 +4,16 @@ use Rattle.std.proofs.lemmas.Bool.{cases_Bool, cases_lt, or_cases, or_left, or_r
 use Rattle.std.proofs.lemmas.List.Elements.{Contains-append_cases, Contains-append_left, Contains-append_right}
 use Rattle.bao_check.proofs.Lists.{Contains-cons_cases, Contains-head, Contains-tail}
 use Rattle.crews.specs.declared.crew.Crew.{Crew}
-use Rattle.crews.specs.Joined.{AreCallsOf, HaveAllNames, IsCallOf, names_in}
+use Rattle.crews.specs.Joined.{AreCallsOf, AreClaimsOf, HasNamesOf, HaveAllNames, IsCallOf, IsClaimedBy, names_in}
 use Rattle.store_core.specs.declared.history.Event.{Event}
 use Rattle.store_core.specs.declared.view.Named.{Named}
 use Rattle.store_core.specs.declared.view.SeatView.{SeatView}
 use Rattle.store_core.specs.Histories.{events_of, is_by}
 use Rattle.store_core.specs.Names.{Name, has_name, name_le, same_name, share_name}
-use Rattle.store_core.specs.Views.{merge_names, mine, names_of, new_names, put_name, raise_least}
+use Rattle.store_core.specs.Views.{merge_names, mine, names_of, new_names, put_name, raise_least, seat_claims}
 use Rattle.store_core.proofs.Joining.{join_keeps, plain}
 use Rattle.store_core.proofs.Tells.{same_name-true}
-use Rattle.store_steps.specs.Parts.{AreAllNames, ArePartsOf, IsMerged}
+use Rattle.store_core.specs.Knowledge.{AreAllNames, ArePartsOf, IsMerged}
 use Rattle.store_steps.proofs.Lists.{entry_of, shared}
 use Rattle.store_steps.proofs.Naming.{child, merge-cases, name_there, raised}
 
@@ -154,7 +154,7 @@ split_names view first second crews crew parts its all =
     has_crews crews crew n (subst (λ (ns : List Named). Contains ns n ⊎ Contains (names_in crews) n) (sym new) h)) all)
 
 -- events of a set of names
-by_them : (names : List Name) (events : List Event) (e : Event) → Contains (events_of names events) e → Contains events e × (is_by names e ≡ true)
+pub by_them : (names : List Name) (events : List Event) (e : Event) → Contains (events_of names events) e → Contains events e × (is_by names e ≡ true)
 by_them names [] e h = absurd (omega (arith, h.1))
 by_them names (first ∷ events) e h = elim (cases_Bool (is_by names first)) [
   | inl ours ↦ elim (Contains-cons_cases (events_of names events) first e (rw ours at h)) [
@@ -205,3 +205,37 @@ joined_calls given one merged all crew among is calls e h = elim (merged_calls o
   | inl ours ↦ calls e ours
   | inr its ↦ inr (record { crew = crew; among = among; call = its })
 ]
+
+-- a merged seat has the names of both
+pub merged_has : (one two merged : SeatView) → IsMerged one two merged → HasNamesOf merged one × HasNamesOf merged two
+merged_has one two merged is =
+    let k = join_keeps one two merged is.joined in (
+      λ name h. k.0 name ∙ or_left _ _ h,
+      λ name h. k.0 name ∙ or_right _ _ h,
+    )
+
+pub joined_claims : {H : Type 0} (given one merged : SeatView) (all : List (Crew H)) (crew : Crew H) → Contains all crew → IsMerged one crew.seat.view merged
+    → AreClaimsOf given all one → AreClaimsOf given all merged
+joined_claims given one merged all crew among is claims c h =
+    let k = join_keeps one crew.seat.view merged is.joined in
+    elim (or_cases (seat_claims one c) (seat_claims crew.seat.view c) (sym (k.3 is.legal c) ∙ h)) [
+      | inl ours ↦ claims c ours
+      | inr its ↦ inr (record { crew = crew; among = among; claims = its })
+    ]
+
+-- the names of crews that are joined, or will be
+pub joined_has : {H : Type 0} (one merged : SeatView) (all rest : List (Crew H)) (crew : Crew H) → IsMerged one crew.seat.view merged
+    → ((other : Crew H) → Contains all other → Contains (rest ++ crew ∷ []) other ⊎ HasNamesOf one other.seat.view)
+    → (other : Crew H) → Contains all other → Contains rest other ⊎ HasNamesOf merged other.seat.view
+joined_has {H = H} one merged all rest crew is has other among =
+    let both = merged_has one crew.seat.view merged is in
+    elim (has other among) [
+      | inl left ↦ elim (Contains-append_cases rest (crew ∷ []) other left) [
+        | inl before ↦ inl before
+        | inr last ↦ elim (Contains-cons_cases [] crew other last) [
+          | inl same ↦ inr (subst (λ (x : Crew H). HasNamesOf merged x.seat.view) (sym same) both.1)
+          | inr never ↦ absurd (omega (arith, never.1))
+        ]
+      ]
+      | inr there ↦ inr (λ name h. both.0 name (there name h))
+    ]

@@ -1,33 +1,31 @@
--- After all seats were joined each piece of the store was handed over: it is cut out of one of the texts.
-use Rattle.std.proofs.Common.{◌≡◌, ℕ, zero, suc, ◌<◌, List, [], ◌∷◌, ◌++◌, length, map, get_or, Contains, Some, refl, sym, ap, subst, ◌∙◌, arith, inl, inr}
+-- What workers over texts leave to the seat with which theirs were joined: each piece is cut out of one of the texts.
+use Rattle.std.proofs.Common.{◌≡◌, ℕ, zero, suc, ◌<◌, true, false, List, [], ◌∷◌, ◌++◌, length, map, get_or, Contains, refl, sym, ap, subst, ◌∙◌, arith, inl, inr}
 use Rattle.std.specs.List.{All}
-use Rattle.std.proofs.lemmas.List.Elements.{Contains-append_cases, Contains-append_left}
+use Rattle.std.proofs.lemmas.Bool.{both_ways, false_from_ne_true}
+use Rattle.std.proofs.lemmas.List.Sums.{sum_by-cons}
 use Rattle.bao_check.proofs.Lists.{All-member, Contains-cons_cases}
 use Rattle.crews.specs.declared.crew.Crew.{Crew}
-use Rattle.crews.specs.Crews.{Each, Worked}
-use Rattle.crews.specs.Finished.{Asks, BindsNone}
-use Rattle.crews.specs.Joined.{AreCallsOf, HaveAllNames, IsCallOf, names_in}
+use Rattle.crews.specs.Closing.{CallsAreFrom, IsLeft}
+use Rattle.crews.specs.Crews.{Each, Worked, all_faults, faults_of}
+use Rattle.crews.specs.Joined.{AreCallsOf, AreClaimsOf, HasAllNamesOf, HaveAllNames, names_in}
 use Rattle.crews.specs.Seats.{BeginsAfter, KeepsItsOwn}
 use Rattle.gather.specs.declared.holder.Encoded.{Encoded}
 use Rattle.gather.specs.Encodings.{IsCut, IsCutOf, encoding}
-use Rattle.gather.specs.Finished.{IsNamedIn}
 use Rattle.gather.specs.Holders.{IsHanded}
-use Rattle.gather.specs.Large.{HasPair, IsOfNone}
 use Rattle.gather.specs.Worked.{IsFrom}
 use Rattle.gather.specs.Working.{from_wider}
 use Rattle.gather.proofs.Binding.{handed_cut}
+use Rattle.gather.proofs.Handing.{never_failed}
 use Rattle.store_core.specs.declared.fixed.Fixed.{Fixed}
-use Rattle.store_core.specs.declared.history.Call.{Call}
 use Rattle.store_core.specs.declared.history.Event.{Event}
-use Rattle.store_core.specs.declared.history.Piece.{Piece}
 use Rattle.store_core.specs.declared.view.Named.{Named}
 use Rattle.store_core.specs.declared.view.SeatView.{SeatView}
-use Rattle.store_core.specs.Histories.{events_of}
-use Rattle.store_core.specs.Views.{mine, names_of}
+use Rattle.store_core.specs.Histories.{events_of, state_after}
+use Rattle.store_core.specs.Names.{Name, has_name}
+use Rattle.store_core.specs.States.{claims}
+use Rattle.store_core.specs.Views.{mine, names_of, seat_claims}
 use Rattle.store_shared.specs.declared.assembly.Assembly.{Assembly}
-use Rattle.store_steps.specs.Grips.{opening_view}
-use Rattle.store_steps.specs.Parts.{AreAllNames, LooksRound}
-use Rattle.store_steps.specs.Tells.{Called, event_of}
+use Rattle.store_core.specs.Knowledge.{opening_view, AreAllNames}
 
 -- crews whose seats have the same names
 names_each : {H : Type 0} (before after : List (Crew H)) → length after ≡ length before
@@ -52,6 +50,12 @@ opening_all fixed view is =
       ];
     })
 
+-- no device of texts fails
+pub no_faults : (crews : List (Crew Encoded)) → all_faults (λ (holder : Encoded). 0) crews ≡ 0
+no_faults [] = refl
+no_faults (crew ∷ crews) =
+    omega (arith, sum_by-cons (faults_of (λ (holder : Encoded). 0)) crew crews, never_failed crew.holders.items, no_faults crews)
+
 -- a seat that has seen nothing has made no call
 no_calls : (view : SeatView) → view.seen ≡ [] → mine view ≡ []
 no_calls view none = ap (λ (h : List Event). events_of (names_of view) h) none
@@ -59,79 +63,63 @@ no_calls view none = ap (λ (h : List Event). events_of (names_of view) h) none
 never_among : (events : List Event) (e : Event) → events ≡ [] → Contains events e → ⊥
 never_among events e none h = let there : Contains [] e = subst (λ (es : List Event). Contains es e) none h in omega (arith, there.1)
 
--- each of a seat's calls is of a piece that was handed over
-abbrev AreAllFrom : (Piece → Type 0) → SeatView → Type 0
-AreAllFrom handed view = (e : Event) → Contains (mine view) e → IsFrom handed e.call
-
-from_last : (handed : Piece → Type 0) (old new : SeatView) (call : Call) → IsFrom handed call → Called call old new → AreAllFrom handed old → AreAllFrom handed new
-from_last handed old new call is called each e h =
-    elim (Contains-append_cases (mine old) (event_of old call ∷ []) e (subst (λ (es : List Event). Contains es e) called.goes_on.mine_is h)) [
-      | inl before ↦ each e before
-      | inr last ↦ elim (Contains-cons_cases [] (event_of old call) e last) [
-        | inl same ↦ subst (λ (x : Event). IsFrom handed x.call) (sym same) is
-        | inr never ↦ absurd (omega (arith, never.1))
-      ]
-    ]
-
-asked_from : (handed : Piece → Type 0) (old new : SeatView) → Asks old new → AreAllFrom handed old → AreAllFrom handed new × (new.names ≡ old.names)
-asked_from handed old new (inl asks) each = (from_last handed old new _ tt asks.length each, asks.length.goes_on.names_are)
-asked_from handed old new (inr asks) each = (
-  from_last handed asks.then new _ tt asks.read (from_last handed old asks.then _ tt asks.length each),
-  asks.read.goes_on.names_are ∙ asks.length.goes_on.names_are,
-)
-
 module _ (texts : List (List ℕ)) (assembly : Assembly) (count : Encoded → ℕ) (given : SeatView) (before after : List (Crew Encoded))
     (none : given.seen ≡ []) (begins : All (λ (crew : Crew Encoded). BeginsAfter given crew.seat.view) before)
     (over : All (λ (crew : Crew Encoded). map encoding crew.holders.items ≡ texts) before) (each : Each (Worked assembly IsCut count) before after) where
-  -- what a crew called
-  crew_from : (i : ℕ) (d : Crew Encoded) → i < length before → AreAllFrom (IsCutOf texts) (get_or after i d).seat.view
+  -- what a crew called, and by which names
+  crew_from : (i : ℕ) (d : Crew Encoded) → i < length before → (e : Event) → Contains (mine (get_or after i d).seat.view) e
+      → IsFrom (IsCutOf texts) e.call × (e.who ≡ names_of (get_or after i d).seat.view)
   crew_from i d below e h =
       let old : Crew Encoded = get_or before i d in
       let new : Crew Encoded = get_or after i d in
       let gone = (each.each i d below).reports.gains in
       let nothing : mine old.seat.view ≡ [] = no_calls old.seat.view ((begins i d below).seen_is ∙ none) in
       let own : mine new.seat.view ≡ gone.own = gone.mine_is ∙ ap (λ (es : List Event). es ++ gone.own) nothing in
-      All-member (λ (x : Event). IsFrom (IsCutOf texts) x.call) gone.own
-      (from_wider (IsHanded IsCut old.holders.items) (IsCutOf texts) (handed_cut old.holders.items texts (over i d below)) gone.own gone.from)
-      e (subst (λ (es : List Event). Contains es e) own h)
+      let there : Contains gone.own e = subst (λ (es : List Event). Contains es e) own h in (
+        All-member (λ (x : Event). IsFrom (IsCutOf texts) x.call) gone.own
+            (from_wider (IsHanded IsCut old.holders.items) (IsCutOf texts) (handed_cut old.holders.items texts (over i d below)) gone.own gone.from) e there,
+        All-member (λ (x : Event). x.who ≡ names_of old.seat.view) gone.own gone.by e there
+            ∙ ap (λ (ns : List Named). map (λ (named : Named). named.name) ns) (sym gone.names_are),
+      )
 
-  pub all_from : (stays joined : SeatView) → KeepsItsOwn given stays → AreCallsOf stays after joined → AreAllFrom (IsCutOf texts) joined
-  all_from stays joined keeps calls e h = elim (calls e h) [
+  -- what the joined seat called
+  joined_from : (stays joined : SeatView) → KeepsItsOwn given stays → AreCallsOf stays after joined → HasAllNamesOf stays after joined → (e : Event)
+      → Contains (mine joined) e → IsFrom (IsCutOf texts) e.call × ((name : Name) → has_name e.who name ≡ true → has_name (names_of joined) name ≡ true)
+  joined_from stays joined keeps calls has e h = elim (calls e h) [
     | inl ours ↦ absurd (never_among (mine stays) e (no_calls stays (ap (λ (v : SeatView). v.seen) keeps.rest_is ∙ none)) ours)
     | inr of ↦
         let i : ℕ = of.among.0 in
         let below : i < length before = omega (arith, of.among.1, each.len) in
-        crew_from i of.crew below e (subst (λ (crew : Crew Encoded). Contains (mine crew.seat.view) e) (sym of.among.2) of.call)
+        let its = crew_from i of.crew below e (subst (λ (crew : Crew Encoded). Contains (mine crew.seat.view) e) (sym of.among.2) of.call) in (
+          its.0,
+          λ name by. has.1 of.crew of.among name (subst (λ (crew : Crew Encoded). has_name (names_of crew.seat.view) name ≡ true) of.among.2
+              (subst (λ (who : List Name). has_name who name ≡ true) its.1 by)),
+        )
   ]
 
-  pub all_names : (stays : SeatView) → HaveAllNames stays before → HaveAllNames stays after
-  all_names stays all =
-      let same : names_in after ≡ names_in before = names_each before after each.len (λ i d below. (each.each i d below).reports.gains.names_are) in
-      subst (λ (ns : List Named). AreAllNames (stays.names ++ ns)) (sym same) all
+  -- it claims nothing
+  claims_none : (stays joined : SeatView) → KeepsItsOwn given stays → AreClaimsOf stays after joined → (c : ℕ) → seat_claims joined c ≡ false
+  claims_none stays joined keeps claim c = false_from_ne_true _ (λ h. elim (claim c h) [
+    | inl ours ↦
+        let seen : stays.seen ≡ [] = ap (λ (v : SeatView). v.seen) keeps.rest_is ∙ none in
+        let no : false ≡ true = subst (λ (es : List Event). claims (names_of stays) (state_after es) c ≡ true) seen ours in cc
+    | inr of ↦
+        let i : ℕ = of.among.0 in
+        let below : i < length before = omega (arith, of.among.1, each.len) in
+        let now : seat_claims (get_or after i of.crew).seat.view c ≡ true =
+        subst (λ (crew : Crew Encoded). seat_claims crew.seat.view c ≡ true) (sym of.among.2) of.claims in
+        absurd (both_ways _ ((begins i of.crew below).no_claims c) ((each.each i of.crew below).claimed c now))
+  ])
 
-  pub none_of_cuts : (fixed : Fixed) (stays joined finished round : SeatView) → KeepsItsOwn given stays → HaveAllNames stays before
-      → (HaveAllNames stays after → AreAllNames joined.names) → AreCallsOf stays after joined → Asks joined finished → LooksRound finished round
-      → BindsNone fixed finished.seen → IsOfNone (IsCutOf texts) fixed
-  none_of_cuts fixed stays joined finished round keeps all names calls asks looked binds blob is =
-      let asked = asked_from (IsCutOf texts) joined finished asks (all_from stays joined keeps calls) in
-      let whole : AreAllNames finished.names = subst (λ (ns : List Named). AreAllNames ns) (sym asked.1) (names (all_names stays all)) in
-      let on = looked.sees.goes_on in
-      let from : (e : Event) → Contains finished.seen e → IsFrom (IsCutOf texts) e.call =
-      (λ e h.
-      let there : Contains round.seen e =
-      subst (λ (es : List Event). Contains es e) (sym on.seen_is)
-      (Contains-append_left (finished.seen ++ looked.sees.between) [] e (Contains-append_left finished.seen looked.sees.between e h)) in
-      let ours : Contains (mine finished ++ []) e =
-      subst (λ (es : List Event). Contains es e) on.mine_is (subst (λ (es : List Event). Contains es e) (sym (looked.alone whole)) there) in
-      elim (Contains-append_cases (mine finished) [] e ours) [
-        | inl h ↦ asked.0 e h
-        | inr never ↦ absurd (omega (arith, never.1))
-      ]) in
-      elim (binds blob is) [
-        | inl named ↦
-            let by = named.1.committed in
-            record { piece = by.piece; from = from _ by.there; accepted = by.accepted; pair = named.1.pair }
-        | inr named ↦
-            let by = named.1.settled in
-            record { piece = by.piece; from = from _ by.there; accepted = by.accepted; pair = named.1.pair }
-      ]
+  pub left_to_one : (stays joined : SeatView) → KeepsItsOwn given stays → HaveAllNames stays before → (HaveAllNames stays after → AreAllNames joined.names)
+      → AreCallsOf stays after joined → HasAllNamesOf stays after joined → AreClaimsOf stays after joined → IsLeft (IsCutOf texts) joined
+  left_to_one stays joined keeps all names calls has claim =
+      let same : names_in after ≡ names_in before = names_each before after each.len (λ i d below. (each.each i d below).reports.gains.names_are) in
+      record {
+        alone = record {
+          all = names (subst (λ (ns : List Named). AreAllNames (stays.names ++ ns)) (sym same) all);
+          own = λ e name h by. (joined_from stays joined keeps calls has e h).1 name by;
+        };
+        from = λ e h. (joined_from stays joined keeps calls has e h).0;
+        unclaimed = claims_none stays joined keeps claim;
+      }

@@ -1,6 +1,8 @@
 -- A seat goes on and on.
-use Rattle.std.proofs.Common.{◌≡◌, ℕ, ◌+◌, List, [], ◌++◌, append_assoc, append-nil, refl, sym, ap, ◌∙◌}
+use Rattle.std.proofs.Common.{◌≡◌, ℕ, ◌+◌, List, [], ◌++◌, append_assoc, append-nil, map, refl, sym, ap, subst, ◌∙◌}
 use Rattle.std.proofs.lemmas.List.Sums.{sum_by-append}
+use Rattle.std.specs.List.{AllByRecursion}
+use Rattle.bao_check.proofs.Lists.{All-append}
 use Rattle.crews.specs.Seats.{GoneOn, fixed_of}
 use Rattle.gather.specs.Counts.{Goes}
 use Rattle.gather.specs.Holders.{IsNone}
@@ -8,7 +10,8 @@ use Rattle.gather.specs.Working.{from_append, from_wider}
 use Rattle.store_core.specs.declared.history.Piece.{Piece}
 use Rattle.gather.specs.Worked.{chunks_in, chunks_of, parents_in, parents_of}
 use Rattle.store_core.specs.declared.history.Event.{Event}
-use Rattle.store_core.specs.Views.{mine}
+use Rattle.store_core.specs.declared.view.Named.{Named}
+use Rattle.store_core.specs.Views.{mine, names_of}
 use Rattle.store_shared.specs.Seats.{Gripped}
 
 stays : (s : Gripped) → GoneOn IsNone s s 0 0
@@ -18,6 +21,7 @@ stays s = record {
   more = [];
   seen_is = sym (append-nil s.view.seen);
   own = [];
+  by = tt;
   from = tt;
   mine_is = sym (append-nil (mine s.view));
   counts = refl;
@@ -31,6 +35,8 @@ adds handed r s t m n p q first second = record {
   more = first.more ++ second.more;
   seen_is = second.seen_is ∙ ap (λ (seen : List Event). seen ++ second.more) first.seen_is ∙ append_assoc r.view.seen first.more second.more;
   own = first.own ++ second.own;
+  by = All-append (λ (e : Event). e.who ≡ names_of r.view) first.own second.own first.by
+      (subst (λ (ns : List Named). AllByRecursion (λ (e : Event). e.who ≡ map (λ (named : Named). named.name) ns) second.own) first.names_are second.by);
   from = from_append handed first.own second.own first.from second.from;
   mine_is = second.mine_is ∙ ap (λ (own : List Event). own ++ second.own) first.mine_is ∙ append_assoc (mine r.view) first.own second.own;
   counts = ap (λ (k : ℕ). k + n) first.counts ∙ ap (λ (k : ℕ). chunks_in first.own + k) second.counts ∙ sym (sum_by-append (λ (e : Event). chunks_of e.call) first.own second.own);
@@ -47,6 +53,7 @@ wider handed more of s t n q gone = record {
   more = gone.more;
   seen_is = gone.seen_is;
   own = gone.own;
+  by = gone.by;
   from = from_wider handed more of gone.own gone.from;
   mine_is = gone.mine_is;
   counts = gone.counts;

@@ -6,3 +6,4 @@ pub mod Finished
 pub mod Faults
 pub mod Peers
 pub mod Joined
+pub mod Closing

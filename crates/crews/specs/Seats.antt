@@ -1,5 +1,6 @@
 -- A worker's seat of a shared store: what it claims, and how what it has seen goes on.
 use Rattle.std.specs.Prelude.{◌≡◌, ◌⊎◌, ℕ, Bool, false, List, ◌++◌, Some}
+use Rattle.std.specs.List.{AllByRecursion}
 use Rattle.bao_check.specs.Pieces.{chunk_of}
 use Rattle.store_core.specs.declared.history.Piece.{Piece}
 use Rattle.gather.specs.Worked.{AreFrom, chunks_in, parents_in}
@@ -20,13 +21,15 @@ abbrev pub claims_of : Gripped → ℕ → Bool
 claims_of seat c = seat_claims seat.view c
 
 -- A seat went on, with the same names in the same store. It has seen all that it had seen, and more after it. Of its own
--- calls there are so many more, of pieces that were handed over, which store so many chunks and so many parents.
+-- calls there are so many more, by these names and of pieces that were handed over, which store so many chunks and so many
+-- parents.
 pub record GoneOn (handed : Piece → Type 0) (old new : Gripped) (chunks parents : ℕ) : Type 0 where
   pub fixed_is : fixed_of new ≡ fixed_of old
   pub names_are : new.view.names ≡ old.view.names
   pub more : List Event
   pub seen_is : new.view.seen ≡ old.view.seen ++ more
   pub own : List Event
+  pub by : AllByRecursion (λ (e : Event). e.who ≡ names_of old.view) own
   pub from : AreFrom handed own
   pub mine_is : mine new.view ≡ mine old.view ++ own
   pub counts : chunks ≡ chunks_in own

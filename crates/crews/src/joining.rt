@@ -1,7 +1,7 @@
 ghost use Rattle.std.specs.Prelude.{All};
 ghost use Rattle.store_shared.specs.Seats.{IsSeatOf};
-ghost use Rattle.store_steps.specs.Parts.{AreAllNames};
-ghost use Rattle.crews.specs.Joined.{AreCallsOf, HaveAllNames};
+ghost use Rattle.store_core.specs.Knowledge.{AreAllNames};
+ghost use Rattle.crews.specs.Joined.{AreCallsOf, AreClaimsOf, HasAllNamesOf, HaveAllNames};
 
 use crate::crew::Crew;
 use store_shared::{Assembly, Seat};
@@ -13,6 +13,8 @@ pub(crate) fn all_joined<H: Drop>(assembly: &Assembly, seat: Seat, crews: Vec<Cr
     ensures of { IsSeatOf assembly.now result }
     ensures names { HaveAllNames seat.view crews.items → AreAllNames result.view.names }
     ensures calls { AreCallsOf seat.view crews.items result.view }
+    ensures has { HasAllNamesOf seat.view crews.items result.view }
+    ensures claims { AreClaimsOf seat.view crews.items result.view }
 {
     let mut joined = seat;
     let mut left = crews;

@@ -11,8 +11,10 @@ pub use runs::run;
 pub use texts::{crews_over, gather_texts};
 
 mod blob;
+mod closing;
 mod crew;
 mod fault;
+mod handing;
 mod joining;
 mod peer;
 mod rounds;

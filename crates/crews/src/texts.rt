@@ -1,22 +1,26 @@
-ghost use Rattle.std.specs.Prelude.{◌≡◌, ◌↔◌, ◌⊎◌, ◌*◌, ◌<◌, ◌≤◌, All, Err, IfErr, IfOk, IsErrOf, length, map, vec_items, vec_len};
+ghost use Rattle.std.specs.Prelude.{◌≡◌, ◌≢◌, ◌↔◌, ◌⊎◌, ◌*◌, ◌<◌, ◌≤◌, ℕ, All, Err, IfErr, IfOk, IsErrOf, IsTrue, List, Some, length, map, slice_get, vec_items, vec_len};
 ghost use Rattle.b3tree.specs.Hashing.{hash};
+ghost use Rattle.bao_text.specs.Choice.{chunk_count};
+ghost use Rattle.bao_text.specs.Texts.{combined_text};
 ghost use Rattle.gather.specs.Encodings.{IsCutOf, encoding};
 ghost use Rattle.gather.specs.Large.{AreLonger, IsOfNone, IsTooLarge, fixed_as};
 ghost use Rattle.crews.specs.declared.fault.CrewsFault.TheVariants.{Gather};
 ghost use Rattle.gather.specs.declared.texts.GatherFault.TheVariants.{Capacity, NotTheRoot, Starved, TooLarge};
+ghost use Rattle.store_core.specs.Laws.{IsBlob};
 ghost use Rattle.store_shared.specs.Seats.{IsSeatOf};
-ghost use Rattle.store_steps.specs.Parts.{AreAllNames};
+ghost use Rattle.store_core.specs.Knowledge.{AreAllNames};
+ghost use Rattle.crews.specs.Closing.{IsHandedOut};
 ghost use Rattle.crews.specs.Joined.{HaveAllNames};
 ghost use Rattle.crews.specs.Seats.{BeginsAfter, KeepsItsOwn};
 
-use crate::blob::finish;
 use crate::crew::Crew;
 use crate::fault::CrewsFault;
+use crate::handing::hand_out;
 use crate::joining::all_joined;
 use crate::runs::run;
 use b3par::Open;
 use b3tree::{Hash, Mode};
-use gather::{Encoded, FinishFault, GatherFault, cause, holders_over};
+use gather::{Encoded, GatherFault, holders_over};
 use std::alloc::Global;
 use std::thread::Threads;
 use store_shared::{Assembly, Seat};
@@ -66,18 +70,22 @@ pub fn crews_over<'a>(
 
 /// The blob with this root in this mode, out of texts that nobody trusts: each may be its combined encoding, or any
 /// bytes. So many workers, at least 1 and at most 64, fill a shared store with room for `capacity` chunks, as `run`
-/// says, each with a seat of its own and all texts in their order; the store is let go at the end. The texts are not
-/// copied.
+/// says, each with a seat of its own and all texts in their order. Then their seats are joined to one, which goes once
+/// more round the groups and asks for what is held by nobody; the store is let go at the end. The texts are not copied.
 ///
 /// 802 `Capacity` unless `capacity` is 1 to 65,536, asked before all else; 801 where there is no memory for the store,
-/// 806 for a worker's seat, and 911 `Starved` for the crews and their lists of texts. Then the blob is answered only
+/// 806 for a worker's seat, and 911 `Starved` for the crews and the lists of texts. Then the blob is answered only
 /// once its hash is the root: 902 `NotTheRoot` where it isn't, 903 `Memory` where there is no memory for the blob. An
-/// unfinished blob is 911 where a worker met a want of memory, else 805 `TooLarge` where one met a length above 1,024
-/// times the capacity, else 901 `Unfinished`.
+/// unfinished blob is 911 where memory was refused to a worker, or in the last round, else 805 `TooLarge` where one met
+/// a length above 1,024 times the capacity, else 901 `Unfinished`.
 ///
-/// At 805 each blob with the root is longer than the capacity, or two different inputs with one chaining value are named,
-/// one of the blob's and one of a slice's that is cut out of one of these texts and accepted under the root; such a slice
-/// certifies the length that is too large, too. At 902 there is no blob with the root, or such a pair is named.
+/// Where one of the texts is the combined encoding of a blob with the root, of at most `capacity` chunks, that blob is
+/// answered, whatever the other texts are and however the workers meet, or there was no memory, or such a pair as
+/// follows is named.
+///
+/// At 805 each blob with the root is longer than the capacity, and at 902 there is none; or two different inputs with
+/// one chaining value are named, one of the blob's and one of a slice's that is cut out of one of these texts and
+/// accepted under the root. Such a slice certifies the length that is too large, too.
 pub fn gather_texts<R: Threads + Sync>(
     rt: &R,
     alloc: Global,
@@ -93,18 +101,17 @@ pub fn gather_texts<R: Threads + Sync>(
     ensures too_large { IsErrOf result (Gather TooLarge) → IsTooLarge (IsCutOf (map vec_items texts.now)) (fixed_as root mode capacity) }
     ensures longer { IsErrOf result (Gather TooLarge) → AreLonger (IsCutOf (map vec_items texts.now)) (fixed_as root mode capacity) }
     ensures none { IsErrOf result (Gather NotTheRoot) → IsOfNone (IsCutOf (map vec_items texts.now)) (fixed_as root mode capacity) }
+    ensures available { (blob : List ℕ) (i : ℕ) → IsBlob (fixed_as root mode capacity) blob → chunk_count (length blob) ≤ capacity
+        → slice_get (map vec_items texts.now) i ≡ Some (combined_text mode blob)
+        → IsHandedOut (IsCutOf (map vec_items texts.now)) (fixed_as root mode capacity) blob result }
 {
     let (assembly, seat) = Assembly::new(alloc, root, mode, capacity)?;
     let workers = workers.clamp(1, MOST_WORKERS);
     let (mut crews, seat) = crews_over(alloc, &assembly, seat, workers, texts)?;
     let report = run(rt, alloc, &assembly, crews.as_mut_slice(), &Open);
-    let mut seat = all_joined(&assembly, seat, crews);
-    let finished = finish(alloc, &assembly, &mut seat);
-    assembly.look_round(&mut seat);
-    match finished {
+    let seat = all_joined(&assembly, seat, crews);
+    match hand_out(alloc, &assembly, seat, texts, report) {
         Ok(blob) => Ok(blob),
-        Err(FinishFault::Unfinished) => Err(CrewsFault::Gather(cause(&report))),
-        Err(FinishFault::NotTheRoot) => Err(CrewsFault::Gather(GatherFault::NotTheRoot)),
-        Err(FinishFault::Memory) => Err(CrewsFault::Gather(GatherFault::Memory)),
+        Err(fault) => Err(CrewsFault::Gather(fault)),
     }
 }

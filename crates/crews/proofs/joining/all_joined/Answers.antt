@@ -1,14 +1,14 @@
-use Rattle.std.proofs.Common.{◌≡◌, ℕ, suc, zero, ◌<◌, List, [], ◌∷◌, ◌++◌, length, get_or, Contains, None, Some, Option, option_to_list, refl, sym, ap, subst, ◌∙◌, arith, inl, inr}
+use Rattle.std.proofs.Common.{◌≡◌, ◌⊎◌, ℕ, suc, zero, ◌<◌, List, [], ◌∷◌, ◌++◌, length, get_or, Contains, None, Some, Option, option_to_list, refl, sym, ap, subst, ◌∙◌, arith, inl, inr}
 use Rattle.std.specs.List.{All}
 use Rattle.std.proofs.lemmas.List.{append-nil}
 use Rattle.std.proofs.lemmas.List.Elements.{Contains-append_left, Contains-append_right}
 use Rattle.bao_check.proofs.Lists.{Contains-head}
 use Rattle.crews.specs.declared.crew.Crew.{Crew}
-use Rattle.crews.specs.Joined.{HaveAllNames, names_in}
-use Rattle.crews.proofs.Uniting.{joined_calls, joined_names}
+use Rattle.crews.specs.Joined.{HasNamesOf, HaveAllNames, names_in}
+use Rattle.crews.proofs.Uniting.{joined_calls, joined_claims, joined_has, joined_names, merged_has}
 use Rattle.store_core.specs.declared.view.Named.{Named}
 use Rattle.store_shared.specs.Seats.{IsSeatOf}
-use Rattle.store_steps.specs.Parts.{AreAllNames}
+use Rattle.store_core.specs.Knowledge.{AreAllNames}
 use Rattle.crews.proofs.joining.all_joined.Goals as goal
 
 all_front : {X : Type 0} (P : X → Type 0) (xs : List X) (x : X) → All P (xs ++ x ∷ []) → All P xs
@@ -25,7 +25,7 @@ all_gone [] none = refl
 all_gone (x ∷ xs) none = absurd (omega (arith, none))
 
 pub loop-crew-init : goal.loop-crew-init
-loop-crew-init g c = (c.requires.of, c.requires.crews, λ h. h, λ e h. inl h, λ crew h. h)
+loop-crew-init g c = (c.requires.of, c.requires.crews, λ h. h, λ e h. inl h, λ crew h. h, λ name h. h, λ crew h. inl h, λ n h. inl h)
 
 pub join-joined-requires-clause-second : goal.join-joined-requires-clause-second
 join-joined-requires-clause-second g c =
@@ -50,6 +50,13 @@ loop-crew-preserved g c =
           (c.loop-crew.invariant.4 one (subst (λ (crews : List (Crew g.row.H.Denot)). Contains crews one) (sym at) (Contains-append_right rest (one ∷ []) one (Contains-head [] one))))
           c.join-joined.ensures.merged c.loop-crew.invariant.3,
       λ crew h. c.loop-crew.invariant.4 crew (subst (λ (crews : List (Crew g.row.H.Denot)). Contains crews crew) (sym at) (Contains-append_left rest (one ∷ []) crew h)),
+      λ name h. (merged_has c.loop-crew.joined.view one.seat.view c.join-joined.result.view c.join-joined.ensures.merged).0 name (c.loop-crew.invariant.5 name h),
+      joined_has c.loop-crew.joined.view c.join-joined.result.view c.args.crews.items rest one c.join-joined.ensures.merged
+          (subst (λ (crews : List (Crew g.row.H.Denot)). (other : Crew g.row.H.Denot) → Contains c.args.crews.items other → Contains crews other ⊎ HasNamesOf c.loop-crew.joined.view other.seat.view)
+          at c.loop-crew.invariant.6),
+      joined_claims c.args.seat.view c.loop-crew.joined.view c.join-joined.result.view c.args.crews.items one
+          (c.loop-crew.invariant.4 one (subst (λ (crews : List (Crew g.row.H.Denot)). Contains crews one) (sym at) (Contains-append_right rest (one ∷ []) one (Contains-head [] one))))
+          c.join-joined.ensures.merged c.loop-crew.invariant.7,
     )
 
 pub returns-clause-names : goal.returns-clause-names
@@ -61,3 +68,18 @@ returns-clause-names g c = λ h.
 
 pub returns-clause-calls : goal.returns-clause-calls
 returns-clause-calls g c = c.loop-crew.invariant.3
+
+pub returns-clause-has : goal.returns-clause-has
+returns-clause-has g c = (
+  c.loop-crew.invariant.5,
+  λ crew among. elim (c.loop-crew.invariant.6 crew among) [
+    | inl left ↦
+        let empty : c.loop-crew.left.items ≡ [] = all_gone c.loop-crew.left.items (omega (arith, c.in_default.ensures.cases.0, c.loop-crew.left.ok.0)) in
+        let never : Contains [] crew = subst (λ (crews : List (Crew g.row.H.Denot)). Contains crews crew) empty left in
+        absurd (omega (arith, never.1))
+    | inr there ↦ there
+  ],
+)
+
+pub returns-clause-claims : goal.returns-clause-claims
+returns-clause-claims g c = c.loop-crew.invariant.7

@@ -1,6 +1,6 @@
-use Rattle.std.specs.Prelude.{All, Contains, vec_len}
+use Rattle.std.specs.Prelude.{◌⊎◌, All, Contains, vec_len}
 use Rattle.store_shared.specs.Seats.{IsSeatOf}
-use Rattle.crews.specs.Joined.{AreCallsOf, HaveAllNames}
+use Rattle.crews.specs.Joined.{AreCallsOf, AreClaimsOf, HasNamesOf, HaveAllNames}
 use Rattle.crews.proofs.joining.all_joined.Given as goal
 
 abbrev pub invariant-loop-crew : goal.invariant-loop-crew
@@ -9,6 +9,9 @@ invariant-loop-crew g l =
     × (HaveAllNames l.fn.seat.view l.fn.crews.items → HaveAllNames l.joined.view l.left.items)
     × AreCallsOf l.fn.seat.view l.fn.crews.items l.joined.view
     × ((crew : _) → Contains l.left.items crew → Contains l.fn.crews.items crew)
+    × HasNamesOf l.joined.view l.fn.seat.view
+    × ((crew : _) → Contains l.fn.crews.items crew → Contains l.left.items crew ⊎ HasNamesOf l.joined.view crew.seat.view)
+    × AreClaimsOf l.fn.seat.view l.fn.crews.items l.joined.view
 
 abbrev pub decreases-loop-crew : goal.decreases-loop-crew
 decreases-loop-crew g l = vec_len l.left

@@ -11,8 +11,7 @@ use Rattle.crews.proofs.texts.crews_over.Goals as goal
 use Rattle.gather.specs.declared.holder.Encoded.{Encoded}
 use Rattle.gather.specs.Encodings.{encoding}
 use Rattle.store_core.specs.declared.view.SeatView.{SeatView}
-use Rattle.store_shared.specs.Seats.{IsSeatOf}
-use Rattle.store_steps.specs.Grips.{Gripped}
+use Rattle.store_shared.specs.Seats.{IsSeatOf, Gripped}
 
 pub loop-preserved : goal.loop-preserved
 loop-preserved c =

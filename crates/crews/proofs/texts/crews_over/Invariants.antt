@@ -1,7 +1,7 @@
 use Rattle.std.specs.Prelude.{◌≡◌, All, map, vec_items, vec_len}
 use Rattle.gather.specs.Encodings.{encoding}
 use Rattle.store_shared.specs.Seats.{IsSeatOf}
-use Rattle.store_steps.specs.Parts.{AreAllNames}
+use Rattle.store_core.specs.Knowledge.{AreAllNames}
 use Rattle.crews.specs.Joined.{HaveAllNames}
 use Rattle.crews.specs.Seats.{BeginsAfter, KeepsItsOwn}
 use Rattle.crews.proofs.texts.crews_over.Given as goal

@@ -1,0 +1,194 @@
+-- What the seat with which all others were joined hands out.
+use Rattle.std.proofs.Common.{◌≡◌, ◌⊎◌, ℕ, ◌+◌, ◌*◌, ◌/◌, ◌<◌, ◌≤◌, IsTrue, false, map, slice_get, true, List, [], ◌∷◌, ◌++◌, append_assoc, length, Contains, None, Some, is_some, refl, sym, ap, subst, ◌∙◌, arith, inl, inr}
+use Rattle.std.specs.List.{sum_by}
+use Rattle.std.proofs.lemmas.Bool.{both_ways}
+use Rattle.std.proofs.lemmas.List.Elements.{Contains-append_cases, Contains-append_left}
+use Rattle.b3tree.specs.Valid.{IsKeyed}
+use Rattle.bao_check.proofs.Laws.{accepted_binds}
+use Rattle.bao_check.proofs.Lists.{All-from_members, All-member, Contains-cons_cases}
+use Rattle.bao_text.specs.Choice.{chunk_count}
+use Rattle.bao_text.specs.Texts.{combined_text}
+use Rattle.crews.specs.Closing.{CallsAreFrom, IsLeft}
+use Rattle.crews.specs.Finished.{Asks}
+use Rattle.crews.specs.Going.{goes}
+use Rattle.crews.specs.Lasting.{Claims, HoldsOn, IsAlone, Records}
+use Rattle.crews.specs.Seats.{GoneOn, claims_of, fixed_of as fixed_at}
+use Rattle.crews.proofs.Alone.{seen_own}
+use Rattle.gather.specs.declared.holder.Encoded.{Encoded}
+use Rattle.gather.specs.declared.report.Report.{Report}
+use Rattle.gather.specs.Available.{HasTrue, IsFilled, IsServed}
+use Rattle.gather.specs.Counts.{HasFailed, Reports}
+use Rattle.gather.specs.Encodings.{IsCut, IsCutOf, encoding}
+use Rattle.gather.specs.Faults.{cause_of}
+use Rattle.gather.specs.Finished.{IsNamedIn, IsUnfinished, IsWhole}
+use Rattle.gather.specs.HandedOut.{IsExcused}
+use Rattle.gather.specs.Holders.{IsHanded}
+use Rattle.gather.specs.Large.{HasPair, IsTooLarge}
+use Rattle.gather.specs.Worked.{AreFrom, IsFrom}
+use Rattle.gather.proofs.Binding.{are_longer, handed_cut, pair_of, some_bytes}
+use Rattle.gather.proofs.Finishing.{some_same}
+use Rattle.gather.proofs.Handing.{byte_there, cause_handed, encoding_true, never_failed, whole_binds}
+use Rattle.gather.proofs.Reporting.{large_wider}
+use Rattle.gather.proofs.Served.{served}
+use Rattle.store_core.specs.declared.fixed.Fixed.{Fixed}
+use Rattle.store_core.specs.declared.history.Call.{Call}
+use Rattle.store_core.specs.declared.history.Event.{Event}
+use Rattle.store_core.specs.declared.history.Piece.{Piece}
+use Rattle.store_core.specs.declared.view.Named.{Named}
+use Rattle.store_core.specs.declared.view.SeatView.{SeatView}
+use Rattle.store_core.specs.Histories.{IsLegal, state_after}
+use Rattle.store_core.specs.Laws.{IsBlob}
+use Rattle.store_core.specs.States.{is_held}
+use Rattle.store_core.specs.Views.{mine}
+use Rattle.store_core.proofs.Bound.{held_binds, record_binds}
+use Rattle.store_shared.specs.Seats.{Gripped}
+use Rattle.store_core.specs.Knowledge.{AreAllNames, LooksRound, Called, event_of}
+
+-- a length is recorded, all chunks of the blob are held if it is the blob's, and the store is unfinished: a pair is named
+unfinished_named : (fixed : Fixed) (history : List Event) (blob : List ℕ) (l : ℕ) → IsKeyed fixed.mode → IsBlob fixed blob → IsLegal fixed history
+    → (state_after history).recorded ≡ Some l → (l ≡ length blob → (c : ℕ) → c < chunk_count (length blob) → is_held (state_after history) c ≡ true)
+    → IsUnfinished (state_after history) → IsNamedIn fixed history blob
+unfinished_named fixed history blob l keyed is legal recorded chunks unfinished =
+    elim (record_binds fixed history blob l keyed is legal recorded) [
+      | inr from ↦ inr (l, record { settled = from.0; pair = from.1 })
+      | inl long ↦ elim unfinished [
+        | inl none ↦ let no : Some l ≡ None = sym recorded ∙ none in cc
+        | inr lacks ↦
+            let p = lacks.position in
+            let len : lacks.len ≡ l = some_same lacks.len l (sym lacks.recorded ∙ recorded) in
+            let below : p < length blob = omega (arith, lacks.below, len, long) in
+            let there = some_bytes ((state_after history).held (p / 1024)) (chunks long (p / 1024) (omega (arith, below))) in
+            elim (held_binds fixed history blob (p / 1024) there.0 keyed is legal there.1) [
+              | inl chunk ↦ absurd (byte_there (state_after history) blob there.0 p below there.1 chunk lacks.missing)
+              | inr from ↦ inl (p / 1024, record { bytes = there.0; committed = from.0; pair = from.1 })
+            ]
+      ]
+    ]
+
+module _ (handed : Piece → Type 0) where
+  -- each of the seat's calls is of a piece that was handed over, after it worked as well
+  pub calls_on : (old new : Gripped) (n q : ℕ) → GoneOn handed old new n q → CallsAreFrom handed old.view → CallsAreFrom handed new.view
+  calls_on old new n q gone each e h =
+      elim (Contains-append_cases (mine old.view) gone.own e (subst (λ (es : List Event). Contains es e) gone.mine_is h)) [
+        | inl before ↦ each e before
+        | inr last ↦ All-member (λ (x : Event). IsFrom handed x.call) gone.own gone.from e last
+      ]
+
+  calls_last : (old new : SeatView) (call : Call) → IsFrom handed call → Called call old new → CallsAreFrom handed old → CallsAreFrom handed new
+  calls_last old new call is called each e h =
+      elim (Contains-append_cases (mine old) (event_of old call ∷ []) e (subst (λ (es : List Event). Contains es e) called.goes_on.mine_is h)) [
+        | inl before ↦ each e before
+        | inr last ↦ elim (Contains-cons_cases [] (event_of old call) e last) [
+          | inl same ↦ subst (λ (x : Event). IsFrom handed x.call) (sym same) is
+          | inr never ↦ absurd (omega (arith, never.1))
+        ]
+      ]
+
+  calls_asked : (old new : SeatView) → Asks old new → CallsAreFrom handed old → CallsAreFrom handed new × (new.names ≡ old.names)
+  calls_asked old new (inl asks) each = (calls_last old new _ tt asks.length each, asks.length.goes_on.names_are)
+  calls_asked old new (inr asks) each = (
+    calls_last asks.then new _ tt asks.read (calls_last old asks.then _ tt asks.length each),
+    asks.read.goes_on.names_are ∙ asks.length.goes_on.names_are,
+  )
+
+  -- once the seat has looked round, each call that was made is one of these
+  pub all_from : (seat finished round : SeatView) → AreAllNames seat.names → CallsAreFrom handed seat → Asks seat finished → LooksRound finished round
+      → AreFrom handed finished.seen
+  all_from seat finished round all each asks looked =
+      let asked = calls_asked seat finished asks each in
+      let whole : AreAllNames finished.names = subst (λ (ns : List Named). AreAllNames ns) (sym asked.1) all in
+      let on = looked.sees.goes_on in
+      All-from_members (λ (e : Event). IsFrom handed e.call) finished.seen (λ e h.
+      elim (Contains-append_cases (mine finished) [] e (subst (λ (es : List Event). Contains es e) on.mine_is (seen_own finished round whole looked e h))) [
+        | inl ours ↦ asked.0 e ours
+        | inr never ↦ absurd (omega (arith, never.1))
+      ])
+
+-- what a seat asked for stands after what it had seen
+called_more : (old new : SeatView) (call : Call) → Called call old new → (more : List Event) × (new.seen ≡ old.seen ++ more)
+called_more old new call called = (
+  called.between ++ event_of old call ∷ [],
+  called.goes_on.seen_is ∙ append_assoc old.seen called.between (event_of old call ∷ []),
+)
+
+asks_more : (old new : SeatView) → Asks old new → (more : List Event) × (new.seen ≡ old.seen ++ more)
+asks_more old new (inl asks) = called_more old new _ asks.length
+asks_more old new (inr asks) =
+    let first = called_more old asks.then _ asks.length in
+    let second = called_more asks.then new _ asks.read in
+    (first.0 ++ second.0, second.1 ∙ ap (λ (seen : List Event). seen ++ second.0) first.1 ∙ append_assoc old.seen first.0 second.0)
+
+-- a seat that filled its store from the blob doesn't find it unfinished, unless a pair is named
+pub unfinished_pair : (handed : Piece → Type 0) (fixed : Fixed) (start seat : Gripped) (finished : SeatView) (blob : List ℕ) → seat.view.fixed ≡ fixed → IsKeyed fixed.mode
+    → IsBlob fixed blob → IsLegal fixed finished.seen → ((c : ℕ) → claims_of start c ≡ false) → IsFilled Records HoldsOn Claims start seat blob → Asks seat.view finished
+    → AreFrom handed finished.seen → IsUnfinished (state_after finished.seen) → HasPair handed fixed blob
+unfinished_pair handed fixed start seat finished blob same keyed is legal unclaimed filled asks from unfinished =
+    let more = asks_more seat.view finished asks in
+    let there : IsLegal seat.view.fixed (seat.view.seen ++ more.0) =
+    subst (λ (f : Fixed). IsLegal f (seat.view.seen ++ more.0)) (sym same) (subst (λ (h : List Event). IsLegal fixed h) more.1 legal) in
+    pair_of handed fixed finished.seen blob from (unfinished_named fixed finished.seen blob filled.recorded keyed is legal
+    (subst (λ (h : List Event). (state_after h).recorded ≡ Some filled.recorded) (sym more.1) (filled.is more.0 there))
+    (λ long c below. elim (filled.chunks long c below) [
+      | inl held ↦ subst (λ (h : List Event). is_held (state_after h) c ≡ true) (sym more.1) (held more.0 there)
+      | inr claimed ↦ absurd (both_ways _ (unclaimed c) claimed)
+    ]) unfinished)
+
+-- the bytes that it finds are the blob's, or a pair is named
+pub whole_pair : (handed : Piece → Type 0) (fixed : Fixed) (history : List Event) (blob bytes : List ℕ) → IsKeyed fixed.mode → IsBlob fixed blob → IsLegal fixed history
+    → AreFrom handed history → IsWhole (state_after history) bytes → (bytes ≡ blob) ⊎ HasPair handed fixed blob
+whole_pair handed fixed history blob bytes keyed is legal from whole = elim (whole_binds fixed history bytes blob keyed is legal whole) [
+  | inl same ↦ inl (sym same)
+  | inr named ↦ inr (pair_of handed fixed history blob from named)
+]
+
+-- a piece that certifies too large a length, where there is room for the blob, names a pair
+pub large_pair : (handed : Piece → Type 0) (fixed : Fixed) (blob : List ℕ) → IsKeyed fixed.mode → IsBlob fixed blob → chunk_count (length blob) ≤ fixed.capacity
+    → IsTooLarge handed fixed → HasPair handed fixed blob
+large_pair handed fixed blob keyed is room large = elim (are_longer accepted_binds handed fixed keyed large blob is) [
+  | inl long ↦ absurd (omega (arith, long, room))
+  | inr pair ↦ pair
+]
+
+-- A closing round over texts of which one is the blob's encoding, and what its seat finds afterwards: memory was refused, or a
+-- pair is named.
+module _ (texts : List (List ℕ)) (fixed : Fixed) (start seat : Gripped) (finished round : SeatView) (holders later : List Encoded) (report report' : Report)
+    (over : map encoding holders ≡ texts) (of_start : start.view.fixed ≡ fixed) (of_seat : seat.view.fixed ≡ fixed) (left : IsLeft (IsCutOf texts) start.view)
+    (reports : Reports fixed_at GoneOn start seat (IsHanded IsCut holders) (IsHanded IsCut later) (sum_by (λ (h : Encoded). 0) holders) (sum_by (λ (h : Encoded). 0) later) report report')
+    (alone : IsAlone seat.view) (asks : Asks seat.view finished) (looked : LooksRound finished round) where
+  -- each call that was made is of a piece cut out of one of the texts
+  pub cuts : AreFrom (IsCutOf texts) finished.seen
+  cuts =
+      let gone : GoneOn (IsCutOf texts) start seat reports.chunks reports.parents =
+      goes.wider (IsHanded IsCut holders) (IsCutOf texts) (handed_cut holders texts over) start seat reports.chunks reports.parents reports.gains in
+      all_from (IsCutOf texts) seat.view finished round alone.all (calls_on (IsCutOf texts) start seat reports.chunks reports.parents gone left.from) asks looked
+
+  -- a length that is too large is certified by one
+  pub large_cut : (IsTrue report.too_large → IsTooLarge (IsCutOf texts) fixed) → IsTrue report'.too_large → IsTooLarge (IsCutOf texts) fixed
+  large_cut before large = elim (reports.too_large large) [
+    | inl was ↦ before was
+    | inr is ↦
+        subst (λ (f : Fixed). IsTooLarge (IsCutOf texts) f) of_start
+        (large_wider (IsHanded IsCut holders) (IsCutOf texts) (handed_cut holders texts over) start.view.fixed is)
+  ]
+
+  pub unfinished_handed : (blob : List ℕ) (i : ℕ) → IsKeyed fixed.mode → IsBlob fixed blob → chunk_count (length blob) ≤ fixed.capacity → fixed.capacity ≤ 65536
+      → slice_get texts i ≡ Some (combined_text fixed.mode blob) → IsLegal fixed finished.seen → report.failed ≡ 0
+      → (IsTrue report.too_large → IsTooLarge (IsCutOf texts) fixed)
+      → (IsServed start.view.fixed blob → HasTrue IsCut start.view.fixed.mode blob holders
+      → HasFailed report' ⊎ IsTooLarge (IsHanded IsCut holders) start.view.fixed ⊎ IsFilled Records HoldsOn Claims start seat blob)
+      → IsUnfinished (state_after finished.seen) → IsExcused (cause_of report') ⊎ HasPair (IsCutOf texts) fixed blob
+  unfinished_handed blob i keyed is room limit there legal no_fault before met unfinished =
+      let P : Type 0 = HasPair (IsCutOf texts) fixed blob in
+      let slices : IsServed fixed blob = served fixed blob keyed is room limit in
+      let has : HasTrue IsCut fixed.mode blob holders = encoding_true holders texts fixed.mode blob i over (omega (arith, room, limit)) there in
+      let more : IsTooLarge (IsHanded IsCut holders) start.view.fixed → P =
+      (λ large.
+      large_pair (IsCutOf texts) fixed blob keyed is room (subst (λ (f : Fixed). IsTooLarge (IsCutOf texts) f) of_start
+      (large_wider (IsHanded IsCut holders) (IsCutOf texts) (handed_cut holders texts over) start.view.fixed large))) in
+      cause_handed report' P (λ none large. large_pair (IsCutOf texts) fixed blob keyed is room (large_cut before large)) (λ none not_large.
+      elim (met (subst (λ (f : Fixed). IsServed f blob) (sym of_start) slices) (subst (λ (f : Fixed). HasTrue IsCut f.mode blob holders) (sym of_start) has)) [
+        | inl (inl memory) ↦ absurd (omega (arith, memory, none))
+        | inl (inr failed) ↦ absurd (omega (arith, failed, reports.failed, no_fault, never_failed later))
+        | inr (inl large) ↦ more large
+        | inr (inr filled) ↦ unfinished_pair (IsCutOf texts) fixed start seat finished blob of_seat keyed is legal left.unclaimed filled asks cuts unfinished
+      ])
