@@ -30,7 +30,7 @@ const HASHES: [(usize, &str); 5] = [
 ];
 
 // The bytes i mod 251, as in BLAKE3's test vectors.
-fn blob(alloc: Global, len: usize) -> Result<Vec<u8>, Fail> {
+pub(crate) fn blob(alloc: Global, len: usize) -> Result<Vec<u8>, Fail> {
     let mut bytes = Vec::with_capacity(alloc, len)?;
     for i in 0..len {
         bytes.push((i % 251) as u8)?;

@@ -6,4 +6,6 @@ mod encodings;
 #[cfg(test)]
 mod hashes;
 #[cfg(test)]
+mod memory;
+#[cfg(test)]
 mod pool;

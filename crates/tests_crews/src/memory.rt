@@ -96,6 +96,9 @@ fn a_growth_that_is_refused(rt: HostRuntime) -> Result<(), Fail> {
     let holders = vec![in rt.alloc(); Encoded::new(rt.alloc(), text)]?;
     let lists = vec![in rt.alloc(); holders]?;
     let (seat, report) = run_lists(&rt, rt.alloc(), &assembly, seat, lists, &Open)?;
+    if report.memory > 1 {
+        return Err(Fail::from("a growth was refused"));
+    }
     // One fetch for the length and one for the group, and after a refusal one more in the closing round.
     assert_eq!(rt; (report.committed, report.refused), (3, 0));
     assert!(rt; matches!((report.asked, report.memory), (2, 0) | (3, 1)));

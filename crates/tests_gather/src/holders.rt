@@ -280,7 +280,7 @@ fn a_growth_that_is_refused(rt: HostRuntime) -> Result<(), Fail> {
     let report = run_one(rt.alloc(), &mut store, &mut holders);
     if report.committed < 3 {
         assert!(rt; report.memory > 0);
-        let again = run_one(rt.alloc(), &mut store, &mut holders);
+        let again = ample(run_one(rt.alloc(), &mut store, &mut holders))?;
         assert_eq!(rt; again.committed, 3 - report.committed);
     }
     let gathered = finish_one(rt.alloc(), &store)?;

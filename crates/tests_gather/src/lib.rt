@@ -4,4 +4,6 @@
 #[cfg(test)]
 mod holders;
 #[cfg(test)]
+mod memory;
+#[cfg(test)]
 mod serving;

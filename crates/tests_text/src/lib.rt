@@ -5,6 +5,8 @@
 #[cfg(test)]
 mod joined;
 #[cfg(test)]
+mod memory;
+#[cfg(test)]
 mod readers;
 #[cfg(test)]
 mod writers;

@@ -8,13 +8,13 @@ use std::process::Abort;
 use std::test::Fail;
 
 // The published hash of the 2049 bytes i mod 251.
-const ROOT: Hash = Hash([
+pub(crate) const ROOT: Hash = Hash([
     0x5f, 0x4d, 0x72, 0xf4, 0x0d, 0x7a, 0x5f, 0x82, 0xb1, 0x5c, 0xa2, 0xb2, 0xe4, 0x4b, 0x1d, 0xe3,
     0xc2, 0xef, 0x86, 0xc4, 0x26, 0xc9, 0x5c, 0x1a, 0xf0, 0xb6, 0x87, 0x95, 0x22, 0x56, 0x30, 0x30,
 ]);
 
 // The bytes i mod 251, as in the published test vectors.
-fn blob(rt: &(impl Abort + Alloc<A = Global>), len: usize) -> Result<Vec<u8>, Fail> {
+pub(crate) fn blob(rt: &(impl Abort + Alloc<A = Global>), len: usize) -> Result<Vec<u8>, Fail> {
     let mut bytes = Vec::with_capacity(rt.alloc(), len)?;
     for i in 0..len {
         bytes.push((i % 251) as u8)?;
