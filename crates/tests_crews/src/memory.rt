@@ -129,3 +129,24 @@ fn a_growth_that_is_refused(rt: HostRuntime) -> Result<(), Fail> {
     }
     Ok(())
 }
+
+// Each of so many workers takes memory of its own, so that where one after another is refused there are many to refuse.
+#[test]
+fn sixteen_workers(rt: HostRuntime) -> Result<(), Fail> {
+    let mode = Mode::hash();
+    let bytes = blob(&rt, 3000)?;
+    let (root, whole) = combined(rt.alloc(), &mode, bytes.as_slice())?;
+    let texts = vec![in rt.alloc(); whole]?;
+    match gather_texts(&rt, rt.alloc(), root, mode, 3, 16, texts.as_slice()) {
+        Ok(gathered) => assert_eq!(rt; gathered.as_slice(), bytes.as_slice()),
+        Err(fault) => assert!(rt;
+            matches!(
+                fault,
+                CrewsFault::Store
+                    | CrewsFault::Seat
+                    | CrewsFault::Gather(GatherFault::Memory | GatherFault::Starved)
+            )
+        ),
+    }
+    Ok(())
+}

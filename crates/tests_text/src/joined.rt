@@ -125,3 +125,63 @@ fn slices_refused(rt: HostRuntime) -> Result<(), Fail> {
     }
     Ok(())
 }
+
+// The greatest of the places of the slice (1000, 100) of 2049 bytes that isn't above this one: its length and its nodes.
+fn node_before(place: usize) -> u64 {
+    match place {
+        0..8 => 0,
+        8..72 => 8,
+        72..136 => 72,
+        136..1160 => 136,
+        _ => 1160,
+    }
+}
+
+// A text of 2,184 bytes, cut to each number of them.
+#[test]
+fn every_cut_of_a_slice(rt: HostRuntime) -> Result<(), Fail> {
+    let mode = Mode::hash();
+    let bytes = blob(rt.alloc())?;
+    let bytes = bytes.as_slice().get(..2049).ok_or("bytes")?;
+    let (root, text) = slice(rt.alloc(), &mode, bytes, 1000, 100)?;
+    assert_eq!(rt; text.len(), 2184);
+    for len in 0..2184 {
+        let cut = text.as_slice().get(..len).ok_or("cut")?;
+        let refused = check_slice_join(&rt, &mode, &root, 1000, 100, cut, 1).err();
+        let at = node_before(len);
+        assert_eq!(rt; refused, Some(CheckFault::Short { at }), "{len}");
+    }
+    Ok(())
+}
+
+// The same text with the lowest bit of each byte changed in turn. With that of byte 1 it claims 2,305 bytes, of which the
+// slice has the same nodes.
+#[test]
+fn every_changed_byte_of_a_slice(rt: HostRuntime) -> Result<(), Fail> {
+    let mode = Mode::hash();
+    let bytes = blob(rt.alloc())?;
+    let bytes = bytes.as_slice().get(..2049).ok_or("bytes")?;
+    let (root, text) = slice(rt.alloc(), &mode, bytes, 1000, 100)?;
+    for place in 0..2184 {
+        let other = changed(rt.alloc(), text.as_slice(), &[place])?;
+        let refused = match check_slice_join(&rt, &mode, &root, 1000, 100, other.as_slice(), 1) {
+            Ok(piece) => {
+                assert_eq!(rt; piece.claimed(), 2305);
+                assert_eq!(rt; piece.chunks(), (0, 2));
+                assert!(rt; piece.tail().is_none());
+                None
+            }
+            Err(fault) => Some(fault),
+        };
+        let expected = match place {
+            0 => Some(CheckFault::Mismatch { at: 72 }),
+            1 => None,
+            2..8 => Some(CheckFault::Mismatch { at: 136 }),
+            _ => Some(CheckFault::Mismatch {
+                at: node_before(place),
+            }),
+        };
+        assert_eq!(rt; refused, expected, "{place}");
+    }
+    Ok(())
+}
