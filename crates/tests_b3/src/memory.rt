@@ -81,7 +81,10 @@ fn combined_of_a_source(rt: HostRuntime) -> Result<(), Fail> {
         made => made?,
     };
     assert_eq!(rt; hash.0, LONG_HASH);
-    let len = texts.iter().fold(0usize, |len, text| len.saturating_add(text.len()));
+    let mut len = 0usize;
+    for text in texts.as_slice() {
+        len = len.saturating_add(text.len());
+    }
     assert_eq!(rt; len, 1_114_121);
     Ok(())
 }

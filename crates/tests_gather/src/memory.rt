@@ -40,11 +40,23 @@ fn a_schedule(rt: HostRuntime) -> Result<(), Fail> {
     let (root, text) = combined(rt.alloc(), &mode, bytes.as_slice())?;
     let pieces = [check_combined(rt.alloc(), &mode, &root, text.as_slice())?];
     let steps = [
-        MicroStep::Claim { seat: 1, group: 0, want: 1 },
-        MicroStep::Claim { seat: 2, group: 0, want: 3 },
+        MicroStep::Claim {
+            seat: 1,
+            group: 0,
+            want: 1,
+        },
+        MicroStep::Claim {
+            seat: 2,
+            group: 0,
+            want: 3,
+        },
         MicroStep::Hash { seat: 2, piece: 0 },
         MicroStep::Settle { seat: 2 },
-        MicroStep::Load { seat: 1, at: 0, len: 1 },
+        MicroStep::Load {
+            seat: 1,
+            at: 0,
+            len: 1,
+        },
         MicroStep::Length { seat: 1 },
     ];
     let (replies, store) = match replay(rt.alloc(), root, mode, 3, &pieces, &steps) {

@@ -128,12 +128,16 @@ fn slices_refused(rt: HostRuntime) -> Result<(), Fail> {
 
 // The greatest of the places of the slice (1000, 100) of 2049 bytes that isn't above this one: its length and its nodes.
 fn node_before(place: usize) -> u64 {
-    match place {
-        0..8 => 0,
-        8..72 => 8,
-        72..136 => 72,
-        136..1160 => 136,
-        _ => 1160,
+    if place < 8 {
+        0
+    } else if place < 72 {
+        8
+    } else if place < 136 {
+        72
+    } else if place < 1160 {
+        136
+    } else {
+        1160
     }
 }
 
@@ -176,7 +180,7 @@ fn every_changed_byte_of_a_slice(rt: HostRuntime) -> Result<(), Fail> {
         let expected = match place {
             0 => Some(CheckFault::Mismatch { at: 72 }),
             1 => None,
-            2..8 => Some(CheckFault::Mismatch { at: 136 }),
+            2..=7 => Some(CheckFault::Mismatch { at: 136 }),
             _ => Some(CheckFault::Mismatch {
                 at: node_before(place),
             }),
