@@ -73,6 +73,26 @@ pub fn read_whole<R: Read>(reader: &mut R, bytes: &mut Vec<u8>) -> Result<(), Re
     }
 }
 
+/// As `read_whole`, of a reader that is said to have `size` bytes. That is room for a start, so that bytes are moved at
+/// most once, and nothing more. Where this room is refused, nothing was read.
+pub fn read_sized<R: Read>(
+    reader: &mut R,
+    size: u64,
+    bytes: &mut Vec<u8>,
+) -> Result<(), ReadFault>
+    ensures all { OnOk result (IfSome (R.remaining reader.old) (λ left. bytes.new.items ≡ bytes.old.items ++ left)) }
+    ensures end { OnOk result (IsAtEnd (R.remaining reader.new)) }
+    ensures read { (taken : List ℕ) × Gains (R.remaining reader.old) (R.remaining reader.new) bytes.old.items bytes.new.items taken }
+{
+    let room = usize::try_from(size)
+        .unwrap_or(usize::MAX)
+        .saturating_add(READ_LEN);
+    if bytes.reserve(room).is_err() {
+        return Err(ReadFault::Memory);
+    }
+    read_whole(reader, bytes)
+}
+
 /// The file at `path`, to be read. Where it can't be opened the fault is `Read`.
 pub fn open_file<'a, R: Files>(rt: &R, path: &'a str) -> Result<R::File, FileFault<'a>>
     ensures { IfErr result (λ fault. fault ≡ FileFault.Read path.entry) }
@@ -115,11 +135,8 @@ pub fn read_input<'a, I: Read>(
     ensures all { IfOk result (λ bytes. IfSome (I.remaining input.old) (λ left. bytes.items ≡ left)) }
     ensures fault { IfErr result (λ fault. (fault ≡ FileFault.Memory) ⊎ (fault ≡ FileFault.Read path.entry)) }
 {
-    let room = usize::try_from(size)
-        .unwrap_or(usize::MAX)
-        .saturating_add(READ_LEN);
-    let mut bytes = Vec::with_capacity(alloc, room)?;
-    match read_whole(input, &mut bytes) {
+    let mut bytes = Vec::new(alloc);
+    match read_sized(input, size, &mut bytes) {
         Ok(()) => Ok(bytes),
         Err(ReadFault::Memory) => Err(FileFault::Memory),
         Err(ReadFault::Reader) => Err(FileFault::Read(path)),

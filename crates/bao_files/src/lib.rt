@@ -4,7 +4,7 @@
 
 pub use digits::{bytes_of_digits, print_count, print_digits, print_output, print_text};
 pub use fault::FileFault;
-pub use input::{ReadFault, open_file, read_file, read_input, read_whole, shared_len};
+pub use input::{ReadFault, open_file, read_file, read_input, read_sized, read_whole, shared_len};
 pub use kinds::{Encoding, Part};
 pub use once::Once;
 pub use output::{LateFile, encode_file, encode_input, write_encoding};
