@@ -140,7 +140,7 @@ fn encode<'a, R: Files<File = File> + AllocGlobal + Threads + Sync, O: Write>(
 }
 
 // Decodes the file, and prints how many bytes were written.
-fn decode<'a, R: Files + AllocGlobal, O: Write>(
+fn decode<'a, R: Files<File = File> + AllocGlobal + Threads + Sync, O: Write>(
     rt: &R,
     mode: &Mode,
     digits: &str,

@@ -1,5 +1,5 @@
 -- The bytes of chunks, written one after another.
-use Rattle.std.proofs.Common.{◌≡◌, ℕ, zero, suc, ◌+◌, ◌-◌, ◌<◌, ◌≤◌, min, List, ◌++◌, length, take, drop, Option, Some, None, IfSome, ◌∙◌, sym, ap, refl, subst, arith}
+use Rattle.std.proofs.Common.{◌≡◌, ℕ, zero, suc, ◌+◌, ◌-◌, ◌<◌, ◌≤◌, min, List, ◌++◌, length, take, drop, Option, Some, None, IfSome, IfErr, Result, Ok, Err, [], ◌∙◌, sym, ap, refl, subst, arith}
 use Rattle.std.proofs.KnownBytes.{Appends-trans, Appends-kept}
 use Rattle.std.proofs.Math.Seq.{take-append-add}
 use Rattle.std.proofs.lemmas.List.{append-nil, append_assoc, take-append-le, take_at, take_min, drop_min, length-take-le}
@@ -7,16 +7,17 @@ use Rattle.std.proofs.lemmas.Slice.{between_is}
 use Rattle.std.specs.Io.KnownBytes.{Appends, Consumes}
 use Rattle.std.specs.List.{flat_map, range_with_len}
 use Rattle.bao_text.specs.declared.fault.WriteFault.{WriteFault}
-use Rattle.bao_text.specs.declared.fault.WriteFault.TheVariants.{Memory, Writer}
+use Rattle.bao_text.specs.declared.fault.WriteFault.TheVariants as write
 use Rattle.bao_text.specs.Faults.{WroteOnly}
 use Rattle.b3tree.specs.declared.mode.Mode.{Mode}
 use Rattle.bao_check.specs.Accepted.{IsAccepted, slice_nodes}
 use Rattle.bao_check.specs.Checked.{IsPiece, piece_text}
 use Rattle.bao_check.specs.declared.checked.Checked.{Checked}
 use Rattle.bao_check.specs.declared.fault.CheckFault.{CheckFault}
-use Rattle.bao_check.specs.declared.fault.CheckFault.TheVariants.{Trailing}
+use Rattle.bao_check.specs.declared.fault.CheckFault.TheVariants.{Short, Mismatch, Trailing, Memory, Reader}
+use Rattle.bao_check.specs.Faults.{IsFirstFault}
 use Rattle.bao_files.specs.Printed.{AppendsBeginning}
-use Rattle.bao_decode.specs.Ranges.{IsFileFault}
+use Rattle.bao_decode.specs.Ranges.{IsFileFault, IsWholeFault}
 
 -- what a piece carries, in the words of whoever asked for it
 pub accepted_of : (piece : Checked) (mode : Mode) (root : List ℕ) (start len : ℕ) → IsPiece piece mode root start len (piece_text piece)
@@ -36,6 +37,23 @@ trails None after mode root start len text fault accepted taken more is = tt
 trails (Some all) None mode root start len text fault accepted taken more is = absurd taken
 trails (Some all) (Some left) mode root start len text fault accepted taken more is =
     subst (λ f. IsFileFault mode root start len all f) (sym is) (text, (left, taken, accepted, refl, more))
+
+-- the first fault of bytes that were read whole
+whole_fault : (mode : Mode) (root : List ℕ) (start len : ℕ) (all : List ℕ) (fault : CheckFault)
+    → IsFirstFault mode root all (slice_nodes all start len) fault → IsWholeFault mode root start len all fault
+whole_fault mode root start len all (Short at) h = h
+whole_fault mode root start len all (Mismatch at) h = h
+whole_fault mode root start len all (Trailing at) h = h
+whole_fault mode root start len all Memory h = absurd h
+whole_fault mode root start len all Reader h = absurd h
+
+pub whole_faults : (left : Option (List ℕ)) (mode : Mode) (root : List ℕ) (start len : ℕ) (text old new : List ℕ) (result : Result Checked CheckFault)
+    → old ≡ [] → text ≡ new → IfSome left (λ all. new ≡ old ++ all) → IfErr result (λ fault. IsFirstFault mode root text (slice_nodes text start len) fault)
+    → IfErr result (λ fault. IfSome left (λ all. IsWholeFault mode root start len all fault))
+whole_faults left mode root start len text old new (Ok piece) none same is h = tt
+whole_faults None mode root start len text old new (Err fault) none same is h = tt
+whole_faults (Some all) mode root start len text old new (Err fault) none same is h =
+    subst (λ t. IsWholeFault mode root start len t fault) (same ∙ is ∙ ap (λ t. t ++ all) none) (whole_fault mode root start len text fault h)
 
 -- the length of a list that is cut
 length_cut : {X : Type 0} (q : ℕ) (xs : List X) → length (take (min q (length xs)) xs) ≡ min q (length xs)
@@ -67,31 +85,31 @@ flat_split f a (suc n) m =
     ∙ ap (λ t. f a ++ t) (flat_split f (a + 1) n m ∙ ap (λ b. flat_map f (range_with_len (a + 1) n) ++ flat_map f (range_with_len b m)) next)
     ∙ sym (append_assoc (f a) (flat_map f (range_with_len (a + 1) n)) (flat_map f (range_with_len (a + suc n) m)))
 
--- a chunk, and those after it
-pub flat_at : (f : ℕ → List ℕ) (a i b : ℕ) → a ≤ i → i < b
-    → flat_map f (range_with_len a (b - a)) ≡ flat_map f (range_with_len a (i - a)) ++ (f i ++ flat_map f (range_with_len (i + 1) (b - suc i)))
+-- the chunks before one of them, and the others
+pub flat_at : (f : ℕ → List ℕ) (a i b : ℕ) → a ≤ i → i ≤ b
+    → flat_map f (range_with_len a (b - a)) ≡ flat_map f (range_with_len a (i - a)) ++ flat_map f (range_with_len i (b - i))
 flat_at f a i b h k =
-    let count : b - a ≡ (i - a) + suc (b - suc i) = omega arith in
+    let count : b - a ≡ (i - a) + (b - i) = omega arith in
     let at : a + (i - a) ≡ i = omega arith in
     ap (λ n. flat_map f (range_with_len a n)) count
-    ∙ flat_split f a (i - a) (suc (b - suc i))
-    ∙ ap (λ n. flat_map f (range_with_len a (i - a)) ++ (f n ++ flat_map f (range_with_len (n + 1) (b - suc i)))) at
+    ∙ flat_split f a (i - a) (b - i)
+    ∙ ap (λ n. flat_map f (range_with_len a (i - a)) ++ flat_map f (range_with_len n (b - i))) at
 
 -- a chunk more
 pub flat_more : (f : ℕ → List ℕ) (a i : ℕ) → a ≤ i → flat_map f (range_with_len a (i + 1 - a)) ≡ flat_map f (range_with_len a (i - a)) ++ f i
 flat_more f a i h =
-    let none : i + 1 - suc i ≡ 0 = omega arith in
+    let one : i + 1 - i ≡ 1 = omega arith in
     flat_at f a i (i + 1) h (omega arith)
-    ∙ ap (λ n. flat_map f (range_with_len a (i - a)) ++ (f i ++ flat_map f (range_with_len (i + 1) n))) none
+    ∙ ap (λ n. flat_map f (range_with_len a (i - a)) ++ flat_map f (range_with_len i n)) one
     ∙ ap (λ t. flat_map f (range_with_len a (i - a)) ++ t) (append-nil (f i))
 
 -- after whole parts, a beginning of one more is a beginning of all
 pub begins : (old mid new : Option (List ℕ)) (done part rest all : List ℕ) (fault : WriteFault)
     → all ≡ done ++ (part ++ rest) → Appends old mid done → WroteOnly mid new part fault → AppendsBeginning old new all
-begins old mid new done part rest all Memory split h k =
+begins old mid new done part rest all write.Memory split h k =
     let whole : take (length done) all ≡ done = ap (take (length done)) split ∙ take_at done (part ++ rest) (length done) refl in
     (length done, subst (Appends old new) (sym whole) (Appends-kept old mid new done h k))
-begins old mid new done part rest all (Writer written) split h k =
+begins old mid new done part rest all (write.Writer written) split h k =
     let short : written < length part = k.0 in
     let piece : take written (part ++ rest) ≡ take written part = take-append-le written part rest (omega arith) in
     let whole : take (length done + written) all ≡ done ++ take written part =

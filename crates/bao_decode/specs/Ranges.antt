@@ -6,6 +6,7 @@ use Rattle.bao_check.specs.declared.checked.Checked.{Checked}
 use Rattle.bao_check.specs.declared.fault.CheckFault.{CheckFault}
 use Rattle.bao_check.specs.declared.fault.CheckFault.TheVariants as check
 use Rattle.bao_check.specs.Accepted.{IsAccepted, slice_nodes}
+use Rattle.bao_check.specs.Faults.{IsFirstFault}
 use Rattle.bao_check.specs.Checked.{piece_claimed, piece_places, piece_text}
 use Rattle.bao_check.specs.Pieces.{chunk_in}
 use Rattle.bao_check.specs.Streams.{IsStreamFault}
@@ -63,3 +64,12 @@ IsFileFault mode root start len all (check.Trailing at) =
     (text : List ℕ) × ((rest : List ℕ) × (all ≡ text ++ rest) × IsAccepted mode root text (slice_nodes text start len) × (at ≡ length text) × (0 < length rest))
 IsFileFault mode root start len all check.Memory = Unit {0}
 IsFileFault mode root start len all check.Reader = Unit {0}
+
+-- The fault of a file that was read whole: its bytes' first one, or want of memory or a failed read, which are no
+-- faults of its bytes.
+abbrev pub IsWholeFault : Mode → List ℕ → ℕ → ℕ → List ℕ → CheckFault → Type 0
+IsWholeFault mode root start len all (check.Short at) = IsFirstFault mode root all (slice_nodes all start len) (check.Short at)
+IsWholeFault mode root start len all (check.Mismatch at) = IsFirstFault mode root all (slice_nodes all start len) (check.Mismatch at)
+IsWholeFault mode root start len all (check.Trailing at) = IsFirstFault mode root all (slice_nodes all start len) (check.Trailing at)
+IsWholeFault mode root start len all check.Memory = Unit {0}
+IsWholeFault mode root start len all check.Reader = Unit {0}

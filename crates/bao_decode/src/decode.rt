@@ -1,4 +1,5 @@
-ghost use Rattle.std.specs.Prelude.{◌≡◌, ◌⊎◌, ◌-◌, ◌^◌, ◌<◌, ◌≤◌, ℕ, List, [], IfErr, IfOk, IfSome, OnErr, OnOk, length, true, false};
+ghost use Rattle.std.specs.Prelude.{◌≡◌, ◌⊎◌, ◌-◌, ◌*◌, ◌^◌, ◌<◌, ◌≤◌, ℕ, List, [], IfErr, IfOk, IfSome, OnErr, OnOk, length, take, Ok, true, false};
+ghost use Rattle.std.specs.Borrow.{Bor};
 ghost use Rattle.std.specs.Io.KnownBytes.{Appends};
 ghost use Rattle.bao_check.specs.Checked.{IsPiece, piece_claimed, piece_text};
 ghost use Rattle.bao_files.specs.declared.fault.FileFault.TheVariants as FileFault;
@@ -7,14 +8,22 @@ ghost use Rattle.bao_decode.specs.Faults.{IsQuiet, NamesPaths};
 ghost use Rattle.bao_decode.specs.Ranges.{IsCertifiedPart, IsFileFault, IsPartText, certified_range, chunk_range, first_written, last_written, part_len, part_start, written_count};
 
 use crate::fault::DecodeFault;
+use crate::whole::{read_whole_text, whole_len};
 use b3tree::{CHUNK_LEN, Hash, Mode};
 use bao_check::{CheckFault, Checked, check_stream};
 use bao_files::{FileFault, Part, open_file};
 use bao_text::{WriteFault, write_text};
 use std::alloc::Global;
 use std::fs;
+use std::fs::File;
 use std::io::{BufReader, Read, Write};
 use std::rt::Files;
+use std::thread::Threads;
+
+// So many chunks are written at once: few enough to stay in a processor's cache.
+const ROOM_CHUNKS: u64 = 128;
+
+const ROOM_LEN: usize = ROOM_CHUNKS as usize * CHUNK_LEN;
 
 // The slice that is checked: its first byte, and how many it has.
 fn slice_of(part: &Part) -> (u64, u64)
@@ -92,7 +101,8 @@ pub fn read_text<'a, R: Read>(
 
 // The bytes of chunk `i` of the piece at the positions from `first` on, up to and without `last`.
 fn range_of<'a>(piece: &Checked<'a>, first: u64, last: u64, i: u64) -> &'a [u8]
-    ensures { result.now ≡ chunk_range piece.now first last i }
+    ensures range { result.now ≡ chunk_range piece.now first last i }
+    ensures size { length result.now ≤ 1024 }
 {
     match piece.chunk(i) {
         Some(chunk) => {
@@ -105,8 +115,32 @@ fn range_of<'a>(piece: &Checked<'a>, first: u64, last: u64, i: u64) -> &'a [u8]
     }
 }
 
+// Puts what the piece certifies at the positions from `first` on, up to and without `last`, of the chunks from
+// `from` on, up to and without `after`, to the front of the room. Answers how many bytes that is.
+fn fill_room(
+    piece: &Checked<'_>,
+    first: u64,
+    last: u64,
+    from: u64,
+    after: u64,
+    room: &mut [u8],
+) -> usize
+    requires { 1024 * (after - from) ≤ length room.old }
+    ensures size { result ≤ length room.new }
+    ensures bytes { take result room.new ≡ certified_range piece.now first last from (after - from) }
+{
+    let mut filled = 0;
+    'chunks: for i in from..after {
+        let range = range_of(piece, first, last, i);
+        let end = filled + range.len();
+        room[filled..end].copy_from_slice(range);
+        filled = end;
+    }
+    filled
+}
+
 // Writes what the piece certifies at the positions from `first` on, up to and without `last`, to `out`, of
-// the chunks from `from` on, up to and without `after`.
+// the chunks from `from` on, up to and without `after`: many chunks at once.
 fn write_chunks<W: Write>(
     piece: &Checked<'_>,
     first: u64,
@@ -118,8 +152,13 @@ fn write_chunks<W: Write>(
     ensures ok { OnOk result (Appends (W.contents out.old) (W.contents out.new) (certified_range piece.now first last from (after - from))) }
     ensures err { OnErr result (AppendsBeginning (W.contents out.old) (W.contents out.new) (certified_range piece.now first last from (after - from))) }
 {
-    'chunks: for i in from..after {
-        write_text(range_of(piece, first, last, i), out)?;
+    let mut room = [0; ROOM_LEN];
+    let mut next = from;
+    'rooms: while next < after {
+        let end = next.saturating_add(ROOM_CHUNKS).min(after);
+        let filled = fill_room(piece, first, last, next, end, &mut room);
+        write_text(&room[..filled], out)?;
+        next = end;
     }
     Ok(())
 }
@@ -165,12 +204,63 @@ fn write_file<'a, R: Files>(
     }
 }
 
+// A text that was read from the file at `path`, with the fault in the words of the program.
+fn named<'t, 'a>(
+    read: Result<Checked<'t>, CheckFault>,
+    path: &'a str,
+) -> Result<Checked<'t>, DecodeFault<'a>>
+    ensures ok { IfOk result (λ piece. read.entry ≡ Ok piece) }
+    ensures err { IfErr result IsQuiet }
+    ensures paths { (other : Bor (List ℕ)) → IfErr result (NamesPaths path.entry other) }
+{
+    match read {
+        Ok(piece) => Ok(piece),
+        Err(CheckFault::Reader) => Err(DecodeFault::File(FileFault::Read(path))),
+        Err(fault) => Err(DecodeFault::Check(fault)),
+    }
+}
+
+// Reads the text in `input`, the file at `path`, into `text`, which is empty, and checks it as the slice of `len`
+// bytes from byte `start` on. A regular file is read whole. Any other, as a pipe, is read node by node, since it may
+// go on after a fault.
+fn read_input_text<'t, 'a, R: AllocGlobal + Threads + Sync>(
+    rt: &R,
+    mode: &Mode,
+    root: &Hash,
+    start: u64,
+    len: u64,
+    input: File,
+    path: &'a str,
+    text: &'t mut Vec<u8>,
+) -> Result<Checked<'t>, DecodeFault<'a>>
+    requires { text.old.items ≡ [] }
+    ensures piece { IfOk result (λ piece. IsPiece piece mode.now root.now.0 start len (piece_text piece)) }
+    ensures err { IfErr result IsQuiet }
+    ensures paths { (other : Bor (List ℕ)) → IfErr result (NamesPaths path.entry other) }
+{
+    let alloc = rt.alloc();
+    let mut input = input;
+    if let Some(size) = whole_len(alloc, mode, root, start, len, &input) {
+        return named(
+            read_whole_text(rt, mode, root, start, len, &mut input, size, text),
+            path,
+        );
+    }
+    let Ok(mut reader) = BufReader::new(alloc, input) else {
+        return Err(DecodeFault::File(FileFault::Memory));
+    };
+    named(
+        read_text(alloc, mode, root, start, len, &mut reader, text),
+        path,
+    )
+}
+
 /// Checks the text in the file as that of the part of the blob with this root, writes what it certifies to the file at
 /// `path`, made anew once the text is accepted, and answers how many bytes that is.
 ///
 /// Refuses a file that can't be opened or read (`File` with `Read`), a text that is not accepted (`Check`), and an output
 /// that can't be made or written (`File` with `Write`).
-pub fn decode_file<'a, R: Files + AllocGlobal>(
+pub fn decode_file<'a, R: Files<File = File> + AllocGlobal + Threads + Sync>(
     rt: &R,
     mode: &Mode,
     root: &Hash,
@@ -183,15 +273,11 @@ pub fn decode_file<'a, R: Files + AllocGlobal>(
     ensures paths { IfErr result (NamesPaths file.entry path.entry) }
 {
     let input = open_file(rt, file)?;
-    let Ok(mut reader) = BufReader::new(rt.alloc(), input) else {
-        return Err(DecodeFault::File(FileFault::Memory));
-    };
     let mut text = Vec::new(rt.alloc());
     let (start, len) = slice_of(part);
-    let piece = match read_text(rt.alloc(), mode, root, start, len, &mut reader, &mut text) {
+    let piece = match read_input_text(rt, mode, root, start, len, input, file, &mut text) {
         Ok(piece) => piece,
-        Err(CheckFault::Reader) => return Err(DecodeFault::File(FileFault::Read(file))),
-        Err(fault) => return Err(DecodeFault::Check(fault)),
+        Err(fault) => return Err(fault),
     };
     match write_file(rt, &piece, part, path) {
         Ok(count) => Ok(count),

@@ -3,6 +3,8 @@
 
 pub use decode::{decode_file, read_text, write_part};
 pub use fault::DecodeFault;
+pub use whole::read_whole_text;
 
 mod decode;
 mod fault;
+mod whole;

@@ -1,11 +1,13 @@
-use Rattle.std.proofs.Common.{◌≡◌, ℕ, ◌-◌, ◌*◌, min, List, length, take, drop, unwrap_or, [], Some, ◌∙◌, ap, arith}
+use Rattle.std.proofs.Common.{◌≡◌, ℕ, ◌-◌, ◌*◌, ◌≤◌, min, List, length, take, drop, unwrap_or, [], Some, ◌∙◌, ap, sym, arith, length-drop}
+use Rattle.std.proofs.lemmas.List.{length-take-le}
+use Rattle.bao_check.proofs.Certified.{certified}
 use Rattle.bao_check.specs.Checked.{piece_places, piece_text}
 use Rattle.bao_check.specs.Pieces.{chunk_in}
 use Rattle.bao_decode.proofs.Parts.{bounded}
 use Rattle.bao_decode.proofs.decode.range_of.Goals as goal
 
-pub returns-in-Some : goal.returns-in-Some
-returns-in-Some c =
+pub returns-in-Some-clause-range : goal.returns-in-Some-clause-range
+returns-in-Some-clause-range c =
     let piece = c.args.piece.now in
     let chunk : List ℕ = c.in-Some.chunk.now in
     let q : ℕ = c.args.last - 1024 * c.args.i in
@@ -17,3 +19,14 @@ returns-in-Some c =
     ∙ ap (λ s. take (min q (length chunk) - s) (drop s chunk)) start
     ∙ bounded p q chunk
     ∙ ap (λ found. drop p (take q (unwrap_or found []))) found
+
+pub returns-in-Some-clause-size : goal.returns-in-Some-clause-size
+returns-in-Some-clause-size c =
+    let piece = c.args.piece.now in
+    let chunk : List ℕ = c.in-Some.chunk.now in
+    let start : ℕ = c.min-start.result in
+    let found : Some chunk ≡ chunk_in (piece_text piece) (piece_places piece) c.args.i = c.in-Some.ensures.value in
+    let fits : length chunk ≤ 1024 = (certified piece.mode piece.root.0 (piece_text piece) piece.start piece.len piece.accepted c.args.i chunk (sym found)).size in
+    let within : c.min-end.result - start ≤ length (drop start chunk) = omega (arith, length-drop start chunk) in
+    let size : length (take (c.min-end.result - start) (drop start chunk)) ≡ c.min-end.result - start = length-take-le (c.min-end.result - start) (drop start chunk) within in
+    omega (arith, size)
