@@ -218,7 +218,7 @@ RATIOS = [
     ("one thread", LARGE_PIECES, "hash", "at most 1.1"),
     ("one thread", OUTBOARD, HASH_ONE, "at most 1.5"),
     ("several threads", ENCODE, HASH_ONE, "at most 2.2"),
-    ("one thread", DECODE, HASH_ONE, ""),
+    ("several threads", DECODE, HASH_ONE, "at most 3.5"),
     ("one thread", SLICE, SLICE_OF_SIXTEENTH, "about 1: not with the encoding"),
     ("one thread", LARGER_SLICE, SLICE, "about 8: with the slice"),
     ("one thread", CHECK, "hash", "at most 1.1"),
