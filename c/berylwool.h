@@ -5,6 +5,7 @@
  *   - No pointer is null. One beside a length of 0 may be any address that isn't null.
  *   - What is passed as a pointer to non-const goes to one parameter of one call at a time. What is passed as const may be shared.
  *   - Buffers are at most SIZE_MAX / 2 bytes long.
+ *   - The two seats of bw_seat_join and bw_seat_meet come from one bw_store_new, or their stores differ in root, mode or capacity.
  *   - malloc, realloc and free are of one allocator and align to 16.
  *   - No function is called from a signal handler, or in the forked child of a process with threads.
  * A function has no hidden state: calls on different memory may run at once, in any threads. No function starts a thread, waits, takes a
@@ -59,7 +60,8 @@ enum {
     BW_NOT_UTF8 = 1207,      /* the context isn't UTF-8 */
     BW_PAST_OUTPUT = 1208,   /* the output asked for ends above 2^64 - 1 */
     BW_NO_OUTBOARD = 1209,   /* the outboard encoding isn't accepted */
-    BW_NO_CHUNKS = 1210      /* the blob hasn't so many chunks there */
+    BW_NO_CHUNKS = 1210,     /* the blob hasn't so many chunks there */
+    BW_OTHER_STORE = 1211    /* the two seats' stores differ in root, mode or capacity */
 };
 
 /* A status in words. */
@@ -94,6 +96,7 @@ static inline const char *bw_strerror(bw_status status) {
     case BW_PAST_OUTPUT: return "the output asked for ends above 2^64 - 1";
     case BW_NO_OUTBOARD: return "the outboard encoding isn't accepted";
     case BW_NO_CHUNKS: return "the blob hasn't so many chunks there";
+    case BW_OTHER_STORE: return "the seats' stores differ";
     default: return "no status of this library";
     }
 }
@@ -217,6 +220,16 @@ bw_status bw_store_new(const bw_mode *mode, const uint8_t root[BW_AT_LEAST(BW_HA
 /* Another seat of the store, which has seen the same and claims nothing; what `other` owned is freed. BW_SPLIT_MEMORY, BW_MEMORY: `other` is
  * empty then. */
 bw_status bw_seat_split(bw_handle *seat, bw_handle *other);
+
+/* Joins two seats of one store: `seat` has the claims of both, and `other` is empty. The thread that calls has both handles: the other's thread
+ * has ended and was joined, say, or has handed it over. A seat that is freed while it has claims keeps their chunks from all others, so
+ * give them back first, or join it. BW_OTHER_STORE where their stores differ in root, mode or capacity, and so can be told apart; that
+ * stores which are alike in these aren't mixed up is a rule of above. Both handles are as they were then. No memory is taken. */
+bw_status bw_seat_join(bw_handle *seat, bw_handle *other);
+
+/* Lets two seats of one store meet: what either has seen both have seen then. Their claims stay as they are, and no reply of a later call is
+ * another one by it: it is for those who reason about what their seats have seen. BW_OTHER_STORE and the thread as bw_seat_join. */
+bw_status bw_seat_meet(bw_handle *seat, bw_handle *other);
 
 /* Claims the wanted chunks that are neither held nor claimed. BW_NO_GROUP. */
 bw_status bw_seat_take(bw_handle *seat, uint32_t group, uint64_t want, uint64_t *granted);

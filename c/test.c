@@ -137,7 +137,8 @@ static void gathering(const uint8_t *blob, const uint8_t *root, const holder *ho
         committed += workers[k].report.committed;
         parents += workers[k].report.parents;
         WANT(workers[k].report.failed == 0 && workers[k].report.memory == 0 && workers[k].report.too_large == 0);
-        bw_free(&workers[k].seat);
+        WANT(bw_seat_meet(&first, &workers[k].seat) == BW_OK);
+        WANT(bw_seat_join(&first, &workers[k].seat) == BW_OK && workers[k].seat.at == NULL);
     }
     uint64_t chunks = (BLOB_LEN + BW_CHUNK_LEN - 1) / BW_CHUNK_LEN;
     uint8_t *found = room(BLOB_LEN);
@@ -150,6 +151,45 @@ static void gathering(const uint8_t *blob, const uint8_t *root, const holder *ho
     WANT(bw_seat_finish(&first, found, BLOB_LEN, &used) == BW_OK && used == BLOB_LEN && memcmp(found, blob, BLOB_LEN) == 0);
     free(found);
     bw_free(&first);
+}
+
+/* Two seats are joined to one with the claims of both; seats of stores that can be told apart are refused, and stay as they were. */
+static void joining(const uint8_t *root, const holder *good) {
+    static uint8_t slice[2 * GROUP_LEN];
+    bw_handle first = BW_EMPTY, second = BW_EMPTY, alien = BW_EMPTY, hasher = BW_EMPTY;
+    uint8_t another_root[BW_HASH_LEN], out[BW_HASH_LEN];
+    uint64_t mask = 0, at = 0;
+    size_t used = 0;
+    memcpy(another_root, root, sizeof another_root);
+    another_root[31] ^= 1;
+    WANT(bw_seat_join(&first, &second) == BW_NO_HANDLE && bw_seat_meet(&first, &second) == BW_NO_HANDLE);
+    WANT(bw_hasher_new(&plain, &hasher) == BW_OK && bw_store_new(&plain, root, 1024, &first) == BW_OK);
+    WANT(bw_seat_join(&first, &second) == BW_NO_HANDLE && bw_seat_meet(&first, &second) == BW_NO_HANDLE && second.at == NULL);
+    WANT(bw_seat_join(&second, &first) == BW_NO_HANDLE && bw_seat_meet(&second, &first) == BW_NO_HANDLE && second.at == NULL);
+    WANT(bw_seat_join(&first, &hasher) == BW_NO_HANDLE && bw_seat_meet(&first, &hasher) == BW_NO_HANDLE);
+    WANT(bw_seat_join(&hasher, &first) == BW_NO_HANDLE && bw_seat_meet(&hasher, &first) == BW_NO_HANDLE);
+    WANT(bw_hasher_finish(&hasher, out) == BW_OK);
+    WANT(bw_seat_take(&first, 0, 5, &mask) == BW_OK && mask == 5);
+    const bw_mode keyed = {1, {7}};
+    for (int k = 0; k < 3; k++) {
+        WANT(bw_store_new(k == 0 ? &keyed : &plain, k == 1 ? another_root : root, k == 2 ? 1023 : 1024, &alien) == BW_OK);
+        WANT(bw_seat_take(&alien, 1, 9, &mask) == BW_OK && mask == 9);
+        WANT(bw_seat_join(&first, &alien) == BW_OTHER_STORE && bw_seat_meet(&first, &alien) == BW_OTHER_STORE);
+        WANT(bw_seat_join(&alien, &first) == BW_OTHER_STORE && bw_seat_meet(&alien, &first) == BW_OTHER_STORE);
+        WANT(bw_seat_give(&alien, 1, UINT64_MAX, &mask) == BW_OK && mask == 9);
+    }
+    WANT(bw_seat_split(&first, &second) == BW_OK);
+    WANT(bw_seat_take(&second, 0, UINT64_MAX, &mask) == BW_OK && mask == UINT64_MAX - 5);
+    WANT(bw_seat_meet(&first, &second) == BW_OK && bw_seat_meet(&second, &first) == BW_OK);
+    WANT(bw_seat_give(&second, 0, 4, &mask) == BW_OK && mask == 0);
+    WANT(bw_seat_join(&first, &second) == BW_OK && second.at == NULL);
+    WANT(bw_cut_slice(good->text, good->len, 0, GROUP_LEN, slice, sizeof slice, &used) == BW_OK);
+    WANT(bw_seat_commit(&first, 0, 0, GROUP_LEN, slice, used, &mask, &at) == BW_OK && mask == UINT64_MAX);
+    /* The store is there until its last seat is freed, which may be one that was joined to the other way round. */
+    WANT(bw_seat_split(&first, &second) == BW_OK && bw_seat_join(&second, &first) == BW_OK && first.at == NULL);
+    WANT(bw_seat_read(&second, GROUP_LEN - 1, out, 1, &at) == BW_OK);
+    WANT(strcmp(bw_strerror(BW_OTHER_STORE), bw_strerror(1)) != 0);
+    bw_free(&first), bw_free(&second), bw_free(&alien), bw_free(&hasher);
 }
 
 /* Each row in one piece and in two, as hash and as output. */
@@ -280,6 +320,7 @@ int main(void) {
     rows();
     hashes(blob, BLOB_LEN, root);
     texts(blob, root, &holders[0]);
+    joining(root, &holders[0]);
 
     /* Two are damaged: one in 40 bytes all over it, and one in its second half. */
     for (size_t i = 1; i <= 40; i++) holders[1].text[holders[1].len / 41 * i] ^= 4;

@@ -16,6 +16,7 @@ import sys
 import tempfile
 
 GROUP_LEN = 64 * 1024
+OTHER_STORE = 1211
 
 size, u32, u64 = ctypes.c_size_t, ctypes.c_uint32, ctypes.c_uint64
 data, hash_ = ctypes.c_char_p, ctypes.c_uint8 * 32
@@ -47,6 +48,7 @@ FUNCTIONS = {
     "bw_check_slice": (u32, mode, hash_, u64, u64, data, size, place),
     "bw_store_new": (u32, mode, hash_, u32, handle),
     "bw_seat_split": (u32, handle, handle),
+    "bw_seat_join": (u32, handle, handle),
     "bw_seat_take": (u32, handle, u32, u64, place),
     "bw_seat_give": (u32, handle, u32, u64, place),
     "bw_seat_commit": (u32, handle, u32, u64, u64, data, size, place, place),
@@ -114,6 +116,7 @@ class Seat:
 
     def __init__(self, library: Library, root: "bytes | None" = None, capacity: int = 0):
         self.library, self.handle = library, Handle()
+        self.store = object()  # the same for the seats of one store alone
         if root is not None:
             must(library.calls.bw_store_new(library.plain, hash_(*root), capacity, self.handle))
 
@@ -123,7 +126,14 @@ class Seat:
     def split(self) -> "Seat":
         other = Seat(self.library)
         must(self.library.calls.bw_seat_split(self.handle, other.handle))
+        other.store = self.store
         return other
+
+    def join(self, other: "Seat") -> None:
+        """Takes in another seat of the store with its claims: that one is empty then."""
+        if other is self or other.store is not self.store:
+            raise Fault(OTHER_STORE)
+        must(self.library.calls.bw_seat_join(self.handle, other.handle))
 
     def settle(self, encoding: bytes) -> int:
         """Records the length by the last chunk of a combined encoding, and answers it."""
@@ -202,6 +212,10 @@ def main(path: str, mirror: str) -> None:
         thread.start()
     for thread in threads:
         thread.join()
+    for seat in seats:
+        first.join(seat)
+    want(status_of(first.join, seats[0]) == 1202, "a seat is joined once")
+    want(status_of(first.join, Seat(library, root, 1024)) == OTHER_STORE, "seats of two stores aren't joined")
     want(first.finish(len(blob)) == blob, "the blob is gathered")
     want(first.serve_slice(0, 2**64 - 1, len(text)) == text, "the encoding is served")
     with tempfile.TemporaryDirectory() as folder:

@@ -2,6 +2,7 @@
 //!
 //! rustc --edition 2021 -L FOLDER_OF_THE_ARCHIVE c/examples/berylwool.rs
 use std::ptr;
+use std::sync::Arc;
 
 #[repr(C)]
 pub struct Mode {
@@ -31,6 +32,7 @@ unsafe extern "C" {
     fn bw_check_slice(mode: &Mode, root: &[u8; 32], start: u64, len: u64, text: *const u8, text_len: usize, at: &mut u64) -> u32;
     fn bw_store_new(mode: &Mode, root: &[u8; 32], capacity: u32, seat: &mut Handle) -> u32;
     fn bw_seat_split(seat: &mut Handle, other: &mut Handle) -> u32;
+    fn bw_seat_join(seat: &mut Handle, other: &mut Handle) -> u32;
     fn bw_seat_take(seat: &mut Handle, group: u32, want: u64, granted: &mut u64) -> u32;
     fn bw_seat_commit(seat: &mut Handle, group: u32, start: u64, len: u64, text: *const u8, text_len: usize, committed: &mut u64, at: &mut u64) -> u32;
     fn bw_seat_commit_parents(seat: &mut Handle, group: u32, start: u64, len: u64, text: *const u8, text_len: usize, stored: &mut u64, at: &mut u64) -> u32;
@@ -98,54 +100,73 @@ impl<'a> Checked<'a> {
 }
 
 /// A seat of a store that threads share. It goes to another thread, and is used by one at a time: `Send`, not `Sync`.
-pub struct Seat(Handle);
+pub struct Seat {
+    handle: Handle,
+    /// One for the seats of one store alone.
+    store: Arc<()>,
+}
 
 unsafe impl Send for Seat {}
 
+const OTHER_STORE: u32 = 1211;
+
 impl Seat {
+    fn empty(store: Arc<()>) -> Seat {
+        Seat { handle: Handle { at: ptr::null_mut() }, store }
+    }
+
     pub fn new(mode: &Mode, root: &[u8; 32], capacity: u32) -> Result<Seat, Fault> {
-        let mut seat = Seat(Handle { at: ptr::null_mut() });
-        told(unsafe { bw_store_new(mode, root, capacity, &mut seat.0) }, 0)?;
+        let mut seat = Seat::empty(Arc::new(()));
+        told(unsafe { bw_store_new(mode, root, capacity, &mut seat.handle) }, 0)?;
         Ok(seat)
     }
 
     pub fn split(&mut self) -> Result<Seat, Fault> {
-        let mut other = Seat(Handle { at: ptr::null_mut() });
-        told(unsafe { bw_seat_split(&mut self.0, &mut other.0) }, 0)?;
+        let mut other = Seat::empty(self.store.clone());
+        told(unsafe { bw_seat_split(&mut self.handle, &mut other.handle) }, 0)?;
         Ok(other)
+    }
+
+    /// Takes in another seat of the store with its claims. A seat of another store is freed, and refused with status 1211.
+    pub fn join(&mut self, mut other: Seat) -> Result<(), Fault> {
+        // The library asks its caller for this.
+        if !Arc::ptr_eq(&self.store, &other.store) {
+            return told(OTHER_STORE, 0);
+        }
+        told(unsafe { bw_seat_join(&mut self.handle, &mut other.handle) }, 0)
     }
 
     pub fn take(&mut self, group: u32, want: u64) -> Result<u64, Fault> {
         let mut granted = 0;
-        told(unsafe { bw_seat_take(&mut self.0, group, want, &mut granted) }, 0)?;
+        told(unsafe { bw_seat_take(&mut self.handle, group, want, &mut granted) }, 0)?;
         Ok(granted)
     }
 
     /// Stores the chunks of the group that the seat claims and the text has, and the text's parents there.
     pub fn commit(&mut self, group: u32, start: u64, len: u64, text: &[u8]) -> Result<u64, Fault> {
         let (mut committed, mut stored, mut at) = (0, 0, 0);
-        let status = unsafe { bw_seat_commit(&mut self.0, group, start, len, text.as_ptr(), text.len(), &mut committed, &mut at) };
+        let status = unsafe { bw_seat_commit(&mut self.handle, group, start, len, text.as_ptr(), text.len(), &mut committed, &mut at) };
         told(status, at)?;
-        let status = unsafe { bw_seat_commit_parents(&mut self.0, group, start, len, text.as_ptr(), text.len(), &mut stored, &mut at) };
+        let status = unsafe { bw_seat_commit_parents(&mut self.handle, group, start, len, text.as_ptr(), text.len(), &mut stored, &mut at) };
         told(status, at)?;
         Ok(committed)
     }
 
     pub fn settle(&mut self, text: &[u8]) -> Result<(), Fault> {
         let mut at = 0;
-        let status = unsafe { bw_seat_settle(&mut self.0, text.as_ptr(), text.len(), &mut at) };
+        let status = unsafe { bw_seat_settle(&mut self.handle, text.as_ptr(), text.len(), &mut at) };
         told(status, at)
     }
 
     pub fn read(&mut self, from: u64, out: &mut [u8]) -> Result<(), Fault> {
         let mut missing = 0;
-        let status = unsafe { bw_seat_read(&mut self.0, from, out.as_mut_ptr(), out.len(), &mut missing) };
+        let status = unsafe { bw_seat_read(&mut self.handle, from, out.as_mut_ptr(), out.len(), &mut missing) };
         told(status, missing)
     }
 
     pub fn serve_slice(&mut self, start: u64, len: u64, out: &mut Vec<u8>) -> Result<(), Fault> {
         let (mut used, mut lacking) = (0, Node::default());
-        let status = unsafe { bw_seat_serve_slice(&mut self.0, start, len, out.as_mut_ptr(), out.len(), &mut used, &mut lacking) };
+        let status = unsafe { bw_seat_serve_slice(&mut self.handle, start, len, out.as_mut_ptr(), out.len(), &mut used, &mut lacking) };
         told(status, lacking.number)?;
         out.truncate(used);
         Ok(())
@@ -153,14 +174,14 @@ impl Seat {
 
     pub fn finish(&mut self, out: &mut [u8]) -> Result<usize, Fault> {
         let mut used = 0;
-        told(unsafe { bw_seat_finish(&mut self.0, out.as_mut_ptr(), out.len(), &mut used) }, 0)?;
+        told(unsafe { bw_seat_finish(&mut self.handle, out.as_mut_ptr(), out.len(), &mut used) }, 0)?;
         Ok(used)
     }
 }
 
 impl Drop for Seat {
     fn drop(&mut self) {
-        unsafe { bw_free(&mut self.0) }
+        unsafe { bw_free(&mut self.handle) }
     }
 }
 
@@ -178,8 +199,8 @@ fn main() {
     let mut first = Seat::new(&PLAIN, &root, 1024).unwrap();
     assert_eq!(first.read(5, &mut [0]), Err(Fault { status: 1204, at: 5 }));
     first.settle(&cut_slice(&text, u64::MAX, 1).unwrap()).unwrap();
-    std::thread::scope(|scope| {
-        for _ in 0..4 {
+    let seats = std::thread::scope(|scope| {
+        let threads = [0; 4].map(|_| {
             let mut seat = first.split().unwrap();
             let texts = [&bad, &text];
             scope.spawn(move || {
@@ -195,9 +216,16 @@ fn main() {
                         }
                     }
                 }
-            });
-        }
+                seat
+            })
+        });
+        threads.map(|it| it.join().unwrap())
     });
+    for seat in seats {
+        first.join(seat).unwrap();
+    }
+    let alien = Seat::new(&PLAIN, &root, 1024).unwrap();
+    assert_eq!(first.join(alien), Err(Fault { status: OTHER_STORE, at: 0 }));
     let mut served = vec![0; text.len()];
     first.serve_slice(0, u64::MAX, &mut served).unwrap();
     assert!(served == text);

@@ -15,7 +15,7 @@ use Rattle.store_calls.specs.Reading.{DidRead, ReadBinds}
 use Rattle.store_calls.specs.Serving.{SliceBinds}
 use Rattle.store_shared.specs.declared.assembly.Assembly.{Assembly}
 use Rattle.store_shared.specs.Seats.{Gripped, fixed_of}
-use Rattle.store_core.specs.Knowledge.{Called}
+use Rattle.store_core.specs.Knowledge.{AreMet, Called, KeepsClaims, NoneIsClaimedByBoth}
 use Rattle.berylwool.specs.Status.{IsRefused}
 
 -- the piece that a text is as the slice of `len` bytes from byte `start` on
@@ -58,3 +58,11 @@ pub record Serves (start len : ℕ) (text : List ℕ) (old new : Gripped) : Type
 -- the bytes have the root of the store
 abbrev pub HasRoot : Fixed → List ℕ → Type 0
 HasRoot fixed bytes = hash fixed.mode bytes ≡ fixed.root.0
+
+-- Two seats have met: both have seen one history, and claim what they claimed, of which no chunk is claimed by both.
+pub record HaveMet (first second first' second' : Gripped) : Type 0 where
+  pub met : AreMet first.view second.view first'.view second'.view
+  pub first_keeps : KeepsClaims first.view first'.view
+  pub second_keeps : KeepsClaims second.view second'.view
+  pub apart : NoneIsClaimedByBoth first'.view second'.view
+  pub were_apart : NoneIsClaimedByBoth first.view second.view

@@ -7,7 +7,7 @@ use Rattle.std_alloc.specs.Box.Ownership.{box_owns}
 use Rattle.b3tree.specs.declared.mode.Mode.{Mode}
 use Rattle.b3tree.specs.Taken.{Holds}
 use Rattle.store_shared.specs.declared.assembly.Assembly.{Assembly}
-use Rattle.store_shared.specs.Seats.{Gripped, IsSeatOf}
+use Rattle.store_shared.specs.Seats.{Gripped, IsSeatOf, fixed_of}
 use Rattle.berylwool.specs.declared.held.Held.{Held}
 use Rattle.berylwool.specs.declared.held.Held.TheVariants.{Gone, Hasher, Seat}
 use Rattle.berylwool.specs.contracts.held.Held.{the_row}
@@ -47,6 +47,22 @@ HasSeat so None = ⊥
 HasSeat so (Some (Hasher hasher)) = ⊥
 HasSeat so (Some (Seat seated)) = so (arc_value seated.store) seated.seat
 HasSeat so (Some Gone) = ⊥
+
+-- both handles have a seat
+abbrev pub HaveSeats : Option Held → Option Held → Type 0
+HaveSeats first second = HasSeat (λ _ _. HasSeat (λ _ _. Unit) second) first
+
+-- their stores have one root, mode and capacity
+abbrev pub AreAlike : Option Held → Option Held → Type 0
+AreAlike first second = HasSeat (λ store _. HasSeat (λ other _. fixed_of store ≡ fixed_of other) second) first
+
+-- or they don't
+abbrev pub AreUnlike : Option Held → Option Held → Type 0
+AreUnlike first second = HasSeat (λ store _. HasSeat (λ other _. ¬ (fixed_of store ≡ fixed_of other)) second) first
+
+-- both have a seat of one store
+abbrev pub AreOfOneStore : Option Held → Option Held → Type 0
+AreOfOneStore first second = HasSeat (λ store _. HasSeat (λ other _. other ≡ store) second) first
 
 -- of a seat of one store, before and after a call, this is so
 abbrev pub OneSeat : (Assembly → Gripped → Gripped → Type 0) → Held → Held → Type 0

@@ -11,6 +11,7 @@ mod handle;
 mod hasher;
 mod hashing;
 mod held;
+mod joining;
 mod loose;
 mod mode;
 mod room;

@@ -41,3 +41,6 @@ pub(crate) const NO_OUTBOARD: u32 = 1209;
 
 /// The blob hasn't so many chunks there. Number 1210.
 pub(crate) const NO_CHUNKS: u32 = 1210;
+
+/// The stores of two handles differ in root, mode or capacity. Number 1211.
+pub(crate) const OTHER_STORE: u32 = 1211;

@@ -1,0 +1,151 @@
+ghost use Rattle.std.specs.Prelude.{◌≡◌, ◌≢◌, ◌↔◌, IsTrue, None};
+ghost use Rattle.store_shared.specs.Seats.{IsSeatOf, fixed_of};
+ghost use Rattle.store_core.specs.Knowledge.{IsMerged};
+ghost use Rattle.berylwool.specs.Calls.{HaveMet};
+ghost use Rattle.berylwool.specs.Handles.{AreAlike, AreOfOneStore, AreUnlike, HasSeat, HaveSeats, SeatDid, SeatParts};
+
+use crate::handle::{BwHandle, put, take};
+use crate::held::{Held, Seated};
+use crate::status::{NO_HANDLE, OTHER_STORE};
+use std::alloc::Global;
+use std::mem;
+use store_core::Fixed;
+use store_shared::{Assembly, Seat};
+
+// What of a store never changes.
+fn fixed(store: &Assembly) -> Fixed
+    ensures { result ≡ fixed_of store.now }
+{
+    Fixed {
+        root: store.root(),
+        mode: store.mode(),
+        capacity: store.capacity(),
+    }
+}
+
+// Whether two stores have one root, mode and capacity.
+fn are_alike(one: &Assembly, other: &Assembly) -> bool
+    ensures { IsTrue result ↔ (fixed_of one.now ≡ fixed_of other.now) }
+{
+    let fixed = fixed(one);
+    if fixed.capacity != other.capacity() {
+        return false;
+    }
+    fixed.is_of(&other.root(), &other.mode())
+}
+
+/// Joins two seats of one store to one, which `seat` has then, with the claims and the calls of both; `other` is
+/// empty then. What the seat has seen begins with what each had seen. It takes no memory.
+///
+/// 1211 exactly where the stores of the two differ in root, mode or capacity, and 1202 exactly where a handle has no
+/// seat: both handles are as they were. That two stores which are alike in these aren't taken for one is the
+/// caller's duty.
+#[unsafe(no_mangle)]
+pub extern "C" fn bw_seat_join(alloc: Global, seat: &mut BwHandle, other: &mut BwHandle) -> u32
+    requires one_store { AreAlike seat.old.held other.old.held → AreOfOneStore seat.old.held other.old.held }
+    ensures merged { result ≡ 0 → SeatParts (λ joined first second. IsMerged first.view second.view joined.view) seat.new.held seat.old.held other.old.held }
+    ensures empty { result ≡ 0 → other.new.held ≡ None }
+    ensures no_seat { result ≡ 1202 ↔ (¬ HaveSeats seat.old.held other.old.held) }
+    ensures other_store { result ≡ 1211 ↔ AreUnlike seat.old.held other.old.held }
+    ensures status { result ≢ 0 → result ≢ 1202 → result ≡ 1211 }
+    ensures same { result ≢ 0 → seat.new.held ≡ seat.old.held }
+    ensures other_same { result ≢ 0 → other.new.held ≡ other.old.held }
+{
+    let Some(mut held) = take(seat, alloc) else {
+        return NO_HANDLE;
+    };
+    let Some(mut others) = take(other, alloc) else {
+        put(seat, held);
+        return NO_HANDLE;
+    };
+    let status = match mem::replace(&mut *held, Held::Gone) {
+        Held::Seat(Seated { store, seat: first }) => match mem::replace(&mut *others, Held::Gone) {
+            Held::Seat(
+                Seated {
+                    store: its,
+                    seat: second,
+                },
+            ) => {
+                if are_alike(&store, &its) {
+                    let seat_of_both = store.join(first, second);
+                    *held = Held::Seat(Seated {
+                        store,
+                        seat: seat_of_both,
+                    });
+                    put(seat, held);
+                    return 0;
+                }
+                *held = Held::Seat(Seated { store, seat: first });
+                *others = Held::Seat(Seated {
+                    store: its,
+                    seat: second,
+                });
+                OTHER_STORE
+            }
+            kept => {
+                *held = Held::Seat(Seated { store, seat: first });
+                *others = kept;
+                NO_HANDLE
+            }
+        },
+        kept => {
+            *held = kept;
+            NO_HANDLE
+        }
+    };
+    put(seat, held);
+    put(other, others);
+    status
+}
+
+// Lets two seats meet, as `bw_seat_meet` does.
+fn met(store: &Assembly, seat: &mut Seat, its: &Assembly, other: &mut Seat) -> u32
+    requires of { IsSeatOf store.now seat.old }
+    requires other_of { IsSeatOf its.now other.old }
+    requires one_store { (fixed_of store.now ≡ fixed_of its.now) → its.now ≡ store.now }
+    ensures of { IsSeatOf store.now seat.new }
+    ensures other_of { IsSeatOf its.now other.new }
+    ensures met { result ≡ 0 → HaveMet seat.old other.old seat.new other.new }
+    ensures alike { result ≡ 0 ↔ (fixed_of store.now ≡ fixed_of its.now) }
+    ensures status { result ≢ 0 → result ≡ 1211 }
+    ensures same { result ≢ 0 → (seat.new ≡ seat.old) × (other.new ≡ other.old) }
+{
+    if !are_alike(store, its) {
+        return OTHER_STORE;
+    }
+    store.meet(seat, other);
+    0
+}
+
+/// Lets two seats of one store meet: afterwards both have seen one history, which begins with what each had seen.
+/// Their calls and claims stay as they are, and no chunk is claimed by both. It takes no memory.
+///
+/// 1211 and 1202 as `bw_seat_join`, with its caller's duty.
+#[unsafe(no_mangle)]
+pub extern "C" fn bw_seat_meet(alloc: Global, seat: &mut BwHandle, other: &mut BwHandle) -> u32
+    requires one_store { AreAlike seat.old.held other.old.held → AreOfOneStore seat.old.held other.old.held }
+    ensures met { result ≡ 0 → SeatDid (λ _ old new. SeatDid (λ _ its_old its_new. HaveMet old its_old new its_new) other.old.held other.new.held) seat.old.held seat.new.held }
+    ensures no_seat { result ≡ 1202 ↔ (¬ HaveSeats seat.old.held other.old.held) }
+    ensures other_store { result ≡ 1211 ↔ AreUnlike seat.old.held other.old.held }
+    ensures status { result ≢ 0 → result ≢ 1202 → result ≡ 1211 }
+    ensures same { result ≢ 0 → seat.new.held ≡ seat.old.held }
+    ensures other_same { result ≢ 0 → other.new.held ≡ other.old.held }
+{
+    let Some(mut held) = take(seat, alloc) else {
+        return NO_HANDLE;
+    };
+    let Some(mut others) = take(other, alloc) else {
+        put(seat, held);
+        return NO_HANDLE;
+    };
+    let status = match &mut *held {
+        Held::Seat(one) => match &mut *others {
+            Held::Seat(two) => met(&one.store, &mut one.seat, &two.store, &mut two.seat),
+            Held::Hasher(_) | Held::Gone => NO_HANDLE,
+        },
+        Held::Hasher(_) | Held::Gone => NO_HANDLE,
+    };
+    put(seat, held);
+    put(other, others);
+    status
+}
