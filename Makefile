@@ -38,7 +38,7 @@ help:
 	@echo 'make c-test               holds c/berylwool.h to the sources, and runs the C tests, under what is installed of sanitizers, valgrind, clang and rustc'
 	@echo 'make c-bench              measures calls of the C library in one thread, and prints their times'
 	@echo 'make bench                measures times and prints them with their ratios, beside b3sum where it is installed'
-	@echo 'make refuse               runs each task where holders lie, and with one allocation, read, write or other call failing after another (needs cc)'
+	@echo 'make refuse               runs the tests of the libraries with one allocation refused after another, and each task where holders lie, and with one allocation, read, write or other call failing after another (needs cc and binutils)'
 	@echo 'make stress               runs the tests that start threads 200 times, many at once'
 	@echo 'make fmt                  lays out the files of each crate'
 	@echo 'CPU=x86-64 or CPU=x86-64-v3 picks the processor level, which is $(CPU) if left out; JOBS=N is the number of jobs of a proof, or of wrong bodies at a time'
@@ -73,6 +73,7 @@ test:
 	@python3 scripts/wrong_bodies.py --read
 	rt ci
 	@python3 scripts/docs.py crates/bao_gather/out/bao_gather
+	@python3 scripts/refuse_libraries.py
 	@python3 scripts/refuse.py crates/bao_gather/out/bao_gather
 
 wrong-bodies:
@@ -88,6 +89,7 @@ bench: out/bao_gather out/bench
 	@python3 scripts/bench.py
 
 refuse: out/bao_gather
+	@python3 scripts/refuse_libraries.py
 	@python3 scripts/refuse.py
 
 stress:
