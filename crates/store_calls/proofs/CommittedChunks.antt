@@ -1,5 +1,5 @@
 -- Which chunks a commit stores.
-use Rattle.std.proofs.Common.{◌≡◌, ◌↔◌, ℕ, ◌+◌, ◌-◌, ◌*◌, ◌%◌, ◌^◌, ◌<◌, ◌≤◌, min, nat_lt, Bool, true, false, not, ◌&&◌, List, Option, None, Some, is_some, IsSome, Bor, refl, sym, ap, ◌∙◌, arith, inl, inr}
+use Rattle.std.proofs.Common.{◌≡◌, ◌↔◌, ℕ, ◌+◌, ◌*◌, ◌%◌, ◌<◌, ◌≤◌, nat_lt, Bool, true, false, not, ◌&&◌, List, Option, None, Some, is_some, IsSome, Bor, refl, sym, ap, ◌∙◌, arith, inl, inr}
 use Rattle.std.specs.Int.{w64, bit_not}
 use Rattle.std.specs.Int.Bits.{bit_and}
 use Rattle.std.specs.Option.{option_copied}

@@ -1,4 +1,4 @@
-use Rattle.std.proofs.Common.{◌≡◌, ℕ, subst, arith}
+use Rattle.std.proofs.Common.{◌≡◌, ℕ, nat_lt, subst, arith}
 use Rattle.store_core.specs.Masks.{IsMaskOf}
 use Rattle.store_core.specs.Pieces.{holds_parent, piece_of}
 use Rattle.store_core.proofs.Choosing.{parents_marked}
@@ -12,4 +12,7 @@ returns c =
     let marked : IsMaskOf c.args.group c.parents_of.result (λ m. holds_parent (piece_of piece) m) =
     subst (λ (g : ℕ). IsMaskOf g c.parents_of.result (λ m. holds_parent (piece_of piece) m)) group
     (parents_marked piece c.from-2.result c.parents_of.result c.parents_of.type_inv c.parents_of.ensures) in
-    below_capacity c.args.group c.args.capacity c.mask_below.result c.parents_of.result (piece_of piece) c.mask_below.ensures marked
+    let capacity : c.from.result ≡ c.args.capacity = omega arith in
+    let below : IsMaskOf c.args.group c.mask_below.result (λ m. nat_lt m c.args.capacity) =
+    subst (λ (end : ℕ). IsMaskOf c.args.group c.mask_below.result (λ m. nat_lt m end)) capacity c.mask_below.ensures in
+    below_capacity c.args.group c.args.capacity c.mask_below.result c.parents_of.result (piece_of piece) below marked
