@@ -8,6 +8,7 @@ use b3tree::{CHUNK_LEN, Hash, Mode};
 use bao_check::{CheckFault, Checked, check_slice};
 use bao_files::{ReadFault, read_sized};
 use bao_join::check_slice_join;
+use bao_text::encoded_len;
 use std::alloc::Global;
 use std::fs::OpenFile;
 use std::io::Read;
@@ -71,7 +72,7 @@ pub fn read_whole_text<'a, R: Threads + Sync, I: Read>(
     }
 }
 
-// Whether the text is refused for what the source begins with: then no more of it needs to be read.
+// Whether a text of `size` bytes is refused for what the source begins with: then no more of it needs to be read.
 fn is_refused_early<S: Source>(
     alloc: Global,
     mode: &Mode,
@@ -79,11 +80,18 @@ fn is_refused_early<S: Source>(
     start: u64,
     len: u64,
     source: &S,
+    size: u64,
 ) -> bool {
     let mut first = [0; FIRST_LEN];
     let Ok(count) = source.read_at(&mut first, 0) else {
         return false;
     };
+    let claimed = u64::from_le_bytes([
+        first[0], first[1], first[2], first[3], first[4], first[5], first[6], first[7],
+    ]);
+    if u128::from(size) > encoded_len(claimed) {
+        return true;
+    }
     match check_slice(alloc, mode, root, start, len, &first[..count]) {
         Err(CheckFault::Mismatch { .. }) | Err(CheckFault::Trailing { .. }) => true,
         _ => false,
@@ -104,7 +112,7 @@ pub(crate) fn whole_len<F: OpenFile + Source>(
     if !metadata.is_file() {
         return None;
     }
-    if size > FIRST_LEN as u64 && is_refused_early(alloc, mode, root, start, len, file) {
+    if size > FIRST_LEN as u64 && is_refused_early(alloc, mode, root, start, len, file, size) {
         return None;
     }
     Some(size)
