@@ -1,8 +1,8 @@
 -- What a seat with which all others were joined knows of its store.
-use Rattle.std.proofs.Common.{◌≡◌, ◌⊎◌, ℕ, ◌+◌, ◌/◌, ◌%◌, ◌<◌, ◌==◌, true, false, not, ◌&&◌, ◌||◌, List, [], ◌∷◌, ◌++◌, append-nil, map, Contains, Err, IfOk, MatchResult, Ok, OnErr, Result, is_ok, is_some, refl, sym, ap, subst, ◌∙◌, arith, inl, inr, eq-eqb, eqb-true, lt-ltb}
+use Rattle.std.proofs.Common.{◌≡◌, ◌⊎◌, ℕ, ◌/◌, ◌%◌, ◌<◌, ◌==◌, true, false, not, ◌&&◌, ◌||◌, List, [], ◌∷◌, ◌++◌, append-nil, map, Contains, Err, IfOk, MatchResult, Ok, OnErr, Result, is_ok, is_some, refl, sym, ap, subst, ◌∙◌, inl, inr, eq-eqb, eqb-true, lt-ltb}
 use Rattle.std.proofs.lemmas.Bool.{and_from, and_parts, both_ways, cases_Bool, or_left}
 use Rattle.std.proofs.lemmas.List.Elements.{Contains-append_cases, Contains-append_left, Contains-append_right}
-use Rattle.bao_check.proofs.Lists.{All-member, Contains-cons_cases, Contains-head, Contains-tail}
+use Rattle.bao_check.proofs.Lists.{All-member, Contains-head, Contains-tail}
 use Rattle.crews.specs.Lasting.{Claims, HoldsOn, IsAlone}
 use Rattle.crews.specs.Seats.{GoneOn, claims_of, fixed_of}
 use Rattle.crews.specs.Going.{goes}
@@ -26,7 +26,7 @@ use Rattle.store_core.specs.Masks.{has_bit, in_mask}
 use Rattle.store_core.specs.Names.{Name, has_name, least_name}
 use Rattle.store_core.specs.Pieces.{holds_chunk}
 use Rattle.store_core.specs.States.{State, claims, empty, is_among, is_claimed, is_held}
-use Rattle.store_core.specs.Views.{mine, names_of, seat_claims}
+use Rattle.store_core.specs.Views.{mine, names_of}
 use Rattle.store_core.proofs.Lasting.{claims_last, held_lasts, legal-append, others_parts, run-append}
 use Rattle.store_core.proofs.Tells.{same_name-refl}
 use Rattle.store_shared.specs.declared.fault.NoGroup.{NoGroup}

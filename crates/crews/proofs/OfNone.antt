@@ -1,5 +1,5 @@
 -- What several workers over texts leave.
-use Rattle.std.proofs.Common.{◌≡◌, ◌<◌, get_or, length, map, nat_lt, inl, inr, subst, ℕ, List, Bool, true, false, refl, if◌then◌else◌}
+use Rattle.std.proofs.Common.{◌≡◌, ◌<◌, get_or, length, map, nat_lt, subst, ℕ, List, Bool, true, false, refl, if◌then◌else◌}
 use Rattle.gather.specs.declared.report.Report.{Report}
 use Rattle.gather.specs.declared.texts.GatherFault.TheVariants.{Starved, TooLarge, Unfinished}
 use Rattle.gather.specs.Faults.{cause_of}

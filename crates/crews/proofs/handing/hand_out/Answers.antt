@@ -1,4 +1,4 @@
-use Rattle.std.proofs.Common.{◌≡◌, ◌⊎◌, Err, IsTrue, List, ℕ, false, true, IfOk, Result, Vec, arith, map, ap, refl, sym, subst, ◌∙◌, inl, inr, nat_lt}
+use Rattle.std.proofs.Common.{◌≡◌, List, ℕ, IfOk, Result, Vec, arith, map, ap, refl, sym, subst, ◌∙◌, inl, inr}
 use Rattle.std.specs.Prelude.{IsErrOf, vec_items}
 use Rattle.b3tree.specs.declared.mode.Mode.{Mode}
 use Rattle.b3tree.specs.Valid.{IsKeyed}

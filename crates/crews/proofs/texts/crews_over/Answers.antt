@@ -1,4 +1,4 @@
-use Rattle.std.proofs.Common.{◌≡◌, ◌+◌, Bool, true, if◌then◌else◌, is_ok, List, [], ◌∷◌, ◌++◌, map, sym, ap, subst, ◌∙◌, arith}
+use Rattle.std.proofs.Common.{◌≡◌, Bool, true, if◌then◌else◌, is_ok, List, [], ◌∷◌, ◌++◌, map, sym, ap, subst, ◌∙◌, arith}
 use Rattle.std.proofs.lemmas.Grind.{common_steps}
 use Rattle.std.proofs.lemmas.List.Elements.{All-push}
 use Rattle.std.specs.List.{All}
