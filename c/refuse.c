@@ -1,28 +1,77 @@
 /* From the Nth request on memory is refused, for each N until none is: every call answers a status of memory then, and leaves what it had
- * as it was. To be linked with -Wl,--wrap=malloc. It prints nothing and exits with 0, or with the line that failed. */
+ * as it was; a worker's round, of which the Nth request alone is refused too, counts it. To be linked with -Wl,--wrap=malloc,--wrap=realloc.
+ * It prints nothing and exits with 0, or says which line failed. */
 #include "berylwool.h"
 
+#include <stdio.h>
 #include <stdlib.h>
 #include <string.h>
 
+/* How many requests are granted yet, or -1 for all; and whether all are after one was refused. */
 static long left = -1;
+static int once = 0;
 
 void *__real_malloc(size_t len);
+void *__real_realloc(void *at, size_t len);
 void *__wrap_malloc(size_t len);
+void *__wrap_realloc(void *at, size_t len);
 
-void *__wrap_malloc(size_t len) {
-    if (left == 0) return NULL;
+static int refuses(void) {
+    if (left == 0) {
+        if (once) left = -1;
+        return 1;
+    }
     if (left > 0) left--;
-    return __real_malloc(len);
+    return 0;
 }
 
-#define WANT(test)                    \
-    do {                              \
-        if (!(test)) exit(__LINE__);  \
+void *__wrap_malloc(size_t len) {
+    return refuses() ? NULL : __real_malloc(len);
+}
+
+void *__wrap_realloc(void *at, size_t len) {
+    return refuses() ? NULL : __real_realloc(at, len);
+}
+
+#define WANT(test)                                                                   \
+    do {                                                                             \
+        if (!(test)) {                                                               \
+            left = -1;                                                               \
+            fprintf(stderr, "refuse.c:%d: this is not so: %s\n", __LINE__, #test);   \
+            exit(1);                                                                 \
+        }                                                                            \
     } while (0)
 
+static const bw_mode plain = {0, {0}};
+
+/* One worker's round over a blob's encoding, in which memory is refused from request `n` on, or at that request alone; then another one, in
+ * which it isn't. Answers whether memory was refused. */
+static int gathers(const uint8_t *root, const uint8_t *blob, size_t blob_len, const uint8_t *text, size_t text_len, long n, int alone) {
+    static uint8_t found[80000];
+    uint64_t chunks = (blob_len + BW_CHUNK_LEN - 1) / BW_CHUNK_LEN;
+    bw_handle seat = BW_EMPTY;
+    bw_report report = {0, 0, 0, 0, 0, 0, 0};
+    size_t used = 0;
+    WANT(bw_store_new(&plain, root, 100, &seat) == BW_OK);
+    left = n, once = alone;
+    bw_status status = bw_gather(&seat, 0, 1, text, text_len, &report);
+    left = -1, once = 0;
+    int refused = report.memory != 0;
+    WANT(status == BW_OK && report.refused == 0 && report.failed == 0 && report.too_large == 0);
+    WANT(refused || (report.committed == chunks && report.parents == chunks - 1));
+    WANT(!refused || report.committed < chunks);
+    WANT(!alone || report.memory <= 1);
+    uint64_t before = report.memory;
+    WANT(bw_gather(&seat, 0, 1, text, text_len, &report) == BW_OK);
+    WANT(report.memory == before && report.committed == chunks && report.parents == chunks - 1);
+    left = 0;
+    WANT(bw_seat_finish(&seat, found, sizeof found, &used) == BW_OK && used == blob_len && memcmp(found, blob, used) == 0);
+    left = -1;
+    bw_free(&seat);
+    return refused;
+}
+
 int main(void) {
-    static const bw_mode plain = {0, {0}};
     static uint8_t blob[70000], text[80000], slice[80000], spare[80000];
     uint8_t root[BW_HASH_LEN], out[BW_HASH_LEN];
     size_t used = 0, cut = 0, spare_len = 0;
@@ -66,11 +115,15 @@ int main(void) {
             WANT(served == BW_SERVE_MEMORY || (served == BW_LACKING && lacking.kind == 0 && lacking.number == 64));
             WANT(served == BW_LACKING || ++refused);
             WANT(bw_seat_read(&seat, 0, slice + 70000, 100, &at) == BW_OK);
-            WANT(split != BW_OK || (bw_seat_take(&other, 0, 1, &mask) == BW_OK && mask == 0));
+            WANT(split != BW_OK || (bw_seat_take(&other, 1, 1, &mask) == BW_OK && mask == 1));
+            WANT(split != BW_OK || (bw_seat_meet(&seat, &other) == BW_OK && bw_seat_join(&seat, &other) == BW_OK && other.at == NULL));
+            WANT(split != BW_OK || (bw_seat_give(&seat, 1, 1, &mask) == BW_OK && mask == 1));
         }
         left = -1;
         bw_free(&hasher), bw_free(&seat), bw_free(&other);
         WANT(n < 1000);
     }
+    for (int alone = 0; alone < 2; alone++)
+        for (long n = 0; gathers(root, blob, sizeof blob, text, used, n, alone); n++) WANT(n < 1000);
     return 0;
 }

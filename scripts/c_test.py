@@ -2,7 +2,7 @@
 """Holds c/berylwool.h to the sources and runs the C tests on the library that `make c-library` made.
 
 Needs cc. With c++, clang, the sanitizers of cc, valgrind and rustc it runs more, and it names what isn't installed. With
-BERYLWOOL_CI in the environment nothing may be missing. Its last line is 'the C library passed'."""
+BERYLWOOL_CI in the environment nothing of these may be missing. With go it runs the example in Go. Its last line is 'the C library passed'."""
 import os
 import pathlib
 import shutil
@@ -93,7 +93,7 @@ def main():
     for compiler, name, more in builds:
         run(compiler, *FLAGS, *more, "c/test.c", ARCHIVE, "-o", OUT / f"test-{name}")
         run(OUT / f"test-{name}")
-    run("cc", *FLAGS, "-Wl,--wrap=malloc", "c/refuse.c", ARCHIVE, "-o", OUT / "refuse")
+    run("cc", *FLAGS, "-Wl,--wrap=malloc,--wrap=realloc", "c/refuse.c", ARCHIVE, "-o", OUT / "refuse")
     run(OUT / "refuse")
     if there("valgrind"):
         run("valgrind", "-q", "--leak-check=full", "--error-exitcode=1", OUT / "test-plain")
@@ -105,6 +105,10 @@ def main():
     if there("rustc"):
         run("rustc", "--edition", "2021", "-O", "-D", "warnings", "-L", ARCHIVE.parent, "c/examples/berylwool.rs", "-o", OUT / "example")
         run(OUT / "example")
+    if shutil.which("go"):
+        run("go", "run", "c/examples/berylwool.go")
+    else:
+        print("not run, since it isn't here: go, so that c/examples/berylwool.go is text alone")
     for name in missing:
         print(f"not run, since it isn't here: {name}")
     if missing and os.environ.get("BERYLWOOL_CI"):
