@@ -85,7 +85,8 @@ scenarios:
 docs: out/bao_gather
 	@python3 scripts/docs.py out/bao_gather
 
-bench: out/bao_gather out/bench
+# With the C library where there is a C compiler.
+bench: out/bao_gather out/bench $(if $(shell command -v cc),out/c/compare)
 	@python3 scripts/bench.py
 
 refuse: out/bao_gather
@@ -156,6 +157,9 @@ c-install: c-library
 
 c-test: c-library
 	@python3 scripts/c_test.py
+
+out/c/compare: c/compare.c c/berylwool.h out/libberylwool.a
+	@cc -std=c11 -O2 -Wall -Wextra -Wpedantic -pthread -Ic $< out/libberylwool.a -o $@
 
 c-bench: c-library
 	@cc -std=c11 -O2 -Wall -Wextra -Ic c/bench.c out/libberylwool.a -o out/c/bench && out/c/bench

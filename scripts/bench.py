@@ -16,6 +16,8 @@ import time
 ROOT = os.path.dirname(os.path.dirname(os.path.abspath(__file__)))
 PROGRAM = f"{ROOT}/out/bao_gather"
 IN_PROCESS = f"{ROOT}/out/bench"
+# It is there where there is a C compiler.
+OF_C = f"{ROOT}/out/c/compare"
 MIB = 1 << 20
 
 # The most bytes that a store has room for.
@@ -51,6 +53,10 @@ def knows(command):
     return ran.returncode == 0
 
 
+# Seconds, or bytes.
+UNITS = {"ms": 1e-3, "ns": 1e-9, "KiB": 1024}
+
+
 class Times:
     """The least time of each thing that was measured, or the least memory, by its name."""
 
@@ -72,12 +78,12 @@ class Times:
             self.note(name, time.perf_counter() - start)
         return printed
 
-    def run_in_process(self, path):
-        """Notes what the program bench measures within itself: lines such as `hash: 12.345 ms`, or of memory, in KiB."""
-        for line in output([IN_PROCESS, path]).splitlines():
+    def run_in_process(self, program, path):
+        """Notes what a program measures within itself: lines such as `hash: 12.345 ms`, in ns, or of memory, in KiB."""
+        for line in output([program, path]).splitlines():
             name, _, rest = line.partition(": ")
             number, unit = rest.split()
-            self.note(name, int(number) * 1024 if unit == "KiB" else float(number) / 1000)
+            self.note(name, float(number) * UNITS[unit])
 
 
 # The whole programs: a name, the words, and whether they make a file. FILE and OUT stand for paths.
@@ -133,6 +139,12 @@ READ_ALONE = "1 MiB read from a one-thread store"
 RUN_ONE = "run by one worker"
 RUN_FOUR = "run by four workers"
 PARENTS_ALONE = "parents alone"
+C_HASH = "bw_hash"
+C_CHECK = "bw_check_combined"
+C_COMMITS_ONE = "bw_seat_commit by one thread"
+C_COMMITS_FOUR = "bw_seat_commit by four threads"
+C_READS_ONE = "bw_seat_read by one thread"
+C_READS_FOUR = "bw_seat_read by four threads"
 
 # The table: a name of what was timed, and how it worked. Lines of the program bench have their names from there;
 # a further way that it prints needs a line here, and one below where it has a ratio.
@@ -191,6 +203,19 @@ ROWS = [
     (RUN_ONE, "crews::run in one process, one worker, of the combined encoding of the first 64 MiB"),
     (RUN_FOUR, "as before, four workers"),
     (PARENTS_ALONE, "store_shared's commit_parents of the same groups' slices in one process, one seat on one thread, where the length is recorded, with finding these groups"),
+    (C_HASH, "C library in one process, one thread"),
+    (C_CHECK, "C library in one process, one thread, of the file's combined encoding"),
+    (C_COMMITS_ONE, "C library in one process, one POSIX thread with a seat, of the slices of the groups of the first 64 MiB, which it checks and had claimed"),
+    (C_COMMITS_FOUR, "as before, four POSIX threads with a seat each"),
+    (C_READS_ONE, "C library in one process, one POSIX thread with a seat, of these bytes, the mean of four reads"),
+    (C_READS_FOUR, "as before, four POSIX threads with a seat each, a quarter by each"),
+]
+
+# The table of calls of the C library that have next to nothing to do: a name, and what is wanted of it.
+CALLS = [
+    ("bw_hasher_update of no bytes", "below 20"),
+    ("bw_seat_length", "below 20"),
+    ("bw_seat_take and bw_seat_give", ""),
 ]
 
 # The table of memory: a name, how it was measured, and what is wanted of it.
@@ -240,6 +265,11 @@ RATIOS = [
     ("one thread", SERVED_ALONE, READ_ALONE, "at most 3"),
     ("several threads", RUN_ONE, RUN_FOUR, "at least 2.5 on four processors"),
     ("one thread", PARENTS_ALONE, RUN_ONE, "at most 0.09: so run takes at most 1.1 of its time without parents"),
+    ("one thread", C_HASH, "hash", "at most 1.05"),
+    ("one thread", C_CHECK, CHECK, "at most 1.05"),
+    ("one thread", C_READS_ONE, READS_ONE, ""),
+    ("several threads", C_COMMITS_ONE, C_COMMITS_FOUR, "at least 2.5 on four processors"),
+    ("several threads", C_READS_ONE, C_READS_FOUR, "at least 2.5 on four processors"),
 ]
 
 
@@ -295,7 +325,9 @@ def measure(room, mib, runs):
             if like and not filecmp.cmp(made, like, shallow=False):
                 fail(f"what {name} wrote isn't {os.path.basename(like)}")
         times.run(HASH_GATHERED, [PROGRAM, "hash", blob])
-        times.run_in_process(path)
+        times.run_in_process(IN_PROCESS, path)
+        if os.path.exists(OF_C):
+            times.run_in_process(OF_C, path)
     if len(hashes) > 1:
         fail(f"the programs print different hashes of one file: {', '.join(sorted(hashes))}")
     return times.least
@@ -317,6 +349,12 @@ def main():
     for name, how in ROWS:
         if name in least:
             print(f"{least[name]:8.4f}  {name} ({how})")
+    if any(name in least for name, _ in CALLS):
+        print(f"\n{'ns':>8}  a call of the C library")
+        for name, wanted in CALLS:
+            print(f"{least[name] * 1e9:8.1f}  {name}{f' (wanted: {wanted})' if wanted else ''}")
+    else:
+        print("\nThere is no C compiler, so there are no times of the C library.")
     print(f"\n{'MB':>8}  what")
     for name, how, wanted in MEMORY:
         if name in least:
