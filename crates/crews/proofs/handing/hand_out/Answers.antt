@@ -28,7 +28,7 @@ returns-in-Err-NotTheRoot-clause-none c = λ _ blob is.
     let over : map encoding c.as_mut_slice.result.now ≡ texts = ap (λ (all : List Encoded). map encoding all) c.as_mut_slice.ensures.value ∙ c.in-Ok.ensures in
     let met = c.closing_round.ensures in
     let from = cuts texts (fixed_of c.args.assembly.now) c.args.seat c.closing_round.new.seat c.finish-finished.new.seat.view c.look_round.new.seat.view c.as_mut_slice.result.now
-    c.closing_round.new.holders c.args.report c.closing_round.new.report over c.requires.of.fixed_is met.of.fixed_is c.requires.left met.reports met.alone
+    c.closing_round.new.holders c.args.report c.closing_round.new.report over c.requires.of.knows.fixed_is met.of.knows.fixed_is c.requires.left met.reports met.alone
     c.finish-finished.ensures.asks c.look_round.ensures.looked in
     pair_of (IsCutOf texts) (fixed_of c.args.assembly.now) c.finish-finished.new.seat.view.seen blob from
     (c.finish-finished.ensures.none told blob is)
@@ -41,7 +41,7 @@ returns-in-Err-Unfinished-clause-too_large c = λ e.
     let same : c.cause.result ≡ cause_of c.closing_round.new.report = c.cause.ensures in
     let large : TooLarge ≡ cause_of c.closing_round.new.report = cc in
     large_cut texts (fixed_of c.args.assembly.now) c.args.seat c.closing_round.new.seat c.finish-finished.new.seat.view c.look_round.new.seat.view c.as_mut_slice.result.now
-    c.closing_round.new.holders c.args.report c.closing_round.new.report over c.requires.of.fixed_is met.of.fixed_is c.requires.left met.reports met.alone
+    c.closing_round.new.holders c.args.report c.closing_round.new.report over c.requires.of.knows.fixed_is met.of.knows.fixed_is c.requires.left met.reports met.alone
     c.finish-finished.ensures.asks c.look_round.ensures.looked c.requires.large (is_large c.closing_round.new.report large)
 
 pub returns-in-Err-Unfinished-clause-longer : goal.returns-in-Err-Unfinished-clause-longer
@@ -57,11 +57,11 @@ returns-in-Err-Unfinished-clause-available c = λ blob i is room there.
     let keyed = subst (λ (mode : Mode). IsKeyed mode) c.mode.ensures c.is_keyed.ensures in
     let of = c.finish-finished.ensures.of in
     let legal : IsLegal (fixed_of c.args.assembly.now) c.finish-finished.new.seat.view.seen =
-    subst (λ (f : Fixed). IsLegal f c.finish-finished.new.seat.view.seen) of.fixed_is of.legal in
+    subst (λ (f : Fixed). IsLegal f c.finish-finished.new.seat.view.seen) of.knows.fixed_is of.knows.legal in
     let told : IsErrOf c.finish-finished.result finishing.Unfinished = grind arith in
     let unfinished = c.finish-finished.ensures.unfinished told in
     elim (unfinished_handed texts (fixed_of c.args.assembly.now) c.args.seat c.closing_round.new.seat c.finish-finished.new.seat.view c.look_round.new.seat.view
-    c.as_mut_slice.result.now c.closing_round.new.holders c.args.report c.closing_round.new.report over c.requires.of.fixed_is met.of.fixed_is c.requires.left met.reports
+    c.as_mut_slice.result.now c.closing_round.new.holders c.args.report c.closing_round.new.report over c.requires.of.knows.fixed_is met.of.knows.fixed_is c.requires.left met.reports
     met.alone c.finish-finished.ensures.asks c.look_round.ensures.looked blob i keyed is room c.args.assembly.now.words.limit there legal c.requires.failed c.requires.large
     (λ slices has. met.served blob slices has) unfinished) [
       | inl excused ↦ inl (subst (λ (fault : GatherFault). IsExcused fault) (sym c.cause.ensures) excused)
@@ -79,9 +79,9 @@ returns-in-Ok-finished-clause-available c = λ blob i is room there.
     let keyed = subst (λ (mode : Mode). IsKeyed mode) c.mode.ensures c.is_keyed.ensures in
     let of = c.finish-finished.ensures.of in
     let legal : IsLegal (fixed_of c.args.assembly.now) c.finish-finished.new.seat.view.seen =
-    subst (λ (f : Fixed). IsLegal f c.finish-finished.new.seat.view.seen) of.fixed_is of.legal in
+    subst (λ (f : Fixed). IsLegal f c.finish-finished.new.seat.view.seen) of.knows.fixed_is of.knows.legal in
     let from = cuts texts (fixed_of c.args.assembly.now) c.args.seat c.closing_round.new.seat c.finish-finished.new.seat.view c.look_round.new.seat.view c.as_mut_slice.result.now
-    c.closing_round.new.holders c.args.report c.closing_round.new.report over c.requires.of.fixed_is met.of.fixed_is c.requires.left met.reports met.alone
+    c.closing_round.new.holders c.args.report c.closing_round.new.report over c.requires.of.knows.fixed_is met.of.knows.fixed_is c.requires.left met.reports met.alone
     c.finish-finished.ensures.asks c.look_round.ensures.looked in
     let whole : IsWhole (state_after c.finish-finished.new.seat.view.seen) c.in-Ok-finished.blob.items =
     subst (λ (r : Result (Vec ℕ Global) FinishFault). IfOk r (λ (bytes : Vec ℕ Global). IsWhole (state_after c.finish-finished.new.seat.view.seen) bytes.items))
