@@ -75,11 +75,7 @@ pub fn read_whole<R: Read>(reader: &mut R, bytes: &mut Vec<u8>) -> Result<(), Re
 
 /// As `read_whole`, of a reader that is said to have `size` bytes. That is room for a start, so that bytes are moved at
 /// most once, and nothing more. Where this room is refused, nothing was read.
-pub fn read_sized<R: Read>(
-    reader: &mut R,
-    size: u64,
-    bytes: &mut Vec<u8>,
-) -> Result<(), ReadFault>
+pub fn read_sized<R: Read>(reader: &mut R, size: u64, bytes: &mut Vec<u8>) -> Result<(), ReadFault>
     ensures all { OnOk result (IfSome (R.remaining reader.old) (λ left. bytes.new.items ≡ bytes.old.items ++ left)) }
     ensures end { OnOk result (IsAtEnd (R.remaining reader.new)) }
     ensures read { (taken : List ℕ) × Gains (R.remaining reader.old) (R.remaining reader.new) bytes.old.items bytes.new.items taken }
