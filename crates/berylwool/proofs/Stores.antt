@@ -1,5 +1,5 @@
 -- Stores that have one root, mode and capacity.
-use Rattle.std.proofs.Common.{◌≡◌, ℕ}
+use Rattle.std.proofs.Common.{◌≡◌}
 use Rattle.store_core.specs.declared.fixed.Fixed.{Fixed}
 
 pub same_fixed : (one other : Fixed) → one.root ≡ other.root → one.mode ≡ other.mode → one.capacity ≡ other.capacity → one ≡ other

@@ -1,4 +1,4 @@
-use Rattle.std.proofs.Common.{length, sym, ltb-false, ℕ, ◌⊎◌, ◌≤◌, inl, inr, arith, Err, List, map, ap, subst, refl, Bool, true, false, nat_lt, if◌then◌else◌, ◌∙◌, ◌≡◌}
+use Rattle.std.proofs.Common.{length, sym, ℕ, ◌⊎◌, ◌≤◌, inl, inr, arith, Err, List, map, ap, subst, refl, Bool, true, false, nat_lt, if◌then◌else◌, ◌∙◌, ◌≡◌}
 use Rattle.gather.specs.declared.texts.GatherFault.TheVariants.{Starved, TooLarge, Unfinished}
 use Rattle.gather.specs.Faults.{cause_of}
 use Rattle.std.specs.Prelude.{vec_items}
@@ -11,7 +11,6 @@ use Rattle.store_core.specs.declared.fixed.Fixed.{Fixed}
 use Rattle.gather.proofs.Binding.{handed_cut, longer_wider, none_wider, of_none}
 use Rattle.b3tree.specs.Valid.{IsKeyed}
 use Rattle.gather.specs.Available.{HasTrue}
-use Rattle.gather.specs.declared.report.Report.{Report}
 use Rattle.gather.specs.HandedOut.{IsExcused}
 use Rattle.gather.specs.Large.{HasPair}
 use Rattle.bao_check.proofs.Laws.{accepted_binds}
@@ -19,7 +18,6 @@ use Rattle.bao_text.specs.Choice.{chunk_count}
 use Rattle.gather.specs.declared.texts.GatherFault.{GatherFault}
 use Rattle.gather.proofs.Binding.{are_longer, pair_wider}
 use Rattle.gather.proofs.Handing.{cause_handed, encoding_true, never_failed, unfinished_pair, whole_pair}
-use Rattle.std.proofs.lemmas.Bool.{cases_Bool}
 use Rattle.store_core.specs.Laws.{IsBlob}
 use Rattle.store_core.specs.Stores.{fixed_of}
 use Rattle.gather.proofs.texts.gather_texts.Goals as goal
