@@ -16,6 +16,7 @@ import errno
 import functools
 import multiprocessing
 import os
+import resource
 import subprocess
 import sys
 import tempfile
@@ -32,6 +33,9 @@ PLAIN = b"bao_gather: memory\n"
 
 # No run comes near these seconds: it is held for ever.
 HELD = 120
+
+# A run over a file of more bytes than that may take so many of memory: some systems promise any number.
+ROOM = 4 << 30
 
 # After so many runs in a row that met no failure all calls were tried: threads make some in one run and not in another.
 QUIET = 3
@@ -141,7 +145,13 @@ class Case:
         with open(source, "rb") as stdin:
             try:
                 ran = subprocess.run(
-                    [program, *self.words], stdin=stdin, capture_output=True, cwd=folder, timeout=HELD, env={**os.environ, **settings, "MET": met}
+                    [program, *self.words],
+                    stdin=stdin,
+                    capture_output=True,
+                    cwd=folder,
+                    timeout=HELD,
+                    env={**os.environ, **settings, "MET": met},
+                    preexec_fn=limited if self.sizes else None,
                 )
             except subprocess.TimeoutExpired:
                 return Ending(-1, b"", b"held for ever", b""), []
@@ -181,6 +191,11 @@ class Case:
             status, complaint = 3, b"bao_gather: cannot write output\n"
         told = complaint.startswith(ended.complaint) if STDERR in places else ended.complaint == complaint
         return ended.status == status and ended.printed in printed and told and out
+
+
+def limited():
+    """Leaves the process ROOM."""
+    resource.setrlimit(resource.RLIMIT_AS, (ROOM, ROOM))
 
 
 def tried(case, faults, program, shim, room):

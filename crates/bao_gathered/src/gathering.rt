@@ -12,7 +12,7 @@ use bao_files::{FileFault, LateFile, read_file};
 use bao_text::{WriteFault, write_combined, write_text};
 use crews::{CrewsFault, gather_texts};
 use gather::GatherFault;
-use std::alloc::Global;
+use std::alloc::{AllocError, Global};
 use std::fs;
 use std::io::Write;
 use std::rt::Files;
@@ -26,17 +26,26 @@ fn is_regular<R: Files>(rt: &R, path: &str) -> bool {
     }
 }
 
-// Appends the bytes of those files that can be read, the regular ones or all others, to `texts`, and answers whether one
-// of them found no room.
+// Which of the files are regular. It is asked once, so that each file has its turn whatever becomes of it.
+fn kinds_of<R: Files>(rt: &R, alloc: Global, paths: &[&str]) -> Result<Vec<bool>, AllocError> {
+    let mut kinds = Vec::with_capacity(alloc, paths.len())?;
+    for path in paths {
+        kinds.push(is_regular(rt, path))?;
+    }
+    Ok(kinds)
+}
+
+// Appends the bytes of those files of one kind that can be read to `texts`, and answers whether one of them found no room.
 fn read_files<R: Files + AllocGlobal>(
     rt: &R,
     paths: &[&str],
+    kinds: &[bool],
     regular: bool,
     texts: &mut Vec<Vec<u8>>,
 ) -> bool {
     let mut starved = false;
-    for path in paths {
-        if is_regular(rt, path) != regular {
+    for (path, kind) in paths.iter().zip(kinds) {
+        if *kind != regular {
             continue;
         }
         match read_file(rt, path) {
@@ -164,16 +173,17 @@ pub fn gather_files<'a, R: Files + AllocGlobal + Threads + Sync>(
     ensures err { IfErr result IsQuiet }
     ensures paths { IfErr result (NamesFirst files.now path.entry) }
 {
-    let mut texts = match Vec::with_capacity(rt.alloc(), files.len()) {
-        Ok(texts) => texts,
-        Err(_) => return Err(GatheredFault::File(FileFault::Memory)),
+    let alloc = rt.alloc();
+    let Ok(kinds) = kinds_of(rt, alloc, files) else {
+        return Err(GatheredFault::File(FileFault::Memory));
     };
+    let mut texts = Vec::new(alloc);
     let mut out = LateFile::new(rt, path);
     let mut starved = false;
     let mut met = None;
     for regular in [true, false] {
         let known = texts.len();
-        starved |= read_files(rt, files, regular, &mut texts);
+        starved |= read_files(rt, files, kinds.as_slice(), regular, &mut texts);
         if texts.len() == known {
             continue;
         }
