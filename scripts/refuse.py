@@ -324,17 +324,6 @@ def holders():
         yield gather([*many[:place], "whole", *many[place + 1 :]])
 
 
-def is_quiet(program, words):
-    """Whether help that nobody reads any more ends with 0 and says nothing."""
-    reader, writer = os.pipe()
-    os.close(reader)
-    try:
-        ran = subprocess.run([program, *words], stdin=subprocess.DEVNULL, stdout=writer, stderr=subprocess.PIPE, restore_signals=False)
-    finally:
-        os.close(writer)
-    return ran.returncode == 0 and not ran.stderr
-
-
 def work(given):
     """One part of the trials: some cases, with the faults to try. Answers what to print, how many runs passed and how many failed."""
     name, cases, faults, *where = given
@@ -367,10 +356,6 @@ def main():
             for said, right, wrong in pool.imap_unordered(work, [it for it in parts if it[1]]):
                 print(said, flush=True)
                 passed, failed = passed + right, failed + wrong
-        for words in [["--help"], ["--version"], ["gather", "--help"]] if not asked.only else []:
-            is_right = is_quiet(asked.program, words)
-            print(f"{' '.join(words)} into a closed pipe: {'passed' if is_right else 'failed'}")
-            passed, failed = passed + is_right, failed + (not is_right)
     print(f"{passed} passed, {failed} failed")
     return 1 if failed else 0
 

@@ -23,7 +23,6 @@ use bao_replay::replay_files;
 use bao_request::{Request, Task, parse};
 use clap::error::ErrorKind;
 use std::fs::File;
-use std::io;
 use std::io::Write;
 use std::rt::Files;
 use std::thread::Threads;
@@ -287,13 +286,7 @@ fn writes_apart(task: &Task<'_>) -> bool
     !matches!(*path, "/dev/stdout" | "/dev/fd/1" | "/proc/self/fd/1")
 }
 
-// Prints help or the version.
-fn show<O: Write>(error: &clap::Error, out: &mut O) -> io::Result<()> {
-    write!(Once(out), "{error}")?;
-    out.flush()
-}
-
-// Prints what `clap` has to say: help and the version on `out`, whose reader may have read enough, a refusal on `err`.
+// Prints what `clap` has to say: help and the version on `out`, a refusal on `err`.
 fn answer_clap<O: Write, E: Write>(error: &clap::Error, out: &mut O, err: &mut E) -> u8
     ensures status { result ≤ 4 }
     ensures done { result ≡ 0 → IsHelp (kind_of error.now) }
@@ -307,9 +300,9 @@ fn answer_clap<O: Write, E: Write>(error: &clap::Error, out: &mut O, err: &mut E
         let _ = write!(Once(err), "{error}");
         return 2;
     }
-    match show(error, out) {
-        Ok(()) => 0,
-        Err(error) if error.kind() == io::ErrorKind::BrokenPipe => 0,
-        Err(_) => Fault::File(FileFault::Output).report(err),
+    let shown = write!(Once(out), "{error}");
+    if shown.is_err() || out.flush().is_err() {
+        return Fault::File(FileFault::Output).report(err);
     }
+    0
 }
