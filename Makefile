@@ -1,4 +1,4 @@
-# Needs rt (Rattle's command) on the PATH, make, bash and python3.
+# Needs rt (Rattle's command) on the PATH, make, bash and python3; make test and make refuse need cc and binutils too.
 
 SHELL := bash
 .SHELLFLAGS := -eu -o pipefail -c
