@@ -23,7 +23,7 @@ use Rattle.bao_check.proofs.Walking.{TookParent, far_stops, near_stops, whole_pa
 use Rattle.bao_check.proofs.WholeText.{accepted_from_walk, claimed-append, first_fault_from_walk, text_passes, text_stops, trailing_from_walk}
 
 -- a longer beginning of a text goes on from a shorter one
-take_on : (a b : ℕ) (text : List ℕ) → a ≤ b → take b text ≡ take a text ++ take (b - a) (drop a text)
+pub take_on : (a b : ℕ) (text : List ℕ) → a ≤ b → take b text ≡ take a text ++ take (b - a) (drop a text)
 take_on a b text le =
     let e : b ≡ a + (b - a) = omega arith in
     ap (λ (k : ℕ). take k text) e ∙ take-add a (b - a) text

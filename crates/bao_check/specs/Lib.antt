@@ -22,6 +22,8 @@ pub mod Whole
 pub mod Laws
 pub mod Streams
 pub mod Subtree
+pub mod Waiting
+pub mod Checking
 pub use Rattle.bao_text.specs.Choice
 pub use Rattle.bao_text.specs.Nodes
 pub use Rattle.bao_text.specs.Texts

@@ -2,6 +2,7 @@
 #![tactic(auto)]
 
 pub use checked::Checked;
+pub use checking::Checking;
 pub use checks::{bare_fits, check_bare, check_combined, check_outboard, check_slice};
 pub use fault::CheckFault;
 pub use law::{
@@ -16,6 +17,7 @@ pub use tail::Tail;
 mod asked;
 mod bare;
 mod checked;
+mod checking;
 mod checks;
 mod fault;
 mod form;
@@ -24,11 +26,13 @@ mod leaves;
 mod locate;
 mod outline;
 mod parent;
+mod part;
 mod read;
 mod source;
 mod stream;
 mod subtree;
 mod tail;
 mod text_lanes;
+mod waiting;
 mod walk;
 mod whole;

@@ -1,0 +1,49 @@
+use Rattle.std.proofs.Common.{[], ◌∷◌, ◌++◌, length, refl, arith}
+use Rattle.bao_check.proofs.Feeding.{part_parted, part_taken}
+use Rattle.bao_check.proofs.waiting.push_halves.Goals as goal
+
+pub overflow_add-parent : goal.overflow_add-parent
+overflow_add-parent c =
+    let p = part_parted c.args.choice.now c.args.waiting.now.items c.args.parent.now c.left_len-left_len.result c.requires.parts c.requires.parent c.left_len-left_len.ensures.value
+    c.left_len-left_len.ensures.largest in
+    omega (arith, p.middle)
+
+pub push_wanted-requires-clause-room : goal.push_wanted-requires-clause-room
+push_wanted-requires-clause-room c =
+    let p = part_parted c.args.choice.now c.args.waiting.now.items c.args.parent.now c.left_len-left_len.result c.requires.parts c.requires.parent c.left_len-left_len.ensures.value
+    c.left_len-left_len.ensures.largest in
+    omega (arith, p.room)
+
+pub push_wanted-requires-clause-within : goal.push_wanted-requires-clause-within
+push_wanted-requires-clause-within c =
+    let p = part_parted c.args.choice.now c.args.waiting.now.items c.args.parent.now c.left_len-left_len.result c.requires.parts c.requires.parent c.left_len-left_len.ensures.value
+    c.left_len-left_len.ensures.largest in
+    p.middle
+
+pub push_wanted-requires-clause-levels : goal.push_wanted-requires-clause-levels
+push_wanted-requires-clause-levels c =
+    let p = part_parted c.args.choice.now c.args.waiting.now.items c.args.parent.now c.left_len-left_len.result c.requires.parts c.requires.parent c.left_len-left_len.ensures.value
+    c.left_len-left_len.ensures.largest in
+    p.far_levels
+
+pub push_wanted-requires-clause-parts : goal.push_wanted-requires-clause-parts
+push_wanted-requires-clause-parts c =
+    (part_taken c.args.choice.now (c.args.waiting.now.items ++ c.args.parent.now ∷ []) c.args.waiting.now.items c.args.parent.now c.requires.parts refl).waiting
+
+pub push_wanted-requires-2-clause-room : goal.push_wanted-requires-2-clause-room
+push_wanted-requires-2-clause-room c =
+    let p = part_parted c.args.choice.now c.args.waiting.now.items c.args.parent.now c.left_len-left_len.result c.requires.parts c.requires.parent c.left_len-left_len.ensures.value
+    c.left_len-left_len.ensures.largest in
+    omega (arith, p.room, c.push_wanted.ensures.room)
+
+pub push_wanted-requires-2-clause-within : goal.push_wanted-requires-2-clause-within
+push_wanted-requires-2-clause-within c =
+    let p = part_parted c.args.choice.now c.args.waiting.now.items c.args.parent.now c.left_len-left_len.result c.requires.parts c.requires.parent c.left_len-left_len.ensures.value
+    c.left_len-left_len.ensures.largest in
+    p.near
+
+pub push_wanted-requires-2-clause-levels : goal.push_wanted-requires-2-clause-levels
+push_wanted-requires-2-clause-levels c =
+    let p = part_parted c.args.choice.now c.args.waiting.now.items c.args.parent.now c.left_len-left_len.result c.requires.parts c.requires.parent c.left_len-left_len.ensures.value
+    c.left_len-left_len.ensures.largest in
+    p.near_levels (length c.push_wanted.new.waiting.items) c.push_wanted.ensures.room

@@ -1,0 +1,105 @@
+-- What is still to come of a text that is checked in pieces: the wanted nodes of subtrees.
+use Rattle.std.specs.Prelude.{◌≡◌, ◌⊎◌, ℕ, ◌-◌, ◌<◌, ◌≤◌, false, List, [], ◌∷◌, ◌++◌, length, map, slice_get, nat_le, Option, if◌then◌else◌}
+use Rattle.std.specs.Option.{option_map}
+use Rattle.b3tree.specs.declared.mode.Mode.{Mode}
+use Rattle.b3tree.specs.declared.values.Cv.{Cv}
+use Rattle.bao_text.specs.declared.choice.Choice.{Choice}
+use Rattle.bao_text.specs.declared.walk.Subtree.{Subtree}
+use Rattle.bao_text.specs.NodeNames.{AreWaiting, AreWaiting-prop}
+use Rattle.bao_check.specs.declared.asked.Asked.{Asked}
+use Rattle.bao_check.specs.declared.fault.CheckFault.{CheckFault}
+use Rattle.bao_check.specs.declared.fault.CheckFault.TheVariants.{Mismatch, Trailing}
+use Rattle.bao_check.specs.declared.part.Part.{Part}
+use Rattle.bao_check.specs.Accepted.{IsAccepted, slice_nodes}
+use Rattle.bao_check.specs.Faults.{IsFirstFault}
+use Rattle.bao_check.specs.Subtree.{PassesIn, StopsIn}
+
+-- the subtree that a part has the nodes of
+abbrev pub shape : Part → Subtree
+shape part = record { number = part.number; len = part.len }
+
+-- each is wanted, and has fewer levels of parents than the one before it
+abbrev pub AreParts : Choice → List Part → Type 0
+AreParts choice parts = AreWaiting choice 54 (map shape parts)
+
+pub AreParts-prop : (choice : Choice) (parts : List Part) → IsProp (AreParts choice parts)
+AreParts-prop choice parts = AreWaiting-prop choice 54 (map shape parts)
+
+-- the last part comes first
+abbrev pub last_part : List Part → Option Part
+last_part parts = slice_get parts (length parts - 1)
+
+-- how many bytes the first node of a part has: a chunk its own, and a parent 64
+abbrev pub part_size : Part → ℕ
+part_size part = if nat_le part.len 1024 then part.len else 64
+
+-- how many the node has that comes next
+abbrev pub next_size : List Part → Option ℕ
+next_size parts = option_map part_size (last_part parts)
+
+-- what a parent asks of its part with this value
+abbrev pub below_parent : Cv → Asked
+below_parent value = record { top = false; value = value }
+
+-- All nodes of the parts, which begin at the text's place `at`, are good, and the last of them ends at `end`.
+abbrev pub AllPass : Mode → Choice → List Part → List ℕ → ℕ → ℕ → Type 0
+AllPass mode choice [] text at end = at ≡ end
+AllPass mode choice (part ∷ later) text at end =
+    (middle : ℕ) × AllPass mode choice later text at middle × PassesIn part.asked mode choice part.number part.len text middle end
+
+-- this is the first fault of the parts
+abbrev pub AllStop : Mode → Choice → List Part → List ℕ → ℕ → CheckFault → Type 0
+AllStop mode choice [] text at fault = ⊥
+AllStop mode choice (part ∷ later) text at fault =
+    AllStop mode choice later text at fault
+    ⊎ ((middle : ℕ) × AllPass mode choice later text at middle × StopsIn part.asked mode choice part.number part.len text middle fault)
+
+-- what has to pass: a subtree, and then the parts
+abbrev pub FirstPass : Asked → ℕ → ℕ → Mode → Choice → List Part → List ℕ → ℕ → ℕ → Type 0
+FirstPass asked number n mode choice parts text at end =
+    (middle : ℕ) × PassesIn asked mode choice number n text at middle × AllPass mode choice parts text middle end
+
+-- or what stops
+abbrev pub FirstStop : Asked → ℕ → ℕ → Mode → Choice → List Part → List ℕ → ℕ → CheckFault → Type 0
+FirstStop asked number n mode choice parts text at fault =
+    StopsIn asked mode choice number n text at fault
+    ⊎ ((middle : ℕ) × PassesIn asked mode choice number n text at middle × AllStop mode choice parts text middle fault)
+
+-- The parts are those before with a subtree that comes first: one that isn't wanted has no nodes.
+pub record IsBefore (choice : Choice) (asked : Asked) (number n : ℕ) (before after : List Part) : Type 0 where
+  pub passes : (mode : Mode) (text : List ℕ) (at end : ℕ) → at ≤ length text → AllPass mode choice after text at end → FirstPass asked number n mode choice before text at end
+  pub stops : (mode : Mode) (text : List ℕ) (at : ℕ) (fault : CheckFault) → at ≤ length text → AllStop mode choice after text at fault
+      → FirstStop asked number n mode choice before text at fault
+
+-- A node was taken: what the parts come to after it, in a text that has it there, those before it come to.
+pub record HasTaken (mode : Mode) (choice : Choice) (before after : List Part) (node : List ℕ) : Type 0 where
+  pub passes : (taken more : List ℕ) (end : ℕ) → AllPass mode choice after ((taken ++ node) ++ more) (length (taken ++ node)) end
+      → AllPass mode choice before ((taken ++ node) ++ more) (length taken) end
+  pub stops : (taken more : List ℕ) (fault : CheckFault) → AllStop mode choice after ((taken ++ node) ++ more) (length (taken ++ node)) fault
+      → AllStop mode choice before ((taken ++ node) ++ more) (length taken) fault
+
+-- It hasn't the value that its place asks for: that is the first fault in every text that has it there.
+pub record HasRefused (mode : Mode) (choice : Choice) (parts : List Part) (at : ℕ) (node : List ℕ) (fault : CheckFault) : Type 0 where
+  pub is : fault ≡ Mismatch at
+  pub stops : (taken more : List ℕ) → at ≡ length taken → AllStop mode choice parts ((taken ++ node) ++ more) (length taken) fault
+
+-- what a text is checked as: the slice (start, len) of the blob with the hash `root`
+pub record Task : Type 0 where
+  pub mode : Mode
+  pub root : List ℕ
+  pub start : ℕ
+  pub len : ℕ
+
+-- the text is accepted as that
+abbrev pub IsAcceptedAs : Task → List ℕ → Type 0
+IsAcceptedAs task text = IsAccepted task.mode task.root text (slice_nodes text task.start task.len)
+
+-- this is the first fault that it has as that
+abbrev pub IsFaultAs : Task → List ℕ → CheckFault → Type 0
+IsFaultAs task text fault = IsFirstFault task.mode task.root text (slice_nodes text task.start task.len) fault
+
+-- What the parts, from the text's place `at` on, come to, tells whether the text is accepted, and else its first fault.
+pub record WaitsIn (task : Task) (choice : Choice) (parts : List Part) (text : List ℕ) (at : ℕ) : Type 0 where
+  pub accepted : (end : ℕ) → AllPass task.mode choice parts text at end → length text ≤ end → IsAcceptedAs task text
+  pub trailing : (end : ℕ) → AllPass task.mode choice parts text at end → end < length text → IsFaultAs task text (Trailing end)
+  pub stopped : (fault : CheckFault) → AllStop task.mode choice parts text at fault → IsFaultAs task text fault

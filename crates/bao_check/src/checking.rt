@@ -1,0 +1,164 @@
+ghost use Rattle.std.specs.Prelude.{◌≡◌, ◌↔◌, ℕ, ◌-◌, ◌^◌, ◌<◌, ◌≤◌, List, [], ◌++◌, length, true, IfErr, IfOk, IfSome, IsNone, IsTrue, MatchResult, OnErr, OnOk, Some};
+ghost use Rattle.bao_check.specs.declared.fault.CheckFault.TheVariants.{Mismatch, Short};
+ghost use Rattle.bao_check.specs.Streams.{IsOfBytes};
+ghost use Rattle.bao_check.specs.Waiting.{AreParts, AreParts-prop, IsAcceptedAs, IsFaultAs, Task, WaitsIn};
+
+use crate::asked::{Asked, meets};
+use crate::fault::CheckFault;
+use crate::waiting::{Waiting, node_size, push_wanted, take_node};
+use crate::walk::{LENGTH_LEN, claimed};
+use arrayvec::ArrayVec;
+use b3tree::{Cv, Hash, Mode, top_input};
+use bao_text::Choice;
+
+// Verifies a text's length, and answers what the text is of and the parts that come after the length. An empty
+// chunk has no bytes of its own, so it is verified with it.
+fn begin(
+    mode: &Mode,
+    root: &Hash,
+    start: u64,
+    len: u64,
+    header: &[u8],
+) -> Result<(Choice, Waiting), CheckFault>
+    requires { length header.now ≡ 8 }
+    ensures chunks { IfOk result (λ begun. begun.0.chunks ≡ true) }
+    ensures parts { IfOk result (λ begun. AreParts begun.0 begun.1.items) }
+    ensures waits { IfOk result (λ begun. (more : List ℕ) → WaitsIn (record { mode = mode.now; root = root.now.0; start = start; len = len })
+        begun.0 begun.1.items (header.now ++ more) 8) }
+    ensures fault { IfErr result (λ fault. (fault ≡ Mismatch 8) × ((more : List ℕ) → IsFaultAs (record { mode = mode.now; root = root.now.0; start = start; len = len })
+        (header.now ++ more) fault)) }
+{
+    let total = claimed(header);
+    let choice = Choice::of_slice(total, start, len);
+    let asked = Asked {
+        top: true,
+        value: Cv::from_bytes(&root.0),
+    };
+    let mut waiting = ArrayVec::new();
+    if total > 0 {
+        push_wanted(&choice, &mut waiting, &asked, 0, total);
+        return Ok((choice, waiting));
+    }
+    if !meets(&asked, &top_input(mode, 0, &[])) {
+        return Err(CheckFault::Mismatch {
+            at: LENGTH_LEN as u64,
+        });
+    }
+    Ok((choice, waiting))
+}
+
+/// A text that is checked as a slice while its bytes come, a node at a time: `check_slice` and `read_checked` for a
+/// caller that has no whole text and no reader. It takes no memory, and keeps none of the bytes.
+#[derive(Drop)]
+pub struct Checking {
+    mode: Mode,
+    root: Hash,
+    start: u64,
+    len: u64,
+    // What the text is of, once its length is there.
+    choice: Choice,
+    waiting: Waiting,
+    // How many bytes were taken.
+    at: u64,
+    ghost chunks: { choice.chunks ≡ true },
+    ghost parts: { AreParts choice waiting.items } by { AreParts-prop choice waiting.items },
+}
+
+impl Checking {
+    ghost use Rattle.bao_check.specs.Checking.{HasTakenAs, IsNodeFault, wanted};
+
+    /// A check of a text as the slice of `len` bytes from byte `start` on of the blob with the hash `root` in `mode`. It
+    /// has taken nothing.
+    pub fn of_slice(mode: &Mode, root: &Hash, start: u64, len: u64) -> Checking
+        ensures { HasTakenAs result (record { mode = mode.now; root = root.now.0; start = start; len = len }) [] }
+    {
+        Checking {
+            mode: *mode,
+            root: *root,
+            start,
+            len,
+            choice: Choice::of_combined(0),
+            waiting: ArrayVec::new(),
+            at: 0,
+        }
+    }
+
+    /// A check of a text as the combined encoding of the blob: as `of_slice` from byte 0 on with the length 2^64 - 1.
+    pub fn of_combined(mode: &Mode, root: &Hash) -> Checking
+        ensures { HasTakenAs result (record { mode = mode.now; root = root.now.0; start = 0; len = 2 ^ 64 - 1 }) [] }
+    {
+        Checking::of_slice(mode, root, 0, u64::MAX)
+    }
+
+    /// How many bytes `take` takes next: 8 for the length, 64 for a parent and 1 to 1,024 for a chunk. `None` exactly
+    /// where what was taken is an accepted text. A text that ends before so many more is short (501) at this place.
+    pub fn wants(&self) -> Option<usize>
+        ensures value { result ≡ wanted self.now }
+        ensures size { IfSome result (λ size. (1 ≤ size) × (size ≤ 1024)) }
+        ensures done { (task : Task) (taken : List ℕ) → HasTakenAs self.now task taken → IsNone result ↔ IsAcceptedAs task taken }
+        ensures short { (task : Task) (taken : List ℕ) → HasTakenAs self.now task taken
+            → IfSome result (λ size. (more : List ℕ) → length more < size → IsFaultAs task (taken ++ more) (Short (length taken))) }
+    {
+        if self.at == 0 {
+            return Some(LENGTH_LEN);
+        }
+        node_size(&self.waiting)
+    }
+
+    /// Whether what was taken is an accepted text.
+    pub fn is_done(&self) -> bool
+        ensures { (task : Task) (taken : List ℕ) → HasTakenAs self.now task taken → IsTrue result ↔ IsAcceptedAs task taken }
+    {
+        self.wants().is_none()
+    }
+
+    /// Takes the node that comes next, exactly as many bytes as `wants` says, and verifies it.
+    ///
+    /// Refused: 502 `Mismatch` where it hasn't the value that its place asks for, which is the first fault of every text
+    /// that begins with what was taken and these bytes, as `check_slice` answers it: at the place of the node, and at 8
+    /// for the chunk of a blob of no bytes, which is verified with the length. 504 `Memory` where 2^64 bytes or more
+    /// would have been taken. The check is unchanged then, and can take other bytes in their place.
+    pub fn take(&mut self, node: &[u8]) -> Result<(), CheckFault>
+        requires { wanted self.old ≡ Some (length node.now) }
+        ensures taken { (task : Task) (taken : List ℕ) → HasTakenAs self.old task taken → OnOk result (HasTakenAs self.new task (taken ++ node.now)) }
+        ensures fault { (task : Task) (taken : List ℕ) → HasTakenAs self.old task taken → IfErr result (IsNodeFault task (taken ++ node.now)) }
+        ensures refused { (task : Task) (taken : List ℕ) → HasTakenAs self.old task taken
+            → IfErr result (λ fault. IsOfBytes fault → (more : List ℕ) → ¬ IsAcceptedAs task ((taken ++ node.now) ++ more)) }
+        ensures unchanged { OnErr result (self.new ≡ self.old) }
+    {
+        let len = node.len() as u64;
+        if len > u64::MAX - self.at {
+            return Err(CheckFault::Memory);
+        }
+        if self.at == 0 {
+            let (choice, waiting) = begin(&self.mode, &self.root, self.start, self.len, node)?;
+            self.choice = choice;
+            self.waiting = waiting;
+            self.at = len;
+            return Ok(());
+        }
+        take_node(&self.choice, &mut self.waiting, &self.mode, self.at, node)?;
+        self.at += len;
+        Ok(())
+    }
+
+    /// What the check of the whole text says, where the text is what was taken and then `rest`, which is less than the
+    /// next node.
+    ///
+    /// Refused, its first fault: 501 `Short` at the place of that node, where there is one, and 503 `Trailing` at the
+    /// end of the last where `rest` follows it.
+    pub fn finish(&self, rest: &[u8]) -> Result<(), CheckFault>
+        requires { IfSome (wanted self.now) (λ size. length rest.now < size) }
+        ensures { (task : Task) (taken : List ℕ) → HasTakenAs self.now task taken
+            → MatchResult result (λ _. IsAcceptedAs task (taken ++ rest.now)) (IsFaultAs task (taken ++ rest.now)) }
+    {
+        if self.wants().is_some() {
+            return Err(CheckFault::Short { at: self.at });
+        }
+        if rest.is_empty() {
+            Ok(())
+        } else {
+            Err(CheckFault::Trailing { at: self.at })
+        }
+    }
+}

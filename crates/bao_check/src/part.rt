@@ -1,0 +1,27 @@
+ghost use Rattle.std.specs.Prelude.{◌<◌};
+
+use crate::asked::Asked;
+use b3tree::Cv;
+
+/// A part of a text that is still to come: the wanted nodes of a subtree that has bytes, and what its top asks for.
+#[derive(Clone, Copy)]
+pub(crate) struct Part {
+    pub(crate) asked: Asked,
+    // The number of its first chunk, and how many bytes of the blob it has.
+    pub(crate) number: u64,
+    pub(crate) len: u64,
+    ghost some: { 0 < len },
+}
+
+impl Default for Part {
+    fn default() -> Part {
+        Part {
+            asked: Asked {
+                top: false,
+                value: Cv([0; 8]),
+            },
+            number: 0,
+            len: 1,
+        }
+    }
+}

@@ -1,0 +1,133 @@
+ghost use Rattle.std.specs.Prelude.{◌≡◌, ◌+◌, ◌-◌, ◌*◌, ◌/◌, ◌^◌, ◌<◌, ◌≤◌, List, [], ◌∷◌, ◌++◌, length, true, IfErr, OnErr, OnOk, Some};
+ghost use Rattle.b3tree.specs.Tree.{left_len};
+ghost use Rattle.bao_check.specs.declared.part.Part.{Part};
+ghost use Rattle.bao_check.specs.Waiting.{AreParts, HasRefused, HasTaken, IsBefore, below_parent, last_part, next_size, part_size};
+
+use crate::asked::{Asked, meets};
+use crate::fault::CheckFault;
+use crate::part::Part;
+use crate::walk::{PARENT_LEN, part_values};
+use arrayvec::ArrayVec;
+use b3tree::{CHUNK_LEN, Cv, Mode, left_len, parent_input, top_input};
+use bao_text::Choice;
+
+// A tree has at most 54 levels of parents. On each the right part waits, and at last a chunk.
+const WAITING_LEN: usize = 55;
+
+/// The parts of a text that are still to come. The last of them comes first.
+pub(crate) type Waiting = ArrayVec<Part, WAITING_LEN>;
+
+// The part that comes first.
+fn next_part(waiting: &Waiting) -> Option<Part>
+    ensures { result ≡ last_part waiting.now.items }
+{
+    waiting.as_slice().last().copied()
+}
+
+// How many bytes the first node of a part has.
+fn size(part: &Part) -> usize
+    ensures { result ≡ part_size part.now }
+{
+    if part.len <= CHUNK_LEN as u64 {
+        part.len as usize
+    } else {
+        PARENT_LEN
+    }
+}
+
+// How many bytes the node has that comes next.
+pub(crate) fn node_size(waiting: &Waiting) -> Option<usize>
+    ensures { result ≡ next_size waiting.now.items }
+{
+    let part = next_part(waiting)?;
+    Some(size(&part))
+}
+
+// Puts the subtree over `len` bytes from chunk `number` on before all that waits, if it is wanted.
+pub(crate) fn push_wanted(
+    choice: &Choice,
+    waiting: &mut Waiting,
+    asked: &Asked,
+    number: u64,
+    len: u64,
+)
+    requires room { length waiting.old.items < 55 }
+    requires some { 0 < len }
+    requires within { 1024 * number + len ≤ 2 ^ 64 - 1 }
+    requires levels { len ≤ 1024 * 2 ^ (54 - length waiting.old.items) }
+    requires parts { AreParts choice.now waiting.old.items }
+    ensures parts { AreParts choice.now waiting.new.items }
+    ensures before { IsBefore choice.now asked.now number len waiting.old.items waiting.new.items }
+    ensures room { length waiting.new.items ≤ length waiting.old.items + 1 }
+{
+    if choice.wants(CHUNK_LEN as u64 * number, len) {
+        waiting.push(Part {
+            asked: *asked,
+            number,
+            len,
+        });
+    }
+}
+
+// Puts the two parts below a parent, which has these values for them, before all that waits: the left one first.
+fn push_halves(choice: &Choice, waiting: &mut Waiting, parent: &Part, left: Cv, right: Cv)
+    requires parent { 1024 < parent.now.len }
+    requires parts { AreParts choice.now (waiting.old.items ++ parent.now ∷ []) }
+    ensures parts { AreParts choice.now waiting.new.items }
+    ensures before { (middle : List Part)
+        × IsBefore choice.now (below_parent left) parent.now.number (left_len parent.now.len) middle waiting.new.items
+        × IsBefore choice.now (below_parent right) (parent.now.number + left_len parent.now.len / 1024) (parent.now.len - left_len parent.now.len) waiting.old.items middle }
+{
+    let left_len = left_len(parent.len);
+    let left_asked = Asked {
+        top: false,
+        value: left,
+    };
+    let right_asked = Asked {
+        top: false,
+        value: right,
+    };
+    push_wanted(
+        choice,
+        waiting,
+        &right_asked,
+        parent.number + left_len / CHUNK_LEN as u64,
+        parent.len - left_len,
+    );
+    push_wanted(choice, waiting, &left_asked, parent.number, left_len);
+}
+
+// Verifies the node that comes next, at place `at` of the text, and goes on to what comes after it.
+pub(crate) fn take_node(
+    choice: &Choice,
+    waiting: &mut Waiting,
+    mode: &Mode,
+    at: u64,
+    node: &[u8],
+) -> Result<(), CheckFault>
+    requires chunks { choice.now.chunks ≡ true }
+    requires next { next_size waiting.old.items ≡ Some (length node.now) }
+    requires parts { AreParts choice.now waiting.old.items }
+    ensures parts { AreParts choice.now waiting.new.items }
+    ensures same { OnErr result (waiting.new ≡ waiting.old) }
+    ensures ok { OnOk result (HasTaken mode.now choice.now waiting.old.items waiting.new.items node.now) }
+    ensures err { IfErr result (HasRefused mode.now choice.now waiting.old.items at node.now) }
+{
+    let Some(part) = next_part(waiting) else {
+        unreachable!()
+    };
+    if part.len <= CHUNK_LEN as u64 {
+        if !meets(&part.asked, &top_input(mode, part.number, node)) {
+            return Err(CheckFault::Mismatch { at });
+        }
+        let _taken = waiting.pop();
+        return Ok(());
+    }
+    let (left, right) = part_values(node);
+    if !meets(&part.asked, &parent_input(mode, &left, &right)) {
+        return Err(CheckFault::Mismatch { at });
+    }
+    let _taken = waiting.pop();
+    push_halves(choice, waiting, &part, left, right);
+    Ok(())
+}
