@@ -6,4 +6,5 @@ pub mod Finished
 pub mod Faults
 pub mod Peers
 pub mod Joined
+pub mod Beside
 pub mod Closing

@@ -4,14 +4,16 @@
 
 pub use b3par::{Gate, Open};
 pub use blob::finish;
+pub use copies::gather_copies;
 pub use crew::Crew;
 pub use fault::CrewsFault;
 pub use peer::Peer;
-pub use runs::run;
+pub use runs::{run, run_bare};
 pub use texts::{crews_over, gather_texts};
 
 mod blob;
 mod closing;
+mod copies;
 mod crew;
 mod fault;
 mod handing;

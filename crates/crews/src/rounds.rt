@@ -1,11 +1,12 @@
 ghost use Rattle.std.specs.Prelude.{◌≡◌, ◌<◌, ◌≤◌, length, All};
+ghost use Rattle.gather.specs.Forms.{made_of};
 ghost use Rattle.store_shared.specs.Seats.{IsSeatOf};
 ghost use Rattle.crews.specs.Crews.{Each, Worked, WorkedOn, all_of};
 
 use crate::crew::Crew;
 use crate::shared::Shared;
 use b3par::Gate;
-use gather::{Holder, Place, Report, work};
+use gather::{Form, Holder, Place, Report, work_as};
 use std::alloc::Global;
 use std::thread::{Threads, for_each_mut};
 use store_shared::Assembly;
@@ -14,20 +15,22 @@ use store_shared::Assembly;
 fn go_round<H: Holder>(
     alloc: Global,
     assembly: &Assembly,
+    form: &Form<'_>,
     number: usize,
     crews: usize,
     crew: &mut Crew<H>,
 )
     requires of { IsSeatOf assembly.now crew.old.seat }
     requires number { (number < crews) × (crews ≤ 64) }
-    ensures { WorkedOn assembly.now H.gives H.count crew.old crew.new }
+    ensures { WorkedOn assembly.now (made_of form.now H.gives) H.count crew.old crew.new }
 {
     let place = Place {
         number: number as u32,
         workers: crews as u32,
     };
-    work(
+    work_as(
         alloc,
+        form,
         &Shared(assembly),
         &mut crew.seat,
         crew.holders.as_mut_slice(),
@@ -40,6 +43,7 @@ fn go_round<H: Holder>(
 fn begin<H: Holder, G: Gate>(
     alloc: Global,
     assembly: &Assembly,
+    form: &Form<'_>,
     gate: &G,
     number: usize,
     crews: usize,
@@ -47,11 +51,11 @@ fn begin<H: Holder, G: Gate>(
 )
     requires of { IsSeatOf assembly.now crew.old.seat }
     requires number { (number < crews) × (crews ≤ 64) }
-    ensures { Worked assembly.now H.gives H.count crew.old crew.new }
+    ensures { Worked assembly.now (made_of form.now H.gives) H.count crew.old crew.new }
 {
     gate.pass(number);
     crew.report = Report::new();
-    go_round(alloc, assembly, number, crews, crew);
+    go_round(alloc, assembly, form, number, crews, crew);
 }
 
 // All crews' first rounds, at once.
@@ -59,31 +63,32 @@ fn first_round<R: Threads + Sync, H: Holder + Send, G: Gate + Sync>(
     rt: &R,
     alloc: Global,
     assembly: &Assembly,
+    form: &Form<'_>,
     crews: &mut [Crew<H>],
     gate: &G,
 )
     requires count { (0 < length crews.old) × (length crews.old ≤ 64) }
     requires of { All (λ crew. IsSeatOf assembly.now crew.seat) crews.old }
-    ensures { Each (Worked assembly.now H.gives H.count) crews.old crews.new }
+    ensures { Each (Worked assembly.now (made_of form.now H.gives) H.count) crews.old crews.new }
 {
     let workers = crews.len();
     for_each_mut(
         rt,
         crews,
         workers,
-        &|number, crew| { begin(alloc, assembly, gate, number, workers, crew) },
+        &|number, crew| { begin(alloc, assembly, form, gate, number, workers, crew) },
     );
 }
 
 // The closing round, each crew in turn.
-fn last_round<H: Holder>(alloc: Global, assembly: &Assembly, crews: &mut [Crew<H>])
+fn last_round<H: Holder>(alloc: Global, assembly: &Assembly, form: &Form<'_>, crews: &mut [Crew<H>])
     requires count { length crews.old ≤ 64 }
     requires of { All (λ crew. IsSeatOf assembly.now crew.seat) crews.old }
-    ensures { Each (WorkedOn assembly.now H.gives H.count) crews.old crews.new }
+    ensures { Each (WorkedOn assembly.now (made_of form.now H.gives) H.count) crews.old crews.new }
 {
     let workers = crews.len();
     for number in 0..workers {
-        go_round(alloc, assembly, number, workers, &mut crews[number]);
+        go_round(alloc, assembly, form, number, workers, &mut crews[number]);
     }
 }
 
@@ -110,15 +115,16 @@ pub(crate) fn both_rounds<R: Threads + Sync, H: Holder + Send, G: Gate + Sync>(
     rt: &R,
     alloc: Global,
     assembly: &Assembly,
+    form: &Form<'_>,
     crews: &mut [Crew<H>],
     gate: &G,
 ) -> Report
     requires count { (0 < length crews.old) × (length crews.old ≤ 64) }
     requires of { All (λ crew. IsSeatOf assembly.now crew.seat) crews.old }
-    ensures each { Each (Worked assembly.now H.gives H.count) crews.old crews.new }
+    ensures each { Each (Worked assembly.now (made_of form.now H.gives) H.count) crews.old crews.new }
     ensures all { result ≡ all_of crews.new }
 {
-    first_round(rt, alloc, assembly, crews, gate);
-    last_round(alloc, assembly, crews);
+    first_round(rt, alloc, assembly, form, crews, gate);
+    last_round(alloc, assembly, form, crews);
     all_reports(crews)
 }

@@ -1,17 +1,43 @@
 ghost use Rattle.std.specs.Prelude.{◌≡◌, ◌<◌, ◌≤◌, ◌+◌, IsTrue, length, All};
 ghost use Rattle.gather.specs.Counts.{IsAnswered};
+ghost use Rattle.gather.specs.Forms.{IsMadeBeside, made_of};
 ghost use Rattle.gather.specs.Large.{AreLonger, IsTooLarge};
 ghost use Rattle.store_shared.specs.Seats.{IsSeatOf, fixed_of};
 ghost use Rattle.crews.specs.Crews.{Each, IsHandedTo, Worked, all_faults, all_of};
+ghost use Rattle.crews.specs.Beside.{IsOfStore};
 ghost use Rattle.crews.specs.Seats.{SeenBinds};
 
 use crate::crew::Crew;
 use crate::rounds::both_rounds;
 use b3par::Gate;
-use gather::{Holder, Report};
+use bao_check::Outline;
+use gather::{Form, Holder, Report};
 use std::alloc::Global;
 use std::thread::Threads;
 use store_shared::Assembly;
+
+// What `run` says, with holders of this form.
+fn run_as<R: Threads + Sync, H: Holder + Send, G: Gate + Sync>(
+    rt: &R,
+    alloc: Global,
+    assembly: &Assembly,
+    form: &Form<'_>,
+    crews: &mut [Crew<H>],
+    gate: &G,
+) -> Report
+    requires count { (0 < length crews.old) × (length crews.old ≤ 64) }
+    requires of { All (λ crew. IsSeatOf assembly.now crew.seat) crews.old }
+    ensures each { Each (Worked assembly.now (made_of form.now H.gives) H.count) crews.old crews.new }
+    ensures all { result ≡ all_of crews.new }
+    ensures binds { All (λ crew. SeenBinds crew.seat.view) crews.new }
+    ensures failed { result.failed + all_faults H.count crews.old ≤ all_faults H.count crews.new }
+    ensures answered { IsAnswered result }
+    ensures too_large { IsTrue result.too_large → IsTooLarge (IsHandedTo (made_of form.now H.gives) crews.old) (fixed_of assembly.now) }
+    ensures longer { IsTrue result.too_large → AreLonger (IsHandedTo (made_of form.now H.gives) crews.old) (fixed_of assembly.now) }
+{
+    assembly.mode().is_keyed();
+    both_rounds(rt, alloc, assembly, form, crews, gate)
+}
 
 /// Gathers what a shared store still lacks of its blob from holders that nobody trusts: one worker a crew, all at once.
 ///
@@ -54,6 +80,39 @@ pub fn run<R: Threads + Sync, H: Holder + Send, G: Gate + Sync>(
     ensures too_large { IsTrue result.too_large → IsTooLarge (IsHandedTo H.gives crews.old) (fixed_of assembly.now) }
     ensures longer { IsTrue result.too_large → AreLonger (IsHandedTo H.gives crews.old) (fixed_of assembly.now) }
 {
-    assembly.mode().is_keyed();
-    both_rounds(rt, alloc, assembly, crews, gate)
+    run_as(rt, alloc, assembly, &Form::Slices, crews, gate)
+}
+
+/// Gathers what a shared store still lacks of its blob from bare copies of the blob that nobody trusts, beside an outboard
+/// encoding that was accepted under the store's root and in its mode: one worker a crew, all at once.
+///
+/// There are 1 to 64 crews, and each crew's seat is one of this store's. All is as with [`run`], but for this. With the
+/// length L that the outline claims, of n chunks, the holders are asked for the last chunk as (1,024 * (n - 1),
+/// L - 1,024 * (n - 1)), and for the group g as (65,536 * g, min(65,536, L - 65,536 * g)), each a first byte and a number of
+/// bytes; so a copy that is too long is asked for no byte beyond L, and one that is too short gives what it has. What a
+/// holder gives are the bytes alone, and they are checked beside the outline (`check_bare`). A worker ends, though not before
+/// its `pass`, as soon as it finds a recorded length other than L, at first or after asking, and so does its closing round.
+///
+/// It refuses nothing, and its report, what the crews' seats have seen and what they claim are as with [`run`]. The pieces
+/// that are handed over are the slices that the outline's parents and the holders' bytes make together.
+pub fn run_bare<R: Threads + Sync, H: Holder + Send, G: Gate + Sync>(
+    rt: &R,
+    alloc: Global,
+    assembly: &Assembly,
+    outline: &Outline<'_>,
+    crews: &mut [Crew<H>],
+    gate: &G,
+) -> Report
+    requires count { (0 < length crews.old) × (length crews.old ≤ 64) }
+    requires outline { IsOfStore (fixed_of assembly.now) outline.now }
+    requires of { All (λ crew. IsSeatOf assembly.now crew.seat) crews.old }
+    ensures each { Each (Worked assembly.now (IsMadeBeside outline.now H.gives) H.count) crews.old crews.new }
+    ensures all { result ≡ all_of crews.new }
+    ensures binds { All (λ crew. SeenBinds crew.seat.view) crews.new }
+    ensures failed { result.failed + all_faults H.count crews.old ≤ all_faults H.count crews.new }
+    ensures answered { IsAnswered result }
+    ensures too_large { IsTrue result.too_large → IsTooLarge (IsHandedTo (IsMadeBeside outline.now H.gives) crews.old) (fixed_of assembly.now) }
+    ensures longer { IsTrue result.too_large → AreLonger (IsHandedTo (IsMadeBeside outline.now H.gives) crews.old) (fixed_of assembly.now) }
+{
+    run_as(rt, alloc, assembly, &Form::Bare(outline), crews, gate)
 }

@@ -20,9 +20,10 @@ use crate::joining::all_joined;
 use crate::runs::run;
 use b3par::Open;
 use b3tree::{Hash, Mode};
-use gather::{Encoded, GatherFault, holders_over};
+use gather::{Encoded, GatherFault, holders_over, room_for};
 use std::alloc::Global;
 use std::thread::Threads;
+use store_core::MAX_CAPACITY;
 use store_shared::{Assembly, Seat};
 
 // The most workers that gather.
@@ -68,10 +69,50 @@ pub fn crews_over<'a>(
     Ok((crews, stays))
 }
 
+// `gather_texts` by a store with room for `capacity` chunks.
+fn gather_within<R: Threads + Sync>(
+    rt: &R,
+    alloc: Global,
+    root: Hash,
+    mode: Mode,
+    capacity: u32,
+    workers: u32,
+    texts: &[Vec<u8>],
+) -> Result<Vec<u8>, CrewsFault>
+    ensures root { IfOk result (λ blob. hash mode blob.items ≡ root.0) }
+    ensures fits { IfOk result (λ blob. length blob.items ≤ 1024 * capacity) }
+    ensures capacity { (result ≡ Err (Gather Capacity)) ↔ ((capacity ≡ 0) ⊎ (65536 < capacity)) }
+    ensures too_large { IsErrOf result (Gather TooLarge) → IsTooLarge (IsCutOf (map vec_items texts.now)) (fixed_as root mode capacity) }
+    ensures longer { IsErrOf result (Gather TooLarge) → AreLonger (IsCutOf (map vec_items texts.now)) (fixed_as root mode capacity) }
+    ensures none { IsErrOf result (Gather NotTheRoot) → IsOfNone (IsCutOf (map vec_items texts.now)) (fixed_as root mode capacity) }
+    ensures available { (blob : List ℕ) (i : ℕ) → IsBlob (fixed_as root mode capacity) blob → chunk_count (length blob) ≤ capacity
+        → slice_get (map vec_items texts.now) i ≡ Some (combined_text mode blob)
+        → IsHandedOut (IsCutOf (map vec_items texts.now)) (fixed_as root mode capacity) blob result }
+{
+    let (assembly, seat) = Assembly::new(alloc, root, mode, capacity)?;
+    let workers = workers.clamp(1, MOST_WORKERS);
+    let (mut crews, seat) = crews_over(alloc, &assembly, seat, workers, texts)?;
+    let report = run(rt, alloc, &assembly, crews.as_mut_slice(), &Open);
+    let seat = all_joined(&assembly, seat, crews);
+    match hand_out(alloc, &assembly, seat, texts, report) {
+        Ok(blob) => Ok(blob),
+        Err(fault) => Err(CrewsFault::Gather(fault)),
+    }
+}
+
+// Whether it was for want of room that no blob was gathered.
+fn lacks_room(gathered: &Result<Vec<u8>, CrewsFault>) -> bool
+    ensures { IsTrue result ↔ IsErrOf gathered.now (Gather TooLarge) }
+{
+    matches!(gathered, Err(CrewsFault::Gather(GatherFault::TooLarge)))
+}
+
 /// The blob with this root in this mode, out of texts that nobody trusts: each may be its combined encoding, or any
-/// bytes. So many workers, at least 1 and at most 64, fill a shared store with room for `capacity` chunks, as `run`
-/// says, each with a seat of its own and all texts in their order. Then their seats are joined to one, which goes once
-/// more round the groups and asks for what is held by nobody; the store is let go at the end. The texts are not copied.
+/// bytes. So many workers, at least 1 and at most 64, fill a shared store, as `run` says, each with a seat of its own and
+/// all texts in their order. Then their seats are joined to one, which goes once more round the groups and asks for
+/// what is held by nobody; the store is let go at the end. It has room for as many chunks as a blob with such an
+/// encoding may have, at most `capacity`: where that is less and too little, the work is done again with room for all.
+/// The texts are not copied.
 ///
 /// 802 `Capacity` unless `capacity` is 1 to 65,536, asked before all else; 801 where there is no memory for the store,
 /// 806 for a worker's seat, and 911 `Starved` for the crews and the lists of texts. Then the blob is answered only
@@ -105,13 +146,13 @@ pub fn gather_texts<R: Threads + Sync>(
         → slice_get (map vec_items texts.now) i ≡ Some (combined_text mode blob)
         → IsHandedOut (IsCutOf (map vec_items texts.now)) (fixed_as root mode capacity) blob result }
 {
-    let (assembly, seat) = Assembly::new(alloc, root, mode, capacity)?;
-    let workers = workers.clamp(1, MOST_WORKERS);
-    let (mut crews, seat) = crews_over(alloc, &assembly, seat, workers, texts)?;
-    let report = run(rt, alloc, &assembly, crews.as_mut_slice(), &Open);
-    let seat = all_joined(&assembly, seat, crews);
-    match hand_out(alloc, &assembly, seat, texts, report) {
-        Ok(blob) => Ok(blob),
-        Err(fault) => Err(CrewsFault::Gather(fault)),
+    let room = room_for(texts, capacity);
+    if room == capacity || capacity > MAX_CAPACITY {
+        return gather_within(rt, alloc, root, mode, capacity, workers, texts);
     }
+    let gathered = gather_within(rt, alloc, root, mode, room, workers, texts);
+    if lacks_room(&gathered) {
+        return gather_within(rt, alloc, root, mode, capacity, workers, texts);
+    }
+    gathered
 }

@@ -1,4 +1,5 @@
 pub mod Bits
+pub mod Forming
 pub mod Gaining
 pub mod Grouping
 pub mod Binding
@@ -10,3 +11,4 @@ pub mod Serving
 pub mod Served
 pub mod Finishing
 pub mod Handing
+pub mod Rooms

@@ -1,9 +1,12 @@
 pub mod Faults
 pub mod Holders
 pub mod Encodings
+pub mod Forms
+pub mod Plains
 pub mod Claims
 pub mod Large
 pub mod HandedOut
+pub mod Room
 pub mod Counts
 pub mod Available
 pub mod Groups

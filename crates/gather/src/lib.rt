@@ -3,21 +3,27 @@
 
 pub use fault::FinishFault;
 pub use finish::finish_one;
+pub use form::Form;
 pub use holder::{Encoded, Holder, HolderFault};
 pub use one::run_one;
 pub use parents::boundary_groups;
+pub use plain::{Plain, copies_over};
 pub use report::Report;
+pub use room::room_for;
 pub use shelf::Shelf;
 pub use texts::{GatherFault, cause, gather_texts, holders_over};
-pub use worker::{Place, work};
+pub use worker::{Place, work, work_as};
 
 mod fault;
 mod finish;
+mod form;
 mod holder;
 mod masks;
 mod one;
 mod parents;
+mod plain;
 mod report;
+mod room;
 mod shelf;
 mod texts;
 mod worker;

@@ -1,4 +1,4 @@
-ghost use Rattle.std.specs.Prelude.{◌≡◌, ◌↔◌, ◌⊎◌, ◌*◌, ◌<◌, ◌≤◌, Err, IfOk, IsErrOf, length, map, Some, slice_get, ℕ, List, vec_items};
+ghost use Rattle.std.specs.Prelude.{◌≡◌, ◌↔◌, ◌⊎◌, ◌*◌, ◌<◌, ◌≤◌, Err, IfOk, IsErrOf, IsTrue, length, map, Some, slice_get, ℕ, List, vec_items};
 ghost use Rattle.bao_text.specs.Choice.{chunk_count};
 ghost use Rattle.bao_text.specs.Texts.{combined_text};
 ghost use Rattle.gather.specs.HandedOut.{IsHandedOut};
@@ -14,9 +14,10 @@ use crate::finish::finish_one;
 use crate::holder::Encoded;
 use crate::one::run_one;
 use crate::report::Report;
+use crate::room::room_for;
 use b3tree::{Hash, Mode};
 use std::alloc::{AllocError, Global};
-use store_core::{BadCapacity, Store};
+use store_core::{BadCapacity, MAX_CAPACITY, Store};
 use thiserror::Error;
 
 /// Why no blob was gathered.
@@ -95,22 +96,8 @@ pub fn holders_over<'a>(alloc: Global, texts: &'a [Vec<u8>]) -> Result<Vec<Encod
     Ok(holders)
 }
 
-/// The blob with this root in this mode, out of texts that nobody trusts: each may be its combined encoding, or any
-/// bytes. One worker asks them in their order, as `run_one` says, and fills a store with room for `capacity` chunks
-/// with their chunks and parents; it is let go at the end. The texts are not copied.
-///
-/// 802 `Capacity` unless `capacity` is 1 to 65,536; 911 `Starved` where there is no memory for a list of the texts.
-/// Then the blob is answered only once its hash is the root: 902 `NotTheRoot` where it isn't, 903 `Memory` where there
-/// is no memory for the blob. An unfinished blob is 911 where the worker met a want of memory, else 805 `TooLarge`
-/// where it met a length above 1,024 times the capacity, else 901 `Unfinished`.
-///
-/// Where one of the texts is the combined encoding of a blob with the root, of at most `capacity` chunks, that blob is
-/// answered, whatever the other texts are, or there was no memory, or such a pair as follows is named.
-///
-/// At 805 each blob with the root is longer than the capacity, and at 902 there is none; or two different inputs with
-/// one chaining value are named, one of the blob's and one of a slice's that is cut out of one of these texts and
-/// accepted under the root. Such a slice certifies the length that is too large, too.
-pub fn gather_texts(
+// `gather_texts` in a store with room for `capacity` chunks.
+fn gather_within(
     alloc: Global,
     root: Hash,
     mode: Mode,
@@ -140,4 +127,55 @@ pub fn gather_texts(
         Err(FinishFault::NotTheRoot) => Err(GatherFault::NotTheRoot),
         Err(FinishFault::Memory) => Err(GatherFault::Memory),
     }
+}
+
+// Whether it was for want of room that no blob was gathered.
+fn lacks_room(gathered: &Result<Vec<u8>, GatherFault>) -> bool
+    ensures { IsTrue result ↔ IsErrOf gathered.now TooLarge }
+{
+    matches!(gathered, Err(GatherFault::TooLarge))
+}
+
+/// The blob with this root in this mode, out of texts that nobody trusts: each may be its combined encoding, or any
+/// bytes. One worker asks them in their order, as `run_one` says, and fills a store with their chunks and parents;
+/// it is let go at the end. The store has room for as many chunks as a blob with such an encoding may have, at most
+/// `capacity`: where that is less and too little, the work is done again with room for all. The texts are not copied.
+///
+/// 802 `Capacity` unless `capacity` is 1 to 65,536; 911 `Starved` where there is no memory for a list of the texts.
+/// Then the blob is answered only once its hash is the root: 902 `NotTheRoot` where it isn't, 903 `Memory` where there
+/// is no memory for the blob. An unfinished blob is 911 where the worker met a want of memory, else 805 `TooLarge`
+/// where it met a length above 1,024 times the capacity, else 901 `Unfinished`.
+///
+/// Where one of the texts is the combined encoding of a blob with the root, of at most `capacity` chunks, that blob is
+/// answered, whatever the other texts are, or there was no memory, or such a pair as follows is named.
+///
+/// At 805 each blob with the root is longer than the capacity, and at 902 there is none; or two different inputs with
+/// one chaining value are named, one of the blob's and one of a slice's that is cut out of one of these texts and
+/// accepted under the root. Such a slice certifies the length that is too large, too.
+pub fn gather_texts(
+    alloc: Global,
+    root: Hash,
+    mode: Mode,
+    capacity: u32,
+    texts: &[Vec<u8>],
+) -> Result<Vec<u8>, GatherFault>
+    ensures root { IfOk result (λ blob. hash mode blob.items ≡ root.0) }
+    ensures fits { IfOk result (λ blob. length blob.items ≤ 1024 * capacity) }
+    ensures capacity { (result ≡ Err Capacity) ↔ ((capacity ≡ 0) ⊎ (65536 < capacity)) }
+    ensures too_large { IsErrOf result TooLarge → IsTooLarge (IsCutOf (map vec_items texts.now)) (fixed_as root mode capacity) }
+    ensures longer { IsErrOf result TooLarge → AreLonger (IsCutOf (map vec_items texts.now)) (fixed_as root mode capacity) }
+    ensures none { IsErrOf result NotTheRoot → IsOfNone (IsCutOf (map vec_items texts.now)) (fixed_as root mode capacity) }
+    ensures available { (blob : List ℕ) (i : ℕ) → IsBlob (fixed_as root mode capacity) blob → chunk_count (length blob) ≤ capacity
+        → slice_get (map vec_items texts.now) i ≡ Some (combined_text mode blob)
+        → IsHandedOut (IsCutOf (map vec_items texts.now)) (fixed_as root mode capacity) blob result }
+{
+    let room = room_for(texts, capacity);
+    if room == capacity || capacity > MAX_CAPACITY {
+        return gather_within(alloc, root, mode, capacity, texts);
+    }
+    let gathered = gather_within(alloc, root, mode, room, texts);
+    if lacks_room(&gathered) {
+        return gather_within(alloc, root, mode, capacity, texts);
+    }
+    gathered
 }

@@ -3,23 +3,19 @@ ghost use Rattle.gather.specs.Claims.{Among, AmongAnd};
 ghost use Rattle.bao_text.specs.Choice.{chunk_count};
 ghost use Rattle.store_core.specs.Masks.{in_mask};
 ghost use Rattle.gather.specs.Available.{GivesSlices, HasTrue, IsFilled, IsServed, IsWanted};
+ghost use Rattle.gather.specs.Forms.{AreSlices, HasGroup, made_of};
 ghost use Rattle.gather.specs.Counts.{Fits, HasFailed, IsFetch, Reports};
 ghost use Rattle.gather.specs.Large.{IsTooLarge};
 ghost use Rattle.gather.specs.Holders.{AreLater, GivesNoMore, IsGiven, IsHanded};
 
+use crate::form::{CHUNK_LEN, Form, Part};
 use crate::holder::{Holder, HolderFault};
 use crate::masks::{GROUP_LEN, MAX_GROUPS, wanted, without};
 use crate::parents::store_parents;
 use crate::report::Report;
 use crate::shelf::Shelf;
-use bao_check::check_slice;
 use std::alloc::Global;
 use store_core::{Settling, StoreFault};
-
-// Bytes of a chunk, and of a group.
-const CHUNK_LEN: u64 = b3tree::CHUNK_LEN as u64;
-
-const GROUP_BYTES: u64 = GROUP_LEN * CHUNK_LEN;
 
 /// A worker's number among so many, from 0 on.
 #[derive(Clone, Copy, Debug)]
@@ -32,19 +28,18 @@ pub struct Place {
 fn fetched<H: Holder>(
     alloc: Global,
     holder: &mut H,
-    start: u64,
-    len: u64,
+    part: &Part,
     report: &mut Report,
 ) -> Option<Vec<u8>>
     ensures fetch { IsFetch (H.count holder.old) (H.count holder.new) result report.old report.new }
-    ensures gives { IfSome result (λ text. H.gives holder.old start len text.items) }
+    ensures gives { IfSome result (λ text. H.gives holder.old part.now.start part.now.len text.items) }
     ensures no_more { GivesNoMore H.gives holder.old holder.new }
     ensures fits { Fits report.old }
 {
     report.fits();
     report.asked = report.asked.saturating_add(1);
     let mut text = Vec::new(alloc);
-    match holder.fetch(start, len, &mut text) {
+    match holder.fetch(part.start, part.len, &mut text) {
         Ok(()) => Some(text),
         Err(HolderFault::Device) => {
             report.failed = report.failed.saturating_add(1);
@@ -61,6 +56,7 @@ fn fetched<H: Holder>(
 // answers whether that length is above what the store has room for.
 fn ask_end<S: Shelf, H: Holder>(
     alloc: Global,
+    form: &Form<'_>,
     shelf: &S,
     seat: &mut S::Seat,
     holder: &mut H,
@@ -68,25 +64,19 @@ fn ask_end<S: Shelf, H: Holder>(
 ) -> bool
     requires { S.has shelf.now seat.old }
     ensures has { S.has shelf.now seat.new }
-    ensures reports { Reports S.fixed_of S.gained seat.old seat.new (IsGiven H.gives holder.old) (IsGiven H.gives holder.new) (H.count holder.old) (H.count holder.new) report.old report.new }
-    ensures no_more { GivesNoMore H.gives holder.old holder.new }
+    ensures reports { Reports S.fixed_of S.gained seat.old seat.new (IsGiven (made_of form.now H.gives) holder.old) (IsGiven (made_of form.now H.gives) holder.new) (H.count holder.old) (H.count holder.new) report.old report.new }
+    ensures no_more { GivesNoMore (made_of form.now H.gives) holder.old holder.new }
     ensures claims { Among (S.claims seat.old) (S.claims seat.new) }
-    ensures agreed { (blob : List ℕ) → IsServed (S.fixed_of seat.old) blob → GivesSlices H.gives (S.fixed_of seat.old).mode blob holder.old
+    ensures agreed { AreSlices form.now → (blob : List ℕ) → IsServed (S.fixed_of seat.old) blob → GivesSlices (made_of form.now H.gives) (S.fixed_of seat.old).mode blob holder.old
         → HasFailed report.new ⊎ ((l : ℕ) × S.records seat.new l) }
-    ensures large { IsTrue result → IsTooLarge (IsGiven H.gives holder.old) (S.fixed_of seat.old) }
+    ensures large { IsTrue result → IsTooLarge (IsGiven (made_of form.now H.gives) holder.old) (S.fixed_of seat.old) }
 {
-    let Some(text) = fetched(alloc, holder, u64::MAX, 1, report) else {
+    let part = form.end();
+    let Some(text) = fetched(alloc, holder, &part, report) else {
         return false;
     };
     let fixed = shelf.fixed(seat);
-    match check_slice(
-        alloc,
-        &fixed.mode,
-        &fixed.root,
-        u64::MAX,
-        1,
-        text.as_slice(),
-    ) {
+    match form.check(alloc, &fixed, &part, text.as_slice()) {
         Ok(piece) => {
             let Some(tail) = piece.tail() else {
                 return false;
@@ -113,6 +103,7 @@ fn ask_end<S: Shelf, H: Holder>(
 // certified one is above what the store has room for.
 fn agree<S: Shelf, H: Holder>(
     alloc: Global,
+    form: &Form<'_>,
     shelf: &S,
     seat: &mut S::Seat,
     holders: &mut [H],
@@ -120,12 +111,12 @@ fn agree<S: Shelf, H: Holder>(
 ) -> Option<u64>
     requires { S.has shelf.now seat.old }
     ensures has { S.has shelf.now seat.new }
-    ensures reports { Reports S.fixed_of S.gained seat.old seat.new (IsHanded H.gives holders.old) (IsHanded H.gives holders.new) (sum_by H.count holders.old) (sum_by H.count holders.new) report.old report.new }
-    ensures later { AreLater H.gives holders.old holders.new }
+    ensures reports { Reports S.fixed_of S.gained seat.old seat.new (IsHanded (made_of form.now H.gives) holders.old) (IsHanded (made_of form.now H.gives) holders.new) (sum_by H.count holders.old) (sum_by H.count holders.new) report.old report.new }
+    ensures later { AreLater (made_of form.now H.gives) holders.old holders.new }
     ensures claims { Among (S.claims seat.old) (S.claims seat.new) }
     ensures records { IfSome result (λ l. S.records seat.new l) }
-    ensures agreed { (blob : List ℕ) → IsServed (S.fixed_of seat.old) blob → HasTrue H.gives (S.fixed_of seat.old).mode blob holders.old
-        → HasFailed report.new ⊎ IsTooLarge (IsHanded H.gives holders.old) (S.fixed_of seat.old) ⊎ IsSome result }
+    ensures agreed { AreSlices form.now → (blob : List ℕ) → IsServed (S.fixed_of seat.old) blob → HasTrue (made_of form.now H.gives) (S.fixed_of seat.old).mode blob holders.old
+        → HasFailed report.new ⊎ IsTooLarge (IsHanded (made_of form.now H.gives) holders.old) (S.fixed_of seat.old) ⊎ IsSome result }
 {
     report.fits();
     let mut length = shelf.length(seat);
@@ -134,7 +125,7 @@ fn agree<S: Shelf, H: Holder>(
         if length.is_some() || too_large {
             break;
         }
-        too_large = ask_end(alloc, shelf, seat, holder, report);
+        too_large = ask_end(alloc, form, shelf, seat, holder, report);
         length = shelf.length(seat);
     }
     length
@@ -144,6 +135,7 @@ fn agree<S: Shelf, H: Holder>(
 // answers those that are left then.
 fn ask<S: Shelf, H: Holder>(
     alloc: Global,
+    form: &Form<'_>,
     shelf: &S,
     seat: &mut S::Seat,
     holder: &mut H,
@@ -151,31 +143,25 @@ fn ask<S: Shelf, H: Holder>(
     left: u64,
     report: &mut Report,
 ) -> u64
-    requires { S.has shelf.now seat.old }
+    requires has { S.has shelf.now seat.old }
+    requires group { HasGroup form.now group }
     ensures has { S.has shelf.now seat.new }
-    ensures reports { Reports S.fixed_of S.gained seat.old seat.new (IsGiven H.gives holder.old) (IsGiven H.gives holder.new) (H.count holder.old) (H.count holder.new) report.old report.new }
-    ensures no_more { GivesNoMore H.gives holder.old holder.new }
+    ensures reports { Reports S.fixed_of S.gained seat.old seat.new (IsGiven (made_of form.now H.gives) holder.old) (IsGiven (made_of form.now H.gives) holder.new) (H.count holder.old) (H.count holder.new) report.old report.new }
+    ensures no_more { GivesNoMore (made_of form.now H.gives) holder.old holder.new }
     ensures claims { (before : ℕ → Bool) → AmongAnd before group left (S.claims seat.old) → AmongAnd before group result (S.claims seat.new) }
     ensures fewer { (c : ℕ) → in_mask group result c ≡ true → in_mask group left c ≡ true }
     ensures kept { (c : ℕ) → in_mask group left c ≡ true → S.claims seat.old c ≡ true
         → ((in_mask group result c ≡ true) × (S.claims seat.new c ≡ true)) ⊎ ((in_mask group result c ≡ false) × S.holds seat.new c) }
-    ensures served { (blob : List ℕ) → IsServed (S.fixed_of seat.old) blob → GivesSlices H.gives (S.fixed_of seat.old).mode blob holder.old
+    ensures served { AreSlices form.now → (blob : List ℕ) → IsServed (S.fixed_of seat.old) blob → GivesSlices (made_of form.now H.gives) (S.fixed_of seat.old).mode blob holder.old
         → ((c : ℕ) → in_mask group left c ≡ true → (S.claims seat.old c ≡ true) × (c < chunk_count (length blob)))
         → HasFailed report.new ⊎ ((c : ℕ) → in_mask group result c ≡ false) }
 {
-    let start = GROUP_BYTES * u64::from(group);
-    let Some(text) = fetched(alloc, holder, start, GROUP_BYTES, report) else {
+    let part = form.group(group);
+    let Some(text) = fetched(alloc, holder, &part, report) else {
         return left;
     };
     let fixed = shelf.fixed(seat);
-    match check_slice(
-        alloc,
-        &fixed.mode,
-        &fixed.root,
-        start,
-        GROUP_BYTES,
-        text.as_slice(),
-    ) {
+    match form.check(alloc, &fixed, &part, text.as_slice()) {
         Ok(piece) => match shelf.commit(seat, group, &piece) {
             Ok(committed) => {
                 report.committed = report
@@ -202,6 +188,7 @@ fn ask<S: Shelf, H: Holder>(
 // back those that are.
 fn work_group<S: Shelf, H: Holder>(
     alloc: Global,
+    form: &Form<'_>,
     shelf: &S,
     seat: &mut S::Seat,
     holders: &mut [H],
@@ -209,12 +196,13 @@ fn work_group<S: Shelf, H: Holder>(
     want: u64,
     report: &mut Report,
 )
-    requires { S.has shelf.now seat.old }
+    requires has { S.has shelf.now seat.old }
+    requires group { HasGroup form.now group }
     ensures has { S.has shelf.now seat.new }
-    ensures reports { Reports S.fixed_of S.gained seat.old seat.new (IsHanded H.gives holders.old) (IsHanded H.gives holders.new) (sum_by H.count holders.old) (sum_by H.count holders.new) report.old report.new }
-    ensures later { AreLater H.gives holders.old holders.new }
+    ensures reports { Reports S.fixed_of S.gained seat.old seat.new (IsHanded (made_of form.now H.gives) holders.old) (IsHanded (made_of form.now H.gives) holders.new) (sum_by H.count holders.old) (sum_by H.count holders.new) report.old report.new }
+    ensures later { AreLater (made_of form.now H.gives) holders.old holders.new }
     ensures claims { Among (S.claims seat.old) (S.claims seat.new) }
-    ensures served { (blob : List ℕ) → IsServed (S.fixed_of seat.old) blob → HasTrue H.gives (S.fixed_of seat.old).mode blob holders.old
+    ensures served { AreSlices form.now → (blob : List ℕ) → IsServed (S.fixed_of seat.old) blob → HasTrue (made_of form.now H.gives) (S.fixed_of seat.old).mode blob holders.old
         → ((c : ℕ) → IsWanted group want c → c < chunk_count (length blob))
         → HasFailed report.new ⊎ ((c : ℕ) → IsWanted group want c → S.holds seat.new c ⊎ S.busy seat.old c) }
 {
@@ -233,7 +221,7 @@ fn work_group<S: Shelf, H: Holder>(
         if left == 0 {
             break;
         }
-        left = ask(alloc, shelf, seat, holder, group, left, report);
+        left = ask(alloc, form, shelf, seat, holder, group, left, report);
     }
     if left == 0 {
         return;
@@ -269,10 +257,42 @@ pub fn work<S: Shelf, H: Holder>(
     ensures served { (blob : List ℕ) → IsServed (S.fixed_of seat.old) blob → HasTrue H.gives (S.fixed_of seat.old).mode blob holders.old
         → HasFailed report.new ⊎ IsTooLarge (IsHanded H.gives holders.old) (S.fixed_of seat.old) ⊎ IsFilled S.records S.holds S.busy seat.old seat.new blob }
 {
+    work_as(alloc, &Form::Slices, shelf, seat, holders, place, report);
+}
+
+/// A worker's work, as [`work`] does it, with holders of this form. Holders of slices are asked as there.
+///
+/// Bytes of plain copies are checked beside the form's outboard encoding. With the length L that it claims, of n chunks, a
+/// holder is asked for the last chunk as (1,024 * (n - 1), L - 1,024 * (n - 1)), and for a group g as (65,536 * g,
+/// min(65,536, L - 65,536 * g)), each a first byte and a number of bytes. The worker ends as soon as it finds a recorded
+/// length other than L, at first or after asking.
+///
+/// What the holders hand over are the slices that the outboard encoding's parents and their bytes make together.
+pub fn work_as<S: Shelf, H: Holder>(
+    alloc: Global,
+    form: &Form<'_>,
+    shelf: &S,
+    seat: &mut S::Seat,
+    holders: &mut [H],
+    place: Place,
+    report: &mut Report,
+)
+    requires has { S.has shelf.now seat.old }
+    requires place { place.number < place.workers }
+    ensures has { S.has shelf.now seat.new }
+    ensures reports { Reports S.fixed_of S.gained seat.old seat.new (IsHanded (made_of form.now H.gives) holders.old) (IsHanded (made_of form.now H.gives) holders.new) (sum_by H.count holders.old) (sum_by H.count holders.new) report.old report.new }
+    ensures later { AreLater (made_of form.now H.gives) holders.old holders.new }
+    ensures claims { Among (S.claims seat.old) (S.claims seat.new) }
+    ensures served { AreSlices form.now → (blob : List ℕ) → IsServed (S.fixed_of seat.old) blob → HasTrue (made_of form.now H.gives) (S.fixed_of seat.old).mode blob holders.old
+        → HasFailed report.new ⊎ IsTooLarge (IsHanded (made_of form.now H.gives) holders.old) (S.fixed_of seat.old) ⊎ IsFilled S.records S.holds S.busy seat.old seat.new blob }
+{
     report.fits();
-    let Some(length) = agree(alloc, shelf, seat, holders, report) else {
+    let Some(length) = agree(alloc, form, shelf, seat, holders, report) else {
         return;
     };
+    if !form.is_of(length) {
+        return;
+    }
     let chunks = length.div_ceil(CHUNK_LEN).max(1);
     let groups = chunks.div_ceil(GROUP_LEN).min(MAX_GROUPS);
     let first = u64::from(place.number) * groups / u64::from(place.workers);
@@ -280,6 +300,7 @@ pub fn work<S: Shelf, H: Holder>(
         let group = ((first + step) % groups) as u32;
         work_group(
             alloc,
+            form,
             shelf,
             seat,
             holders,

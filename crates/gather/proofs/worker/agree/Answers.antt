@@ -11,6 +11,7 @@ use Rattle.gather.proofs.Gaining.{among_onward}
 use Rattle.gather.proofs.Reporting.{among_holders, handed_here, large_wider, later_one, later_then, onward, onward_none}
 use Rattle.gather.proofs.Serving.{fails_on, get_set_after, known_some, true_here}
 use Rattle.gather.proofs.worker.agree.Goals.{then-is_some-via-else-is_some+then-too_large, then-is_some-via-then-is_some}
+use Rattle.gather.specs.Forms.{made_of}
 use Rattle.gather.proofs.worker.agree.Goals as goal
 
 pub loop-holder-preserved : goal.loop-holder-preserved
@@ -20,9 +21,9 @@ loop-holder-preserved g c =
     let then = c.length-length-in-loop-holder.ensures in
     let here : x.holder-index < length x.holders = omega (arith, c.loop-holder-test.true) in
     let F = g.S.Shelf.fixed_of c.args.seat.now in
-    let handed = IsHanded g.H.Holder.gives c.args.holders.now in
-    let later = later_then g.H.Holder.gives _ _ _ x.invariant.3 (later_one g.H.Holder.gives x.holders x.holder-index c.holder-item.result _ met.no_more) in
-    let one = among_holders g.S.Shelf.fixed_of g.S.Shelf.gained g.S.Shelf.goes g.H.Holder.gives g.H.Holder.count _ _ x.holders x.holder-index c.holder-item.result _ _ _ here met.reports in
+    let handed = IsHanded (made_of c.args.form.now g.H.Holder.gives) c.args.holders.now in
+    let later = later_then (made_of c.args.form.now g.H.Holder.gives) _ _ _ x.invariant.3 (later_one (made_of c.args.form.now g.H.Holder.gives) x.holders x.holder-index c.holder-item.result _ met.no_more) in
+    let one = among_holders g.S.Shelf.fixed_of g.S.Shelf.gained g.S.Shelf.goes (made_of c.args.form.now g.H.Holder.gives) g.H.Holder.count _ _ x.holders x.holder-index c.holder-item.result _ _ _ here met.reports in
     let asked = onward g.S.Shelf.fixed_of g.S.Shelf.gained g.S.Shelf.goes _ _ _ _ _ _ _ _ _ _ _ _ x.invariant.1 one in
     let among = among_onward _ _ _ x.invariant.2 met.claims in
     let same : g.S.Shelf.fixed_of x.seat ≡ F = g.S.Shelf.goes.keeps _ _ _ _ _ x.invariant.1.gains in
@@ -37,21 +38,21 @@ loop-holder-preserved g c =
       then.records,
       λ large.
           large_wider _ handed x.invariant.1.no_more F
-          (subst (λ (f : Fixed). IsTooLarge (IsHanded g.H.Holder.gives x.holders) f) same
-          (large_wider _ (IsHanded g.H.Holder.gives x.holders) (handed_here g.H.Holder.gives x.holders x.holder-index c.holder-item.result here) _ (met.large large))),
-      λ blob served has before. elim (cases_lt has.place x.holder-index) [
-        | inl sooner ↦ elim (x.invariant.7 blob served has sooner) [
+          (subst (λ (f : Fixed). IsTooLarge (IsHanded (made_of c.args.form.now g.H.Holder.gives) x.holders) f) same
+          (large_wider _ (IsHanded (made_of c.args.form.now g.H.Holder.gives) x.holders) (handed_here (made_of c.args.form.now g.H.Holder.gives) x.holders x.holder-index c.holder-item.result here) _ (met.large large))),
+      λ are blob served has before. elim (cases_lt has.place x.holder-index) [
+        | inl sooner ↦ elim (x.invariant.7 are blob served has sooner) [
           | inl failed ↦ inl (fails_on x.report c.ask_end-too_large.new.report met.reports.no_less failed)
           | inr (inl large) ↦ inr (inl large)
           | inr (inr some) ↦ inr (inr (known some))
         ]
         | inr not_sooner ↦
             let at : has.place ≡ x.holder-index = omega (arith, before, not_sooner) in
-            let slices : GivesSlices g.H.Holder.gives F.mode blob (get_or x.holders x.holder-index c.holder-item.result) =
-            subst (λ (k : ℕ). GivesSlices g.H.Holder.gives F.mode blob (get_or x.holders k c.holder-item.result)) at
-            (true_here g.H.Holder.gives F.mode blob c.args.holders.now x.holders c.holder-item.result has (x.invariant.4 has.place (omega (arith, at)))) in
-            elim (met.agreed blob (subst (λ (f : Fixed). IsServed f blob) (sym same) served)
-            (subst (λ (f : Fixed). GivesSlices g.H.Holder.gives f.mode blob (get_or x.holders x.holder-index c.holder-item.result)) (sym same) slices)) [
+            let slices : GivesSlices (made_of c.args.form.now g.H.Holder.gives) F.mode blob (get_or x.holders x.holder-index c.holder-item.result) =
+            subst (λ (k : ℕ). GivesSlices (made_of c.args.form.now g.H.Holder.gives) F.mode blob (get_or x.holders k c.holder-item.result)) at
+            (true_here (made_of c.args.form.now g.H.Holder.gives) F.mode blob c.args.holders.now x.holders c.holder-item.result has (x.invariant.4 has.place (omega (arith, at)))) in
+            elim (met.agreed are blob (subst (λ (f : Fixed). IsServed f blob) (sym same) served)
+            (subst (λ (f : Fixed). GivesSlices (made_of c.args.form.now g.H.Holder.gives) f.mode blob (get_or x.holders x.holder-index c.holder-item.result)) (sym same) slices)) [
               | inl failed ↦ inl failed
               | inr recorded ↦ inr (inr (subst (λ (o : Option ℕ). IsSome o) (sym (then.known recorded.0 recorded.1)) refl))
             ]
@@ -62,15 +63,15 @@ pub returns-after-loop-holder-clause-records : goal.returns-after-loop-holder-cl
 returns-after-loop-holder-clause-records g c = c.loop-holder.invariant.5
 
 pub returns-after-loop-holder-clause-agreed : goal.returns-after-loop-holder-clause-agreed
-returns-after-loop-holder-clause-agreed g c = λ blob served has.
-    c.loop-holder.invariant.7 blob served has
+returns-after-loop-holder-clause-agreed g c = λ are blob served has.
+    c.loop-holder.invariant.7 are blob served has
     (omega (arith, slice_get_within c.args.holders.now has.place has.holder has.there, c.loop-holder.invariant.3.len, c.loop-holder-test.false))
 
 pub returns-then-is_some-clause-records : goal.returns-then-is_some-clause-records
 returns-then-is_some-clause-records g c = c.loop-holder.invariant.5
 
 pub returns-then-is_some-clause-agreed : goal.returns-then-is_some-clause-agreed
-returns-then-is_some-clause-agreed g c = λ blob served has. elim c.then-is_some.branch [
+returns-then-is_some-clause-agreed g c = λ are blob served has. elim c.then-is_some.branch [
   | then-is_some-via-then-is_some w ↦ inr (inr (sym w.if-is_some.ensures))
   | then-is_some-via-else-is_some+then-too_large w ↦ inr (inl (c.loop-holder.invariant.6 w.if-too_large.true))
 ]
@@ -82,5 +83,5 @@ returns-then-is_some-clause-reports g c =
       | then-is_some-via-then-is_some w ↦ w.holders-is ∙ back
       | then-is_some-via-else-is_some+then-too_large w ↦ w.holders-is ∙ back
     ] in
-    subst (λ holders. Reports g.S.Shelf.fixed_of g.S.Shelf.gained c.args.seat.now c.loop-holder.seat (IsHanded g.H.Holder.gives c.args.holders.now) (IsHanded g.H.Holder.gives holders)
+    subst (λ holders. Reports g.S.Shelf.fixed_of g.S.Shelf.gained c.args.seat.now c.loop-holder.seat (IsHanded (made_of c.args.form.now g.H.Holder.gives) c.args.holders.now) (IsHanded (made_of c.args.form.now g.H.Holder.gives) holders)
     (sum_by g.H.Holder.count c.args.holders.now) (sum_by g.H.Holder.count holders) c.args.report.now c.loop-holder.report) (sym same) c.loop-holder.invariant.1

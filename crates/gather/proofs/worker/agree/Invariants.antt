@@ -1,3 +1,4 @@
+use Rattle.gather.specs.Forms.{AreSlices, made_of}
 use Rattle.gather.specs.Claims.{Among}
 use Rattle.std.specs.List.{sum_by}
 use Rattle.gather.specs.Counts.{Reports}
@@ -10,11 +11,11 @@ use Rattle.gather.specs.Large.{IsTooLarge}
 
 abbrev pub invariant-loop-holder : goal.invariant-loop-holder
 invariant-loop-holder g l = g.S.Shelf.has l.shelf l.seat
-    × Reports g.S.Shelf.fixed_of g.S.Shelf.gained l.fn.seat l.seat (IsHanded g.H.Holder.gives l.fn.holders) (IsHanded g.H.Holder.gives l.holders) (sum_by g.H.Holder.count l.fn.holders) (sum_by g.H.Holder.count l.holders) l.fn.report l.report
+    × Reports g.S.Shelf.fixed_of g.S.Shelf.gained l.fn.seat l.seat (IsHanded (made_of l.form g.H.Holder.gives) l.fn.holders) (IsHanded (made_of l.form g.H.Holder.gives) l.holders) (sum_by g.H.Holder.count l.fn.holders) (sum_by g.H.Holder.count l.holders) l.fn.report l.report
     × Among (g.S.Shelf.claims l.fn.seat) (g.S.Shelf.claims l.seat)
-    × AreLater g.H.Holder.gives l.fn.holders l.holders
+    × AreLater (made_of l.form g.H.Holder.gives) l.fn.holders l.holders
     × ((k : ℕ) → l.holder-index ≤ k → slice_get l.holders k ≡ slice_get l.fn.holders k)
     × IfSome l.length (λ n. g.S.Shelf.records l.seat n)
-    × (IsTrue l.too_large → IsTooLarge (IsHanded g.H.Holder.gives l.fn.holders) (g.S.Shelf.fixed_of l.fn.seat))
-    × ((blob : List ℕ) → IsServed (g.S.Shelf.fixed_of l.fn.seat) blob → (has : HasTrue g.H.Holder.gives (g.S.Shelf.fixed_of l.fn.seat).mode blob l.fn.holders) → has.place < l.holder-index
-    → HasFailed l.report ⊎ IsTooLarge (IsHanded g.H.Holder.gives l.fn.holders) (g.S.Shelf.fixed_of l.fn.seat) ⊎ IsSome l.length)
+    × (IsTrue l.too_large → IsTooLarge (IsHanded (made_of l.form g.H.Holder.gives) l.fn.holders) (g.S.Shelf.fixed_of l.fn.seat))
+    × (AreSlices l.form → (blob : List ℕ) → IsServed (g.S.Shelf.fixed_of l.fn.seat) blob → (has : HasTrue (made_of l.form g.H.Holder.gives) (g.S.Shelf.fixed_of l.fn.seat).mode blob l.fn.holders) → has.place < l.holder-index
+    → HasFailed l.report ⊎ IsTooLarge (IsHanded (made_of l.form g.H.Holder.gives) l.fn.holders) (g.S.Shelf.fixed_of l.fn.seat) ⊎ IsSome l.length)

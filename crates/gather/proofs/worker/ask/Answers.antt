@@ -3,18 +3,19 @@ use Rattle.gather.specs.declared.report.Report.{Report}
 use Rattle.gather.specs.Counts.{Fits, Reports}
 use Rattle.gather.specs.Holders.{IsGiven}
 use Rattle.gather.proofs.Gaining.{among_and_onward, among_committed}
-use Rattle.gather.proofs.Reporting.{starved, beside, committed_some, fetch_none, fetch_some, it_gained, narrowed, none_gained, onward, piece_given, refused_done}
+use Rattle.gather.proofs.Reporting.{starved, beside, committed_some, fetch_none, fetch_some, it_gained, narrowed, none_gained, onward, refused_done}
 use Rattle.store_core.specs.Pieces.{piece_of}
-use Rattle.std.proofs.Common.{◌≡◌, ◌/◌, ◌%◌, ◌==◌, false, true, ap, inl, inr, eqb-true}
+use Rattle.std.proofs.Common.{◌≡◌, ◌/◌, ◌%◌, ◌==◌, false, true, inl, inr, eqb-true}
 use Rattle.std.proofs.lemmas.Bool.{and_parts, both_ways, cases_Bool}
-use Rattle.bao_text.specs.Texts.{slice_text}
 use Rattle.gather.specs.Available.{slice_of}
 use Rattle.gather.proofs.Bits.{in_without}
-use Rattle.gather.proofs.Serving.{memory_failed, fetch_failed, is_of, rest_parts, slice_good, slice_is}
+use Rattle.gather.proofs.Serving.{memory_failed, fetch_failed, rest_parts}
 use Rattle.store_core.specs.declared.history.Piece.{Piece}
 use Rattle.store_core.specs.Masks.{has_bit, in_mask}
 use Rattle.store_core.specs.Pieces.{holds_chunk}
 use Rattle.gather.proofs.worker.ask.Goals.{else-eq, then-eq}
+use Rattle.gather.specs.Forms.{made_of}
+use Rattle.gather.proofs.Forming.{made_given, made_no_more, slice_given, slice_group, slice_made, slice_of_store, slice_refused}
 use Rattle.gather.proofs.worker.ask.Goals as goal
 
 pub returns-in-Ok-commit-clause-claims : goal.returns-in-Ok-commit-clause-claims
@@ -24,28 +25,28 @@ returns-in-Ok-commit-clause-claims g c = λ before among.
 
 pub returns-clause-reports : goal.returns-clause-reports
 returns-clause-reports g c =
-    refused_done g.S.Shelf.fixed_of g.S.Shelf.gained g.S.Shelf.goes _ _ _ _ _ _ _ _ c.in-Err.fault (λ piece is. c.in-Some.ensures.no_more _ _ _ is) c.in-Some.ensures.fits c.in-Some.ensures.fetch c.count_refused.ensures
+    refused_done g.S.Shelf.fixed_of g.S.Shelf.gained g.S.Shelf.goes _ _ _ _ _ _ _ _ c.in-Err.fault (λ piece is. made_no_more c.args.form.now g.H.Holder.gives _ _ c.in-Some.ensures.no_more _ _ _ is) c.in-Some.ensures.fits c.in-Some.ensures.fetch c.count_refused.ensures
 
 pub returns-in_default-clause-reports : goal.returns-in_default-clause-reports
 returns-in_default-clause-reports g c =
-    fetch_none g.S.Shelf.fixed_of g.S.Shelf.gained g.S.Shelf.goes _ _ _ _ _ _ _ (λ piece is. c.in_default.ensures.no_more _ _ _ is) c.in_default.ensures.fits c.in_default.ensures.fetch
+    fetch_none g.S.Shelf.fixed_of g.S.Shelf.gained g.S.Shelf.goes _ _ _ _ _ _ _ (λ piece is. made_no_more c.args.form.now g.H.Holder.gives _ _ c.in_default.ensures.no_more _ _ _ is) c.in_default.ensures.fits c.in_default.ensures.fetch
 
 pub returns-in-Ok-commit-clause-reports : goal.returns-in-Ok-commit-clause-reports
 returns-in-Ok-commit-clause-reports g c =
-    let A = IsGiven g.H.Holder.gives c.args.holder.now in
-    let given : A (piece_of c.in-Ok.piece) = piece_given g.H.Holder.gives c.args.holder.now c.in-Ok.piece _ _ _ _ _ c.in-Ok.ensures.piece
-    (subst (λ (xs : List ℕ). g.H.Holder.gives c.args.holder.now (65536 * c.from-start.result) 65536 xs) (sym c.as_slice.ensures.value) c.in-Some.ensures.gives) in
+    let A = IsGiven (made_of c.args.form.now g.H.Holder.gives) c.args.holder.now in
+    let given : A (piece_of c.in-Ok.piece) = made_given c.args.form.now g.H.Holder.gives c.args.holder.now c.group-part.result c.as_slice.result.now (piece_of c.in-Ok.piece)
+    (subst (λ (xs : List ℕ). g.H.Holder.gives c.args.holder.now c.group-part.result.start c.group-part.result.len xs) (sym c.as_slice.ensures.value) c.in-Some.ensures.gives) c.in-Ok.ensures.made in
     let y = c.fetched.new.report in
     let asked = fetch_some g.S.Shelf.fixed_of g.S.Shelf.gained g.S.Shelf.goes _ _ A A _ _ _ y (none_gained g.S.Shelf.fixed_of g.S.Shelf.gained g.S.Shelf.goes A c.args.seat.now) (λ piece is. is) c.in-Some.ensures.fits c.in-Some.ensures.fetch in
     let fits : Fits y = subst (λ (x : Report). Fits x) (sym c.in-Some.ensures.fetch.1) c.in-Some.ensures.fits in
     let committed = committed_some g.S.Shelf.fixed_of g.S.Shelf.gained g.S.Shelf.goes _ _ A _ y _ c.saturating_add-report.result (it_gained g.S.Shelf.fixed_of g.S.Shelf.gained g.S.Shelf.goes A _ _ _ _ 0 given c.in-Ok-commit.ensures.gained) fits
     (omega (arith, c.saturating_add-report.ensures, c.from.ensures)) in
     let both = onward g.S.Shelf.fixed_of g.S.Shelf.gained g.S.Shelf.goes _ _ _ A A A _ _ _ _ _ _ asked committed in
-    narrowed g.S.Shelf.fixed_of g.S.Shelf.gained g.S.Shelf.goes _ _ A _ _ _ _ _ (λ piece is. c.in-Some.ensures.no_more _ _ _ is)
+    narrowed g.S.Shelf.fixed_of g.S.Shelf.gained g.S.Shelf.goes _ _ A _ _ _ _ _ (λ piece is. made_no_more c.args.form.now g.H.Holder.gives _ _ c.in-Some.ensures.no_more _ _ _ is)
     (onward g.S.Shelf.fixed_of g.S.Shelf.gained g.S.Shelf.goes _ _ _ A A A _ _ _ _ _ _ both (beside g.S.Shelf.fixed_of g.S.Shelf.gained g.S.Shelf.goes _ _ A _ _ _ _ given c.store_parents.ensures.reports))
 
 pub returns-in_default-clause-served : goal.returns-in_default-clause-served
-returns-in_default-clause-served g c = λ blob served slices asked. inl (fetch_failed _ _ _ _ c.in_default.ensures.fetch)
+returns-in_default-clause-served g c = λ are blob served slices asked. inl (fetch_failed _ _ _ _ c.in_default.ensures.fetch)
 
 pub returns-in-Ok-commit-clause-fewer : goal.returns-in-Ok-commit-clause-fewer
 returns-in-Ok-commit-clause-fewer g c = λ n hit. (rest_parts c.args.group c.args.left c.in-Ok-commit.committed _ n c.without.ensures hit).0
@@ -65,12 +66,12 @@ returns-in-Ok-commit-clause-kept g c = λ n asked claimed.
     ]
 
 pub returns-in-Ok-commit-clause-served : goal.returns-in-Ok-commit-clause-served
-returns-in-Ok-commit-clause-served g c = λ blob served slices asked.
+returns-in-Ok-commit-clause-served g c = λ are blob served slices asked.
     let F = g.S.Shelf.fixed_of c.args.seat.now in
-    let start : 65536 * c.from-start.result ≡ 65536 * c.args.group = ap (λ (k : ℕ). 65536 * k) c.from-start.ensures in
-    let text : c.as_slice.result.now ≡ slice_text F.mode blob (65536 * c.from-start.result) 65536 = c.as_slice.ensures.value ∙ slices _ _ _ c.in-Some.ensures.gives in
+    let at = slice_group c.args.form.now c.args.group c.group-part.result are c.group-part.ensures.group in
+    let text = slice_given c.args.form.now g.H.Holder.gives F.mode blob c.args.holder.now c.group-part.result c.as_slice.result.now _ are slices c.as_slice.ensures.value c.in-Some.ensures.gives in
     let is : piece_of c.in-Ok.piece ≡ slice_of F.mode blob (65536 * c.args.group) 65536 =
-    slice_is F c.in-Ok.piece _ _ _ _ blob _ c.in-Ok.ensures.piece text ∙ ap (λ (k : ℕ). slice_of F.mode blob k 65536) start in
+    slice_made c.args.form.now F _ c.group-part.result _ c.in-Ok.piece blob _ _ are at.0 at.1 text c.in-Ok.ensures.slice in
     inr (λ n. elim (cases_Bool (in_mask c.args.group c.without.result n)) [
       | inr out ↦ out
       | inl rest ↦
@@ -82,19 +83,19 @@ returns-in-Ok-commit-clause-served g c = λ blob served slices asked.
     ])
 
 pub returns-clause-served : goal.returns-clause-served
-returns-clause-served g c = λ blob served slices asked.
+returns-clause-served g c = λ are blob served slices asked.
     let F = g.S.Shelf.fixed_of c.args.seat.now in
-    let text : c.as_slice.result.now ≡ slice_text F.mode blob (65536 * c.from-start.result) 65536 = c.as_slice.ensures.value ∙ slices _ _ _ c.in-Some.ensures.gives in
-    let no : false ≡ true = c.in-Err.ensures.accepted.1 (slice_good F c.fixed-fixed.result blob c.as_slice.result.now (65536 * c.from-start.result) 65536 served c.fixed-fixed.ensures text) in cc
+    let text = slice_given c.args.form.now g.H.Holder.gives F.mode blob c.args.holder.now c.group-part.result c.as_slice.result.now _ are slices c.as_slice.ensures.value c.in-Some.ensures.gives in
+    absurd (slice_refused c.args.form.now F c.fixed-fixed.result c.group-part.result _ blob _ are served c.fixed-fixed.ensures text c.in-Err.ensures.slice)
 
 pub returns-in-Ok-clause-reports : goal.returns-in-Ok-clause-reports
 returns-in-Ok-clause-reports g c =
-    let A = IsGiven g.H.Holder.gives c.args.holder.now in
-    let given : A (piece_of c.in-Ok.piece) = piece_given g.H.Holder.gives c.args.holder.now c.in-Ok.piece _ _ _ _ _ c.in-Ok.ensures.piece
-    (subst (λ (xs : List ℕ). g.H.Holder.gives c.args.holder.now (65536 * c.from-start.result) 65536 xs) (sym c.as_slice.ensures.value) c.in-Some.ensures.gives) in
-    let asked = fetch_some g.S.Shelf.fixed_of g.S.Shelf.gained g.S.Shelf.goes _ _ _ _ _ _ _ _ (it_gained g.S.Shelf.fixed_of g.S.Shelf.gained g.S.Shelf.goes A _ _ _ 0 0 given c.in-Err-commit.ensures.gained) (λ piece is. c.in-Some.ensures.no_more _ _ _ is)
+    let A = IsGiven (made_of c.args.form.now g.H.Holder.gives) c.args.holder.now in
+    let given : A (piece_of c.in-Ok.piece) = made_given c.args.form.now g.H.Holder.gives c.args.holder.now c.group-part.result c.as_slice.result.now (piece_of c.in-Ok.piece)
+    (subst (λ (xs : List ℕ). g.H.Holder.gives c.args.holder.now c.group-part.result.start c.group-part.result.len xs) (sym c.as_slice.ensures.value) c.in-Some.ensures.gives) c.in-Ok.ensures.made in
+    let asked = fetch_some g.S.Shelf.fixed_of g.S.Shelf.gained g.S.Shelf.goes _ _ _ _ _ _ _ _ (it_gained g.S.Shelf.fixed_of g.S.Shelf.gained g.S.Shelf.goes A _ _ _ 0 0 given c.in-Err-commit.ensures.gained) (λ piece is. made_no_more c.args.form.now g.H.Holder.gives _ _ c.in-Some.ensures.no_more _ _ _ is)
     c.in-Some.ensures.fits c.in-Some.ensures.fetch in
-    let Then : Report → Type 0 = λ y. Reports g.S.Shelf.fixed_of g.S.Shelf.gained c.args.seat.now c.commit.new.seat A (IsGiven g.H.Holder.gives c.fetched.new.holder)
+    let Then : Report → Type 0 = λ y. Reports g.S.Shelf.fixed_of g.S.Shelf.gained c.args.seat.now c.commit.new.seat A (IsGiven (made_of c.args.form.now g.H.Holder.gives) c.fetched.new.holder)
     (g.H.Holder.count c.args.holder.now) (g.H.Holder.count c.fetched.new.holder) c.args.report.now y in
     elim c.if-eq.branch [
       | then-eq w ↦ subst Then (sym (w.report-is ∙ w.count_memory.ensures)) (starved g.S.Shelf.fixed_of g.S.Shelf.gained g.S.Shelf.goes _ _ _ _ _ _ _ _ c.in-Some.ensures.fits asked)
@@ -102,12 +103,24 @@ returns-in-Ok-clause-reports g c =
     ]
 
 pub returns-in-Ok-clause-served : goal.returns-in-Ok-clause-served
-returns-in-Ok-clause-served g c = λ blob served slices asked.
+returns-in-Ok-clause-served g c = λ are blob served slices asked.
     let F = g.S.Shelf.fixed_of c.args.seat.now in
     elim c.if-eq.branch [
       | then-eq w ↦ inl (memory_failed _ _ (w.report-is ∙ w.count_memory.ensures))
       | else-eq w ↦ elim c.in-Err-commit.ensures.refused [
         | inl memory ↦ let no : false ≡ true = rw memory at w.if-eq.ensures in cc
-        | inr other ↦ absurd (other (is_of F c.fixed-fixed.result c.in-Ok.piece _ _ _ c.fixed-fixed.ensures c.in-Ok.ensures.piece))
+        | inr other ↦ absurd (other (slice_of_store c.args.form.now F c.fixed-fixed.result c.group-part.result _ c.in-Ok.piece are c.fixed-fixed.ensures c.in-Ok.ensures.slice))
       ]
     ]
+
+pub returns-in-Ok-clause-no_more : goal.returns-in-Ok-clause-no_more
+returns-in-Ok-clause-no_more g c = made_no_more c.args.form.now g.H.Holder.gives _ _ c.in-Some.ensures.no_more
+
+pub returns-in-Ok-commit-clause-no_more : goal.returns-in-Ok-commit-clause-no_more
+returns-in-Ok-commit-clause-no_more g c = made_no_more c.args.form.now g.H.Holder.gives _ _ c.in-Some.ensures.no_more
+
+pub returns-clause-no_more : goal.returns-clause-no_more
+returns-clause-no_more g c = made_no_more c.args.form.now g.H.Holder.gives _ _ c.in-Some.ensures.no_more
+
+pub returns-in_default-clause-no_more : goal.returns-in_default-clause-no_more
+returns-in_default-clause-no_more g c = made_no_more c.args.form.now g.H.Holder.gives _ _ c.in_default.ensures.no_more

@@ -1,55 +1,57 @@
-use Rattle.std.proofs.Common.{◌∙◌, ◌≡◌, false, true, ap, inl, inr, ℕ, List, refl, sym, subst}
+use Rattle.std.proofs.Common.{◌∙◌, ◌≡◌, ◌-◌, ◌^◌, false, true, ap, inl, inr, ℕ, List, refl, sym, subst}
 use Rattle.bao_check.specs.declared.checked.Checked.{Checked}
 use Rattle.gather.specs.Holders.{IsGiven}
 use Rattle.gather.proofs.Gaining.{among_onward}
-use Rattle.gather.proofs.Reporting.{beside, fetch_large, fetch_none, fetch_some, it_gained, narrowed, none_gained, onward, piece_given, refused_done}
+use Rattle.gather.proofs.Reporting.{beside, fetch_large, fetch_none, fetch_some, it_gained, narrowed, none_gained, onward, refused_done}
 use Rattle.store_core.specs.Pieces.{piece_of}
 use Rattle.store_core.specs.Stores.{IsOf}
-use Rattle.bao_text.specs.Texts.{slice_text}
 use Rattle.gather.specs.Available.{slice_of}
-use Rattle.gather.proofs.Serving.{fetch_failed, holds_last, is_of, never_large, slice_good, slice_is}
+use Rattle.gather.proofs.Serving.{fetch_failed, holds_last, never_large}
+use Rattle.gather.specs.Forms.{made_of}
+use Rattle.gather.proofs.Forming.{made_given, made_no_more, slice_end, slice_given, slice_made, slice_of_store, slice_refused}
 use Rattle.gather.proofs.worker.ask_end.Goals as goal
 
 pub returns-in_default-tail-clause-reports : goal.returns-in_default-tail-clause-reports
 returns-in_default-tail-clause-reports g c =
-    fetch_some g.S.Shelf.fixed_of g.S.Shelf.gained g.S.Shelf.goes _ _ _ _ _ _ _ _ (none_gained g.S.Shelf.fixed_of g.S.Shelf.gained g.S.Shelf.goes _ c.args.seat.now) (λ piece is. c.in-Some.ensures.no_more _ _ _ is) c.in-Some.ensures.fits c.in-Some.ensures.fetch
+    fetch_some g.S.Shelf.fixed_of g.S.Shelf.gained g.S.Shelf.goes _ _ _ _ _ _ _ _ (none_gained g.S.Shelf.fixed_of g.S.Shelf.gained g.S.Shelf.goes _ c.args.seat.now) (λ piece is. made_no_more c.args.form.now g.H.Holder.gives _ _ c.in-Some.ensures.no_more _ _ _ is) c.in-Some.ensures.fits c.in-Some.ensures.fetch
 
 pub returns-in-TooLarge-clause-reports : goal.returns-in-TooLarge-clause-reports
 returns-in-TooLarge-clause-reports g c =
-    let given : IsGiven g.H.Holder.gives c.args.holder.now (piece_of c.in-Ok.piece) = piece_given g.H.Holder.gives c.args.holder.now c.in-Ok.piece _ _ _ _ _ c.in-Ok.ensures.piece
-    (subst (λ (xs : List ℕ). g.H.Holder.gives c.args.holder.now 18446744073709551615 1 xs) (sym c.as_slice.ensures.value) c.in-Some.ensures.gives) in
-    let of_tail = subst (λ (it : Checked). IsGiven g.H.Holder.gives c.args.holder.now (piece_of it)) (sym c.in-Some-tail.ensures.piece) given in
-    fetch_large g.S.Shelf.fixed_of g.S.Shelf.gained g.S.Shelf.goes _ _ _ _ _ _ _ _ _ c.in-TooLarge.ensures.still.0 (λ piece is. c.in-Some.ensures.no_more _ _ _ is) c.in-Some.ensures.fits c.in-Some.ensures.fetch of_tail
+    let given : IsGiven (made_of c.args.form.now g.H.Holder.gives) c.args.holder.now (piece_of c.in-Ok.piece) = made_given c.args.form.now g.H.Holder.gives c.args.holder.now c.end-part.result c.as_slice.result.now (piece_of c.in-Ok.piece)
+    (subst (λ (xs : List ℕ). g.H.Holder.gives c.args.holder.now c.end-part.result.start c.end-part.result.len xs) (sym c.as_slice.ensures.value) c.in-Some.ensures.gives) c.in-Ok.ensures.made in
+    let of_tail = subst (λ (it : Checked). IsGiven (made_of c.args.form.now g.H.Holder.gives) c.args.holder.now (piece_of it)) (sym c.in-Some-tail.ensures.piece) given in
+    fetch_large g.S.Shelf.fixed_of g.S.Shelf.gained g.S.Shelf.goes _ _ _ _ _ _ _ _ _ c.in-TooLarge.ensures.still.0 (λ piece is. made_no_more c.args.form.now g.H.Holder.gives _ _ c.in-Some.ensures.no_more _ _ _ is) c.in-Some.ensures.fits c.in-Some.ensures.fetch of_tail
     (c.in-TooLarge.ensures.large refl)
 
 pub returns-clause-reports : goal.returns-clause-reports
 returns-clause-reports g c =
-    refused_done g.S.Shelf.fixed_of g.S.Shelf.gained g.S.Shelf.goes _ _ _ _ _ _ _ _ c.in-Err.fault (λ piece is. c.in-Some.ensures.no_more _ _ _ is) c.in-Some.ensures.fits c.in-Some.ensures.fetch c.count_refused.ensures
+    refused_done g.S.Shelf.fixed_of g.S.Shelf.gained g.S.Shelf.goes _ _ _ _ _ _ _ _ c.in-Err.fault (λ piece is. made_no_more c.args.form.now g.H.Holder.gives _ _ c.in-Some.ensures.no_more _ _ _ is) c.in-Some.ensures.fits c.in-Some.ensures.fetch c.count_refused.ensures
 
 pub returns-in_default-clause-reports : goal.returns-in_default-clause-reports
 returns-in_default-clause-reports g c =
-    fetch_none g.S.Shelf.fixed_of g.S.Shelf.gained g.S.Shelf.goes _ _ _ _ _ _ _ (λ piece is. c.in_default.ensures.no_more _ _ _ is) c.in_default.ensures.fits c.in_default.ensures.fetch
+    fetch_none g.S.Shelf.fixed_of g.S.Shelf.gained g.S.Shelf.goes _ _ _ _ _ _ _ (λ piece is. made_no_more c.args.form.now g.H.Holder.gives _ _ c.in_default.ensures.no_more _ _ _ is) c.in_default.ensures.fits c.in_default.ensures.fetch
 
 pub returns-in-Ok : goal.returns-in-Ok
 returns-in-Ok g c =
-    let A = IsGiven g.H.Holder.gives c.args.holder.now in
-    let given : A (piece_of c.in-Ok.piece) = piece_given g.H.Holder.gives c.args.holder.now c.in-Ok.piece _ _ _ _ _ c.in-Ok.ensures.piece
-    (subst (λ (xs : List ℕ). g.H.Holder.gives c.args.holder.now 18446744073709551615 1 xs) (sym c.as_slice.ensures.value) c.in-Some.ensures.gives) in
+    let A = IsGiven (made_of c.args.form.now g.H.Holder.gives) c.args.holder.now in
+    let given : A (piece_of c.in-Ok.piece) = made_given c.args.form.now g.H.Holder.gives c.args.holder.now c.end-part.result c.as_slice.result.now (piece_of c.in-Ok.piece)
+    (subst (λ (xs : List ℕ). g.H.Holder.gives c.args.holder.now c.end-part.result.start c.end-part.result.len xs) (sym c.as_slice.ensures.value) c.in-Some.ensures.gives) c.in-Ok.ensures.made in
     let of_tail = subst (λ (it : Checked). A (piece_of it)) (sym c.in-Some-tail.ensures.piece) given in
     let settled = fetch_some g.S.Shelf.fixed_of g.S.Shelf.gained g.S.Shelf.goes _ _ A A _ _ _ _ (it_gained g.S.Shelf.fixed_of g.S.Shelf.gained g.S.Shelf.goes A _ _ _ 0 0 of_tail c.settle.ensures.still.0) (λ piece is. is) c.in-Some.ensures.fits c.in-Some.ensures.fetch in
     record {
       has = c.store_parents.ensures.has;
-      reports = narrowed g.S.Shelf.fixed_of g.S.Shelf.gained g.S.Shelf.goes _ _ A _ _ _ _ _ (λ piece is. c.in-Some.ensures.no_more _ _ _ is)
+      reports = narrowed g.S.Shelf.fixed_of g.S.Shelf.gained g.S.Shelf.goes _ _ A _ _ _ _ _ (λ piece is. made_no_more c.args.form.now g.H.Holder.gives _ _ c.in-Some.ensures.no_more _ _ _ is)
           (onward g.S.Shelf.fixed_of g.S.Shelf.gained g.S.Shelf.goes _ _ _ A A A _ _ _ _ _ _ settled (beside g.S.Shelf.fixed_of g.S.Shelf.gained g.S.Shelf.goes _ _ A _ _ _ _ given c.store_parents.ensures.reports));
-      no_more = c.in-Some.ensures.no_more;
+      no_more = made_no_more c.args.form.now g.H.Holder.gives _ _ c.in-Some.ensures.no_more;
       large = λ no. cc;
-      agreed = λ blob served slices.
+      agreed = λ are blob served slices.
           let stored = c.store_parents.ensures.reports in
           let F = g.S.Shelf.fixed_of c.args.seat.now in
-          let text : c.as_slice.result.now ≡ slice_text F.mode blob 18446744073709551615 1 = c.as_slice.ensures.value ∙ slices _ _ _ c.in-Some.ensures.gives in
-          let is : piece_of c.in-Ok.piece ≡ slice_of F.mode blob 18446744073709551615 1 = slice_is F c.in-Ok.piece _ _ _ _ blob _ c.in-Ok.ensures.piece text in
+          let text = slice_given c.args.form.now g.H.Holder.gives F.mode blob c.args.holder.now c.end-part.result c.as_slice.result.now _ are slices c.as_slice.ensures.value c.in-Some.ensures.gives in
+          let at = slice_end c.args.form.now c.end-part.result are c.end-part.ensures.end in
+          let is : piece_of c.in-Ok.piece ≡ slice_of F.mode blob (2 ^ 64 - 1) 1 = slice_made c.args.form.now F _ c.end-part.result _ c.in-Ok.piece blob _ _ are at.0 at.1 text c.in-Ok.ensures.slice in
           let tail_is = ap (λ (it : Checked). piece_of it) c.in-Some-tail.ensures.piece ∙ is in
-          let of : IsOf F c.in-Ok.piece = is_of F c.fixed-fixed.result c.in-Ok.piece _ _ _ c.fixed-fixed.ensures c.in-Ok.ensures.piece in
+          let of : IsOf F c.in-Ok.piece = slice_of_store c.args.form.now F c.fixed-fixed.result c.end-part.result _ c.in-Ok.piece are c.fixed-fixed.ensures c.in-Ok.ensures.slice in
           let known = c.settle.ensures.records (λ large. never_large F _ blob _ _ served tail_is (c.settle.ensures.large large))
           (λ other. c.settle.ensures.other other (subst (λ (it : Checked). IsOf F it) (sym c.in-Some-tail.ensures.piece) of)) in
           inr (known.0, g.S.Shelf.lasts.length _ _ _ stored.chunks stored.parents known.0 stored.gains known.1);
@@ -57,34 +59,47 @@ returns-in-Ok g c =
     }
 
 pub returns-in_default-tail-clause-agreed : goal.returns-in_default-tail-clause-agreed
-returns-in_default-tail-clause-agreed g c = λ blob served slices.
+returns-in_default-tail-clause-agreed g c = λ are blob served slices.
     let F = g.S.Shelf.fixed_of c.args.seat.now in
-    let text : c.as_slice.result.now ≡ slice_text F.mode blob 18446744073709551615 1 = c.as_slice.ensures.value ∙ slices _ _ _ c.in-Some.ensures.gives in
-    let is : piece_of c.in-Ok.piece ≡ slice_of F.mode blob 18446744073709551615 1 = slice_is F c.in-Ok.piece _ _ _ _ blob _ c.in-Ok.ensures.piece text in
+    let text = slice_given c.args.form.now g.H.Holder.gives F.mode blob c.args.holder.now c.end-part.result c.as_slice.result.now _ are slices c.as_slice.ensures.value c.in-Some.ensures.gives in
+    let at = slice_end c.args.form.now c.end-part.result are c.end-part.ensures.end in
+    let is : piece_of c.in-Ok.piece ≡ slice_of F.mode blob (2 ^ 64 - 1) 1 = slice_made c.args.form.now F _ c.end-part.result _ c.in-Ok.piece blob _ _ are at.0 at.1 text c.in-Ok.ensures.slice in
     let no : false ≡ true = c.in_default-tail.ensures.there.1 (holds_last F c.in-Ok.piece blob served is) in
     cc
 
 pub returns-in-TooLarge-clause-agreed : goal.returns-in-TooLarge-clause-agreed
-returns-in-TooLarge-clause-agreed g c = λ blob served slices.
+returns-in-TooLarge-clause-agreed g c = λ are blob served slices.
     let F = g.S.Shelf.fixed_of c.args.seat.now in
-    let text : c.as_slice.result.now ≡ slice_text F.mode blob 18446744073709551615 1 = c.as_slice.ensures.value ∙ slices _ _ _ c.in-Some.ensures.gives in
-    let is : piece_of c.in-Ok.piece ≡ slice_of F.mode blob 18446744073709551615 1 = slice_is F c.in-Ok.piece _ _ _ _ blob _ c.in-Ok.ensures.piece text in
+    let text = slice_given c.args.form.now g.H.Holder.gives F.mode blob c.args.holder.now c.end-part.result c.as_slice.result.now _ are slices c.as_slice.ensures.value c.in-Some.ensures.gives in
+    let at = slice_end c.args.form.now c.end-part.result are c.end-part.ensures.end in
+    let is : piece_of c.in-Ok.piece ≡ slice_of F.mode blob (2 ^ 64 - 1) 1 = slice_made c.args.form.now F _ c.end-part.result _ c.in-Ok.piece blob _ _ are at.0 at.1 text c.in-Ok.ensures.slice in
     let tail_is = ap (λ (it : Checked). piece_of it) c.in-Some-tail.ensures.piece ∙ is in
     absurd (never_large F _ blob _ _ served tail_is (c.in-TooLarge.ensures.large refl))
 
 pub returns-in-TooLarge-clause-large : goal.returns-in-TooLarge-clause-large
 returns-in-TooLarge-clause-large g c = λ _.
-    let A = IsGiven g.H.Holder.gives c.args.holder.now in
-    let given : A (piece_of c.in-Ok.piece) = piece_given g.H.Holder.gives c.args.holder.now c.in-Ok.piece _ _ _ _ _ c.in-Ok.ensures.piece
-    (subst (λ (xs : List ℕ). g.H.Holder.gives c.args.holder.now 18446744073709551615 1 xs) (sym c.as_slice.ensures.value) c.in-Some.ensures.gives) in
+    let A = IsGiven (made_of c.args.form.now g.H.Holder.gives) c.args.holder.now in
+    let given : A (piece_of c.in-Ok.piece) = made_given c.args.form.now g.H.Holder.gives c.args.holder.now c.end-part.result c.as_slice.result.now (piece_of c.in-Ok.piece)
+    (subst (λ (xs : List ℕ). g.H.Holder.gives c.args.holder.now c.end-part.result.start c.end-part.result.len xs) (sym c.as_slice.ensures.value) c.in-Some.ensures.gives) c.in-Ok.ensures.made in
     record { piece = _; from = subst (λ (it : Checked). A (piece_of it)) (sym c.in-Some-tail.ensures.piece) given; large = c.in-TooLarge.ensures.large refl }
 
 pub returns-clause-agreed : goal.returns-clause-agreed
-returns-clause-agreed g c = λ blob served slices.
+returns-clause-agreed g c = λ are blob served slices.
     let F = g.S.Shelf.fixed_of c.args.seat.now in
-    let text : c.as_slice.result.now ≡ slice_text F.mode blob 18446744073709551615 1 = c.as_slice.ensures.value ∙ slices _ _ _ c.in-Some.ensures.gives in
-    let no : false ≡ true = c.in-Err.ensures.accepted.1 (slice_good F c.fixed-fixed.result blob c.as_slice.result.now 18446744073709551615 1 served c.fixed-fixed.ensures text) in
-    cc
+    let text = slice_given c.args.form.now g.H.Holder.gives F.mode blob c.args.holder.now c.end-part.result c.as_slice.result.now _ are slices c.as_slice.ensures.value c.in-Some.ensures.gives in
+    absurd (slice_refused c.args.form.now F c.fixed-fixed.result c.end-part.result _ blob _ are served c.fixed-fixed.ensures text c.in-Err.ensures.slice)
 
 pub returns-in_default-clause-agreed : goal.returns-in_default-clause-agreed
-returns-in_default-clause-agreed g c = λ blob served slices. inl (fetch_failed _ _ _ _ c.in_default.ensures.fetch)
+returns-in_default-clause-agreed g c = λ are blob served slices. inl (fetch_failed _ _ _ _ c.in_default.ensures.fetch)
+
+pub returns-in_default-tail-clause-no_more : goal.returns-in_default-tail-clause-no_more
+returns-in_default-tail-clause-no_more g c = made_no_more c.args.form.now g.H.Holder.gives _ _ c.in-Some.ensures.no_more
+
+pub returns-in-TooLarge-clause-no_more : goal.returns-in-TooLarge-clause-no_more
+returns-in-TooLarge-clause-no_more g c = made_no_more c.args.form.now g.H.Holder.gives _ _ c.in-Some.ensures.no_more
+
+pub returns-clause-no_more : goal.returns-clause-no_more
+returns-clause-no_more g c = made_no_more c.args.form.now g.H.Holder.gives _ _ c.in-Some.ensures.no_more
+
+pub returns-in_default-clause-no_more : goal.returns-in_default-clause-no_more
+returns-in_default-clause-no_more g c = made_no_more c.args.form.now g.H.Holder.gives _ _ c.in_default.ensures.no_more

@@ -14,6 +14,7 @@ use Rattle.gather.specs.Available.{GivesSlices, IsServed}
 use Rattle.gather.proofs.Serving.{fails_on, get_set_after, true_here}
 use Rattle.store_core.specs.declared.fixed.Fixed.{Fixed}
 use Rattle.store_core.specs.Masks.{in_mask}
+use Rattle.gather.specs.Forms.{made_of}
 use Rattle.gather.proofs.worker.work_group.Goals as goal
 
 pub loop-holder-preserved : goal.loop-holder-preserved
@@ -23,12 +24,12 @@ loop-holder-preserved g c =
     let group = c.args.group in
     let F = g.S.Shelf.fixed_of c.args.seat.now in
     let here : x.holder-index < length x.holders = omega (arith, c.loop-holder-test.true) in
-    let one = among_holders g.S.Shelf.fixed_of g.S.Shelf.gained g.S.Shelf.goes g.H.Holder.gives g.H.Holder.count _ _ x.holders x.holder-index c.holder-item.result _ _ _ here met.reports in
+    let one = among_holders g.S.Shelf.fixed_of g.S.Shelf.gained g.S.Shelf.goes (made_of c.args.form.now g.H.Holder.gives) g.H.Holder.count _ _ x.holders x.holder-index c.holder-item.result _ _ _ here met.reports in
     let same : g.S.Shelf.fixed_of x.seat ≡ F = g.S.Shelf.goes.keeps _ _ _ _ _ x.invariant.1.gains in (
       met.has,
       onward g.S.Shelf.fixed_of g.S.Shelf.gained g.S.Shelf.goes _ _ _ _ _ _ _ _ _ _ _ _ x.invariant.1 one,
       met.claims _ x.invariant.2,
-      later_then g.H.Holder.gives _ _ _ x.invariant.3 (later_one g.H.Holder.gives x.holders x.holder-index c.holder-item.result _ met.no_more),
+      later_then (made_of c.args.form.now g.H.Holder.gives) _ _ _ x.invariant.3 (later_one (made_of c.args.form.now g.H.Holder.gives) x.holders x.holder-index c.holder-item.result _ met.no_more),
       λ k after. get_set_after x.holders x.holder-index k _ (omega (arith, after)) ∙ x.invariant.4 k (omega (arith, after)),
       λ n is. x.invariant.5 n (met.fewer n is),
       λ n is. elim (x.invariant.6 n is) [
@@ -40,18 +41,18 @@ loop-holder-preserved g c =
             ] in
             inr (gone, g.S.Shelf.lasts.chunk _ _ _ met.reports.chunks met.reports.parents n met.reports.gains held.1)
       ],
-      λ blob served has before bound. elim (cases_lt has.place x.holder-index) [
-        | inl sooner ↦ elim (x.invariant.7 blob served has sooner bound) [
+      λ are blob served has before bound. elim (cases_lt has.place x.holder-index) [
+        | inl sooner ↦ elim (x.invariant.7 are blob served has sooner bound) [
           | inl failed ↦ inl (fails_on x.report c.ask-left.new.report met.reports.no_less failed)
           | inr none ↦ inr (λ n. elim (cases_Bool (in_mask group c.ask-left.result n)) [ inl is ↦ absurd (both_ways _ (none n) (met.fewer n is)) | inr out ↦ out ])
         ]
         | inr not_sooner ↦
             let at : has.place ≡ x.holder-index = omega (arith, before, not_sooner) in
-            let slices : GivesSlices g.H.Holder.gives F.mode blob (get_or x.holders x.holder-index c.holder-item.result) =
-            subst (λ (k : ℕ). GivesSlices g.H.Holder.gives F.mode blob (get_or x.holders k c.holder-item.result)) at
-            (true_here g.H.Holder.gives F.mode blob c.args.holders.now x.holders c.holder-item.result has (x.invariant.4 has.place (omega (arith, at)))) in
-            met.served blob (subst (λ (f : Fixed). IsServed f blob) (sym same) served)
-            (subst (λ (f : Fixed). GivesSlices g.H.Holder.gives f.mode blob (get_or x.holders x.holder-index c.holder-item.result)) (sym same) slices) (λ n asked. (
+            let slices : GivesSlices (made_of c.args.form.now g.H.Holder.gives) F.mode blob (get_or x.holders x.holder-index c.holder-item.result) =
+            subst (λ (k : ℕ). GivesSlices (made_of c.args.form.now g.H.Holder.gives) F.mode blob (get_or x.holders k c.holder-item.result)) at
+            (true_here (made_of c.args.form.now g.H.Holder.gives) F.mode blob c.args.holders.now x.holders c.holder-item.result has (x.invariant.4 has.place (omega (arith, at)))) in
+            met.served are blob (subst (λ (f : Fixed). IsServed f blob) (sym same) served)
+            (subst (λ (f : Fixed). GivesSlices (made_of c.args.form.now g.H.Holder.gives) f.mode blob (get_or x.holders x.holder-index c.holder-item.result)) (sym same) slices) (λ n asked. (
               elim (x.invariant.6 n (x.invariant.5 n asked)) [ inl left ↦ left.1 | inr held ↦ absurd (both_ways _ held.0 asked) ],
               bound n (x.invariant.5 n asked),
             ))
@@ -64,7 +65,7 @@ returns-clause-reports g c =
       | else-loop-holder-test w ↦ w.holders-is
       | then-loop-holder-test+then-left-eq0 w ↦ w.holders-is ∙ set-get_or c.loop-holder.holders c.loop-holder.holder-index w.holder-item.result
     ] in
-    let asked = subst (λ holders. Reports g.S.Shelf.fixed_of g.S.Shelf.gained c.args.seat.now c.loop-holder.seat (IsHanded g.H.Holder.gives c.args.holders.now) (IsHanded g.H.Holder.gives holders) (sum_by g.H.Holder.count c.args.holders.now) (sum_by g.H.Holder.count holders) c.args.report.now c.loop-holder.report)
+    let asked = subst (λ holders. Reports g.S.Shelf.fixed_of g.S.Shelf.gained c.args.seat.now c.loop-holder.seat (IsHanded (made_of c.args.form.now g.H.Holder.gives) c.args.holders.now) (IsHanded (made_of c.args.form.now g.H.Holder.gives) holders) (sum_by g.H.Holder.count c.args.holders.now) (sum_by g.H.Holder.count holders) c.args.report.now c.loop-holder.report)
     (sym same) c.loop-holder.invariant.1 in
     onward_none g.S.Shelf.fixed_of g.S.Shelf.gained g.S.Shelf.goes _ _ _ _ _ _ _ _ _ asked c.give.ensures.gained
 
@@ -74,7 +75,7 @@ returns-then-left-eq0-2-clause-claims g c =
     among_and_none _ _ c.args.group none_left
 
 pub returns-then-left-eq0-2-clause-served : goal.returns-then-left-eq0-2-clause-served
-returns-then-left-eq0-2-clause-served g c = λ blob served has wanted.
+returns-then-left-eq0-2-clause-served g c = λ are blob served has wanted.
     let x = c.loop-holder in
     let group = c.args.group in
     inr (λ n asked. elim (c.in-Ok.ensures.rest n asked (omega (arith, wanted n asked, served.room))) [
@@ -87,7 +88,7 @@ returns-then-left-eq0-2-clause-served g c = λ blob served has wanted.
     ])
 
 pub returns-clause-served : goal.returns-clause-served
-returns-clause-served g c = λ blob served has wanted.
+returns-clause-served g c = λ are blob served has wanted.
     let x = c.loop-holder in
     let group = c.args.group in
     let still = c.give.ensures.gained in
@@ -96,7 +97,7 @@ returns-clause-served g c = λ blob served has wanted.
       | else-loop-holder-test w ↦ omega (arith, slice_get_within c.args.holders.now has.place has.holder has.there, x.invariant.3.len, w.loop-holder-test.false)
       | then-loop-holder-test+then-left-eq0 w ↦ absurd (c.if-left-eq0-2.false w.if-left-eq0.true)
     ] in
-    elim (x.invariant.7 blob served has over (λ n granted. wanted n (c.in-Ok.ensures.granted n granted).0)) [
+    elim (x.invariant.7 are blob served has over (λ n granted. wanted n (c.in-Ok.ensures.granted n granted).0)) [
       | inl failed ↦ inl failed
       | inr none ↦ inr (λ n asked. elim (c.in-Ok.ensures.rest n asked (omega (arith, wanted n asked, served.room))) [
         | inr (inl held) ↦ inl (on n (g.S.Shelf.lasts.chunk _ _ _ x.invariant.1.chunks x.invariant.1.parents n x.invariant.1.gains held))
@@ -113,9 +114,9 @@ loop-holder-init g c = (
   c.in-Ok.ensures.has,
   counted_none g.S.Shelf.fixed_of g.S.Shelf.gained g.S.Shelf.goes _ _ _ _ _ (still_gained g.S.Shelf.fixed_of g.S.Shelf.gained g.S.Shelf.goes _ _ _ c.in-Ok.ensures.gained) c.fits.ensures,
   c.in-Ok.ensures.claims,
-  later_none g.H.Holder.gives _,
+  later_none (made_of c.args.form.now g.H.Holder.gives) _,
   λ k _. refl,
   λ n is. is,
   λ n is. inl (is, (c.in-Ok.ensures.granted n is).1),
-  λ blob served has before bound. absurd (omega (arith, before)),
+  λ are blob served has before bound. absurd (omega (arith, before)),
 )

@@ -1,3 +1,4 @@
+use Rattle.gather.specs.Forms.{AreSlices, made_of}
 use Rattle.gather.specs.Claims.{AmongAnd}
 use Rattle.std.specs.List.{sum_by}
 use Rattle.gather.specs.Counts.{Reports}
@@ -11,11 +12,11 @@ use Rattle.store_core.specs.Masks.{in_mask}
 
 abbrev pub invariant-loop-holder : goal.invariant-loop-holder
 invariant-loop-holder g l = g.S.Shelf.has l.shelf l.seat
-    × Reports g.S.Shelf.fixed_of g.S.Shelf.gained l.fn.seat l.seat (IsHanded g.H.Holder.gives l.fn.holders) (IsHanded g.H.Holder.gives l.holders) (sum_by g.H.Holder.count l.fn.holders) (sum_by g.H.Holder.count l.holders) l.fn.report l.report
+    × Reports g.S.Shelf.fixed_of g.S.Shelf.gained l.fn.seat l.seat (IsHanded (made_of l.form g.H.Holder.gives) l.fn.holders) (IsHanded (made_of l.form g.H.Holder.gives) l.holders) (sum_by g.H.Holder.count l.fn.holders) (sum_by g.H.Holder.count l.holders) l.fn.report l.report
     × AmongAnd (g.S.Shelf.claims l.fn.seat) l.group l.left (g.S.Shelf.claims l.seat)
-    × AreLater g.H.Holder.gives l.fn.holders l.holders
+    × AreLater (made_of l.form g.H.Holder.gives) l.fn.holders l.holders
     × ((k : ℕ) → l.holder-index ≤ k → slice_get l.holders k ≡ slice_get l.fn.holders k)
     × ((c : ℕ) → in_mask l.group l.left c ≡ true → in_mask l.group l.granted c ≡ true)
     × ((c : ℕ) → in_mask l.group l.granted c ≡ true → ((in_mask l.group l.left c ≡ true) × (g.S.Shelf.claims l.seat c ≡ true)) ⊎ ((in_mask l.group l.left c ≡ false) × g.S.Shelf.holds l.seat c))
-    × ((blob : List ℕ) → IsServed (g.S.Shelf.fixed_of l.fn.seat) blob → (has : HasTrue g.H.Holder.gives (g.S.Shelf.fixed_of l.fn.seat).mode blob l.fn.holders) → has.place < l.holder-index
+    × (AreSlices l.form → (blob : List ℕ) → IsServed (g.S.Shelf.fixed_of l.fn.seat) blob → (has : HasTrue (made_of l.form g.H.Holder.gives) (g.S.Shelf.fixed_of l.fn.seat).mode blob l.fn.holders) → has.place < l.holder-index
     → ((c : ℕ) → in_mask l.group l.granted c ≡ true → c < chunk_count (length blob)) → HasFailed l.report ⊎ ((c : ℕ) → in_mask l.group l.left c ≡ false))

@@ -6,26 +6,27 @@ use Rattle.bao_text.specs.Choice.{chunk_count}
 use Rattle.gather.specs.Available.{HasTrue, IsServed}
 use Rattle.gather.proofs.Serving.{begins_within, fails_on, later_true, round_meets, wanted_below, wanted_there}
 use Rattle.store_core.specs.declared.fixed.Fixed.{Fixed}
-use Rattle.gather.proofs.worker.work.Goals as goal
+use Rattle.gather.specs.Forms.{made_of}
+use Rattle.gather.proofs.worker.work_as.Goals as goal
 
 pub loop-step-preserved : goal.loop-step-preserved
 loop-step-preserved g c = (
   c.work_group.ensures.has,
   onward g.S.Shelf.fixed_of g.S.Shelf.gained g.S.Shelf.goes _ _ _ _ _ _ _ _ _ _ _ _ c.loop-step.invariant.1 c.work_group.ensures.reports,
   among_onward _ _ _ c.loop-step.invariant.2 c.work_group.ensures.claims,
-  later_then g.H.Holder.gives _ _ _ c.loop-step.invariant.3 c.work_group.ensures.later,
-  λ blob served has long.
+  later_then (made_of c.args.form.now g.H.Holder.gives) _ _ _ c.loop-step.invariant.3 c.work_group.ensures.later,
+  λ are blob served has long.
       let x = c.loop-step in
       let met = c.work_group.ensures in
       let F = g.S.Shelf.fixed_of c.args.seat.now in
       let same : g.S.Shelf.fixed_of x.seat ≡ F = g.S.Shelf.goes.keeps _ _ _ _ _ x.invariant.1.gains in
       let chunks : c.max-chunks.result ≡ chunk_count (length blob) = omega (arith, c.div_ceil.ensures, c.max-chunks.ensures, long) in
-      let has_now : HasTrue g.H.Holder.gives (g.S.Shelf.fixed_of x.seat).mode blob x.holders =
-      subst (λ (f : Fixed). HasTrue g.H.Holder.gives f.mode blob x.holders) (sym same) (later_true g.H.Holder.gives F.mode blob _ _ x.invariant.3 has) in
-      elim (met.served blob (subst (λ (f : Fixed). IsServed f blob) (sym same) served) has_now
+      let has_now : HasTrue (made_of c.args.form.now g.H.Holder.gives) (g.S.Shelf.fixed_of x.seat).mode blob x.holders =
+      subst (λ (f : Fixed). HasTrue (made_of c.args.form.now g.H.Holder.gives) f.mode blob x.holders) (sym same) (later_true (made_of c.args.form.now g.H.Holder.gives) F.mode blob _ _ x.invariant.3 has) in
+      elim (met.served are blob (subst (λ (f : Fixed). IsServed f blob) (sym same) served) has_now
       (λ n wanted. omega (arith, chunks, wanted_below c.max-chunks.result _ c.wanted.result c.wanted.ensures n wanted))) [
         | inl failed ↦ inl failed
-        | inr here ↦ elim (x.invariant.4 blob served has long) [
+        | inr here ↦ elim (x.invariant.4 are blob served has long) [
           | inl failed ↦ inl (fails_on x.report c.work_group.new.report met.reports.no_less failed)
           | inr before ↦ inr (λ k n early at below. elim (cases_lt k x.step) [
             | inl sooner ↦ elim (before k n sooner at below) [
@@ -48,14 +49,14 @@ loop-step-preserved g c = (
 )
 
 pub returns-in_default-clause-served : goal.returns-in_default-clause-served
-returns-in_default-clause-served g c = λ blob served has. elim (c.agree.ensures.agreed blob served has) [
+returns-in_default-clause-served g c = λ are blob served has. elim (c.agree.ensures.agreed are blob served has) [
   | inl failed ↦ inl failed
   | inr (inl large) ↦ inr (inl large)
   | inr (inr some) ↦ let no : false ≡ true = subst (λ (o : Option ℕ). IsSome o) c.in_default.is some in cc
 ]
 
 pub returns-clause-served : goal.returns-clause-served
-returns-clause-served g c = λ blob served has.
+returns-clause-served g c = λ are blob served has.
     let x = c.loop-step in
     let recorded = x.invariant.5 in
     elim (cases_Bool (c.in-Some.length == length blob)) [
@@ -63,7 +64,7 @@ returns-clause-served g c = λ blob served has.
           inr (inr (record { recorded = c.in-Some.length; is = recorded; chunks = λ long. absurd (both_ways _ other (eq-eqb c.in-Some.length (length blob) long)) }))
       | inl same ↦
           let long : c.in-Some.length ≡ length blob = eqb-true c.in-Some.length (length blob) same in
-          elim (x.invariant.4 blob served has long) [
+          elim (x.invariant.4 are blob served has long) [
             | inl failed ↦ inl failed
             | inr visited ↦
                 inr (inr (record {

@@ -1,0 +1,90 @@
+-- What is made of what holders give, and what of that is known of slices.
+use Rattle.std.proofs.Common.{◌≡◌, ◌∙◌, ◌↔◌, ℕ, ◌-◌, ◌*◌, ◌^◌, ◌<◌, List, IfOk, IsOk, Ok, Err, Result, false, true, ap, sym, subst, arith}
+use Rattle.bao_check.specs.declared.checked.Checked.{Checked}
+use Rattle.bao_check.specs.declared.fault.CheckFault.{CheckFault}
+use Rattle.bao_check.specs.Accepted.{IsAccepted, slice_nodes}
+use Rattle.bao_check.specs.Beside.{bare_len}
+use Rattle.bao_check.specs.Checked.{IsPiece}
+use Rattle.bao_check.specs.Outline.{outline_claimed}
+use Rattle.b3tree.specs.declared.mode.Mode.{Mode}
+use Rattle.bao_text.specs.Choice.{chunk_count}
+use Rattle.bao_text.specs.Texts.{slice_text}
+use Rattle.gather.specs.Available.{GivesSlices, IsServed, slice_of}
+use Rattle.gather.proofs.Serving.{is_of, slice_good, slice_is}
+use Rattle.store_core.specs.Pieces.{piece_of}
+use Rattle.store_core.specs.Stores.{IsOf}
+use Rattle.gather.specs.declared.form.Form.{Form}
+use Rattle.gather.specs.declared.form.Form.TheVariants.{Slices, Bare}
+use Rattle.gather.specs.declared.form.Part.{Part}
+use Rattle.gather.specs.Forms.{AreSlices, HasGroup, IsEnd, IsGroup, IsLengthOf, IsMade, IsSliceCheck, made_of}
+use Rattle.gather.specs.Holders.{GivesNoMore, IsGiven}
+use Rattle.store_core.specs.declared.fixed.Fixed.{Fixed}
+use Rattle.store_core.specs.declared.history.Piece.{Piece}
+
+-- what comes of a holder that gives no more is no more
+pub made_no_more : {H : Type 0} (form : Form) (gives : H → ℕ → ℕ → List ℕ → Type 0) (old new : H) → GivesNoMore gives old new → GivesNoMore (made_of form gives) old new
+made_no_more Slices gives old new no_more = no_more
+made_no_more (Bare outline) gives old new no_more = λ start len text is. record { bytes = is.bytes; given = no_more start _ is.bytes is.given; is = is.is }
+
+-- a checked piece is made of what its holder gave
+pub made_given : {H : Type 0} (form : Form) (gives : H → ℕ → ℕ → List ℕ → Type 0) (holder : H) (part : Part) (text : List ℕ) (piece : Piece) → gives holder part.start part.len text
+    → IsMade form part text piece → IsGiven (made_of form gives) holder piece
+made_given Slices gives holder part text piece given made = subst (λ (p : Piece). IsGiven gives holder p) (sym made) given
+made_given (Bare outline) gives holder part text piece given made = record {
+  bytes = text;
+  given = subst (λ (n : ℕ). gives holder n (bare_len (outline_claimed outline.now) piece.start piece.len) text) (sym made.0)
+      (subst (λ (n : ℕ). gives holder part.start n text) made.1 given);
+  is = made.2;
+}
+
+-- slices stay what they are
+pub made_slices : {H : Type 0} (form : Form) (gives : H → ℕ → ℕ → List ℕ → Type 0) (holder : H) (start len : ℕ) (text : List ℕ) → AreSlices form → gives holder start len text
+    → made_of form gives holder start len text
+made_slices Slices gives holder start len text are given = given
+made_slices (Bare outline) gives holder start len text are given = absurd are
+
+pub slice_check : (form : Form) (fixed : Fixed) (part : Part) (text : List ℕ) (result : Result Checked CheckFault) → AreSlices form → IsSliceCheck form fixed part text result
+    → (IsOk result ↔ IsAccepted fixed.mode fixed.root.0 text (slice_nodes text part.start part.len))
+    × IfOk result (λ piece. IsPiece piece fixed.mode fixed.root.0 part.start part.len text)
+slice_check Slices fixed part text result are check = check
+slice_check (Bare outline) fixed part text result are check = absurd are
+
+pub slice_end : (form : Form) (part : Part) → AreSlices form → IsEnd form part → (part.start ≡ 2 ^ 64 - 1) × (part.len ≡ 1)
+slice_end Slices part are is = is
+slice_end (Bare outline) part are is = absurd are
+
+pub slice_group : (form : Form) (group : ℕ) (part : Part) → AreSlices form → IsGroup form group part → (part.start ≡ 65536 * group) × (part.len ≡ 65536)
+slice_group Slices group part are is = is
+slice_group (Bare outline) group part are is = absurd are
+
+pub slice_length : (form : Form) (len : ℕ) → AreSlices form → IsLengthOf form len
+slice_length Slices len are = tt
+slice_length (Bare outline) len are = absurd are
+
+-- a blob of the form's length has chunks in a group that begins below its last chunk
+pub has_group : (form : Form) (len group : ℕ) → IsLengthOf form len → 64 * group < chunk_count len → HasGroup form group
+has_group Slices len group is below = tt
+has_group (Bare outline) len group is below = omega (arith, is, below)
+
+-- the text that such a holder gave is the blob's slice
+pub slice_given : {H : Type 0} (form : Form) (gives : H → ℕ → ℕ → List ℕ → Type 0) (mode : Mode) (blob : List ℕ) (holder : H) (part : Part) (text given : List ℕ) → AreSlices form
+    → GivesSlices (made_of form gives) mode blob holder → text ≡ given → gives holder part.start part.len given → text ≡ slice_text mode blob part.start part.len
+slice_given form gives mode blob holder part text given are slices same is =
+    same ∙ slices part.start part.len given (made_slices form gives holder part.start part.len given are is)
+
+-- it is accepted as that slice
+pub slice_made : (form : Form) (fixed known : Fixed) (part : Part) (text : List ℕ) (piece : Checked) (blob : List ℕ) (start len : ℕ) → AreSlices form → part.start ≡ start → part.len ≡ len
+    → text ≡ slice_text fixed.mode blob part.start part.len → IsSliceCheck form known part text (Ok piece) → piece_of piece ≡ slice_of fixed.mode blob start len
+slice_made form fixed known part text piece blob start len are start_is len_is is check =
+    slice_is fixed piece known.mode known.root.0 part.start part.len blob text (slice_check form known part text (Ok piece) are check).1 is
+    ∙ (ap (λ (n : ℕ). slice_of fixed.mode blob n part.len) start_is ∙ ap (λ (n : ℕ). slice_of fixed.mode blob start n) len_is)
+
+pub slice_of_store : (form : Form) (fixed known : Fixed) (part : Part) (text : List ℕ) (piece : Checked) → AreSlices form → known ≡ fixed
+    → IsSliceCheck form known part text (Ok piece) → IsOf fixed piece
+slice_of_store form fixed known part text piece are same check =
+    is_of fixed known piece part.start part.len text same (slice_check form known part text (Ok piece) are check).1
+
+pub slice_refused : (form : Form) (fixed known : Fixed) (part : Part) (text blob : List ℕ) (fault : CheckFault) → AreSlices form → IsServed fixed blob → known ≡ fixed
+    → text ≡ slice_text fixed.mode blob part.start part.len → IsSliceCheck form known part text (Err fault) → ⊥
+slice_refused form fixed known part text blob fault are served same is check =
+    let no : false ≡ true = (slice_check form known part text (Err fault) are check).0.1 (slice_good fixed known blob text part.start part.len served same is) in cc

@@ -1,0 +1,113 @@
+use Rattle.std.proofs.Common.{length, sym, ℕ, ◌⊎◌, ◌≤◌, inl, inr, arith, Err, List, map, ap, subst, refl, Bool, true, false, nat_lt, if◌then◌else◌, ◌∙◌, ◌≡◌}
+use Rattle.gather.specs.declared.texts.GatherFault.TheVariants.{Starved, TooLarge, Unfinished}
+use Rattle.gather.specs.Faults.{cause_of}
+use Rattle.std.specs.Prelude.{vec_items}
+use Rattle.gather.specs.declared.holder.Encoded.{Encoded}
+use Rattle.gather.specs.Encodings.{IsCut, IsCutOf, encoding}
+use Rattle.gather.specs.Holders.{IsHanded}
+use Rattle.gather.specs.Large.{AreLonger, IsTooLarge, fixed_as}
+use Rattle.gather.proofs.Reporting.{large_wider}
+use Rattle.store_core.specs.declared.fixed.Fixed.{Fixed}
+use Rattle.gather.proofs.Binding.{handed_cut, longer_wider, none_wider, of_none}
+use Rattle.b3tree.specs.Valid.{IsKeyed}
+use Rattle.gather.specs.Available.{HasTrue}
+use Rattle.gather.specs.HandedOut.{IsExcused}
+use Rattle.gather.specs.Large.{HasPair}
+use Rattle.bao_check.proofs.Laws.{accepted_binds}
+use Rattle.bao_text.specs.Choice.{chunk_count}
+use Rattle.gather.specs.declared.texts.GatherFault.{GatherFault}
+use Rattle.gather.proofs.Binding.{are_longer, pair_wider}
+use Rattle.gather.proofs.Handing.{cause_handed, encoding_true, never_failed, unfinished_pair, whole_pair}
+use Rattle.store_core.specs.Laws.{IsBlob}
+use Rattle.store_core.specs.Stores.{fixed_of}
+use Rattle.gather.proofs.texts.gather_within.Goals as goal
+
+pub returns-in-Err-NotTheRoot-clause-none : goal.returns-in-Err-NotTheRoot-clause-none
+returns-in-Err-NotTheRoot-clause-none c = λ _.
+    let holders = c.as_mut_slice.result.now in
+    let texts = map vec_items c.args.texts.now in
+    let over : map encoding holders ≡ texts = ap (λ (all : List Encoded). map encoding all) c.as_mut_slice.ensures.value ∙ c.in-Ok.ensures in
+    let gains = c.run_one-report.ensures.worked in
+    none_wider (IsHanded IsCut holders) (IsCutOf texts) (handed_cut holders texts over) (fixed_as c.args.root c.args.mode c.args.capacity)
+    (of_none (IsHanded IsCut holders) _ c.run_one-report.new.store (fixed_as c.args.root c.args.mode c.args.capacity) gains.chunks gains.parents
+    c.in_ok-store.ensures.made.fixed c.in_ok-store.ensures.made.state gains.worked (c.in-Err-NotTheRoot.ensures.none (ap (λ fault. Err fault) c.in-Err-NotTheRoot.field-0-is)))
+
+large_of : (starved large : Bool) → TooLarge ≡ (if starved then Starved else (if large then TooLarge else Unfinished)) → large ≡ true
+large_of true large e = cc
+large_of false true e = refl
+large_of false false e = cc
+
+pub returns-in-Err-Unfinished-clause-too_large : goal.returns-in-Err-Unfinished-clause-too_large
+returns-in-Err-Unfinished-clause-too_large c = λ e.
+    let report = c.run_one-report.result in
+    let large : TooLarge ≡ cause_of report = cc in
+    let holders = c.as_mut_slice.result.now in
+    let texts = map vec_items c.args.texts.now in
+    let over : map encoding holders ≡ texts = ap (λ (all : List Encoded). map encoding all) c.as_mut_slice.ensures.value ∙ c.in-Ok.ensures in
+    large_wider (IsHanded IsCut holders) (IsCutOf texts) (handed_cut holders texts over) (fixed_as c.args.root c.args.mode c.args.capacity)
+    (subst (λ (fixed : Fixed). IsTooLarge (IsHanded IsCut holders) fixed) c.in_ok-store.ensures.made.fixed
+    (c.run_one-report.ensures.too_large (large_of (nat_lt 0 report.memory) report.too_large large)))
+
+pub returns-in-Err-Unfinished-clause-longer : goal.returns-in-Err-Unfinished-clause-longer
+returns-in-Err-Unfinished-clause-longer c = λ e.
+    let report = c.run_one-report.result in
+    let large : TooLarge ≡ cause_of report = cc in
+    let holders = c.as_mut_slice.result.now in
+    let texts = map vec_items c.args.texts.now in
+    let over : map encoding holders ≡ texts = ap (λ (all : List Encoded). map encoding all) c.as_mut_slice.ensures.value ∙ c.in-Ok.ensures in
+    longer_wider (IsHanded IsCut holders) (IsCutOf texts) (handed_cut holders texts over) (fixed_as c.args.root c.args.mode c.args.capacity)
+    (subst (λ (fixed : Fixed). AreLonger (IsHanded IsCut holders) fixed) c.in_ok-store.ensures.made.fixed
+    (c.run_one-report.ensures.longer (large_of (nat_lt 0 report.memory) report.too_large large)))
+
+pub returns-in-Ok-finish_one-clause-available : goal.returns-in-Ok-finish_one-clause-available
+returns-in-Ok-finish_one-clause-available c = λ blob i is room there.
+    let holders = c.as_mut_slice.result.now in
+    let texts = map vec_items c.args.texts.now in
+    let over : map encoding holders ≡ texts = ap (λ (all : List Encoded). map encoding all) c.as_mut_slice.ensures.value ∙ c.in-Ok.ensures in
+    let F = fixed_as c.args.root c.args.mode c.args.capacity in
+    let made = c.in_ok-store.ensures.made in
+    let gains = c.run_one-report.ensures.worked in
+    let known = subst (λ (f : Fixed). (b : List ℕ) → IsKeyed f.mode → IsBlob f b → (c.in-Ok-finish_one.blob.items ≡ b) ⊎ HasPair (IsHanded IsCut holders) f b) made.fixed
+    (λ b keyed blob_is. whole_pair (IsHanded IsCut holders) c.in_ok-store.store c.run_one-report.new.store gains.chunks gains.parents b c.in-Ok-finish_one.blob.items keyed blob_is made.state gains.worked c.in-Ok-finish_one.ensures.whole) in
+    elim (known blob c.is_keyed.ensures is) [
+      | inl same ↦ inl same
+      | inr pair ↦ inr (pair_wider (IsHanded IsCut holders) (IsCutOf texts) (handed_cut holders texts over) F blob pair)
+    ]
+
+pub returns-in-Err-NotTheRoot-clause-available : goal.returns-in-Err-NotTheRoot-clause-available
+returns-in-Err-NotTheRoot-clause-available c = λ blob i is room there. inr (returns-in-Err-NotTheRoot-clause-none c refl blob is)
+
+pub returns-in-Err-Unfinished-clause-available : goal.returns-in-Err-Unfinished-clause-available
+returns-in-Err-Unfinished-clause-available c = λ blob i is room there.
+    let report = c.run_one-report.result in
+    let holders = c.as_mut_slice.result.now in
+    let texts = map vec_items c.args.texts.now in
+    let over : map encoding holders ≡ texts = ap (λ (all : List Encoded). map encoding all) c.as_mut_slice.ensures.value ∙ c.in-Ok.ensures in
+    let F = fixed_as c.args.root c.args.mode c.args.capacity in
+    let made = c.in_ok-store.ensures.made in
+    let met = c.run_one-report.ensures in
+    let gains = met.worked in
+    let small : c.args.capacity ≤ 65536 = subst (λ (f : Fixed). f.capacity ≤ 65536) made.fixed c.in_ok-store.store.limit in
+    let has : HasTrue IsCut c.args.mode blob holders = encoding_true holders texts c.args.mode blob i over (omega (arith, room, small)) there in
+    let P = HasPair (IsHanded IsCut holders) F blob in
+    let longer : IsTooLarge (IsHanded IsCut holders) (fixed_of c.in_ok-store.store) → P = λ large.
+    elim (are_longer accepted_binds (IsHanded IsCut holders) F c.is_keyed.ensures (subst (λ (f : Fixed). IsTooLarge (IsHanded IsCut holders) f) made.fixed large) blob is) [
+      | inl long ↦ absurd (omega (arith, long, room))
+      | inr pair ↦ pair
+    ] in
+    let unfinished = c.in-Err-Unfinished.ensures.unfinished (ap (λ fault. Err fault) c.in-Err-Unfinished.field-0-is) in
+    let handed : IsExcused (cause_of report) ⊎ P = cause_handed report P (λ none is_large. longer (met.too_large is_large)) (λ none not_large.
+    elim (met.available blob (subst (λ (f : Fixed). IsBlob f blob) (sym made.fixed) is) (subst (λ (f : Fixed). chunk_count (length blob) ≤ f.capacity) (sym made.fixed) room)
+    (subst (λ (f : Fixed). HasTrue IsCut f.mode blob holders) (sym made.fixed) has)) [
+      | inl (inl memory) ↦ absurd (omega (arith, memory, none))
+      | inl (inr failed) ↦ absurd (omega (arith, failed, met.failed, never_failed c.run_one-report.new.holders))
+      | inr (inl large) ↦ longer large
+      | inr (inr filled) ↦
+          subst (λ (f : Fixed). HasPair (IsHanded IsCut holders) f blob) made.fixed
+          (unfinished_pair (IsHanded IsCut holders) c.in_ok-store.store c.run_one-report.new.store gains.chunks gains.parents blob
+          (subst (λ (f : Fixed). IsKeyed f.mode) (sym made.fixed) c.is_keyed.ensures) (subst (λ (f : Fixed). IsBlob f blob) (sym made.fixed) is) made.state gains.worked met.binds filled unfinished)
+    ]) in
+    elim handed [
+      | inl excused ↦ inl (subst (λ (fault : GatherFault). IsExcused fault) (sym c.cause.ensures) excused)
+      | inr pair ↦ inr (pair_wider (IsHanded IsCut holders) (IsCutOf texts) (handed_cut holders texts over) F blob pair)
+    ]

@@ -1,0 +1,78 @@
+-- What a worker asks its holders for, and what it makes of what they give.
+use Rattle.std.specs.Prelude.{◌≡◌, ◌↔◌, ℕ, ◌+◌, ◌-◌, ◌*◌, ◌/◌, ◌^◌, ◌<◌, max, min, List, IfOk, IsOk, Result}
+use Rattle.bao_check.specs.declared.checked.Checked.{Checked}
+use Rattle.bao_check.specs.declared.fault.CheckFault.{CheckFault}
+use Rattle.bao_check.specs.declared.outline.Outline.{Outline}
+use Rattle.bao_check.specs.Accepted.{IsAccepted, slice_nodes}
+use Rattle.bao_check.specs.Bare.{bare_part}
+use Rattle.bao_check.specs.Beside.{bare_len, beside_text}
+use Rattle.bao_check.specs.Checked.{IsPiece}
+use Rattle.bao_check.specs.Outline.{outline_claimed, outline_text}
+use Rattle.bao_text.specs.Choice.{chunk_count}
+use Rattle.gather.specs.declared.form.Form.{Form}
+use Rattle.gather.specs.declared.form.Form.TheVariants.{Slices, Bare}
+use Rattle.gather.specs.declared.form.Part.{Part}
+use Rattle.store_core.specs.declared.fixed.Fixed.{Fixed}
+use Rattle.store_core.specs.declared.history.Piece.{Piece}
+
+-- The text of a slice is made of an outline's parents and of bytes that a holder may give: those of the slice, as far as
+-- the outline's length goes.
+pub record IsMadeBeside {H : Type 0} (outline : Outline) (gives : H → ℕ → ℕ → List ℕ → Type 0) (holder : H) (start len : ℕ) (text : List ℕ) : Type 0 where
+  pub bytes : List ℕ
+  pub given : gives holder start (bare_len (outline_claimed outline) start len) bytes
+  pub is : text ≡ beside_text (outline_text outline) start len bytes
+
+-- the texts of slices that come of what holders may give
+abbrev pub made_of : {H : Type 0} → Form → (H → ℕ → ℕ → List ℕ → Type 0) → H → ℕ → ℕ → List ℕ → Type 0
+made_of Slices gives = gives
+made_of (Bare outline) gives = IsMadeBeside outline.now gives
+
+-- slices are given
+abbrev pub AreSlices : Form → Type 0
+AreSlices Slices = Unit {0}
+AreSlices (Bare outline) = ⊥
+
+-- the form is of a blob of this length
+abbrev pub IsLengthOf : Form → ℕ → Type 0
+IsLengthOf Slices len = Unit {0}
+IsLengthOf (Bare outline) len = outline_claimed outline.now ≡ len
+
+-- a blob of the outline's length has chunks in the group
+abbrev pub HasGroup : Form → ℕ → Type 0
+HasGroup Slices group = Unit {0}
+HasGroup (Bare outline) group = 64 * group < chunk_count (outline_claimed outline.now)
+
+-- how many chunks so many bytes are, at least one
+abbrev pub chunks_of_part : Part → ℕ
+chunks_of_part part = max ((part.len + 1023) / 1024) 1
+
+-- bytes of plain copies are whole chunks of a blob of the outline's length
+abbrev pub IsPart : Form → Part → Type 0
+IsPart Slices part = Unit {0}
+IsPart (Bare outline) part =
+    let total = outline_claimed outline.now in (1024 * (part.start / 1024) ≡ part.start) × (part.start < max total 1) × (part.len ≡ bare_len total part.start (bare_part (chunks_of_part part)))
+
+-- What is asked for the length. With the claimed length L of n chunks it is (1024 * (n - 1), L - 1024 * (n - 1)) of plain
+-- copies: the last chunk.
+abbrev pub IsEnd : Form → Part → Type 0
+IsEnd Slices part = (part.start ≡ 2 ^ 64 - 1) × (part.len ≡ 1)
+IsEnd (Bare outline) part =
+    let total = outline_claimed outline.now in let last = chunk_count total - 1 in (part.start ≡ 1024 * last) × (part.len ≡ total - 1024 * last)
+
+-- what is asked for a group
+abbrev pub IsGroup : Form → ℕ → Part → Type 0
+IsGroup Slices group part = (part.start ≡ 65536 * group) × (part.len ≡ 65536)
+IsGroup (Bare outline) group part = (part.start ≡ 65536 * group) × (part.len ≡ min 65536 (outline_claimed outline.now - 65536 * group))
+
+-- the piece that is made of what was given for a part
+abbrev pub IsMade : Form → Part → List ℕ → Piece → Type 0
+IsMade Slices part text piece = piece ≡ record { start = part.start; len = part.len; text = text }
+IsMade (Bare outline) part text piece =
+    (piece.start ≡ part.start) × (part.len ≡ bare_len (outline_claimed outline.now) piece.start piece.len) × (piece.text ≡ beside_text (outline_text outline.now) piece.start piece.len text)
+
+-- a slice is accepted exactly where it should be under the store's root and in its mode
+abbrev pub IsSliceCheck : Form → Fixed → Part → List ℕ → Result Checked CheckFault → Type 0
+IsSliceCheck Slices fixed part text result =
+    (IsOk result ↔ IsAccepted fixed.mode fixed.root.0 text (slice_nodes text part.start part.len))
+    × IfOk result (λ piece. IsPiece piece fixed.mode fixed.root.0 part.start part.len text)
+IsSliceCheck (Bare outline) fixed part text result = Unit {0}

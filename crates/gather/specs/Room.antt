@@ -1,0 +1,11 @@
+-- How many chunks a blob may have whose combined encoding is one of some texts.
+use Rattle.std.specs.Prelude.{ℕ, ◌+◌, ◌/◌, List, [], ◌∷◌, length, max}
+
+-- the length of the longest of these texts, 0 where there is none
+abbrev pub longest : List (List ℕ) → ℕ
+longest [] = 0
+longest (text ∷ texts) = max (length text) (longest texts)
+
+-- The last chunk of a blob has a text's rest: each other one has 1,024 bytes in it, and a parent of 64.
+abbrev pub most_chunks : List (List ℕ) → ℕ
+most_chunks texts = longest texts / 1088 + 1

@@ -1,0 +1,111 @@
+ghost use Rattle.std.specs.Prelude.{IsTrue, IfOk, ◌↔◌};
+ghost use Rattle.gather.specs.Forms.{HasGroup, IsEnd, IsGroup, IsLengthOf, IsMade, IsPart, IsSliceCheck};
+ghost use Rattle.store_core.specs.Pieces.{piece_of};
+
+use crate::masks::GROUP_LEN;
+use bao_check::{CheckFault, Checked, Outline, check_bare, check_slice};
+use std::alloc::Global;
+use store_core::Fixed;
+
+// Bytes of a chunk, and of a group.
+pub(crate) const CHUNK_LEN: u64 = b3tree::CHUNK_LEN as u64;
+
+const GROUP_BYTES: u64 = GROUP_LEN * CHUNK_LEN;
+
+/// So many bytes of a blob, from byte `start` on.
+#[derive(Clone, Copy, Debug)]
+pub(crate) struct Part {
+    pub(crate) start: u64,
+    pub(crate) len: u64,
+}
+
+/// What a worker's holders give, and so which bytes it asks them for, and how it checks what comes.
+#[derive(Clone, Copy, Debug)]
+pub enum Form<'a> {
+    /// Slices, each with the parents that certify it.
+    Slices,
+    /// Bytes of plain copies of the blob: they are checked beside this outboard encoding of it.
+    Bare(&'a Outline<'a>),
+}
+
+impl Form<'_> {
+    // Whether it is of a blob of this length: slices are of each.
+    pub(crate) fn is_of(&self, length: u64) -> bool
+        ensures { IsTrue result ↔ IsLengthOf self.now length }
+    {
+        match self {
+            Form::Slices => true,
+            Form::Bare(outline) => outline.claimed() == length,
+        }
+    }
+
+    // What is asked for the length: the last chunk.
+    pub(crate) fn end(&self) -> Part
+        ensures end { IsEnd self.now result }
+        ensures part { IsPart self.now result }
+    {
+        match self {
+            Form::Slices => Part {
+                start: u64::MAX,
+                len: 1,
+            },
+            Form::Bare(outline) => {
+                let total = outline.claimed();
+                let last = total.div_ceil(CHUNK_LEN).max(1) - 1;
+                let start = CHUNK_LEN * last;
+                Part {
+                    start,
+                    len: total - start,
+                }
+            }
+        }
+    }
+
+    // What is asked for a group's chunks.
+    pub(crate) fn group(&self, group: u32) -> Part
+        requires { HasGroup self.now group }
+        ensures group { IsGroup self.now group result }
+        ensures part { IsPart self.now result }
+    {
+        let start = GROUP_BYTES * u64::from(group);
+        match self {
+            Form::Slices => Part {
+                start,
+                len: GROUP_BYTES,
+            },
+            Form::Bare(outline) => Part {
+                start,
+                len: GROUP_BYTES.min(outline.claimed().saturating_sub(start)),
+            },
+        }
+    }
+
+    // Checks what was given for a part: slices under this root and in this mode.
+    pub(crate) fn check<'b>(
+        &'b self,
+        alloc: Global,
+        fixed: &Fixed,
+        part: &Part,
+        text: &'b [u8],
+    ) -> Result<Checked<'b>, CheckFault>
+        requires { IsPart self.now part.now }
+        ensures made { IfOk result (λ piece. IsMade self.now part.now text.now (piece_of piece)) }
+        ensures slice { IsSliceCheck self.now fixed.now part.now text.now result }
+    {
+        match self {
+            Form::Slices => check_slice(
+                alloc,
+                &fixed.mode,
+                &fixed.root,
+                part.start,
+                part.len,
+                text,
+            ),
+            Form::Bare(outline) => {
+                let first = part.start / CHUNK_LEN;
+                let count = part.len.div_ceil(CHUNK_LEN).max(1);
+                check_bare(outline, first, count, text)
+            }
+        }
+    }
+}

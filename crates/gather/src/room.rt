@@ -1,0 +1,24 @@
+ghost use Rattle.std.specs.Prelude.{◌≡◌, ◌≤◌, ℕ, List, Some, length, map, min, slice_get, vec_items};
+ghost use Rattle.b3tree.specs.declared.mode.Mode.{Mode};
+ghost use Rattle.bao_text.specs.Choice.{chunk_count};
+ghost use Rattle.bao_text.specs.Texts.{combined_text};
+ghost use Rattle.gather.specs.Room.{most_chunks};
+
+use b3tree::CHUNK_LEN;
+use bao_text::PARENT_LEN;
+
+/// How many chunks a blob may have whose combined encoding is one of these texts: as many as the longest of them has
+/// room for, with a parent for each but one, and at most `capacity`. It is 1 where there is no text, or 0 at a capacity
+/// of 0.
+pub fn room_for(texts: &[Vec<u8>], capacity: u32) -> u32
+    ensures value { result ≡ min capacity (most_chunks (map vec_items texts.now)) }
+    ensures enough { (mode : Mode) (blob : List ℕ) (i : ℕ) → slice_get (map vec_items texts.now) i ≡ Some (combined_text mode blob)
+        → chunk_count (length blob) ≤ capacity → chunk_count (length blob) ≤ result }
+{
+    let mut longest = 0;
+    for text in texts {
+        longest = text.len().max(longest);
+    }
+    let most = longest / (CHUNK_LEN + PARENT_LEN) + 1;
+    most.min(capacity as usize) as u32
+}
