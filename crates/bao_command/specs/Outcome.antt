@@ -1,5 +1,8 @@
 -- what standard output holds when the program ends, by the words
-use Rattle.std.specs.Prelude.{◌≡◌, ◌≢◌, ◌⊎◌, ℕ, List, Option}
+use Rattle.std.specs.Prelude.{◌≡◌, ◌≢◌, ◌⊎◌, ℕ, List, Option, Result, Ok, Err}
+use Rattle.std.specs.IoError.{error_kind}
+use Rattle.std.specs.declared.io.Error.{Error}
+use Rattle.std.specs.declared.io.ErrorKind.TheVariants.{BrokenPipe}
 use Rattle.std.specs.Io.KnownBytes.{Keeps}
 use Rattle.clap.specs.Words.{Text}
 use Rattle.bao_request.specs.declared.tasks.Request.{Request}
@@ -9,6 +12,11 @@ use Rattle.bao_command.specs.Tasks.{PrintsBeginning, PrintsLine}
 -- at status 0: the line of what the words ask for, or they ask for help or the version
 abbrev pub Done : List Text → Option (List ℕ) → Option (List ℕ) → Type 0
 Done words old new = AsksForHelp words ⊎ ((request : Request) × AsksFor words request × PrintsLine request old new)
+
+-- help was printed, or its reader had closed the pipe before its end
+abbrev pub IsShown : Result Unit Error → Type 0
+IsShown (Ok done) = Unit {0}
+IsShown (Err error) = error_kind error ≡ BrokenPipe
 
 -- at status 3: nothing, or a beginning of it
 abbrev pub Begun : List Text → Option (List ℕ) → Option (List ℕ) → Type 0

@@ -29,7 +29,7 @@ abbrev pub line_of : Mode → Task → List ℕ → List ℕ
 line_of mode (Hash at length file) bytes = digits_line (stream mode bytes at length)
 line_of mode (Encode encoding file out) bytes = digits_line (hash mode bytes)
 line_of mode (Decode root part file out) bytes = part_line part bytes
-line_of mode (Gather root workers capacity encode files out) bytes = ok_line (length bytes)
+line_of mode (Gather root workers capacity encode verbose files out) bytes = ok_line (length bytes)
 line_of mode (Replay root capacity script files) bytes = bytes
 
 -- the task's root, where it has one, is 64 hexadecimal digits
@@ -37,7 +37,7 @@ abbrev pub HasRoot : Task → Type 0
 HasRoot (Hash at length file) = Unit {0}
 HasRoot (Encode encoding file out) = Unit {0}
 HasRoot (Decode root part file out) = IsDigits root.now
-HasRoot (Gather root workers capacity encode files out) = IsDigits root.now
+HasRoot (Gather root workers capacity encode verbose files out) = IsDigits root.now
 HasRoot (Replay root capacity script files) = IsDigits root.now
 
 -- the path isn't one of the three names of standard output
@@ -49,7 +49,7 @@ abbrev pub WritesApart : Task → Type 0
 WritesApart (Hash at length file) = Unit {0}
 WritesApart (Encode encoding file out) = IsNoOutput out.now
 WritesApart (Decode root part file out) = IsNoOutput out.now
-WritesApart (Gather root workers capacity encode files out) = IsNoOutput out.now
+WritesApart (Gather root workers capacity encode verbose files out) = IsNoOutput out.now
 WritesApart (Replay root capacity script files) = Unit {0}
 
 -- the text of a part of the blob with this root, in hexadecimal digits, is accepted
@@ -71,7 +71,7 @@ abbrev pub IsRight : Mode → Task → List ℕ → Type 0
 IsRight mode (Hash at length file) bytes = Unit {0}
 IsRight mode (Encode encoding file out) bytes = Unit {0}
 IsRight mode (Decode root part file out) bytes = IsRightPart mode root.now part bytes
-IsRight mode (Gather root workers capacity encode files out) bytes =
+IsRight mode (Gather root workers capacity encode verbose files out) bytes =
     (length files.items ≤ 64) × (HasHash mode root.now bytes × (length bytes ≤ 1024 * capacity))
 IsRight mode (Replay root capacity script files) bytes = (length files.items ≤ 64) × IsReplay mode root.now capacity (length files.items) bytes
 

@@ -11,6 +11,7 @@ ghost use Rattle.bao_command.specs.Printed.{Prints, told_of};
 ghost use Rattle.bao_command.specs.Tasks.{Answers, HasHash, HasRoot, IsReplay, IsRight, IsRightPart, WritesApart, line_of, part_line};
 
 use crate::fault::Fault;
+use crate::help::{show, shown_status};
 use crate::mode::mode_of;
 use b3tree::{Hash, Mode, xof_fits};
 use bao_decode::decode_file;
@@ -18,10 +19,11 @@ use bao_files::{
     Encoding, FileFault, Once, Part, bytes_of_digits, encode_file, open_file, print_count,
     print_digits, print_input, print_text, shared_len,
 };
-use bao_gathered::{Gathering, gather_files};
+use bao_gathered::{Fate, Gathering, gather_files};
 use bao_replay::replay_files;
 use bao_request::{Request, Task, parse};
 use clap::error::ErrorKind;
+use std::alloc::Global;
 use std::fs::File;
 use std::io::Write;
 use std::rt::Files;
@@ -35,7 +37,8 @@ const MOST_FILES: usize = 64;
 /// memory.
 ///
 /// At status 0 `out` has the line of the request that the words make, on the file's bytes or the gathered blob, or
-/// where they ask for it help or the version. At 3 it has a beginning at most, and after other faults nothing.
+/// where they ask for it help or the version, or a beginning of that where its reader closed the pipe. At 3 it has a
+/// beginning at most, and after other faults nothing.
 pub fn command<R: Files<File = File> + AllocGlobal + Threads + Sync, O: Write, E: Write>(
     rt: &R,
     words: &[String],
@@ -48,19 +51,20 @@ pub fn command<R: Files<File = File> + AllocGlobal + Threads + Sync, O: Write, E
     ensures fault { result ≢ 0 → result ≢ 3 → Keeps (O.contents out.old) (O.contents out.new) }
 {
     match parse(rt.alloc(), words) {
-        Ok(request) => match serve(rt, &request, out) {
+        Ok(request) => match serve(rt, &request, out, err) {
             Ok(()) => 0,
             Err(fault) => fault.report(err),
         },
-        Err(error) => answer_clap(&error, out, err),
+        Err(error) => answer_clap(rt.alloc(), &error, out, err),
     }
 }
 
-// Does what the request asks for.
-fn serve<'a, R: Files<File = File> + AllocGlobal + Threads + Sync, O: Write>(
+// Does what the request asks for. What is told beside its line goes to `err`.
+fn serve<'a, R: Files<File = File> + AllocGlobal + Threads + Sync, O: Write, E: Write>(
     rt: &R,
     request: &Request<'a>,
     out: &mut O,
+    err: &mut E,
 ) -> Result<(), Fault<'a>>
     ensures answer { Answers request.now (O.contents out.old) (O.contents out.new) result }
     ensures root { ¬ HasRoot request.now.task → IsErrAnd result (λ fault. fault ≡ Fault.Root) }
@@ -69,7 +73,7 @@ fn serve<'a, R: Files<File = File> + AllocGlobal + Threads + Sync, O: Write>(
     check_root(&request.task)?;
     let mode = mode_of(request.key, request.context)?;
     if writes_apart(&request.task) {
-        serve_task(rt, &mode, &request.task, out)
+        serve_task(rt, &mode, &request.task, out, err)
     } else {
         Err(Fault::OutIsOutput)
     }
@@ -159,15 +163,31 @@ fn decode<'a, R: Files<File = File> + AllocGlobal + Threads + Sync, O: Write>(
     }
 }
 
-// Gathers the blob out of the files, and prints how many bytes it has.
-fn gather<'a, R: Files + AllocGlobal + Threads + Sync, O: Write>(
+// Says which of the files were left out, and why, where that is asked. A write that fails is the last, and changes nothing.
+fn tell<E: Write>(verbose: bool, files: &[&str], fates: &[Fate], err: &mut E) {
+    if !verbose {
+        return;
+    }
+    for (file, fate) in files.iter().zip(fates) {
+        if let Some(reason) = fate.reason() {
+            if writeln!(Once(err), "bao_gather: left out {file}: {reason}").is_err() {
+                return;
+            }
+        }
+    }
+}
+
+// Gathers the blob out of the files, says where it is asked which of them were left out, and prints how many bytes it has.
+fn gather<'a, R: Files + AllocGlobal + Threads + Sync, O: Write, E: Write>(
     rt: &R,
     mode: &Mode,
     digits: &str,
     how: Gathering,
+    verbose: bool,
     files: &[&'a str],
     path: &'a str,
     out: &mut O,
+    err: &mut E,
 ) -> Result<(), Fault<'a>>
     ensures answer { (blob : List ℕ) × OnOk result (HasHash mode.now digits.now blob × (length blob ≤ 1024 * how.capacity))
         × Prints (ok_line (length blob)) (O.contents out.old) (O.contents out.new) result }
@@ -179,7 +199,12 @@ fn gather<'a, R: Files + AllocGlobal + Threads + Sync, O: Write>(
         return Err(Fault::TooManyFiles);
     }
     let root = root_of(digits)?;
-    match gather_files(rt, mode, &root, how, files, path) {
+    let Ok(mut fates) = vec![in rt.alloc(); Fate::Unopened; files.len()] else {
+        return Err(Fault::File(FileFault::Memory));
+    };
+    let gathered = gather_files(rt, mode, &root, how, files, path, fates.as_mut_slice());
+    tell(verbose, files, fates.as_slice(), err);
+    match gathered {
         Ok(count) => told(print_count(rt.alloc(), count, out)),
         Err(fault) => Err(Fault::Gather(fault)),
     }
@@ -212,11 +237,12 @@ fn replay<'a, R: Files + AllocGlobal, O: Write>(
 }
 
 // Does the task on the files' bytes, whatever these are.
-fn serve_task<'a, R: Files<File = File> + AllocGlobal + Threads + Sync, O: Write>(
+fn serve_task<'a, R: Files<File = File> + AllocGlobal + Threads + Sync, O: Write, E: Write>(
     rt: &R,
     mode: &Mode,
     task: &Task<'a>,
     out: &mut O,
+    err: &mut E,
 ) -> Result<(), Fault<'a>>
     ensures prints { (bytes : List ℕ) × OnOk result (IsRight mode.now task.now bytes)
         × Prints (line_of mode.now task.now bytes) (O.contents out.old) (O.contents out.new) result }
@@ -240,6 +266,7 @@ fn serve_task<'a, R: Files<File = File> + AllocGlobal + Threads + Sync, O: Write
             workers,
             capacity,
             encode,
+            verbose,
             files,
             out: path,
         } => {
@@ -248,7 +275,17 @@ fn serve_task<'a, R: Files<File = File> + AllocGlobal + Threads + Sync, O: Write
                 capacity: *capacity,
                 encode: *encode,
             };
-            gather(rt, mode, root, how, files.as_slice(), path, out)
+            gather(
+                rt,
+                mode,
+                root,
+                how,
+                *verbose,
+                files.as_slice(),
+                path,
+                out,
+                err,
+            )
         }
         Task::Replay {
             root,
@@ -286,8 +323,13 @@ fn writes_apart(task: &Task<'_>) -> bool
     !matches!(*path, "/dev/stdout" | "/dev/fd/1" | "/proc/self/fd/1")
 }
 
-// Prints what `clap` has to say: help and the version on `out`, a refusal on `err`.
-fn answer_clap<O: Write, E: Write>(error: &clap::Error, out: &mut O, err: &mut E) -> u8
+// Prints what `clap` has to say: help and the version on `out`, whose reader may have read enough, a refusal on `err`.
+fn answer_clap<O: Write, E: Write>(
+    alloc: Global,
+    error: &clap::Error,
+    out: &mut O,
+    err: &mut E,
+) -> u8
     ensures status { result ≤ 4 }
     ensures done { result ≡ 0 → IsHelp (kind_of error.now) }
     ensures file_fault { result ≡ 3 → IsHelp (kind_of error.now) }
@@ -300,9 +342,8 @@ fn answer_clap<O: Write, E: Write>(error: &clap::Error, out: &mut O, err: &mut E
         let _ = write!(Once(err), "{error}");
         return 2;
     }
-    let shown = write!(Once(out), "{error}");
-    if shown.is_err() || out.flush().is_err() {
-        return Fault::File(FileFault::Output).report(err);
-    }
-    0
+    let Ok(text) = format!(in alloc; "{error}") else {
+        return Fault::File(FileFault::Memory).report(err);
+    };
+    shown_status(show(text.as_bytes(), out), err)
 }

@@ -8,6 +8,7 @@ pub use words::own_words;
 
 mod commands;
 mod fault;
+mod help;
 mod mode;
 mod program;
 mod words;

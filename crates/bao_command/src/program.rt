@@ -16,7 +16,8 @@ use std::thread::Threads;
 /// fault, 4 want of memory.
 ///
 /// At status 0 `out` has the line of the request that the words make, on the file's bytes, or where they ask
-/// for it help or the version. At 3 it has a beginning at most, and after other faults nothing.
+/// for it help or the version, or a beginning of that where its reader closed the pipe. At 3 it has a beginning at most, and
+/// after other faults nothing.
 pub fn run<R: Env + Files<File = File> + AllocGlobal + Threads + Sync, O: Write, E: Write>(
     rt: &R,
     out: &mut O,

@@ -6,6 +6,7 @@ ghost use Rattle.bao_files.specs.declared.fault.FileFault.TheVariants as FileFau
 ghost use Rattle.bao_gathered.specs.Faults.{IsQuiet, NamesFirst};
 ghost use Rattle.bao_gathered.specs.Gathered.{IsGathered, LeavesBlob, WritesBlob, gathered_text};
 
+use crate::fate::Fate;
 use crate::fault::GatheredFault;
 use b3tree::{Hash, Mode};
 use bao_files::{FileFault, LateFile, read_file};
@@ -18,40 +19,60 @@ use std::io::Write;
 use std::rt::Files;
 use std::thread::Threads;
 
-// Whether a read of the path ends by itself: it names a regular file.
-fn is_regular<R: Files>(rt: &R, path: &str) -> bool {
-    match fs::metadata(rt, path) {
-        Ok(metadata) => metadata.is_file(),
-        Err(_) => false,
+// Notes what became of the file at this place.
+fn note(fates: &mut [Fate], place: usize, fate: Fate) {
+    if let Some(noted) = fates.get_mut(place) {
+        *noted = fate;
     }
 }
 
-// Which of the files are regular. It is asked once, so that each file has its turn whatever becomes of it.
-fn kinds_of<R: Files>(rt: &R, alloc: Global, paths: &[&str]) -> Result<Vec<bool>, AllocError> {
+// Which of the files are regular, so that a read of them ends by itself. It is asked once, so that each file has its turn
+// whatever becomes of it. What can't be asked about can't be read, as long as nothing else is noted.
+fn kinds_of<R: Files>(
+    rt: &R,
+    alloc: Global,
+    paths: &[&str],
+    fates: &mut [Fate],
+) -> Result<Vec<bool>, AllocError> {
     let mut kinds = Vec::with_capacity(alloc, paths.len())?;
-    for path in paths {
-        kinds.push(is_regular(rt, path))?;
+    for (place, path) in paths.iter().enumerate() {
+        let (is_regular, fate) = match fs::metadata(rt, path) {
+            Ok(metadata) => (metadata.is_file(), Fate::Unopened),
+            Err(_) => (false, Fate::Unread),
+        };
+        kinds.push(is_regular)?;
+        note(fates, place, fate);
     }
     Ok(kinds)
 }
 
-// Appends the bytes of those files of one kind that can be read to `texts`, and answers whether one of them found no room.
+// Appends the bytes of a file to `texts`, where it can be read and finds room, and answers what became of it.
+fn take<R: Files + AllocGlobal>(rt: &R, path: &str, texts: &mut Vec<Vec<u8>>) -> Fate {
+    match read_file(rt, path) {
+        Ok(text) => match texts.push(text) {
+            Ok(()) => Fate::Taken,
+            Err(_) => Fate::Starved,
+        },
+        Err(FileFault::Memory) => Fate::Starved,
+        Err(_) => Fate::Unread,
+    }
+}
+
+// Does so with the files of one kind, and answers whether one of them found no room.
 fn read_files<R: Files + AllocGlobal>(
     rt: &R,
     paths: &[&str],
     kinds: &[bool],
     regular: bool,
     texts: &mut Vec<Vec<u8>>,
+    fates: &mut [Fate],
 ) -> bool {
     let mut starved = false;
-    for (path, kind) in paths.iter().zip(kinds) {
-        if *kind != regular {
-            continue;
-        }
-        match read_file(rt, path) {
-            Ok(text) => starved |= texts.push(text).is_err(),
-            Err(FileFault::Memory) => starved = true,
-            Err(_) => {}
+    for (place, (path, kind)) in paths.iter().zip(kinds).enumerate() {
+        if *kind == regular {
+            let fate = take(rt, path, texts);
+            starved |= matches!(fate, Fate::Starved);
+            note(fates, place, fate);
         }
     }
     starved
@@ -156,7 +177,8 @@ fn cause_of<'a>(
 /// Gathers the blob with this root, of at most `capacity` chunks, out of the files, each a combined encoding from a
 /// holder that nobody trusts, writes it, or its combined encoding, to the file at `path`, made anew once the blob was
 /// verified, and answers how many bytes the blob has. A file that can't be read, or for which there is no memory, is
-/// left out. What isn't a regular file, as a pipe, is opened only where the regular ones leave the blob unfinished.
+/// left out. What isn't a regular file, as a pipe, is opened only where the regular ones leave the blob unfinished. What became
+/// of each file is noted in `fates` at its place, as far as that has places, whatever is answered.
 ///
 /// Refuses files of which none can be read (`File` with `Read` of the first), a blob that did not come together (`Gather`,
 /// or `File` with `Memory` where there was none for one of the files), one for whose encoding there was no memory (`File`
@@ -168,13 +190,14 @@ pub fn gather_files<'a, R: Files + AllocGlobal + Threads + Sync>(
     how: Gathering,
     files: &[&'a str],
     path: &'a str,
+    fates: &mut [Fate],
 ) -> Result<u64, GatheredFault<'a>>
     ensures ok { IfOk result (λ count. (blob : List ℕ) × IsGathered how mode.now root.now.0 blob × (count ≡ length blob)) }
     ensures err { IfErr result IsQuiet }
     ensures paths { IfErr result (NamesFirst files.now path.entry) }
 {
     let alloc = rt.alloc();
-    let Ok(kinds) = kinds_of(rt, alloc, files) else {
+    let Ok(kinds) = kinds_of(rt, alloc, files, fates) else {
         return Err(GatheredFault::File(FileFault::Memory));
     };
     let mut texts = Vec::new(alloc);
@@ -183,7 +206,8 @@ pub fn gather_files<'a, R: Files + AllocGlobal + Threads + Sync>(
     let mut met = None;
     for regular in [true, false] {
         let known = texts.len();
-        starved |= read_files(rt, files, kinds.as_slice(), regular, &mut texts);
+        let kinds = kinds.as_slice();
+        starved |= read_files(rt, files, kinds, regular, &mut texts, fates);
         if texts.len() == known {
             continue;
         }

@@ -1,8 +1,10 @@
 //! A blob gathered out of files by workers, and written.
 #![tactic(auto)]
 
+pub use fate::Fate;
 pub use fault::GatheredFault;
 pub use gathering::{Gathering, gather_files, write_gathered};
 
+mod fate;
 mod fault;
 mod gathering;

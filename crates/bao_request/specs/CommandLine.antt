@@ -95,6 +95,10 @@ workers_rule = record (option_rule (codes "workers")) { parser = Some (Signed (p
 abbrev pub encode_rule : Rule
 encode_rule = record (new_rule (codes "encode")) { long = Some (codes "encode"); action = Some SetTrue }
 
+-- whether the files that were left out are named: an option `--verbose` without a value
+abbrev pub verbose_rule : Rule
+verbose_rule = record (new_rule (codes "verbose")) { long = Some (codes "verbose"); action = Some SetTrue }
+
 -- the most chunks of a blob
 abbrev pub capacity_rule : Rule
 capacity_rule = record (option_rule (codes "capacity")) { parser = Some (Signed (pos 1) (pos 65536)); defaults = codes "65536" ∷ [] }
@@ -107,7 +111,7 @@ abbrev pub with_holders_rules : App → App
 with_holders_rules app = with_mode_rules (with_rule (with_rule (with_rule app root_rule) out_rule) files_rule)
 
 abbrev pub gather_app : App
-gather_app = with_holders_rules (with_rule (with_rule (with_rule (new_app (codes "gather")) workers_rule) capacity_rule) encode_rule)
+gather_app = with_holders_rules (with_rule (with_rule (with_rule (with_rule (new_app (codes "gather")) workers_rule) capacity_rule) encode_rule) verbose_rule)
 
 abbrev pub script_rule : Rule
 script_rule = place_rule (codes "SCRIPT")

@@ -53,8 +53,8 @@ GivesTask name rows (Encode encoding file out) =
     GivesEncoding name rows encoding × GivesText rows (codes "FILE") file.now × GivesText rows (codes "OUT") out.now
 GivesTask name rows (Decode root part file out) =
     GivesPart name rows part file.now × GivesText rows (codes "ROOT") root.now × GivesText rows (codes "OUT") out.now
-GivesTask name rows (Gather root workers capacity encode files out) =
-    (name ≡ codes "gather") × GivesNumber rows (codes "workers") workers × GivesNumber rows (codes "capacity") capacity × GivesFlag rows (codes "encode") encode × GivesText rows (codes "ROOT") root.now × GivesTexts rows (codes "FILE") files.items × GivesText rows (codes "OUT") out.now
+GivesTask name rows (Gather root workers capacity encode verbose files out) =
+    (name ≡ codes "gather") × GivesNumber rows (codes "workers") workers × GivesNumber rows (codes "capacity") capacity × GivesFlag rows (codes "encode") encode × GivesFlag rows (codes "verbose") verbose × GivesText rows (codes "ROOT") root.now × GivesTexts rows (codes "FILE") files.items × GivesText rows (codes "OUT") out.now
 GivesTask name rows (Replay root capacity script files) =
     (name ≡ codes "replay") × GivesNumber rows (codes "capacity") capacity × GivesText rows (codes "ROOT") root.now × GivesText rows (codes "SCRIPT") script.now × GivesTexts rows (codes "FILE") files.items
 

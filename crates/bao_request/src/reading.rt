@@ -111,6 +111,7 @@ fn gather_of<'a>(alloc: Global, words: &ArgMatches<'a>) -> Result<Option<Task<'a
         workers,
         capacity,
         encode: flag(words, "encode"),
+        verbose: flag(words, "verbose"),
         files: files.to_vec(alloc)?,
         out,
     }))

@@ -1,7 +1,7 @@
 ghost use Rattle.std.specs.Prelude.{◌≡◌, IfOk, Some, false};
-ghost use Rattle.clap.specs.Words.{app_of, rule_of};
+ghost use Rattle.clap.specs.Words.{app_of, rule_of, with_rule};
 ghost use Rattle.clap.specs.declared.builder.command.Command.TheViews.{out-Command};
-ghost use Rattle.bao_request.specs.CommandLine.{IsApp, any_number, at_rule, capacity_rule, checkers_app, decode_app, decode_slice_app, encode_app, encode_rule, files_rule, gather_app, hash_app, length_rule, option_rule, outboard_app, place_rule, program_app, replay_app, slice_app, with_file_rules, with_holders_rules, with_mode_rules, with_range_rules, with_script_rules, with_slice_rules, workers_rule, writers_app};
+ghost use Rattle.bao_request.specs.CommandLine.{IsApp, any_number, at_rule, capacity_rule, checkers_app, decode_app, decode_slice_app, encode_app, encode_rule, files_rule, gather_app, hash_app, length_rule, option_rule, outboard_app, place_rule, program_app, replay_app, slice_app, verbose_rule, with_file_rules, with_holders_rules, with_mode_rules, with_range_rules, with_script_rules, with_slice_rules, workers_rule, writers_app};
 
 use clap::{Arg, ArgAction, Command, value_parser};
 use std::alloc::{AllocError, Global};
@@ -203,6 +203,16 @@ fn encode_flag<'a>(alloc: Global) -> Arg<'a>
         .help("Writes the blob's combined Bao encoding in place of the blob")
 }
 
+fn verbose_flag<'a>(alloc: Global) -> Arg<'a>
+    ensures rule { rule_of result ≡ verbose_rule }
+    ensures global { result.global ≡ false }
+{
+    Arg::new(alloc, "verbose")
+        .long("verbose")
+        .action(ArgAction::SetTrue)
+        .help("Says on standard error which FILEs were left out, and why")
+}
+
 fn capacity_option<'a>(alloc: Global) -> Arg<'a>
     ensures rule { rule_of result ≡ capacity_rule }
     ensures global { result.global ≡ false }
@@ -233,6 +243,14 @@ fn with_holders<'a>(alloc: Global, command: Command<'a>) -> Result<Command<'a>, 
     with_mode(alloc, command)
 }
 
+// The command with the two flags of gathering.
+fn with_flags<'a>(alloc: Global, command: Command<'a>) -> Result<Command<'a>, AllocError>
+    requires { (out-Command command).has_globals ≡ false }
+    ensures { IfOk result (IsApp (with_rule (with_rule (app_of command.entry) encode_rule) verbose_rule)) }
+{
+    command.arg(encode_flag(alloc))?.arg(verbose_flag(alloc))
+}
+
 fn gather_command<'a>(alloc: Global) -> Result<Command<'a>, AllocError>
     ensures { IfOk result (IsApp gather_app) }
 {
@@ -240,8 +258,8 @@ fn gather_command<'a>(alloc: Global) -> Result<Command<'a>, AllocError>
         .about("Gathers the blob with a root out of combined Bao encodings, and writes it")
         .after_help(OF_GATHER)
         .arg(workers_option(alloc))?
-        .arg(capacity_option(alloc))?
-        .arg(encode_flag(alloc))?;
+        .arg(capacity_option(alloc))?;
+    let command = with_flags(alloc, command)?;
     with_holders(alloc, command)
 }
 

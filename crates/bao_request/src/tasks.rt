@@ -33,12 +33,14 @@ pub enum Task<'a> {
         out: &'a str,
     },
     /// The blob with this root, of at most `capacity` chunks, 1 to 65,536, gathered by 1 to 64 workers out of the
-    /// files, one or more, to the file `out`: its bytes, or with `encode` its combined encoding.
+    /// files, one or more, to the file `out`: its bytes, or with `encode` its combined encoding. With `verbose` it is said
+    /// which files were left out.
     Gather {
         root: &'a str,
         workers: u32,
         capacity: u32,
         encode: bool,
+        verbose: bool,
         files: Vec<&'a str>,
         out: &'a str,
     },
