@@ -1,96 +1,16 @@
-ghost use Rattle.std.specs.Prelude.{IfOk};
 ghost use Rattle.store_shared.specs.Seats.{IsSeatOf};
 
-use b3tree::{Hash, Mode};
+use b3tree::Mode;
 use bao_check::check_combined;
 use bao_text::combined;
-use crews::{Crew, CrewsFault, Gate, Open, finish, run};
+use crews::{CrewsFault, Gate, Open, finish};
 use gather::{Encoded, FinishFault, GatherFault, Holder, HolderFault, Report};
-use std::alloc::Global;
 use std::sync::atomic::{AtomicU64, Ordering};
 use std::test::Fail;
 use std::thread;
-use std::thread::Threads;
 use store_core::Settling;
 use store_shared::{Assembly, Seat};
-
-// The bytes i mod 251, as in BLAKE3's test vectors.
-pub(crate) fn blob(rt: &HostRuntime, len: usize) -> Result<Vec<u8>, Fail> {
-    let mut bytes = Vec::with_capacity(rt.alloc(), len)?;
-    for i in 0..len {
-        bytes.push((i % 251) as u8)?;
-    }
-    Ok(bytes)
-}
-
-pub(crate) fn shared(rt: &HostRuntime, root: Hash, capacity: u32) -> Result<(Assembly, Seat), Fail>
-    ensures { IfOk result (λ made. IsSeatOf made.0 made.1) }
-{
-    Ok(Assembly::new(rt.alloc(), root, Mode::hash(), capacity)?)
-}
-
-// A second seat, split off this one.
-pub(crate) fn split(assembly: &Assembly, seat: Seat) -> Result<(Seat, Seat), Fail>
-    requires { IsSeatOf assembly.now seat }
-    ensures { IfOk result (λ seats. IsSeatOf assembly.now seats.0 × IsSeatOf assembly.now seats.1) }
-{
-    match assembly.split(seat) {
-        Ok(seats) => Ok(seats),
-        Err(_) => Err(Fail::from("a seat was refused")),
-    }
-}
-
-// A run with one crew for each list of holders. Each crew's seat is split off from the first, which comes back.
-pub(crate) fn run_lists<R: Threads + Sync, H: Holder + Drop + Send, G: Gate + Sync>(
-    rt: &R,
-    alloc: Global,
-    assembly: &Assembly,
-    mut seat: Seat,
-    lists: Vec<Vec<H>>,
-    gate: &G,
-) -> Result<(Seat, Report), Fail>
-    requires { IsSeatOf assembly.now seat }
-    ensures { IfOk result (λ done. IsSeatOf assembly.now done.0) }
-{
-    let mut crews = Vec::with_capacity(alloc, lists.len())?;
-    for holders in lists {
-        let (stays, new) = split(assembly, seat)?;
-        seat = stays;
-        crews.push(Crew::new(new, holders))?;
-    }
-    if crews.is_empty() || crews.len() > 64 {
-        return Err(Fail::from("1 to 64 crews"));
-    }
-    let report = run(rt, alloc, assembly, crews.as_mut_slice(), gate);
-    Ok((seat, report))
-}
-
-// The same, where each worker has a holder for each of the texts, and no growth is refused.
-pub(crate) fn run_texts<R: Threads + Sync>(
-    rt: &R,
-    alloc: Global,
-    assembly: &Assembly,
-    seat: Seat,
-    workers: usize,
-    texts: &[&[u8]],
-) -> Result<(Seat, Report), Fail>
-    requires { IsSeatOf assembly.now seat }
-    ensures { IfOk result (λ done. IsSeatOf assembly.now done.0) }
-{
-    let mut lists = Vec::with_capacity(alloc, workers)?;
-    for _ in 0..workers {
-        let mut holders = Vec::with_capacity(alloc, texts.len())?;
-        for text in texts {
-            holders.push(Encoded::new(alloc, text))?;
-        }
-        lists.push(holders)?;
-    }
-    let (seat, report) = run_lists(rt, alloc, assembly, seat, lists, &Open)?;
-    if report.memory > 0 {
-        return Err(Fail::from("a growth was refused"));
-    }
-    Ok((seat, report))
-}
+use tests_workers::{blob, run_lists, run_texts, shared, split};
 
 // Why there is no blob, with ample memory.
 fn finish_fault(rt: &HostRuntime, assembly: &Assembly, seat: &mut Seat) -> Result<FinishFault, Fail>
@@ -106,14 +26,14 @@ fn finish_fault(rt: &HostRuntime, assembly: &Assembly, seat: &mut Seat) -> Resul
 
 // Whoever comes is held until this number came: a test that waits too long is ended from outside.
 #[derive(Drop)]
-pub(crate) struct Meeting {
+struct Meeting {
     number: u64,
     came: AtomicU64,
-    pub(crate) met: AtomicU64,
+    met: AtomicU64,
 }
 
 impl Meeting {
-    pub(crate) fn of(number: u64) -> Meeting {
+    fn of(number: u64) -> Meeting {
         Meeting {
             number,
             came: AtomicU64::new(0),
@@ -121,7 +41,7 @@ impl Meeting {
         }
     }
 
-    pub(crate) fn wait(&self) {
+    fn wait(&self) {
         self.came.fetch_add(1, Ordering::SeqCst);
         for _ in 0..u64::MAX {
             if self.came.load(Ordering::SeqCst) >= self.number {
@@ -171,9 +91,9 @@ impl Holder for Late<'_> {
 // Each of two workers passes the gate while the other does.
 #[test]
 fn two_workers_pass_at_once(rt: HostRuntime) -> Result<(), Fail> {
-    let bytes = blob(&rt, 3000)?;
+    let bytes = blob(rt.alloc(), 3000)?;
     let (root, whole) = combined(rt.alloc(), &Mode::hash(), bytes.as_slice())?;
-    let (assembly, seat) = shared(&rt, root, 3)?;
+    let (assembly, seat) = shared(rt.alloc(), root, 3)?;
     let first = vec![in rt.alloc(); Encoded::new(rt.alloc(), whole.as_slice())]?;
     let second = vec![in rt.alloc(); Encoded::new(rt.alloc(), whole.as_slice())]?;
     let gate = Meeting::of(2);
@@ -196,9 +116,9 @@ fn two_workers_pass_at_once(rt: HostRuntime) -> Result<(), Fail> {
 // Each of two workers asks its holder while the other does.
 #[test]
 fn two_workers_ask_at_once(rt: HostRuntime) -> Result<(), Fail> {
-    let bytes = blob(&rt, 3000)?;
+    let bytes = blob(rt.alloc(), 3000)?;
     let (root, whole) = combined(rt.alloc(), &Mode::hash(), bytes.as_slice())?;
-    let (assembly, seat) = shared(&rt, root, 3)?;
+    let (assembly, seat) = shared(rt.alloc(), root, 3)?;
     let meeting = Meeting::of(2);
     let mut lists = Vec::new(rt.alloc());
     for _ in 0..2 {
@@ -252,9 +172,9 @@ impl Holder for Peer<'_> {
 
 #[test]
 fn a_device_that_fails(rt: HostRuntime) -> Result<(), Fail> {
-    let bytes = blob(&rt, 3000)?;
+    let bytes = blob(rt.alloc(), 3000)?;
     let (root, whole) = combined(rt.alloc(), &Mode::hash(), bytes.as_slice())?;
-    let (assembly, seat) = shared(&rt, root, 3)?;
+    let (assembly, seat) = shared(rt.alloc(), root, 3)?;
     let broken = Peer {
         faults: 0,
         whole: None,
@@ -293,9 +213,9 @@ fn a_device_that_fails(rt: HostRuntime) -> Result<(), Fail> {
 // A seat that is gone still holds its claim.
 #[test]
 fn a_claim_of_a_seat_that_is_gone(rt: HostRuntime) -> Result<(), Fail> {
-    let bytes = blob(&rt, 1000)?;
+    let bytes = blob(rt.alloc(), 1000)?;
     let (root, whole) = combined(rt.alloc(), &Mode::hash(), bytes.as_slice())?;
-    let (assembly, seat) = shared(&rt, root, 1)?;
+    let (assembly, seat) = shared(rt.alloc(), root, 1)?;
     let (seat, mut other) = split(&assembly, seat)?;
     assert_eq!(rt; assembly.take(&mut other, 0, 1)?, 1);
     drop(other);
@@ -325,9 +245,9 @@ fn take_all(assembly: &Assembly, seat: &mut Seat, groups: u32) -> Result<u32, Fa
 #[test]
 fn no_claim_is_left(rt: HostRuntime) -> Result<(), Fail> {
     let mode = Mode::hash();
-    let (root, whole) = combined(rt.alloc(), &mode, blob(&rt, 200_000)?.as_slice())?;
-    let (_, shorter) = combined(rt.alloc(), &mode, blob(&rt, 199_999)?.as_slice())?;
-    let (assembly, seat) = shared(&rt, root, 196)?;
+    let (root, whole) = combined(rt.alloc(), &mode, blob(rt.alloc(), 200_000)?.as_slice())?;
+    let (_, shorter) = combined(rt.alloc(), &mode, blob(rt.alloc(), 199_999)?.as_slice())?;
+    let (assembly, seat) = shared(rt.alloc(), root, 196)?;
     let mut seat = seat;
     let piece = check_combined(rt.alloc(), &mode, &root, whole.as_slice())?;
     let settling = assembly.settle(&mut seat, &piece.tail().ok_or("tail")?);

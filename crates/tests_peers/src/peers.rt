@@ -1,7 +1,6 @@
 ghost use Rattle.std.specs.Prelude.{IfOk};
 ghost use Rattle.store_shared.specs.Seats.{IsSeatOf};
 
-use crate::workers::{blob, run_lists, shared, split};
 use b3tree::{Hash, Mode};
 use bao_check::check_slice;
 use bao_text::{combined, slice};
@@ -12,16 +11,17 @@ use std::test::Fail;
 use std::thread::{Threads, join};
 use store_core::Settling;
 use store_shared::{Assembly, Seat};
+use tests_workers::{blob, run_lists, shared, split};
 
 // A store that has the last group alone, with its parents, is the one holder of another: this gets that group, and asks
 // twice in vain for the first.
 #[test]
 fn a_peer_of_an_unfinished_store(rt: HostRuntime) -> Result<(), Fail> {
     let mode = Mode::hash();
-    let bytes = blob(&rt, 70_000)?;
+    let bytes = blob(rt.alloc(), 70_000)?;
     let (root, text) = slice(rt.alloc(), &mode, bytes.as_slice(), 65_536, 65_536)?;
     let piece = check_slice(rt.alloc(), &mode, &root, 65_536, 65_536, text.as_slice())?;
-    let (has, mut seat) = shared(&rt, root, 69)?;
+    let (has, mut seat) = shared(rt.alloc(), root, 69)?;
     assert_eq!(rt;
         has.settle(&mut seat, &piece.tail().ok_or("tail")?),
         Settling::Settled
@@ -29,7 +29,7 @@ fn a_peer_of_an_unfinished_store(rt: HostRuntime) -> Result<(), Fail> {
     assert_eq!(rt; has.take(&mut seat, 1, u64::MAX), Ok(0b11111));
     assert_eq!(rt; has.commit(&mut seat, 1, &piece), Ok(0b11111));
     assert_eq!(rt; has.commit_parents(&mut seat, 1, &piece), Ok(0b11111));
-    let (wants, own) = shared(&rt, root, 69)?;
+    let (wants, own) = shared(rt.alloc(), root, 69)?;
     let holders = vec![in rt.alloc(); Peer::new(&has, seat)]?;
     let lists = vec![in rt.alloc(); holders]?;
     let (mut own, report) = run_lists(&rt, rt.alloc(), &wants, own, lists, &Open)?;
@@ -175,7 +175,7 @@ fn ask_round<R: Threads + Sync>(
 // Three stores, each with a third of the blob, ask one another in a ring: after two rounds each has the blob.
 #[test]
 fn a_ring_of_three(rt: HostRuntime) -> Result<(), Fail> {
-    let bytes = blob(&rt, 196_608)?;
+    let bytes = blob(rt.alloc(), 196_608)?;
     let (root, whole) = combined(rt.alloc(), &Mode::hash(), bytes.as_slice())?;
     let (one, first) = fed(&rt, rt.alloc(), root, 0, whole.as_slice())?;
     let (two, second) = fed(&rt, rt.alloc(), root, 1, whole.as_slice())?;

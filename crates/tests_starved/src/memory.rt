@@ -1,10 +1,10 @@
-use crate::workers::{blob, run_lists, run_texts, shared};
 use b3tree::Mode;
 use bao_text::combined;
 use crews::{CrewsFault, Open, finish, gather_texts};
 use gather::{Encoded, FinishFault, GatherFault, Holder, HolderFault, Report};
 use std::sync::atomic::{AtomicU64, Ordering};
 use std::test::Fail;
+use tests_workers::{blob, run_lists, run_texts, shared};
 
 // A holder over an encoding that has memory for so many fetches, and none after them: these it counts.
 #[derive(Drop)]
@@ -41,7 +41,7 @@ impl Holder for Starving<'_> {
 #[test]
 fn a_holder_without_memory(rt: HostRuntime) -> Result<(), Fail> {
     let mode = Mode::hash();
-    let bytes = blob(&rt, 200_000)?;
+    let bytes = blob(rt.alloc(), 200_000)?;
     let (root, whole) = combined(rt.alloc(), &mode, bytes.as_slice())?;
     for (fetches, committed, parents, asked, memory) in [
         (0, 0, 0, 2, 2),
@@ -51,7 +51,7 @@ fn a_holder_without_memory(rt: HostRuntime) -> Result<(), Fail> {
         (4, 192, 194, 6, 2),
         (5, 196, 195, 5, 0),
     ] {
-        let (assembly, seat) = shared(&rt, root, 196)?;
+        let (assembly, seat) = shared(rt.alloc(), root, 196)?;
         let refused = AtomicU64::new(0);
         let starving = Starving {
             fetches,
@@ -88,11 +88,11 @@ fn a_holder_without_memory(rt: HostRuntime) -> Result<(), Fail> {
 #[test]
 fn a_growth_that_is_refused(rt: HostRuntime) -> Result<(), Fail> {
     let mode = Mode::hash();
-    let bytes = blob(&rt, 3000)?;
+    let bytes = blob(rt.alloc(), 3000)?;
     let (root, whole) = combined(rt.alloc(), &mode, bytes.as_slice())?;
     let texts = vec![in rt.alloc(); whole]?;
     let text = texts.first().ok_or("text")?.as_slice();
-    let (assembly, seat) = shared(&rt, root, 3)?;
+    let (assembly, seat) = shared(rt.alloc(), root, 3)?;
     let holders = vec![in rt.alloc(); Encoded::new(rt.alloc(), text)]?;
     let lists = vec![in rt.alloc(); holders]?;
     let (seat, report) = run_lists(&rt, rt.alloc(), &assembly, seat, lists, &Open)?;
@@ -134,7 +134,7 @@ fn a_growth_that_is_refused(rt: HostRuntime) -> Result<(), Fail> {
 #[test]
 fn sixteen_workers(rt: HostRuntime) -> Result<(), Fail> {
     let mode = Mode::hash();
-    let bytes = blob(&rt, 3000)?;
+    let bytes = blob(rt.alloc(), 3000)?;
     let (root, whole) = combined(rt.alloc(), &mode, bytes.as_slice())?;
     let texts = vec![in rt.alloc(); whole]?;
     match gather_texts(&rt, rt.alloc(), root, mode, 3, 16, texts.as_slice()) {

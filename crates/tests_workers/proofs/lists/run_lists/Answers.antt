@@ -1,7 +1,7 @@
 use Rattle.std.proofs.Common.{◌≡◌, ◌++◌, [], ◌∷◌, List, sym, subst}
 use Rattle.std.proofs.lemmas.List.Elements.{All-push}
 use Rattle.std.specs.List.{All}
-use Rattle.tests_crews.proofs.workers.run_lists.Goals as goal
+use Rattle.tests_workers.proofs.lists.run_lists.Goals as goal
 use Rattle.crews.specs.declared.crew.Crew.{Crew}
 use Rattle.store_shared.specs.Seats.{Gripped, IsSeatOf}
 

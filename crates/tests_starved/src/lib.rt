@@ -1,0 +1,5 @@
+//! Tests of workers without memory: `crews`.
+#![tactic(auto)]
+
+#[cfg(test)]
+mod memory;
