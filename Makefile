@@ -16,7 +16,7 @@ CPU := $(if $(filter-out $(sort $(shell cat /proc/cpuinfo 2>/dev/null)),$(V3_NEE
 endif
 
 # Crates of which nothing goes into the program.
-ASIDE := bao_bind bao_refused bench berylwool text_scenarios store_scenarios program_scenarios tests_b3 tests_text tests_gather tests_shared tests_crews tests_files tests_command
+ASIDE := bao_bind bao_refused bench berylwool text_scenarios store_scenarios program_scenarios tests_b3 tests_text tests_gather tests_shared tests_workers tests_crews tests_peers tests_bare tests_starved tests_files tests_command
 
 # The files and folders whose change asks for a new proof. With the folders, a file that was taken
 # away is seen too.
@@ -29,15 +29,15 @@ help:
 	@echo 'make sum                  prints the checksum of the built bao_gather'
 	@echo 'make install PREFIX=DIR   copies bao_gather to DIR/bin, its manual page and completions to DIR/share (PREFIX is /usr/local if left out; DESTDIR goes before it)'
 	@echo 'make dist                 makes the folder of a release, out/dist, of a commit: programs for both processor levels, manual page, completions, checksums'
-	@echo 'make test                 the gate: rt ci (every proof from nothing, the must-fail edits, the tests and the programs), then what make docs and make refuse do'
+	@echo 'make test                 the gate: what make scenarios does, rt ci (every proof from nothing, the must-fail edits, the tests and the programs), then what make docs and make refuse do'
 	@echo 'make wrong-bodies         tries the wrong bodies that the gate leaves out, of all crates or of CRATES="NAME .."'
-	@echo 'make docs                 runs the shell examples of README and docs/CLI.md, and compares what they print'
+	@echo 'make docs                 runs the shell examples of README and docs/CLI.md and compares what they print, and compares the wanted figures of docs/BENCH.md with scripts/bench.py'
 	@echo 'make scenarios            holds what the programs of scenarios have to print to replies made by the definitions alone'
 	@echo 'make c-library            proves the C library and builds it, as out/libberylwool.a and out/libberylwool.so (needs cc and binutils)'
 	@echo 'make c-install PREFIX=DIR copies the C library to DIR/lib, its header to DIR/include and its manual pages to DIR/share/man, with what pkg-config asks for'
 	@echo 'make c-test               holds c/berylwool.h to the sources, and runs the C tests, under what is installed of sanitizers, valgrind, clang and rustc'
 	@echo 'make c-bench              measures calls of the C library in one thread, and prints their times'
-	@echo 'make bench                measures times and prints them with their ratios, beside b3sum where it is installed'
+	@echo 'make bench                measures times and prints them with their ratios, beside b3sum where it is installed and beside what is wanted'
 	@echo 'make refuse               runs the tests of the libraries with one allocation refused after another, and each task where holders lie, and with one allocation, read, write or other call failing after another (needs cc and binutils)'
 	@echo 'make stress               runs the tests that start threads 200 times, many at once'
 	@echo 'make fmt                  lays out the files of each crate'
@@ -71,8 +71,10 @@ dist:
 # What rt ci leaves is the program that it proved.
 test:
 	@python3 scripts/wrong_bodies.py --read
+	@python3 scripts/scenarios.py
 	rt ci
 	@python3 scripts/docs.py crates/bao_gather/out/bao_gather
+	@python3 scripts/bench.py --read
 	@python3 scripts/refuse_libraries.py
 	@python3 scripts/refuse.py crates/bao_gather/out/bao_gather
 
@@ -84,6 +86,7 @@ scenarios:
 
 docs: out/bao_gather
 	@python3 scripts/docs.py out/bao_gather
+	@python3 scripts/bench.py --read
 
 # With the C library where there is a C compiler.
 bench: out/bao_gather out/bench $(if $(shell command -v cc),out/c/compare)

@@ -1,12 +1,13 @@
 #!/usr/bin/env python3
 """Times the programs of this repository, as `make bench` built them, beside b3sum, and prints a table.
 
-Every command is run several times, in turns and twice in a row, and its least time counts. No time is judged: this fails only where a
-program fails, where two of them print different hashes, or where what was decoded or gathered isn't what was encoded. What is wanted of each
-ratio stands here alone, in MEMORY and RATIOS."""
+Every command is run several times, in turns and twice in a row, and its least time counts. A figure that isn't what is wanted is said to be
+missed, and that is no failure: this fails only where a program fails, where two of them print different hashes, or where what was decoded or
+gathered isn't what was encoded. What is wanted stands here alone, in CALLS, MEMORY and RATIOS: docs/BENCH.md repeats it, and --read compares."""
 import argparse
 import filecmp
 import os
+import re
 import shutil
 import subprocess
 import sys
@@ -273,6 +274,49 @@ RATIOS = [
 ]
 
 
+# How far above a figure is that is wanted to be about another one, and isn't.
+ABOUT = 1.25
+
+
+def ratio_name(how, first, second):
+    return f"{how}: {first} / {second}"
+
+
+def wanted_figures():
+    """What is wanted of each figure of which something is, by its name."""
+    found = {ratio_name(how, first, second): wanted for how, first, second, wanted in RATIOS if wanted}
+    found |= {f"{name}, MB": wanted for name, _, wanted in MEMORY}
+    return found | {f"{name}, ns": wanted for name, wanted in CALLS if wanted}
+
+
+def is_missed(wanted, figure):
+    """Whether the figure isn't what is wanted, where that begins with a number. One for four processors counts where there are as many."""
+    said = re.match(r"(at least|at most|below|about) ([0-9.]+)( on four processors)?", wanted)
+    if not said or (said[3] and (os.cpu_count() or 1) < 4):
+        return False
+    number = float(said[2])
+    return {"at least": figure < number, "at most": figure > number, "below": figure >= number, "about": figure > ABOUT * number}[said[1]]
+
+
+def judged(wanted, figure):
+    """What is said behind the figure."""
+    return f" (wanted: {wanted}{'; MISSED' if is_missed(wanted, figure) else ''})" if wanted else ""
+
+
+def read_document():
+    """Compares what docs/BENCH.md says is wanted with what is, and says where it differs."""
+    told = {}
+    with open(f"{ROOT}/docs/BENCH.md", encoding="utf-8") as it:
+        for line in it:
+            cells = [cell.strip() for cell in line.strip().strip("|").split("|")]
+            if line.startswith("|") and cells[-1] != "wanted" and not re.fullmatch("[|-]+", line.strip()):
+                told[cells[0]] = cells[-1]
+    wanted = wanted_figures()
+    wrong = [f"{name}: {told.get(name, 'nothing')!r} in place of {wanted.get(name, 'nothing')!r}" for name in [*wanted, *(set(told) - set(wanted))] if told.get(name) != wanted.get(name)]
+    print("\n".join([f"docs/BENCH.md: {len(told)} wanted figures, {len(wrong)} differ from scripts/bench.py", *wrong]))
+    return 1 if wrong else 0
+
+
 def holders(room, path):
     """The first bytes of the file, as many as a store has room for, with their root, a true encoding of them and ten damaged ones."""
     blob, encoding = f"{room}/blob", f"{room}/blob.bao"
@@ -337,7 +381,10 @@ def main():
     parser = argparse.ArgumentParser(description=__doc__)
     parser.add_argument("--mib", type=int, default=256, help="the size of the file, in MiB")
     parser.add_argument("--runs", type=int, default=7, help="how often each command is run")
+    parser.add_argument("--read", action="store_true", help="measure nothing, and compare docs/BENCH.md with what is wanted")
     words = parser.parse_args()
+    if words.read:
+        sys.exit(read_document())
     print(f"processor: {processor()}; processors: {os.cpu_count()}")
     print(f"rt version: {output(['rt', 'version']).strip()}")
     with open(f"{ROOT}/out/cpu", encoding="utf-8") as it:
@@ -349,21 +396,27 @@ def main():
     for name, how in ROWS:
         if name in least:
             print(f"{least[name]:8.4f}  {name} ({how})")
+    missed = []
+
+    def tell(figure, decimals, name, wanted, how=""):
+        print(f"{figure:8.{decimals}f}  {name}{how}{judged(wanted, figure)}")
+        missed.extend([name] if is_missed(wanted, figure) else [])
+
     if any(name in least for name, _ in CALLS):
         print(f"\n{'ns':>8}  a call of the C library")
         for name, wanted in CALLS:
-            print(f"{least[name] * 1e9:8.1f}  {name}{f' (wanted: {wanted})' if wanted else ''}")
+            tell(least[name] * 1e9, 1, name, wanted)
     else:
         print("\nThere is no C compiler, so there are no times of the C library.")
     print(f"\n{'MB':>8}  what")
     for name, how, wanted in MEMORY:
         if name in least:
-            print(f"{least[name] / 1e6:8.1f}  {name} ({how}; wanted: {wanted})")
+            tell(least[name] / 1e6, 1, name, wanted, f" ({how})")
     print(f"\n{'ratio':>8}  of which times")
     for how, first, second, wanted in RATIOS:
         if first in least and second in least:
-            ratio = least[first] / least[second]
-            print(f"{ratio:8.2f}  {how}: {first} / {second}{f' (wanted: {wanted})' if wanted else ''}")
+            tell(least[first] / least[second], 2, ratio_name(how, first, second), wanted)
+    print(f"\nmissed: {len(missed)} of {len(wanted_figures())} wanted figures")
 
 
 if __name__ == "__main__":

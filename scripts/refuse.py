@@ -12,10 +12,12 @@ definitions alone, of the files as the run found them, or a fault of docs/CLI.md
 Prints each case, each run that ended otherwise, and last 'N passed, M failed'. The exit status is 1 where one failed. Needs cc.
 """
 import argparse
+import dataclasses
 import errno
 import functools
 import multiprocessing
 import os
+import re
 import resource
 import subprocess
 import sys
@@ -30,6 +32,9 @@ HERE = os.path.dirname(os.path.abspath(__file__))
 
 OUT, KEPT, STDOUT, STDERR = "out", b"kept", "standard output", "standard error"
 PLAIN = b"bao_gather: memory\n"
+
+# The lines of --verbose, and those of them that want of memory adds.
+LEFT_OUT, STARVED = re.compile(rb"bao_gather: left out .*\n"), re.compile(rb"bao_gather: left out .*: no memory\n")
 
 # No run comes near these seconds: it is held for ever.
 HELD = 120
@@ -114,7 +119,7 @@ class Case:
     def ending(self, changes=frozenset()):
         """How it ends by the definitions, where some files can't be read (None), or end at a byte."""
         model = scenarios.Programs()
-        model.files = dict(self.files)
+        model.files, model.irregular = dict(self.files), set(self.pipes)
         for file, end in changes:
             if end is None:
                 model.files.pop(file, None)
@@ -166,6 +171,7 @@ class Case:
         """Whether it ended as promised, where these calls were met."""
         whole = self.ending()
         if fault.call == "malloc":
+            ended = dataclasses.replace(ended, complaint=STARVED.sub(b"", ended.complaint))
             return ended == whole or self.is_of_memory(ended)
         if fault.call == "pthread_create" or fault.how in HARMLESS:
             return ended == whole
@@ -177,18 +183,19 @@ class Case:
 
     def is_of_memory(self, ended):
         """It ended with a fault of memory of its own, and OUT is as it was, or whole where the line on standard output found no room."""
-        left = [KEPT, self.ending().out] if ended.complaint == PLAIN else [KEPT]
-        return ended.status == 4 and not ended.printed and ended.complaint in self.memory and ended.out in left
+        complaint = LEFT_OUT.sub(b"", ended.complaint)
+        left = [KEPT, self.ending().out] if complaint == PLAIN else [KEPT]
+        return ended.status == 4 and not ended.printed and complaint in self.memory and ended.out in left
 
     def is_ending(self, wanted, places, ended):
         """It ended so, but for what a call on one of these places took away."""
         status, printed, complaint, out = wanted.status, [wanted.printed], wanted.complaint, ended.out == wanted.out
         if status == 0 and OUT in places:
-            status, printed, complaint = 3, [b""], f"bao_gather: cannot write {OUT}\n".encode()
+            status, printed, complaint = 3, [b""], complaint + f"bao_gather: cannot write {OUT}\n".encode()
             out = ended.out == KEPT or wanted.out.startswith(ended.out)
         elif status == 0 and STDOUT in places:
             printed = [wanted.printed[:k] for k in range(len(wanted.printed))]
-            status, complaint = 3, b"bao_gather: cannot write output\n"
+            status, complaint = 3, complaint + b"bao_gather: cannot write output\n"
         told = complaint.startswith(ended.complaint) if STDERR in places else ended.complaint == complaint
         return ended.status == status and ended.printed in printed and told and out
 
@@ -214,7 +221,7 @@ def tried(case, faults, program, shim, room):
                 settings = {"LD_PRELOAD": shim, "CALL": fault.call, "AT": str(number), "HOW": fault.how, **({"ON": "1"} if fault.on else {})}
                 ended, met = case.run(program, folder, settings)
                 quiet = 0 if met else quiet + 1
-                seen.add(ended.complaint)
+                seen.add(LEFT_OUT.sub(b"", ended.complaint))
                 if case.is_right(fault, met, ended):
                     passed += 1
                 else:
@@ -260,6 +267,7 @@ def tasks(options):
     yield case(f"gather --capacity 100 --workers 1 {root} out whole", {"whole": whole})
     yield case(f"gather --capacity 100 --encode {root} out whole damaged copy", {"whole": whole, "copy": whole, "damaged": damaged})
     yield case(f"gather --workers 3 --capacity 69 {root} out damaged", {"damaged": damaged})
+    yield case(f"gather --verbose --capacity 100 {root} out piece nofile whole", {"piece": piece, "whole": whole})
     yield case(f"replay --capacity 100 {root} script whole damaged", {"script": steps, "whole": whole, "damaged": damaged})
 
 
@@ -313,6 +321,8 @@ def holders():
     yield Case(["gather", "--capacity", "100", root, OUT, "zeros", "whole"], files, {"zeros": 1 << 40})
     for given in (["pipe", "whole"], ["/dev/stdin", "pipe", "whole", "nofile", "pipe"]):
         yield Case(["gather", "--capacity", "100", root, OUT, *given], files, pipes=["pipe"])
+    yield Case(["gather", "--verbose", "--capacity", "100", root, OUT, "pipe", "nofile", *names, "whole"], files, pipes=["pipe"])
+    yield gather(["nofile", *names], "--verbose", "--capacity", "100")
     yield gather(names)
     yield gather([*names[:10], "whole"])
     yield gather([*names[:10], "whole"], "--workers", "1")
@@ -322,6 +332,24 @@ def holders():
     many = [names[k % len(names)] for k in range(64)]
     for place in range(64):
         yield gather([*many[:place], "whole", *many[place + 1 :]])
+
+
+def is_quiet(program, words):
+    """Whether help that nobody reads any more ends with 0 and says nothing."""
+    reader, writer = os.pipe()
+    os.close(reader)
+    try:
+        ran = subprocess.run([program, *words], stdin=subprocess.DEVNULL, stdout=writer, stderr=subprocess.PIPE, restore_signals=False)
+    finally:
+        os.close(writer)
+    return ran.returncode == 0 and not ran.stderr
+
+
+def is_told(program, words):
+    """Whether help for which its device has no room ends with the fault of standard output."""
+    with open("/dev/full", "wb") as full:
+        ran = subprocess.run([program, *words], stdin=subprocess.DEVNULL, stdout=full, stderr=subprocess.PIPE)
+    return ran.returncode == 3 and ran.stderr == b"bao_gather: cannot write output\n"
 
 
 def work(given):
@@ -356,6 +384,11 @@ def main():
             for said, right, wrong in pool.imap_unordered(work, [it for it in parts if it[1]]):
                 print(said, flush=True)
                 passed, failed = passed + right, failed + wrong
+    for words in [["--help"], ["--version"], ["gather", "--help"]] if not asked.only else []:
+        for to, does in (("a closed pipe", is_quiet), ("a full device", is_told)):
+            is_right = does(asked.program, words)
+            print(f"{' '.join(words)} into {to}: {'passed' if is_right else 'failed'}")
+            passed, failed = passed + is_right, failed + (not is_right)
     print(f"{passed} passed, {failed} failed")
     return 1 if failed else 0
 

@@ -7,6 +7,7 @@ At the top of the repository. A scenario is a program's file stdin: a command a 
 with '#' between them. What the program has to print, its file stdout, is the same lines with a reply, indented, below each
 command. Compares these files with the replies made here, and says where they differ; with --write writes them.
 """
+import concurrent.futures
 import os
 import sys
 
@@ -636,7 +637,9 @@ class Programs:
     STANDARD_OUTPUT = ["/dev/stdout", "/dev/fd/1", "/proc/self/fd/1"]
 
     def __init__(self):
-        self.files, self.digits, self.written = {}, "", written("clap.txt")
+        self.files, self.digits, self.written = {"/dev/null": b""}, "", written("clap.txt")
+        # What is there and isn't a regular file, and what was told of FILEs.
+        self.irregular, self.told = {"/dev/null"}, []
 
     def read(self, file):
         if file not in self.files:
@@ -665,9 +668,10 @@ class Programs:
     def run(self, words):
         """What the program prints on its two streams, after its status."""
         options, plain, words = {"--at": "0", "--length": "32", "--workers": "4", "--capacity": "65536"}, [], list(words)
+        self.told = []
         while words:
             word = words.pop(0)
-            if word == "--encode":
+            if word in ("--encode", "--verbose"):
                 options[word] = ""
             elif word.startswith("--"):
                 options[word] = words.pop(0)
@@ -679,9 +683,10 @@ class Programs:
             mode = self.mode_of(options.get("--key"), options.get("--context"))
             if name in self.OUTS and given[self.OUTS[name]] in self.STANDARD_OUTPUT:
                 raise Refused(2, "usage: OUT is standard output")
-            return [f"status {0}", *(f"out: {it}" for it in getattr(self, name.replace("-", "_"))(mode, root, options, given).splitlines())]
+            out = [f"out: {it}" for it in getattr(self, name.replace("-", "_"))(mode, root, options, given).splitlines()]
+            return ["status 0", *out, *(f"err: bao_gather: {it}" for it in self.told)]
         except Refused as fault:
-            return [f"status {fault.status}", f"err: bao_gather: {fault}"]
+            return [f"status {fault.status}", *(f"err: bao_gather: {it}" for it in [*self.told, fault])]
 
     def hash(self, mode, root, options, given):
         at, length = int(options["--at"]), int(options["--length"])
@@ -729,17 +734,35 @@ class Programs:
         out, files = given[1], given[2:]
         if len(files) > self.MOST_FILES:
             raise Refused(2, "usage: too many files")
-        texts = [self.files[it] for it in files if it in self.files]
-        if not texts:
-            raise Refused(3, f"cannot read {files[0]}")
-        capacity, held, length = int(options["--capacity"]), {}, None
+        found = [it for it in files if it in self.files]
+        regular = [it for it in found if it not in self.irregular]
+        answer, opened, is_done = Refused(3, f"cannot read {files[0]}"), [], False
+        # What isn't a regular file is opened only where the regular ones leave the blob unfinished.
+        for names in [regular] if found == regular else [regular, found]:
+            if names and not is_done:
+                opened = names
+                answer = self.gathered(mode, root, int(options["--capacity"]), [self.files[it] for it in names])
+                is_done = not isinstance(answer, Refused) or str(answer) not in ("901 unfinished", "805 too large")
+        for it in files if "--verbose" in options else []:
+            if it in self.irregular and it not in opened:
+                self.told.append(f"left out {it}: not opened")
+            elif it not in self.files:
+                self.told.append(f"left out {it}: can't be read")
+        if isinstance(answer, Refused):
+            raise answer
+        self.write(out, bao.combined(mode, answer) if "--encode" in options else answer)
+        return f"ok {len(answer)}"
+
+    def gathered(self, mode, root, capacity, texts):
+        """The blob that these texts give, or why they give none."""
+        held, length = {}, None
         for piece in self.pieces(mode, root, texts, 2**64 - 1, 1):
             if piece.length > bao.CHUNK_LEN * capacity:
-                raise Refused(1, "805 too large")
+                return Refused(1, "805 too large")
             length = piece.length
             break
         if length is None:
-            raise Refused(1, "901 unfinished")
+            return Refused(1, "901 unfinished")
         group_bytes = GROUP_LEN * bao.CHUNK_LEN
         for group in range(-(-bao.chunks_of(length) // GROUP_LEN)):
             for piece in self.pieces(mode, root, texts, group_bytes * group, group_bytes):
@@ -747,11 +770,8 @@ class Programs:
                 break
         blob = b"".join(held.get(k, b"") for k in range(bao.chunks_of(length)))
         if len(blob) != length:
-            raise Refused(1, "901 unfinished")
-        if mode.hash(blob) != root:
-            raise Refused(1, "902 not the root")
-        self.write(out, bao.combined(mode, blob) if "--encode" in options else blob)
-        return f"ok {length}"
+            return Refused(1, "901 unfinished")
+        return blob if mode.hash(blob) == root else Refused(1, "902 not the root")
 
     def pieces(self, mode, root, texts, start, count):
         """The accepted slices of these texts."""
@@ -833,15 +853,22 @@ def disagreements(file):
     return sum(mode_of(modes[mode]).output(blob_of(int(length)), 0, len(digits) // 2).hex() != digits for mode, length, digits in rows)
 
 
+def made_of(name):
+    """What the program of scenarios of this name has to print."""
+    with open(f"crates/{name}/stdin", encoding="utf-8") as it:
+        return replies(SCENARIOS[name], it.read())
+
+
 def main(words):
     if words not in ([], ["--write"]):
         sys.exit(__doc__)
-    wrong = disagreements(f"{os.path.dirname(__file__)}/b3sum.tsv")
+    with concurrent.futures.ProcessPoolExecutor() as pool:
+        rows = pool.submit(disagreements, f"{os.path.dirname(os.path.abspath(__file__))}/b3sum.tsv")
+        texts = list(pool.map(made_of, SCENARIOS))
+        wrong = rows.result()
     if wrong:
         print(f"{wrong} rows of b3sum.tsv aren't what the definitions give")
-    for name, kind in SCENARIOS.items():
-        with open(f"crates/{name}/stdin", encoding="utf-8") as it:
-            made = replies(kind, it.read())
+    for name, made in zip(SCENARIOS, texts):
         file = f"crates/{name}/stdout"
         if words:
             with open(file, "w", encoding="utf-8") as it:
