@@ -145,9 +145,10 @@ fn settled(
         1,
         text.as_slice(),
     )?;
-    if let Some(tail) = piece.tail() {
-        assembly.settle(&mut seat, &tail);
-    }
+    let Some(tail) = piece.tail() else {
+        return Err(Fail::from("the last chunk has no tail"));
+    };
+    assembly.settle(&mut seat, &tail);
     Ok(seat)
 }
 
