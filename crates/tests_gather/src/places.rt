@@ -1,7 +1,7 @@
 use crate::holders::blob;
 use b3read::Source;
 use b3tree::Mode;
-use bao_text::combined;
+use bao_text::{combined, slice};
 use gather::{Encoded, EncodedAt, Holder, HolderFault, Plain, PlainAt};
 use std::cell::Cell;
 use std::io::ErrorKind;
@@ -47,15 +47,8 @@ fn appended<H: Holder>(
     len: u64,
 ) -> Result<Vec<u8>, Fail> {
     let mut text = vec![in rt.alloc(); 1, 2]?;
-    match holder.fetch(start, len, &mut text) {
-        Ok(()) => Ok(text),
-        Err(HolderFault::Memory) => {
-            agree(text.as_slice(), &[1, 2])?;
-            holder.fetch(start, len, &mut text)?;
-            Ok(text)
-        }
-        Err(fault) => Err(Fail::from(fault)),
-    }
+    holder.fetch(start, len, &mut text)?;
+    Ok(text)
 }
 
 // A file of these bytes is asked at places, and in memory.
@@ -242,5 +235,33 @@ fn a_claimed_length_takes_no_room(rt: HostRuntime) -> Result<(), Fail> {
     let mut text = Vec::new(rt.alloc());
     EncodedAt::new(&Endless).fetch(u64::MAX, 1, &mut text)?;
     assert_eq!(rt; text.len(), 72);
+    Ok(())
+}
+
+// What a holder appends, at the second call where a growth is refused at the first, which appends nothing.
+fn appended_at_last<H: Holder>(
+    rt: &HostRuntime,
+    holder: &mut H,
+    start: u64,
+) -> Result<Vec<u8>, Fail> {
+    let mut text = Vec::new(rt.alloc());
+    if holder.fetch(start, 1, &mut text) == Err(HolderFault::Memory) {
+        agree(text.as_slice(), &[])?;
+        holder.fetch(start, 1, &mut text)?;
+    }
+    Ok(text)
+}
+
+// `rt try --test --fail-alloc N`.
+#[test]
+fn a_growth_that_is_refused(rt: HostRuntime) -> Result<(), Fail> {
+    let mode = Mode::hash();
+    let bytes = blob(&rt, 3000)?;
+    let (_, text) = combined(rt.alloc(), &mode, bytes.as_slice())?;
+    let (_, expected) = slice(rt.alloc(), &mode, bytes.as_slice(), 1024, 1)?;
+    let got = appended_at_last(&rt, &mut EncodedAt::new(&text.as_slice()), 1024)?;
+    assert_eq!(rt; got.as_slice(), expected.as_slice());
+    let got = appended_at_last(&rt, &mut PlainAt::new(&bytes.as_slice()), 255)?;
+    assert_eq!(rt; got.as_slice(), [4].as_slice());
     Ok(())
 }
