@@ -12,3 +12,7 @@ pub mod Served
 pub mod Finishing
 pub mod Handing
 pub mod Rooms
+pub mod Reading
+pub mod Runs
+pub mod Cuts
+pub mod Appending

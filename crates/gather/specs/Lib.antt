@@ -3,6 +3,8 @@ pub mod Holders
 pub mod Encodings
 pub mod Forms
 pub mod Plains
+pub mod Places
+pub mod Reads
 pub mod Claims
 pub mod Large
 pub mod HandedOut

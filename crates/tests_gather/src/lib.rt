@@ -6,4 +6,6 @@ mod holders;
 #[cfg(test)]
 mod memory;
 #[cfg(test)]
+mod places;
+#[cfg(test)]
 mod serving;

@@ -1,0 +1,18 @@
+-- What is known of a text that follows.
+use Rattle.std.proofs.Common.{◌≡◌, ◌⊎◌, ℕ, List, ◌++◌, length, take, drop, Option, None, Some, refl, sym, ap, ◌∙◌, inl}
+use Rattle.std.proofs.lemmas.List.{drop_at, take-append-drop}
+use Rattle.gather.specs.Holders.{Appends}
+use Rattle.gather.specs.Places.{IsLost, OfBytes}
+
+pub Appends-known : (contents : Option (List ℕ)) (faultless : Type 0) (old new : List ℕ) (text_of : List ℕ → List ℕ) → take (length old) new ≡ old
+    → OfBytes contents (λ s. new ≡ old ++ text_of s) → Appends (λ text. OfBytes contents (λ s. (text ≡ text_of s) ⊎ IsLost faultless text)) old new
+Appends-known None faultless old new text_of kept is = record {
+  text = drop (length old) new;
+  is = sym (take-append-drop (length old) new) ∙ ap (λ (xs : List ℕ). xs ++ drop (length old) new) kept;
+  given = tt;
+}
+Appends-known (Some s) faultless old new text_of kept is = record {
+  text = drop (length old) new;
+  is = sym (take-append-drop (length old) new) ∙ ap (λ (xs : List ℕ). xs ++ drop (length old) new) kept;
+  given = λ fits. inl (ap (drop (length old)) (is fits) ∙ drop_at old (text_of s) (length old) refl);
+}

@@ -1,0 +1,15 @@
+-- What reads gave, one after another.
+use Rattle.std.proofs.Common.{◌≡◌, ℕ, ◌+◌, List, ◌++◌, length, Option, ◌∙◌, ap, sym, subst, length-append}
+use Rattle.std.proofs.lemmas.List.{append_assoc}
+use Rattle.b3read.specs.Given.{GivenAt}
+use Rattle.b3read.proofs.Parts.{GivenAt-append}
+use Rattle.gather.specs.Reads.{Gains}
+
+pub Gains-more : (contents : Option (List ℕ)) (at : ℕ) (old mid new : List ℕ) (came count : ℕ) → Gains contents at old mid came → Gains contents (at + came) mid new count
+    → Gains contents at old new (came + count)
+Gains-more contents at old mid new came count first more = record {
+  bytes = first.bytes ++ more.bytes;
+  is = more.is ∙ ap (λ (xs : List ℕ). xs ++ more.bytes) first.is ∙ append_assoc old first.bytes more.bytes;
+  size = length-append first.bytes more.bytes ∙ (λ i. first.size i + more.size i);
+  given = GivenAt-append contents at first.bytes more.bytes first.given (subst (λ (n : ℕ). GivenAt contents (at + n) more.bytes) (sym first.size) more.given);
+}

@@ -1,0 +1,58 @@
+ghost use Rattle.std.specs.Prelude.{◌≡◌, ◌+◌, ◌-◌, ◌^◌, ◌<◌, ◌≤◌, ◌++◌, length, IsErrOf, OnErr, OnOk};
+ghost use Rattle.gather.specs.declared.holder.HolderFault.TheVariants.{Device};
+ghost use Rattle.gather.specs.Holders.{Appends, GivesNoMore};
+ghost use Rattle.gather.specs.Places.{IsPartAt, OfBytes};
+ghost use Rattle.gather.specs.Plains.{part_of};
+
+use crate::holder::{Holder, HolderFault};
+use crate::places::{append_part, taken_back};
+use b3read::Source;
+
+/// The holder over a plain copy of a blob that is read at places, which nobody has checked. Its memory doesn't grow with
+/// the copy. It keeps the source by reference.
+#[derive(Drop)]
+pub struct PlainAt<'a, S: Source> {
+    source: &'a S,
+    faults: u64,
+}
+
+impl<'a, S: Source> PlainAt<'a, S> {
+    /// A holder of what this source has. No fault is counted yet.
+    pub fn new(source: &'a S) -> PlainAt<'a, S>
+        ensures source { result.source.now ≡ source.now }
+        ensures faults { result.faults ≡ 0 }
+    {
+        PlainAt { source, faults: 0 }
+    }
+}
+
+impl<'a, S: Source> Holder for PlainAt<'a, S> {
+    ghost count = { λ holder. holder.faults };
+
+    ghost gives = { λ holder start len text. IsPartAt (S.contents holder.source.now) (S.faultless holder.source.now) start len text };
+
+    /// Appends the copy's bytes from byte `start` on, `len` in number, as far as it has them: with a copy of N bytes, from
+    /// min(start, N) up to and without min(start + len, N). Room is taken as they come.
+    ///
+    /// `Device` where a read answered a fault, one of the kind `Interrupted` too, which is not tried again.
+    fn fetch(&mut self, start: u64, len: u64, into: &mut Vec<u8>) -> Result<(), HolderFault>
+        ensures appended { OnOk result (Appends (IsPartAt (S.contents self.old.source.now) (S.faultless self.old.source.now) start len) into.old.items into.new.items) }
+        ensures no_more { GivesNoMore (λ holder start len text. IsPartAt (S.contents holder.source.now) (S.faultless holder.source.now) start len text) self.old self.new }
+        ensures unchanged { OnErr result (into.new.items ≡ into.old.items) }
+        ensures device { IsErrOf result Device → self.old.faults < self.new.faults }
+        ensures counts { self.old.faults ≤ self.new.faults }
+        ensures same { self.new.source.now ≡ self.old.source.now }
+        ensures part { OnOk result (self.old.faults < 2 ^ 64 - 1 → OfBytes (S.contents self.old.source.now) (λ bytes. into.new.items ≡ into.old.items ++ part_of bytes start len)) }
+        ensures few { OnOk result (length into.new.items ≤ length into.old.items + len) }
+    {
+        let before = into.len();
+        match append_part(self.source, u128::from(start), u128::from(len), into) {
+            Ok(_) => Ok(()),
+            Err(fault) => taken_back(fault, before, &mut self.faults, into),
+        }
+    }
+
+    fn faults(&self) -> u64 {
+        self.faults
+    }
+}
