@@ -1,16 +1,17 @@
 ghost use Rattle.std.specs.Borrow.{Bor};
-ghost use Rattle.std.specs.Prelude.{◌≡◌, ℕ, List, IfErr, IfOk, length};
+ghost use Rattle.std.specs.Prelude.{◌≡◌, ℕ, List, IfErr, IfOk, OnOk, length};
 ghost use Rattle.std.specs.Io.KnownBytes.{Appends};
-ghost use Rattle.bao_check.specs.Bare.{AreBare};
-ghost use Rattle.bao_check.specs.Outline.{outline_mode, outline_root, outline_text};
+ghost use Rattle.bao_check.specs.Bare.{AreBare, IsBareFault};
 ghost use Rattle.bao_text.specs.Choice.{chunk_count};
-ghost use Rattle.bao_check.specs.Outline.{outline_claimed};
+ghost use Rattle.bao_check.specs.Outline.{outline_claimed, outline_mode, outline_root, outline_text};
+ghost use Rattle.bao_files.specs.declared.fault.FileFault.TheVariants as FileFault;
+ghost use Rattle.bao_files.specs.Printed.{AppendsBeginning};
 ghost use Rattle.bao_decode.specs.Copies.{IsCopy, LeavesCopy};
 ghost use Rattle.bao_decode.specs.Faults.{IsQuiet, NamesEither};
 
 use crate::fault::DecodeFault;
 use b3tree::{CHUNK_LEN, Hash, Mode};
-use bao_check::{Outline, check_bare, check_outboard};
+use bao_check::{CheckFault, Outline, check_bare, check_outboard};
 use bao_files::{FileFault, LateFile, read_file};
 use bao_text::write_text;
 use std::io::Write;
@@ -21,6 +22,32 @@ fn chunks_of(outline: &Outline<'_>) -> u64
     ensures { result ≡ chunk_count (outline_claimed outline.now) }
 {
     outline.claimed().div_ceil(CHUNK_LEN as u64).max(1)
+}
+
+// Verifies all of a plain copy beside the outline.
+fn check_copy(outline: &Outline<'_>, copy: &[u8]) -> Result<(), CheckFault>
+    ensures good { OnOk result (AreBare (outline_mode outline.now) (outline_root outline.now) (outline_text outline.now) 0 (chunk_count (outline_claimed outline.now)) copy.now) }
+    ensures fault { IfErr result (IsBareFault (outline_mode outline.now) (outline_root outline.now) (outline_text outline.now) 0 (chunk_count (outline_claimed outline.now)) copy.now) }
+{
+    match check_bare(outline, 0, chunks_of(outline), copy) {
+        Ok(_) => Ok(()),
+        Err(fault) => Err(fault),
+    }
+}
+
+// Writes the copy to `out`, which is flushed.
+fn send<'a, W: Write>(copy: &[u8], path: &'a str, out: &mut W) -> Result<(), FileFault<'a>>
+    ensures text { OnOk result (Appends (W.contents out.old) (W.contents out.new) copy.now) }
+    ensures fault { IfErr result (λ fault. (fault ≡ FileFault.Write path.entry) × AppendsBeginning (W.contents out.old) (W.contents out.new) copy.now) }
+{
+    match write_text(copy, out) {
+        Ok(()) => {}
+        Err(_) => return Err(FileFault::Write(path)),
+    }
+    if out.flush().is_err() {
+        return Err(FileFault::Write(path));
+    }
+    Ok(())
 }
 
 /// Verifies all of a plain copy beside the outline, writes it to `out`, which is flushed, and answers how many bytes it has.
@@ -39,14 +66,14 @@ pub fn write_copy<'a, W: Write>(
     ensures text { IfOk result (λ count. Appends (W.contents out.old) (W.contents out.new) copy.now) }
     ensures fault { IfErr result (LeavesCopy outline.now copy.now path.entry (W.contents out.old) (W.contents out.new)) }
 {
-    match check_bare(outline, 0, chunks_of(outline), copy) {
-        Ok(_) => {}
+    match check_copy(outline, copy) {
+        Ok(()) => {}
         Err(fault) => return Err(DecodeFault::Check(fault)),
     }
-    if write_text(copy, out).is_err() || out.flush().is_err() {
-        return Err(DecodeFault::File(FileFault::Write(path)));
+    match send(copy, path, out) {
+        Ok(()) => Ok(copy.len() as u64),
+        Err(fault) => Err(DecodeFault::File(fault)),
     }
-    Ok(copy.len() as u64)
 }
 
 /// Checks the text in the file `outboard` as the outboard encoding of the blob with this root, verifies the plain copy beside
