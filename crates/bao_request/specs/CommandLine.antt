@@ -79,8 +79,11 @@ slice_rule = place_rule (codes "SLICE")
 abbrev pub outboard_rule : Rule
 outboard_rule = option_rule (codes "outboard")
 
+abbrev pub with_encoding_rules : App → App
+with_encoding_rules app = with_mode_rules (with_rule (with_rule (with_rule app root_rule) enc_rule) out_rule)
+
 abbrev pub decode_app : App
-decode_app = with_mode_rules (with_rule (with_rule (with_rule (with_rule (new_app (codes "decode")) outboard_rule) root_rule) enc_rule) out_rule)
+decode_app = with_encoding_rules (with_rule (new_app (codes "decode")) outboard_rule)
 
 abbrev pub with_range_rules : App → App
 with_range_rules app = with_rule (with_rule (with_rule app root_rule) start_rule) len_rule

@@ -1,7 +1,7 @@
 ghost use Rattle.std.specs.Prelude.{◌≡◌, IfOk, Some, false};
 ghost use Rattle.clap.specs.Words.{app_of, rule_of, with_rule};
 ghost use Rattle.clap.specs.declared.builder.command.Command.TheViews.{out-Command};
-ghost use Rattle.bao_request.specs.CommandLine.{IsApp, any_number, at_rule, capacity_rule, checkers_app, decode_app, decode_slice_app, encode_app, encode_rule, files_rule, gather_app, hash_app, length_rule, option_rule, outboard_app, outboard_rule, place_rule, program_app, replay_app, slice_app, verbose_rule, with_file_rules, with_holders_rules, with_mode_rules, with_range_rules, with_script_rules, with_slice_rules, workers_rule, writers_app};
+ghost use Rattle.bao_request.specs.CommandLine.{IsApp, any_number, at_rule, capacity_rule, checkers_app, decode_app, decode_slice_app, encode_app, encode_rule, files_rule, gather_app, hash_app, length_rule, option_rule, outboard_app, outboard_rule, place_rule, program_app, replay_app, slice_app, verbose_rule, with_encoding_rules, with_file_rules, with_holders_rules, with_mode_rules, with_range_rules, with_script_rules, with_slice_rules, workers_rule, writers_app};
 
 use clap::{Arg, ArgAction, Command, value_parser};
 use std::alloc::{AllocError, Global};
@@ -147,21 +147,31 @@ fn slice_command<'a>(alloc: Global) -> Result<Command<'a>, AllocError>
     with_files(alloc, command)
 }
 
+// The command with the words ROOT, ENC and OUT, and those of the mode.
+fn with_encoding<'a>(alloc: Global, command: Command<'a>) -> Result<Command<'a>, AllocError>
+    requires { (out-Command command).has_globals ≡ false }
+    ensures { IfOk result (IsApp (with_encoding_rules (app_of command.entry))) }
+{
+    let root = place(alloc, "ROOT", "The hash of the blob, 64 hexadecimal digits");
+    let encoding = place(
+        alloc,
+        "ENC",
+        "The encoding to check, or with --outboard the plain copy",
+    );
+    let out = place(alloc, "OUT", "The file to write");
+    let command = command.arg(root)?.arg(encoding)?.arg(out)?;
+    with_mode(alloc, command)
+}
+
 fn decode_command<'a>(alloc: Global) -> Result<Command<'a>, AllocError>
     ensures { IfOk result (IsApp decode_app) }
 {
+    let outboard = outboard_option(alloc, "Checks a plain copy beside this outboard encoding");
     let command = Command::new(alloc, "decode")
         .about("Checks a combined Bao encoding, or a plain copy, under a root, and writes the blob")
         .after_help(OF_DECODE)
-        .arg(outboard_option(alloc, "Checks a plain copy beside this outboard encoding"))?
-        .arg(place(alloc, "ROOT", "The hash of the blob, 64 hexadecimal digits"))?
-        .arg(place(
-            alloc,
-            "ENC",
-            "The encoding to check, or with --outboard the plain copy",
-        ))?
-        .arg(place(alloc, "OUT", "The file to write"))?;
-    with_mode(alloc, command)
+        .arg(outboard)?;
+    with_encoding(alloc, command)
 }
 
 // The command with the words ROOT, START and LEN.
@@ -260,11 +270,14 @@ fn with_holders<'a>(alloc: Global, command: Command<'a>) -> Result<Command<'a>, 
     with_mode(alloc, command)
 }
 
-// The command with the two flags of gathering.
+// The command with what is gathered, written and told: an option and two flags.
 fn with_flags<'a>(alloc: Global, command: Command<'a>) -> Result<Command<'a>, AllocError>
     requires { (out-Command command).has_globals ≡ false }
-    ensures { IfOk result (IsApp (with_rule (with_rule (app_of command.entry) encode_rule) verbose_rule)) }
+    ensures { IfOk result (IsApp (with_rule (with_rule (with_rule (app_of command.entry) outboard_rule) encode_rule) verbose_rule)) }
 {
+    let help = "Gathers out of plain copies, beside this outboard encoding";
+    let outboard = outboard_option(alloc, help);
+    let command = command.arg(outboard)?;
     command.arg(encode_flag(alloc))?.arg(verbose_flag(alloc))
 }
 
@@ -277,11 +290,7 @@ fn gather_command<'a>(alloc: Global) -> Result<Command<'a>, AllocError>
         )
         .after_help(OF_GATHER)
         .arg(workers_option(alloc))?
-        .arg(capacity_option(alloc))?
-        .arg(outboard_option(
-            alloc,
-            "Gathers out of plain copies, beside this outboard encoding",
-        ))?;
+        .arg(capacity_option(alloc))?;
     let command = with_flags(alloc, command)?;
     with_holders(alloc, command)
 }
