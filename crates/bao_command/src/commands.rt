@@ -211,7 +211,7 @@ fn gather_by<'a, R: Files + AllocGlobal + Threads + Sync>(
     fates: &mut [Fate],
 ) -> Result<u64, GatheredFault<'a>>
     ensures ok { IfOk result (λ count. (blob : List ℕ) × IsGathered how mode.now root.now.0 blob × (count ≡ length blob)) }
-    ensures beside { OnOk result (IfSome outboard (λ _. HasOutline mode.now root.now.0)) }
+    ensures beside { OnOk result (IfSome outboard.entry (λ _. HasOutline mode.now root.now.0)) }
 {
     match outboard {
         Some(outboard) => gather_beside(rt, mode, root, how, outboard, files, path, fates),
@@ -232,7 +232,7 @@ fn gather<'a, R: Files + AllocGlobal + Threads + Sync, O: Write, E: Write>(
     out: &mut O,
     err: &mut E,
 ) -> Result<(), Fault<'a>>
-    ensures beside { OnOk result (IsBeside mode.now digits.now outboard) }
+    ensures beside { OnOk result (IsBeside mode.now digits.now outboard.entry) }
     ensures answer { (blob : List ℕ) × OnOk result (HasHash mode.now digits.now blob × (length blob ≤ 1024 * how.capacity))
         × Prints (ok_line (length blob)) (O.contents out.old) (O.contents out.new) result }
     ensures few { OnOk result (length files.now ≤ 64) }
