@@ -109,7 +109,8 @@ class Case:
 
     def __init__(self, words, files, sizes=None, is_avoidable=False, pipes=()):
         self.words, self.files, self.sizes, self.pipes = words, {**files, OUT: KEPT}, sizes or {}, pipes
-        own = OWN[words[0]] + (["401"] if "--encode" in words else [])
+        # A plain copy is checked where it lies.
+        own = [] if words[0] == "decode" and "--outboard" in words else OWN[words[0]] + (["401"] if "--encode" in words else [])
         self.memory = {f"bao_gather: {it} memory\n".encode() for it in own} | {PLAIN}
         # A long file is encoded in another way where there is no memory for the first.
         self.needed = {PLAIN} if is_avoidable else self.memory
@@ -248,6 +249,7 @@ def tasks(options):
     blob = blob_of(70_000)
     root, whole, piece = mode.hash(blob).hex(), bao.combined(mode, blob), bao.slice_text(mode, blob, 5, 9999)
     damaged = whole[:40_000] + bytes([whole[40_000] ^ 1]) + whole[40_001:]
+    parents, marred = bao.outboard(mode, blob), blob[:40_000] + bytes([blob[40_000] ^ 1]) + blob[40_001:]
     steps = b"claim 1 0 1\nhash 1 0 0 1\nload 2 0 3\nfill 1 0\npublish 1 0\nload 2 0 3\nhash 1 1 69000 1000\nsettle 1\nlength 2\n"
 
     def case(words, files):
@@ -268,6 +270,9 @@ def tasks(options):
     yield case(f"gather --capacity 100 --encode {root} out whole damaged copy", {"whole": whole, "copy": whole, "damaged": damaged})
     yield case(f"gather --workers 3 --capacity 69 {root} out damaged", {"damaged": damaged})
     yield case(f"gather --verbose --capacity 100 {root} out piece nofile whole", {"piece": piece, "whole": whole})
+    yield case(f"gather --outboard parents --capacity 100 {root} out marred blob", {"parents": parents, "marred": marred, "blob": blob})
+    yield case(f"gather --outboard parents --workers 1 --encode {root} out blob", {"parents": parents, "blob": blob})
+    yield case(f"decode --outboard parents {root} blob out", {"parents": parents, "blob": blob})
     yield case(f"replay --capacity 100 {root} script whole damaged", {"script": steps, "whole": whole, "damaged": damaged})
 
 
@@ -315,6 +320,12 @@ def holders():
         yield gather([name, name, "whole"], "--workers", "1")
         for task in (["decode", root, name, OUT], ["decode-slice", root, "1000", "100", name, OUT], ["hash", name]):
             yield Case(task, files)
+        # As a plain copy beside the outboard encoding, and in the place of that.
+        yield gather([name], "--outboard", "outboard")
+        yield gather([name, "blob"], "--outboard", "outboard", "--workers", "1")
+        yield gather(["blob"], "--verbose", "--outboard", name)
+        for given in (["outboard", root, name], [name, root, "blob"]):
+            yield Case(["decode", "--outboard", *given, OUT], files)
     # A file of 2^40 bytes that has none on the disk.
     for task in (["decode", root, "zeros", OUT], ["decode-slice", root, "1000", "100", "zeros", OUT]):
         yield Case(task, files, {"zeros": 1 << 40})

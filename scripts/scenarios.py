@@ -66,6 +66,41 @@ def boundary(node):
     return node.number + bao.left_len(node.length) // bao.CHUNK_LEN
 
 
+class Outline:
+    """An accepted outboard encoding, beside which chunks of a plain copy are checked."""
+
+    def __init__(self, mode, root, text):
+        self.mode, self.root, self.text = mode, root, text
+        self.length, self.found, _ = bao.checked(mode, root, text, bao.outboard_nodes)
+
+    def beside(self, chunks, first, count):
+        """Chunks whose values are in the outline: each by itself. Then their slice is made with the outline's parents, and has to be
+        accepted as such."""
+        parts, at = {}, 0
+        for number in range(first, first + count):
+            size = min(bao.CHUNK_LEN, self.length - number * bao.CHUNK_LEN)
+            parts[number] = chunks[at : at + size]
+            if len(parts[number]) < size:
+                raise bao.Fault(501, "short", at)
+            asked = self.root if not self.found else bytes.fromhex(half_of(self.text, self.found, number))
+            if bao.node_value(self.mode.key, self.mode.flags, False, number, not self.found, parts[number]) != asked:
+                raise bao.Fault(502, "mismatch", at)
+            at += size
+        if len(chunks) > at:
+            raise bao.Fault(503, "trailing", at)
+        given = lambda length: bao.slice_nodes(length, bao.CHUNK_LEN * first, bao.CHUNK_LEN * count)
+        pairs = {(it.number, it.length): self.text[it.offset : it.offset + it.size] for it in self.found}
+        made = self.text[:8] + b"".join(pairs[it.number, it.length] if it.is_parent else parts[it.number] for it in given(self.length))
+        return made, *bao.checked(self.mode, self.root, made, given)
+
+    def slice(self, copy, start, count):
+        """The slice of a range that a plain copy's bytes make."""
+        chunks = bao.chunks_of(self.length)
+        first = min(start // bao.CHUNK_LEN, chunks - 1)
+        after = min(first + max(-(-count // bao.CHUNK_LEN), 1), chunks)
+        return self.beside(copy[bao.CHUNK_LEN * first : min(bao.CHUNK_LEN * after, self.length)], first, after - first)[0]
+
+
 class Texts:
     """Texts encoded, cut, changed, checked and audited."""
 
@@ -100,30 +135,14 @@ class Texts:
         return text, *bao.checked(self.mode, self.root, text, self.given(self.form), self.form[0] == "stream")
 
     def beside(self, chunks, first, count):
-        """Chunks whose values are in the outline: each by itself. Then their slice is made with the outline's parents, and has to be
-        accepted as such."""
+        """The slice that these chunks make beside the outline."""
         try:
-            length, found, _ = bao.checked(self.mode, self.root, self.outline, bao.outboard_nodes)
+            outline = Outline(self.mode, self.root, self.outline)
         except bao.Fault as fault:
             raise Refused(None, f"outline: {fault}") from fault
-        if count < 1 or first + count > bao.chunks_of(length):
+        if count < 1 or first + count > bao.chunks_of(outline.length):
             raise Refused(None, "no such chunks")
-        parts, at = {}, 0
-        for number in range(first, first + count):
-            size = min(bao.CHUNK_LEN, length - number * bao.CHUNK_LEN)
-            parts[number] = chunks[at : at + size]
-            if len(parts[number]) < size:
-                raise bao.Fault(501, "short", at)
-            asked = self.root if not found else bytes.fromhex(half_of(self.outline, found, number))
-            if bao.node_value(self.mode.key, self.mode.flags, False, number, not found, parts[number]) != asked:
-                raise bao.Fault(502, "mismatch", at)
-            at += size
-        if len(chunks) > at:
-            raise bao.Fault(503, "trailing", at)
-        given = lambda length: bao.slice_nodes(length, bao.CHUNK_LEN * first, bao.CHUNK_LEN * count)
-        pairs = {(it.number, it.length): self.outline[it.offset : it.offset + it.size] for it in found}
-        made = self.outline[:8] + b"".join(pairs[it.number, it.length] if it.is_parent else parts[it.number] for it in given(length))
-        return made, *bao.checked(self.mode, self.root, made, given)
+        return outline.beside(chunks, first, count)
 
     def verdict(self, text):
         try:
@@ -709,8 +728,27 @@ class Programs:
         start, count, file, out = given
         return self.encoded(mode, file, out, lambda blob: bao.slice_text(mode, blob, int(start), int(count)))
 
+    def outline(self, mode, root, options):
+        """The outboard encoding beside which the files are plain copies, if the words name one."""
+        if "--outboard" not in options:
+            return None
+        text = self.read(options["--outboard"])
+        try:
+            return Outline(mode, root, text)
+        except bao.Fault as fault:
+            raise Refused(1, str(fault)) from None
+
     def decode(self, mode, root, options, given):
-        return self.decoded(mode, root, 0, None, *given[1:])
+        outline = self.outline(mode, root, options)
+        if outline is None:
+            return self.decoded(mode, root, 0, None, *given[1:])
+        copy = self.read(given[1])
+        try:
+            outline.beside(copy, 0, bao.chunks_of(outline.length))
+        except bao.Fault as fault:
+            raise Refused(1, str(fault)) from None
+        self.write(given[2], copy)
+        return f"ok {len(copy)}"
 
     def decode_slice(self, mode, root, options, given):
         return self.decoded(mode, root, int(given[1]), int(given[2]), *given[3:])
@@ -734,6 +772,11 @@ class Programs:
         out, files = given[1], given[2:]
         if len(files) > self.MOST_FILES:
             raise Refused(2, "usage: too many files")
+        # The outboard encoding comes first: where it is refused no file is opened.
+        if "--verbose" in options:
+            self.told = [f"left out {it}: not opened" for it in files]
+        outline = self.outline(mode, root, options)
+        self.told = []
         found = [it for it in files if it in self.files]
         regular = [it for it in found if it not in self.irregular]
         answer, opened, is_done = Refused(3, f"cannot read {files[0]}"), [], False
@@ -741,7 +784,7 @@ class Programs:
         for names in [regular] if found == regular else [regular, found]:
             if names and not is_done:
                 opened = names
-                answer = self.gathered(mode, root, int(options["--capacity"]), [self.files[it] for it in names])
+                answer = self.gathered(mode, root, int(options["--capacity"]), outline, [self.files[it] for it in names])
                 is_done = not isinstance(answer, Refused) or str(answer) not in ("901 unfinished", "805 too large")
         for it in files if "--verbose" in options else []:
             if it in self.irregular and it not in opened:
@@ -753,10 +796,10 @@ class Programs:
         self.write(out, bao.combined(mode, answer) if "--encode" in options else answer)
         return f"ok {len(answer)}"
 
-    def gathered(self, mode, root, capacity, texts):
+    def gathered(self, mode, root, capacity, outline, texts):
         """The blob that these texts give, or why they give none."""
         held, length = {}, None
-        for piece in self.pieces(mode, root, texts, 2**64 - 1, 1):
+        for piece in self.pieces(mode, root, outline, texts, 2**64 - 1, 1):
             if piece.length > bao.CHUNK_LEN * capacity:
                 return Refused(1, "805 too large")
             length = piece.length
@@ -765,7 +808,7 @@ class Programs:
             return Refused(1, "901 unfinished")
         group_bytes = GROUP_LEN * bao.CHUNK_LEN
         for group in range(-(-bao.chunks_of(length) // GROUP_LEN)):
-            for piece in self.pieces(mode, root, texts, group_bytes * group, group_bytes):
+            for piece in self.pieces(mode, root, outline, texts, group_bytes * group, group_bytes):
                 held.update(piece.chunks)
                 break
         blob = b"".join(held.get(k, b"") for k in range(bao.chunks_of(length)))
@@ -773,13 +816,13 @@ class Programs:
             return Refused(1, "901 unfinished")
         return blob if mode.hash(blob) == root else Refused(1, "902 not the root")
 
-    def pieces(self, mode, root, texts, start, count):
-        """The accepted slices of these texts."""
+    def pieces(self, mode, root, outline, texts, start, count):
+        """The accepted slices of these encodings, or of these plain copies beside an outline."""
         for text in texts:
             made = object.__new__(Piece)
             made.mode, made.root, made.start, made.count = mode, root, start, count
             try:
-                made.read(bao.cut(text, start, count))
+                made.read(outline.slice(text, start, count) if outline else bao.cut(text, start, count))
             except bao.Fault:
                 continue
             yield made

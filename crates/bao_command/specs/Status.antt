@@ -48,6 +48,7 @@ gather_status_of (crews.Gather gather.Starved) = 4
 
 abbrev pub gathered_status_of : GatheredFault → ℕ
 gathered_status_of (gathered.File fault) = file_status_of fault
+gathered_status_of (gathered.Outboard fault) = check_status_of fault
 gathered_status_of (gathered.Gather fault) = gather_status_of fault
 
 abbrev pub replay_status_of : ReplayScriptFault → ℕ

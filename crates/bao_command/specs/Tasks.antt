@@ -1,5 +1,6 @@
 -- what a task prints, and what it writes to its file OUT
-use Rattle.std.specs.Prelude.{◌≡◌, ◌≢◌, ◌≤◌, ℕ, ◌*◌, List, length, Option, Result, Ok, Err, codes}
+use Rattle.std.specs.Prelude.{◌≡◌, ◌≢◌, ◌≤◌, ℕ, ◌*◌, List, length, Option, Some, None, Result, Ok, Err, codes}
+use Rattle.std.specs.Borrow.{Bor}
 use Rattle.std.specs.Io.KnownBytes.{Appends, Keeps}
 use Rattle.std.specs.Option.{option_copied}
 use Rattle.b3tree.specs.declared.mode.Mode.{Mode}
@@ -11,11 +12,13 @@ use Rattle.bao_files.specs.declared.fault.FileFault.{FileFault}
 use Rattle.bao_files.specs.declared.fault.FileFault.TheVariants as file
 use Rattle.bao_files.specs.declared.kinds.Part.{Part}
 use Rattle.bao_files.specs.Printed.{AppendsBeginning, IsDigits, digits_line, ok_line}
+use Rattle.bao_decode.specs.Copies.{IsCopy}
 use Rattle.bao_decode.specs.Ranges.{IsPartText, written_count}
+use Rattle.bao_gathered.specs.Gathered.{HasOutline}
 use Rattle.bao_replay.specs.Replayed.{IsReplayOf}
 use Rattle.bao_request.specs.declared.tasks.Request.{Request}
 use Rattle.bao_request.specs.declared.tasks.Task.{Task}
-use Rattle.bao_request.specs.declared.tasks.Task.TheVariants.{Hash, Encode, Decode, Gather, Replay}
+use Rattle.bao_request.specs.declared.tasks.Task.TheVariants.{Hash, Encode, Decode, DecodeCopy, Gather, Replay}
 use Rattle.hex.specs.Hex.{decode_of}
 use Rattle.bao_command.specs.ModeWords.{GivesMode}
 
@@ -29,7 +32,8 @@ abbrev pub line_of : Mode → Task → List ℕ → List ℕ
 line_of mode (Hash at length file) bytes = digits_line (stream mode bytes at length)
 line_of mode (Encode encoding file out) bytes = digits_line (hash mode bytes)
 line_of mode (Decode root part file out) bytes = part_line part bytes
-line_of mode (Gather root workers capacity encode verbose files out) bytes = ok_line (length bytes)
+line_of mode (DecodeCopy root outboard copy out) bytes = ok_line (length bytes)
+line_of mode (Gather root workers capacity outboard encode verbose files out) bytes = ok_line (length bytes)
 line_of mode (Replay root capacity script files) bytes = bytes
 
 -- the task's root, where it has one, is 64 hexadecimal digits
@@ -37,7 +41,8 @@ abbrev pub HasRoot : Task → Type 0
 HasRoot (Hash at length file) = Unit {0}
 HasRoot (Encode encoding file out) = Unit {0}
 HasRoot (Decode root part file out) = IsDigits root.now
-HasRoot (Gather root workers capacity encode verbose files out) = IsDigits root.now
+HasRoot (DecodeCopy root outboard copy out) = IsDigits root.now
+HasRoot (Gather root workers capacity outboard encode verbose files out) = IsDigits root.now
 HasRoot (Replay root capacity script files) = IsDigits root.now
 
 -- the path isn't one of the three names of standard output
@@ -49,7 +54,8 @@ abbrev pub WritesApart : Task → Type 0
 WritesApart (Hash at length file) = Unit {0}
 WritesApart (Encode encoding file out) = IsNoOutput out.now
 WritesApart (Decode root part file out) = IsNoOutput out.now
-WritesApart (Gather root workers capacity encode verbose files out) = IsNoOutput out.now
+WritesApart (DecodeCopy root outboard copy out) = IsNoOutput out.now
+WritesApart (Gather root workers capacity outboard encode verbose files out) = IsNoOutput out.now
 WritesApart (Replay root capacity script files) = Unit {0}
 
 -- the text of a part of the blob with this root, in hexadecimal digits, is accepted
@@ -64,15 +70,25 @@ IsReplay mode digits capacity count text = (root : Root32) × ((decode_of digits
 abbrev pub HasHash : Mode → List ℕ → List ℕ → Type 0
 HasHash mode root bytes = (key : List ℕ) × ((decode_of root ≡ Ok key) × (hash mode bytes ≡ key))
 
--- what the bytes have to be: a text that is decoded is accepted under the root that the words give, and a blob
--- that is gathered, from at most 64 files, has that root and no more chunks than the capacity; and a schedule's
--- replies are those of its run
+-- they are a plain copy, beside an outboard encoding that is accepted under it
+abbrev pub IsRightCopy : Mode → List ℕ → List ℕ → Type 0
+IsRightCopy mode root bytes = (key : List ℕ) × ((decode_of root ≡ Ok key) × IsCopy mode key bytes)
+
+-- where a file with an outboard encoding is named, one is accepted under this root
+abbrev pub IsBeside : Mode → List ℕ → Option (Bor (List ℕ)) → Type 0
+IsBeside mode root None = Unit {0}
+IsBeside mode root (Some outboard) = (key : List ℕ) × ((decode_of root ≡ Ok key) × HasOutline mode key)
+
+-- what the bytes have to be: a text that is decoded is accepted under the root that the words give, or a plain copy is beside an
+-- outboard encoding that is; a blob that is gathered, from at most 64 files, has that root and no more chunks than the capacity,
+-- and an outboard encoding that it is gathered beside was accepted under that root; and a schedule's replies are those of its run
 abbrev pub IsRight : Mode → Task → List ℕ → Type 0
 IsRight mode (Hash at length file) bytes = Unit {0}
 IsRight mode (Encode encoding file out) bytes = Unit {0}
 IsRight mode (Decode root part file out) bytes = IsRightPart mode root.now part bytes
-IsRight mode (Gather root workers capacity encode verbose files out) bytes =
-    (length files.items ≤ 64) × (HasHash mode root.now bytes × (length bytes ≤ 1024 * capacity))
+IsRight mode (DecodeCopy root outboard copy out) bytes = IsRightCopy mode root.now bytes
+IsRight mode (Gather root workers capacity outboard encode verbose files out) bytes =
+    (length files.items ≤ 64) × ((HasHash mode root.now bytes × (length bytes ≤ 1024 * capacity)) × IsBeside mode root.now outboard)
 IsRight mode (Replay root capacity script files) bytes = (length files.items ≤ 64) × IsReplay mode root.now capacity (length files.items) bytes
 
 -- the mode that the request's key and context give

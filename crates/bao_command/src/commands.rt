@@ -1,4 +1,4 @@
-ghost use Rattle.std.specs.Prelude.{◌≡◌, ◌≢◌, true, false, ◌+◌, ◌-◌, ◌*◌, ◌^◌, ◌<◌, ◌≤◌, ℕ, List, length, map, string_bytes, IfErr, IfOk, IsErrAnd, OnOk};
+ghost use Rattle.std.specs.Prelude.{◌≡◌, ◌≢◌, true, false, ◌+◌, ◌-◌, ◌*◌, ◌^◌, ◌<◌, ◌≤◌, ℕ, List, length, map, string_bytes, IfErr, IfOk, IfSome, IsErrAnd, OnOk};
 ghost use Rattle.bao_command.specs.declared.fault.Fault.TheVariants as Fault;
 ghost use Rattle.std.specs.Io.KnownBytes.{Keeps};
 ghost use Rattle.b3tree.specs.Hashing.{hash as hash_of, stream};
@@ -6,20 +6,21 @@ ghost use Rattle.clap.specs.Words.{kind_of};
 ghost use Rattle.hex.specs.Hex.{decode_of};
 ghost use Rattle.bao_request.specs.CommandLine.{IsHelp};
 ghost use Rattle.bao_files.specs.Printed.{digits_line, ok_line};
+ghost use Rattle.bao_gathered.specs.Gathered.{HasOutline, IsGathered};
 ghost use Rattle.bao_command.specs.Outcome.{Begun, Done};
 ghost use Rattle.bao_command.specs.Printed.{Prints, told_of};
-ghost use Rattle.bao_command.specs.Tasks.{Answers, HasHash, HasRoot, IsReplay, IsRight, IsRightPart, WritesApart, line_of, part_line};
+ghost use Rattle.bao_command.specs.Tasks.{Answers, HasHash, HasRoot, IsBeside, IsReplay, IsRight, IsRightCopy, IsRightPart, WritesApart, line_of, part_line};
 
 use crate::fault::Fault;
 use crate::help::{show, shown_status};
 use crate::mode::mode_of;
 use b3tree::{Hash, Mode, xof_fits};
-use bao_decode::decode_file;
+use bao_decode::{decode_copy, decode_file};
 use bao_files::{
     Encoding, FileFault, Once, Part, bytes_of_digits, encode_file, open_file, print_count,
     print_digits, print_input, print_text, shared_len,
 };
-use bao_gathered::{Fate, Gathering, gather_files};
+use bao_gathered::{Fate, GatheredFault, Gathering, gather_beside, gather_files};
 use bao_replay::replay_files;
 use bao_request::{Request, Task, parse};
 use clap::error::ErrorKind;
@@ -163,6 +164,27 @@ fn decode<'a, R: Files<File = File> + AllocGlobal + Threads + Sync, O: Write>(
     }
 }
 
+// Verifies the plain copy beside the outboard encoding, and prints how many bytes were written.
+fn decode_beside<'a, R: Files + AllocGlobal, O: Write>(
+    rt: &R,
+    mode: &Mode,
+    digits: &str,
+    outboard: &'a str,
+    copy: &'a str,
+    path: &'a str,
+    out: &mut O,
+) -> Result<(), Fault<'a>>
+    ensures prints { (bytes : List ℕ) × OnOk result (IsRightCopy mode.now digits.now bytes)
+        × Prints (ok_line (length bytes)) (O.contents out.old) (O.contents out.new) result }
+    ensures apart { IfErr result (λ fault. fault ≢ Fault.OutIsOutput) }
+{
+    let root = root_of(digits)?;
+    match decode_copy(rt, mode, &root, outboard, copy, path) {
+        Ok(count) => told(print_count(rt.alloc(), count, out)),
+        Err(fault) => Err(Fault::Decode(fault)),
+    }
+}
+
 // Says which of the files were left out, and why, where that is asked. A write that fails is the last, and changes nothing.
 fn tell<E: Write>(verbose: bool, files: &[&str], fates: &[Fate], err: &mut E) {
     if !verbose {
@@ -177,18 +199,40 @@ fn tell<E: Write>(verbose: bool, files: &[&str], fates: &[Fate], err: &mut E) {
     }
 }
 
+// Gathers the blob out of the files, which are plain copies where an outboard encoding is named.
+fn gather_by<'a, R: Files + AllocGlobal + Threads + Sync>(
+    rt: &R,
+    mode: &Mode,
+    root: &Hash,
+    how: Gathering,
+    outboard: Option<&'a str>,
+    files: &[&'a str],
+    path: &'a str,
+    fates: &mut [Fate],
+) -> Result<u64, GatheredFault<'a>>
+    ensures ok { IfOk result (λ count. (blob : List ℕ) × IsGathered how mode.now root.now.0 blob × (count ≡ length blob)) }
+    ensures beside { OnOk result (IfSome outboard.entry (λ _. HasOutline mode.now root.now.0)) }
+{
+    match outboard {
+        Some(outboard) => gather_beside(rt, mode, root, how, outboard, files, path, fates),
+        None => gather_files(rt, mode, root, how, files, path, fates),
+    }
+}
+
 // Gathers the blob out of the files, says where it is asked which of them were left out, and prints how many bytes it has.
 fn gather<'a, R: Files + AllocGlobal + Threads + Sync, O: Write, E: Write>(
     rt: &R,
     mode: &Mode,
     digits: &str,
     how: Gathering,
+    outboard: Option<&'a str>,
     verbose: bool,
     files: &[&'a str],
     path: &'a str,
     out: &mut O,
     err: &mut E,
 ) -> Result<(), Fault<'a>>
+    ensures beside { OnOk result (IsBeside mode.now digits.now outboard.entry) }
     ensures answer { (blob : List ℕ) × OnOk result (HasHash mode.now digits.now blob × (length blob ≤ 1024 * how.capacity))
         × Prints (ok_line (length blob)) (O.contents out.old) (O.contents out.new) result }
     ensures few { OnOk result (length files.now ≤ 64) }
@@ -202,7 +246,8 @@ fn gather<'a, R: Files + AllocGlobal + Threads + Sync, O: Write, E: Write>(
     let Ok(mut fates) = vec![in rt.alloc(); Fate::Unopened; files.len()] else {
         return Err(Fault::File(FileFault::Memory));
     };
-    let gathered = gather_files(rt, mode, &root, how, files, path, fates.as_mut_slice());
+    let fates_of = fates.as_mut_slice();
+    let gathered = gather_by(rt, mode, &root, how, outboard, files, path, fates_of);
     tell(verbose, files, fates.as_slice(), err);
     match gathered {
         Ok(count) => told(print_count(rt.alloc(), count, out)),
@@ -261,10 +306,17 @@ fn serve_task<'a, R: Files<File = File> + AllocGlobal + Threads + Sync, O: Write
             file,
             out: path,
         } => decode(rt, mode, root, part, file, path, out),
+        Task::DecodeCopy {
+            root,
+            outboard,
+            copy,
+            out: path,
+        } => decode_beside(rt, mode, root, outboard, copy, path, out),
         Task::Gather {
             root,
             workers,
             capacity,
+            outboard,
             encode,
             verbose,
             files,
@@ -280,6 +332,7 @@ fn serve_task<'a, R: Files<File = File> + AllocGlobal + Threads + Sync, O: Write
                 mode,
                 root,
                 how,
+                *outboard,
                 *verbose,
                 files.as_slice(),
                 path,
@@ -302,7 +355,8 @@ fn check_root<'a>(task: &Task<'a>) -> Result<(), Fault<'a>>
     ensures err { IfErr result (λ fault. (fault ≡ Fault.Root) × ¬ HasRoot task.now) }
 {
     let root = match task {
-        Task::Decode { root, .. } | Task::Gather { root, .. } | Task::Replay { root, .. } => root,
+        Task::Decode { root, .. } | Task::DecodeCopy { root, .. } => root,
+        Task::Gather { root, .. } | Task::Replay { root, .. } => root,
         Task::Hash { .. } | Task::Encode { .. } => return Ok(()),
     };
     match bytes_of_digits(root) {
@@ -317,7 +371,8 @@ fn writes_apart(task: &Task<'_>) -> bool
     ensures no { result ≡ false → ¬ WritesApart task.now }
 {
     let path = match task {
-        Task::Encode { out, .. } | Task::Decode { out, .. } | Task::Gather { out, .. } => out,
+        Task::Encode { out, .. } | Task::Decode { out, .. } => out,
+        Task::DecodeCopy { out, .. } | Task::Gather { out, .. } => out,
         Task::Hash { .. } | Task::Replay { .. } => return true,
     };
     !matches!(*path, "/dev/stdout" | "/dev/fd/1" | "/proc/self/fd/1")

@@ -103,6 +103,7 @@ fn gathered_status(fault: GatheredFault<'_>) -> u8
 {
     match fault {
         GatheredFault::File(fault) => file_status(fault),
+        GatheredFault::Outboard(fault) => check_status(fault),
         GatheredFault::Gather(fault) => gather_status(fault),
     }
 }

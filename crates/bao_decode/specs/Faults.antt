@@ -1,6 +1,6 @@
 -- what a fault of decoding says, and its number
 use Rattle.std.specs.Borrow.{Bor}
-use Rattle.std.specs.Prelude.{ℕ, List, Option, Some}
+use Rattle.std.specs.Prelude.{◌⊎◌, ℕ, List, Option, Some}
 use Rattle.bao_check.specs.Faults.{number_of as check_number_of}
 use Rattle.bao_files.specs.Faults.{number_of as file_number_of}
 use Rattle.bao_files.specs.Printed as file
@@ -16,6 +16,10 @@ IsQuiet (Check fault) = Unit {0}
 abbrev pub NamesPaths : Bor (List ℕ) → Bor (List ℕ) → DecodeFault → Type 0
 NamesPaths input output (File fault) = file.NamesPaths input output fault
 NamesPaths input output (Check fault) = Unit {0}
+
+-- the same, where either of two inputs may be named
+abbrev pub NamesEither : Bor (List ℕ) → Bor (List ℕ) → Bor (List ℕ) → DecodeFault → Type 0
+NamesEither first second output fault = NamesPaths first output fault ⊎ NamesPaths second output fault
 
 -- the number of the fault, where its text has one
 abbrev pub number_of : DecodeFault → Option ℕ

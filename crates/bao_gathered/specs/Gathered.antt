@@ -5,7 +5,11 @@ use Rattle.std.specs.Io.KnownBytes.{Appends, Keeps}
 use Rattle.b3tree.specs.declared.mode.Mode.{Mode}
 use Rattle.b3tree.specs.Hashing.{hash}
 use Rattle.bao_text.specs.Texts.{combined_text}
+use Rattle.bao_check.specs.Accepted.{IsAccepted, outboard_nodes}
+use Rattle.bao_check.specs.declared.outline.Outline.{Outline}
+use Rattle.bao_check.specs.Outline.{outline_mode, outline_root}
 use Rattle.crews.specs.declared.fault.CrewsFault.{CrewsFault}
+use Rattle.bao_files.specs.declared.fault.FileFault.{FileFault}
 use Rattle.bao_files.specs.declared.fault.FileFault.TheVariants.{Encoding, Write}
 use Rattle.bao_gathered.specs.declared.fault.GatheredFault.{GatheredFault}
 use Rattle.bao_gathered.specs.declared.fault.GatheredFault.TheVariants.{File, Gather}
@@ -19,6 +23,10 @@ gathered_text encode mode blob = if encode then combined_text mode blob else blo
 -- the blob has this root, and no more bytes than as many chunks as the capacity
 abbrev pub IsGathered : Gathering → Mode → List ℕ → List ℕ → Type 0
 IsGathered how mode root blob = (hash mode blob ≡ root) × (length blob ≤ 1024 * how.capacity)
+
+-- there was no memory for the text, and nothing was written, or writing to this path failed, and a beginning of it was
+abbrev pub IsUnwritten : Bor (List ℕ) → List ℕ → Option (List ℕ) → Option (List ℕ) → FileFault → Type 0
+IsUnwritten path text old new fault = ((fault ≡ Encoding) × Keeps old new) ⊎ ((fault ≡ Write path) × AppendsBeginning old new text)
 
 -- the text of such a blob of `count` bytes was written
 abbrev pub WritesBlob : Gathering → Mode → List ℕ → Option (List ℕ) → Option (List ℕ) → ℕ → Type 0
@@ -35,3 +43,12 @@ LeavesBlob how mode root path old new fault =
     (((cause : CrewsFault) × (fault ≡ Gather cause)) × Keeps old new)
     ⊎ ((fault ≡ File Encoding) × Keeps old new)
     ⊎ ((fault ≡ File (Write path)) × BeginsBlob how mode root old new)
+
+-- a text was accepted as the outboard encoding of a blob with this root
+abbrev pub HasOutline : Mode → List ℕ → Type 0
+HasOutline mode root = (text : List ℕ) × IsAccepted mode root text (outboard_nodes text)
+
+-- the outline is of this root, in this mode
+pub record IsUnder (outline : Outline) (mode : Mode) (root : List ℕ) : Type 0 where
+  pub mode_is : outline_mode outline ≡ mode
+  pub root_is : outline_root outline ≡ root

@@ -9,7 +9,8 @@ pub enum Fate {
     Unread,
     /// There was no memory for it.
     Starved,
-    /// It isn't a regular file, and the regular ones ended the work before it was opened.
+    /// The work ended before it was opened: it isn't a regular file, and the regular ones ended the work, or the outboard
+    /// encoding did.
     Unopened,
 }
 

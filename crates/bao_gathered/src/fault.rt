@@ -1,3 +1,4 @@
+use bao_check::CheckFault;
 use bao_files::FileFault;
 use crews::CrewsFault;
 use thiserror::Error;
@@ -8,6 +9,9 @@ pub enum GatheredFault<'a> {
     /// A file was not read or written.
     #[error("{0}")]
     File(FileFault<'a>),
+    /// The outboard encoding was not accepted: its first fault.
+    #[error("{0}")]
+    Outboard(CheckFault),
     /// No blob came together.
     #[error("{0}")]
     Gather(CrewsFault),
@@ -17,12 +21,13 @@ impl GatheredFault<'_> {
     ghost use Rattle.std.specs.Prelude.{◌≡◌};
     ghost use Rattle.bao_gathered.specs.Faults.{number_of};
 
-    /// The fault's number, where its text has one: 401, 801, 802, 805, 806, 901 to 903, or 911.
+    /// The fault's number, where its text has one: 401, 501 to 504, 801, 802, 805, 806, 901 to 903, or 911.
     pub fn code(&self) -> Option<u16>
         ensures { result ≡ number_of self.now }
     {
         match self {
             GatheredFault::File(fault) => fault.code(),
+            GatheredFault::Outboard(fault) => Some(fault.code()),
             GatheredFault::Gather(fault) => Some(fault.code()),
         }
     }

@@ -1,17 +1,19 @@
 ghost use Rattle.std.specs.Borrow.{Bor};
-ghost use Rattle.std.specs.Prelude.{◌≡◌, ◌⊎◌, ℕ, List, IfErr, IfOk, OnOk, Some, length, slice_get};
+ghost use Rattle.std.specs.Prelude.{◌≡◌, ◌⊎◌, ◌≤◌, ℕ, List, IfErr, IfOk, OnOk, Some, length, slice_get, IfSome};
 ghost use Rattle.std.specs.Io.KnownBytes.{Appends};
 ghost use Rattle.bao_text.specs.Faults.{WroteOnly};
+ghost use Rattle.bao_check.specs.Outline.{outline_mode, outline_root};
 ghost use Rattle.bao_files.specs.declared.fault.FileFault.TheVariants as FileFault;
-ghost use Rattle.bao_gathered.specs.Faults.{IsQuiet, NamesFirst};
-ghost use Rattle.bao_gathered.specs.Gathered.{IsGathered, LeavesBlob, WritesBlob, gathered_text};
+ghost use Rattle.bao_gathered.specs.Faults.{IsQuiet, NamesBeside, NamesFirst};
+ghost use Rattle.bao_gathered.specs.Gathered.{HasOutline, IsGathered, IsUnder, IsUnwritten, LeavesBlob, WritesBlob, gathered_text};
 
 use crate::fate::Fate;
 use crate::fault::GatheredFault;
-use b3tree::{Hash, Mode};
+use b3tree::{CHUNK_LEN, Hash, Mode};
+use bao_check::{Outline, check_outboard};
 use bao_files::{FileFault, LateFile, read_file};
 use bao_text::{WriteFault, write_combined, write_text};
-use crews::{CrewsFault, gather_texts};
+use crews::{CrewsFault, gather_copies, gather_texts};
 use gather::GatherFault;
 use std::alloc::{AllocError, Global};
 use std::fs;
@@ -108,6 +110,30 @@ fn write_blob<W: Write>(
     }
 }
 
+// Writes the blob, or its combined encoding, to `out`, which is flushed, and answers how many bytes the blob has.
+fn write_whole<'a, W: Write>(
+    alloc: Global,
+    mode: &Mode,
+    encode: bool,
+    blob: &[u8],
+    path: &'a str,
+    out: &mut W,
+) -> Result<u64, FileFault<'a>>
+    ensures count { IfOk result (λ count. count ≡ length blob.now) }
+    ensures text { OnOk result (Appends (W.contents out.old) (W.contents out.new) (gathered_text encode mode.now blob.now)) }
+    ensures fault { IfErr result (IsUnwritten path.entry (gathered_text encode mode.now blob.now) (W.contents out.old) (W.contents out.new)) }
+{
+    match write_blob(alloc, mode, encode, blob, out) {
+        Ok(()) => {}
+        Err(WriteFault::Memory) => return Err(FileFault::Encoding),
+        Err(WriteFault::Writer { .. }) => return Err(FileFault::Write(path)),
+    }
+    if out.flush().is_err() {
+        return Err(FileFault::Write(path));
+    }
+    Ok(blob.len() as u64)
+}
+
 /// Gathers the blob with this root out of the texts, each a combined encoding from a holder that nobody trusts,
 /// writes it, or its combined encoding, to `out`, which is flushed, and answers how many bytes the blob has.
 ///
@@ -132,15 +158,66 @@ pub fn write_gathered<'a, R: AllocGlobal + Threads + Sync, W: Write>(
         Ok(blob) => blob,
         Err(fault) => return Err(GatheredFault::Gather(fault)),
     };
-    match write_blob(alloc, mode, how.encode, blob.as_slice(), out) {
-        Ok(()) => {}
-        Err(WriteFault::Memory) => return Err(GatheredFault::File(FileFault::Encoding)),
-        Err(WriteFault::Writer { .. }) => return Err(GatheredFault::File(FileFault::Write(path))),
+    Ok(write_whole(alloc, mode, how.encode, blob.as_slice(), path, out)?)
+}
+
+// How many chunks a blob may have that is gathered beside the outline: those of the length that it claims are enough room.
+fn room_beside(outline: &Outline<'_>, capacity: u32) -> u32
+    ensures { result ≤ capacity }
+{
+    let chunks = outline.claimed().div_ceil(CHUNK_LEN as u64).max(1);
+    chunks.min(u64::from(capacity)) as u32
+}
+
+/// As `write_gathered`, for the root and in the mode of the outline, out of plain copies beside it, each from a holder that
+/// nobody trusts: a copy may be whole, cut, changed, or any bytes.
+pub fn write_beside<'a, R: AllocGlobal + Threads + Sync, W: Write>(
+    rt: &R,
+    outline: &Outline<'_>,
+    how: Gathering,
+    copies: &[Vec<u8>],
+    path: &'a str,
+    out: &mut W,
+) -> Result<u64, GatheredFault<'a>>
+    ensures blob { IfOk result (WritesBlob how (outline_mode outline.now) (outline_root outline.now) (W.contents out.old) (W.contents out.new)) }
+    ensures fault { IfErr result (LeavesBlob how (outline_mode outline.now) (outline_root outline.now) path.entry (W.contents out.old) (W.contents out.new)) }
+{
+    let alloc = rt.alloc();
+    let room = room_beside(outline, how.capacity);
+    let gathered = gather_copies(rt, alloc, outline, room, how.workers, copies);
+    let blob = match gathered {
+        Ok(blob) => blob,
+        Err(fault) => return Err(GatheredFault::Gather(fault)),
+    };
+    Ok(write_whole(
+        alloc,
+        &outline.mode(),
+        how.encode,
+        blob.as_slice(),
+        path,
+        out,
+    )?)
+}
+
+// Either of the two: beside the outline, where there is one.
+fn write_texts<'a, R: AllocGlobal + Threads + Sync, W: Write>(
+    rt: &R,
+    mode: &Mode,
+    root: &Hash,
+    how: Gathering,
+    outline: Option<&Outline<'_>>,
+    texts: &[Vec<u8>],
+    path: &'a str,
+    out: &mut W,
+) -> Result<u64, GatheredFault<'a>>
+    requires { IfSome outline (λ outline. IsUnder outline.now mode.now root.now.0) }
+    ensures blob { IfOk result (WritesBlob how mode.now root.now.0 (W.contents out.old) (W.contents out.new)) }
+    ensures fault { IfErr result (LeavesBlob how mode.now root.now.0 path.entry (W.contents out.old) (W.contents out.new)) }
+{
+    match outline {
+        Some(outline) => write_beside(rt, outline, how, texts, path, out),
+        None => write_gathered(rt, mode, root, how, texts, path, out),
     }
-    if out.flush().is_err() {
-        return Err(GatheredFault::File(FileFault::Write(path)));
-    }
-    Ok(blob.len() as u64)
 }
 
 // Whether another holder's text might make the blob whole.
@@ -174,6 +251,55 @@ fn cause_of<'a>(
     }
 }
 
+// Gathers the blob out of the files, which are plain copies beside the outline where there is one, as `gather_files` and
+// `gather_beside` say.
+fn gather_by<'a, R: Files + AllocGlobal + Threads + Sync>(
+    rt: &R,
+    mode: &Mode,
+    root: &Hash,
+    how: Gathering,
+    outline: Option<&Outline<'_>>,
+    files: &[&'a str],
+    path: &'a str,
+    fates: &mut [Fate],
+) -> Result<u64, GatheredFault<'a>>
+    requires { IfSome outline (λ outline. IsUnder outline.now mode.now root.now.0) }
+    ensures ok { IfOk result (λ count. (blob : List ℕ) × IsGathered how mode.now root.now.0 blob × (count ≡ length blob)) }
+    ensures err { IfErr result IsQuiet }
+    ensures paths { IfErr result (NamesFirst files.now path.entry) }
+{
+    let alloc = rt.alloc();
+    let Ok(kinds) = kinds_of(rt, alloc, files, fates) else {
+        return Err(GatheredFault::File(FileFault::Memory));
+    };
+    let mut texts = Vec::new(alloc);
+    let mut out = LateFile::new(rt, path);
+    let mut starved = false;
+    let mut met = None;
+    for regular in [true, false] {
+        let known = texts.len();
+        let kinds = kinds.as_slice();
+        starved |= read_files(rt, files, kinds, regular, &mut texts, fates);
+        if texts.len() == known {
+            continue;
+        }
+        match write_texts(
+            rt,
+            mode,
+            root,
+            how,
+            outline,
+            texts.as_slice(),
+            path,
+            &mut out,
+        ) {
+            Err(GatheredFault::Gather(fault)) if is_unfinished(fault) => met = Some(fault),
+            ended => return ended,
+        }
+    }
+    Err(cause_of(starved, met, files, path))
+}
+
 /// Gathers the blob with this root, of at most `capacity` chunks, out of the files, each a combined encoding from a
 /// holder that nobody trusts, writes it, or its combined encoding, to the file at `path`, made anew once the blob was
 /// verified, and answers how many bytes the blob has. A file that can't be read, or for which there is no memory, is
@@ -196,25 +322,32 @@ pub fn gather_files<'a, R: Files + AllocGlobal + Threads + Sync>(
     ensures err { IfErr result IsQuiet }
     ensures paths { IfErr result (NamesFirst files.now path.entry) }
 {
-    let alloc = rt.alloc();
-    let Ok(kinds) = kinds_of(rt, alloc, files, fates) else {
-        return Err(GatheredFault::File(FileFault::Memory));
-    };
-    let mut texts = Vec::new(alloc);
-    let mut out = LateFile::new(rt, path);
-    let mut starved = false;
-    let mut met = None;
-    for regular in [true, false] {
-        let known = texts.len();
-        let kinds = kinds.as_slice();
-        starved |= read_files(rt, files, kinds, regular, &mut texts, fates);
-        if texts.len() == known {
-            continue;
-        }
-        match write_gathered(rt, mode, root, how, texts.as_slice(), path, &mut out) {
-            Err(GatheredFault::Gather(fault)) if is_unfinished(fault) => met = Some(fault),
-            ended => return ended,
-        }
+    gather_by(rt, mode, root, how, None, files, path, fates)
+}
+
+/// As `gather_files`, out of plain copies of the blob beside its outboard encoding, which is read and checked first, under this
+/// root and in this mode, before any of the files is looked at: each of these may be whole, cut, changed, or any bytes.
+///
+/// Refuses an outboard encoding that can't be read (`File` with `Read`, or with `Memory`) or isn't accepted (`Outboard`), and then
+/// as `gather_files` does.
+pub fn gather_beside<'a, R: Files + AllocGlobal + Threads + Sync>(
+    rt: &R,
+    mode: &Mode,
+    root: &Hash,
+    how: Gathering,
+    outboard: &'a str,
+    files: &[&'a str],
+    path: &'a str,
+    fates: &mut [Fate],
+) -> Result<u64, GatheredFault<'a>>
+    ensures ok { IfOk result (λ count. (blob : List ℕ) × IsGathered how mode.now root.now.0 blob × (count ≡ length blob)) }
+    ensures outline { OnOk result (HasOutline mode.now root.now.0) }
+    ensures err { IfErr result IsQuiet }
+    ensures paths { IfErr result (NamesBeside outboard.entry files.now path.entry) }
+{
+    let text = read_file(rt, outboard)?;
+    match check_outboard(rt.alloc(), mode, root, text.as_slice()) {
+        Ok(outline) => gather_by(rt, mode, root, how, Some(&outline), files, path, fates),
+        Err(fault) => Err(GatheredFault::Outboard(fault)),
     }
-    Err(cause_of(starved, met, files, path))
 }

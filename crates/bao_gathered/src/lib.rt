@@ -3,7 +3,7 @@
 
 pub use fate::Fate;
 pub use fault::GatheredFault;
-pub use gathering::{Gathering, gather_files, write_gathered};
+pub use gathering::{Gathering, gather_beside, gather_files, write_beside, write_gathered};
 
 mod fate;
 mod fault;

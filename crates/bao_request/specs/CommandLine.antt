@@ -75,8 +75,15 @@ enc_rule = place_rule (codes "ENC")
 abbrev pub slice_rule : Rule
 slice_rule = place_rule (codes "SLICE")
 
+-- the outboard encoding beside which copies are verified
+abbrev pub outboard_rule : Rule
+outboard_rule = option_rule (codes "outboard")
+
+abbrev pub with_encoding_rules : App → App
+with_encoding_rules app = with_mode_rules (with_rule (with_rule (with_rule app root_rule) enc_rule) out_rule)
+
 abbrev pub decode_app : App
-decode_app = with_mode_rules (with_rule (with_rule (with_rule (new_app (codes "decode")) root_rule) enc_rule) out_rule)
+decode_app = with_encoding_rules (with_rule (new_app (codes "decode")) outboard_rule)
 
 abbrev pub with_range_rules : App → App
 with_range_rules app = with_rule (with_rule (with_rule app root_rule) start_rule) len_rule
@@ -111,7 +118,7 @@ abbrev pub with_holders_rules : App → App
 with_holders_rules app = with_mode_rules (with_rule (with_rule (with_rule app root_rule) out_rule) files_rule)
 
 abbrev pub gather_app : App
-gather_app = with_holders_rules (with_rule (with_rule (with_rule (with_rule (new_app (codes "gather")) workers_rule) capacity_rule) encode_rule) verbose_rule)
+gather_app = with_holders_rules (with_rule (with_rule (with_rule (with_rule (with_rule (new_app (codes "gather")) workers_rule) capacity_rule) outboard_rule) encode_rule) verbose_rule)
 
 abbrev pub script_rule : Rule
 script_rule = place_rule (codes "SCRIPT")

@@ -11,7 +11,7 @@ use Rattle.bao_files.specs.declared.kinds.Part.{Part}
 use Rattle.bao_files.specs.declared.kinds.Part.TheVariants as part
 use Rattle.bao_request.specs.declared.tasks.Request.{Request}
 use Rattle.bao_request.specs.declared.tasks.Task.{Task}
-use Rattle.bao_request.specs.declared.tasks.Task.TheVariants.{Hash, Encode, Decode, Gather, Replay}
+use Rattle.bao_request.specs.declared.tasks.Task.TheVariants.{Hash, Encode, Decode, DecodeCopy, Gather, Replay}
 
 -- the row of this name has this text
 abbrev pub GivesText : List Row → Text → Text → Type 0
@@ -41,7 +41,7 @@ GivesEncoding name rows (Slice start len) = (name ≡ codes "slice") × GivesRan
 
 -- the subcommand of this name asks for the check of this part, in the file of this name
 abbrev pub GivesPart : Text → List Row → Part → Text → Type 0
-GivesPart name rows part.Whole file = (name ≡ codes "decode") × GivesText rows (codes "ENC") file
+GivesPart name rows part.Whole file = (name ≡ codes "decode") × (first_of (codes "outboard") rows ≡ None) × GivesText rows (codes "ENC") file
 GivesPart name rows (part.Slice start len) file =
     (name ≡ codes "decode-slice") × GivesRange rows start len × GivesText rows (codes "SLICE") file
 
@@ -53,8 +53,10 @@ GivesTask name rows (Encode encoding file out) =
     GivesEncoding name rows encoding × GivesText rows (codes "FILE") file.now × GivesText rows (codes "OUT") out.now
 GivesTask name rows (Decode root part file out) =
     GivesPart name rows part file.now × GivesText rows (codes "ROOT") root.now × GivesText rows (codes "OUT") out.now
-GivesTask name rows (Gather root workers capacity encode verbose files out) =
-    (name ≡ codes "gather") × GivesNumber rows (codes "workers") workers × GivesNumber rows (codes "capacity") capacity × GivesFlag rows (codes "encode") encode × GivesFlag rows (codes "verbose") verbose × GivesText rows (codes "ROOT") root.now × GivesTexts rows (codes "FILE") files.items × GivesText rows (codes "OUT") out.now
+GivesTask name rows (DecodeCopy root outboard copy out) =
+    (name ≡ codes "decode") × GivesText rows (codes "outboard") outboard.now × GivesText rows (codes "ENC") copy.now × GivesText rows (codes "ROOT") root.now × GivesText rows (codes "OUT") out.now
+GivesTask name rows (Gather root workers capacity outboard encode verbose files out) =
+    (name ≡ codes "gather") × GivesNumber rows (codes "workers") workers × GivesNumber rows (codes "capacity") capacity × (option_copied outboard ≡ first_of (codes "outboard") rows) × GivesFlag rows (codes "encode") encode × GivesFlag rows (codes "verbose") verbose × GivesText rows (codes "ROOT") root.now × GivesTexts rows (codes "FILE") files.items × GivesText rows (codes "OUT") out.now
 GivesTask name rows (Replay root capacity script files) =
     (name ≡ codes "replay") × GivesNumber rows (codes "capacity") capacity × GivesText rows (codes "ROOT") root.now × GivesText rows (codes "SCRIPT") script.now × GivesTexts rows (codes "FILE") files.items
 

@@ -55,17 +55,32 @@ fn encoding_of(name: &str, words: &ArgMatches<'_>) -> Option<Encoding>
     }
 }
 
-// The check that the subcommand `name` asks for.
-fn decode_of<'a>(name: &str, words: &ArgMatches<'a>) -> Option<Task<'a>>
-    ensures { IfSome result (GivesTask name.now (rows_of (found_of words.now))) }
+// The check of a whole blob: of a combined encoding, or of a plain copy beside an outboard encoding.
+fn decode_whole<'a>(words: &ArgMatches<'a>) -> Option<Task<'a>>
+    ensures { IfSome result (GivesTask (codes "decode") (rows_of (found_of words.now))) }
 {
-    match name {
-        "decode" => Some(Task::Decode {
+    match text(words, "outboard") {
+        Some(outboard) => Some(Task::DecodeCopy {
+            root: text(words, "ROOT")?,
+            outboard,
+            copy: text(words, "ENC")?,
+            out: text(words, "OUT")?,
+        }),
+        None => Some(Task::Decode {
             root: text(words, "ROOT")?,
             part: Part::Whole,
             file: text(words, "ENC")?,
             out: text(words, "OUT")?,
         }),
+    }
+}
+
+// The check that the subcommand `name` asks for.
+fn decode_of<'a>(name: &str, words: &ArgMatches<'a>) -> Option<Task<'a>>
+    ensures { IfSome result (GivesTask name.now (rows_of (found_of words.now))) }
+{
+    match name {
+        "decode" => decode_whole(words),
         "decode-slice" => {
             let (start, len) = range(words)?;
             Some(Task::Decode {
@@ -110,6 +125,7 @@ fn gather_of<'a>(alloc: Global, words: &ArgMatches<'a>) -> Result<Option<Task<'a
         root,
         workers,
         capacity,
+        outboard: text(words, "outboard"),
         encode: flag(words, "encode"),
         verbose: flag(words, "verbose"),
         files: files.to_vec(alloc)?,

@@ -1,7 +1,7 @@
 ghost use Rattle.std.specs.Prelude.{◌≡◌, IfOk, Some, false};
 ghost use Rattle.clap.specs.Words.{app_of, rule_of, with_rule};
 ghost use Rattle.clap.specs.declared.builder.command.Command.TheViews.{out-Command};
-ghost use Rattle.bao_request.specs.CommandLine.{IsApp, any_number, at_rule, capacity_rule, checkers_app, decode_app, decode_slice_app, encode_app, encode_rule, files_rule, gather_app, hash_app, length_rule, option_rule, outboard_app, place_rule, program_app, replay_app, slice_app, verbose_rule, with_file_rules, with_holders_rules, with_mode_rules, with_range_rules, with_script_rules, with_slice_rules, workers_rule, writers_app};
+ghost use Rattle.bao_request.specs.CommandLine.{IsApp, any_number, at_rule, capacity_rule, checkers_app, decode_app, decode_slice_app, encode_app, encode_rule, files_rule, gather_app, hash_app, length_rule, option_rule, outboard_app, outboard_rule, place_rule, program_app, replay_app, slice_app, verbose_rule, with_encoding_rules, with_file_rules, with_holders_rules, with_mode_rules, with_range_rules, with_script_rules, with_slice_rules, workers_rule, writers_app};
 
 use clap::{Arg, ArgAction, Command, value_parser};
 use std::alloc::{AllocError, Global};
@@ -22,13 +22,14 @@ const OF_PROGRAM: &str =
 const OF_SLICE: &str =
     "The range ends where FILE does; a LEN of 0 counts as 1, and a START at or past the end as that of the last byte.";
 
-const OF_DECODE: &str = "OUT is made once the encoding was accepted.";
+const OF_DECODE: &str =
+    "OUT is made once the encoding was accepted. With --outboard that file is checked first, and then ENC.";
 
 const OF_DECODE_SLICE: &str =
     "OUT gets the bytes of the range that the blob has, which are none where it has fewer than START. It is made once the\nslice was accepted.";
 
 const OF_GATHER: &str =
-    "A FILE may be cut, changed or of another blob; one that can't be read is left out. What isn't a regular file, as\n/dev/stdin, is read only where the regular ones leave the blob unfinished. OUT is made once the blob was verified.";
+    "A FILE may be cut, changed or of another blob; one that can't be read is left out. What isn't a regular file, as\n/dev/stdin, is read only where the regular ones leave the blob unfinished. OUT is made once the blob was verified.\nWith --outboard that file is checked first, and never left out.";
 
 const OF_REPLAY: &str =
     "A line of SCRIPT is empty or has one of nine forms, its words one space apart, and ends with a line feed, before which no\ncarriage return stands. S is a seat, G a group of 64 chunks, MASK a mask of these, C a chunk, F a FILE, counted from 0:\n  claim S G MASK       S takes chunks of G\n  hash S F START LEN   the slice cut out of F becomes the piece of S\n  write S C W          S writes word W, 0 to 128, of the cell of C\n  fill S C             S writes all of them\n  publish S G          S commits what it claims of G and its piece has\n  give S G MASK        S gives chunks of G back\n  load S AT LEN        S loads a word of its read of LEN bytes from AT on\n  settle S             S settles the length that its piece certifies\n  length S             S asks for the length";
@@ -67,6 +68,14 @@ fn length_option<'a>(alloc: Global) -> Arg<'a>
         .value_parser(value_parser!(u32).range(1..=MOST_OUTPUT))
         .default_value("32")
         .help("How many bytes of output to print, 1 to 65536")
+}
+
+// The option for an outboard encoding.
+fn outboard_option<'a>(alloc: Global, help: &'a str) -> Arg<'a>
+    ensures rule { rule_of result ≡ outboard_rule }
+    ensures global { result.global ≡ false }
+{
+    option(alloc, "outboard", "FILE").help(help)
 }
 
 // The place `id` of a number of 64 bits.
@@ -138,16 +147,31 @@ fn slice_command<'a>(alloc: Global) -> Result<Command<'a>, AllocError>
     with_files(alloc, command)
 }
 
+// The command with the words ROOT, ENC and OUT, and those of the mode.
+fn with_encoding<'a>(alloc: Global, command: Command<'a>) -> Result<Command<'a>, AllocError>
+    requires { (out-Command command).has_globals ≡ false }
+    ensures { IfOk result (IsApp (with_encoding_rules (app_of command.entry))) }
+{
+    let root = place(alloc, "ROOT", "The hash of the blob, 64 hexadecimal digits");
+    let encoding = place(
+        alloc,
+        "ENC",
+        "The encoding to check, or with --outboard the plain copy",
+    );
+    let out = place(alloc, "OUT", "The file to write");
+    let command = command.arg(root)?.arg(encoding)?.arg(out)?;
+    with_mode(alloc, command)
+}
+
 fn decode_command<'a>(alloc: Global) -> Result<Command<'a>, AllocError>
     ensures { IfOk result (IsApp decode_app) }
 {
+    let outboard = outboard_option(alloc, "Checks a plain copy beside this outboard encoding");
     let command = Command::new(alloc, "decode")
-        .about("Checks a combined Bao encoding under a root, and writes the blob")
+        .about("Checks a combined Bao encoding, or a plain copy, under a root, and writes the blob")
         .after_help(OF_DECODE)
-        .arg(place(alloc, "ROOT", "The hash of the blob, 64 hexadecimal digits"))?
-        .arg(place(alloc, "ENC", "The encoding to check"))?
-        .arg(place(alloc, "OUT", "The file to write"))?;
-    with_mode(alloc, command)
+        .arg(outboard)?;
+    with_encoding(alloc, command)
 }
 
 // The command with the words ROOT, START and LEN.
@@ -238,16 +262,22 @@ fn with_holders<'a>(alloc: Global, command: Command<'a>) -> Result<Command<'a>, 
 {
     let root = place(alloc, "ROOT", "The hash of the blob, 64 hexadecimal digits");
     let out = place(alloc, "OUT", "The file to write");
-    let files = files_place(alloc, "The holders' combined Bao encodings, 1 to 64 files");
+    let files = files_place(
+        alloc,
+        "The holders' combined Bao encodings, or with --outboard plain copies, 1 to 64 files",
+    );
     let command = command.arg(root)?.arg(out)?.arg(files)?;
     with_mode(alloc, command)
 }
 
-// The command with the two flags of gathering.
+// The command with what is gathered, written and told: an option and two flags.
 fn with_flags<'a>(alloc: Global, command: Command<'a>) -> Result<Command<'a>, AllocError>
     requires { (out-Command command).has_globals ≡ false }
-    ensures { IfOk result (IsApp (with_rule (with_rule (app_of command.entry) encode_rule) verbose_rule)) }
+    ensures { IfOk result (IsApp (with_rule (with_rule (with_rule (app_of command.entry) outboard_rule) encode_rule) verbose_rule)) }
 {
+    let help = "Gathers out of plain copies, beside this outboard encoding";
+    let outboard = outboard_option(alloc, help);
+    let command = command.arg(outboard)?;
     command.arg(encode_flag(alloc))?.arg(verbose_flag(alloc))
 }
 
@@ -255,7 +285,9 @@ fn gather_command<'a>(alloc: Global) -> Result<Command<'a>, AllocError>
     ensures { IfOk result (IsApp gather_app) }
 {
     let command = Command::new(alloc, "gather")
-        .about("Gathers the blob with a root out of combined Bao encodings, and writes it")
+        .about(
+            "Gathers the blob with a root out of combined Bao encodings or plain copies, and writes it",
+        )
         .after_help(OF_GATHER)
         .arg(workers_option(alloc))?
         .arg(capacity_option(alloc))?;

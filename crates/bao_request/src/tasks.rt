@@ -32,13 +32,23 @@ pub enum Task<'a> {
         file: &'a str,
         out: &'a str,
     },
+    /// The bytes of a plain copy of the blob with this root, verified beside the outboard encoding in the file
+    /// `outboard`, to the file `out`.
+    DecodeCopy {
+        root: &'a str,
+        outboard: &'a str,
+        copy: &'a str,
+        out: &'a str,
+    },
     /// The blob with this root, of at most `capacity` chunks, 1 to 65,536, gathered by 1 to 64 workers out of the
-    /// files, one or more, to the file `out`: its bytes, or with `encode` its combined encoding. With `verbose` it is said
+    /// files, one or more, to the file `out`: its bytes, or with `encode` its combined encoding. The files are combined
+    /// encodings, or with `outboard` plain copies beside the outboard encoding in that file. With `verbose` it is said
     /// which files were left out.
     Gather {
         root: &'a str,
         workers: u32,
         capacity: u32,
+        outboard: Option<&'a str>,
         encode: bool,
         verbose: bool,
         files: Vec<&'a str>,

@@ -20,7 +20,7 @@ returns-in-Gather g c =
     let answer = c.gather.ensures.answer in
     let prints =
     subst (λ (task : Task). (bytes : List ℕ) × OnOk result (IsRight mode task bytes) × Prints (line_of mode task bytes) old new result) (sym c.in-Gather.is)
-    (answer.0, both _ _ result few answer.1, answer.2) in
+    (answer.0, both _ _ result few (both _ _ result answer.1 c.gather.ensures.beside), answer.2) in
     record { prints = prints; apart = c.gather.ensures.apart }
 
 pub returns-in-Replay : goal.returns-in-Replay

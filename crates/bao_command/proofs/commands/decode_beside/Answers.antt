@@ -1,0 +1,29 @@
+use Rattle.std.proofs.Common.{ℕ, List, length, OnOk, Option, Result, Ok, Err, subst, sym}
+use Rattle.bao_files.specs.Printed as file
+use Rattle.bao_files.specs.Printed.{ok_line}
+use Rattle.bao_files.specs.declared.fault.FileFault.{FileFault}
+use Rattle.bao_command.specs.declared.fault.Fault.{Fault}
+use Rattle.bao_command.specs.Printed.{Prints, told_of}
+use Rattle.bao_command.specs.Tasks.{IsRightCopy}
+use Rattle.bao_command.proofs.commands.decode_beside.Goals as goal
+
+-- a line that was printed, in the words of the program
+told_prints : (line : List ℕ) (old new : Option (List ℕ)) (printed : Result Unit FileFault) → file.Prints line old new printed → Prints line old new (told_of printed)
+told_prints line old new (Ok done) prints = prints
+told_prints line old new (Err fault) prints = prints
+
+on_ok : {P : Type 0} (result : Result Unit Fault) → P → OnOk result P
+on_ok (Ok done) p = p
+on_ok (Err fault) p = tt
+
+pub returns-in-Ok : goal.returns-in-Ok
+returns-in-Ok g c =
+    let mode = c.args.mode.now in
+    let made = c.in-Ok.ensures.ok in
+    let bytes : List ℕ = made.0 in
+    let old = g.O.Write.contents c.args.out.now in
+    let new = g.O.Write.contents c.print_count.new.out in
+    let right : IsRightCopy mode c.args.digits.now bytes = (c.in_ok-root.root.0, (c.in_ok-root.ensures.ok, made.1)) in
+    let printed = subst (λ (n : ℕ). file.Prints (file.ok_line n) old new c.print_count.result) made.2 c.print_count.ensures.prints in
+    let told = told_prints (ok_line (length bytes)) old new c.print_count.result printed in
+    record { prints = (bytes, on_ok c.told.result right, subst (Prints (ok_line (length bytes)) old new) (sym c.told.ensures.prints) told); apart = c.told.ensures.apart }
