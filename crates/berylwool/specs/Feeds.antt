@@ -13,6 +13,10 @@ use Rattle.berylwool.specs.Status.{IsRefused, IsStatusOf}
 abbrev pub HasFed : Option Held → Task → List ℕ → Type 0
 HasFed held task taken = HasFeed (λ check. HasTakenAs check task taken) held
 
+-- this is so of whatever it checks a text as, and has taken of it
+abbrev pub OfTaken : (Task → List ℕ → Type 0) → Checking → Type 0
+OfTaken so check = (task : Task) (taken : List ℕ) → HasTakenAs check task taken → so task taken
+
 -- how many bytes it wants next, as C is told: 0 where it wants none
 abbrev pub size_told : Option ℕ → ℕ
 size_told None = 0

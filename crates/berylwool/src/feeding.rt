@@ -1,8 +1,8 @@
-ghost use Rattle.std.specs.Prelude.{◌≡◌, ◌≢◌, ◌↔◌, ℕ, ◌-◌, ◌^◌, ◌<◌, ◌≤◌, List, [], ◌++◌, length, IfSome, None};
+ghost use Rattle.std.specs.Prelude.{◌≡◌, ◌≢◌, ◌↔◌, ℕ, ◌-◌, ◌^◌, ◌<◌, ◌≤◌, List, [], ◌++◌, length, None};
 ghost use Rattle.bao_check.specs.declared.fault.CheckFault.TheVariants.{Short};
 ghost use Rattle.bao_check.specs.Checking.{HasTakenAs, wanted};
 ghost use Rattle.bao_check.specs.Waiting.{IsAcceptedAs, IsFaultAs, Task};
-ghost use Rattle.berylwool.specs.Feeds.{HasFed, IsBelowNode, IsNextNode, IsNodeRefused, IsTextRefused, size_told};
+ghost use Rattle.berylwool.specs.Feeds.{HasFed, IsBelowNode, IsNextNode, IsNodeRefused, IsTextRefused, OfTaken, size_told};
 ghost use Rattle.berylwool.specs.Handles.{HasFeed};
 ghost use Rattle.berylwool.specs.Modes.{mode_of};
 
@@ -58,17 +58,26 @@ pub extern "C" fn bw_feed_combined(
     bw_feed_slice(alloc, mode, root, 0, u64::MAX, feed)
 }
 
+// How many bytes are wanted, as `bw_feed_wants` tells it.
+fn size_wanted(check: &Checking) -> usize
+    ensures value { result ≡ size_told (wanted check.now) }
+    ensures most { result ≤ 1024 }
+    ensures done { OfTaken (λ task taken. result ≡ 0 ↔ IsAcceptedAs task taken) check.now }
+    ensures short { OfTaken (λ task taken. (more : List ℕ) → length more < result → IsFaultAs task (taken ++ more) (Short (length taken))) check.now }
+{
+    check.wants().unwrap_or(0)
+}
+
 /// How many bytes `bw_feed_take` takes next, in `size`: 8 for the length, 64 for a parent and 1 to 1,024 for a chunk. 0 exactly where what
-/// was taken is an accepted text.
+/// was taken is an accepted text. A text that ends before so many more is short (501) at this place.
 ///
 /// 1202 exactly where the handle has no check in pieces: `size` is as it was then.
 #[unsafe(no_mangle)]
 pub extern "C" fn bw_feed_wants(alloc: Global, feed: &mut BwHandle, size: &mut usize) -> u32
     ensures value { result ≡ 0 → HasFeed (λ check. size.new ≡ size_told (wanted check)) feed.old.held }
     ensures most { result ≡ 0 → size.new ≤ 1024 }
-    ensures done { result ≡ 0 → (task : Task) (taken : List ℕ) → HasFed feed.old.held task taken → (size.new ≡ 0 ↔ IsAcceptedAs task taken) }
-    ensures short { result ≡ 0 → (task : Task) (taken : List ℕ) → HasFed feed.old.held task taken
-        → (more : List ℕ) → length more < size.new → IsFaultAs task (taken ++ more) (Short (length taken)) }
+    ensures done { result ≡ 0 → HasFeed (OfTaken (λ task taken. size.new ≡ 0 ↔ IsAcceptedAs task taken)) feed.old.held }
+    ensures short { result ≡ 0 → HasFeed (OfTaken (λ task taken. (more : List ℕ) → length more < size.new → IsFaultAs task (taken ++ more) (Short (length taken)))) feed.old.held }
     ensures has { result ≡ 0 ↔ HasFeed (λ _. Unit) feed.old.held }
     ensures status { result ≢ 0 → result ≡ 1202 }
     ensures same { feed.new.held ≡ feed.old.held }
@@ -77,23 +86,20 @@ pub extern "C" fn bw_feed_wants(alloc: Global, feed: &mut BwHandle, size: &mut u
     let Some(held) = take(feed, alloc) else {
         return NO_HANDLE;
     };
-    let status = match &*held {
-        Held::Feed(check) => {
-            *size = check.wants().unwrap_or(0);
-            0
-        }
-        Held::Hasher(_) | Held::Seat(_) | Held::Gone => NO_HANDLE,
+    let Held::Feed(check) = &*held else {
+        put(feed, held);
+        return NO_HANDLE;
     };
+    *size = size_wanted(check);
     put(feed, held);
-    status
+    0
 }
 
 // Takes a node, as `bw_feed_take` does.
 fn taken(check: &mut Checking, node: &[u8], at: &mut u64) -> u32
     ensures taken { result ≡ 0 → (task : Task) (taken : List ℕ) → HasTakenAs check.old task taken → HasTakenAs check.new task (taken ++ node.now) }
-    ensures fault { result ≢ 0 → result ≢ 1212 → (task : Task) (taken : List ℕ) → HasTakenAs check.old task taken → IsNodeRefused task (taken ++ node.now) result at.new }
-    ensures refused { result ≡ 502 → (task : Task) (taken : List ℕ) → HasTakenAs check.old task taken
-        → (more : List ℕ) → ¬ IsAcceptedAs task ((taken ++ node.now) ++ more) }
+    ensures fault { result ≢ 0 → result < 506 → OfTaken (λ task taken. IsNodeRefused task (taken ++ node.now) result at.new) check.old }
+    ensures refused { result ≡ 502 → OfTaken (λ task taken. (more : List ℕ) → ¬ IsAcceptedAs task ((taken ++ node.now) ++ more)) check.old }
     ensures size { result ≡ 1212 ↔ (¬ IsNextNode node.now check.old) }
     ensures status { 505 < result → result ≡ 1212 }
     ensures same { result ≢ 0 → check.new ≡ check.old }
@@ -115,9 +121,8 @@ fn taken(check: &mut Checking, node: &[u8], at: &mut u64) -> u32
 #[unsafe(no_mangle)]
 pub extern "C" fn bw_feed_take(alloc: Global, feed: &mut BwHandle, node: &[u8], at: &mut u64) -> u32
     ensures taken { result ≡ 0 → (task : Task) (taken : List ℕ) → HasFed feed.old.held task taken → HasFed feed.new.held task (taken ++ node.now) }
-    ensures fault { result ≢ 0 → result < 506 → (task : Task) (taken : List ℕ) → HasFed feed.old.held task taken → IsNodeRefused task (taken ++ node.now) result at.new }
-    ensures refused { result ≡ 502 → (task : Task) (taken : List ℕ) → HasFed feed.old.held task taken
-        → (more : List ℕ) → ¬ IsAcceptedAs task ((taken ++ node.now) ++ more) }
+    ensures fault { result ≢ 0 → result < 506 → HasFeed (OfTaken (λ task taken. IsNodeRefused task (taken ++ node.now) result at.new)) feed.old.held }
+    ensures refused { result ≡ 502 → HasFeed (OfTaken (λ task taken. (more : List ℕ) → ¬ IsAcceptedAs task ((taken ++ node.now) ++ more))) feed.old.held }
     ensures size { result ≡ 1212 ↔ HasFeed (λ check. ¬ IsNextNode node.now check) feed.old.held }
     ensures no_feed { result ≡ 1202 ↔ (¬ HasFeed (λ _. Unit) feed.old.held) }
     ensures status { 505 < result → result ≢ 1202 → result ≡ 1212 }
@@ -126,18 +131,19 @@ pub extern "C" fn bw_feed_take(alloc: Global, feed: &mut BwHandle, node: &[u8], 
     let Some(mut held) = take(feed, alloc) else {
         return NO_HANDLE;
     };
-    let status = match &mut *held {
-        Held::Feed(check) => taken(check, node, at),
-        Held::Hasher(_) | Held::Seat(_) | Held::Gone => NO_HANDLE,
+    let Held::Feed(check) = &mut *held else {
+        put(feed, held);
+        return NO_HANDLE;
     };
+    let status = taken(check, node, at);
     put(feed, held);
     status
 }
 
 // Ends a text, as `bw_feed_finish` does.
 fn finished(check: &Checking, rest: &[u8], at: &mut u64) -> u32
-    ensures accepted { result ≡ 0 → (task : Task) (taken : List ℕ) → HasTakenAs check.now task taken → IsAcceptedAs task (taken ++ rest.now) }
-    ensures fault { result ≢ 0 → result ≢ 1212 → (task : Task) (taken : List ℕ) → HasTakenAs check.now task taken → IsTextRefused task (taken ++ rest.now) result at.new }
+    ensures accepted { result ≡ 0 → OfTaken (λ task taken. IsAcceptedAs task (taken ++ rest.now)) check.now }
+    ensures fault { result ≢ 0 → result < 506 → OfTaken (λ task taken. IsTextRefused task (taken ++ rest.now) result at.new) check.now }
     ensures size { result ≡ 1212 ↔ (¬ IsBelowNode rest.now check.now) }
     ensures status { 505 < result → result ≡ 1212 }
 {
@@ -163,8 +169,8 @@ pub extern "C" fn bw_feed_finish(
     rest: &[u8],
     at: &mut u64,
 ) -> u32
-    ensures accepted { result ≡ 0 → (task : Task) (taken : List ℕ) → HasFed feed.old.held task taken → IsAcceptedAs task (taken ++ rest.now) }
-    ensures fault { result ≢ 0 → result < 506 → (task : Task) (taken : List ℕ) → HasFed feed.old.held task taken → IsTextRefused task (taken ++ rest.now) result at.new }
+    ensures accepted { result ≡ 0 → HasFeed (OfTaken (λ task taken. IsAcceptedAs task (taken ++ rest.now))) feed.old.held }
+    ensures fault { result ≢ 0 → result < 506 → HasFeed (OfTaken (λ task taken. IsTextRefused task (taken ++ rest.now) result at.new)) feed.old.held }
     ensures size { result ≡ 1212 ↔ HasFeed (λ check. ¬ IsBelowNode rest.now check) feed.old.held }
     ensures no_feed { result ≡ 1202 ↔ (¬ HasFeed (λ _. Unit) feed.old.held) }
     ensures status { 505 < result → result ≢ 1202 → result ≡ 1212 }
@@ -173,10 +179,11 @@ pub extern "C" fn bw_feed_finish(
     let Some(held) = take(feed, alloc) else {
         return NO_HANDLE;
     };
-    let status = match &*held {
-        Held::Feed(check) => finished(check, rest, at),
-        Held::Hasher(_) | Held::Seat(_) | Held::Gone => NO_HANDLE,
+    let Held::Feed(check) = &*held else {
+        put(feed, held);
+        return NO_HANDLE;
     };
+    let status = finished(check, rest, at);
     put(feed, held);
     status
 }
