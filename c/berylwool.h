@@ -38,6 +38,7 @@ enum {
     BW_SHORT = 501,          /* the text ends within the node that begins at *at */
     BW_MISMATCH = 502,       /* the node that begins at *at is damaged */
     BW_TRAILING = 503,       /* all is good, and something follows at *at */
+    BW_TOO_MUCH = 504,       /* 2^64 bytes of a text or more */
     BW_OTHER_BLOB = 601,     /* the blob's hash isn't the root */
     BW_COLLISION = 602,      /* two inputs with one chaining value are named */
     BW_STORE_MEMORY = 801,   /* no memory for a store */
@@ -61,7 +62,8 @@ enum {
     BW_PAST_OUTPUT = 1208,   /* the output asked for ends above 2^64 - 1 */
     BW_NO_OUTBOARD = 1209,   /* the outboard encoding isn't accepted */
     BW_NO_CHUNKS = 1210,     /* the blob hasn't so many chunks there */
-    BW_OTHER_STORE = 1211    /* the two seats' stores differ in root, mode or capacity */
+    BW_OTHER_STORE = 1211,   /* the two seats' stores differ in root, mode or capacity */
+    BW_OTHER_SIZE = 1212     /* the bytes aren't as many as a check in pieces takes */
 };
 
 /* A status in words. */
@@ -73,6 +75,7 @@ static inline const char *bw_strerror(bw_status status) {
     case BW_SHORT: return "the text ends too early";
     case BW_MISMATCH: return "the text is damaged";
     case BW_TRAILING: return "something follows the text";
+    case BW_TOO_MUCH: return "2^64 bytes of a text or more";
     case BW_OTHER_BLOB: return "the blob's hash isn't the root";
     case BW_COLLISION: return "two inputs with one chaining value";
     case BW_STORE_MEMORY: return "no memory for a store";
@@ -97,6 +100,7 @@ static inline const char *bw_strerror(bw_status status) {
     case BW_NO_OUTBOARD: return "the outboard encoding isn't accepted";
     case BW_NO_CHUNKS: return "the blob hasn't so many chunks there";
     case BW_OTHER_STORE: return "the seats' stores differ";
+    case BW_OTHER_SIZE: return "not as many bytes as a check in pieces takes";
     default: return "no status of this library";
     }
 }
@@ -135,7 +139,7 @@ typedef struct bw_report {
     uint32_t too_large;
 } bw_report;
 
-/* A handle owns a hasher or a seat, or is empty. Only this library reads or writes `at` and what lies behind it. A handle may be moved as
+/* A handle owns a hasher, a check in pieces or a seat, or is empty. Only this library reads or writes `at` and what lies behind it. A handle may be moved as
  * bytes, and has one owner: a copy that is used beside it breaks everything. It may go from one thread to another by what orders memory:
  * a thread's start or join, a lock, a sequentially consistent atomic. Set one to BW_EMPTY before its first use, and end with bw_free. */
 typedef struct bw_handle {
@@ -208,6 +212,30 @@ bw_status bw_check_bare(const bw_mode *mode, const uint8_t root[BW_AT_LEAST(BW_H
 bw_status bw_audit(const bw_mode *mode, const uint8_t root[BW_AT_LEAST(BW_HASH_LEN)], uint64_t start, uint64_t len,
                    const uint8_t *text, size_t text_len, const uint8_t *blob, size_t blob_len, uint64_t *at, bw_input *ours,
                    bw_input *theirs);
+
+/* --- Encodings checked in pieces: a text is given a node at a time, in its order, while it comes, and none of its bytes are kept. What is
+ * accepted, and else the first fault and its place, are those of bw_check_slice and bw_check_combined. A program asks bw_feed_wants for the
+ * size of the next node and hands bw_feed_take so many bytes, again and again; then it hands bw_feed_finish what is left of the text, where it
+ * ends or nothing is wanted. Each call but the first two can answer BW_NO_HANDLE. Memory is taken by the first two alone. */
+
+/* A check that has taken nothing, of a text as the slice of `len` bytes from byte `start` on, or as the combined encoding; what the handle
+ * owned is freed. BW_MEMORY, with an empty handle. */
+bw_status bw_feed_slice(const bw_mode *mode, const uint8_t root[BW_AT_LEAST(BW_HASH_LEN)], uint64_t start, uint64_t len, bw_handle *feed);
+bw_status bw_feed_combined(const bw_mode *mode, const uint8_t root[BW_AT_LEAST(BW_HASH_LEN)], bw_handle *feed);
+
+/* How many bytes the node has that comes next: 8 for the length, 64 for a parent, 1 to 1,024 for a chunk. 0 exactly where what was taken is an
+ * accepted text. */
+bw_status bw_feed_wants(bw_handle *feed, size_t *size);
+
+/* Takes the node that comes next, and verifies it. BW_MISMATCH: that is the first fault of every text that begins with what was taken and
+ * this node, at *at. BW_TOO_MUCH, with 0 in *at. BW_OTHER_SIZE: `node` has another length than is wanted, or nothing is. The check is as it was
+ * then, and can take other bytes in their place. */
+bw_status bw_feed_take(bw_handle *feed, const uint8_t *node, size_t node_len, uint64_t *at);
+
+/* What is said of the whole text, which is what was taken and then `rest`: BW_OK exactly where it is accepted, BW_SHORT where a node comes
+ * next, BW_TRAILING where none does and `rest` has bytes. BW_OTHER_SIZE: `rest` has all bytes of a node, which is to be taken first. The check
+ * is as it was, and can go on. */
+bw_status bw_feed_finish(bw_handle *feed, const uint8_t *rest, size_t rest_len, uint64_t *at);
 
 /* --- The store that threads share: each thread has a seat of its own, and the store lives until its last seat is freed. Nothing is taken on
  * anybody's word: what is stored comes from texts accepted under the store's root. Chunks are in groups of 64, and a mask is of a group:

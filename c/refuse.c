@@ -84,19 +84,30 @@ int main(void) {
     WANT(bw_cut_slice(text, used, 0, 65536, slice, sizeof slice, &cut) == BW_OK);
     WANT(bw_cut_slice(text, used, UINT64_MAX, 1, tail, sizeof tail, &tail_len) == BW_OK);
     for (int refused = 1, n = 0; refused != 0; n++) {
-        bw_handle hasher = BW_EMPTY, seat = BW_EMPTY, other = BW_EMPTY;
+        bw_handle hasher = BW_EMPTY, seat = BW_EMPTY, other = BW_EMPTY, feed = BW_EMPTY, whole = BW_EMPTY;
         refused = 0;
         left = n;
         bw_status made = bw_hasher_new(&plain, &hasher), opened = bw_store_new(&plain, root, 100, &seat), split = bw_seat_split(&seat, &other);
         bw_status encoded = bw_encode(&plain, blob, sizeof blob, text, sizeof text, &used, root);
         bw_status sliced = bw_cut_slice(text, used, 0, 65536, slice, sizeof slice, &cut);
         bw_status written = bw_slice(&plain, blob, sizeof blob, 0, 65536, spare, sizeof spare, &spare_len, root);
+        bw_status fed = bw_feed_slice(&plain, root, 0, 65536, &feed), all = bw_feed_combined(&plain, root, &whole);
         bw_status bare = bw_outboard(&plain, blob, sizeof blob, spare, sizeof spare, &spare_len, root);
         left = 0; /* no other call takes memory */
         WANT(made == BW_OK || (made == BW_MEMORY && ++refused));
         WANT(bw_hasher_update(&hasher, blob, sizeof blob) == (made == BW_OK ? BW_OK : BW_NO_HANDLE));
         WANT(bw_hasher_finish(&hasher, out) == (made == BW_OK ? BW_OK : BW_NO_HANDLE));
         WANT(made != BW_OK || memcmp(out, root, sizeof out) == 0);
+        WANT(fed == BW_OK || (fed == BW_MEMORY && feed.at == NULL && ++refused));
+        WANT(all == BW_OK || (all == BW_MEMORY && whole.at == NULL && ++refused));
+        size_t size = 7;
+        WANT(bw_feed_wants(&whole, &size) == (all == BW_OK ? BW_OK : BW_NO_HANDLE) && size == (all == BW_OK ? 8 : 7));
+        if (fed == BW_OK && sliced == BW_OK) {
+            size_t taken = 0;
+            for (; bw_feed_wants(&feed, &size) == BW_OK && size != 0; taken += size)
+                WANT(size <= cut - taken && bw_feed_take(&feed, slice + taken, size, &at) == BW_OK);
+            WANT(taken == cut && bw_feed_finish(&feed, slice, 0, &at) == BW_OK);
+        }
         WANT(opened == BW_OK || ((opened == BW_MEMORY || opened == BW_STORE_MEMORY) && ++refused));
         WANT(split == BW_OK || split == (opened == BW_OK ? split : BW_NO_HANDLE));
         WANT(split == BW_OK || opened != BW_OK || ((split == BW_MEMORY || split == BW_SPLIT_MEMORY) && ++refused));
@@ -120,7 +131,7 @@ int main(void) {
             WANT(split != BW_OK || (bw_seat_give(&seat, 1, 1, &mask) == BW_OK && mask == 1));
         }
         left = -1;
-        bw_free(&hasher), bw_free(&seat), bw_free(&other);
+        bw_free(&hasher), bw_free(&seat), bw_free(&other), bw_free(&feed), bw_free(&whole);
         WANT(n < 1000);
     }
     for (int alone = 0; alone < 2; alone++)

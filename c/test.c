@@ -305,6 +305,111 @@ static void texts(const uint8_t *blob, const uint8_t *root, holder *good) {
     free(cut);
 }
 
+/* Hands a check in pieces a text, node by node as far as it goes, and then its rest. Answers what the check says. */
+static bw_status fed(bw_handle *feed, const uint8_t *text, size_t len, uint64_t *at) {
+    size_t taken = 0, size = 0;
+    for (; bw_feed_wants(feed, &size) == BW_OK && size != 0 && size <= len - taken; taken += size) {
+        bw_status status = bw_feed_take(feed, text + taken, size, at);
+        if (status != BW_OK) return status;
+    }
+    return bw_feed_finish(feed, text + taken, len - taken, at);
+}
+
+/* A slice that is checked in pieces has the status and the place that it has at once: cut at and beside the end of each node, with a byte
+ * changed in each, and with a byte more. A node that is refused changes nothing. */
+static void pieces(const bw_mode *mode, const uint8_t *root, uint64_t start, uint64_t slice_len, uint8_t *text, size_t len) {
+    bw_handle feed = BW_EMPTY, other = BW_EMPTY;
+    size_t taken = 0, size = 7;
+    uint64_t at = 7, wanted = 7;
+    uint8_t *longer = room(len + 1);
+    WANT(bw_check_slice(mode, root, start, slice_len, text, len, &at) == BW_OK);
+    WANT(bw_feed_slice(mode, root, start, slice_len, &feed) == BW_OK);
+    while (bw_feed_wants(&feed, &size) == BW_OK && size != 0) {
+        WANT(size <= len - taken && size <= BW_CHUNK_LEN && (taken != 0 || size == 8));
+        for (size_t cut = taken; cut < taken + size; cut += cut == taken && size > 2 ? size - 2 : 1) {
+            WANT(bw_check_slice(mode, root, start, slice_len, text, cut, &wanted) == BW_SHORT && wanted == taken);
+            WANT(bw_feed_finish(&feed, text + taken, cut - taken, &at) == BW_SHORT && at == wanted);
+            WANT(bw_feed_slice(mode, root, start, slice_len, &other) == BW_OK);
+            WANT(fed(&other, text, cut, &at) == BW_SHORT && at == wanted);
+        }
+        at = 7;
+        WANT(bw_feed_finish(&feed, text + taken, size, &at) == BW_OTHER_SIZE);
+        WANT(bw_feed_take(&feed, text + taken, size - 1, &at) == BW_OTHER_SIZE);
+        memcpy(longer, text + taken, size);
+        longer[size] = 0;
+        WANT(bw_feed_take(&feed, longer, size + 1, &at) == BW_OTHER_SIZE && at == 7);
+        if (taken != 0) { /* another length may have another first node */
+            text[taken + size / 2] ^= 16;
+            WANT(bw_check_slice(mode, root, start, slice_len, text, len, &wanted) == BW_MISMATCH && wanted == taken);
+            WANT(bw_feed_take(&feed, text + taken, size, &at) == BW_MISMATCH && at == wanted);
+            WANT(bw_feed_slice(mode, root, start, slice_len, &other) == BW_OK);
+            WANT(fed(&other, text, len, &at) == BW_MISMATCH && at == wanted);
+            text[taken + size / 2] ^= 16;
+            at = 7;
+        }
+        WANT(bw_feed_take(&feed, text + taken, size, &at) == BW_OK && at == 7);
+        taken += size;
+    }
+    WANT(taken == len && size == 0);
+    WANT(bw_feed_finish(&feed, text, 0, &at) == BW_OK && at == 7);
+    WANT(bw_feed_take(&feed, text, 0, &at) == BW_OTHER_SIZE && bw_feed_take(&feed, text, 1, &at) == BW_OTHER_SIZE && at == 7);
+    WANT(bw_feed_finish(&feed, text, 1, &at) == BW_TRAILING && at == len);
+    memcpy(longer, text, len);
+    longer[len] = 0;
+    WANT(bw_feed_slice(mode, root, start, slice_len, &other) == BW_OK);
+    WANT(fed(&other, longer, len + 1, &at) == BW_TRAILING && at == len);
+    WANT(bw_check_slice(mode, root, start, slice_len, longer, len + 1, &wanted) == BW_TRAILING && wanted == len);
+    for (size_t i = 0; i < 8; i++) { /* another length, which no slice without the last chunk tells */
+        text[i] ^= 1;
+        at = wanted = 7;
+        bw_status status = bw_check_slice(mode, root, start, slice_len, text, len, &wanted);
+        WANT(bw_feed_slice(mode, root, start, slice_len, &other) == BW_OK);
+        WANT(fed(&other, text, len, &at) == status && at == wanted);
+        text[i] ^= 1;
+    }
+    bw_free(&feed), bw_free(&other);
+    free(longer);
+}
+
+static void feeds(const uint8_t *blob, const uint8_t *root, holder *good) {
+    bw_handle feed = BW_EMPTY, hasher = BW_EMPTY;
+    uint64_t at = 7;
+    size_t size = 7, used = 0;
+    uint8_t text[9000], hash[BW_HASH_LEN];
+    WANT(bw_feed_wants(&feed, &size) == BW_NO_HANDLE && size == 7);
+    WANT(bw_feed_take(&feed, text, 8, &at) == BW_NO_HANDLE && bw_feed_finish(&feed, text, 0, &at) == BW_NO_HANDLE && at == 7);
+    WANT(bw_hasher_new(&plain, &hasher) == BW_OK);
+    WANT(bw_feed_wants(&hasher, &size) == BW_NO_HANDLE && bw_feed_take(&hasher, text, 8, &at) == BW_NO_HANDLE);
+    WANT(bw_feed_finish(&hasher, text, 0, &at) == BW_NO_HANDLE);
+    WANT(bw_feed_combined(&plain, root, &feed) == BW_OK);
+    WANT(bw_hasher_update(&feed, blob, 1) == BW_NO_HANDLE && bw_hasher_finish(&feed, hash) == BW_NO_HANDLE);
+    WANT(bw_seat_length(&feed, &at) == BW_NO_HANDLE && at == 7);
+    WANT(fed(&feed, good->text, good->len, &at) == BW_OK && at == 7);
+    WANT(bw_feed_combined(&plain, root, &feed) == BW_OK);
+    good->text[good->len / 2] ^= 1;
+    uint64_t wanted = 0;
+    WANT(bw_check_combined(&plain, root, good->text, good->len, &wanted) == BW_MISMATCH);
+    WANT(fed(&feed, good->text, good->len, &at) == BW_MISMATCH && at == wanted);
+    good->text[good->len / 2] ^= 1;
+    WANT(bw_feed_combined(&plain, root, &hasher) == BW_OK && bw_feed_wants(&hasher, &size) == BW_OK && size == 8);
+    bw_free(&hasher);
+    bw_free(&feed);
+    WANT(feed.at == NULL && bw_feed_wants(&feed, &size) == BW_NO_HANDLE);
+
+    WANT(bw_cut_slice(good->text, good->len, 5000, 3000, text, sizeof text, &used) == BW_OK);
+    pieces(&plain, root, 5000, 3000, text, used);
+    WANT(bw_cut_slice(good->text, good->len, UINT64_MAX, 1, text, sizeof text, &used) == BW_OK);
+    pieces(&plain, root, UINT64_MAX, 1, text, used);
+    bw_mode keyed = {1, {3}};
+    for (size_t len = 0; len < 7000; len += len < 2 ? 1 : 1023) {
+        WANT(bw_encode(&keyed, blob, len, text, sizeof text, &used, hash) == BW_OK);
+        pieces(&keyed, hash, 0, UINT64_MAX, text, used);
+        WANT(bw_feed_combined(&keyed, hash, &feed) == BW_OK && fed(&feed, text, used, &at) == BW_OK);
+        WANT(bw_feed_combined(&plain, hash, &feed) == BW_OK && fed(&feed, text, used, &at) == BW_MISMATCH && at == 8);
+    }
+    bw_free(&feed);
+}
+
 int main(void) {
     uint8_t root[BW_HASH_LEN];
     uint8_t *blob = room(BLOB_LEN), *found = room(BLOB_LEN);
@@ -320,6 +425,7 @@ int main(void) {
     rows();
     hashes(blob, BLOB_LEN, root);
     texts(blob, root, &holders[0]);
+    feeds(blob, root, &holders[0]);
     joining(root, &holders[0]);
 
     /* Two are damaged: one in 40 bytes all over it, and one in its second half. */

@@ -55,6 +55,22 @@ def fault_of(mode, root, text, given):
         return int(str(fault).split()[0]), fault.at
 
 
+def fed(mode, hashed, start, count, text):
+    """The status and the place of a check in pieces of the text."""
+    feed, at, size, taken = c.Handle(), c.u64(), c.size(), 0
+    assert calls.bw_feed_slice(mode, hashed, start, count, feed) == 0
+    while not calls.bw_feed_wants(feed, size) and 0 < size.value <= len(text) - taken:
+        node = text[taken : taken + size.value]
+        status = calls.bw_feed_take(feed, node, len(node), at)
+        if status:
+            break
+        taken += len(node)
+    else:
+        status = calls.bw_feed_finish(feed, text[taken:], len(text) - taken, at)
+    calls.bw_free(feed)
+    return status, at.value
+
+
 def written(modes, blob, start, count):
     """The three texts of a blob, which the library has to write alike."""
     mode, ours = modes
@@ -93,6 +109,10 @@ def main(count):
             wanted = fault_of(modes[0], root, text, lambda total: by.slice_nodes(total, start, length))
         if (status, at.value) != wanted:
             sys.exit(f"c_fuzz.py: text {number}: the library answers {status} at {at.value}, the definitions {wanted}")
+        if form != 1:
+            status, at = fed(modes[1], hashed, *((0, 2**64 - 1) if form == 0 else (start, length)), text)
+            if (status, at) != wanted:
+                sys.exit(f"c_fuzz.py: text {number}: the library answers {status} at {at} in pieces, the definitions {wanted}")
         refused += status != 0
     print(f"{count} texts, {refused} of them refused: the C library and the definitions agree")
 

@@ -11,6 +11,7 @@ A fault is raised as Fault, with its status and, for a text, its place. Run as a
 MIRROR is the program that c/examples/mirror.c makes.
 """
 import ctypes
+import io
 import subprocess
 import sys
 import tempfile
@@ -46,6 +47,11 @@ FUNCTIONS = {
     "bw_encode": (u32, mode, data, size, data, size, length, hash_),
     "bw_cut_slice": (u32, data, size, u64, u64, data, size, length),
     "bw_check_slice": (u32, mode, hash_, u64, u64, data, size, place),
+    "bw_feed_slice": (u32, mode, hash_, u64, u64, handle),
+    "bw_feed_combined": (u32, mode, hash_, handle),
+    "bw_feed_wants": (u32, handle, length),
+    "bw_feed_take": (u32, handle, data, size, place),
+    "bw_feed_finish": (u32, handle, data, size, place),
     "bw_store_new": (u32, mode, hash_, u32, handle),
     "bw_seat_split": (u32, handle, handle),
     "bw_seat_join": (u32, handle, handle),
@@ -109,6 +115,46 @@ class Library:
     def check_slice(self, root: bytes, start: int, count: int, text: bytes) -> None:
         at = u64()
         must(self.calls.bw_check_slice(self.plain, hash_(*root), start, count, text, len(text), at), at)
+
+
+class Feed:
+    """A check of a text that comes in pieces, as a slice or, with no `count`, as the combined encoding: one thread's at a time."""
+
+    def __init__(self, library: Library, root: bytes, start: int = 0, count: "int | None" = None):
+        self.calls, self.handle = library.calls, Handle()
+        if count is None:
+            must(self.calls.bw_feed_combined(library.plain, hash_(*root), self.handle))
+        else:
+            must(self.calls.bw_feed_slice(library.plain, hash_(*root), start, count, self.handle))
+
+    def __del__(self):
+        self.calls.bw_free(self.handle)
+
+    def wants(self) -> int:
+        """How many bytes the next node has: 0 once the text is accepted."""
+        count = size()
+        must(self.calls.bw_feed_wants(self.handle, count))
+        return count.value
+
+    def take(self, node: bytes) -> None:
+        """Takes the next node. One that is refused changes nothing."""
+        at = u64()
+        must(self.calls.bw_feed_take(self.handle, node, len(node), at), at)
+
+    def finish(self, rest: bytes = b"") -> None:
+        """What is said of the whole text, where `rest` ends it."""
+        at = u64()
+        must(self.calls.bw_feed_finish(self.handle, rest, len(rest), at), at)
+
+    def check(self, file) -> None:
+        """Checks what a file that is open for bytes has, up to its end or the end of an accepted text."""
+        while count := self.wants():
+            node = b""
+            while len(node) < count and (more := file.read(count - len(node))):
+                node += more
+            if len(node) < count:
+                return self.finish(node)
+            self.take(node)
 
 
 class Seat:
@@ -197,6 +243,17 @@ def main(path: str, mirror: str) -> None:
     piece = library.cut_slice(text, 70_000, 10)
     want(status_of(library.check_slice, root, 70_000, 10, piece) == 0, "a slice is accepted")
     want(status_of(library.check_slice, root, 70_000, 10, piece[:-1] + b"?") == 502, "a damaged slice is refused")
+
+    feed = Feed(library, root, 70_000, 10)
+    feed.check(io.BytesIO(piece))
+    want(feed.wants() == 0 and status_of(feed.finish) == 0 and status_of(feed.finish, b"?") == 503, "a slice is accepted in pieces")
+    feed = Feed(library, root)
+    want(feed.wants() == 8 and status_of(feed.take, text[:7]) == 1212, "the length comes first")
+    feed.take(text[:8])
+    want(status_of(feed.take, text[72:136]) == 502, "a parent is refused in another's place")
+    feed.take(text[8:72])
+    feed.check(io.BytesIO(text[72:]))
+    want(status_of(Feed(library, root).check, io.BytesIO(text[:-1])) == 501, "a text that is cut is short")
 
     def damaged(*places):
         return bytes(it ^ (i in places) for i, it in enumerate(text))

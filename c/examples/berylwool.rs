@@ -1,6 +1,7 @@
 //! The C library from Rust: safe wrappers over `extern "C"`, and a blob gathered by four threads.
 //!
 //! rustc --edition 2021 -L FOLDER_OF_THE_ARCHIVE c/examples/berylwool.rs
+use std::io::{self, Read};
 use std::ptr;
 use std::sync::Arc;
 
@@ -30,6 +31,10 @@ unsafe extern "C" {
     fn bw_encode(mode: &Mode, bytes: *const u8, len: usize, out: *mut u8, out_len: usize, used: &mut usize, root: &mut [u8; 32]) -> u32;
     fn bw_cut_slice(text: *const u8, text_len: usize, start: u64, len: u64, out: *mut u8, out_len: usize, used: &mut usize) -> u32;
     fn bw_check_slice(mode: &Mode, root: &[u8; 32], start: u64, len: u64, text: *const u8, text_len: usize, at: &mut u64) -> u32;
+    fn bw_feed_slice(mode: &Mode, root: &[u8; 32], start: u64, len: u64, feed: &mut Handle) -> u32;
+    fn bw_feed_wants(feed: &mut Handle, size: &mut usize) -> u32;
+    fn bw_feed_take(feed: &mut Handle, node: *const u8, node_len: usize, at: &mut u64) -> u32;
+    fn bw_feed_finish(feed: &mut Handle, rest: *const u8, rest_len: usize, at: &mut u64) -> u32;
     fn bw_store_new(mode: &Mode, root: &[u8; 32], capacity: u32, seat: &mut Handle) -> u32;
     fn bw_seat_split(seat: &mut Handle, other: &mut Handle) -> u32;
     fn bw_seat_join(seat: &mut Handle, other: &mut Handle) -> u32;
@@ -96,6 +101,68 @@ impl<'a> Checked<'a> {
 
     pub fn text(&self) -> &'a [u8] {
         self.text
+    }
+}
+
+/// A check of a text that comes in pieces, as the slice of `len` bytes from byte `start` on. (0, 2^64 - 1) is the combined encoding.
+pub struct Feed {
+    handle: Handle,
+}
+
+unsafe impl Send for Feed {}
+
+impl Feed {
+    pub fn new(mode: &Mode, root: &[u8; 32], start: u64, len: u64) -> Result<Feed, Fault> {
+        let mut feed = Feed { handle: Handle { at: ptr::null_mut() } };
+        told(unsafe { bw_feed_slice(mode, root, start, len, &mut feed.handle) }, 0)?;
+        Ok(feed)
+    }
+
+    /// How many bytes the next node has: 0 once the text is accepted.
+    pub fn wants(&mut self) -> Result<usize, Fault> {
+        let mut size = 0;
+        told(unsafe { bw_feed_wants(&mut self.handle, &mut size) }, 0)?;
+        Ok(size)
+    }
+
+    /// Takes the next node. One that is refused changes nothing.
+    pub fn take(&mut self, node: &[u8]) -> Result<(), Fault> {
+        let mut at = 0;
+        let status = unsafe { bw_feed_take(&mut self.handle, node.as_ptr(), node.len(), &mut at) };
+        told(status, at)
+    }
+
+    /// What is said of the whole text, where `rest` ends it.
+    pub fn finish(&mut self, rest: &[u8]) -> Result<(), Fault> {
+        let mut at = 0;
+        let status = unsafe { bw_feed_finish(&mut self.handle, rest.as_ptr(), rest.len(), &mut at) };
+        told(status, at)
+    }
+
+    /// Checks what a reader has, up to its end or the end of an accepted text.
+    pub fn check(&mut self, mut from: impl Read) -> io::Result<Result<(), Fault>> {
+        let mut node = Vec::new();
+        loop {
+            let size = match self.wants() {
+                Ok(0) => return Ok(Ok(())),
+                Ok(size) => size,
+                Err(fault) => return Ok(Err(fault)),
+            };
+            node.clear();
+            from.by_ref().take(size as u64).read_to_end(&mut node)?;
+            if node.len() < size {
+                return Ok(self.finish(&node));
+            }
+            if let Err(fault) = self.take(&node) {
+                return Ok(Err(fault));
+            }
+        }
+    }
+}
+
+impl Drop for Feed {
+    fn drop(&mut self) {
+        unsafe { bw_free(&mut self.handle) }
     }
 }
 
@@ -196,6 +263,10 @@ fn main() {
     assert_eq!(Checked::new(&PLAIN, &root, 5000, 10, &piece).unwrap().text(), &piece[..]);
     *piece.last_mut().unwrap() ^= 1;
     assert_eq!(Checked::new(&PLAIN, &root, 5000, 10, &piece).unwrap_err().status, 502);
+    assert_eq!(Feed::new(&PLAIN, &root, 5000, 10).unwrap().check(&piece[..]).unwrap().unwrap_err().status, 502);
+    let mut feed = Feed::new(&PLAIN, &root, 0, u64::MAX).unwrap();
+    assert_eq!(feed.check(&text[..]).unwrap(), Ok(()));
+    assert_eq!((feed.wants(), feed.finish(&[0])), (Ok(0), Err(Fault { status: 503, at: text.len() as u64 })));
     let mut first = Seat::new(&PLAIN, &root, 1024).unwrap();
     assert_eq!(first.read(5, &mut [0]), Err(Fault { status: 1204, at: 5 }));
     first.settle(&cut_slice(&text, u64::MAX, 1).unwrap()).unwrap();

@@ -1,3 +1,4 @@
+pub mod Feeds
 pub mod HandleValues
 pub mod Rounds
 pub mod SeatCalls

@@ -6,10 +6,11 @@ use Rattle.std.specs.contracts.impls.GlobalAllocator.TheImpl.{ghosts}
 use Rattle.std_alloc.specs.Box.Ownership.{box_owns}
 use Rattle.b3tree.specs.declared.mode.Mode.{Mode}
 use Rattle.b3tree.specs.Taken.{Holds}
+use Rattle.bao_check.specs.declared.checking.Checking.{Checking}
 use Rattle.store_shared.specs.declared.assembly.Assembly.{Assembly}
 use Rattle.store_shared.specs.Seats.{Gripped, IsSeatOf, fixed_of}
 use Rattle.berylwool.specs.declared.held.Held.{Held}
-use Rattle.berylwool.specs.declared.held.Held.TheVariants.{Gone, Hasher, Seat}
+use Rattle.berylwool.specs.declared.held.Held.TheVariants.{Feed, Gone, Hasher, Seat}
 use Rattle.berylwool.specs.contracts.held.Held.{the_row}
 use base.Fml.{Fml, ftrue, fex}
 use denote.RawPtr.{Ptr, block_ptr, null_ptr}
@@ -17,6 +18,7 @@ use denote.RawPtr.{Ptr, block_ptr, null_ptr}
 -- a seat is one of the store beside it
 abbrev pub IsGood : Held → Type 0
 IsGood (Hasher hasher) = Unit {0}
+IsGood (Feed check) = Unit {0}
 IsGood (Seat seated) = IsSeatOf (arc_value seated.store) seated.seat
 IsGood Gone = Unit {0}
 
@@ -31,6 +33,7 @@ handle_owns (block_ptr b o) alloc (Some held) = fex (IsGood held) (λ _. box_own
 abbrev pub HoldsIn : Option Held → Mode → List ℕ → Type 0
 HoldsIn None mode bytes = ⊥
 HoldsIn (Some (Hasher hasher)) mode bytes = Holds hasher mode bytes
+HoldsIn (Some (Feed check)) mode bytes = ⊥
 HoldsIn (Some (Seat seated)) mode bytes = ⊥
 HoldsIn (Some Gone) mode bytes = ⊥
 
@@ -38,13 +41,23 @@ HoldsIn (Some Gone) mode bytes = ⊥
 abbrev pub HasHasher : Option Held → Type 0
 HasHasher None = ⊥
 HasHasher (Some (Hasher hasher)) = Unit {0}
+HasHasher (Some (Feed check)) = ⊥
 HasHasher (Some (Seat seated)) = ⊥
 HasHasher (Some Gone) = ⊥
+
+-- the handle has a check in pieces, and this is so of it
+abbrev pub HasFeed : (Checking → Type 0) → Option Held → Type 0
+HasFeed so None = ⊥
+HasFeed so (Some (Hasher hasher)) = ⊥
+HasFeed so (Some (Feed check)) = so check
+HasFeed so (Some (Seat seated)) = ⊥
+HasFeed so (Some Gone) = ⊥
 
 -- the handle has a seat, and this is so of its store
 abbrev pub HasSeat : (Assembly → Gripped → Type 0) → Option Held → Type 0
 HasSeat so None = ⊥
 HasSeat so (Some (Hasher hasher)) = ⊥
+HasSeat so (Some (Feed check)) = ⊥
 HasSeat so (Some (Seat seated)) = so (arc_value seated.store) seated.seat
 HasSeat so (Some Gone) = ⊥
 
@@ -68,8 +81,10 @@ AreOfOneStore first second = HasSeat (λ store _. HasSeat (λ other _. other ≡
 abbrev pub OneSeat : (Assembly → Gripped → Gripped → Type 0) → Held → Held → Type 0
 OneSeat so (Seat old) (Seat new) = (arc_value new.store ≡ arc_value old.store) × so (arc_value old.store) old.seat new.seat
 OneSeat so (Seat old) (Hasher new) = ⊥
+OneSeat so (Seat old) (Feed new) = ⊥
 OneSeat so (Seat old) Gone = ⊥
 OneSeat so (Hasher old) new = ⊥
+OneSeat so (Feed old) new = ⊥
 OneSeat so Gone new = ⊥
 
 -- the handle has a seat of one store before and after a call, and of them this is so
@@ -83,10 +98,13 @@ abbrev pub OnePart : (Gripped → Gripped → Gripped → Type 0) → Held → H
 OnePart so (Seat old) (Seat first) (Seat second) =
     (arc_value first.store ≡ arc_value old.store) × (arc_value second.store ≡ arc_value old.store) × so old.seat first.seat second.seat
 OnePart so (Seat old) (Seat first) (Hasher second) = ⊥
+OnePart so (Seat old) (Seat first) (Feed second) = ⊥
 OnePart so (Seat old) (Seat first) Gone = ⊥
 OnePart so (Seat old) (Hasher first) second = ⊥
+OnePart so (Seat old) (Feed first) second = ⊥
 OnePart so (Seat old) Gone second = ⊥
 OnePart so (Hasher old) first second = ⊥
+OnePart so (Feed old) first second = ⊥
 OnePart so Gone first second = ⊥
 
 -- the handles have them

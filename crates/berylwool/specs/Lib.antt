@@ -1,4 +1,5 @@
 pub mod Calls
+pub mod Feeds
 pub mod Gathering
 pub mod Handles
 pub mod Modes

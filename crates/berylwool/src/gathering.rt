@@ -122,7 +122,7 @@ pub extern "C" fn bw_gather(
             );
             0
         }
-        Held::Hasher(_) | Held::Gone => NO_HANDLE,
+        Held::Hasher(_) | Held::Feed(_) | Held::Gone => NO_HANDLE,
     };
     put(seat, held);
     status

@@ -49,7 +49,7 @@ pub extern "C" fn bw_hasher_update(alloc: Global, hasher: &mut BwHandle, bytes: 
             Ok(()) => 0,
             Err(fault) => u32::from(fault.code()),
         },
-        Held::Seat(_) | Held::Gone => NO_HANDLE,
+        Held::Feed(_) | Held::Seat(_) | Held::Gone => NO_HANDLE,
     };
     put(hasher, held);
     status
@@ -75,7 +75,7 @@ pub extern "C" fn bw_hasher_finish(alloc: Global, hasher: &mut BwHandle, out: &m
             *out = digest;
             0
         }
-        Held::Seat(_) | Held::Gone => NO_HANDLE,
+        Held::Feed(_) | Held::Seat(_) | Held::Gone => NO_HANDLE,
     };
     put(hasher, held);
     status
@@ -110,7 +110,7 @@ pub extern "C" fn bw_hasher_xof(
             it.finalize_xof(at, out);
             0
         }
-        Held::Seat(_) | Held::Gone => NO_HANDLE,
+        Held::Feed(_) | Held::Seat(_) | Held::Gone => NO_HANDLE,
     };
     put(hasher, held);
     status

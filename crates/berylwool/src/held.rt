@@ -1,4 +1,5 @@
 use b3tree::Hasher;
+use bao_check::Checking;
 use std::alloc::Global;
 use std::sync::Arc;
 use store_shared::{Assembly, Seat};
@@ -14,6 +15,7 @@ pub struct Seated {
 #[derive(Drop)]
 pub enum Held {
     Hasher(Hasher),
+    Feed(Checking),
     Seat(Seated),
     /// Nothing, while a call has what it owned.
     Gone,

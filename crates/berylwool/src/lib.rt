@@ -6,6 +6,7 @@
 
 mod auditing;
 mod checking;
+mod feeding;
 mod gathering;
 mod handle;
 mod hasher;

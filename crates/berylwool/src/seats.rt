@@ -144,7 +144,7 @@ pub extern "C" fn bw_seat_take(
             }
             Err(fault) => u32::from(fault.code()),
         },
-        Held::Hasher(_) | Held::Gone => NO_HANDLE,
+        Held::Hasher(_) | Held::Feed(_) | Held::Gone => NO_HANDLE,
     };
     put(seat, held);
     status
@@ -174,7 +174,7 @@ pub extern "C" fn bw_seat_give(
             *given = it.store.give(&mut it.seat, group, mask);
             0
         }
-        Held::Hasher(_) | Held::Gone => NO_HANDLE,
+        Held::Hasher(_) | Held::Feed(_) | Held::Gone => NO_HANDLE,
     };
     put(seat, held);
     status
@@ -249,7 +249,7 @@ pub extern "C" fn bw_seat_commit(
             committed,
             at,
         ),
-        Held::Hasher(_) | Held::Gone => NO_HANDLE,
+        Held::Hasher(_) | Held::Feed(_) | Held::Gone => NO_HANDLE,
     };
     put(seat, held);
     status
@@ -313,7 +313,7 @@ pub extern "C" fn bw_seat_settle(
     };
     let status = match &mut *held {
         Held::Seat(it) => settled(alloc, &it.store, &mut it.seat, text, at),
-        Held::Hasher(_) | Held::Gone => NO_HANDLE,
+        Held::Hasher(_) | Held::Feed(_) | Held::Gone => NO_HANDLE,
     };
     put(seat, held);
     status
@@ -341,7 +341,7 @@ pub extern "C" fn bw_seat_length(alloc: Global, seat: &mut BwHandle, len: &mut u
             }
             None => UNFINISHED,
         },
-        Held::Hasher(_) | Held::Gone => NO_HANDLE,
+        Held::Hasher(_) | Held::Feed(_) | Held::Gone => NO_HANDLE,
     };
     put(seat, held);
     status
@@ -387,7 +387,7 @@ pub extern "C" fn bw_seat_read(
     };
     let status = match &mut *held {
         Held::Seat(it) => filled(&it.store, &mut it.seat, at, out, missing),
-        Held::Hasher(_) | Held::Gone => NO_HANDLE,
+        Held::Hasher(_) | Held::Feed(_) | Held::Gone => NO_HANDLE,
     };
     put(seat, held);
     status
@@ -440,7 +440,7 @@ pub extern "C" fn bw_seat_finish(
     };
     let status = match &mut *held {
         Held::Seat(it) => finished(&it.store, &mut it.seat, out, used),
-        Held::Hasher(_) | Held::Gone => NO_HANDLE,
+        Held::Hasher(_) | Held::Feed(_) | Held::Gone => NO_HANDLE,
     };
     put(seat, held);
     status

@@ -92,7 +92,7 @@ pub extern "C" fn bw_seat_commit_parents(
             stored,
             at,
         ),
-        Held::Hasher(_) | Held::Gone => NO_HANDLE,
+        Held::Hasher(_) | Held::Feed(_) | Held::Gone => NO_HANDLE,
     };
     put(seat, held);
     status
@@ -184,7 +184,7 @@ pub extern "C" fn bw_seat_serve_slice(
     };
     let status = match &mut *held {
         Held::Seat(it) => served(&it.store, &mut it.seat, start, len, out, used, lacking),
-        Held::Hasher(_) | Held::Gone => NO_HANDLE,
+        Held::Hasher(_) | Held::Feed(_) | Held::Gone => NO_HANDLE,
     };
     put(seat, held);
     status

@@ -44,3 +44,6 @@ pub(crate) const NO_CHUNKS: u32 = 1210;
 
 /// The stores of two handles differ in root, mode or capacity. Number 1211.
 pub(crate) const OTHER_STORE: u32 = 1211;
+
+/// The bytes aren't as many as the check in pieces takes. Number 1212.
+pub(crate) const OTHER_SIZE: u32 = 1212;

@@ -1,0 +1,39 @@
+-- What a handle's check in pieces has taken, and what C is told of a piece.
+use Rattle.std.specs.Prelude.{◌≡◌, ℕ, ◌<◌, List, length, IfSome, Option, None, Some}
+use Rattle.bao_check.specs.declared.checking.Checking.{Checking}
+use Rattle.bao_check.specs.declared.fault.CheckFault.{CheckFault}
+use Rattle.bao_check.specs.Accepted.{slice_nodes}
+use Rattle.bao_check.specs.Checking.{HasTakenAs, IsNodeFault, wanted}
+use Rattle.bao_check.specs.Waiting.{Task}
+use Rattle.berylwool.specs.declared.held.Held.{Held}
+use Rattle.berylwool.specs.Handles.{HasFeed}
+use Rattle.berylwool.specs.Status.{IsRefused, IsStatusOf}
+
+-- the handle checks a text as that, and has taken these bytes of it, all of them good
+abbrev pub HasFed : Option Held → Task → List ℕ → Type 0
+HasFed held task taken = HasFeed (λ check. HasTakenAs check task taken) held
+
+-- this is so of whatever it checks a text as, and has taken of it
+abbrev pub OfTaken : (Task → List ℕ → Type 0) → Checking → Type 0
+OfTaken so check = (task : Task) (taken : List ℕ) → HasTakenAs check task taken → so task taken
+
+-- how many bytes it wants next, as C is told: 0 where it wants none
+abbrev pub size_told : Option ℕ → ℕ
+size_told None = 0
+size_told (Some size) = size
+
+-- as many bytes as the node that comes next
+abbrev pub IsNextNode : List ℕ → Checking → Type 0
+IsNextNode node check = wanted check ≡ Some (length node)
+
+-- fewer than that, where one comes next
+abbrev pub IsBelowNode : List ℕ → Checking → Type 0
+IsBelowNode rest check = IfSome (wanted check) (λ size. length rest < size)
+
+-- the status and the place are those of why the text's last node isn't taken
+abbrev pub IsNodeRefused : Task → List ℕ → ℕ → ℕ → Type 0
+IsNodeRefused task text status at = (fault : CheckFault) × IsStatusOf fault status at × IsNodeFault task text fault
+
+-- the status and the place are those of the text's first fault
+abbrev pub IsTextRefused : Task → List ℕ → ℕ → ℕ → Type 0
+IsTextRefused task text status at = IsRefused task.mode task.root text (slice_nodes text task.start task.len) status at

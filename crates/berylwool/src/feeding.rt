@@ -1,0 +1,189 @@
+ghost use Rattle.std.specs.Prelude.{◌≡◌, ◌≢◌, ◌↔◌, ℕ, ◌-◌, ◌^◌, ◌<◌, ◌≤◌, List, [], ◌++◌, length, None};
+ghost use Rattle.bao_check.specs.declared.fault.CheckFault.TheVariants.{Short};
+ghost use Rattle.bao_check.specs.Checking.{HasTakenAs, wanted};
+ghost use Rattle.bao_check.specs.Waiting.{IsAcceptedAs, IsFaultAs, Task};
+ghost use Rattle.berylwool.specs.Feeds.{HasFed, IsBelowNode, IsNextNode, IsNodeRefused, IsTextRefused, OfTaken, size_told};
+ghost use Rattle.berylwool.specs.Handles.{HasFeed};
+ghost use Rattle.berylwool.specs.Modes.{mode_of};
+
+use crate::checking::told;
+use crate::handle::{BwHandle, put, take};
+use crate::held::Held;
+use crate::mode::BwMode;
+use crate::status::{NO_HANDLE, NO_MEMORY, OTHER_SIZE};
+use b3tree::Hash;
+use bao_check::Checking;
+use std::alloc::Global;
+
+/// Makes a check in pieces of a text as the slice of `len` bytes from byte `start` on of the blob with the hash `root`. It has taken nothing.
+/// What the handle owned is freed.
+///
+/// 1203 where there is no memory: the handle is empty then.
+#[unsafe(no_mangle)]
+pub extern "C" fn bw_feed_slice(
+    alloc: Global,
+    mode: &BwMode,
+    root: &[u8; 32],
+    start: u64,
+    len: u64,
+    feed: &mut BwHandle,
+) -> u32
+    ensures made { result ≡ 0 → HasFed feed.new.held (record { mode = mode_of mode.now; root = root.now; start = start; len = len }) [] }
+    ensures status { result ≢ 0 → result ≡ 1203 }
+    ensures empty { result ≢ 0 → feed.new.held ≡ None }
+{
+    let _old = take(feed, alloc);
+    let check = Checking::of_slice(&mode.get(), &Hash(*root), start, len);
+    match Box::new(alloc, Held::Feed(check)) {
+        Ok(held) => {
+            put(feed, held);
+            0
+        }
+        Err(_) => NO_MEMORY,
+    }
+}
+
+/// Makes a check in pieces of a text as the combined encoding of the blob with the hash `root`, as `bw_feed_slice` does.
+#[unsafe(no_mangle)]
+pub extern "C" fn bw_feed_combined(
+    alloc: Global,
+    mode: &BwMode,
+    root: &[u8; 32],
+    feed: &mut BwHandle,
+) -> u32
+    ensures made { result ≡ 0 → HasFed feed.new.held (record { mode = mode_of mode.now; root = root.now; start = 0; len = 2 ^ 64 - 1 }) [] }
+    ensures status { result ≢ 0 → result ≡ 1203 }
+    ensures empty { result ≢ 0 → feed.new.held ≡ None }
+{
+    bw_feed_slice(alloc, mode, root, 0, u64::MAX, feed)
+}
+
+// How many bytes are wanted, as `bw_feed_wants` tells it.
+fn size_wanted(check: &Checking) -> usize
+    ensures value { result ≡ size_told (wanted check.now) }
+    ensures most { result ≤ 1024 }
+    ensures done { OfTaken (λ task taken. result ≡ 0 ↔ IsAcceptedAs task taken) check.now }
+    ensures short { OfTaken (λ task taken. (more : List ℕ) → length more < result → IsFaultAs task (taken ++ more) (Short (length taken))) check.now }
+{
+    check.wants().unwrap_or(0)
+}
+
+/// How many bytes `bw_feed_take` takes next, in `size`: 8 for the length, 64 for a parent and 1 to 1,024 for a chunk. 0 exactly where what
+/// was taken is an accepted text. A text that ends before so many more is short (501) at this place.
+///
+/// 1202 exactly where the handle has no check in pieces: `size` is as it was then.
+#[unsafe(no_mangle)]
+pub extern "C" fn bw_feed_wants(alloc: Global, feed: &mut BwHandle, size: &mut usize) -> u32
+    ensures value { result ≡ 0 → HasFeed (λ check. size.new ≡ size_told (wanted check)) feed.old.held }
+    ensures most { result ≡ 0 → size.new ≤ 1024 }
+    ensures done { result ≡ 0 → HasFeed (OfTaken (λ task taken. size.new ≡ 0 ↔ IsAcceptedAs task taken)) feed.old.held }
+    ensures short { result ≡ 0 → HasFeed (OfTaken (λ task taken. (more : List ℕ) → length more < size.new → IsFaultAs task (taken ++ more) (Short (length taken)))) feed.old.held }
+    ensures has { result ≡ 0 ↔ HasFeed (λ _. Unit) feed.old.held }
+    ensures status { result ≢ 0 → result ≡ 1202 }
+    ensures same { feed.new.held ≡ feed.old.held }
+    ensures no_size { result ≢ 0 → size.new ≡ size.old }
+{
+    let Some(held) = take(feed, alloc) else {
+        return NO_HANDLE;
+    };
+    let Held::Feed(check) = &*held else {
+        put(feed, held);
+        return NO_HANDLE;
+    };
+    *size = size_wanted(check);
+    put(feed, held);
+    0
+}
+
+// Takes a node, as `bw_feed_take` does.
+fn taken(check: &mut Checking, node: &[u8], at: &mut u64) -> u32
+    ensures taken { result ≡ 0 → (task : Task) (taken : List ℕ) → HasTakenAs check.old task taken → HasTakenAs check.new task (taken ++ node.now) }
+    ensures fault { result ≢ 0 → result < 506 → OfTaken (λ task taken. IsNodeRefused task (taken ++ node.now) result at.new) check.old }
+    ensures refused { result ≡ 502 → OfTaken (λ task taken. (more : List ℕ) → ¬ IsAcceptedAs task ((taken ++ node.now) ++ more)) check.old }
+    ensures size { result ≡ 1212 ↔ (¬ IsNextNode node.now check.old) }
+    ensures status { 505 < result → result ≡ 1212 }
+    ensures same { result ≢ 0 → check.new ≡ check.old }
+{
+    if check.wants() != Some(node.len()) {
+        return OTHER_SIZE;
+    }
+    match check.take(node) {
+        Ok(()) => 0,
+        Err(fault) => told(&fault, at),
+    }
+}
+
+/// Takes the node that comes next, as many bytes as `bw_feed_wants` says, and verifies it.
+///
+/// 502 where it hasn't the value that its place asks for, with the place in `at`: that is the first fault of every text that begins with what
+/// was taken and this node. 504 where 2^64 bytes or more would have been taken. 1212 exactly where `node` has another length, or nothing is
+/// wanted, and 1202 exactly where the handle has no check in pieces. The check is as it was then, and can take other bytes in their place.
+#[unsafe(no_mangle)]
+pub extern "C" fn bw_feed_take(alloc: Global, feed: &mut BwHandle, node: &[u8], at: &mut u64) -> u32
+    ensures taken { result ≡ 0 → (task : Task) (taken : List ℕ) → HasFed feed.old.held task taken → HasFed feed.new.held task (taken ++ node.now) }
+    ensures fault { result ≢ 0 → result < 506 → HasFeed (OfTaken (λ task taken. IsNodeRefused task (taken ++ node.now) result at.new)) feed.old.held }
+    ensures refused { result ≡ 502 → HasFeed (OfTaken (λ task taken. (more : List ℕ) → ¬ IsAcceptedAs task ((taken ++ node.now) ++ more))) feed.old.held }
+    ensures size { result ≡ 1212 ↔ HasFeed (λ check. ¬ IsNextNode node.now check) feed.old.held }
+    ensures no_feed { result ≡ 1202 ↔ (¬ HasFeed (λ _. Unit) feed.old.held) }
+    ensures status { 505 < result → result ≢ 1202 → result ≡ 1212 }
+    ensures same { result ≢ 0 → feed.new.held ≡ feed.old.held }
+{
+    let Some(mut held) = take(feed, alloc) else {
+        return NO_HANDLE;
+    };
+    let Held::Feed(check) = &mut *held else {
+        put(feed, held);
+        return NO_HANDLE;
+    };
+    let status = taken(check, node, at);
+    put(feed, held);
+    status
+}
+
+// Ends a text, as `bw_feed_finish` does.
+fn finished(check: &Checking, rest: &[u8], at: &mut u64) -> u32
+    ensures accepted { result ≡ 0 → OfTaken (λ task taken. IsAcceptedAs task (taken ++ rest.now)) check.now }
+    ensures fault { result ≢ 0 → result < 506 → OfTaken (λ task taken. IsTextRefused task (taken ++ rest.now) result at.new) check.now }
+    ensures size { result ≡ 1212 ↔ (¬ IsBelowNode rest.now check.now) }
+    ensures status { 505 < result → result ≡ 1212 }
+{
+    if check.wants().is_some_and(|size| rest.len() >= size) {
+        return OTHER_SIZE;
+    }
+    match check.finish(rest) {
+        Ok(()) => 0,
+        Err(fault) => told(&fault, at),
+    }
+}
+
+/// What `bw_check_slice` or `bw_check_combined` says of the whole text, where the text is what was taken and then `rest`, which is less than
+/// the node that comes next. The check is as it was, and can go on.
+///
+/// 0 exactly where the text is accepted. Else its first fault, 501 short, or 503 trailing where nothing is wanted and `rest` follows, and at
+/// which byte of the text, in `at`. 1212 exactly where `rest` has all bytes of the node that comes next, and 1202 exactly where the handle has
+/// no check in pieces.
+#[unsafe(no_mangle)]
+pub extern "C" fn bw_feed_finish(
+    alloc: Global,
+    feed: &mut BwHandle,
+    rest: &[u8],
+    at: &mut u64,
+) -> u32
+    ensures accepted { result ≡ 0 → HasFeed (OfTaken (λ task taken. IsAcceptedAs task (taken ++ rest.now))) feed.old.held }
+    ensures fault { result ≢ 0 → result < 506 → HasFeed (OfTaken (λ task taken. IsTextRefused task (taken ++ rest.now) result at.new)) feed.old.held }
+    ensures size { result ≡ 1212 ↔ HasFeed (λ check. ¬ IsBelowNode rest.now check) feed.old.held }
+    ensures no_feed { result ≡ 1202 ↔ (¬ HasFeed (λ _. Unit) feed.old.held) }
+    ensures status { 505 < result → result ≢ 1202 → result ≡ 1212 }
+    ensures same { feed.new.held ≡ feed.old.held }
+{
+    let Some(held) = take(feed, alloc) else {
+        return NO_HANDLE;
+    };
+    let Held::Feed(check) = &*held else {
+        put(feed, held);
+        return NO_HANDLE;
+    };
+    let status = finished(check, rest, at);
+    put(feed, held);
+    status
+}
