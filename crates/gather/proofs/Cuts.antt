@@ -1,5 +1,5 @@
 -- Nodes that are cut out of a source, one part after another.
-use Rattle.std.proofs.Common.{◌≡◌, ℕ, ◌+◌, ◌<◌, ◌≤◌, ◌^◌, List, [], ◌++◌, length, take, drop, nat_le, sum_by, Bool, true, false, refl, sym, ap, ◌∙◌, arith, Option, None, Some, lit<, lit≤}
+use Rattle.std.proofs.Common.{◌≡◌, ℕ, ◌+◌, ◌<◌, ◌≤◌, List, [], ◌++◌, length, take, drop, nat_le, Bool, true, false, refl, sym, ap, ◌∙◌, arith, Option, None, Some, lit<, lit≤}
 use Rattle.std.specs.Int.{from_le_bytes, w64}
 use Rattle.std.proofs.lemmas.Bool.{le-ltb, leb-true}
 use Rattle.std.proofs.lemmas.List.{append-nil, append_assoc, drop_at, take-take}

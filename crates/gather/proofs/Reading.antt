@@ -1,5 +1,5 @@
 -- What reads gave, one after another.
-use Rattle.std.proofs.Common.{◌≡◌, ℕ, ◌+◌, List, ◌++◌, length, Option, ◌∙◌, ap, sym, subst, length-append}
+use Rattle.std.proofs.Common.{ℕ, ◌+◌, List, ◌++◌, Option, ◌∙◌, ap, sym, subst, length-append}
 use Rattle.std.proofs.lemmas.List.{append_assoc}
 use Rattle.b3read.specs.Given.{GivenAt}
 use Rattle.b3read.proofs.Parts.{GivenAt-append}

@@ -42,6 +42,7 @@ impl<'a, S: Source> Holder for EncodedAt<'a, S> {
         ensures unchanged { OnErr result (into.new.items ≡ into.old.items) }
         ensures device { IsErrOf result Device → self.old.faults < self.new.faults }
         ensures counts { self.old.faults ≤ self.new.faults }
+        ensures failed { IsErrOf result Device → S.faultless self.old.source.now → ⊥ }
         ensures same { self.new.source.now ≡ self.old.source.now }
         ensures cut { OnOk result (self.old.faults < 2 ^ 64 - 1 → OfBytes (S.contents self.old.source.now) (λ bytes. into.new.items ≡ into.old.items ++ cut_text bytes start len)) }
         ensures few { OnOk result ((total : ℕ) × (total < 2 ^ 64) × (length into.new.items ≤ length into.old.items + slice_len total start len)) }

@@ -176,6 +176,7 @@ pub(crate) fn taken_back(
     ensures back { into.new.items ≡ take before into.old.items }
     ensures device { IsErrOf result Device → faults.old < faults.new }
     ensures counts { faults.old ≤ faults.new }
+    ensures of { IsErrOf result Device → fault ≡ Device }
     ensures ok { OnOk result ((fault ≡ Device) × (faults.old ≡ 2 ^ 64 - 1)) }
 {
     into.truncate(before);

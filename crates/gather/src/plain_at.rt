@@ -41,6 +41,7 @@ impl<'a, S: Source> Holder for PlainAt<'a, S> {
         ensures unchanged { OnErr result (into.new.items ≡ into.old.items) }
         ensures device { IsErrOf result Device → self.old.faults < self.new.faults }
         ensures counts { self.old.faults ≤ self.new.faults }
+        ensures failed { IsErrOf result Device → S.faultless self.old.source.now → ⊥ }
         ensures same { self.new.source.now ≡ self.old.source.now }
         ensures part { OnOk result (self.old.faults < 2 ^ 64 - 1 → OfBytes (S.contents self.old.source.now) (λ bytes. into.new.items ≡ into.old.items ++ part_of bytes start len)) }
         ensures few { OnOk result (length into.new.items ≤ length into.old.items + len) }

@@ -1,7 +1,7 @@
 use Rattle.std.proofs.Common.{◌≡◌, ℕ, ◌+◌, ◌-◌, ◌*◌, ◌/◌, ◌≤◌, List, [], ◌∷◌, ◌++◌, Bool, true, false, Result, Ok, Err, IfOk, OnOk, sym, ap, subst, ◌∙◌, arith, max}
 use Rattle.std.proofs.lemmas.Result.{IfOk-weaker}
 use Rattle.b3tree.specs.Tree.{left_len}
-use Rattle.bao_text.specs.Nodes.{Node, Side, left, right, subtree_nodes, subtree_size}
+use Rattle.bao_text.specs.Nodes.{Node, left, right, subtree_nodes, subtree_size}
 use Rattle.bao_text.proofs.SubtreeNodes.{parent_node, subtree_nodes-parent, subtree_nodes-unwanted}
 use Rattle.bao_text.proofs.SubtreeText.{Parts, left_len-Parts}
 use Rattle.gather.specs.Reads.{Cuts}

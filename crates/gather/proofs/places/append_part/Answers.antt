@@ -1,4 +1,4 @@
-use Rattle.std.proofs.Common.{◌≡◌, ◌+◌, ◌≤◌, ◌*◌, arith, ap, sym, ◌∙◌}
+use Rattle.std.proofs.Common.{arith}
 use Rattle.gather.proofs.Reading.{Gains-more}
 use Rattle.gather.proofs.places.append_part.Goals as goal
 
