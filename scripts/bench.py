@@ -98,6 +98,7 @@ OUTBOARD = "bao_gather outboard"
 ENCODE = "bao_gather encode"
 DECODE = "bao_gather decode"
 GATHER = "bao_gather gather, one true file"
+GATHER_BESIDE = "bao_gather gather --outboard, one true copy"
 GATHER_TEN = "bao_gather gather, ten damaged files"
 HASH_GATHERED = "bao_gather hash of the gathered blob"
 SLICE = "cut_slice of 1 MiB"
@@ -161,6 +162,7 @@ ROWS = [
     (DECODE, "whole program, one thread, checks the file's combined encoding, writes the file"),
     (HASH_GATHERED, "whole program, as a user runs it, of the first 64 MiB"),
     (GATHER, "whole program, four workers, of the combined encoding of the first 64 MiB"),
+    (GATHER_BESIDE, "as before, of the first 64 MiB as they are, beside their outboard encoding"),
     (GATHER_TEN, "whole program, four workers, of ten such encodings, each with another tenth damaged"),
     ("hash", "b3tree::hash in one process, one thread"),
     ("hash_join", "b3par::hash_join in one process, several threads"),
@@ -255,6 +257,7 @@ RATIOS = [
     ("one thread", GATHER_TEXTS, HASH_OF_GATHERED, "at most 3.5: a check, a store, a read and a hash"),
     ("as a user runs it", GATHER, HASH_GATHERED, "at most 6"),
     ("as a user runs it", GATHER_TEN, GATHER, "at most 3"),
+    ("as a user runs it", GATHER_BESIDE, GATHER, "at most 1"),
     ("one thread", INTO_FULL, INTO_EMPTY, "about 1: not with what the store holds"),
     ("one thread", OUT_OF_FULL, OUT_OF_ONE, "about 1: not with what the store holds"),
     ("one thread", COMMITS_ONE, STORES, "at most 1.5"),
@@ -360,6 +363,9 @@ def measure(room, mib, runs):
     blob, root, encoding, damaged = holders(room, path)
     commands.append((GATHER, [PROGRAM, "gather", root, made, encoding], blob))
     commands.append((GATHER_TEN, [PROGRAM, "gather", root, made, *damaged], blob))
+    parents = f"{room}/parents"
+    output([PROGRAM, "outboard", blob, parents])
+    commands.append((GATHER_BESIDE, [PROGRAM, "gather", "--outboard", parents, root, made, blob], blob))
     times, hashes = Times(), set()
     for _ in range(runs):
         for name, words, like in commands:

@@ -12,6 +12,10 @@ import sys
 
 NAME = "bao_gather"
 
+# What a completion says of an option by the name of its value: none, or a file; any other is a word.
+ZSH_VALUES = {"": "", "FILE": ":file:_files"}
+FISH_VALUES = {"": "", "FILE": " -r"}
+
 
 def texts():
     """Returns the help of the program, by command; that of the whole has the name ''."""
@@ -48,10 +52,10 @@ class Help:
                     part.append((words, text.strip()))
 
     def options(self):
-        """Its options: the long word, whether a value follows, and the text."""
+        """Its options: the long word, the name of the value that follows, if one does, and the text."""
         for words, text in self.parts.get("Options", []):
             long = re.search(r"--[a-z]+", words)
-            yield long.group(), "<" in words, text
+            yield long.group(), "".join(re.findall("<(.*)>", words)), text
 
 
 def statuses():
@@ -109,7 +113,7 @@ def zsh(helps):
     out += [")", "if (( CURRENT == 2 )); then", "    _describe command commands", "    return", "fi", "case $words[2] in"]
     for name, it in helps.items():
         if name:
-            options = " ".join(f"'{long}[{quoted(text)}]{':value: ' if value else ''}'" for long, value, text in it.options())
+            options = " ".join(f"'{long}[{quoted(text)}]{ZSH_VALUES.get(value, ':value: ')}'" for long, value, text in it.options())
             out += [f"    {name}) _arguments {options} '*:file:_files' ;;"]
     out += ["esac"]
     return "\n".join(out) + "\n"
@@ -124,7 +128,7 @@ def fish(helps):
         if name:
             out += [f"complete -c {NAME} -n __fish_use_subcommand -a {name} -d '{quoted(it.does)}'"]
             out += [
-                f"complete -c {NAME} -n '__fish_seen_subcommand_from {name}' -l {long[2:]}{' -x' if value else ''} -d '{quoted(text)}'"
+                f"complete -c {NAME} -n '__fish_seen_subcommand_from {name}' -l {long[2:]}{FISH_VALUES.get(value, ' -x')} -d '{quoted(text)}'"
                 for long, value, text in it.options()
             ]
     return "\n".join(out) + "\n"
