@@ -1,5 +1,5 @@
 -- what a task prints, and what it writes to its file OUT
-use Rattle.std.specs.Prelude.{◌≡◌, ◌≢◌, ◌≤◌, ℕ, ◌*◌, List, length, Option, Some, None, Result, Ok, Err, codes}
+use Rattle.std.specs.Prelude.{◌≡◌, ◌≢◌, ◌<◌, ◌≤◌, ℕ, ◌+◌, ◌-◌, ◌*◌, ◌^◌, List, length, Option, Some, None, Result, Ok, Err, codes}
 use Rattle.std.specs.Borrow.{Bor}
 use Rattle.std.specs.Io.KnownBytes.{Appends, Keeps}
 use Rattle.std.specs.Option.{option_copied}
@@ -57,6 +57,28 @@ WritesApart (Decode root part file out) = IsNoOutput out.now
 WritesApart (DecodeCopy root outboard copy out) = IsNoOutput out.now
 WritesApart (Gather root workers capacity outboard encode verbose files out) = IsNoOutput out.now
 WritesApart (Replay root capacity script files) = Unit {0}
+
+-- the output that the task asks for ends after 2^64 - 1
+abbrev pub IsPastOutput : Task → Type 0
+IsPastOutput (Hash at length file) = ¬ (at + length ≤ 2 ^ 64 - 1)
+IsPastOutput (Encode encoding file out) = ⊥
+IsPastOutput (Decode root part file out) = ⊥
+IsPastOutput (DecodeCopy root outboard copy out) = ⊥
+IsPastOutput (Gather root workers capacity outboard encode verbose files out) = ⊥
+IsPastOutput (Replay root capacity script files) = ⊥
+
+-- the task has more than 64 files
+abbrev pub HasManyFiles : Task → Type 0
+HasManyFiles (Hash at length file) = ⊥
+HasManyFiles (Encode encoding file out) = ⊥
+HasManyFiles (Decode root part file out) = ⊥
+HasManyFiles (DecodeCopy root outboard copy out) = ⊥
+HasManyFiles (Gather root workers capacity outboard encode verbose files out) = 64 < length files.items
+HasManyFiles (Replay root capacity script files) = 64 < length files.items
+
+-- The words are refused only with reason: for the root, for where the output ends, for how many files there are, and for where OUT is.
+abbrev pub IsDue : Type 0 → Type 0 → Type 0 → Type 0 → Fault → Type 0
+IsDue root past many mixed fault = (fault ≡ Root → root) × (fault ≡ OutputRange → past) × (fault ≡ TooManyFiles → many) × (fault ≡ OutIsOutput → mixed)
 
 -- the text of a part of the blob with this root, in hexadecimal digits, is accepted
 abbrev pub IsRightPart : Mode → List ℕ → Part → List ℕ → Type 0

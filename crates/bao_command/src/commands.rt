@@ -5,11 +5,11 @@ ghost use Rattle.b3tree.specs.Hashing.{hash as hash_of, stream};
 ghost use Rattle.clap.specs.Words.{kind_of};
 ghost use Rattle.hex.specs.Hex.{decode_of};
 ghost use Rattle.bao_request.specs.CommandLine.{IsHelp};
-ghost use Rattle.bao_files.specs.Printed.{digits_line, ok_line};
+ghost use Rattle.bao_files.specs.Printed.{IsDigits, digits_line, ok_line};
 ghost use Rattle.bao_gathered.specs.Gathered.{HasOutline, IsGathered};
 ghost use Rattle.bao_command.specs.Outcome.{Begun, Done};
 ghost use Rattle.bao_command.specs.Printed.{Prints, told_of};
-ghost use Rattle.bao_command.specs.Tasks.{Answers, HasHash, HasRoot, IsBeside, IsReplay, IsRight, IsRightCopy, IsRightPart, WritesApart, line_of, part_line};
+ghost use Rattle.bao_command.specs.Tasks.{Answers, HasHash, HasManyFiles, HasRoot, IsBeside, IsDue, IsPastOutput, IsReplay, IsRight, IsRightCopy, IsRightPart, WritesApart, line_of, part_line};
 
 use crate::fault::Fault;
 use crate::help::{show, shown_status};
@@ -69,7 +69,7 @@ fn serve<'a, R: Files<File = File> + AllocGlobal + Threads + Sync, O: Write, E: 
 ) -> Result<(), Fault<'a>>
     ensures answer { Answers request.now (O.contents out.old) (O.contents out.new) result }
     ensures root { ¬ HasRoot request.now.task → IsErrAnd result (λ fault. fault ≡ Fault.Root) }
-    ensures mixed { IfErr result (λ fault. fault ≡ Fault.OutIsOutput → ¬ WritesApart request.now.task) }
+    ensures due { IfErr result (IsDue (¬ HasRoot request.now.task) (IsPastOutput request.now.task) (HasManyFiles request.now.task) (¬ WritesApart request.now.task)) }
 {
     check_root(&request.task)?;
     let mode = mode_of(request.key, request.context)?;
@@ -83,7 +83,7 @@ fn serve<'a, R: Files<File = File> + AllocGlobal + Threads + Sync, O: Write, E: 
 // The answer of printing, as a fault of the program.
 fn told<'a>(printed: Result<(), FileFault<'a>>) -> Result<(), Fault<'a>>
     ensures prints { result ≡ told_of printed.entry }
-    ensures apart { IfErr result (λ fault. fault ≢ Fault.OutIsOutput) }
+    ensures due { IfErr result (IsDue ⊥ ⊥ ⊥ ⊥) }
 {
     match printed {
         Ok(()) => Ok(()),
@@ -94,7 +94,7 @@ fn told<'a>(printed: Result<(), FileFault<'a>>) -> Result<(), Fault<'a>>
 // The root that the digits give.
 fn root_of<'a>(digits: &str) -> Result<Hash, Fault<'a>>
     ensures ok { IfOk result (λ root. decode_of digits.now ≡ Ok root.0) }
-    ensures err { IfErr result (λ fault. fault ≡ Fault.Root) }
+    ensures err { IfErr result (λ fault. (fault ≡ Fault.Root) × ¬ IsDigits digits.now) }
 {
     match bytes_of_digits(digits) {
         Some(root) => Ok(Hash(root)),
@@ -112,7 +112,7 @@ fn hash<'a, R: Files<File = File> + AllocGlobal + Threads + Sync, O: Write>(
     out: &mut O,
 ) -> Result<(), Fault<'a>>
     ensures prints { (bytes : List ℕ) × Prints (digits_line (stream mode.now bytes at len)) (O.contents out.old) (O.contents out.new) result }
-    ensures apart { IfErr result (λ fault. fault ≢ Fault.OutIsOutput) }
+    ensures due { IfErr result (IsDue ⊥ (¬ (at + len ≤ 2 ^ 64 - 1)) ⊥ ⊥) }
 {
     if !xof_fits(at, u64::from(len)) {
         return Err(Fault::OutputRange);
@@ -135,7 +135,7 @@ fn encode<'a, R: Files<File = File> + AllocGlobal + Threads + Sync, O: Write>(
     out: &mut O,
 ) -> Result<(), Fault<'a>>
     ensures prints { (bytes : List ℕ) × Prints (digits_line (hash_of mode.now bytes)) (O.contents out.old) (O.contents out.new) result }
-    ensures apart { IfErr result (λ fault. fault ≢ Fault.OutIsOutput) }
+    ensures due { IfErr result (IsDue ⊥ ⊥ ⊥ ⊥) }
 {
     match encode_file(rt, mode, encoding, file, path) {
         Ok(hash) => told(print_digits(rt.alloc(), &hash.0, out)),
@@ -155,7 +155,7 @@ fn decode<'a, R: Files<File = File> + AllocGlobal + Threads + Sync, O: Write>(
 ) -> Result<(), Fault<'a>>
     ensures prints { (bytes : List ℕ) × OnOk result (IsRightPart mode.now digits.now part.now bytes)
         × Prints (part_line part.now bytes) (O.contents out.old) (O.contents out.new) result }
-    ensures apart { IfErr result (λ fault. fault ≢ Fault.OutIsOutput) }
+    ensures due { IfErr result (IsDue (¬ IsDigits digits.now) ⊥ ⊥ ⊥) }
 {
     let root = root_of(digits)?;
     match decode_file(rt, mode, &root, part, file, path) {
@@ -176,7 +176,7 @@ fn decode_beside<'a, R: Files + AllocGlobal, O: Write>(
 ) -> Result<(), Fault<'a>>
     ensures prints { (bytes : List ℕ) × OnOk result (IsRightCopy mode.now digits.now bytes)
         × Prints (ok_line (length bytes)) (O.contents out.old) (O.contents out.new) result }
-    ensures apart { IfErr result (λ fault. fault ≢ Fault.OutIsOutput) }
+    ensures due { IfErr result (IsDue (¬ IsDigits digits.now) ⊥ ⊥ ⊥) }
 {
     let root = root_of(digits)?;
     match decode_copy(rt, mode, &root, outboard, copy, path) {
@@ -237,7 +237,7 @@ fn gather<'a, R: Files + AllocGlobal + Threads + Sync, O: Write, E: Write>(
         × Prints (ok_line (length blob)) (O.contents out.old) (O.contents out.new) result }
     ensures few { OnOk result (length files.now ≤ 64) }
     ensures many { 64 < length files.now → IsErrAnd result (λ fault. fault ≡ Fault.TooManyFiles) }
-    ensures apart { IfErr result (λ fault. fault ≢ Fault.OutIsOutput) }
+    ensures due { IfErr result (IsDue (¬ IsDigits digits.now) ⊥ (64 < length files.now) ⊥) }
 {
     if files.len() > MOST_FILES {
         return Err(Fault::TooManyFiles);
@@ -269,7 +269,7 @@ fn replay<'a, R: Files + AllocGlobal, O: Write>(
         × Prints text (O.contents out.old) (O.contents out.new) result }
     ensures few { OnOk result (length files.now ≤ 64) }
     ensures many { 64 < length files.now → IsErrAnd result (λ fault. fault ≡ Fault.TooManyFiles) }
-    ensures apart { IfErr result (λ fault. fault ≢ Fault.OutIsOutput) }
+    ensures due { IfErr result (IsDue (¬ IsDigits digits.now) ⊥ (64 < length files.now) ⊥) }
 {
     if files.len() > MOST_FILES {
         return Err(Fault::TooManyFiles);
@@ -291,7 +291,7 @@ fn serve_task<'a, R: Files<File = File> + AllocGlobal + Threads + Sync, O: Write
 ) -> Result<(), Fault<'a>>
     ensures prints { (bytes : List ℕ) × OnOk result (IsRight mode.now task.now bytes)
         × Prints (line_of mode.now task.now bytes) (O.contents out.old) (O.contents out.new) result }
-    ensures apart { IfErr result (λ fault. fault ≢ Fault.OutIsOutput) }
+    ensures due { IfErr result (IsDue (¬ HasRoot task.now) (IsPastOutput task.now) (HasManyFiles task.now) ⊥) }
 {
     match task {
         Task::Hash { at, length, file } => hash(rt, mode, *at, *length, file, out),
