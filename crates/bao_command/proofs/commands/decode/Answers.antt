@@ -1,9 +1,9 @@
-use Rattle.std.proofs.Common.{ℕ, List, OnOk, Option, Result, Ok, Err, subst, sym}
+use Rattle.std.proofs.Common.{ℕ, List, IfErr, OnOk, Option, Result, Ok, Err, subst, sym}
 use Rattle.bao_files.specs.Printed as file
 use Rattle.bao_files.specs.declared.fault.FileFault.{FileFault}
 use Rattle.bao_command.specs.declared.fault.Fault.{Fault}
 use Rattle.bao_command.specs.Printed.{Prints, told_of}
-use Rattle.bao_command.specs.Tasks.{IsRightPart, part_line}
+use Rattle.bao_command.specs.Tasks.{IsDue, IsRightPart, part_line}
 use Rattle.bao_command.proofs.commands.decode.Goals as goal
 
 -- a line that was printed, in the words of the program
@@ -15,8 +15,16 @@ on_ok : {P : Type 0} (result : Result Unit Fault) → P → OnOk result P
 on_ok (Ok done) p = p
 on_ok (Err fault) p = tt
 
-pub returns-in-Ok : goal.returns-in-Ok
-returns-in-Ok g c =
+-- printing refuses no words
+due_of_none : (root past many mixed : Type 0) (result : Result Unit Fault) → IfErr result (IsDue ⊥ ⊥ ⊥ ⊥) → IfErr result (IsDue root past many mixed)
+due_of_none root past many mixed (Ok done) due = tt
+due_of_none root past many mixed (Err fault) due = (λ is. absurd (due.0 is), λ is. absurd (due.1 is), λ is. absurd (due.2 is), λ is. absurd (due.3 is))
+
+pub returns-in-Ok-clause-due : goal.returns-in-Ok-clause-due
+returns-in-Ok-clause-due g c = due_of_none _ _ _ _ c.told.result c.told.ensures.due
+
+pub returns-in-Ok-clause-prints : goal.returns-in-Ok-clause-prints
+returns-in-Ok-clause-prints g c =
     let mode = c.args.mode.now in
     let part = c.args.part.now in
     let made = c.in-Ok.ensures.ok in
@@ -26,4 +34,4 @@ returns-in-Ok g c =
     let right : IsRightPart mode c.args.digits.now part bytes = (c.in_ok-root.root.0, (c.in_ok-root.ensures.ok, made.1)) in
     let printed = subst (λ (n : ℕ). file.Prints (file.ok_line n) old new c.print_count.result) made.2 c.print_count.ensures.prints in
     let told = told_prints (part_line part bytes) old new c.print_count.result printed in
-    record { prints = (bytes, on_ok c.told.result right, subst (Prints (part_line part bytes) old new) (sym c.told.ensures.prints) told); apart = c.told.ensures.apart }
+    (bytes, on_ok c.told.result right, subst (Prints (part_line part bytes) old new) (sym c.told.ensures.prints) told)

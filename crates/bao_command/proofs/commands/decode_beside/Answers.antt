@@ -16,8 +16,8 @@ on_ok : {P : Type 0} (result : Result Unit Fault) → P → OnOk result P
 on_ok (Ok done) p = p
 on_ok (Err fault) p = tt
 
-pub returns-in-Ok : goal.returns-in-Ok
-returns-in-Ok g c =
+pub returns-in-Ok-clause-prints : goal.returns-in-Ok-clause-prints
+returns-in-Ok-clause-prints g c =
     let mode = c.args.mode.now in
     let made = c.in-Ok.ensures.ok in
     let bytes : List ℕ = made.0 in
@@ -26,4 +26,4 @@ returns-in-Ok g c =
     let right : IsRightCopy mode c.args.digits.now bytes = (c.in_ok-root.root.0, (c.in_ok-root.ensures.ok, made.1)) in
     let printed = subst (λ (n : ℕ). file.Prints (file.ok_line n) old new c.print_count.result) made.2 c.print_count.ensures.prints in
     let told = told_prints (ok_line (length bytes)) old new c.print_count.result printed in
-    record { prints = (bytes, on_ok c.told.result right, subst (Prints (ok_line (length bytes)) old new) (sym c.told.ensures.prints) told); apart = c.told.ensures.apart }
+    (bytes, on_ok c.told.result right, subst (Prints (ok_line (length bytes)) old new) (sym c.told.ensures.prints) told)

@@ -9,8 +9,8 @@ both : (P Q : Type 0) (result : Result Unit Fault) → OnOk result P → OnOk re
 both P Q (Ok done) p q = (p, q)
 both P Q (Err fault) p q = tt
 
-pub returns-in-Gather : goal.returns-in-Gather
-returns-in-Gather g c =
+pub returns-in-Gather-clause-prints : goal.returns-in-Gather-clause-prints
+returns-in-Gather-clause-prints g c =
     let result : Result Unit Fault = c.gather.result in
     let mode = c.args.mode.now in
     let old = g.O.Write.contents c.args.out.now in
@@ -21,10 +21,10 @@ returns-in-Gather g c =
     let prints =
     subst (λ (task : Task). (bytes : List ℕ) × OnOk result (IsRight mode task bytes) × Prints (line_of mode task bytes) old new result) (sym c.in-Gather.is)
     (answer.0, both _ _ result few (both _ _ result answer.1 c.gather.ensures.beside), answer.2) in
-    record { prints = prints; apart = c.gather.ensures.apart }
+    prints
 
-pub returns-in-Replay : goal.returns-in-Replay
-returns-in-Replay g c =
+pub returns-in-Replay-clause-prints : goal.returns-in-Replay-clause-prints
+returns-in-Replay-clause-prints g c =
     let result : Result Unit Fault = c.replay.result in
     let mode = c.args.mode.now in
     let old = g.O.Write.contents c.args.out.now in
@@ -38,4 +38,4 @@ returns-in-Replay g c =
     let prints =
     subst (λ (task : Task). (bytes : List ℕ) × OnOk result (IsRight mode task bytes) × Prints (line_of mode task bytes) old new result) (sym c.in-Replay.is)
     (answer.0, right, answer.2) in
-    record { prints = prints; apart = c.replay.ensures.apart }
+    prints
