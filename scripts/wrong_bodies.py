@@ -1,7 +1,7 @@
 #!/usr/bin/env python3
 """Tries the wrong bodies of crates that the gate leaves out: the prover has to refuse each.
 
-usage: python3 scripts/wrong_bodies.py [--jobs N] [--all] [CRATE ..]
+usage: python3 scripts/wrong_bodies.py [--jobs N] [--anew] [--all] [CRATE ..]
        python3 scripts/wrong_bodies.py --read [--strict]
 
 At the top of the repository. A wrong body is a file crates/NAME/wrong-bodies/FUNCTION.WHAT.edit, in the form of those of
@@ -13,7 +13,8 @@ that isn't proved, and for another reason than a callee without a proof, has its
 tried without those that were, and then alone, at last from nothing, as `rt must-fail` does: so is an edit that changes anything but
 one function's body.
 Prints a line for each edit and last 'N refused, M not refused'. The exit status is 1 where one isn't refused.
-Where all of a crate's are refused, its file wrong-bodies/TRIED says so, with a sum of the crate's text and these edits.
+A crate's file wrong-bodies/TRIED has a sum of the crate's text, and of each of these edits that was refused of that text its own
+sum and name. Those are not tried again, but with --anew or once the text has changed.
 --read proves nothing and takes a second: it fails on an edit of either folder that can't be applied any more, or that
 stands in both, and names each crate on which they were never tried so, or that has changed since. With --strict it fails on those too.
 """
@@ -56,15 +57,30 @@ def edits_of(crate, part):
     return good, bad
 
 
-def sum_of(rt, folder, edits):
-    """Returns a sum of the crate's text, its tests aside, and of these edits."""
+def sum_of(rt, folder):
+    """Returns a sum of the crate's text, its tests aside."""
     made = hashlib.sha256()
-    for file in [*rt.rtlib.files_of(folder), *edits]:
+    for file in rt.rtlib.files_of(folder):
         name = os.path.relpath(file, folder)
         if not TESTS.fullmatch(name):
             with open(file, "rb") as it:
                 made.update(repr((name, it.read())).encode())
     return made.hexdigest()
+
+
+def sums_of(edits):
+    """Returns a sum of each edit, by its file's name."""
+    sums = {}
+    for file in edits:
+        with open(file, "rb") as it:
+            sums[os.path.basename(file)] = hashlib.sha256(it.read()).hexdigest()[:16]
+    return sums
+
+
+def tried_of(rt, folder, text):
+    """Returns the edits that wrong-bodies/TRIED says were refused of the crate's text with this sum: their sums by their names."""
+    of, *told = (rt.rtlib.text_of(f"{folder}/{OURS}/TRIED") or "").split("\n")[1:] or [""]
+    return {name: made for made, name in map(str.split, filter(None, told))} if of == text else {}
 
 
 def read_alone(rt, crates, is_strict):
@@ -80,8 +96,7 @@ def read_alone(rt, crates, is_strict):
             if why:
                 print(f"{os.path.relpath(file)}: BAD EDIT: {why}")
                 unread += 1
-        told = (rt.rtlib.text_of(f"{crate.folder}/{OURS}/TRIED") or "").split()
-        if ours[0] and told[-1:] != [sum_of(rt, crate.folder, ours[0])]:
+        if not sums_of(ours[0]).items() <= tried_of(rt, crate.folder, sum_of(rt, crate.folder)).items():
             stale.append(crate.name)
     if stale:
         print(f"wrong bodies not tried on these crates as they stand: make wrong-bodies CRATES='{' '.join(stale)}'")
@@ -137,12 +152,12 @@ class Change:
 class Work:
     """The edits of one crate, with a copy of its text and of what its proof kept."""
 
-    def __init__(self, rt, crate, edits, room, jobs, keeps):
+    def __init__(self, rt, crate, edits, room, jobs, text, known):
         self.rt, self.edits, self.jobs, self.room = rt, edits, jobs, f"{room}/{crate.name}"
-        self.lock, self.left, self.is_proved, self.is_well = threading.Lock(), len(edits), None, True
+        self.lock, self.left, self.is_proved = threading.Lock(), len(edits), None
         self.changes, self.counts = {}, (rt.REFUSED, rt.AT_LIMIT)
         self.had, self.tried_file = f"{crate.folder}/out/incremental", f"{crate.folder}/{OURS}/TRIED"
-        self.sum = sum_of(rt, crate.folder, edits) if keeps else None
+        self.text, self.sums, self.known = text, sums_of(edits), known
         self.crate = copy.copy(crate)
         self.crate.folder, self.crate.out = f"{self.room}/crate", sys.stderr
         for part in rt.rtlib.PARTS:
@@ -223,19 +238,21 @@ class Work:
             came_to, text = self.rt.must_fail(self.crate, edit, ["--jobs", "1"])
         return came_to in self.counts, text.removeprefix("must-fail ")
 
-    def ended(self, is_refused):
-        """Counts an edit that was tried. After the last one it removes the copies, and writes TRIED where all were refused."""
+    def ended(self, edit, is_refused):
+        """Counts an edit that was tried, and notes one that was refused in TRIED. After the last one it removes the copies."""
+        name = os.path.basename(edit)
         with self.lock:
-            self.left, self.is_well = self.left - 1, self.is_well and is_refused
-            if self.left:
-                return
-            shutil.rmtree(self.room, ignore_errors=True)
-            if self.sum and self.is_well:
+            self.left -= 1
+            if self.text and is_refused:
+                self.known[name] = self.sums[name]
+                told = "".join(f"{made} {name}\n" for name, made in sorted(self.known.items()))
                 with open(self.tried_file, "w", encoding="utf-8") as it:
-                    it.write(f"{len(self.edits)} refused, of the text and edits with the sum\n{self.sum}\n")
+                    it.write(f"{len(self.known)} refused, of the text with the sum\n{self.text}\n{told}")
+            if not self.left:
+                shutil.rmtree(self.room, ignore_errors=True)
 
 
-def try_all(rt, crates, parts, jobs):
+def try_all(rt, crates, parts, jobs, is_anew):
     """Tries the edits of these folders, and returns how many were refused and how many weren't."""
     todo, refused, failed, printing = queue.Queue(), [], [], threading.Lock()
 
@@ -282,7 +299,7 @@ def try_all(rt, crates, parts, jobs):
         with printing:
             print(f"{text} ({seconds:.0f} s)", flush=True)
             (refused if is_refused else failed).append(edit)
-        work.ended(is_refused)
+        work.ended(edit, is_refused)
 
     with tempfile.TemporaryDirectory(prefix="wrong-bodies-") as room:
         for crate in crates:
@@ -291,10 +308,17 @@ def try_all(rt, crates, parts, jobs):
                 print(f"{os.path.relpath(it)}: BAD EDIT: an edit's name is of letters, digits, _, - and . and ends in .edit", flush=True)
                 failed.append(it)
             edits = [it for good, _ in found for it in good]
+            text = sum_of(rt, crate.folder) if parts == [OURS] else None
+            sums = sums_of(edits)
+            told = tried_of(rt, crate.folder, text) if text and not is_anew else {}
+            known = {name: made for name, made in told.items() if sums.get(name) == made}
+            edits = [it for it in edits if os.path.basename(it) not in known]
+            if known:
+                print(f"{crate.name}: {len(known)} were refused of this text before")
             if edits:
                 if any(it.build_rlib(["--jobs", str(jobs)], anew=False) for it in crate.below()):
                     sys.exit(f"wrong-bodies: a library below {crate.name} is not proved")
-                work = Work(rt, crate, edits, room, jobs, keeps=parts == [OURS])
+                work = Work(rt, crate, edits, room, jobs, text, known)
                 for it in work.batches():
                     todo.put((work, it))
         lanes = [threading.Thread(target=lane, args=(it,)) for it in range(jobs)]
@@ -308,7 +332,8 @@ def try_all(rt, crates, parts, jobs):
 def main():
     asked = argparse.ArgumentParser(description=__doc__, formatter_class=argparse.RawDescriptionHelpFormatter)
     asked.add_argument("--jobs", type=int, default=0, help="how many edits at a time (one a processor, and 2 GB of memory each)")
-    asked.add_argument("--all", action="store_true", help="those of must-fail/ too; TRIED is left as it is")
+    asked.add_argument("--anew", action="store_true", help="also those that were refused of the same text before")
+    asked.add_argument("--all", action="store_true", help="all, those of must-fail/ too; TRIED is left as it is")
     asked.add_argument("--read", action="store_true", help="prove nothing: say which edits can't be applied, and which crates are to be tried")
     asked.add_argument("--strict", action="store_true", help="with --read: fail where a crate is to be tried")
     asked.add_argument("crates", nargs="*", metavar="CRATE")
@@ -324,7 +349,7 @@ def main():
     rt.rtlib.guarded()
     jobs = asked.jobs or max(1, min(rt.processors(), rt.free() // 2_000_000_000))
     chosen = [it for it in crates.values() if not asked.crates or it.name in asked.crates]
-    refused, failed = try_all(rt, chosen, [OURS, GATES] if asked.all else [OURS], jobs)
+    refused, failed = try_all(rt, chosen, [OURS, GATES] if asked.all else [OURS], jobs, asked.anew)
     print(f"{refused} refused, {failed} not refused")
     return 1 if failed else 0
 
