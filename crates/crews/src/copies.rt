@@ -5,7 +5,7 @@ ghost use Rattle.crews.specs.declared.fault.CrewsFault.TheVariants.{Gather};
 ghost use Rattle.gather.specs.declared.texts.GatherFault.TheVariants.{Capacity, Starved};
 ghost use Rattle.store_shared.specs.Seats.{IsSeatOf};
 
-use crate::blob::finish;
+use crate::blob::finish_join;
 use crate::crew::Crew;
 use crate::fault::CrewsFault;
 use crate::runs::run_bare;
@@ -75,7 +75,7 @@ pub fn gather_copies<R: Threads + Sync>(
     let workers = workers.clamp(1, MOST_WORKERS);
     let (mut crews, mut seat) = crews_beside(alloc, &assembly, seat, workers, copies)?;
     let report = run_bare(rt, alloc, &assembly, outline, crews.as_mut_slice(), &Open);
-    match finish(alloc, &assembly, &mut seat) {
+    match finish_join(rt, alloc, &assembly, &mut seat, workers) {
         Ok(blob) => Ok(blob),
         Err(FinishFault::Unfinished) => Err(CrewsFault::Gather(cause(&report))),
         Err(FinishFault::NotTheRoot) => Err(CrewsFault::Gather(GatherFault::NotTheRoot)),

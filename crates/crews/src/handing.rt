@@ -1,4 +1,4 @@
-ghost use Rattle.std.specs.Prelude.{◌≡◌, ◌≢◌, ◌*◌, ◌≤◌, ℕ, Err, IfOk, IsErrOf, IsTrue, List, Some, length, map, slice_get, vec_items};
+ghost use Rattle.std.specs.Prelude.{◌≡◌, ◌≢◌, ◌*◌, ◌<◌, ◌≤◌, ℕ, Err, IfOk, IsErrOf, IsTrue, List, Some, length, map, slice_get, vec_items};
 ghost use Rattle.b3tree.specs.Hashing.{hash};
 ghost use Rattle.bao_text.specs.Choice.{chunk_count};
 ghost use Rattle.bao_text.specs.Texts.{combined_text};
@@ -10,22 +10,26 @@ ghost use Rattle.store_core.specs.Laws.{IsBlob};
 ghost use Rattle.store_shared.specs.Seats.{IsSeatOf, fixed_of};
 ghost use Rattle.crews.specs.Closing.{IsLeft};
 
-use crate::blob::finish;
+use crate::blob::finish_join;
 use crate::closing::closing_round;
 use gather::{FinishFault, GatherFault, Report, cause, holders_over};
 use std::alloc::Global;
+use std::thread::Threads;
 use store_shared::{Assembly, Seat};
 
 // The blob of a store whose seats were joined to this one, after one more round over all texts. The report is that of the
-// workers.
-pub(crate) fn hand_out(
+// workers, of which there are so many.
+pub(crate) fn hand_out<R: Threads + Sync>(
+    rt: &R,
     alloc: Global,
     assembly: &Assembly,
     seat: Seat,
+    workers: u32,
     texts: &[Vec<u8>],
     report: Report,
 ) -> Result<Vec<u8>, GatherFault>
     requires of { IsSeatOf assembly.now seat }
+    requires workers { 0 < workers }
     requires left { IsLeft (IsCutOf (map vec_items texts.now)) seat.view }
     requires failed { report.failed ≡ 0 }
     requires large { IsTrue report.too_large → IsTooLarge (IsCutOf (map vec_items texts.now)) (fixed_of assembly.now) }
@@ -53,7 +57,7 @@ pub(crate) fn hand_out(
         holders.as_mut_slice(),
         &mut report,
     );
-    let finished = finish(alloc, assembly, &mut seat);
+    let finished = finish_join(rt, alloc, assembly, &mut seat, workers);
     assembly.look_round(&mut seat);
     match finished {
         Ok(blob) => Ok(blob),

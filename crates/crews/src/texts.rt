@@ -94,7 +94,7 @@ fn gather_within<R: Threads + Sync>(
     let (mut crews, seat) = crews_over(alloc, &assembly, seat, workers, texts)?;
     let report = run(rt, alloc, &assembly, crews.as_mut_slice(), &Open);
     let seat = all_joined(&assembly, seat, crews);
-    match hand_out(alloc, &assembly, seat, texts, report) {
+    match hand_out(rt, alloc, &assembly, seat, workers, texts, report) {
         Ok(blob) => Ok(blob),
         Err(fault) => Err(CrewsFault::Gather(fault)),
     }

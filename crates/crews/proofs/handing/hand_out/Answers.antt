@@ -22,68 +22,68 @@ use Rattle.store_core.specs.Histories.{IsLegal, state_after}
 use Rattle.store_shared.specs.Seats.{fixed_of}
 
 pub returns-in-Err-NotTheRoot-clause-none : goal.returns-in-Err-NotTheRoot-clause-none
-returns-in-Err-NotTheRoot-clause-none c = λ _ blob is.
-    let told : IsErrOf c.finish-finished.result finishing.NotTheRoot = grind arith in
+returns-in-Err-NotTheRoot-clause-none g c = λ _ blob is.
+    let told : IsErrOf c.finish_join-finished.result finishing.NotTheRoot = grind arith in
     let texts = map vec_items c.args.texts.now in
     let over : map encoding c.as_mut_slice.result.now ≡ texts = ap (λ (all : List Encoded). map encoding all) c.as_mut_slice.ensures.value ∙ c.in-Ok.ensures in
     let met = c.closing_round.ensures in
-    let from = cuts texts (fixed_of c.args.assembly.now) c.args.seat c.closing_round.new.seat c.finish-finished.new.seat.view c.look_round.new.seat.view c.as_mut_slice.result.now
+    let from = cuts texts (fixed_of c.args.assembly.now) c.args.seat c.closing_round.new.seat c.finish_join-finished.new.seat.view c.look_round.new.seat.view c.as_mut_slice.result.now
     c.closing_round.new.holders c.args.report c.closing_round.new.report over c.requires.of.knows.fixed_is met.of.knows.fixed_is c.requires.left met.reports met.alone
-    c.finish-finished.ensures.asks c.look_round.ensures.looked in
-    pair_of (IsCutOf texts) (fixed_of c.args.assembly.now) c.finish-finished.new.seat.view.seen blob from
-    (c.finish-finished.ensures.none told blob is)
+    c.finish_join-finished.ensures.asks c.look_round.ensures.looked in
+    pair_of (IsCutOf texts) (fixed_of c.args.assembly.now) c.finish_join-finished.new.seat.view.seen blob from
+    (c.finish_join-finished.ensures.none told blob is)
 
 pub returns-in-Err-Unfinished-clause-too_large : goal.returns-in-Err-Unfinished-clause-too_large
-returns-in-Err-Unfinished-clause-too_large c = λ e.
+returns-in-Err-Unfinished-clause-too_large g c = λ e.
     let texts = map vec_items c.args.texts.now in
     let over : map encoding c.as_mut_slice.result.now ≡ texts = ap (λ (all : List Encoded). map encoding all) c.as_mut_slice.ensures.value ∙ c.in-Ok.ensures in
     let met = c.closing_round.ensures in
     let same : c.cause.result ≡ cause_of c.closing_round.new.report = c.cause.ensures in
     let large : TooLarge ≡ cause_of c.closing_round.new.report = cc in
-    large_cut texts (fixed_of c.args.assembly.now) c.args.seat c.closing_round.new.seat c.finish-finished.new.seat.view c.look_round.new.seat.view c.as_mut_slice.result.now
+    large_cut texts (fixed_of c.args.assembly.now) c.args.seat c.closing_round.new.seat c.finish_join-finished.new.seat.view c.look_round.new.seat.view c.as_mut_slice.result.now
     c.closing_round.new.holders c.args.report c.closing_round.new.report over c.requires.of.knows.fixed_is met.of.knows.fixed_is c.requires.left met.reports met.alone
-    c.finish-finished.ensures.asks c.look_round.ensures.looked c.requires.large (is_large c.closing_round.new.report large)
+    c.finish_join-finished.ensures.asks c.look_round.ensures.looked c.requires.large (is_large c.closing_round.new.report large)
 
 pub returns-in-Err-Unfinished-clause-longer : goal.returns-in-Err-Unfinished-clause-longer
-returns-in-Err-Unfinished-clause-longer c = λ e.
+returns-in-Err-Unfinished-clause-longer g c = λ e.
     are_longer accepted_binds (IsCutOf (map vec_items c.args.texts.now)) (fixed_of c.args.assembly.now)
-    (subst (λ (mode : Mode). IsKeyed mode) c.mode.ensures c.is_keyed.ensures) (returns-in-Err-Unfinished-clause-too_large c e)
+    (subst (λ (mode : Mode). IsKeyed mode) c.mode.ensures c.is_keyed.ensures) (returns-in-Err-Unfinished-clause-too_large g c e)
 
 pub returns-in-Err-Unfinished-clause-available : goal.returns-in-Err-Unfinished-clause-available
-returns-in-Err-Unfinished-clause-available c = λ blob i is room there.
+returns-in-Err-Unfinished-clause-available g c = λ blob i is room there.
     let texts = map vec_items c.args.texts.now in
     let over : map encoding c.as_mut_slice.result.now ≡ texts = ap (λ (all : List Encoded). map encoding all) c.as_mut_slice.ensures.value ∙ c.in-Ok.ensures in
     let met = c.closing_round.ensures in
     let keyed = subst (λ (mode : Mode). IsKeyed mode) c.mode.ensures c.is_keyed.ensures in
-    let of = c.finish-finished.ensures.of in
-    let legal : IsLegal (fixed_of c.args.assembly.now) c.finish-finished.new.seat.view.seen =
-    subst (λ (f : Fixed). IsLegal f c.finish-finished.new.seat.view.seen) of.knows.fixed_is of.knows.legal in
-    let told : IsErrOf c.finish-finished.result finishing.Unfinished = grind arith in
-    let unfinished = c.finish-finished.ensures.unfinished told in
-    elim (unfinished_handed texts (fixed_of c.args.assembly.now) c.args.seat c.closing_round.new.seat c.finish-finished.new.seat.view c.look_round.new.seat.view
+    let of = c.finish_join-finished.ensures.of in
+    let legal : IsLegal (fixed_of c.args.assembly.now) c.finish_join-finished.new.seat.view.seen =
+    subst (λ (f : Fixed). IsLegal f c.finish_join-finished.new.seat.view.seen) of.knows.fixed_is of.knows.legal in
+    let told : IsErrOf c.finish_join-finished.result finishing.Unfinished = grind arith in
+    let unfinished = c.finish_join-finished.ensures.unfinished told in
+    elim (unfinished_handed texts (fixed_of c.args.assembly.now) c.args.seat c.closing_round.new.seat c.finish_join-finished.new.seat.view c.look_round.new.seat.view
     c.as_mut_slice.result.now c.closing_round.new.holders c.args.report c.closing_round.new.report over c.requires.of.knows.fixed_is met.of.knows.fixed_is c.requires.left met.reports
-    met.alone c.finish-finished.ensures.asks c.look_round.ensures.looked blob i keyed is room c.args.assembly.now.words.limit there legal c.requires.failed c.requires.large
+    met.alone c.finish_join-finished.ensures.asks c.look_round.ensures.looked blob i keyed is room c.args.assembly.now.words.limit there legal c.requires.failed c.requires.large
     (λ slices has. met.served blob slices has) unfinished) [
       | inl excused ↦ inl (subst (λ (fault : GatherFault). IsExcused fault) (sym c.cause.ensures) excused)
       | inr pair ↦ inr pair
     ]
 
 pub returns-in-Err-NotTheRoot-clause-available : goal.returns-in-Err-NotTheRoot-clause-available
-returns-in-Err-NotTheRoot-clause-available c = λ blob i is room there. inr (returns-in-Err-NotTheRoot-clause-none c refl blob is)
+returns-in-Err-NotTheRoot-clause-available g c = λ blob i is room there. inr (returns-in-Err-NotTheRoot-clause-none g c refl blob is)
 
 pub returns-in-Ok-finished-clause-available : goal.returns-in-Ok-finished-clause-available
-returns-in-Ok-finished-clause-available c = λ blob i is room there.
+returns-in-Ok-finished-clause-available g c = λ blob i is room there.
     let texts = map vec_items c.args.texts.now in
     let over : map encoding c.as_mut_slice.result.now ≡ texts = ap (λ (all : List Encoded). map encoding all) c.as_mut_slice.ensures.value ∙ c.in-Ok.ensures in
     let met = c.closing_round.ensures in
     let keyed = subst (λ (mode : Mode). IsKeyed mode) c.mode.ensures c.is_keyed.ensures in
-    let of = c.finish-finished.ensures.of in
-    let legal : IsLegal (fixed_of c.args.assembly.now) c.finish-finished.new.seat.view.seen =
-    subst (λ (f : Fixed). IsLegal f c.finish-finished.new.seat.view.seen) of.knows.fixed_is of.knows.legal in
-    let from = cuts texts (fixed_of c.args.assembly.now) c.args.seat c.closing_round.new.seat c.finish-finished.new.seat.view c.look_round.new.seat.view c.as_mut_slice.result.now
+    let of = c.finish_join-finished.ensures.of in
+    let legal : IsLegal (fixed_of c.args.assembly.now) c.finish_join-finished.new.seat.view.seen =
+    subst (λ (f : Fixed). IsLegal f c.finish_join-finished.new.seat.view.seen) of.knows.fixed_is of.knows.legal in
+    let from = cuts texts (fixed_of c.args.assembly.now) c.args.seat c.closing_round.new.seat c.finish_join-finished.new.seat.view c.look_round.new.seat.view c.as_mut_slice.result.now
     c.closing_round.new.holders c.args.report c.closing_round.new.report over c.requires.of.knows.fixed_is met.of.knows.fixed_is c.requires.left met.reports met.alone
-    c.finish-finished.ensures.asks c.look_round.ensures.looked in
-    let whole : IsWhole (state_after c.finish-finished.new.seat.view.seen) c.in-Ok-finished.blob.items =
-    subst (λ (r : Result (Vec ℕ Global) FinishFault). IfOk r (λ (bytes : Vec ℕ Global). IsWhole (state_after c.finish-finished.new.seat.view.seen) bytes.items))
-    c.in-Ok-finished.is c.finish-finished.ensures.whole in
-    whole_pair (IsCutOf texts) (fixed_of c.args.assembly.now) c.finish-finished.new.seat.view.seen blob c.in-Ok-finished.blob.items keyed is legal from whole
+    c.finish_join-finished.ensures.asks c.look_round.ensures.looked in
+    let whole : IsWhole (state_after c.finish_join-finished.new.seat.view.seen) c.in-Ok-finished.blob.items =
+    subst (λ (r : Result (Vec ℕ Global) FinishFault). IfOk r (λ (bytes : Vec ℕ Global). IsWhole (state_after c.finish_join-finished.new.seat.view.seen) bytes.items))
+    c.in-Ok-finished.is c.finish_join-finished.ensures.whole in
+    whole_pair (IsCutOf texts) (fixed_of c.args.assembly.now) c.finish_join-finished.new.seat.view.seen blob c.in-Ok-finished.blob.items keyed is legal from whole

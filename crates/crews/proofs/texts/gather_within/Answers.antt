@@ -31,7 +31,7 @@ all_joined-seat-requires-clause-crews g c =
     (all_each _ c.as_mut_slice.result.now c.run-report.new.crews (λ x y worked. worked.of) c.run-report.ensures.each)
 
 pub hand_out-requires-clause-left : goal.hand_out-requires-clause-left
-hand_out-requires-clause-left g c =
+hand_out-requires-clause-left g c = λ _ _.
     let put = with_items_is c.in_ok-crews.crews c.run-report.new.crews (omega (arith, c.run-report.ensures.each.len, c.as_mut_slice.ensures.len)) in
     let texts = map vec_items c.args.texts.now in
     let given : SeatView = c.in_ok-assembly.seat.view in
@@ -56,7 +56,7 @@ pub hand_out-requires-clause-failed : goal.hand_out-requires-clause-failed
 hand_out-requires-clause-failed g c = omega (arith, c.run-report.ensures.failed, no_faults c.run-report.new.crews)
 
 pub hand_out-requires-clause-large : goal.hand_out-requires-clause-large
-hand_out-requires-clause-large g c = λ large.
+hand_out-requires-clause-large g c = λ _ _ large.
     let crews = c.as_mut_slice.result.now in
     let texts = map vec_items c.args.texts.now in
     let over : All (λ (crew : Crew Encoded). map encoding crew.holders.items ≡ texts) crews =
