@@ -1,33 +1,31 @@
 -- What the seat with which all others were joined hands out.
-use Rattle.std.proofs.Common.{◌≡◌, ◌⊎◌, ℕ, ◌/◌, ◌<◌, ◌≤◌, IsTrue, false, map, slice_get, true, List, [], ◌∷◌, ◌++◌, append_assoc, length, Contains, None, Some, sym, ap, subst, ◌∙◌, arith, inl, inr}
+use Rattle.std.proofs.Common.{◌≡◌, ◌⊎◌, ℕ, ◌/◌, ◌<◌, ◌≤◌, IsTrue, false, true, List, [], ◌∷◌, ◌++◌, append_assoc, length, Contains, None, Some, refl, sym, ap, subst, ◌∙◌, arith, inl, inr}
 use Rattle.std.specs.List.{sum_by}
 use Rattle.std.proofs.lemmas.Bool.{both_ways}
 use Rattle.std.proofs.lemmas.List.Elements.{Contains-append_cases}
+use Rattle.std.proofs.lemmas.List.Sums.{sum_by-cons}
 use Rattle.b3tree.specs.Valid.{IsKeyed}
 use Rattle.bao_check.proofs.Laws.{accepted_binds}
 use Rattle.bao_check.proofs.Lists.{All-from_members, All-member, Contains-cons_cases}
 use Rattle.bao_text.specs.Choice.{chunk_count}
-use Rattle.bao_text.specs.Texts.{combined_text}
 use Rattle.crews.specs.Closing.{CallsAreFrom, IsLeft}
 use Rattle.crews.specs.Finished.{Asks}
 use Rattle.crews.specs.Going.{goes}
 use Rattle.crews.specs.Lasting.{Claims, HoldsOn, IsAlone, Records}
 use Rattle.crews.specs.Seats.{GoneOn, claims_of, fixed_of as fixed_at}
 use Rattle.crews.proofs.Alone.{seen_own}
-use Rattle.gather.specs.declared.holder.Encoded.{Encoded}
 use Rattle.gather.specs.declared.report.Report.{Report}
 use Rattle.gather.specs.Available.{HasTrue, IsFilled, IsServed}
 use Rattle.gather.specs.Counts.{HasFailed, Reports}
-use Rattle.gather.specs.Encodings.{IsCut, IsCutOf, encoding}
 use Rattle.gather.specs.Faults.{cause_of}
 use Rattle.gather.specs.Finished.{IsNamedIn, IsUnfinished, IsWhole}
 use Rattle.gather.specs.HandedOut.{IsExcused}
 use Rattle.gather.specs.Holders.{IsHanded}
 use Rattle.gather.specs.Large.{HasPair, IsTooLarge}
 use Rattle.gather.specs.Worked.{AreFrom, IsFrom}
-use Rattle.gather.proofs.Binding.{are_longer, handed_cut, pair_of, some_bytes}
+use Rattle.gather.proofs.Binding.{are_longer, pair_of, some_bytes}
 use Rattle.gather.proofs.Finishing.{some_same}
-use Rattle.gather.proofs.Handing.{byte_there, cause_handed, encoding_true, never_failed, whole_binds}
+use Rattle.gather.proofs.Handing.{byte_there, cause_handed, whole_binds}
 use Rattle.gather.proofs.Reporting.{large_wider}
 use Rattle.gather.proofs.Served.{served}
 use Rattle.store_core.specs.declared.fixed.Fixed.{Fixed}
@@ -149,46 +147,51 @@ large_pair handed fixed blob keyed is room large = elim (are_longer accepted_bin
   | inr pair ↦ pair
 ]
 
--- A closing round over texts of which one is the blob's encoding, and what its seat finds afterwards: memory was refused, or a
--- pair is named.
-module _ (texts : List (List ℕ)) (fixed : Fixed) (start seat : Gripped) (finished round : SeatView) (holders later : List Encoded) (report report' : Report)
-    (over : map encoding holders ≡ texts) (of_start : start.view.fixed ≡ fixed) (of_seat : seat.view.fixed ≡ fixed) (left : IsLeft (IsCutOf texts) start.view)
-    (reports : Reports fixed_at GoneOn start seat (IsHanded IsCut holders) (IsHanded IsCut later) (sum_by (λ (h : Encoded). 0) holders) (sum_by (λ (h : Encoded). 0) later) report report')
+-- no device of holders that count no fault fails
+pub none_failed : {H : Type 0} (count : H → ℕ) → ((holder : H) → count holder ≡ 0) → (holders : List H) → sum_by count holders ≡ 0
+none_failed count quiet [] = refl
+none_failed count quiet (x ∷ holders) = omega (arith, sum_by-cons count x holders, quiet x, none_failed count quiet holders)
+
+-- A closing round over holders of which one gives nothing but the blob's slices, and what its seat finds afterwards: memory was
+-- refused, or a pair is named.
+module _ (H : Type 0) (gives : H → ℕ → ℕ → List ℕ → Type 0) (count : H → ℕ) (handed : Piece → Type 0) (fixed : Fixed) (start seat : Gripped) (finished round : SeatView)
+    (holders later : List H) (report report' : Report) (wide : (piece : Piece) → IsHanded gives holders piece → handed piece)
+    (of_start : start.view.fixed ≡ fixed) (of_seat : seat.view.fixed ≡ fixed) (left : IsLeft handed start.view)
+    (reports : Reports fixed_at GoneOn start seat (IsHanded gives holders) (IsHanded gives later) (sum_by count holders) (sum_by count later) report report')
     (alone : IsAlone seat.view) (asks : Asks seat.view finished) (looked : LooksRound finished round) where
-  -- each call that was made is of a piece cut out of one of the texts
-  pub cuts : AreFrom (IsCutOf texts) finished.seen
+  -- each call that was made is of a piece that was handed over
+  pub cuts : AreFrom handed finished.seen
   cuts =
-      let gone : GoneOn (IsCutOf texts) start seat reports.chunks reports.parents =
-      goes.wider (IsHanded IsCut holders) (IsCutOf texts) (handed_cut holders texts over) start seat reports.chunks reports.parents reports.gains in
-      all_from (IsCutOf texts) seat.view finished round alone.all (calls_on (IsCutOf texts) start seat reports.chunks reports.parents gone left.from) asks looked
+      let gone : GoneOn handed start seat reports.chunks reports.parents =
+      goes.wider (IsHanded gives holders) handed wide start seat reports.chunks reports.parents reports.gains in
+      all_from handed seat.view finished round alone.all (calls_on handed start seat reports.chunks reports.parents gone left.from) asks looked
 
   -- a length that is too large is certified by one
-  pub large_cut : (IsTrue report.too_large → IsTooLarge (IsCutOf texts) fixed) → IsTrue report'.too_large → IsTooLarge (IsCutOf texts) fixed
+  pub large_cut : (IsTrue report.too_large → IsTooLarge handed fixed) → IsTrue report'.too_large → IsTooLarge handed fixed
   large_cut before large = elim (reports.too_large large) [
     | inl was ↦ before was
     | inr is ↦
-        subst (λ (f : Fixed). IsTooLarge (IsCutOf texts) f) of_start
-        (large_wider (IsHanded IsCut holders) (IsCutOf texts) (handed_cut holders texts over) start.view.fixed is)
+        subst (λ (f : Fixed). IsTooLarge handed f) of_start
+        (large_wider (IsHanded gives holders) handed wide start.view.fixed is)
   ]
 
-  pub unfinished_handed : (blob : List ℕ) (i : ℕ) → IsKeyed fixed.mode → IsBlob fixed blob → chunk_count (length blob) ≤ fixed.capacity → fixed.capacity ≤ 65536
-      → slice_get texts i ≡ Some (combined_text fixed.mode blob) → IsLegal fixed finished.seen → report.failed ≡ 0
-      → (IsTrue report.too_large → IsTooLarge (IsCutOf texts) fixed)
-      → (IsServed start.view.fixed blob → HasTrue IsCut start.view.fixed.mode blob holders
-      → HasFailed report' ⊎ IsTooLarge (IsHanded IsCut holders) start.view.fixed ⊎ IsFilled Records HoldsOn Claims start seat blob)
-      → IsUnfinished (state_after finished.seen) → IsExcused (cause_of report') ⊎ HasPair (IsCutOf texts) fixed blob
-  unfinished_handed blob i keyed is room limit there legal no_fault before met unfinished =
-      let P : Type 0 = HasPair (IsCutOf texts) fixed blob in
+  pub unfinished_handed : (blob : List ℕ) → ((holder : H) → count holder ≡ 0) → IsKeyed fixed.mode → IsBlob fixed blob → chunk_count (length blob) ≤ fixed.capacity
+      → fixed.capacity ≤ 65536 → HasTrue gives fixed.mode blob holders → IsLegal fixed finished.seen → report.failed ≡ 0
+      → (IsTrue report.too_large → IsTooLarge handed fixed)
+      → (IsServed start.view.fixed blob → HasTrue gives start.view.fixed.mode blob holders
+      → HasFailed report' ⊎ IsTooLarge (IsHanded gives holders) start.view.fixed ⊎ IsFilled Records HoldsOn Claims start seat blob)
+      → IsUnfinished (state_after finished.seen) → IsExcused (cause_of report') ⊎ HasPair handed fixed blob
+  unfinished_handed blob quiet keyed is room limit has legal no_fault before met unfinished =
+      let P : Type 0 = HasPair handed fixed blob in
       let slices : IsServed fixed blob = served fixed blob keyed is room limit in
-      let has : HasTrue IsCut fixed.mode blob holders = encoding_true holders texts fixed.mode blob i over (omega (arith, room, limit)) there in
-      let more : IsTooLarge (IsHanded IsCut holders) start.view.fixed → P =
+      let more : IsTooLarge (IsHanded gives holders) start.view.fixed → P =
       (λ large.
-      large_pair (IsCutOf texts) fixed blob keyed is room (subst (λ (f : Fixed). IsTooLarge (IsCutOf texts) f) of_start
-      (large_wider (IsHanded IsCut holders) (IsCutOf texts) (handed_cut holders texts over) start.view.fixed large))) in
-      cause_handed report' P (λ none large. large_pair (IsCutOf texts) fixed blob keyed is room (large_cut before large)) (λ none not_large.
-      elim (met (subst (λ (f : Fixed). IsServed f blob) (sym of_start) slices) (subst (λ (f : Fixed). HasTrue IsCut f.mode blob holders) (sym of_start) has)) [
+      large_pair handed fixed blob keyed is room (subst (λ (f : Fixed). IsTooLarge handed f) of_start
+      (large_wider (IsHanded gives holders) handed wide start.view.fixed large))) in
+      cause_handed report' P (λ none large. large_pair handed fixed blob keyed is room (large_cut before large)) (λ none not_large.
+      elim (met (subst (λ (f : Fixed). IsServed f blob) (sym of_start) slices) (subst (λ (f : Fixed). HasTrue gives f.mode blob holders) (sym of_start) has)) [
         | inl (inl memory) ↦ absurd (omega (arith, memory, none))
-        | inl (inr failed) ↦ absurd (omega (arith, failed, reports.failed, no_fault, never_failed later))
+        | inl (inr failed) ↦ absurd (omega (arith, failed, reports.failed, no_fault, none_failed count quiet later))
         | inr (inl large) ↦ more large
-        | inr (inr filled) ↦ unfinished_pair (IsCutOf texts) fixed start seat finished blob of_seat keyed is legal left.unclaimed filled asks cuts unfinished
+        | inr (inr filled) ↦ unfinished_pair handed fixed start seat finished blob of_seat keyed is legal left.unclaimed filled asks cuts unfinished
       ])

@@ -9,3 +9,4 @@ pub mod Uniting
 pub mod Alone
 pub mod Whence
 pub mod HandingOut
+pub mod Lending

@@ -1,4 +1,4 @@
--- What workers over texts leave to the seat with which theirs were joined: each piece is cut out of one of the texts.
+-- What workers leave to the seat with which theirs were joined: each piece is one that was handed over.
 use Rattle.std.proofs.Common.{◌≡◌, ℕ, suc, ◌<◌, true, false, List, [], ◌∷◌, ◌++◌, length, map, get_or, Contains, refl, sym, ap, subst, ◌∙◌, arith, inl, inr}
 use Rattle.std.specs.List.{All}
 use Rattle.std.proofs.lemmas.Bool.{both_ways, false_from_ne_true}
@@ -9,15 +9,14 @@ use Rattle.crews.specs.Closing.{IsLeft}
 use Rattle.crews.specs.Crews.{Each, Worked, all_faults, faults_of}
 use Rattle.crews.specs.Joined.{AreCallsOf, AreClaimsOf, HasAllNamesOf, HaveAllNames, names_in}
 use Rattle.crews.specs.Seats.{BeginsAfter, KeepsItsOwn}
-use Rattle.gather.specs.declared.holder.Encoded.{Encoded}
-use Rattle.gather.specs.Encodings.{IsCut, IsCutOf, encoding}
+use Rattle.crews.proofs.HandingOut.{none_failed}
+use Rattle.crews.proofs.OfNone.{AreLent}
 use Rattle.gather.specs.Holders.{IsHanded}
 use Rattle.gather.specs.Worked.{IsFrom}
 use Rattle.gather.specs.Working.{from_wider}
-use Rattle.gather.proofs.Binding.{handed_cut}
-use Rattle.gather.proofs.Handing.{never_failed}
 use Rattle.store_core.specs.declared.fixed.Fixed.{Fixed}
 use Rattle.store_core.specs.declared.history.Event.{Event}
+use Rattle.store_core.specs.declared.history.Piece.{Piece}
 use Rattle.store_core.specs.declared.view.Named.{Named}
 use Rattle.store_core.specs.declared.view.SeatView.{SeatView}
 use Rattle.store_core.specs.Histories.{events_of, state_after}
@@ -50,11 +49,11 @@ opening_all fixed view is =
       ];
     })
 
--- no device of texts fails
-pub no_faults : (crews : List (Crew Encoded)) → all_faults (λ (holder : Encoded). 0) crews ≡ 0
-no_faults [] = refl
-no_faults (crew ∷ crews) =
-    omega (arith, sum_by-cons (faults_of (λ (holder : Encoded). 0)) crew crews, never_failed crew.holders.items, no_faults crews)
+-- no device of holders that count no fault fails
+pub no_faults : {H : Type 0} (count : H → ℕ) → ((holder : H) → count holder ≡ 0) → (crews : List (Crew H)) → all_faults count crews ≡ 0
+no_faults count quiet [] = refl
+no_faults count quiet (crew ∷ crews) =
+    omega (arith, sum_by-cons (faults_of count) crew crews, none_failed count quiet crew.holders.items, no_faults count quiet crews)
 
 -- a seat that has seen nothing has made no call
 no_calls : (view : SeatView) → view.seen ≡ [] → mine view ≡ []
@@ -63,36 +62,36 @@ no_calls view none = ap (λ (h : List Event). events_of (names_of view) h) none
 never_among : (events : List Event) (e : Event) → events ≡ [] → Contains events e → ⊥
 never_among events e none h = let there : Contains [] e = subst (λ (es : List Event). Contains es e) none h in omega (arith, there.1)
 
-module _ (texts : List (List ℕ)) (assembly : Assembly) (count : Encoded → ℕ) (given : SeatView) (before after : List (Crew Encoded))
-    (none : given.seen ≡ []) (begins : All (λ (crew : Crew Encoded). BeginsAfter given crew.seat.view) before)
-    (over : All (λ (crew : Crew Encoded). map encoding crew.holders.items ≡ texts) before) (each : Each (Worked assembly IsCut count) before after) where
+module _ (H : Type 0) (gives : H → ℕ → ℕ → List ℕ → Type 0) (count : H → ℕ) (handed : Piece → Type 0) (assembly : Assembly) (given : SeatView) (before after : List (Crew H))
+    (none : given.seen ≡ []) (begins : All (λ (crew : Crew H). BeginsAfter given crew.seat.view) before)
+    (wide : AreLent gives handed before) (each : Each (Worked assembly gives count) before after) where
   -- what a crew called, and by which names
-  crew_from : (i : ℕ) (d : Crew Encoded) → i < length before → (e : Event) → Contains (mine (get_or after i d).seat.view) e
-      → IsFrom (IsCutOf texts) e.call × (e.who ≡ names_of (get_or after i d).seat.view)
+  crew_from : (i : ℕ) (d : Crew H) → i < length before → (e : Event) → Contains (mine (get_or after i d).seat.view) e
+      → IsFrom handed e.call × (e.who ≡ names_of (get_or after i d).seat.view)
   crew_from i d below e h =
-      let old : Crew Encoded = get_or before i d in
-      let new : Crew Encoded = get_or after i d in
+      let old : Crew H = get_or before i d in
+      let new : Crew H = get_or after i d in
       let gone = (each.each i d below).reports.gains in
       let nothing : mine old.seat.view ≡ [] = no_calls old.seat.view ((begins i d below).seen_is ∙ none) in
       let own : mine new.seat.view ≡ gone.own = gone.mine_is ∙ ap (λ (es : List Event). es ++ gone.own) nothing in
       let there : Contains gone.own e = subst (λ (es : List Event). Contains es e) own h in (
-        All-member (λ (x : Event). IsFrom (IsCutOf texts) x.call) gone.own
-            (from_wider (IsHanded IsCut old.holders.items) (IsCutOf texts) (handed_cut old.holders.items texts (over i d below)) gone.own gone.from) e there,
+        All-member (λ (x : Event). IsFrom handed x.call) gone.own
+            (from_wider (IsHanded gives old.holders.items) handed (wide i d below) gone.own gone.from) e there,
         All-member (λ (x : Event). x.who ≡ names_of old.seat.view) gone.own gone.by e there
             ∙ ap (λ (ns : List Named). map (λ (named : Named). named.name) ns) (sym gone.names_are),
       )
 
   -- what the joined seat called
   joined_from : (stays joined : SeatView) → KeepsItsOwn given stays → AreCallsOf stays after joined → HasAllNamesOf stays after joined → (e : Event)
-      → Contains (mine joined) e → IsFrom (IsCutOf texts) e.call × ((name : Name) → has_name e.who name ≡ true → has_name (names_of joined) name ≡ true)
+      → Contains (mine joined) e → IsFrom handed e.call × ((name : Name) → has_name e.who name ≡ true → has_name (names_of joined) name ≡ true)
   joined_from stays joined keeps calls has e h = elim (calls e h) [
     | inl ours ↦ absurd (never_among (mine stays) e (no_calls stays (ap (λ (v : SeatView). v.seen) keeps.rest_is ∙ none)) ours)
     | inr of ↦
         let i : ℕ = of.among.0 in
         let below : i < length before = omega (arith, of.among.1, each.len) in
-        let its = crew_from i of.crew below e (subst (λ (crew : Crew Encoded). Contains (mine crew.seat.view) e) (sym of.among.2) of.call) in (
+        let its = crew_from i of.crew below e (subst (λ (crew : Crew H). Contains (mine crew.seat.view) e) (sym of.among.2) of.call) in (
           its.0,
-          λ name by. has.1 of.crew of.among name (subst (λ (crew : Crew Encoded). has_name (names_of crew.seat.view) name ≡ true) of.among.2
+          λ name by. has.1 of.crew of.among name (subst (λ (crew : Crew H). has_name (names_of crew.seat.view) name ≡ true) of.among.2
               (subst (λ (who : List Name). has_name who name ≡ true) its.1 by)),
         )
   ]
@@ -107,12 +106,12 @@ module _ (texts : List (List ℕ)) (assembly : Assembly) (count : Encoded → �
         let i : ℕ = of.among.0 in
         let below : i < length before = omega (arith, of.among.1, each.len) in
         let now : seat_claims (get_or after i of.crew).seat.view c ≡ true =
-        subst (λ (crew : Crew Encoded). seat_claims crew.seat.view c ≡ true) (sym of.among.2) of.claims in
+        subst (λ (crew : Crew H). seat_claims crew.seat.view c ≡ true) (sym of.among.2) of.claims in
         absurd (both_ways _ ((begins i of.crew below).no_claims c) ((each.each i of.crew below).claimed c now))
   ])
 
   pub left_to_one : (stays joined : SeatView) → KeepsItsOwn given stays → HaveAllNames stays before → (HaveAllNames stays after → AreAllNames joined.names)
-      → AreCallsOf stays after joined → HasAllNamesOf stays after joined → AreClaimsOf stays after joined → IsLeft (IsCutOf texts) joined
+      → AreCallsOf stays after joined → HasAllNamesOf stays after joined → AreClaimsOf stays after joined → IsLeft handed joined
   left_to_one stays joined keeps all names calls has claim =
       let same : names_in after ≡ names_in before = names_each before after each.len (λ i d below. (each.each i d below).reports.gains.names_are) in
       record {

@@ -11,6 +11,7 @@ use Rattle.store_core.specs.declared.fixed.Fixed.{Fixed}
 use Rattle.store_core.specs.declared.history.Event.{Event}
 use Rattle.store_core.specs.declared.history.Piece.{Piece}
 use Rattle.store_core.specs.declared.view.SeatView.{SeatView}
+use Rattle.store_core.specs.Laws.{IsBlob}
 use Rattle.store_core.specs.Views.{mine, seat_claims}
 
 -- the seat's calls are of pieces that were handed over
@@ -32,3 +33,7 @@ IsExcused (Gather fault) = IsExcusedOfTexts fault
 -- it is this blob, or the fault isn't one of the texts, or a pair is named from the blob and a piece that was handed over
 abbrev pub IsHandedOut : (Piece → Type 0) → Fixed → List ℕ → Result (Vec ℕ Global) CrewsFault → Type 0
 IsHandedOut handed fixed blob result = MatchResult result (λ bytes. bytes.items ≡ blob) IsExcused ⊎ HasPair handed fixed blob
+
+-- the bytes are each blob's with the root, or a pair is named from it and a piece that was handed over
+abbrev pub AreTheBlob : (Piece → Type 0) → Fixed → List ℕ → Type 0
+AreTheBlob handed fixed bytes = (blob : List ℕ) → IsBlob fixed blob → (bytes ≡ blob) ⊎ HasPair handed fixed blob

@@ -8,3 +8,4 @@ pub mod Peers
 pub mod Joined
 pub mod Beside
 pub mod Closing
+pub mod Lists

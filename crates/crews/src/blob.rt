@@ -1,15 +1,76 @@
-ghost use Rattle.std.specs.Prelude.{◌≡◌, ◌*◌, ◌≤◌, Err, IfOk, IsErrOf, None, length};
+ghost use Rattle.std.specs.Prelude.{◌≡◌, ◌≢◌, ◌*◌, ◌<◌, ◌≤◌, Err, IfOk, IsErrOf, None, length, max};
+ghost use Rattle.std.specs.Int.{div_ceil};
 ghost use Rattle.b3tree.specs.Hashing.{hash};
-ghost use Rattle.gather.specs.declared.fault.FinishFault.TheVariants.{NotTheRoot, Unfinished};
+ghost use Rattle.gather.specs.declared.fault.FinishFault.TheVariants.{Memory, NotTheRoot, Unfinished};
 ghost use Rattle.gather.specs.Finished.{IsOther, IsUnfinished, IsWhole};
 ghost use Rattle.store_core.specs.Histories.{state_after};
 ghost use Rattle.store_shared.specs.Seats.{IsSeatOf, fixed_of};
 ghost use Rattle.crews.specs.Finished.{Asks, BindsNone};
 
-use b3tree::hash;
+use b3par::hash_join;
+use b3tree::{CHUNK_LEN, Hash, hash};
 use gather::FinishFault;
 use std::alloc::Global;
+use std::thread::Threads;
 use store_shared::{Assembly, Seat};
+
+// Fewer chunks than these aren't worth a thread of their own.
+const LEAST_GRAIN: u64 = 256;
+
+// How many chunks of so many bytes one thread hashes, where there are so many threads.
+fn grain_of(len: usize, workers: u32) -> u64
+    requires { 0 < workers }
+    ensures { result ≡ max (div_ceil (div_ceil len 1024) workers) 256 }
+{
+    let chunks = len.div_ceil(CHUNK_LEN) as u64;
+    chunks.div_ceil(u64::from(workers)).max(LEAST_GRAIN)
+}
+
+// All bytes of a shared store below its recorded length.
+fn read_all(alloc: Global, assembly: &Assembly, seat: &mut Seat) -> Result<Vec<u8>, FinishFault>
+    requires of { IsSeatOf assembly.now seat.old }
+    ensures of { IsSeatOf assembly.now seat.new }
+    ensures asks { Asks seat.old.view seat.new.view }
+    ensures whole { IfOk result (λ blob. IsWhole (state_after seat.new.view.seen) blob.items) }
+    ensures fits { IfOk result (λ blob. length blob.items ≤ 1024 * (fixed_of assembly.now).capacity) }
+    ensures no_length { (state_after seat.new.view.seen).recorded ≡ None → result ≡ Err Unfinished }
+    ensures unfinished { IsErrOf result Unfinished → IsUnfinished (state_after seat.new.view.seen) }
+    ensures never { result ≢ Err NotTheRoot }
+{
+    let length = match assembly.length(seat) {
+        Some(length) => length,
+        None => return Err(FinishFault::Unfinished),
+    };
+    let mut blob = vec![in alloc; 0u8; length as usize]?;
+    assembly.read(seat, 0, blob.as_mut_slice())?;
+    Ok(blob)
+}
+
+// All bytes of a shared store below its recorded length, once this hash of them is its root.
+fn certified(
+    assembly: &Assembly,
+    seat: &Seat,
+    bytes: Vec<u8>,
+    hashed: Hash,
+) -> Result<Vec<u8>, FinishFault>
+    requires of { IsSeatOf assembly.now seat.now }
+    requires whole { IsWhole (state_after seat.now.view.seen) bytes.items }
+    requires fits { length bytes.items ≤ 1024 * (fixed_of assembly.now).capacity }
+    requires hashed { hashed.0 ≡ hash (fixed_of assembly.now).mode bytes.items }
+    ensures root { IfOk result (λ blob. hash (fixed_of assembly.now).mode blob.items ≡ (fixed_of assembly.now).root.0) }
+    ensures whole { IfOk result (λ blob. IsWhole (state_after seat.now.view.seen) blob.items) }
+    ensures fits { IfOk result (λ blob. length blob.items ≤ 1024 * (fixed_of assembly.now).capacity) }
+    ensures other { IsErrOf result NotTheRoot → IsOther (fixed_of assembly.now) (state_after seat.now.view.seen) }
+    ensures none { IsErrOf result NotTheRoot → BindsNone (fixed_of assembly.now) seat.now.view.seen }
+    ensures finished { result ≢ Err Unfinished }
+    ensures memory { result ≢ Err Memory }
+{
+    assembly.mode().is_keyed();
+    if hashed != assembly.root() {
+        return Err(FinishFault::NotTheRoot);
+    }
+    Ok(bytes)
+}
 
 /// The blob of a shared store: all bytes below the recorded length, once their hash in the mode is its root.
 ///
@@ -30,16 +91,33 @@ pub fn finish(alloc: Global, assembly: &Assembly, seat: &mut Seat) -> Result<Vec
     ensures other { IsErrOf result NotTheRoot → IsOther (fixed_of assembly.now) (state_after seat.new.view.seen) }
     ensures none { IsErrOf result NotTheRoot → BindsNone (fixed_of assembly.now) seat.new.view.seen }
 {
-    let mode = assembly.mode();
-    mode.is_keyed();
-    let length = match assembly.length(seat) {
-        Some(length) => length,
-        None => return Err(FinishFault::Unfinished),
-    };
-    let mut blob = vec![in alloc; 0u8; length as usize]?;
-    assembly.read(seat, 0, blob.as_mut_slice())?;
-    if hash(&mode, blob.as_slice()) != assembly.root() {
-        return Err(FinishFault::NotTheRoot);
-    }
-    Ok(blob)
+    let blob = read_all(alloc, assembly, seat)?;
+    let hashed = hash(&assembly.mode(), blob.as_slice());
+    certified(assembly, seat, blob, hashed)
+}
+
+// The same, and so many threads hash the bytes.
+pub(crate) fn finish_join<R: Threads + Sync>(
+    rt: &R,
+    alloc: Global,
+    assembly: &Assembly,
+    seat: &mut Seat,
+    workers: u32,
+) -> Result<Vec<u8>, FinishFault>
+    requires workers { 0 < workers }
+    requires of { IsSeatOf assembly.now seat.old }
+    ensures of { IsSeatOf assembly.now seat.new }
+    ensures asks { Asks seat.old.view seat.new.view }
+    ensures root { IfOk result (λ blob. hash (fixed_of assembly.now).mode blob.items ≡ (fixed_of assembly.now).root.0) }
+    ensures whole { IfOk result (λ blob. IsWhole (state_after seat.new.view.seen) blob.items) }
+    ensures fits { IfOk result (λ blob. length blob.items ≤ 1024 * (fixed_of assembly.now).capacity) }
+    ensures no_length { (state_after seat.new.view.seen).recorded ≡ None → result ≡ Err Unfinished }
+    ensures unfinished { IsErrOf result Unfinished → IsUnfinished (state_after seat.new.view.seen) }
+    ensures other { IsErrOf result NotTheRoot → IsOther (fixed_of assembly.now) (state_after seat.new.view.seen) }
+    ensures none { IsErrOf result NotTheRoot → BindsNone (fixed_of assembly.now) seat.new.view.seen }
+{
+    let blob = read_all(alloc, assembly, seat)?;
+    let grain = grain_of(blob.len(), workers);
+    let joined = hash_join(rt, &assembly.mode(), blob.as_slice(), grain);
+    certified(assembly, seat, blob, joined)
 }

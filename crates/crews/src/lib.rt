@@ -4,22 +4,28 @@
 
 pub use b3par::{Gate, Open};
 pub use blob::finish;
-pub use copies::gather_copies;
+pub use copies::{gather_copies, gather_copies_at};
 pub use crew::Crew;
 pub use fault::CrewsFault;
 pub use peer::Peer;
 pub use runs::{run, run_bare};
+pub use sources::gather_sources;
 pub use texts::{crews_over, gather_texts};
 
 mod blob;
 mod closing;
 mod copies;
 mod crew;
+mod crewing;
 mod fault;
+mod gathering;
 mod handing;
 mod joining;
+mod lists;
 mod peer;
+mod places;
 mod rounds;
 mod runs;
 mod shared;
+mod sources;
 mod texts;

@@ -14,20 +14,16 @@ ghost use Rattle.crews.specs.Joined.{HaveAllNames};
 ghost use Rattle.crews.specs.Seats.{BeginsAfter, KeepsItsOwn};
 
 use crate::crew::Crew;
+use crate::crewing::crews_with;
 use crate::fault::CrewsFault;
-use crate::handing::hand_out;
-use crate::joining::all_joined;
-use crate::runs::run;
-use b3par::Open;
+use crate::gathering::gather_by;
+use crate::lists::Texts;
 use b3tree::{Hash, Mode};
-use gather::{Encoded, GatherFault, holders_over, room_for};
+use gather::{Encoded, GatherFault, room_for};
 use std::alloc::Global;
 use std::thread::Threads;
 use store_core::MAX_CAPACITY;
 use store_shared::{Assembly, Seat};
-
-// The most workers that gather.
-const MOST_WORKERS: u32 = 64;
 
 /// So many crews, each with a seat of its own that is split off this one, and holders over all texts in their order;
 /// and the seat that stays. The texts are not copied.
@@ -54,19 +50,7 @@ pub fn crews_over<'a>(
     ensures names { IfOk result (λ made. AreAllNames seat.view.names → HaveAllNames made.1.view made.0.items) }
     ensures fault { IfErr result (λ fault. (fault ≡ CrewsFault.Seat) ⊎ (fault ≡ Gather Starved)) }
 {
-    let starved = CrewsFault::Gather(GatherFault::Starved);
-    let mut crews = Vec::with_capacity(alloc, workers as usize).map_err(|_| starved)?;
-    let mut stays = seat;
-    for _ in 0..workers {
-        let (kept, own) = match assembly.split(stays) {
-            Ok(parts) => parts,
-            Err(_) => return Err(CrewsFault::Seat),
-        };
-        stays = kept;
-        let holders = holders_over(alloc, texts).map_err(|_| starved)?;
-        crews.push(Crew::new(own, holders)).map_err(|_| starved)?;
-    }
-    Ok((crews, stays))
+    crews_with(alloc, assembly, seat, workers, &Texts(texts))
 }
 
 // `gather_texts` by a store with room for `capacity` chunks.
@@ -89,15 +73,7 @@ fn gather_within<R: Threads + Sync>(
         → slice_get (map vec_items texts.now) i ≡ Some (combined_text mode blob)
         → IsHandedOut (IsCutOf (map vec_items texts.now)) (fixed_as root mode capacity) blob result }
 {
-    let (assembly, seat) = Assembly::new(alloc, root, mode, capacity)?;
-    let workers = workers.clamp(1, MOST_WORKERS);
-    let (mut crews, seat) = crews_over(alloc, &assembly, seat, workers, texts)?;
-    let report = run(rt, alloc, &assembly, crews.as_mut_slice(), &Open);
-    let seat = all_joined(&assembly, seat, crews);
-    match hand_out(alloc, &assembly, seat, texts, report) {
-        Ok(blob) => Ok(blob),
-        Err(fault) => Err(CrewsFault::Gather(fault)),
-    }
+    gather_by::<R, Encoded<'_>, Texts<'_>>(rt, alloc, root, mode, capacity, workers, &Texts(texts))
 }
 
 // Whether it was for want of room that no blob was gathered.

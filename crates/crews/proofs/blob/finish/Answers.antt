@@ -1,94 +1,14 @@
-use Rattle.std.proofs.Common.{◌≡◌, ◌*◌, ◌≤◌, ℕ, List, length, ap, arith, inl, inr, subst, sym, ◌∙◌}
-use Rattle.std.proofs.lemmas.List.{with_items_is}
+use Rattle.std.proofs.Common.{ℕ, List, ap, ◌∙◌}
 use Rattle.b3tree.specs.declared.mode.Mode.{Mode}
-use Rattle.b3tree.specs.declared.values.Hash.{Hash}
 use Rattle.b3tree.specs.Hashing.{hash}
-use Rattle.b3tree.specs.Valid.{IsKeyed}
-use Rattle.crews.proofs.Finishing.{asks_both, binds_none, differs, length_there, no_none, read_lacks, read_whole, recorded_fits, recorded_then}
+use Rattle.crews.proofs.Finishing.{no_none}
 use Rattle.crews.proofs.blob.finish.Goals as goal
-use Rattle.gather.specs.Finished.{IsWhole}
-use Rattle.store_core.specs.declared.fixed.Fixed.{Fixed}
-use Rattle.store_core.specs.Histories.{IsLegal, state_after}
 use Rattle.store_shared.specs.Seats.{fixed_of}
 
-pub returns-in-None-clause-unfinished : goal.returns-in-None-clause-unfinished
-returns-in-None-clause-unfinished c = λ _. inl (length_there _ _ _ c.in-None.ensures.called)
-
-pub returns-in_err-blob-clause-no_length : goal.returns-in_err-blob-clause-no_length
-returns-in_err-blob-clause-no_length c = λ none. absurd (no_none _ c.in-Some.length (length_there _ _ _ c.in-Some.ensures.called) none)
-
-pub returns-in_err-read-clause-asks : goal.returns-in_err-read-clause-asks
-returns-in_err-read-clause-asks c =
-    let long : length c.as_mut_slice.result.now ≡ c.in-Some.length = omega (arith, ap length c.as_mut_slice.ensures.value, c.in_ok-blob.ensures.len, c.in_ok-blob.blob.ok.0) in
-    asks_both _ _ _ c.as_mut_slice.result.now c.read.new.out c.in-Some.length _ long c.in-Some.ensures.called c.in_err-read.ensures.event
-
-pub returns-in_err-read-clause-unfinished : goal.returns-in_err-read-clause-unfinished
-returns-in_err-read-clause-unfinished c = λ _.
-    let long : length c.as_mut_slice.result.now ≡ c.in-Some.length = omega (arith, ap length c.as_mut_slice.ensures.value, c.in_ok-blob.ensures.len, c.in_ok-blob.blob.ok.0) in
-    inr (read_lacks _ _ _ c.as_mut_slice.result.now c.read.new.out _ c.in-Some.length long c.in-Some.ensures.called c.in_err-read.ensures.event)
-
-pub returns-then-ne-clause-asks : goal.returns-then-ne-clause-asks
-returns-then-ne-clause-asks c =
-    let long : length c.as_mut_slice.result.now ≡ c.in-Some.length = omega (arith, ap length c.as_mut_slice.ensures.value, c.in_ok-blob.ensures.len, c.in_ok-blob.blob.ok.0) in
-    asks_both _ _ _ c.as_mut_slice.result.now c.read.new.out c.in-Some.length _ long c.in-Some.ensures.called c.in_ok-read.ensures.event
-
-pub returns-then-ne-clause-no_length : goal.returns-then-ne-clause-no_length
-returns-then-ne-clause-no_length c = λ none.
-    absurd (no_none _ c.in-Some.length (recorded_then _ _ _ c.in-Some.length _ _ _ c.in-Some.ensures.called c.in_ok-read.ensures.event.called) none)
-
-pub returns-then-ne-clause-other : goal.returns-then-ne-clause-other
-returns-then-ne-clause-other c = λ _.
-    let long : length c.as_mut_slice.result.now ≡ c.in-Some.length = omega (arith, ap length c.as_mut_slice.ensures.value, c.in_ok-blob.ensures.len, c.in_ok-blob.blob.ok.0) in
-    let whole : IsWhole (state_after c.read.new.seat.view.seen) c.read.new.out =
-    read_whole _ _ _ c.as_mut_slice.result.now c.read.new.out c.in-Some.length long c.in-Some.ensures.called c.in_ok-read.ensures.event in
-    let put : c.as_slice.result.now ≡ c.read.new.out = c.as_slice.ensures.value ∙ with_items_is c.in_ok-blob.blob c.read.new.out
-    (omega (arith, c.read.auto.out, ap length c.as_mut_slice.ensures.value)) in
-    record {
-      bytes = c.as_slice.result.now;
-      whole = subst (λ (xs : List ℕ). IsWhole (state_after c.read.new.seat.view.seen) xs) (sym put) whole;
-      hashed = λ same. differs c.hash.result.0 c.root.result.0 c.if-ne.ensures
-          (c.hash.ensures.value ∙ ap (λ (mode : Mode). hash mode c.as_slice.result.now) c.mode-mode.ensures ∙ same ∙ sym (ap (λ (root : Hash). root.0) c.root.ensures));
-    }
-
-pub returns-then-ne-clause-none : goal.returns-then-ne-clause-none
-returns-then-ne-clause-none c = λ _.
-    let long : length c.as_mut_slice.result.now ≡ c.in-Some.length = omega (arith, ap length c.as_mut_slice.ensures.value, c.in_ok-blob.ensures.len, c.in_ok-blob.blob.ok.0) in
-    let whole : IsWhole (state_after c.read.new.seat.view.seen) c.read.new.out =
-    read_whole _ _ _ c.as_mut_slice.result.now c.read.new.out c.in-Some.length long c.in-Some.ensures.called c.in_ok-read.ensures.event in
-    let put : c.as_slice.result.now ≡ c.read.new.out = c.as_slice.ensures.value ∙ with_items_is c.in_ok-blob.blob c.read.new.out
-    (omega (arith, c.read.auto.out, ap length c.as_mut_slice.ensures.value)) in
-    let keyed : IsKeyed (fixed_of c.args.assembly.now).mode = subst (λ (mode : Mode). IsKeyed mode) c.mode-mode.ensures c.is_keyed.ensures in
-    let legal : IsLegal (fixed_of c.args.assembly.now) c.read.new.seat.view.seen =
-    subst (λ (fixed : Fixed). IsLegal fixed c.read.new.seat.view.seen) c.in_ok-read.ensures.of.knows.fixed_is c.in_ok-read.ensures.of.knows.legal in
-    binds_none (fixed_of c.args.assembly.now) c.read.new.seat.view.seen c.read.new.out keyed legal whole
-    (λ same. differs c.hash.result.0 c.root.result.0 c.if-ne.ensures
-    (c.hash.ensures.value ∙ ap (λ (mode : Mode). hash mode c.as_slice.result.now) c.mode-mode.ensures
-    ∙ ap (λ (xs : List ℕ). hash (fixed_of c.args.assembly.now).mode xs) put ∙ same ∙ sym (ap (λ (root : Hash). root.0) c.root.ensures)))
-
-pub returns-clause-asks : goal.returns-clause-asks
-returns-clause-asks c =
-    let long : length c.as_mut_slice.result.now ≡ c.in-Some.length = omega (arith, ap length c.as_mut_slice.ensures.value, c.in_ok-blob.ensures.len, c.in_ok-blob.blob.ok.0) in
-    asks_both _ _ _ c.as_mut_slice.result.now c.read.new.out c.in-Some.length _ long c.in-Some.ensures.called c.in_ok-read.ensures.event
-
-pub returns-clause-whole : goal.returns-clause-whole
-returns-clause-whole c =
-    let long : length c.as_mut_slice.result.now ≡ c.in-Some.length = omega (arith, ap length c.as_mut_slice.ensures.value, c.in_ok-blob.ensures.len, c.in_ok-blob.blob.ok.0) in
-    let whole : IsWhole (state_after c.read.new.seat.view.seen) c.read.new.out =
-    read_whole _ _ _ c.as_mut_slice.result.now c.read.new.out c.in-Some.length long c.in-Some.ensures.called c.in_ok-read.ensures.event in
-    let put = with_items_is c.in_ok-blob.blob c.read.new.out (omega (arith, c.read.auto.out, ap length c.as_mut_slice.ensures.value)) in
-    subst (λ (xs : List ℕ). IsWhole (state_after c.read.new.seat.view.seen) xs) (sym put) whole
-
-pub returns-clause-fits : goal.returns-clause-fits
-returns-clause-fits c =
-    let long : length c.as_mut_slice.result.now ≡ c.in-Some.length = omega (arith, ap length c.as_mut_slice.ensures.value, c.in_ok-blob.ensures.len, c.in_ok-blob.blob.ok.0) in
-    let whole : IsWhole (state_after c.read.new.seat.view.seen) c.read.new.out =
-    read_whole _ _ _ c.as_mut_slice.result.now c.read.new.out c.in-Some.length long c.in-Some.ensures.called c.in_ok-read.ensures.event in
-    let put = with_items_is c.in_ok-blob.blob c.read.new.out (omega (arith, c.read.auto.out, ap length c.as_mut_slice.ensures.value)) in
-    let legal : IsLegal (fixed_of c.args.assembly.now) c.read.new.seat.view.seen =
-    subst (λ (fixed : Fixed). IsLegal fixed c.read.new.seat.view.seen) c.in_ok-read.ensures.of.knows.fixed_is c.in_ok-read.ensures.of.knows.legal in
-    subst (λ (xs : List ℕ). length xs ≤ 1024 * (fixed_of c.args.assembly.now).capacity) (sym put)
-    (recorded_fits (fixed_of c.args.assembly.now) c.read.new.seat.view.seen c.read.new.out legal whole)
+pub certified-requires-clause-hashed : goal.certified-requires-clause-hashed
+certified-requires-clause-hashed c =
+    c.hash-hashed.ensures.value ∙ ap (λ (mode : Mode). hash mode c.as_slice.result.now) c.mode.ensures
+    ∙ ap (λ (xs : List ℕ). hash (fixed_of c.args.assembly.now).mode xs) c.as_slice.ensures.value
 
 pub returns-clause-no_length : goal.returns-clause-no_length
-returns-clause-no_length c = λ none.
-    absurd (no_none _ c.in-Some.length (recorded_then _ _ _ c.in-Some.length _ _ _ c.in-Some.ensures.called c.in_ok-read.ensures.event.called) none)
+returns-clause-no_length c = λ none. absurd (no_none _ _ c.in_ok-blob.ensures.whole.recorded none)

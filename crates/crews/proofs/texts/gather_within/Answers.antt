@@ -1,91 +1,37 @@
-use Rattle.std.proofs.Common.{◌≡◌, ◌⊎◌, ℕ, ◌≤◌, Err, List, Some, length, slice_get, sym, map, ap, arith, subst}
-use Rattle.std.proofs.lemmas.List.{with_items_is}
-use Rattle.std.specs.List.{All}
+use Rattle.std.proofs.Common.{◌≡◌, ℕ, List, arith, map}
 use Rattle.std.specs.Prelude.{vec_items}
-use Rattle.bao_text.specs.Choice.{chunk_count}
-use Rattle.bao_text.specs.Texts.{combined_text}
-use Rattle.crews.specs.declared.crew.Crew.{Crew}
-use Rattle.crews.specs.Crews.{IsHandedTo}
-use Rattle.crews.specs.Joined.{AreCallsOf, AreClaimsOf, HasAllNamesOf, HaveAllNames}
-use Rattle.crews.specs.Seats.{BeginsAfter}
-use Rattle.crews.proofs.OfNone.{handed_cut}
-use Rattle.crews.proofs.Summing.{all_each}
-use Rattle.crews.proofs.Whence.{left_to_one, no_faults, opening_all}
+use Rattle.crews.specs.Lists.{IsLent}
+use Rattle.crews.proofs.Lending.{lent_cut, out_wider}
 use Rattle.crews.proofs.texts.gather_within.Goals as goal
 use Rattle.gather.specs.declared.holder.Encoded.{Encoded}
-use Rattle.gather.specs.declared.texts.GatherFault.TheVariants as GatherFault
 use Rattle.gather.specs.Encodings.{IsCut, IsCutOf, encoding}
-use Rattle.gather.specs.HandedOut.{IsExcused}
-use Rattle.gather.specs.Large.{AreLonger, HasPair, IsOfNone, IsTooLarge}
+use Rattle.gather.specs.Large.{fixed_as}
+use Rattle.gather.proofs.Binding.{longer_wider, none_wider}
+use Rattle.gather.proofs.Handing.{encoding_true}
 use Rattle.gather.proofs.Reporting.{large_wider}
-use Rattle.store_core.specs.declared.fixed.Fixed.{Fixed}
-use Rattle.store_core.specs.declared.view.SeatView.{SeatView}
-use Rattle.store_core.specs.Laws.{IsBlob}
-use Rattle.store_shared.specs.Seats.{IsSeatOf, fixed_of}
-use Rattle.store_core.specs.Knowledge.{opening_view}
+use Rattle.store_core.specs.declared.history.Piece.{Piece}
 
-pub all_joined-seat-requires-clause-crews : goal.all_joined-seat-requires-clause-crews
-all_joined-seat-requires-clause-crews g c =
-    let put = with_items_is c.in_ok-crews.crews c.run-report.new.crews (omega (arith, c.run-report.ensures.each.len, c.as_mut_slice.ensures.len)) in
-    subst (λ (crews : List (Crew Encoded)). All (λ (crew : Crew Encoded). IsSeatOf c.in_ok-assembly.assembly crew.seat) crews) (sym put)
-    (all_each _ c.as_mut_slice.result.now c.run-report.new.crews (λ x y worked. worked.of) c.run-report.ensures.each)
-
-pub hand_out-requires-clause-left : goal.hand_out-requires-clause-left
-hand_out-requires-clause-left g c =
-    let put = with_items_is c.in_ok-crews.crews c.run-report.new.crews (omega (arith, c.run-report.ensures.each.len, c.as_mut_slice.ensures.len)) in
-    let texts = map vec_items c.args.texts.now in
-    let given : SeatView = c.in_ok-assembly.seat.view in
-    let stays : SeatView = c.in_ok-crews.seat.view in
-    let joined : SeatView = c.all_joined-seat.result.view in
-    let opening : given ≡ opening_view (fixed_of c.in_ok-assembly.assembly) = c.in_ok-assembly.ensures.view in
-    let value = sym c.as_mut_slice.ensures.value in
-    let over : All (λ (crew : Crew Encoded). map encoding crew.holders.items ≡ texts) c.as_mut_slice.result.now =
-    subst (λ (all : List (Crew Encoded)). All (λ (crew : Crew Encoded). map encoding crew.holders.items ≡ texts) all) value c.in_ok-crews.ensures.holders in
-    let begins : All (λ (crew : Crew Encoded). BeginsAfter given crew.seat.view) c.as_mut_slice.result.now =
-    subst (λ (all : List (Crew Encoded)). All (λ (crew : Crew Encoded). BeginsAfter given crew.seat.view) all) value c.in_ok-crews.ensures.begin in
-    let all : HaveAllNames stays c.as_mut_slice.result.now =
-    subst (λ (crews : List (Crew Encoded)). HaveAllNames stays crews) value (c.in_ok-crews.ensures.names (opening_all (fixed_of c.in_ok-assembly.assembly) given opening)) in
-    left_to_one texts c.in_ok-assembly.assembly _ given c.as_mut_slice.result.now c.run-report.new.crews (ap (λ (v : SeatView). v.seen) opening) begins over
-    c.run-report.ensures.each stays joined c.in_ok-crews.ensures.keeps all
-    (λ h. c.all_joined-seat.ensures.names (subst (λ (crews : List (Crew Encoded)). HaveAllNames stays crews) (sym put) h))
-    (subst (λ (crews : List (Crew Encoded)). AreCallsOf stays crews joined) put c.all_joined-seat.ensures.calls)
-    (subst (λ (crews : List (Crew Encoded)). HasAllNamesOf stays crews joined) put c.all_joined-seat.ensures.has)
-    (subst (λ (crews : List (Crew Encoded)). AreClaimsOf stays crews joined) put c.all_joined-seat.ensures.claims)
-
-pub hand_out-requires-clause-failed : goal.hand_out-requires-clause-failed
-hand_out-requires-clause-failed g c = omega (arith, c.run-report.ensures.failed, no_faults c.run-report.new.crews)
-
-pub hand_out-requires-clause-large : goal.hand_out-requires-clause-large
-hand_out-requires-clause-large g c = λ large.
-    let crews = c.as_mut_slice.result.now in
-    let texts = map vec_items c.args.texts.now in
-    let over : All (λ (crew : Crew Encoded). map encoding crew.holders.items ≡ texts) crews =
-    subst (λ (all : List (Crew Encoded)). All (λ (crew : Crew Encoded). map encoding crew.holders.items ≡ texts) all) (sym c.as_mut_slice.ensures.value) c.in_ok-crews.ensures.holders in
-    large_wider (IsHandedTo IsCut crews) (IsCutOf texts) (handed_cut crews texts over) (fixed_of c.in_ok-assembly.assembly) (c.run-report.ensures.too_large large)
+-- what holders over these texts hand over
+abbrev Lent : List (List ℕ) → Piece → Type 0
+Lent texts piece = IsLent IsCut (λ (holders : List Encoded). map encoding holders ≡ texts) piece
 
 pub returns-clause-too_large : goal.returns-clause-too_large
 returns-clause-too_large g c = λ e.
-    let same : c.in-Err.fault ≡ GatherFault.TooLarge = cc in
-    subst (λ (fixed : Fixed). IsTooLarge (IsCutOf (map vec_items c.args.texts.now)) fixed) c.in_ok-assembly.ensures.fixed (c.in-Err.ensures.too_large (ap (λ fault. Err fault) same))
+    let texts = map vec_items c.args.texts.now in
+    large_wider (Lent texts) (IsCutOf texts) (lent_cut texts) (fixed_as c.args.root c.args.mode c.args.capacity) (c.gather_by.ensures.too_large e)
 
 pub returns-clause-longer : goal.returns-clause-longer
 returns-clause-longer g c = λ e.
-    let same : c.in-Err.fault ≡ GatherFault.TooLarge = cc in
-    subst (λ (fixed : Fixed). AreLonger (IsCutOf (map vec_items c.args.texts.now)) fixed) c.in_ok-assembly.ensures.fixed (c.in-Err.ensures.longer (ap (λ fault. Err fault) same))
+    let texts = map vec_items c.args.texts.now in
+    longer_wider (Lent texts) (IsCutOf texts) (lent_cut texts) (fixed_as c.args.root c.args.mode c.args.capacity) (c.gather_by.ensures.longer e)
 
 pub returns-clause-none : goal.returns-clause-none
 returns-clause-none g c = λ e.
-    let same : c.in-Err.fault ≡ GatherFault.NotTheRoot = cc in
-    subst (λ (fixed : Fixed). IsOfNone (IsCutOf (map vec_items c.args.texts.now)) fixed) c.in_ok-assembly.ensures.fixed (c.in-Err.ensures.none (ap (λ fault. Err fault) same))
+    let texts = map vec_items c.args.texts.now in
+    none_wider (Lent texts) (IsCutOf texts) (lent_cut texts) (fixed_as c.args.root c.args.mode c.args.capacity) (c.gather_by.ensures.none e)
 
 pub returns-clause-available : goal.returns-clause-available
-returns-clause-available g c =
+returns-clause-available g c = λ blob i is fits there.
     let texts = map vec_items c.args.texts.now in
-    subst (λ (f : Fixed). (blob : List ℕ) (i : ℕ) → IsBlob f blob → chunk_count (length blob) ≤ f.capacity → slice_get texts i ≡ Some (combined_text f.mode blob)
-    → IsExcused c.in-Err.fault ⊎ HasPair (IsCutOf texts) f blob) c.in_ok-assembly.ensures.fixed c.in-Err.ensures.available
-
-pub returns-in-Ok-clause-available : goal.returns-in-Ok-clause-available
-returns-in-Ok-clause-available g c =
-    let texts = map vec_items c.args.texts.now in
-    subst (λ (f : Fixed). (blob : List ℕ) (i : ℕ) → IsBlob f blob → chunk_count (length blob) ≤ f.capacity → slice_get texts i ≡ Some (combined_text f.mode blob)
-    → (c.in-Ok.blob.items ≡ blob) ⊎ HasPair (IsCutOf texts) f blob) c.in_ok-assembly.ensures.fixed c.in-Ok.ensures.available
+    out_wider (Lent texts) (IsCutOf texts) (lent_cut texts) (fixed_as c.args.root c.args.mode c.args.capacity) blob c.gather_by.result
+    (c.gather_by.ensures.available blob is fits (λ holders are few. encoding_true holders texts c.args.mode blob i are (omega (arith, few)) there))

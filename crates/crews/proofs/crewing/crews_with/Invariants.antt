@@ -1,14 +1,13 @@
-use Rattle.std.specs.Prelude.{◌≡◌, All, map, vec_items, vec_len}
-use Rattle.gather.specs.Encodings.{encoding}
+use Rattle.std.specs.Prelude.{◌≡◌, All, vec_len}
 use Rattle.store_shared.specs.Seats.{IsSeatOf}
 use Rattle.store_core.specs.Knowledge.{AreAllNames}
 use Rattle.crews.specs.Joined.{HaveAllNames}
 use Rattle.crews.specs.Seats.{BeginsAfter, KeepsItsOwn}
-use Rattle.crews.proofs.texts.crews_over.Given as goal
+use Rattle.crews.proofs.crewing.crews_with.Given as goal
 
 abbrev pub invariant-loop : goal.invariant-loop
-invariant-loop l =
+invariant-loop g l =
     IsSeatOf l.assembly l.stays × All (λ crew. IsSeatOf l.assembly crew.seat) l.crews.items × (vec_len l.crews ≡ l.counter)
-    × All (λ crew. map encoding crew.holders.items ≡ map vec_items l.texts) l.crews.items
+    × All (λ crew. g.L.Lists.over l.lists crew.holders.items) l.crews.items
     × KeepsItsOwn l.fn.seat.view l.stays.view × All (λ crew. BeginsAfter l.fn.seat.view crew.seat.view) l.crews.items
     × (AreAllNames l.fn.seat.view.names → HaveAllNames l.stays.view l.crews.items)

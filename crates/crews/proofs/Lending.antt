@@ -1,0 +1,119 @@
+-- What is known of holders' lists by what they are over.
+use Rattle.std.proofs.Common.{◌≡◌, ℕ, ◌+◌, ◌-◌, ◌*◌, ◌^◌, ◌<◌, ◌≤◌, zero, suc, List, [], ◌∷◌, append-nil, length, map, slice_get, IfOk, Option, None, Some, option_map, Result, Vec, Ok, Err, refl, sym, ap, subst, ◌∙◌, arith, inl, inr}
+use Rattle.std.specs.Global.{Global}
+use Rattle.std.specs.Prelude.{IsErrOf}
+use Rattle.std.proofs.lemmas.Option.{slice_get-map}
+use Rattle.b3tree.specs.declared.mode.Mode.{Mode}
+use Rattle.b3tree.specs.declared.values.Hash.{Hash}
+use Rattle.bao_text.specs.Choice.{chunk_count}
+use Rattle.bao_text.specs.Texts.{combined_text, slice_text}
+use Rattle.bao_text.proofs.Laws.{cut_text-combined, length-combined_text}
+use Rattle.crews.specs.declared.fault.CrewsFault.{CrewsFault}
+use Rattle.crews.specs.declared.fault.CrewsFault.TheVariants.{Gather, Seat, Store}
+use Rattle.crews.specs.Closing.{AreTheBlob, IsHandedOut}
+use Rattle.crews.specs.Lists.{IsCutOfSource, IsLent}
+use Rattle.gather.specs.declared.holder.Encoded.{Encoded}
+use Rattle.gather.specs.declared.texts.GatherFault.TheVariants.{Capacity, Memory, NotTheRoot, Starved, TooLarge, Unfinished}
+use Rattle.gather.specs.Available.{HasTrue}
+use Rattle.gather.specs.Encodings.{IsCut, IsCutOf, encoding}
+use Rattle.gather.specs.Holders.{Appends}
+use Rattle.gather.specs.Large.{IsOfNone, fixed_as}
+use Rattle.gather.specs.Places.{IsCutAt}
+use Rattle.gather.proofs.Binding.{handed_cut, pair_wider}
+use Rattle.gather.proofs.Rooms.{blob_at, pair_at}
+use Rattle.store_core.specs.declared.fixed.Fixed.{Fixed}
+use Rattle.store_core.specs.declared.history.Piece.{Piece}
+use Rattle.store_core.specs.Laws.{IsBlob}
+
+-- holders over texts hand over what is cut out of the texts
+pub lent_cut : (texts : List (List ℕ)) (piece : Piece) → IsLent IsCut (λ (holders : List Encoded). map encoding holders ≡ texts) piece → IsCutOf texts piece
+lent_cut texts piece is = handed_cut is.holders texts is.are piece is.handed
+
+-- what a holder over a source gives
+abbrev pub gives_of : {H S : Type 0} → (H → S) → (S → Option (List ℕ)) → (S → Type 0) → H → ℕ → ℕ → List ℕ → Type 0
+gives_of source_of contents faultless holder start len text = IsCutAt (contents (source_of holder)) (faultless (source_of holder)) start len text
+
+-- and what such holders hand over
+pub lent_source : {H S : Type 0} (source_of : H → S) (contents : S → Option (List ℕ)) (faultless : S → Type 0) (sources : List S) (piece : Piece)
+    → IsLent (gives_of source_of contents faultless) (λ (holders : List H). map source_of holders ≡ sources) piece → IsCutOfSource contents faultless sources piece
+lent_source {H = H} {S = S} source_of contents faultless sources piece is = record {
+  place = is.handed.place;
+  source = source_of is.handed.holder;
+  there = subst (λ (all : List S). slice_get all is.handed.place ≡ Some (source_of is.handed.holder)) is.are
+      (slice_get-map source_of is.holders is.handed.place ∙ ap (λ (o : Option H). option_map source_of o) is.handed.there);
+  cut = is.handed.given;
+}
+
+some_is : {S : Type 0} (x y : S) → Some x ≡ Some y → x ≡ y
+some_is x y e = cc
+
+mapped_there : {H S : Type 0} (f : H → S) (xs : List H) (i : ℕ) (y : S) → slice_get (map f xs) i ≡ Some y → (x : H) × (slice_get xs i ≡ Some x) × (f x ≡ y)
+mapped_there f [] i y is = let no : None ≡ Some y = is in cc
+mapped_there f (x ∷ xs) zero y is = (x, refl, some_is (f x) y is)
+mapped_there f (x ∷ xs) (suc i) y is = mapped_there f xs i y is
+
+-- what is cut out of a combined encoding that is never lost
+slices_of : (mode : Mode) (blob : List ℕ) (contents : Option (List ℕ)) (faultless : Type 0) (start len : ℕ) (text : List ℕ) → chunk_count (length blob) ≤ 65536
+    → contents ≡ Some (combined_text mode blob) → faultless → IsCutAt contents faultless start len text → text ≡ slice_text mode blob start len
+slices_of mode blob contents faultless start len text few known sound cut =
+    let is : IsCutAt (Some (combined_text mode blob)) faultless start len text = subst (λ (o : Option (List ℕ)). IsCutAt o faultless start len text) known cut in
+    let long : length (combined_text mode blob) ≡ 8 + 64 * (chunk_count (length blob) - 1) + length blob = length-combined_text mode blob in
+    let short : length blob < 2 ^ 64 = omega (arith, few) in
+    elim (is (omega (arith, long, few))) [
+      | inl same ↦ same ∙ cut_text-combined mode blob start len short
+      | inr lost ↦ absurd (lost.1 sound)
+    ]
+
+-- the holder over a source that never fails, whose bytes are a blob's combined encoding, gives nothing but its slices
+pub source_true : {H S : Type 0} (source_of : H → S) (contents : S → Option (List ℕ)) (faultless : S → Type 0) (holders : List H) (sources : List S) (mode : Mode) (blob : List ℕ)
+    (i : ℕ) (source : S) → map source_of holders ≡ sources → chunk_count (length blob) ≤ 65536 → slice_get sources i ≡ Some source
+    → contents source ≡ Some (combined_text mode blob) → faultless source → HasTrue (gives_of source_of contents faultless) mode blob holders
+source_true {H = H} {S = S} source_of contents faultless holders sources mode blob i source are few there known sound =
+    let mapped : slice_get (map source_of holders) i ≡ Some source = subst (λ (all : List S). slice_get all i ≡ Some source) (sym are) there in
+    let at = mapped_there source_of holders i source mapped in
+    record {
+      place = i;
+      holder = at.0;
+      there = at.1;
+      gives_slices = λ start len text cut.
+          slices_of mode blob (contents source) (faultless source) start len text few known sound
+          (subst (λ (s : S). IsCutAt (contents s) (faultless s) start len text) at.2 cut);
+    }
+
+lost : (contents : Option (List ℕ)) (faultless : Type 0) (start len : ℕ) → (faultless → ⊥) → IsCutAt contents faultless start len []
+lost None faultless start len never = tt
+lost (Some s) faultless start len never = λ fits. inr (refl, never)
+
+-- nothing follows where a read failed
+pub lost_appends : (contents : Option (List ℕ)) (faultless : Type 0) (start len : ℕ) (old new : List ℕ) → new ≡ old → (faultless → ⊥)
+    → Appends (IsCutAt contents faultless start len) old new
+lost_appends contents faultless start len old new same never = record { text = []; is = same ∙ sym (append-nil old); given = lost contents faultless start len never }
+
+-- what is handed over is handed over by more
+pub out_wider : (handed wider : Piece → Type 0) → ((piece : Piece) → handed piece → wider piece) → (fixed : Fixed) (blob : List ℕ) (r : Result (Vec ℕ Global) CrewsFault)
+    → IsHandedOut handed fixed blob r → IsHandedOut wider fixed blob r
+out_wider handed wider more fixed blob r is = elim is [ inl same ↦ inl same | inr pair ↦ inr (pair_wider handed wider more fixed blob pair) ]
+
+pub found_wider : (handed wider : Piece → Type 0) → ((piece : Piece) → handed piece → wider piece) → (fixed : Fixed) (r : Result (Vec ℕ Global) CrewsFault)
+    → IfOk r (λ (bytes : Vec ℕ Global). AreTheBlob handed fixed bytes.items) → IfOk r (λ (bytes : Vec ℕ Global). AreTheBlob wider fixed bytes.items)
+found_wider handed wider more fixed (Ok bytes) found =
+    λ blob is. elim (found blob is) [ inl same ↦ inl same | inr pair ↦ inr (pair_wider handed wider more fixed blob pair) ]
+found_wider handed wider more fixed (Err fault) found = tt
+
+-- a store that had room enough for what was gathered, whatever its capacity
+pub handed_anyway : (handed : Piece → Type 0) (root : Hash) (mode : Mode) (a b : ℕ) (blob : List ℕ) (r : Result (Vec ℕ Global) CrewsFault) → IsBlob (fixed_as root mode b) blob
+    → IfOk r (λ (bytes : Vec ℕ Global). AreTheBlob handed (fixed_as root mode a) bytes.items) → (IsErrOf r (Gather NotTheRoot) → IsOfNone handed (fixed_as root mode a))
+    → (IsErrOf r (Gather TooLarge) → ⊥) → (IsErrOf r (Gather Unfinished) → ⊥) → IsHandedOut handed (fixed_as root mode b) blob r
+handed_anyway handed root mode a b blob (Ok bytes) is found none large unfinished = elim (found blob (blob_at root mode b a blob is)) [
+  | inl same ↦ inl same
+  | inr pair ↦ inr (pair_at handed root mode a b blob pair)
+]
+handed_anyway handed root mode a b blob (Err Store) is found none large unfinished = inl tt
+handed_anyway handed root mode a b blob (Err Seat) is found none large unfinished = inl tt
+handed_anyway handed root mode a b blob (Err (Gather Capacity)) is found none large unfinished = inl tt
+handed_anyway handed root mode a b blob (Err (Gather TooLarge)) is found none large unfinished = absurd (large refl)
+handed_anyway handed root mode a b blob (Err (Gather Unfinished)) is found none large unfinished = absurd (unfinished refl)
+handed_anyway handed root mode a b blob (Err (Gather NotTheRoot)) is found none large unfinished =
+    inr (pair_at handed root mode a b blob (none refl blob (blob_at root mode b a blob is)))
+handed_anyway handed root mode a b blob (Err (Gather Memory)) is found none large unfinished = inl tt
+handed_anyway handed root mode a b blob (Err (Gather Starved)) is found none large unfinished = inl tt

@@ -1,0 +1,94 @@
+use Rattle.std.proofs.Common.{◌≡◌, ◌⊎◌, ℕ, ◌≤◌, Err, List, length, sym, ap, arith, subst}
+use Rattle.std.proofs.lemmas.List.{with_items_is}
+use Rattle.std.specs.List.{All}
+use Rattle.bao_text.specs.Choice.{chunk_count}
+use Rattle.crews.specs.declared.crew.Crew.{Crew}
+use Rattle.crews.specs.Crews.{IsHandedTo}
+use Rattle.crews.specs.Joined.{AreCallsOf, AreClaimsOf, HasAllNamesOf, HaveAllNames}
+use Rattle.crews.specs.Lists.{HaveTrue, IsLent}
+use Rattle.crews.specs.Seats.{BeginsAfter}
+use Rattle.crews.proofs.OfNone.{handed_wide, lent_all}
+use Rattle.crews.proofs.Summing.{all_each}
+use Rattle.crews.proofs.Whence.{left_to_one, no_faults, opening_all}
+use Rattle.crews.proofs.gathering.gather_by.Goals as goal
+use Rattle.gather.specs.declared.texts.GatherFault.TheVariants as GatherFault
+use Rattle.gather.specs.HandedOut.{IsExcused}
+use Rattle.gather.specs.Large.{AreLonger, HasPair, IsOfNone, IsTooLarge}
+use Rattle.gather.proofs.Reporting.{large_wider}
+use Rattle.store_core.specs.declared.fixed.Fixed.{Fixed}
+use Rattle.store_core.specs.declared.history.Piece.{Piece}
+use Rattle.store_core.specs.declared.view.SeatView.{SeatView}
+use Rattle.store_core.specs.Laws.{IsBlob}
+use Rattle.store_shared.specs.Seats.{IsSeatOf, fixed_of}
+use Rattle.store_core.specs.Knowledge.{opening_view}
+
+pub all_joined-seat-requires-clause-crews : goal.all_joined-seat-requires-clause-crews
+all_joined-seat-requires-clause-crews g c =
+    let put = with_items_is c.in_ok-crews.crews c.run-report.new.crews (omega (arith, c.run-report.ensures.each.len, c.as_mut_slice.ensures.len)) in
+    subst (λ (crews : List (Crew g.row.H.Denot)). All (λ (crew : Crew g.row.H.Denot). IsSeatOf c.in_ok-assembly.assembly crew.seat) crews) (sym put)
+    (all_each _ c.as_mut_slice.result.now c.run-report.new.crews (λ x y worked. worked.of) c.run-report.ensures.each)
+
+pub hand_out-requires-clause-left : goal.hand_out-requires-clause-left
+hand_out-requires-clause-left g c = λ _ _.
+    let put = with_items_is c.in_ok-crews.crews c.run-report.new.crews (omega (arith, c.run-report.ensures.each.len, c.as_mut_slice.ensures.len)) in
+    let over = g.L.Lists.over c.args.lists.now in
+    let given : SeatView = c.in_ok-assembly.seat.view in
+    let stays : SeatView = c.in_ok-crews.seat.view in
+    let joined : SeatView = c.all_joined-seat.result.view in
+    let opening : given ≡ opening_view (fixed_of c.in_ok-assembly.assembly) = c.in_ok-assembly.ensures.view in
+    let value = sym c.as_mut_slice.ensures.value in
+    let are : All (λ (crew : Crew g.row.H.Denot). over crew.holders.items) c.as_mut_slice.result.now =
+    subst (λ (all : List (Crew g.row.H.Denot)). All (λ (crew : Crew g.row.H.Denot). over crew.holders.items) all) value c.in_ok-crews.ensures.holders in
+    let begins : All (λ (crew : Crew g.row.H.Denot). BeginsAfter given crew.seat.view) c.as_mut_slice.result.now =
+    subst (λ (all : List (Crew g.row.H.Denot)). All (λ (crew : Crew g.row.H.Denot). BeginsAfter given crew.seat.view) all) value c.in_ok-crews.ensures.begin in
+    let all : HaveAllNames stays c.as_mut_slice.result.now =
+    subst (λ (crews : List (Crew g.row.H.Denot)). HaveAllNames stays crews) value (c.in_ok-crews.ensures.names (opening_all (fixed_of c.in_ok-assembly.assembly) given opening)) in
+    left_to_one _ g.H.Holder.gives g.H.Holder.count (IsLent g.H.Holder.gives over) c.in_ok-assembly.assembly given c.as_mut_slice.result.now c.run-report.new.crews
+    (ap (λ (v : SeatView). v.seen) opening) begins (lent_all g.H.Holder.gives over c.as_mut_slice.result.now are)
+    c.run-report.ensures.each stays joined c.in_ok-crews.ensures.keeps all
+    (λ h. c.all_joined-seat.ensures.names (subst (λ (crews : List (Crew g.row.H.Denot)). HaveAllNames stays crews) (sym put) h))
+    (subst (λ (crews : List (Crew g.row.H.Denot)). AreCallsOf stays crews joined) put c.all_joined-seat.ensures.calls)
+    (subst (λ (crews : List (Crew g.row.H.Denot)). HasAllNamesOf stays crews joined) put c.all_joined-seat.ensures.has)
+    (subst (λ (crews : List (Crew g.row.H.Denot)). AreClaimsOf stays crews joined) put c.all_joined-seat.ensures.claims)
+
+pub hand_out-requires-clause-failed : goal.hand_out-requires-clause-failed
+hand_out-requires-clause-failed g c = omega (arith, c.run-report.ensures.failed, no_faults g.H.Holder.count c.requires.quiet c.run-report.new.crews)
+
+pub hand_out-requires-clause-large : goal.hand_out-requires-clause-large
+hand_out-requires-clause-large g c = λ _ _ large.
+    let crews = c.as_mut_slice.result.now in
+    let gives = g.H.Holder.gives in
+    let over = g.L.Lists.over c.args.lists.now in
+    let are : All (λ (crew : Crew g.row.H.Denot). over crew.holders.items) crews =
+    subst (λ (all : List (Crew g.row.H.Denot)). All (λ (crew : Crew g.row.H.Denot). over crew.holders.items) all) (sym c.as_mut_slice.ensures.value) c.in_ok-crews.ensures.holders in
+    large_wider (IsHandedTo gives crews) (IsLent gives over) (handed_wide gives (IsLent gives over) crews (lent_all gives over crews are)) (fixed_of c.in_ok-assembly.assembly)
+    (c.run-report.ensures.too_large large)
+
+pub returns-clause-too_large : goal.returns-clause-too_large
+returns-clause-too_large g c = λ e.
+    let same : c.in-Err.fault ≡ GatherFault.TooLarge = cc in
+    subst (λ (fixed : Fixed). IsTooLarge (IsLent g.H.Holder.gives (g.L.Lists.over c.args.lists.now)) fixed) c.in_ok-assembly.ensures.fixed (c.in-Err.ensures.too_large (ap (λ fault. Err fault) same))
+
+pub returns-clause-longer : goal.returns-clause-longer
+returns-clause-longer g c = λ e.
+    let same : c.in-Err.fault ≡ GatherFault.TooLarge = cc in
+    subst (λ (fixed : Fixed). AreLonger (IsLent g.H.Holder.gives (g.L.Lists.over c.args.lists.now)) fixed) c.in_ok-assembly.ensures.fixed (c.in-Err.ensures.longer (ap (λ fault. Err fault) same))
+
+pub returns-clause-none : goal.returns-clause-none
+returns-clause-none g c = λ e.
+    let same : c.in-Err.fault ≡ GatherFault.NotTheRoot = cc in
+    subst (λ (fixed : Fixed). IsOfNone (IsLent g.H.Holder.gives (g.L.Lists.over c.args.lists.now)) fixed) c.in_ok-assembly.ensures.fixed (c.in-Err.ensures.none (ap (λ fault. Err fault) same))
+
+pub returns-clause-available : goal.returns-clause-available
+returns-clause-available g c =
+    let handed : Piece → Type 0 = IsLent g.H.Holder.gives (g.L.Lists.over c.args.lists.now) in
+    subst (λ (f : Fixed). (blob : List ℕ) → IsBlob f blob → chunk_count (length blob) ≤ f.capacity → HaveTrue g.H.Holder.gives (g.L.Lists.over c.args.lists.now) f.mode blob
+    → IsExcused c.in-Err.fault ⊎ HasPair handed f blob) c.in_ok-assembly.ensures.fixed c.in-Err.ensures.available
+
+pub returns-in-Ok-clause-found : goal.returns-in-Ok-clause-found
+returns-in-Ok-clause-found g c =
+    let handed : Piece → Type 0 = IsLent g.H.Holder.gives (g.L.Lists.over c.args.lists.now) in
+    subst (λ (f : Fixed). (blob : List ℕ) → IsBlob f blob → (c.in-Ok.blob.items ≡ blob) ⊎ HasPair handed f blob) c.in_ok-assembly.ensures.fixed c.in-Ok.ensures.found
+
+pub returns-in-Ok-clause-available : goal.returns-in-Ok-clause-available
+returns-in-Ok-clause-available g c = λ blob is room there. returns-in-Ok-clause-found g c blob is

@@ -1,0 +1,5 @@
+use Rattle.std.specs.Prelude.{◌≡◌, length}
+use Rattle.crews.proofs.places.copies_at_over.Given as goal
+
+abbrev pub invariant-loop-copy : goal.invariant-loop-copy
+invariant-loop-copy g l = length l.holders.items ≡ l.copy-index

@@ -1,0 +1,59 @@
+use Rattle.std.proofs.Common.{◌≡◌, ℕ, List, Option, map}
+use Rattle.crews.specs.declared.places.SourceAt.{SourceAt}
+use Rattle.crews.specs.Lists.{IsCutOfSource, IsLent}
+use Rattle.crews.proofs.Lending.{found_wider, gives_of, lent_source, out_wider, source_true}
+use Rattle.crews.proofs.sources.gather_within.Goals as goal
+use Rattle.gather.specs.Large.{fixed_as}
+use Rattle.gather.proofs.Binding.{longer_wider, none_wider}
+use Rattle.gather.proofs.Reporting.{large_wider}
+use Rattle.store_core.specs.declared.fixed.Fixed.{Fixed}
+use Rattle.store_core.specs.declared.history.Piece.{Piece}
+
+abbrev source_of : {S : Type 0} → SourceAt S → S
+source_of holder = holder.0.now
+
+-- what holders over these sources hand over
+abbrev Lent : {S : Type 0} → (S → Option (List ℕ)) → (S → Type 0) → List S → Piece → Type 0
+Lent {S = S} contents faultless sources piece = IsLent (gives_of source_of contents faultless) (λ (holders : List (SourceAt S)). map source_of holders ≡ sources) piece
+
+pub returns-clause-too_large : goal.returns-clause-too_large
+returns-clause-too_large g c = λ e.
+    let contents = g.S.Source.contents in
+    let faultless = g.S.Source.faultless in
+    let sources : List g.row.S.Denot = c.args.sources.now in
+    let fixed : Fixed = fixed_as c.args.root c.args.mode c.args.capacity in
+    large_wider (Lent contents faultless sources) (IsCutOfSource contents faultless sources) (lent_source source_of contents faultless sources) fixed (c.gather_by.ensures.too_large e)
+
+pub returns-clause-longer : goal.returns-clause-longer
+returns-clause-longer g c = λ e.
+    let contents = g.S.Source.contents in
+    let faultless = g.S.Source.faultless in
+    let sources : List g.row.S.Denot = c.args.sources.now in
+    let fixed : Fixed = fixed_as c.args.root c.args.mode c.args.capacity in
+    longer_wider (Lent contents faultless sources) (IsCutOfSource contents faultless sources) (lent_source source_of contents faultless sources) fixed (c.gather_by.ensures.longer e)
+
+pub returns-clause-none : goal.returns-clause-none
+returns-clause-none g c = λ e.
+    let contents = g.S.Source.contents in
+    let faultless = g.S.Source.faultless in
+    let sources : List g.row.S.Denot = c.args.sources.now in
+    let fixed : Fixed = fixed_as c.args.root c.args.mode c.args.capacity in
+    none_wider (Lent contents faultless sources) (IsCutOfSource contents faultless sources) (lent_source source_of contents faultless sources) fixed (c.gather_by.ensures.none e)
+
+pub returns-clause-found : goal.returns-clause-found
+returns-clause-found g c =
+    let contents = g.S.Source.contents in
+    let faultless = g.S.Source.faultless in
+    let sources : List g.row.S.Denot = c.args.sources.now in
+    let fixed : Fixed = fixed_as c.args.root c.args.mode c.args.capacity in
+    found_wider (Lent contents faultless sources) (IsCutOfSource contents faultless sources) (lent_source source_of contents faultless sources) fixed c.gather_by.result c.gather_by.ensures.found
+
+pub returns-clause-available : goal.returns-clause-available
+returns-clause-available g c = λ blob i source is fits there known sound.
+    let contents = g.S.Source.contents in
+    let faultless = g.S.Source.faultless in
+    let sources : List g.row.S.Denot = c.args.sources.now in
+    let fixed : Fixed = fixed_as c.args.root c.args.mode c.args.capacity in
+    out_wider (Lent contents faultless sources) (IsCutOfSource contents faultless sources) (lent_source source_of contents faultless sources) fixed blob c.gather_by.result
+    (c.gather_by.ensures.available blob is fits
+    (λ holders are few. source_true source_of contents faultless holders sources c.args.mode blob i source are few there known sound))

@@ -1,0 +1,84 @@
+ghost use Rattle.std.specs.Prelude.{◌≡◌, ◌↔◌, ◌⊎◌, ◌*◌, ◌<◌, ◌≤◌, ℕ, Err, IfOk, IsErrOf, List, length};
+ghost use Rattle.b3tree.specs.Hashing.{hash};
+ghost use Rattle.bao_check.specs.Outline.{outline_mode, outline_root};
+ghost use Rattle.bao_text.specs.Choice.{chunk_count};
+ghost use Rattle.crews.specs.declared.fault.CrewsFault.TheVariants.{Gather};
+ghost use Rattle.gather.specs.declared.texts.GatherFault.TheVariants.{Capacity, NotTheRoot, TooLarge};
+ghost use Rattle.gather.specs.Large.{AreLonger, IsOfNone, IsTooLarge, fixed_as};
+ghost use Rattle.store_core.specs.Laws.{IsBlob};
+ghost use Rattle.crews.specs.Closing.{AreTheBlob, IsHandedOut};
+ghost use Rattle.crews.specs.Lists.{HaveTrue, IsLent};
+
+use crate::blob::finish_join;
+use crate::crewing::{MOST_WORKERS, crews_with};
+use crate::fault::CrewsFault;
+use crate::handing::hand_out;
+use crate::joining::all_joined;
+use crate::lists::Lists;
+use crate::runs::{run, run_bare};
+use b3par::Open;
+use b3tree::{Hash, Mode};
+use bao_check::Outline;
+use gather::{FinishFault, GatherFault, Holder, cause};
+use std::alloc::Global;
+use std::thread::Threads;
+use store_shared::Assembly;
+
+// `gather_texts` by a store with room for `capacity` chunks, from whatever such lists of holders are over. No device of them
+// counts a fault.
+pub(crate) fn gather_by<R: Threads + Sync, H: Holder + Send + Drop, L: Lists<H>>(
+    rt: &R,
+    alloc: Global,
+    root: Hash,
+    mode: Mode,
+    capacity: u32,
+    workers: u32,
+    lists: &L,
+) -> Result<Vec<u8>, CrewsFault>
+    requires quiet { (holder : H) → H.count holder ≡ 0 }
+    ensures root { IfOk result (λ blob. hash mode blob.items ≡ root.0) }
+    ensures fits { IfOk result (λ blob. length blob.items ≤ 1024 * capacity) }
+    ensures capacity { (result ≡ Err (Gather Capacity)) ↔ ((capacity ≡ 0) ⊎ (65536 < capacity)) }
+    ensures too_large { IsErrOf result (Gather TooLarge) → IsTooLarge (IsLent H.gives (L.over lists.now)) (fixed_as root mode capacity) }
+    ensures longer { IsErrOf result (Gather TooLarge) → AreLonger (IsLent H.gives (L.over lists.now)) (fixed_as root mode capacity) }
+    ensures none { IsErrOf result (Gather NotTheRoot) → IsOfNone (IsLent H.gives (L.over lists.now)) (fixed_as root mode capacity) }
+    ensures found { IfOk result (λ blob. AreTheBlob (IsLent H.gives (L.over lists.now)) (fixed_as root mode capacity) blob.items) }
+    ensures available { (blob : List ℕ) → IsBlob (fixed_as root mode capacity) blob → chunk_count (length blob) ≤ capacity
+        → HaveTrue H.gives (L.over lists.now) mode blob
+        → IsHandedOut (IsLent H.gives (L.over lists.now)) (fixed_as root mode capacity) blob result }
+{
+    let (assembly, seat) = Assembly::new(alloc, root, mode, capacity)?;
+    let workers = workers.clamp(1, MOST_WORKERS);
+    let (mut crews, seat) = crews_with::<H, L>(alloc, &assembly, seat, workers, lists)?;
+    let report = run(rt, alloc, &assembly, crews.as_mut_slice(), &Open);
+    let seat = all_joined(&assembly, seat, crews);
+    match hand_out::<R, H, L>(rt, alloc, &assembly, seat, workers, lists, report) {
+        Ok(blob) => Ok(blob),
+        Err(fault) => Err(CrewsFault::Gather(fault)),
+    }
+}
+
+// `gather_copies` from whatever such lists of holders are over.
+pub(crate) fn gather_beside<R: Threads + Sync, H: Holder + Send + Drop, L: Lists<H>>(
+    rt: &R,
+    alloc: Global,
+    outline: &Outline<'_>,
+    capacity: u32,
+    workers: u32,
+    lists: &L,
+) -> Result<Vec<u8>, CrewsFault>
+    ensures root { IfOk result (λ blob. hash (outline_mode outline.now) blob.items ≡ outline_root outline.now) }
+    ensures fits { IfOk result (λ blob. length blob.items ≤ 1024 * capacity) }
+    ensures capacity { (result ≡ Err (Gather Capacity)) ↔ ((capacity ≡ 0) ⊎ (65536 < capacity)) }
+{
+    let (assembly, seat) = Assembly::new(alloc, outline.root(), outline.mode(), capacity)?;
+    let workers = workers.clamp(1, MOST_WORKERS);
+    let (mut crews, mut seat) = crews_with::<H, L>(alloc, &assembly, seat, workers, lists)?;
+    let report = run_bare(rt, alloc, &assembly, outline, crews.as_mut_slice(), &Open);
+    match finish_join(rt, alloc, &assembly, &mut seat, workers) {
+        Ok(bytes) => Ok(bytes),
+        Err(FinishFault::Unfinished) => Err(CrewsFault::Gather(cause(&report))),
+        Err(FinishFault::NotTheRoot) => Err(CrewsFault::Gather(GatherFault::NotTheRoot)),
+        Err(FinishFault::Memory) => Err(CrewsFault::Gather(GatherFault::Memory)),
+    }
+}

@@ -1,0 +1,40 @@
+ghost use Rattle.std.specs.Prelude.{◌≡◌, IfOk, List, map, vec_items};
+ghost use Rattle.gather.specs.Encodings.{encoding};
+ghost use Rattle.gather.specs.Plains.{copy_of};
+
+use gather::{Encoded, Plain, copies_over, holders_over};
+use std::alloc::{AllocError, Global};
+
+// What all workers ask, of which each has a list of holders of its own.
+pub(crate) trait Lists<H> {
+    // The holders are over it.
+    ghost over: { Self → List H → Type 0 };
+
+    // One more list of holders over it.
+    fn list(&self, alloc: Global) -> Result<Vec<H>, AllocError>
+        ensures { IfOk result (λ holders. over self.now holders.items) };
+}
+
+// Texts, each of which may be a combined encoding. They are not copied.
+#[derive(Clone, Copy)]
+pub(crate) struct Texts<'a>(pub(crate) &'a [Vec<u8>]);
+
+impl<'a> Lists<Encoded<'a>> for Texts<'a> {
+    ghost over = { λ texts holders. map encoding holders ≡ map vec_items texts.0.now };
+
+    fn list(&self, alloc: Global) -> Result<Vec<Encoded<'a>>, AllocError> {
+        holders_over(alloc, self.0)
+    }
+}
+
+// Plain copies. Their bytes stay where they are.
+#[derive(Clone, Copy)]
+pub(crate) struct Copies<'a>(pub(crate) &'a [Vec<u8>]);
+
+impl<'a> Lists<Plain<'a>> for Copies<'a> {
+    ghost over = { λ copies holders. map copy_of holders ≡ map vec_items copies.0.now };
+
+    fn list(&self, alloc: Global) -> Result<Vec<Plain<'a>>, AllocError> {
+        copies_over(alloc, self.0)
+    }
+}

@@ -1,0 +1,83 @@
+ghost use Rattle.std.specs.Prelude.{◌≡◌, IfOk, length, map};
+
+use crate::lists::Lists;
+use b3read::Source;
+use gather::{EncodedAt, Holder, HolderFault, PlainAt};
+use std::alloc::{AllocError, Global};
+
+// The holder over a source that may be a combined encoding. A read that fails gives nothing, and isn't counted.
+#[derive(Drop)]
+pub(crate) struct SourceAt<'a, S: Source>(&'a S);
+
+impl<'a, S: Source> Holder for SourceAt<'a, S> {
+    ghost use Rattle.gather.specs.Places.{IsCutAt};
+
+    ghost count = { λ _. 0 };
+
+    ghost gives = { λ holder start len text. IsCutAt (S.contents holder.0.now) (S.faultless holder.0.now) start len text };
+
+    fn fetch(&mut self, start: u64, len: u64, into: &mut Vec<u8>) -> Result<(), HolderFault> {
+        let mut holder = EncodedAt::new(self.0);
+        match holder.fetch(start, len, into) {
+            Ok(()) => Ok(()),
+            Err(HolderFault::Device) => Ok(()),
+            Err(HolderFault::Memory) => Err(HolderFault::Memory),
+        }
+    }
+
+    fn faults(&self) -> u64 {
+        0
+    }
+}
+
+// A holder over each of these sources, in their order.
+fn sources_over<'a, S: Source>(
+    alloc: Global,
+    sources: &'a [S],
+) -> Result<Vec<SourceAt<'a, S>>, AllocError>
+    ensures { IfOk result (λ holders. map (λ holder. holder.0.now) holders.items ≡ sources.now) }
+{
+    let mut holders = Vec::with_capacity(alloc, sources.len())?;
+    for source in sources {
+        holders.push(SourceAt(source))?;
+    }
+    Ok(holders)
+}
+
+// A holder over each of these sources of plain copies, in their order.
+fn copies_at_over<'a, S: Source>(
+    alloc: Global,
+    copies: &'a [S],
+) -> Result<Vec<PlainAt<'a, S>>, AllocError>
+    ensures { IfOk result (λ holders. length holders.items ≡ length copies.now) }
+{
+    let mut holders = Vec::with_capacity(alloc, copies.len())?;
+    for copy in copies {
+        holders.push(PlainAt::new(copy))?;
+    }
+    Ok(holders)
+}
+
+// Sources that are read at places, each of which may be a combined encoding.
+#[derive(Drop)]
+pub(crate) struct Sources<'a, S: Source>(pub(crate) &'a [S]);
+
+impl<'a, S: Source> Lists<SourceAt<'a, S>> for Sources<'a, S> {
+    ghost over = { λ sources holders. map (λ holder. holder.0.now) holders ≡ sources.0.now };
+
+    fn list(&self, alloc: Global) -> Result<Vec<SourceAt<'a, S>>, AllocError> {
+        sources_over(alloc, self.0)
+    }
+}
+
+// Plain copies that are read at places.
+#[derive(Drop)]
+pub(crate) struct CopiesAt<'a, S: Source>(pub(crate) &'a [S]);
+
+impl<'a, S: Source> Lists<PlainAt<'a, S>> for CopiesAt<'a, S> {
+    ghost over = { λ copies holders. length holders ≡ length copies.0.now };
+
+    fn list(&self, alloc: Global) -> Result<Vec<PlainAt<'a, S>>, AllocError> {
+        copies_at_over(alloc, self.0)
+    }
+}

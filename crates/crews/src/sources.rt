@@ -1,0 +1,119 @@
+ghost use Rattle.std.specs.Prelude.{◌≡◌, ◌↔◌, ◌⊎◌, ◌*◌, ◌<◌, ◌≤◌, ℕ, Err, IfOk, IsErrOf, IsTrue, List, Some, length, slice_get};
+ghost use Rattle.b3tree.specs.Hashing.{hash};
+ghost use Rattle.bao_text.specs.Choice.{chunk_count};
+ghost use Rattle.bao_text.specs.Texts.{combined_text};
+ghost use Rattle.gather.specs.Large.{AreLonger, IsOfNone, IsTooLarge, fixed_as};
+ghost use Rattle.crews.specs.declared.fault.CrewsFault.TheVariants.{Gather};
+ghost use Rattle.gather.specs.declared.texts.GatherFault.TheVariants.{Capacity, NotTheRoot, TooLarge, Unfinished};
+ghost use Rattle.store_core.specs.Laws.{IsBlob};
+ghost use Rattle.crews.specs.Closing.{AreTheBlob, IsHandedOut};
+ghost use Rattle.crews.specs.Lists.{IsCutOfSource};
+
+use crate::fault::CrewsFault;
+use crate::gathering::gather_by;
+use crate::places::{SourceAt, Sources};
+use b3read::Source;
+use b3tree::{Hash, Mode};
+use gather::GatherFault;
+use std::alloc::Global;
+use std::thread::Threads;
+use store_core::MAX_CAPACITY;
+
+// `gather_sources` by a store with room for `capacity` chunks.
+fn gather_within<R: Threads + Sync, S: Source + Sync>(
+    rt: &R,
+    alloc: Global,
+    root: Hash,
+    mode: Mode,
+    capacity: u32,
+    workers: u32,
+    sources: &[S],
+) -> Result<Vec<u8>, CrewsFault>
+    ensures root { IfOk result (λ blob. hash mode blob.items ≡ root.0) }
+    ensures fits { IfOk result (λ blob. length blob.items ≤ 1024 * capacity) }
+    ensures capacity { (result ≡ Err (Gather Capacity)) ↔ ((capacity ≡ 0) ⊎ (65536 < capacity)) }
+    ensures too_large { IsErrOf result (Gather TooLarge) → IsTooLarge (IsCutOfSource S.contents S.faultless sources.now) (fixed_as root mode capacity) }
+    ensures longer { IsErrOf result (Gather TooLarge) → AreLonger (IsCutOfSource S.contents S.faultless sources.now) (fixed_as root mode capacity) }
+    ensures none { IsErrOf result (Gather NotTheRoot) → IsOfNone (IsCutOfSource S.contents S.faultless sources.now) (fixed_as root mode capacity) }
+    ensures found { IfOk result (λ blob. AreTheBlob (IsCutOfSource S.contents S.faultless sources.now) (fixed_as root mode capacity) blob.items) }
+    ensures available { (blob : List ℕ) (i : ℕ) (source : S) → IsBlob (fixed_as root mode capacity) blob → chunk_count (length blob) ≤ capacity
+        → slice_get sources.now i ≡ Some source → S.contents source ≡ Some (combined_text mode blob) → S.faultless source
+        → IsHandedOut (IsCutOfSource S.contents S.faultless sources.now) (fixed_as root mode capacity) blob result }
+{
+    gather_by::<R, SourceAt<'_, S>, Sources<'_, S>>(
+        rt,
+        alloc,
+        root,
+        mode,
+        capacity,
+        workers,
+        &Sources(sources),
+    )
+}
+
+// Whether it may be for want of room that no blob was gathered.
+fn may_lack_room(gathered: &Result<Vec<u8>, CrewsFault>) -> bool
+    ensures large { IsErrOf gathered.now (Gather TooLarge) → IsTrue result }
+    ensures unfinished { IsErrOf gathered.now (Gather Unfinished) → IsTrue result }
+{
+    matches!(
+        gathered,
+        Err(CrewsFault::Gather(GatherFault::TooLarge | GatherFault::Unfinished))
+    )
+}
+
+/// The blob with this root in this mode, out of sources that are read at places, as files are, and that nobody trusts: each
+/// may have its combined encoding, or any bytes, and other bytes at each read. What they have takes no memory but for the
+/// slices that workers ask for. So many workers, at least 1 and at most 64, fill a shared store, as `run` says, each with a
+/// seat of its own and all sources in their order. Then their seats are joined to one, which goes once more round the groups
+/// and asks for what is held by nobody; the store is let go at the end. A source of which a read answers a fault gives
+/// nothing then, and the next one is asked.
+///
+/// The store has room for `room` chunks, at least 1 and at most `capacity`. Where that is less than `capacity`, and the
+/// blob is too large for it or left unfinished, the work is done again with room for `capacity` chunks. As many as
+/// an encoding of N bytes can have are enough for it: N / 1,088 + 1.
+///
+/// 802 `Capacity` unless `capacity` is 1 to 65,536, asked before all else; 801 where there is no memory for the store,
+/// 806 for a worker's seat, and 911 `Starved` for the crews and the lists of sources. Then the blob is answered only
+/// once its hash is the root: 902 `NotTheRoot` where it isn't, 903 `Memory` where there is no memory for the blob. An
+/// unfinished blob is 911 where memory was refused to a worker, or in the last round, else 805 `TooLarge` where one met
+/// a length above 1,024 times the capacity, else 901 `Unfinished`.
+///
+/// Where one of the sources never fails, its bytes are known, and they are the combined encoding of a blob with the root,
+/// of at most `capacity` chunks, that blob is answered, whatever the other sources are, whether or not they fail, and
+/// however the workers meet; or there was no memory, or such a pair as follows is named.
+///
+/// At 805 each blob with the root is longer than the capacity, and at 902 there is none; or two different inputs with
+/// one chaining value are named, one of the blob's and one of a slice's that is accepted under the root. Where the
+/// bytes of the source are known from which it came, it is cut out of them. Such a slice certifies the length that is too
+/// large, too.
+pub fn gather_sources<R: Threads + Sync, S: Source + Sync>(
+    rt: &R,
+    alloc: Global,
+    root: Hash,
+    mode: Mode,
+    capacity: u32,
+    room: u32,
+    workers: u32,
+    sources: &[S],
+) -> Result<Vec<u8>, CrewsFault>
+    ensures root { IfOk result (λ blob. hash mode blob.items ≡ root.0) }
+    ensures fits { IfOk result (λ blob. length blob.items ≤ 1024 * capacity) }
+    ensures capacity { (result ≡ Err (Gather Capacity)) ↔ ((capacity ≡ 0) ⊎ (65536 < capacity)) }
+    ensures too_large { IsErrOf result (Gather TooLarge) → IsTooLarge (IsCutOfSource S.contents S.faultless sources.now) (fixed_as root mode capacity) }
+    ensures longer { IsErrOf result (Gather TooLarge) → AreLonger (IsCutOfSource S.contents S.faultless sources.now) (fixed_as root mode capacity) }
+    ensures none { IsErrOf result (Gather NotTheRoot) → IsOfNone (IsCutOfSource S.contents S.faultless sources.now) (fixed_as root mode capacity) }
+    ensures available { (blob : List ℕ) (i : ℕ) (source : S) → IsBlob (fixed_as root mode capacity) blob → chunk_count (length blob) ≤ capacity
+        → slice_get sources.now i ≡ Some source → S.contents source ≡ Some (combined_text mode blob) → S.faultless source
+        → IsHandedOut (IsCutOfSource S.contents S.faultless sources.now) (fixed_as root mode capacity) blob result }
+{
+    let first = room.max(1).min(capacity);
+    if first == capacity || capacity > MAX_CAPACITY {
+        return gather_within(rt, alloc, root, mode, capacity, workers, sources);
+    }
+    let gathered = gather_within(rt, alloc, root, mode, first, workers, sources);
+    if may_lack_room(&gathered) {
+        return gather_within(rt, alloc, root, mode, capacity, workers, sources);
+    }
+    gathered
+}
