@@ -33,8 +33,10 @@ HERE = os.path.dirname(os.path.abspath(__file__))
 OUT, KEPT, STDOUT, STDERR = "out", b"kept", "standard output", "standard error"
 PLAIN = b"bao_gather: memory\n"
 
-# The lines of --verbose, and those of them that want of memory adds.
-LEFT_OUT, STARVED = re.compile(rb"bao_gather: left out .*\n"), re.compile(rb"bao_gather: left out .*: no memory\n")
+# The lines of --verbose; the one of a FILE that was counted, and those in its place for want of memory.
+TOLD = re.compile(rb"bao_gather: (?:left out .*|.*: not counted: no memory|.*: \d+ of \d+ groups of 64 KiB refused)\n")
+COUNTED = re.compile(rb"bao_gather: (.*): \d+ of \d+ groups of 64 KiB refused")
+UNCOUNTED, STARVED = b"bao_gather: %b: not counted: no memory", b"bao_gather: left out %b: no memory"
 
 # No run comes near these seconds: it is held for ever.
 HELD = 120
@@ -172,8 +174,9 @@ class Case:
         """Whether it ended as promised, where these calls were met."""
         whole = self.ending()
         if fault.call == "malloc":
-            ended = dataclasses.replace(ended, complaint=STARVED.sub(b"", ended.complaint))
-            return ended == whole or self.is_of_memory(ended)
+            if is_told_for_less(whole.complaint, ended.complaint):
+                return dataclasses.replace(ended, complaint=whole.complaint) == whole
+            return self.is_of_memory(ended)
         if fault.call == "pthread_create" or fault.how in HARMLESS:
             return ended == whole
         ends_early = fault.call == "read" and fault.how == "none"
@@ -184,7 +187,7 @@ class Case:
 
     def is_of_memory(self, ended):
         """It ended with a fault of memory of its own, and OUT is as it was, or whole where the line on standard output found no room."""
-        complaint = LEFT_OUT.sub(b"", ended.complaint)
+        complaint = TOLD.sub(b"", ended.complaint)
         left = [KEPT, self.ending().out] if complaint == PLAIN else [KEPT]
         return ended.status == 4 and not ended.printed and complaint in self.memory and ended.out in left
 
@@ -199,6 +202,17 @@ class Case:
             status, complaint = 3, complaint + b"bao_gather: cannot write output\n"
         told = complaint.startswith(ended.complaint) if STDERR in places else ended.complaint == complaint
         return ended.status == status and ended.printed in printed and told and out
+
+
+def is_told_for_less(wanted, got):
+    """Whether this is the wanted complaint, but for a FILE that was left out, or wasn't counted, for want of memory."""
+    wanted, got = wanted.splitlines(), got.splitlines()
+
+    def is_alike(its, mine):
+        counted = COUNTED.fullmatch(its)
+        return mine == its or counted and mine in [it % counted[1] for it in (UNCOUNTED, STARVED)]
+
+    return len(wanted) == len(got) and all(map(is_alike, wanted, got))
 
 
 def limited():
@@ -222,7 +236,7 @@ def tried(case, faults, program, shim, room):
                 settings = {"LD_PRELOAD": shim, "CALL": fault.call, "AT": str(number), "HOW": fault.how, **({"ON": "1"} if fault.on else {})}
                 ended, met = case.run(program, folder, settings)
                 quiet = 0 if met else quiet + 1
-                seen.add(LEFT_OUT.sub(b"", ended.complaint))
+                seen.add(TOLD.sub(b"", ended.complaint))
                 if case.is_right(fault, met, ended):
                     passed += 1
                 else:

@@ -791,6 +791,8 @@ class Programs:
                 self.told.append(f"left out {it}: not opened")
             elif it not in self.files:
                 self.told.append(f"left out {it}: can't be read")
+            else:
+                self.told.append(f"{it}: {self.worth(mode, root, int(options['--capacity']), outline, self.files[it])} groups of 64 KiB refused")
         if isinstance(answer, Refused):
             raise answer
         self.write(out, bao.combined(mode, answer) if "--encode" in options else answer)
@@ -815,6 +817,14 @@ class Programs:
         if len(blob) != length:
             return Refused(1, "901 unfinished")
         return blob if mode.hash(blob) == root else Refused(1, "902 not the root")
+
+    def worth(self, mode, root, capacity, outline, text):
+        """How many of the groups that a file is asked for are refused, and of how many: by the length that it claims, or the outline."""
+        claimed = outline.length if outline else int.from_bytes(text[:8], "little")
+        length = min(claimed, bao.CHUNK_LEN * capacity) if outline or len(text) >= 8 else 0
+        groups, group_bytes = -(-bao.chunks_of(length) // GROUP_LEN), GROUP_LEN * bao.CHUNK_LEN
+        found = [next(self.pieces(mode, root, outline, [text], group_bytes * group, group_bytes), None) for group in range(groups)]
+        return f"{found.count(None)} of {groups}"
 
     def pieces(self, mode, root, outline, texts, start, count):
         """The accepted slices of these encodings, or of these plain copies beside an outline."""

@@ -4,3 +4,4 @@ pub mod Printed
 pub mod Outcome
 pub mod Tasks
 pub mod Numbers
+pub mod Told

@@ -1,6 +1,6 @@
 ghost use Rattle.std.specs.Prelude.{◌≡◌, ◌≢◌, true, false, ◌+◌, ◌-◌, ◌*◌, ◌^◌, ◌<◌, ◌≤◌, ℕ, List, length, map, string_bytes, IfErr, IfOk, IfSome, IsErrAnd, OnOk};
 ghost use Rattle.bao_command.specs.declared.fault.Fault.TheVariants as Fault;
-ghost use Rattle.std.specs.Io.KnownBytes.{Keeps};
+ghost use Rattle.std.specs.Io.KnownBytes.{Appends, Keeps};
 ghost use Rattle.b3tree.specs.Hashing.{hash as hash_of, stream};
 ghost use Rattle.clap.specs.Words.{kind_of};
 ghost use Rattle.hex.specs.Hex.{decode_of};
@@ -10,6 +10,7 @@ ghost use Rattle.bao_gathered.specs.Gathered.{HasOutline, IsGathered};
 ghost use Rattle.bao_command.specs.Outcome.{Begun, Done};
 ghost use Rattle.bao_command.specs.Printed.{Prints, told_of};
 ghost use Rattle.bao_command.specs.Tasks.{Answers, HasHash, HasManyFiles, HasRoot, IsBeside, IsDue, IsPastOutput, IsReplay, IsRight, IsRightCopy, IsRightPart, WritesApart, line_of, part_line};
+ghost use Rattle.bao_command.specs.Told.{worth_line};
 
 use crate::fault::Fault;
 use crate::help::{show, shown_status};
@@ -20,12 +21,13 @@ use bao_files::{
     Encoding, FileFault, Once, Part, bytes_of_digits, encode_file, open_file, print_count,
     print_digits, print_input, print_text, shared_len,
 };
-use bao_gathered::{Fate, GatheredFault, Gathering, gather_beside, gather_files};
+use bao_gathered::{Fate, GatheredFault, Gathering, Worth, gather_beside, gather_files};
 use bao_replay::replay_files;
 use bao_request::{Request, Task, parse};
 use clap::error::ErrorKind;
 use std::alloc::Global;
 use std::fs::File;
+use std::io;
 use std::io::Write;
 use std::rt::Files;
 use std::thread::Threads;
@@ -185,16 +187,34 @@ fn decode_beside<'a, R: Files + AllocGlobal, O: Write>(
     }
 }
 
-// Says which of the files were left out, and why, where that is asked. A write that fails is the last, and changes nothing.
+// Says what a file is worth.
+fn tell_worth<W: Write>(file: &str, worth: Worth, out: &mut W) -> io::Result<()>
+    ensures { OnOk result (Appends (W.contents out.old) (W.contents out.new) (worth_line file.now worth)) }
+{
+    let Worth { groups, refused } = worth;
+    writeln!(
+        out,
+        "bao_gather: {file}: {refused} of {groups} groups of 64 KiB refused"
+    )
+}
+
+// Says why a file was left out, or what it is worth, or that there was no memory to count that.
+fn tell_fate<E: Write>(file: &str, fate: Fate, err: &mut E) -> io::Result<()> {
+    match (fate.reason(), fate) {
+        (Some(reason), _) => writeln!(Once(err), "bao_gather: left out {file}: {reason}"),
+        (None, Fate::Taken(Some(worth))) => tell_worth(file, worth, &mut Once(err)),
+        (None, _) => writeln!(Once(err), "bao_gather: {file}: not counted: no memory"),
+    }
+}
+
+// Says so of each file, where that is asked. A write that fails is the last, and changes nothing.
 fn tell<E: Write>(verbose: bool, files: &[&str], fates: &[Fate], err: &mut E) {
     if !verbose {
         return;
     }
     for (file, fate) in files.iter().zip(fates) {
-        if let Some(reason) = fate.reason() {
-            if writeln!(Once(err), "bao_gather: left out {file}: {reason}").is_err() {
-                return;
-            }
+        if tell_fate(file, *fate, err).is_err() {
+            return;
         }
     }
 }
@@ -219,14 +239,13 @@ fn gather_by<'a, R: Files + AllocGlobal + Threads + Sync>(
     }
 }
 
-// Gathers the blob out of the files, says where it is asked which of them were left out, and prints how many bytes it has.
+// Gathers the blob out of the files, says where it is asked what each of them is worth, and prints how many bytes it has.
 fn gather<'a, R: Files + AllocGlobal + Threads + Sync, O: Write, E: Write>(
     rt: &R,
     mode: &Mode,
     digits: &str,
     how: Gathering,
     outboard: Option<&'a str>,
-    verbose: bool,
     files: &[&'a str],
     path: &'a str,
     out: &mut O,
@@ -248,7 +267,7 @@ fn gather<'a, R: Files + AllocGlobal + Threads + Sync, O: Write, E: Write>(
     };
     let fates_of = fates.as_mut_slice();
     let gathered = gather_by(rt, mode, &root, how, outboard, files, path, fates_of);
-    tell(verbose, files, fates.as_slice(), err);
+    tell(how.count, files, fates.as_slice(), err);
     match gathered {
         Ok(count) => told(print_count(rt.alloc(), count, out)),
         Err(fault) => Err(Fault::Gather(fault)),
@@ -326,6 +345,7 @@ fn serve_task<'a, R: Files<File = File> + AllocGlobal + Threads + Sync, O: Write
                 workers: *workers,
                 capacity: *capacity,
                 encode: *encode,
+                count: *verbose,
             };
             gather(
                 rt,
@@ -333,7 +353,6 @@ fn serve_task<'a, R: Files<File = File> + AllocGlobal + Threads + Sync, O: Write
                 root,
                 how,
                 *outboard,
-                *verbose,
                 files.as_slice(),
                 path,
                 out,

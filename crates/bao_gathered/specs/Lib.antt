@@ -1,2 +1,4 @@
 pub mod Gathered
 pub mod Faults
+pub mod Fates
+pub mod Worth

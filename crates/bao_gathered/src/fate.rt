@@ -1,10 +1,12 @@
-ghost use Rattle.std.specs.Prelude.{◌≡◌, ◌↔◌, IsNone};
+ghost use Rattle.std.specs.Prelude.{◌↔◌, IsNone};
+
+use crate::worth::Worth;
 
 /// What became of a file that a gathering was given.
 #[derive(Clone, Copy, Debug)]
 pub enum Fate {
-    /// Its bytes were read, whatever they are worth.
-    Taken,
+    /// Its bytes were read. It has what they are worth, where that was asked for and there was memory to count it.
+    Taken(Option<Worth>),
     /// It can't be opened or read.
     Unread,
     /// There was no memory for it.
@@ -15,12 +17,14 @@ pub enum Fate {
 }
 
 impl Fate {
+    ghost use Rattle.bao_gathered.specs.Fates.{IsTaken};
+
     /// Why the file was left out, if it was.
     pub fn reason(self) -> Option<&'static str>
-        ensures { IsNone result ↔ (self ≡ Fate.Taken) }
+        ensures { IsNone result ↔ IsTaken self }
     {
         match self {
-            Fate::Taken => None,
+            Fate::Taken(_) => None,
             Fate::Unread => Some("can't be read"),
             Fate::Starved => Some("no memory"),
             Fate::Unopened => Some("not opened"),

@@ -1,14 +1,16 @@
 ghost use Rattle.std.specs.Borrow.{Bor};
-ghost use Rattle.std.specs.Prelude.{◌≡◌, ◌⊎◌, ◌≤◌, ℕ, List, IfErr, IfOk, OnOk, Some, length, slice_get, IfSome};
+ghost use Rattle.std.specs.Prelude.{◌≡◌, ◌⊎◌, ◌≤◌, ℕ, List, IfErr, IfOk, IsSome, IsTrue, MatchOption, OnOk, Some, length, slice_get, IfSome};
 ghost use Rattle.std.specs.Io.KnownBytes.{Appends};
 ghost use Rattle.bao_text.specs.Faults.{WroteOnly};
-ghost use Rattle.bao_check.specs.Outline.{outline_mode, outline_root};
+ghost use Rattle.bao_check.specs.Outline.{outline_claimed, outline_mode, outline_root};
 ghost use Rattle.bao_files.specs.declared.fault.FileFault.TheVariants as FileFault;
 ghost use Rattle.bao_gathered.specs.Faults.{IsQuiet, NamesBeside, NamesFirst};
 ghost use Rattle.bao_gathered.specs.Gathered.{HasOutline, IsGathered, IsUnder, IsUnwritten, LeavesBlob, WritesBlob, gathered_text};
+ghost use Rattle.bao_gathered.specs.Worth.{IsGoodCut, IsGoodPart, IsWorth, groups_of, groups_within};
 
 use crate::fate::Fate;
 use crate::fault::GatheredFault;
+use crate::worth::{Worth, worth_of_copy, worth_of_encoding};
 use b3tree::{CHUNK_LEN, Hash, Mode};
 use bao_check::{Outline, check_outboard};
 use bao_files::{FileFault, LateFile, read_file};
@@ -48,13 +50,48 @@ fn kinds_of<R: Files>(
     Ok(kinds)
 }
 
+// What a file's bytes are worth, where that is asked for and there is memory to count it: as a plain copy beside the outline, where
+// there is one.
+fn counted(
+    alloc: Global,
+    mode: &Mode,
+    root: &Hash,
+    how: Gathering,
+    outline: Option<&Outline<'_>>,
+    text: &[u8],
+) -> Option<Worth>
+    ensures asked { IsSome result → IsTrue how.count }
+    ensures worth { IfSome result (λ worth. MatchOption outline.entry
+        (IsWorth (IsGoodCut mode.now root.now.0 text.now) (groups_of how.capacity text.now) worth)
+        (λ outline. IsWorth (IsGoodPart outline.now text.now) (groups_within how.capacity (outline_claimed outline.now)) worth)) }
+{
+    if !how.count {
+        return None;
+    }
+    match outline {
+        Some(outline) => Some(worth_of_copy(outline, how.capacity, text)),
+        None => worth_of_encoding(alloc, mode, root, how.capacity, text).ok(),
+    }
+}
+
 // Appends the bytes of a file to `texts`, where it can be read and finds room, and answers what became of it.
-fn take<R: Files + AllocGlobal>(rt: &R, path: &str, texts: &mut Vec<Vec<u8>>) -> Fate {
+fn take<R: Files + AllocGlobal>(
+    rt: &R,
+    mode: &Mode,
+    root: &Hash,
+    how: Gathering,
+    outline: Option<&Outline<'_>>,
+    path: &str,
+    texts: &mut Vec<Vec<u8>>,
+) -> Fate {
     match read_file(rt, path) {
-        Ok(text) => match texts.push(text) {
-            Ok(()) => Fate::Taken,
-            Err(_) => Fate::Starved,
-        },
+        Ok(text) => {
+            let worth = counted(rt.alloc(), mode, root, how, outline, text.as_slice());
+            match texts.push(text) {
+                Ok(()) => Fate::Taken(worth),
+                Err(_) => Fate::Starved,
+            }
+        }
         Err(FileFault::Memory) => Fate::Starved,
         Err(_) => Fate::Unread,
     }
@@ -63,6 +100,10 @@ fn take<R: Files + AllocGlobal>(rt: &R, path: &str, texts: &mut Vec<Vec<u8>>) ->
 // Does so with the files of one kind, and answers whether one of them found no room.
 fn read_files<R: Files + AllocGlobal>(
     rt: &R,
+    mode: &Mode,
+    root: &Hash,
+    how: Gathering,
+    outline: Option<&Outline<'_>>,
     paths: &[&str],
     kinds: &[bool],
     regular: bool,
@@ -72,7 +113,7 @@ fn read_files<R: Files + AllocGlobal>(
     let mut starved = false;
     for (place, (path, kind)) in paths.iter().zip(kinds).enumerate() {
         if *kind == regular {
-            let fate = take(rt, path, texts);
+            let fate = take(rt, mode, root, how, outline, path, texts);
             starved |= matches!(fate, Fate::Starved);
             note(fates, place, fate);
         }
@@ -89,6 +130,8 @@ pub struct Gathering {
     pub capacity: u32,
     /// Whether the blob's combined encoding is written in its place.
     pub encode: bool,
+    /// Whether it is counted what each file that is read is worth.
+    pub count: bool,
 }
 
 // Writes the blob, or its combined encoding.
@@ -231,6 +274,14 @@ fn is_unfinished(fault: CrewsFault) -> bool {
     }
 }
 
+// The fault after which another holder's text might make the blob whole, if the work ended with such a one.
+fn unfinished_by(ended: &Result<u64, GatheredFault<'_>>) -> Option<CrewsFault> {
+    match ended {
+        Err(GatheredFault::Gather(fault)) if is_unfinished(*fault) => Some(*fault),
+        _ => None,
+    }
+}
+
 // Why no blob came together: there was no memory for a file; what gathering those that were read met; or none was read.
 fn cause_of<'a>(
     starved: bool,
@@ -279,11 +330,13 @@ fn gather_by<'a, R: Files + AllocGlobal + Threads + Sync>(
     for regular in [true, false] {
         let known = texts.len();
         let kinds = kinds.as_slice();
-        starved |= read_files(rt, files, kinds, regular, &mut texts, fates);
+        starved |= read_files(
+            rt, mode, root, how, outline, files, kinds, regular, &mut texts, fates,
+        );
         if texts.len() == known {
             continue;
         }
-        match write_texts(
+        let ended = write_texts(
             rt,
             mode,
             root,
@@ -292,9 +345,10 @@ fn gather_by<'a, R: Files + AllocGlobal + Threads + Sync>(
             texts.as_slice(),
             path,
             &mut out,
-        ) {
-            Err(GatheredFault::Gather(fault)) if is_unfinished(fault) => met = Some(fault),
-            ended => return ended,
+        );
+        met = unfinished_by(&ended);
+        if met.is_none() {
+            return ended;
         }
     }
     Err(cause_of(starved, met, files, path))
@@ -304,7 +358,8 @@ fn gather_by<'a, R: Files + AllocGlobal + Threads + Sync>(
 /// holder that nobody trusts, writes it, or its combined encoding, to the file at `path`, made anew once the blob was
 /// verified, and answers how many bytes the blob has. A file that can't be read, or for which there is no memory, is
 /// left out. What isn't a regular file, as a pipe, is opened only where the regular ones leave the blob unfinished. What became
-/// of each file is noted in `fates` at its place, as far as that has places, whatever is answered.
+/// of each file is noted in `fates` at its place, as far as that has places, whatever is answered; with `count` what each one that
+/// was read is worth, too (`worth_of_encoding`), where there was memory to count it.
 ///
 /// Refuses files of which none can be read (`File` with `Read` of the first), a blob that did not come together (`Gather`,
 /// or `File` with `Memory` where there was none for one of the files), one for whose encoding there was no memory (`File`
@@ -326,7 +381,8 @@ pub fn gather_files<'a, R: Files + AllocGlobal + Threads + Sync>(
 }
 
 /// As `gather_files`, out of plain copies of the blob beside its outboard encoding, which is read and checked first, under this
-/// root and in this mode, before any of the files is looked at: each of these may be whole, cut, changed, or any bytes.
+/// root and in this mode, before any of the files is looked at: each of these may be whole, cut, changed, or any bytes. What
+/// they are worth is counted by `worth_of_copy`.
 ///
 /// Refuses an outboard encoding that can't be read (`File` with `Read`, or with `Memory`) or isn't accepted (`Outboard`), and then
 /// as `gather_files` does.

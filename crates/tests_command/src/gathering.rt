@@ -87,6 +87,7 @@ fn blobs_to_writers(rt: HostRuntime) -> Result<(), Fail> {
             workers: 2,
             capacity: 3,
             encode,
+            count: false,
         };
         for room in [0, 10, 2048] {
             let mut out: Broken = failing(rt.alloc(), room, ErrorKind::Interrupted);
