@@ -5,7 +5,7 @@ usage: python3 scripts/refuse.py [--lanes N] [--only TEXT] [PROGRAM]
 
 PROGRAM is the built bao_gather, out/bao_gather where it is left out.
 
-Holders that lie are tried, with a true one among them or none. And each task is run with one call of the C library failing, and so with each
+Holders that lie are tried, with a true one among them or none. What a terminal is shown is looked at, by a clock of the shim's. And each task is run with one call of the C library failing, and so with each
 such call in turn, until a run meets none: an allocation, a thread's start, an open, a read, a write, a close, or the question how long
 a file is (scripts/shim.c). It fails as FAULTS says, that once or from then on. What has to come is what scripts/scenarios.py gives by the
 definitions alone, of the files as the run found them, or a fault of docs/CLI.md: never another text, status or byte of OUT.
@@ -17,11 +17,13 @@ import errno
 import functools
 import multiprocessing
 import os
+import pty
 import re
 import resource
 import subprocess
 import sys
 import tempfile
+import tty
 from dataclasses import dataclass
 
 sys.dont_write_bytecode = True
@@ -299,6 +301,77 @@ def long_tasks():
     return [Case(words, {"blob": blob}, is_avoidable=True) for words in (["hash", "blob"], ["encode", "blob", OUT], ["outboard", "blob", OUT])]
 
 
+# What a terminal gets while a file is read: a line that is written over, and at last wiped.
+LINES, COUNT = re.compile(rb"(?:\r[0-4] of 4 MiB read\x1b\[K)+\r\x1b\[K"), re.compile(rb"\r([0-4]) of")
+
+
+def are_lines(got, is_in_order):
+    """Whether a terminal got such lines, and where one thread read alone, and all, counts that go up to the last."""
+    counts = COUNT.findall(got)
+    return LINES.fullmatch(got) is not None and not (is_in_order and (counts != sorted(counts) or counts[-1] != b"4"))
+
+
+def on_terminal(program, shim, folder, words, settings):
+    """Runs the program with standard error a terminal, and answers its status, what it printed, and what the terminal got."""
+    ours, theirs = pty.openpty()
+    tty.setraw(theirs)
+    env = {**os.environ, "LD_PRELOAD": shim, **settings}
+    ran = subprocess.Popen([program, *words], stdin=subprocess.DEVNULL, stdout=subprocess.PIPE, stderr=theirs, cwd=folder, env=env)
+    os.close(theirs)
+    got = b""
+    try:
+        while some := os.read(ours, 4096):
+            got += some
+    except OSError:
+        pass  # Linux answers so where nobody has the terminal any more.
+    os.close(ours)
+    printed, _ = ran.communicate(timeout=HELD)
+    return ran.returncode, printed, got
+
+
+def shows(program, shim, room):
+    """Holds what a terminal is shown to docs/CLI.md: by a clock that is asked for each line and moves a second then, or stands. Answers
+    how many runs were right, and what to say of the others."""
+    moves, stands = {"CLOCK": "moves"}, {"CLOCK": "stands"}
+    failing = lambda call, at: {**moves, "CALL": call, "AT": str(at), "HOW": str(errno.EIO)}
+    long, short, nowhere = blob_of(LONG), blob_of(70_000), "nowhere/out"
+    digits = {it: Case(["hash", "blob"], {"blob": it}).ending().printed for it in (long, short)}
+    first, slice_words = ["hash", "--length", "1", "blob"], ["slice", "5", "9999", "blob", OUT]
+    written = [[task, "blob", OUT] for task in ("encode", "outboard")] + [slice_words]
+    # The words, the blob, how the clock goes and a call ends, whether lines are shown, and the fault after them where there is one.
+    trials = [(words, long, how, how is moves, b"") for words in [["hash", "blob"], first, *written] for how in (moves, stands)]
+    trials += [(words, short, moves, False, b"") for words in [["hash", "blob"], *written]]
+    trials.append((["encode", "blob", nowhere], long, moves, True, f"bao_gather: cannot write {nowhere}\n".encode()))
+    # A read at a place that fails has the file read in order, which is shown too; one in order that fails ends the work.
+    trials.append((["hash", "blob"], long, failing("pread", 7), True, b""))
+    trials.append((slice_words, long, failing("read", 7), True, b"bao_gather: cannot read blob\n"))
+    # The first line can't be written: there are no others.
+    trials.append((["outboard", "blob", OUT], long, failing("write", 1), False, b""))
+    passed, wrong = 0, []
+    with tempfile.TemporaryDirectory(dir=room) as folder:
+        for words, blob, how, is_shown, fault in trials:
+            case = Case(words, {"blob": blob})
+            case.lay_out(folder)
+            status, printed, got = on_terminal(program, shim, folder, words, how)
+            wanted = (3, b"") if fault else (0, digits[blob][:2] + b"\n" if words == first else digits[blob])
+            left = got.removesuffix(fault) if got.endswith(fault) else b"no fault"
+            is_in_order = not fault and words not in (["hash", "blob"], ["encode", "blob", OUT])
+            if (status, printed) == wanted and (are_lines(left, is_in_order) if is_shown else left == b""):
+                passed += 1
+            else:
+                wrong.append(f"{case.name}: {how}, {len(blob)} bytes: {status} {printed} {got}"[:900])
+        # Where standard error is no terminal, nothing is shown, whatever the clock says.
+        for words in [["hash", "blob"], *written]:
+            case = Case(words, {"blob": long})
+            case.lay_out(folder)
+            ended, _ = case.run(program, folder, {"LD_PRELOAD": shim, **moves})
+            if (ended.status, ended.printed, ended.complaint) == (0, digits[long], b""):
+                passed += 1
+            else:
+                wrong.append(f"{case.name}: into a pipe: {ended.status} {ended.printed} {ended.complaint}"[:900])
+    return passed, wrong
+
+
 def liars(mode, blob):
     """Texts that aren't the blob's combined encoding, and that no part of the blob has to come from."""
     whole, other = bao.combined(mode, blob), bao.combined(mode, blob[1:])
@@ -378,10 +451,11 @@ def is_told(program, words):
 
 
 def work(given):
-    """One part of the trials: some cases, with the faults to try. Answers what to print, how many runs passed and how many failed."""
+    """One part of the trials: some cases, with the faults to try, or a function that tries its own. Answers what to print, how many runs passed
+    and how many failed."""
     name, cases, faults, *where = given
-    passed, wrong = 0, []
-    for case in cases:
+    passed, wrong = cases(*where) if callable(cases) else (0, [])
+    for case in [] if callable(cases) else cases:
         try:
             right, others = tried(case, faults, *where)
         except Exception as error:
@@ -403,6 +477,7 @@ def main():
         subprocess.run(["cc", "-shared", "-fPIC", "-O1", "-o", shim, f"{HERE}/shim.c", "-ldl"], check=True)
         chosen = lambda cases: [it for it in cases if asked.only in it.name]
         parts = [("a file that is read at places", chosen(long_tasks()), FAULTS, *where)]
+        parts += [("progress on a terminal", shows, [], *where)] if not asked.only else []
         parts.append(("holders", chosen(holders()), [], *where))
         parts += [(case.name, [case], FAULTS, *where) for options in MODES for case in chosen(tasks(options))]
         with multiprocessing.Pool(asked.lanes) as pool:

@@ -6,6 +6,7 @@
             short (half of the bytes, and one at least, are moved), none (no byte is, as at an end),
             less, more (a file is said to have half of its bytes, or twice as many)
    ON       if it is there, all such calls from that one on
+   CLOCK    moves (each time that is asked for is a second after the one before) or stands (all are the same)
    MET      the file to which a line is added for each call that was met: at which byte a file stood, or -, and its path,
             or what else it was for */
 #define _GNU_SOURCE
@@ -20,6 +21,7 @@
 #include <string.h>
 #include <sys/stat.h>
 #include <sys/syscall.h>
+#include <time.h>
 #include <unistd.h>
 
 enum { PATHS = 256, PATH_LEN = 256 };
@@ -140,6 +142,15 @@ int close(int fd) {
     int is_ours = is_met("close", path_of(fd));
     int answer = REAL(close)(fd);
     return is_ours ? failed() : answer;
+}
+
+int clock_gettime(clockid_t clock, struct timespec *time) {
+    static atomic_long seconds;
+    const char *how = getenv("CLOCK");
+    if (!how) return REAL(clock_gettime)(clock, time);
+    time->tv_sec = 1000 + (strcmp(how, "moves") ? 0 : atomic_fetch_add(&seconds, 1));
+    time->tv_nsec = 0;
+    return 0;
 }
 
 int pthread_create(pthread_t *thread, const pthread_attr_t *given, void *(*run)(void *), void *word) {

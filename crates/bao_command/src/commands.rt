@@ -24,6 +24,7 @@ use bao_files::{
 use bao_gathered::{Fate, GatheredFault, Gathering, Worth, gather_beside, gather_files};
 use bao_replay::replay_files;
 use bao_request::{Request, Task, parse};
+use bao_shown::{Progress, Shown};
 use clap::error::ErrorKind;
 use std::alloc::Global;
 use std::fs::File;
@@ -37,24 +38,25 @@ const MOST_FILES: usize = 64;
 
 /// Runs the program on `words`, its name first, with `out` and `err` as its standard output and error,
 /// and answers the exit status: 0 done, 1 a text or a blob that is refused, 2 wrong words, 3 a file fault, 4 want of
-/// memory.
+/// memory. How far the file of `hash`, `encode`, `outboard` or `slice` has been read, where it is said to have at least 4 MiB,
+/// is told to `progress`, which is told that the work is over before anything is printed.
 ///
 /// At status 0 `out` has the line of the request that the words make, on the file's bytes or the gathered blob, or
 /// where they ask for it help or the version, or a beginning of that where its reader closed the pipe. At 3 it has a
 /// beginning at most, and after other faults nothing.
-pub fn command<R: Files<File = File> + AllocGlobal + Threads + Sync, O: Write, E: Write>(
-    rt: &R,
-    words: &[String],
-    out: &mut O,
-    err: &mut E,
-) -> u8
+pub fn command<
+    R: Files<File = File> + AllocGlobal + Threads + Sync,
+    O: Write,
+    E: Write,
+    P: Progress + Sync,
+>(rt: &R, words: &[String], out: &mut O, err: &mut E, progress: &P) -> u8
     ensures status { result ≤ 4 }
     ensures done { result ≡ 0 → Done (map string_bytes words.now) (O.contents out.old) (O.contents out.new) }
     ensures file_fault { result ≡ 3 → Begun (map string_bytes words.now) (O.contents out.old) (O.contents out.new) }
     ensures fault { result ≢ 0 → result ≢ 3 → Keeps (O.contents out.old) (O.contents out.new) }
 {
     match parse(rt.alloc(), words) {
-        Ok(request) => match serve(rt, &request, out, err) {
+        Ok(request) => match serve(rt, &request, out, err, progress) {
             Ok(()) => 0,
             Err(fault) => fault.report(err),
         },
@@ -63,12 +65,13 @@ pub fn command<R: Files<File = File> + AllocGlobal + Threads + Sync, O: Write, E
 }
 
 // Does what the request asks for. What is told beside its line goes to `err`.
-fn serve<'a, R: Files<File = File> + AllocGlobal + Threads + Sync, O: Write, E: Write>(
-    rt: &R,
-    request: &Request<'a>,
-    out: &mut O,
-    err: &mut E,
-) -> Result<(), Fault<'a>>
+fn serve<
+    'a,
+    R: Files<File = File> + AllocGlobal + Threads + Sync,
+    O: Write,
+    E: Write,
+    P: Progress + Sync,
+>(rt: &R, request: &Request<'a>, out: &mut O, err: &mut E, progress: &P) -> Result<(), Fault<'a>>
     ensures answer { Answers request.now (O.contents out.old) (O.contents out.new) result }
     ensures root { ¬ HasRoot request.now.task → IsErrAnd result (λ fault. fault ≡ Fault.Root) }
     ensures due { IfErr result (IsDue (¬ HasRoot request.now.task) (IsPastOutput request.now.task) (HasManyFiles request.now.task) (¬ WritesApart request.now.task)) }
@@ -76,7 +79,7 @@ fn serve<'a, R: Files<File = File> + AllocGlobal + Threads + Sync, O: Write, E: 
     check_root(&request.task)?;
     let mode = mode_of(request.key, request.context)?;
     if writes_apart(&request.task) {
-        serve_task(rt, &mode, &request.task, out, err)
+        serve_task(rt, &mode, &request.task, out, err, progress)
     } else {
         Err(Fault::OutIsOutput)
     }
@@ -105,13 +108,14 @@ fn root_of<'a>(digits: &str) -> Result<Hash, Fault<'a>>
 }
 
 // Prints output of the file.
-fn hash<'a, R: Files<File = File> + AllocGlobal + Threads + Sync, O: Write>(
+fn hash<'a, R: Files<File = File> + AllocGlobal + Threads + Sync, O: Write, P: Progress + Sync>(
     rt: &R,
     mode: &Mode,
     at: u64,
     len: u32,
     file: &'a str,
     out: &mut O,
+    progress: &P,
 ) -> Result<(), Fault<'a>>
     ensures prints { (bytes : List ℕ) × Prints (digits_line (stream mode.now bytes at len)) (O.contents out.old) (O.contents out.new) result }
     ensures due { IfErr result (IsDue ⊥ (¬ (at + len ≤ 2 ^ 64 - 1)) ⊥ ⊥) }
@@ -119,27 +123,29 @@ fn hash<'a, R: Files<File = File> + AllocGlobal + Threads + Sync, O: Write>(
     if !xof_fits(at, u64::from(len)) {
         return Err(Fault::OutputRange);
     }
-    let mut input = match open_file(rt, file) {
+    let input = match open_file(rt, file) {
         Ok(input) => input,
         Err(fault) => return Err(Fault::File(fault)),
     };
     let hint = shared_len(&input);
+    let mut input = Shown::over(input, hint, progress);
     told(print_input(rt, mode, &mut input, hint, file, at, len, out))
 }
 
 // Encodes the file, and prints the hash.
-fn encode<'a, R: Files<File = File> + AllocGlobal + Threads + Sync, O: Write>(
+fn encode<'a, R: Files<File = File> + AllocGlobal + Threads + Sync, O: Write, P: Progress + Sync>(
     rt: &R,
     mode: &Mode,
     encoding: Encoding,
     file: &'a str,
     path: &'a str,
     out: &mut O,
+    progress: &P,
 ) -> Result<(), Fault<'a>>
     ensures prints { (bytes : List ℕ) × Prints (digits_line (hash_of mode.now bytes)) (O.contents out.old) (O.contents out.new) result }
     ensures due { IfErr result (IsDue ⊥ ⊥ ⊥ ⊥) }
 {
-    match encode_file(rt, mode, encoding, file, path) {
+    match encode_file(rt, mode, encoding, file, path, progress) {
         Ok(hash) => told(print_digits(rt.alloc(), &hash.0, out)),
         Err(fault) => Err(Fault::File(fault)),
     }
@@ -301,24 +307,31 @@ fn replay<'a, R: Files + AllocGlobal, O: Write>(
 }
 
 // Does the task on the files' bytes, whatever these are.
-fn serve_task<'a, R: Files<File = File> + AllocGlobal + Threads + Sync, O: Write, E: Write>(
+fn serve_task<
+    'a,
+    R: Files<File = File> + AllocGlobal + Threads + Sync,
+    O: Write,
+    E: Write,
+    P: Progress + Sync,
+>(
     rt: &R,
     mode: &Mode,
     task: &Task<'a>,
     out: &mut O,
     err: &mut E,
+    progress: &P,
 ) -> Result<(), Fault<'a>>
     ensures prints { (bytes : List ℕ) × OnOk result (IsRight mode.now task.now bytes)
         × Prints (line_of mode.now task.now bytes) (O.contents out.old) (O.contents out.new) result }
     ensures due { IfErr result (IsDue (¬ HasRoot task.now) (IsPastOutput task.now) (HasManyFiles task.now) ⊥) }
 {
     match task {
-        Task::Hash { at, length, file } => hash(rt, mode, *at, *length, file, out),
+        Task::Hash { at, length, file } => hash(rt, mode, *at, *length, file, out, progress),
         Task::Encode {
             encoding,
             file,
             out: path,
-        } => encode(rt, mode, *encoding, file, path, out),
+        } => encode(rt, mode, *encoding, file, path, out, progress),
         Task::Decode {
             root,
             part,

@@ -5,6 +5,7 @@ ghost use Rattle.bao_command.specs.Outcome.{Ends};
 use crate::commands::command;
 use crate::fault::Fault;
 use crate::words::own_words;
+use bao_shown::Progress;
 use std::fs::File;
 use std::io::Write;
 use std::process::ExitCode;
@@ -13,21 +14,22 @@ use std::thread::Threads;
 
 /// Runs the program on the words that the process was given, with `out` and `err` as its standard output
 /// and error, and answers the exit status: 0 done, 1 a text that is refused, 2 wrong words, 3 a file
-/// fault, 4 want of memory.
+/// fault, 4 want of memory. `progress` is told how far a long read has come, as by `command`.
 ///
 /// At status 0 `out` has the line of the request that the words make, on the file's bytes, or where they ask
 /// for it help or the version, or a beginning of that where its reader closed the pipe. At 3 it has a beginning at most, and
 /// after other faults nothing.
-pub fn run<R: Env + Files<File = File> + AllocGlobal + Threads + Sync, O: Write, E: Write>(
-    rt: &R,
-    out: &mut O,
-    err: &mut E,
-) -> ExitCode
+pub fn run<
+    R: Env + Files<File = File> + AllocGlobal + Threads + Sync,
+    O: Write,
+    E: Write,
+    P: Progress + Sync,
+>(rt: &R, out: &mut O, err: &mut E, progress: &P) -> ExitCode
     ensures status { exit_status result ≤ 4 }
     ensures outcome { (words : List (List ℕ)) × Ends words (O.contents out.old) (O.contents out.new) (exit_status result) }
 {
     match own_words(rt) {
-        Ok(words) => ExitCode::from(command(rt, words.as_slice(), out, err)),
+        Ok(words) => ExitCode::from(command(rt, words.as_slice(), out, err, progress)),
         Err(fault) => ExitCode::from(fault.report(err)),
     }
 }

@@ -13,6 +13,7 @@ use crate::kinds::Encoding;
 use b3read::{RANGES, Source};
 use b3tree::{Hash, Mode};
 use bao_read::{combined_source, outboard_source};
+use bao_shown::{Progress, Shown};
 use bao_text::{WriteFault, outboard, slice, write_combined, write_text, write_texts};
 use std::alloc::Global;
 use std::fs::File;
@@ -205,23 +206,27 @@ pub fn encode_input<'a, R: Threads + Sync + AllocGlobal, I: Read + Source + Sync
     answer_at(written, path)
 }
 
-/// Writes this encoding in `mode` of the file at `file` to the file at `path`, made anew, and answers the hash.
+/// Writes this encoding in `mode` of the file at `file` to the file at `path`, made anew, and answers the hash. How far a
+/// file that is said to have at least 4 MiB has been read is told to `progress`, which has no part in the answer.
 ///
 /// After `Read`, where the file can't be opened or read, and after `Memory` and `Encoding`, for want of memory, the
 /// path is as it was. After `Write` a beginning of the encoding may stand there.
-pub fn encode_file<'a, R: Files<File = File> + AllocGlobal + Threads + Sync>(
+pub fn encode_file<'a, R: Files<File = File> + AllocGlobal + Threads + Sync, P: Progress + Sync>(
     rt: &R,
     mode: &Mode,
     encoding: Encoding,
     file: &'a str,
     path: &'a str,
+    progress: &P,
 ) -> Result<Hash, FileFault<'a>>
     ensures hash { IfOk result (λ h. (bytes : List ℕ) × (h.0 ≡ hash mode.now bytes)) }
     ensures fault { IfErr result IsQuiet }
     ensures paths { IfErr result (NamesPaths file.entry path.entry) }
 {
-    let mut input = open_file(rt, file)?;
+    let input = open_file(rt, file)?;
     let size = size_of(&input, file)?;
+    let shown = (size >= LEAST_SHARED_LEN).then_some(size);
+    let mut input = Shown::over(input, shown, progress);
     let mut out = LateFile::new(rt, path);
     encode_input(rt, mode, encoding, &mut input, size, file, &mut out, path)
 }

@@ -1,8 +1,15 @@
 //! The program `bao_gather` again, for a stored run that ends with a status above 0: a text that is refused.
 #![tactic(auto)]
 
+use bao_shown::Meter;
+use std::io::IsTerminal;
 use std::process::ExitCode;
 
 fn main(rt: HostRuntime) -> ExitCode {
-    bao_command::run(&rt, &mut rt.stdout(), &mut rt.stderr())
+    let meter = if rt.stderr().is_terminal() {
+        Some(Meter::new(&rt, rt.stderr()))
+    } else {
+        None
+    };
+    bao_command::run(&rt, &mut rt.stdout(), &mut rt.stderr(), &meter)
 }

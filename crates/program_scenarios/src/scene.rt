@@ -94,7 +94,7 @@ impl Scene {
         }
         let mut out = Vec::new(alloc);
         let mut err = Vec::new(alloc);
-        let status = command(rt, all.as_slice(), &mut out, &mut err);
+        let status = command(rt, all.as_slice(), &mut out, &mut err, &());
         let mut said = format!(in alloc; "status {status}\n")?;
         lines_of(&mut said, "out", out.as_slice())?;
         lines_of(&mut said, "err", err.as_slice())?;

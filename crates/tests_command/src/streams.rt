@@ -101,7 +101,7 @@ pub(crate) fn expect<R: Files<File = File> + AllocGlobal + Threads + Sync + Abor
     let words = words(rt.alloc(), given)?;
     let mut printed = Vec::new(rt.alloc());
     let mut faults = Vec::new(rt.alloc());
-    let got = command(rt, words.as_slice(), &mut printed, &mut faults);
+    let got = command(rt, words.as_slice(), &mut printed, &mut faults, &());
     assert_eq!(rt; got, status, "{given:?}");
     assert_eq!(rt; printed.as_slice(), out.as_bytes(), "{given:?}");
     assert_eq!(rt; faults.as_slice(), err.as_bytes(), "{given:?}");
@@ -135,7 +135,10 @@ fn a_file_of_no_size_is_read_whole(rt: HostRuntime) -> Result<(), Fail> {
     let words = words(rt.alloc(), &["hash", file])?;
     let mut line = Vec::new(rt.alloc());
     let mut faults = Vec::new(rt.alloc());
-    assert_eq!(rt; command(&rt, words.as_slice(), &mut line, &mut faults), 0);
+    assert_eq!(rt;
+        command(&rt, words.as_slice(), &mut line, &mut faults, &()),
+        0
+    );
     expect(
         &rt,
         &["hash", "/proc/version"],
@@ -162,7 +165,7 @@ fn faults_of_streams(rt: HostRuntime) -> Result<(), Fail> {
             let words = words(rt.alloc(), &["hash", file])?;
             let mut faults = Vec::new(rt.alloc());
             let mut out = failing(rt.alloc(), room, kind);
-            let status = command(&rt, words.as_slice(), &mut out, &mut faults);
+            let status = command(&rt, words.as_slice(), &mut out, &mut faults, &());
             assert_eq!(rt; status, 3);
             assert_eq!(rt; faults.as_slice(), output.as_bytes());
             assert_eq!(rt; Some(out.held.as_slice()), ABC.as_bytes().get(..room));
@@ -170,7 +173,7 @@ fn faults_of_streams(rt: HostRuntime) -> Result<(), Fail> {
         let words = words(rt.alloc(), &["help", "hash"])?;
         let mut faults = Vec::new(rt.alloc());
         let mut out = failing(rt.alloc(), 10, kind);
-        let status = command(&rt, words.as_slice(), &mut out, &mut faults);
+        let status = command(&rt, words.as_slice(), &mut out, &mut faults, &());
         assert_eq!(rt; status, of_help);
         assert_eq!(rt; faults.as_slice(), told.as_bytes());
         assert_eq!(rt; out.held.as_slice(), b"Prints the".as_slice());
@@ -180,7 +183,10 @@ fn faults_of_streams(rt: HostRuntime) -> Result<(), Fail> {
         let mut faults = Vec::new(rt.alloc());
         let mut out = failing(rt.alloc(), usize::MAX, ErrorKind::Other);
         out.stuck = true;
-        assert_eq!(rt; command(&rt, words.as_slice(), &mut out, &mut faults), 3);
+        assert_eq!(rt;
+            command(&rt, words.as_slice(), &mut out, &mut faults, &()),
+            3
+        );
         assert_eq!(rt; faults.as_slice(), output.as_bytes());
     }
     fs::remove_file(&rt, file)?;
@@ -195,7 +201,7 @@ fn faults_of_standard_error(rt: HostRuntime) -> Result<(), Fail> {
             let words = words(rt.alloc(), given.as_slice())?;
             let mut printed = Vec::new(rt.alloc());
             let mut err = failing(rt.alloc(), 5, kind);
-            let got = command(&rt, words.as_slice(), &mut printed, &mut err);
+            let got = command(&rt, words.as_slice(), &mut printed, &mut err, &());
             assert_eq!(rt; got, status);
             assert!(rt; printed.is_empty());
             assert_eq!(rt; err.held.len(), 5);

@@ -1,0 +1,67 @@
+ghost use Rattle.std.specs.Prelude.{◌≡◌};
+
+use crate::progress::Progress;
+use b3read::Source;
+use std::io;
+use std::io::Read;
+
+/// A source, or a reader, of which `progress` is told how many bytes each read gave. It gives what `source` gives: the same
+/// bytes, the same faults.
+pub struct Shown<'a, S, P: Progress> {
+    source: S,
+    progress: &'a P,
+}
+
+impl<S: Drop, P: Progress> Drop for Shown<'_, S, P> {
+    fn drop(self) {
+        self.progress.end();
+        let Shown {
+            source: _,
+            progress: _,
+        } = self;
+    }
+}
+
+impl<'a, S, P: Progress> Shown<'a, S, P> {
+    /// The same source. Where its length is known, `progress` is told that work on so many bytes begins, and once a read
+    /// has come to the end, or the value is dropped, that it is over; without a length it is never told that work begins.
+    pub fn over(source: S, len: Option<u64>, progress: &'a P) -> Shown<'a, S, P>
+        ensures { result.source ≡ source }
+    {
+        if let Some(len) = len {
+            progress.begin(len);
+        }
+        Shown { source, progress }
+    }
+}
+
+// Tells how many bytes came. A read that gives none has come to the end.
+fn tell<P: Progress>(read: &io::Result<usize>, progress: &P) {
+    match read {
+        Ok(0) => progress.end(),
+        Ok(count) => progress.add(*count as u64),
+        Err(_) => {}
+    }
+}
+
+impl<S: Source, P: Progress> Source for Shown<'_, S, P> {
+    ghost contents = { λ shown. S.contents shown.source };
+
+    ghost faultless = { λ shown. S.faultless shown.source };
+
+    fn read_at(&self, buf: &mut [u8], at: u64) -> io::Result<usize> {
+        let read = self.source.read_at(buf, at);
+        tell(&read, self.progress);
+        read
+    }
+}
+
+impl<S: Read, P: Progress> Read for Shown<'_, S, P> {
+    ghost remaining = { λ shown. S.remaining shown.source };
+
+    fn read(&mut self, buf: &mut [u8]) -> io::Result<usize> {
+        let read = self.source.read(buf);
+        tell(&read, self.progress);
+        read
+    }
+}
