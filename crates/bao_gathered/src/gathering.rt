@@ -10,6 +10,7 @@ ghost use Rattle.bao_gathered.specs.Worth.{IsGoodCut, IsGoodPart, IsWorth, group
 
 use crate::fate::Fate;
 use crate::fault::GatheredFault;
+use crate::placed::gather_placed;
 use crate::worth::{Worth, worth_of_copy, worth_of_encoding};
 use b3tree::{CHUNK_LEN, Hash, Mode};
 use bao_check::{Outline, check_outboard};
@@ -19,12 +20,13 @@ use crews::{CrewsFault, gather_copies, gather_texts};
 use gather::GatherFault;
 use std::alloc::{AllocError, Global};
 use std::fs;
+use std::fs::File;
 use std::io::Write;
 use std::rt::Files;
 use std::thread::Threads;
 
 // Notes what became of the file at this place.
-fn note(fates: &mut [Fate], place: usize, fate: Fate) {
+pub(crate) fn note(fates: &mut [Fate], place: usize, fate: Fate) {
     if let Some(noted) = fates.get_mut(place) {
         *noted = fate;
     }
@@ -154,7 +156,7 @@ fn write_blob<W: Write>(
 }
 
 // Writes the blob, or its combined encoding, to `out`, which is flushed, and answers how many bytes the blob has.
-fn write_whole<'a, W: Write>(
+pub(crate) fn write_whole<'a, W: Write>(
     alloc: Global,
     mode: &Mode,
     encode: bool,
@@ -205,7 +207,7 @@ pub fn write_gathered<'a, R: AllocGlobal + Threads + Sync, W: Write>(
 }
 
 // How many chunks a blob may have that is gathered beside the outline: those of the length that it claims are enough room.
-fn room_beside(outline: &Outline<'_>, capacity: u32) -> u32
+pub(crate) fn room_beside(outline: &Outline<'_>, capacity: u32) -> u32
     ensures { result ≤ capacity }
 {
     let chunks = outline.claimed().div_ceil(CHUNK_LEN as u64).max(1);
@@ -304,7 +306,7 @@ fn cause_of<'a>(
 
 // Gathers the blob out of the files, which are plain copies beside the outline where there is one, as `gather_files` and
 // `gather_beside` say.
-fn gather_by<'a, R: Files + AllocGlobal + Threads + Sync>(
+fn gather_by<'a, R: Files<File = File> + AllocGlobal + Threads + Sync>(
     rt: &R,
     mode: &Mode,
     root: &Hash,
@@ -323,6 +325,14 @@ fn gather_by<'a, R: Files + AllocGlobal + Threads + Sync>(
     let Ok(kinds) = kinds_of(rt, alloc, files, fates) else {
         return Err(GatheredFault::File(FileFault::Memory));
     };
+    if !how.count {
+        let kinds = kinds.as_slice();
+        if let Some(ended) = gather_placed(
+            rt, mode, root, how, outline, files, kinds, path, fates,
+        ) {
+            return ended;
+        }
+    }
     let mut texts = Vec::new(alloc);
     let mut out = LateFile::new(rt, path);
     let mut starved = false;
@@ -364,7 +374,7 @@ fn gather_by<'a, R: Files + AllocGlobal + Threads + Sync>(
 /// Refuses files of which none can be read (`File` with `Read` of the first), a blob that did not come together (`Gather`,
 /// or `File` with `Memory` where there was none for one of the files), one for whose encoding there was no memory (`File`
 /// with `Encoding`), and an output that can't be made or written (`File` with `Write`).
-pub fn gather_files<'a, R: Files + AllocGlobal + Threads + Sync>(
+pub fn gather_files<'a, R: Files<File = File> + AllocGlobal + Threads + Sync>(
     rt: &R,
     mode: &Mode,
     root: &Hash,
@@ -386,7 +396,7 @@ pub fn gather_files<'a, R: Files + AllocGlobal + Threads + Sync>(
 ///
 /// Refuses an outboard encoding that can't be read (`File` with `Read`, or with `Memory`) or isn't accepted (`Outboard`), and then
 /// as `gather_files` does.
-pub fn gather_beside<'a, R: Files + AllocGlobal + Threads + Sync>(
+pub fn gather_beside<'a, R: Files<File = File> + AllocGlobal + Threads + Sync>(
     rt: &R,
     mode: &Mode,
     root: &Hash,
