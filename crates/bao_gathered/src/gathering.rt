@@ -325,13 +325,14 @@ fn gather_by<'a, R: Files<File = File> + AllocGlobal + Threads + Sync>(
     let Ok(kinds) = kinds_of(rt, alloc, files, fates) else {
         return Err(GatheredFault::File(FileFault::Memory));
     };
-    if !how.count {
+    let placed = if how.count {
+        None
+    } else {
         let kinds = kinds.as_slice();
-        if let Some(ended) = gather_placed(
-            rt, mode, root, how, outline, files, kinds, path, fates,
-        ) {
-            return ended;
-        }
+        gather_placed(rt, mode, root, how, outline, files, kinds, path, fates)
+    };
+    if let Some(ended) = placed {
+        return ended;
     }
     let mut texts = Vec::new(alloc);
     let mut out = LateFile::new(rt, path);
