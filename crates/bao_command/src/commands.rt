@@ -226,7 +226,7 @@ fn tell<E: Write>(verbose: bool, files: &[&str], fates: &[Fate], err: &mut E) {
 }
 
 // Gathers the blob out of the files, which are plain copies where an outboard encoding is named.
-fn gather_by<'a, R: Files + AllocGlobal + Threads + Sync>(
+fn gather_by<'a, R: Files<File = File> + AllocGlobal + Threads + Sync>(
     rt: &R,
     mode: &Mode,
     root: &Hash,
@@ -246,7 +246,7 @@ fn gather_by<'a, R: Files + AllocGlobal + Threads + Sync>(
 }
 
 // Gathers the blob out of the files, says where it is asked what each of them is worth, and prints how many bytes it has.
-fn gather<'a, R: Files + AllocGlobal + Threads + Sync, O: Write, E: Write>(
+fn gather<'a, R: Files<File = File> + AllocGlobal + Threads + Sync, O: Write, E: Write>(
     rt: &R,
     mode: &Mode,
     digits: &str,
