@@ -16,7 +16,7 @@ CPU := $(if $(filter-out $(sort $(shell cat /proc/cpuinfo 2>/dev/null)),$(V3_NEE
 endif
 
 # Crates of which nothing goes into the program.
-ASIDE := bao_bind bao_refused bench berylwool text_scenarios store_scenarios program_scenarios tests_b3 tests_text tests_gather tests_shared tests_workers tests_crews tests_peers tests_bare tests_starved tests_files tests_command
+ASIDE := bao_bind bao_refused bench berylwool text_scenarios store_scenarios program_scenarios tests_b3 tests_text tests_gather tests_shared tests_workers tests_crews tests_peers tests_bare tests_placed tests_starved tests_files tests_command
 
 # The files and folders whose change asks for a new proof. With the folders, a file that was taken
 # away is seen too.
