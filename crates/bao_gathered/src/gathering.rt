@@ -277,7 +277,7 @@ fn is_unfinished(fault: CrewsFault) -> bool {
 }
 
 // The fault after which another holder's text might make the blob whole, if the work ended with such a one.
-fn unfinished_by(ended: &Result<u64, GatheredFault<'_>>) -> Option<CrewsFault> {
+pub(crate) fn unfinished_by(ended: &Result<u64, GatheredFault<'_>>) -> Option<CrewsFault> {
     match ended {
         Err(GatheredFault::Gather(fault)) if is_unfinished(*fault) => Some(*fault),
         _ => None,

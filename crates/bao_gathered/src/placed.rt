@@ -5,7 +5,7 @@ ghost use Rattle.bao_gathered.specs.Gathered.{IsGathered, IsUnder, LeavesBlob, W
 
 use crate::fate::Fate;
 use crate::fault::GatheredFault;
-use crate::gathering::{Gathering, note, room_beside, write_whole};
+use crate::gathering::{Gathering, note, room_beside, unfinished_by, write_whole};
 use b3read::Source;
 use b3tree::{Hash, Mode};
 use bao_check::Outline;
@@ -149,7 +149,7 @@ fn open_regular<R: Files<File = File>>(
 }
 
 // Gathers the blob out of the regular ones of the files where they lie, and writes it; none of them is read whole. It answers
-// nothing where no blob comes together so, and nothing was written then.
+// nothing where the blob is left unfinished, or is too large, so that files read whole may still make it; nothing was written then.
 pub(crate) fn gather_placed<'a, R: Files<File = File> + AllocGlobal + Threads + Sync>(
     rt: &R,
     mode: &Mode,
@@ -171,8 +171,9 @@ pub(crate) fn gather_placed<'a, R: Files<File = File> + AllocGlobal + Threads + 
         return None;
     }
     let mut out = LateFile::new(rt, path);
-    match write_opened(rt, mode, root, how, outline, &opened, path, &mut out) {
-        Err(GatheredFault::Gather(_)) => None,
-        ended => Some(ended),
+    let ended = write_opened(rt, mode, root, how, outline, &opened, path, &mut out);
+    if unfinished_by(&ended).is_some() {
+        return None;
     }
+    Some(ended)
 }

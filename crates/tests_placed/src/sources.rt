@@ -31,8 +31,9 @@ fn a_true_source_among_others(rt: HostRuntime) -> Result<(), Fail> {
     let mode = Mode::hash();
     let bytes = blob(alloc, 300_000)?;
     let (root, text) = combined(alloc, &mode, bytes.as_slice())?;
-    let (_, other) = combined(alloc, &mode, &bytes.as_slice()[1..])?;
-    let cut = &text.as_slice()[..1_000];
+    let shorter = bytes.as_slice().get(1..).ok_or("a byte")?;
+    let (_, other) = combined(alloc, &mode, shorter)?;
+    let cut = text.as_slice().get(..1_000).ok_or("a cut")?;
     let sources = [other.as_slice(), cut, text.as_slice()];
     for room in [0, 1, 300, 70_000] {
         for workers in [1, 4] {
@@ -51,7 +52,7 @@ fn refusals(rt: HostRuntime) -> Result<(), Fail> {
     let bytes = blob(alloc, 300_000)?;
     let (root, text) = combined(alloc, &mode, bytes.as_slice())?;
     let whole = [text.as_slice()];
-    let cut = [&text.as_slice()[..1_000]];
+    let cut = [text.as_slice().get(..1_000).ok_or("a cut")?];
     let fault = gather_sources(&rt, alloc, root, mode, 200, 1, 2, &whole).err();
     assert_eq!(rt; fault, Some(CrewsFault::Gather(GatherFault::TooLarge)));
     for capacity in [0, 65_537] {
@@ -95,7 +96,7 @@ fn copies(rt: HostRuntime) -> Result<(), Fail> {
     let (root, text) = outboard(alloc, &mode, bytes.as_slice())?;
     let outline = check_outboard(alloc, &mode, &root, text.as_slice())?;
     let cut = Device {
-        bytes: &bytes.as_slice()[..1_000],
+        bytes: bytes.as_slice().get(..1_000).ok_or("a cut")?,
         fails: false,
     };
     let broken = Device {
