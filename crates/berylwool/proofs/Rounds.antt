@@ -8,7 +8,9 @@ use Rattle.crews.specs.Lasting.{Holds, IsBusy, Records}
 use Rattle.crews.specs.Seats.{GoneOn, SeenBinds, claims_of, fixed_of as fixed_at}
 use Rattle.gather.specs.declared.holder.Encoded.{Encoded}
 use Rattle.gather.specs.declared.report.Report.{Report}
-use Rattle.gather.specs.Available.{HasTrue, IsFilled, IsServed}
+use Rattle.gather.specs.declared.grain.Grain.TheVariants.{Group as ByGroup}
+use Rattle.gather.specs.Available.{HasTrue, HaveSlices, IsFilled, IsServed}
+use Rattle.gather.proofs.Serving.{true_slices}
 use Rattle.gather.specs.Claims.{Among}
 use Rattle.gather.specs.Counts.{HasFailed, Reports}
 use Rattle.gather.specs.Encodings.{IsCut, encoding}
@@ -42,7 +44,7 @@ pub gathers : (store : Assembly) (text : List ℕ) (holder : Encoded) (later : L
     → IsKeyed (fixed_of store).mode → encoding holder ≡ text → IsSeatOf store old → IsSeatOf store new
     → Reports fixed_at GoneOn old new (IsHanded IsCut (holder ∷ [])) (IsHanded IsCut later) (sum_by (λ (h : Encoded). 0) (holder ∷ [])) (sum_by (λ (h : Encoded). 0) later) report report'
     → Among (claims_of old) (claims_of new)
-    → ((blob : List ℕ) → IsServed (fixed_at old) blob → HasTrue IsCut (fixed_at old).mode blob (holder ∷ [])
+    → ((blob : List ℕ) → IsServed (fixed_at old) blob → HaveSlices ByGroup IsCut (fixed_at old).mode blob (holder ∷ [])
     → HasFailed report' ⊎ IsTooLarge (IsHanded IsCut (holder ∷ [])) (fixed_at old) ⊎ IsFilled Records Holds IsBusy old new blob)
     → Gathers text report report' old new
 gathers store text holder later report report' old new keyed is of of' reports claimed served =
@@ -71,7 +73,7 @@ gathers store text holder later report report' old new keyed is of of' reports c
         | inl was ↦ inl was
         | inr now ↦ inr (are_longer accepted_binds (IsOutOf text) (fixed_at old) (seat_keyed store old keyed of) now)
       ];
-      served = λ blob can slices. elim (served blob can (has_true text blob holder old is slices)) [
+      served = λ blob can slices. elim (served blob can (true_slices ByGroup IsCut (fixed_at old).mode blob (holder ∷ []) (has_true text blob holder old is slices))) [
         | inl failed ↦ inl failed
         | inr (inl now) ↦ inr (inl (wider now))
         | inr (inr filled) ↦ inr (inr (filled.recorded, filled.is))

@@ -5,8 +5,8 @@ ghost use Rattle.berylwool.specs.Handles.{HasSeat, SeatDid};
 
 use crate::handle::{BwHandle, put, take};
 use crate::held::Held;
-use crate::shelf::Shared;
 use crate::status::NO_HANDLE;
+use crews::Shared;
 use gather::{Encoded, Place, Report, work};
 use std::alloc::Global;
 use store_shared::{Assembly, Seat};

@@ -18,6 +18,5 @@ mod mode;
 mod room;
 mod seats;
 mod serving;
-mod shelf;
 mod status;
 mod writing;
