@@ -1,6 +1,6 @@
 -- what is written of a gathered blob
 use Rattle.std.specs.Borrow.{Bor}
-use Rattle.std.specs.Prelude.{◌≡◌, ◌⊎◌, ℕ, ◌*◌, ◌≤◌, Bool, if◌then◌else◌, List, Option, length}
+use Rattle.std.specs.Prelude.{◌≡◌, ◌⊎◌, ℕ, ◌*◌, ◌≤◌, Bool, if◌then◌else◌, List, MatchResult, Option, Result, length}
 use Rattle.std.specs.Io.KnownBytes.{Appends, Keeps}
 use Rattle.b3tree.specs.declared.mode.Mode.{Mode}
 use Rattle.b3tree.specs.Hashing.{hash}
@@ -9,10 +9,14 @@ use Rattle.bao_check.specs.Accepted.{IsAccepted, outboard_nodes}
 use Rattle.bao_check.specs.declared.outline.Outline.{Outline}
 use Rattle.bao_check.specs.Outline.{outline_mode, outline_root}
 use Rattle.crews.specs.declared.fault.CrewsFault.{CrewsFault}
+use Rattle.crews.specs.Closing.{IsExcused as IsExcusedOfCrews}
+use Rattle.gather.specs.Large.{HasPair}
+use Rattle.store_core.specs.declared.fixed.Fixed.{Fixed}
+use Rattle.store_core.specs.declared.history.Piece.{Piece}
 use Rattle.bao_files.specs.declared.fault.FileFault.{FileFault}
 use Rattle.bao_files.specs.declared.fault.FileFault.TheVariants.{Encoding, Write}
 use Rattle.bao_gathered.specs.declared.fault.GatheredFault.{GatheredFault}
-use Rattle.bao_gathered.specs.declared.fault.GatheredFault.TheVariants.{File, Gather}
+use Rattle.bao_gathered.specs.declared.fault.GatheredFault.TheVariants.{File, Gather, Outboard}
 use Rattle.bao_gathered.specs.declared.gathering.Gathering.{Gathering}
 use Rattle.bao_files.specs.Printed.{AppendsBeginning}
 
@@ -43,6 +47,18 @@ LeavesBlob how mode root path old new fault =
     (((cause : CrewsFault) × (fault ≡ Gather cause)) × Keeps old new)
     ⊎ ((fault ≡ File Encoding) × Keeps old new)
     ⊎ ((fault ≡ File (Write path)) × BeginsBlob how mode root old new)
+
+-- the fault isn't one of what was gathered from
+abbrev pub IsExcused : GatheredFault → Type 0
+IsExcused (File fault) = Unit {0}
+IsExcused (Outboard fault) = ⊥
+IsExcused (Gather fault) = IsExcusedOfCrews fault
+
+-- this blob's text was written, or the fault isn't one of what was gathered from, or a pair is named from the blob and a piece
+-- that was handed over
+abbrev pub IsWrittenOut : (Piece → Type 0) → Fixed → Gathering → List ℕ → Option (List ℕ) → Option (List ℕ) → Result ℕ GatheredFault → Type 0
+IsWrittenOut handed fixed how blob old new result =
+    MatchResult result (λ count. (count ≡ length blob) × Appends old new (gathered_text how.encode fixed.mode blob)) IsExcused ⊎ HasPair handed fixed blob
 
 -- a text was accepted as the outboard encoding of a blob with this root
 abbrev pub HasOutline : Mode → List ℕ → Type 0

@@ -1,23 +1,30 @@
 ghost use Rattle.std.specs.Borrow.{Bor};
-ghost use Rattle.std.specs.Prelude.{◌≡◌, ◌⊎◌, ◌≤◌, ℕ, List, IfErr, IfOk, IsSome, IsTrue, MatchOption, OnOk, Some, length, slice_get, IfSome};
+ghost use Rattle.std.specs.Prelude.{◌≡◌, ◌⊎◌, ◌≤◌, ℕ, List, IfErr, IfOk, IsSome, IsTrue, MatchOption, OnOk, Some, length, map, slice_get, vec_items, IfSome};
+ghost use Rattle.bao_text.specs.Choice.{chunk_count};
+ghost use Rattle.bao_text.specs.Texts.{combined_text};
+ghost use Rattle.gather.specs.Available.{HaveSlices};
+ghost use Rattle.gather.specs.Encodings.{IsCutOf, cut_gives};
+ghost use Rattle.gather.specs.Large.{fixed_as};
+ghost use Rattle.gather.specs.Room.{most_chunks};
+ghost use Rattle.store_core.specs.Laws.{IsBlob};
 ghost use Rattle.std.specs.Io.KnownBytes.{Appends};
 ghost use Rattle.bao_text.specs.Faults.{WroteOnly};
 ghost use Rattle.bao_check.specs.Outline.{outline_claimed, outline_mode, outline_root};
 ghost use Rattle.bao_files.specs.declared.fault.FileFault.TheVariants as FileFault;
 ghost use Rattle.bao_gathered.specs.Faults.{IsQuiet, NamesBeside, NamesFirst};
-ghost use Rattle.bao_gathered.specs.Gathered.{HasOutline, IsGathered, IsUnder, IsUnwritten, LeavesBlob, WritesBlob, gathered_text};
+ghost use Rattle.bao_gathered.specs.Gathered.{HasOutline, IsGathered, IsUnder, IsUnwritten, IsWrittenOut, LeavesBlob, WritesBlob, gathered_text};
 ghost use Rattle.bao_gathered.specs.Worth.{IsGoodCut, IsGoodPart, IsWorth, groups_of, groups_within};
 
 use crate::fate::Fate;
 use crate::fault::GatheredFault;
 use crate::placed::gather_placed;
-use crate::worth::{Worth, worth_of_copy, worth_of_encoding};
-use b3tree::{CHUNK_LEN, Hash, Mode};
+use crate::worth::{Worth, chunk_count, worth_of_copy, worth_of_encoding};
+use b3tree::{Hash, Mode};
 use bao_check::{Outline, check_outboard};
 use bao_files::{FileFault, LateFile, read_file};
 use bao_text::{WriteFault, write_combined, write_text};
 use crews::{CrewsFault, gather_copies, gather_texts};
-use gather::GatherFault;
+use gather::{GatherFault, Grain};
 use std::alloc::{AllocError, Global};
 use std::fs;
 use std::fs::File;
@@ -134,6 +141,8 @@ pub struct Gathering {
     pub encode: bool,
     /// Whether it is counted what each file that is read is worth.
     pub count: bool,
+    /// The smallest part that the files are asked for.
+    pub grain: Grain,
 }
 
 // Writes the blob, or its combined encoding.
@@ -185,6 +194,11 @@ pub(crate) fn write_whole<'a, W: Write>(
 /// Nothing is written before the blob was verified. After `Gather`, where no blob with this root and at most
 /// `capacity` chunks came together, and after `File` with `Encoding`, where there was no memory for the encoding, nothing was
 /// written; after `File` with `Write` and the path a beginning of the text may stand.
+///
+/// Where one of the texts is the combined encoding of a blob with the root, of at most `capacity` chunks, that blob is
+/// written, or there was no memory, or writing failed, or two different inputs with one chaining value are named, one of
+/// the blob's and one of a slice's that is cut out of one of the texts. Nor need any text be whole, as `crews::gather_texts`
+/// says.
 pub fn write_gathered<'a, R: AllocGlobal + Threads + Sync, W: Write>(
     rt: &R,
     mode: &Mode,
@@ -196,9 +210,25 @@ pub fn write_gathered<'a, R: AllocGlobal + Threads + Sync, W: Write>(
 ) -> Result<u64, GatheredFault<'a>>
     ensures blob { IfOk result (WritesBlob how mode.now root.now.0 (W.contents out.old) (W.contents out.new)) }
     ensures fault { IfErr result (LeavesBlob how mode.now root.now.0 path.entry (W.contents out.old) (W.contents out.new)) }
+    ensures available { (blob : List ℕ) (i : ℕ) → IsBlob (fixed_as root.now mode.now how.capacity) blob → chunk_count (length blob) ≤ how.capacity
+        → slice_get (map vec_items texts.now) i ≡ Some (combined_text mode.now blob)
+        → IsWrittenOut (IsCutOf (map vec_items texts.now)) (fixed_as root.now mode.now how.capacity) how blob (W.contents out.old) (W.contents out.new) result }
+    ensures covered { (blob : List ℕ) → IsBlob (fixed_as root.now mode.now how.capacity) blob → chunk_count (length blob) ≤ how.capacity
+        → chunk_count (length blob) ≤ most_chunks (map vec_items texts.now)
+        → HaveSlices how.grain cut_gives mode.now blob (map vec_items texts.now)
+        → IsWrittenOut (IsCutOf (map vec_items texts.now)) (fixed_as root.now mode.now how.capacity) how blob (W.contents out.old) (W.contents out.new) result }
 {
     let alloc = rt.alloc();
-    let gathered = gather_texts(rt, alloc, *root, *mode, how.capacity, how.workers, texts);
+    let gathered = gather_texts(
+        rt,
+        alloc,
+        *root,
+        *mode,
+        how.capacity,
+        how.workers,
+        how.grain,
+        texts,
+    );
     let blob = match gathered {
         Ok(blob) => blob,
         Err(fault) => return Err(GatheredFault::Gather(fault)),
@@ -210,8 +240,7 @@ pub fn write_gathered<'a, R: AllocGlobal + Threads + Sync, W: Write>(
 pub(crate) fn room_beside(outline: &Outline<'_>, capacity: u32) -> u32
     ensures { result ≤ capacity }
 {
-    let chunks = outline.claimed().div_ceil(CHUNK_LEN as u64).max(1);
-    chunks.min(u64::from(capacity)) as u32
+    chunk_count(outline.claimed()).min(u64::from(capacity)) as u32
 }
 
 /// As `write_gathered`, for the root and in the mode of the outline, out of plain copies beside it, each from a holder that
@@ -229,7 +258,7 @@ pub fn write_beside<'a, R: AllocGlobal + Threads + Sync, W: Write>(
 {
     let alloc = rt.alloc();
     let room = room_beside(outline, how.capacity);
-    let gathered = gather_copies(rt, alloc, outline, room, how.workers, copies);
+    let gathered = gather_copies(rt, alloc, outline, room, how.workers, how.grain, copies);
     let blob = match gathered {
         Ok(blob) => blob,
         Err(fault) => return Err(GatheredFault::Gather(fault)),

@@ -3,6 +3,7 @@
 
 pub use fate::Fate;
 pub use fault::GatheredFault;
+pub use gather::Grain;
 pub use gathering::{Gathering, gather_beside, gather_files, write_beside, write_gathered};
 pub use placed::{write_copies, write_sources};
 pub use worth::{Worth, worth_of_copy, worth_of_encoding};

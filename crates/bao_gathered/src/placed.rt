@@ -1,7 +1,13 @@
-ghost use Rattle.std.specs.Prelude.{◌≡◌, ◌≤◌, ℕ, List, IfErr, IfOk, IfSome, length};
+ghost use Rattle.std.specs.Prelude.{◌≡◌, ◌≤◌, ℕ, List, IfErr, IfOk, IfSome, Some, length, slice_get};
+ghost use Rattle.bao_text.specs.Choice.{chunk_count};
+ghost use Rattle.bao_text.specs.Texts.{combined_text};
+ghost use Rattle.crews.specs.Lists.{IsCutOfSource, source_gives};
+ghost use Rattle.gather.specs.Available.{HaveSlices};
+ghost use Rattle.gather.specs.Large.{fixed_as};
+ghost use Rattle.store_core.specs.Laws.{IsBlob};
 ghost use Rattle.bao_check.specs.Outline.{outline_mode, outline_root};
 ghost use Rattle.bao_gathered.specs.Faults.{IsQuiet, NamesFirst};
-ghost use Rattle.bao_gathered.specs.Gathered.{IsGathered, IsUnder, LeavesBlob, WritesBlob};
+ghost use Rattle.bao_gathered.specs.Gathered.{IsGathered, IsUnder, IsWrittenOut, LeavesBlob, WritesBlob};
 
 use crate::fate::Fate;
 use crate::fault::GatheredFault;
@@ -27,6 +33,7 @@ fn most_chunks(len: u64) -> u32 {
 
 /// As `write_gathered`, out of sources that are read at places, as files are: what they have takes no memory but for the
 /// slices that workers ask for. The store has room for `room` chunks at first, and for `capacity` where those are too few.
+/// What is said of true texts is said of sources that never fail, where their bytes are known.
 pub fn write_sources<'a, R: AllocGlobal + Threads + Sync, S: Source + Sync, W: Write>(
     rt: &R,
     mode: &Mode,
@@ -39,6 +46,12 @@ pub fn write_sources<'a, R: AllocGlobal + Threads + Sync, S: Source + Sync, W: W
 ) -> Result<u64, GatheredFault<'a>>
     ensures blob { IfOk result (WritesBlob how mode.now root.now.0 (W.contents out.old) (W.contents out.new)) }
     ensures fault { IfErr result (LeavesBlob how mode.now root.now.0 path.entry (W.contents out.old) (W.contents out.new)) }
+    ensures available { (blob : List ℕ) (i : ℕ) (source : S) → IsBlob (fixed_as root.now mode.now how.capacity) blob → chunk_count (length blob) ≤ how.capacity
+        → slice_get sources.now i ≡ Some source → S.contents source ≡ Some (combined_text mode.now blob) → S.faultless source
+        → IsWrittenOut (IsCutOfSource S.contents S.faultless sources.now) (fixed_as root.now mode.now how.capacity) how blob (W.contents out.old) (W.contents out.new) result }
+    ensures covered { (blob : List ℕ) → IsBlob (fixed_as root.now mode.now how.capacity) blob → chunk_count (length blob) ≤ how.capacity
+        → HaveSlices how.grain (source_gives S.contents S.faultless) mode.now blob sources.now
+        → IsWrittenOut (IsCutOfSource S.contents S.faultless sources.now) (fixed_as root.now mode.now how.capacity) how blob (W.contents out.old) (W.contents out.new) result }
 {
     let alloc = rt.alloc();
     let gathered = gather_sources(
@@ -49,6 +62,7 @@ pub fn write_sources<'a, R: AllocGlobal + Threads + Sync, S: Source + Sync, W: W
         how.capacity,
         room,
         how.workers,
+        how.grain,
         sources,
     );
     let blob = match gathered {
@@ -73,7 +87,7 @@ pub fn write_copies<'a, R: AllocGlobal + Threads + Sync, S: Source + Sync, W: Wr
 {
     let alloc = rt.alloc();
     let room = room_beside(outline, how.capacity);
-    let gathered = gather_copies_at(rt, alloc, outline, room, how.workers, copies);
+    let gathered = gather_copies_at(rt, alloc, outline, room, how.workers, how.grain, copies);
     let blob = match gathered {
         Ok(blob) => blob,
         Err(fault) => return Err(GatheredFault::Gather(fault)),

@@ -8,14 +8,13 @@ use b3tree::{CHUNK_LEN, Hash, Mode};
 use bao_check::{Outline, check_bare, check_slice};
 use bao_text::{Memory, cut_slice};
 use std::alloc::Global;
+use store_core::GROUP_BYTES;
 
 // Bytes of the length at a text's start.
 const LENGTH_LEN: usize = 8;
 
-// Chunks of a group, and bytes.
-const GROUP_LEN: u64 = 64;
-
-const GROUP_BYTES: u64 = GROUP_LEN * CHUNK_LEN as u64;
+// Chunks of a group, for numbers of chunks.
+const GROUP_LEN: u64 = store_core::GROUP_LEN as u64;
 
 /// What a file is worth to a gathering, by itself: of the groups of 64 chunks, 65,536 bytes of the blob, that it is asked for, how
 /// many are refused. What other files have, and which worker asks whom, makes no difference.
@@ -28,7 +27,7 @@ pub struct Worth {
 }
 
 // How many chunks `len` bytes are.
-fn chunk_count(len: u64) -> u64
+pub(crate) fn chunk_count(len: u64) -> u64
     ensures { result ≡ chunk_count len }
 {
     len.div_ceil(CHUNK_LEN as u64).max(1)

@@ -15,7 +15,8 @@ use Rattle.crews.specs.Lasting.{Claims, HoldsOn, IsAlone, Records}
 use Rattle.crews.specs.Seats.{GoneOn, claims_of, fixed_of as fixed_at}
 use Rattle.crews.proofs.Alone.{seen_own}
 use Rattle.gather.specs.declared.report.Report.{Report}
-use Rattle.gather.specs.Available.{HasTrue, IsFilled, IsServed}
+use Rattle.gather.specs.declared.grain.Grain.{Grain}
+use Rattle.gather.specs.Available.{HaveSlices, IsFilled, IsServed}
 use Rattle.gather.specs.Counts.{HasFailed, Reports}
 use Rattle.gather.specs.Faults.{cause_of}
 use Rattle.gather.specs.Finished.{IsNamedIn, IsUnfinished, IsWhole}
@@ -152,8 +153,8 @@ pub none_failed : {H : Type 0} (count : H → ℕ) → ((holder : H) → count h
 none_failed count quiet [] = refl
 none_failed count quiet (x ∷ holders) = omega (arith, sum_by-cons count x holders, quiet x, none_failed count quiet holders)
 
--- A closing round over holders of which one gives nothing but the blob's slices, and what its seat finds afterwards: memory was
--- refused, or a pair is named.
+-- The closing rounds over holders of which some give the blob's slices that are asked for, and what their seat finds afterwards:
+-- memory was refused, or a pair is named.
 module _ (H : Type 0) (gives : H → ℕ → ℕ → List ℕ → Type 0) (count : H → ℕ) (handed : Piece → Type 0) (fixed : Fixed) (start seat : Gripped) (finished round : SeatView)
     (holders later : List H) (report report' : Report) (wide : (piece : Piece) → IsHanded gives holders piece → handed piece)
     (of_start : start.view.fixed ≡ fixed) (of_seat : seat.view.fixed ≡ fixed) (left : IsLeft handed start.view)
@@ -175,13 +176,13 @@ module _ (H : Type 0) (gives : H → ℕ → ℕ → List ℕ → Type 0) (count
         (large_wider (IsHanded gives holders) handed wide start.view.fixed is)
   ]
 
-  pub unfinished_handed : (blob : List ℕ) → ((holder : H) → count holder ≡ 0) → IsKeyed fixed.mode → IsBlob fixed blob → chunk_count (length blob) ≤ fixed.capacity
-      → fixed.capacity ≤ 65536 → HasTrue gives fixed.mode blob holders → IsLegal fixed finished.seen → report.failed ≡ 0
+  pub unfinished_handed : (grain : Grain) (blob : List ℕ) → ((holder : H) → count holder ≡ 0) → IsKeyed fixed.mode → IsBlob fixed blob → chunk_count (length blob) ≤ fixed.capacity
+      → fixed.capacity ≤ 65536 → HaveSlices grain gives fixed.mode blob holders → IsLegal fixed finished.seen → report.failed ≡ 0
       → (IsTrue report.too_large → IsTooLarge handed fixed)
-      → (IsServed start.view.fixed blob → HasTrue gives start.view.fixed.mode blob holders
+      → (IsServed start.view.fixed blob → HaveSlices grain gives start.view.fixed.mode blob holders
       → HasFailed report' ⊎ IsTooLarge (IsHanded gives holders) start.view.fixed ⊎ IsFilled Records HoldsOn Claims start seat blob)
       → IsUnfinished (state_after finished.seen) → IsExcused (cause_of report') ⊎ HasPair handed fixed blob
-  unfinished_handed blob quiet keyed is room limit has legal no_fault before met unfinished =
+  unfinished_handed grain blob quiet keyed is room limit has legal no_fault before met unfinished =
       let P : Type 0 = HasPair handed fixed blob in
       let slices : IsServed fixed blob = served fixed blob keyed is room limit in
       let more : IsTooLarge (IsHanded gives holders) start.view.fixed → P =
@@ -189,7 +190,7 @@ module _ (H : Type 0) (gives : H → ℕ → ℕ → List ℕ → Type 0) (count
       large_pair handed fixed blob keyed is room (subst (λ (f : Fixed). IsTooLarge handed f) of_start
       (large_wider (IsHanded gives holders) handed wide start.view.fixed large))) in
       cause_handed report' P (λ none large. large_pair handed fixed blob keyed is room (large_cut before large)) (λ none not_large.
-      elim (met (subst (λ (f : Fixed). IsServed f blob) (sym of_start) slices) (subst (λ (f : Fixed). HasTrue gives f.mode blob holders) (sym of_start) has)) [
+      elim (met (subst (λ (f : Fixed). IsServed f blob) (sym of_start) slices) (subst (λ (f : Fixed). HaveSlices grain gives f.mode blob holders) (sym of_start) has)) [
         | inl (inl memory) ↦ absurd (omega (arith, memory, none))
         | inl (inr failed) ↦ absurd (omega (arith, failed, reports.failed, no_fault, none_failed count quiet later))
         | inr (inl large) ↦ more large

@@ -14,7 +14,8 @@ use Rattle.crews.specs.Closing.{AreTheBlob, IsHandedOut}
 use Rattle.crews.specs.Lists.{IsCutOfSource, IsLent}
 use Rattle.gather.specs.declared.holder.Encoded.{Encoded}
 use Rattle.gather.specs.declared.texts.GatherFault.TheVariants.{Capacity, Memory, NotTheRoot, Starved, TooLarge, Unfinished}
-use Rattle.gather.specs.Available.{HasTrue}
+use Rattle.gather.specs.declared.grain.Grain.{Grain}
+use Rattle.gather.specs.Available.{HasSlice, HasTrue, HaveSlices}
 use Rattle.gather.specs.Encodings.{IsCut, IsCutOf, encoding}
 use Rattle.gather.specs.Holders.{Appends}
 use Rattle.gather.specs.Large.{IsOfNone, fixed_as}
@@ -79,6 +80,26 @@ source_true {H = H} {S = S} source_of contents faultless holders sources mode bl
           slices_of mode blob (contents source) (faultless source) start len text few known sound
           (subst (λ (s : S). IsCutAt (contents s) (faultless s) start len text) at.2 cut);
     }
+
+-- what is given of what holders are over they give
+slice_mapped : {H S : Type 0} (f : H → S) (gives : S → ℕ → ℕ → List ℕ → Type 0) (mode : Mode) (blob : List ℕ) (start len : ℕ) (holders : List H) (all : List S)
+    → map f holders ≡ all → HasSlice gives mode blob start len all → HasSlice (λ holder start len text. gives (f holder) start len text) mode blob start len holders
+slice_mapped {H = H} {S = S} f gives mode blob start len holders all are has =
+    let mapped : slice_get (map f holders) has.place ≡ Some has.holder = subst (λ (xs : List S). slice_get xs has.place ≡ Some has.holder) (sym are) has.there in
+    let at = mapped_there f holders has.place has.holder mapped in
+    record {
+      place = has.place;
+      holder = at.0;
+      there = at.1;
+      gives_slice = λ text given. has.gives_slice text (subst (λ (s : S). gives s start len text) at.2 given);
+    }
+
+pub slices_mapped : {H S : Type 0} (f : H → S) (gives : S → ℕ → ℕ → List ℕ → Type 0) (grain : Grain) (mode : Mode) (blob : List ℕ) (holders : List H) (all : List S)
+    → map f holders ≡ all → HaveSlices grain gives mode blob all → HaveSlices grain (λ holder start len text. gives (f holder) start len text) mode blob holders
+slices_mapped f gives grain mode blob holders all are have = record {
+  end = slice_mapped f gives mode blob (2 ^ 64 - 1) 1 holders all are have.end;
+  each = λ c start len below asked. slice_mapped f gives mode blob start len holders all are (have.each c start len below asked);
+}
 
 lost : (contents : Option (List ℕ)) (faultless : Type 0) (start len : ℕ) → (faultless → ⊥) → IsCutAt contents faultless start len []
 lost None faultless start len never = tt

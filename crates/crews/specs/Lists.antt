@@ -2,7 +2,8 @@
 use Rattle.std.specs.Prelude.{◌≡◌, ℕ, ◌≤◌, List, Option, Some, length, slice_get}
 use Rattle.b3tree.specs.declared.mode.Mode.{Mode}
 use Rattle.bao_text.specs.Choice.{chunk_count}
-use Rattle.gather.specs.Available.{HasTrue}
+use Rattle.gather.specs.declared.grain.Grain.{Grain}
+use Rattle.gather.specs.Available.{HaveSlices}
 use Rattle.gather.specs.Holders.{IsHanded}
 use Rattle.gather.specs.Places.{IsCutAt}
 use Rattle.store_core.specs.declared.history.Piece.{Piece}
@@ -13,9 +14,13 @@ pub record IsLent {H : Type 0} (gives : H → ℕ → ℕ → List ℕ → Type 
   pub are : over holders
   pub handed : IsHanded gives holders piece
 
--- in each such list a holder gives nothing but slices of the blob, for which a store may have room
-abbrev pub HaveTrue : {H : Type 0} → (H → ℕ → ℕ → List ℕ → Type 0) → (List H → Type 0) → Mode → List ℕ → Type 0
-HaveTrue gives over mode blob = (holders : _) → over holders → chunk_count (length blob) ≤ 65536 → HasTrue gives mode blob holders
+-- in each such list the blob's slices are given that its chunks are asked for by, where a store may have room for it
+abbrev pub HaveAll : {H : Type 0} → Grain → (H → ℕ → ℕ → List ℕ → Type 0) → (List H → Type 0) → Mode → List ℕ → Type 0
+HaveAll grain gives over mode blob = (holders : _) → over holders → chunk_count (length blob) ≤ 65536 → HaveSlices grain gives mode blob holders
+
+-- what a source gives as a slice: what is cut out of its bytes, where they are known, or nothing, since a read failed
+abbrev pub source_gives : {S : Type 0} → (S → Option (List ℕ)) → (S → Type 0) → S → ℕ → ℕ → List ℕ → Type 0
+source_gives contents faultless source start len text = IsCutAt (contents source) (faultless source) start len text
 
 -- the piece is a slice that is cut out of the bytes of one of these sources, where they are known, or nothing, since a read
 -- failed
@@ -23,4 +28,4 @@ pub record IsCutOfSource {S : Type 0} (contents : S → Option (List ℕ)) (faul
   pub place : ℕ
   pub source : S
   pub there : slice_get sources place ≡ Some source
-  pub cut : IsCutAt (contents source) (faultless source) piece.start piece.len piece.text
+  pub cut : source_gives contents faultless source piece.start piece.len piece.text

@@ -1,15 +1,17 @@
 ghost use Rattle.std.specs.Prelude.{◌⊎◌, ℕ, List, sum_by};
-ghost use Rattle.gather.specs.Available.{HasTrue, IsFilled, IsServed};
+ghost use Rattle.gather.specs.Available.{HaveSlices, IsFilled, IsServed};
+ghost use Rattle.gather.specs.declared.grain.Grain.TheVariants.{Chunk as ByChunk, Group as ByGroup};
 ghost use Rattle.gather.specs.Counts.{HasFailed, Reports};
-ghost use Rattle.gather.specs.Holders.{IsHanded};
+ghost use Rattle.gather.specs.Claims.{Among};
+ghost use Rattle.gather.specs.Holders.{AreLater, IsHanded};
 ghost use Rattle.gather.specs.Large.{IsTooLarge};
 ghost use Rattle.store_shared.specs.Seats.{IsSeatOf};
 ghost use Rattle.crews.specs.Lasting.{Claims, HoldsOn, IsAlone, Records};
-ghost use Rattle.crews.specs.Seats.{GoneOn, fixed_of};
+ghost use Rattle.crews.specs.Seats.{GoneOn, claims_of, fixed_of};
 
 use crate::shared::Shared;
 use bao_check::{Checked, Tail};
-use gather::{Holder, Place, Report, Shelf, work};
+use gather::{Form, Grain, Holder, Place, Report, Shelf, salvage, work};
 use std::alloc::Global;
 use store_core::{Fixed, Settling, StoreFault};
 use store_shared::{Assembly, Seat};
@@ -86,7 +88,7 @@ impl Shelf for Closing<'_> {
 }
 
 // One more round by a seat with which all others were joined.
-pub(crate) fn closing_round<H: Holder>(
+fn round_by_groups<H: Holder>(
     alloc: Global,
     assembly: &Assembly,
     seat: &mut Seat,
@@ -98,7 +100,9 @@ pub(crate) fn closing_round<H: Holder>(
     ensures of { IsSeatOf assembly.now seat.new }
     ensures alone { IsAlone seat.new.view }
     ensures reports { Reports fixed_of GoneOn seat.old seat.new (IsHanded H.gives holders.old) (IsHanded H.gives holders.new) (sum_by H.count holders.old) (sum_by H.count holders.new) report.old report.new }
-    ensures served { (blob : List ℕ) → IsServed (fixed_of seat.old) blob → HasTrue H.gives (fixed_of seat.old).mode blob holders.old
+    ensures later { AreLater H.gives holders.old holders.new }
+    ensures claims { Among (claims_of seat.old) (claims_of seat.new) }
+    ensures served { (blob : List ℕ) → IsServed (fixed_of seat.old) blob → HaveSlices ByGroup H.gives (fixed_of seat.old).mode blob holders.old
         → HasFailed report.new ⊎ IsTooLarge (IsHanded H.gives holders.old) (fixed_of seat.old) ⊎ IsFilled Records HoldsOn Claims seat.old seat.new blob }
 {
     let place = Place {
@@ -106,4 +110,48 @@ pub(crate) fn closing_round<H: Holder>(
         workers: 1,
     };
     work(alloc, &Closing(assembly), seat, holders, place, report);
+}
+
+// And one chunk by chunk.
+fn round_by_chunks<H: Holder>(
+    alloc: Global,
+    assembly: &Assembly,
+    seat: &mut Seat,
+    holders: &mut [H],
+    report: &mut Report,
+)
+    requires of { IsSeatOf assembly.now seat.old }
+    requires alone { IsAlone seat.old.view }
+    ensures of { IsSeatOf assembly.now seat.new }
+    ensures alone { IsAlone seat.new.view }
+    ensures reports { Reports fixed_of GoneOn seat.old seat.new (IsHanded H.gives holders.old) (IsHanded H.gives holders.new) (sum_by H.count holders.old) (sum_by H.count holders.new) report.old report.new }
+    ensures served { (blob : List ℕ) → IsServed (fixed_of seat.old) blob → HaveSlices ByChunk H.gives (fixed_of seat.old).mode blob holders.old
+        → HasFailed report.new ⊎ IsTooLarge (IsHanded H.gives holders.old) (fixed_of seat.old) ⊎ IsFilled Records HoldsOn Claims seat.old seat.new blob }
+{
+    let closing = Closing(assembly);
+    salvage(alloc, &Form::Slices, &closing, seat, holders, report);
+}
+
+// The rounds of a seat with which all others were joined: one by groups, and one by chunks where these are asked for.
+pub(crate) fn closing_rounds<H: Holder>(
+    alloc: Global,
+    assembly: &Assembly,
+    seat: &mut Seat,
+    holders: &mut [H],
+    grain: Grain,
+    report: &mut Report,
+)
+    requires of { IsSeatOf assembly.now seat.old }
+    requires alone { IsAlone seat.old.view }
+    ensures of { IsSeatOf assembly.now seat.new }
+    ensures alone { IsAlone seat.new.view }
+    ensures reports { Reports fixed_of GoneOn seat.old seat.new (IsHanded H.gives holders.old) (IsHanded H.gives holders.new) (sum_by H.count holders.old) (sum_by H.count holders.new) report.old report.new }
+    ensures served { (blob : List ℕ) → IsServed (fixed_of seat.old) blob → HaveSlices grain H.gives (fixed_of seat.old).mode blob holders.old
+        → HasFailed report.new ⊎ IsTooLarge (IsHanded H.gives holders.old) (fixed_of seat.old) ⊎ IsFilled Records HoldsOn Claims seat.old seat.new blob }
+{
+    round_by_groups(alloc, assembly, seat, holders, report);
+    match grain {
+        Grain::Group => {}
+        Grain::Chunk => round_by_chunks(alloc, assembly, seat, holders, report),
+    }
 }

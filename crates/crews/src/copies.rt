@@ -10,14 +10,14 @@ use crate::lists::Copies;
 use crate::places::CopiesAt;
 use b3read::Source;
 use bao_check::Outline;
-use gather::{Plain, PlainAt};
+use gather::{Grain, Plain, PlainAt};
 use std::alloc::Global;
 use std::thread::Threads;
 
 /// The blob of an outboard encoding that was accepted, out of plain copies of it that nobody trusts: each may be whole, cut,
 /// changed, or any bytes. So many workers, at least 1 and at most 64, fill a shared store with room for `capacity` chunks, as
-/// `run_bare` says, each with a seat of its own and all copies in their order; the store is let go at the end. The copies'
-/// bytes stay where they are.
+/// `run_bare` says, each with a seat of its own and all copies in their order; with `Grain::Chunk` one more seat then asks
+/// for each chunk by itself, as `salvage` says. The store is let go at the end. The copies' bytes stay where they are.
 ///
 /// 802 `Capacity` unless `capacity` is 1 to 65,536, asked before all else; 801 where there is no memory for the store,
 /// 806 for a worker's seat, and 911 `Starved` for the crews and the lists of copies. Then the blob is answered only
@@ -30,6 +30,7 @@ pub fn gather_copies<R: Threads + Sync>(
     outline: &Outline<'_>,
     capacity: u32,
     workers: u32,
+    grain: Grain,
     copies: &[Vec<u8>],
 ) -> Result<Vec<u8>, CrewsFault>
     ensures root { IfOk result (λ blob. hash (outline_mode outline.now) blob.items ≡ outline_root outline.now) }
@@ -42,6 +43,7 @@ pub fn gather_copies<R: Threads + Sync>(
         outline,
         capacity,
         workers,
+        grain,
         &Copies(copies),
     )
 }
@@ -49,8 +51,8 @@ pub fn gather_copies<R: Threads + Sync>(
 /// The blob of an outboard encoding that was accepted, out of plain copies of it that are read at places, as files are, and
 /// that nobody trusts: each may be whole, cut, changed, or any bytes, and have other bytes at each read. So many workers, at
 /// least 1 and at most 64, fill a shared store with room for `capacity` chunks, as `run_bare` says, each with a seat of its
-/// own and all copies in their order; the store is let go at the end. The copies' bytes take no memory but for those of the
-/// part that a worker asks one for. A copy of which a read answers a fault gives nothing then, and the next one is asked.
+/// own and all copies in their order; with `Grain::Chunk` one more seat then asks for each chunk by itself, as `salvage`
+/// says. The store is let go at the end. The copies' bytes take no memory but for those of the part that a worker asks one for. A copy of which a read answers a fault gives nothing then, and the next one is asked.
 ///
 /// 802 `Capacity` unless `capacity` is 1 to 65,536, asked before all else; 801 where there is no memory for the store,
 /// 806 for a worker's seat, and 911 `Starved` for the crews and the lists of copies. Then the blob is answered only
@@ -63,6 +65,7 @@ pub fn gather_copies_at<R: Threads + Sync, S: Source + Sync>(
     outline: &Outline<'_>,
     capacity: u32,
     workers: u32,
+    grain: Grain,
     copies: &[S],
 ) -> Result<Vec<u8>, CrewsFault>
     ensures root { IfOk result (λ blob. hash (outline_mode outline.now) blob.items ≡ outline_root outline.now) }
@@ -75,6 +78,7 @@ pub fn gather_copies_at<R: Threads + Sync, S: Source + Sync>(
         outline,
         capacity,
         workers,
+        grain,
         &CopiesAt(copies),
     )
 }

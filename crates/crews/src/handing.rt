@@ -7,17 +7,17 @@ ghost use Rattle.gather.specs.Large.{AreLonger, IsOfNone, IsTooLarge};
 ghost use Rattle.store_core.specs.Laws.{IsBlob};
 ghost use Rattle.store_shared.specs.Seats.{IsSeatOf, fixed_of};
 ghost use Rattle.crews.specs.Closing.{AreTheBlob, IsLeft};
-ghost use Rattle.crews.specs.Lists.{HaveTrue, IsLent};
+ghost use Rattle.crews.specs.Lists.{HaveAll, IsLent};
 
 use crate::blob::finish_join;
-use crate::closing::closing_round;
+use crate::closing::closing_rounds;
 use crate::lists::Lists;
-use gather::{FinishFault, GatherFault, Holder, Report, cause};
+use gather::{FinishFault, GatherFault, Grain, Holder, Report, cause};
 use std::alloc::Global;
 use std::thread::Threads;
 use store_shared::{Assembly, Seat};
 
-// The blob of a store whose seats were joined to this one, after one more round over a list of all holders. The report is
+// The blob of a store whose seats were joined to this one, after the closing rounds over a list of all holders. The report is
 // that of the workers, of which there are so many, and no device of the holders counts a fault.
 pub(crate) fn hand_out<R: Threads + Sync, H: Holder + Drop, L: Lists<H>>(
     rt: &R,
@@ -25,6 +25,7 @@ pub(crate) fn hand_out<R: Threads + Sync, H: Holder + Drop, L: Lists<H>>(
     assembly: &Assembly,
     seat: Seat,
     workers: u32,
+    grain: Grain,
     lists: &L,
     report: Report,
 ) -> Result<Vec<u8>, GatherFault>
@@ -42,7 +43,7 @@ pub(crate) fn hand_out<R: Threads + Sync, H: Holder + Drop, L: Lists<H>>(
     ensures none { IsErrOf result NotTheRoot → IsOfNone (IsLent H.gives (L.over lists.now)) (fixed_of assembly.now) }
     ensures found { IfOk result (λ blob. AreTheBlob (IsLent H.gives (L.over lists.now)) (fixed_of assembly.now) blob.items) }
     ensures available { (blob : List ℕ) → IsBlob (fixed_of assembly.now) blob → chunk_count (length blob) ≤ (fixed_of assembly.now).capacity
-        → HaveTrue H.gives (L.over lists.now) (fixed_of assembly.now).mode blob
+        → HaveAll grain H.gives (L.over lists.now) (fixed_of assembly.now).mode blob
         → IsHandedOut (IsLent H.gives (L.over lists.now)) (fixed_of assembly.now) blob result }
 {
     assembly.mode().is_keyed();
@@ -52,11 +53,12 @@ pub(crate) fn hand_out<R: Threads + Sync, H: Holder + Drop, L: Lists<H>>(
     };
     let mut seat = seat;
     let mut report = report;
-    closing_round(
+    closing_rounds(
         alloc,
         assembly,
         &mut seat,
         holders.as_mut_slice(),
+        grain,
         &mut report,
     );
     let finished = finish_join(rt, alloc, assembly, &mut seat, workers);

@@ -9,6 +9,7 @@ pub use crew::Crew;
 pub use fault::CrewsFault;
 pub use peer::Peer;
 pub use runs::{run, run_bare};
+pub use shared::Shared;
 pub use sources::gather_sources;
 pub use texts::{crews_over, gather_texts};
 

@@ -3,9 +3,9 @@ use gather::Shelf;
 use store_core::{Fixed, Settling, StoreFault};
 use store_shared::{Assembly, ParentsFault, Seat};
 
-// A shared store as its workers see it.
+/// A shared store as its workers see it, each with a seat of its own: what `gather::work` and `gather::salvage` take.
 #[derive(Clone, Copy)]
-pub(crate) struct Shared<'a>(pub(crate) &'a Assembly);
+pub struct Shared<'a>(pub &'a Assembly);
 
 impl Shelf for Shared<'_> {
     ghost use Rattle.store_shared.specs.Seats.{IsSeatOf};

@@ -7,14 +7,15 @@ ghost use Rattle.crews.specs.declared.fault.CrewsFault.TheVariants.{Gather};
 ghost use Rattle.gather.specs.declared.texts.GatherFault.TheVariants.{Capacity, NotTheRoot, TooLarge, Unfinished};
 ghost use Rattle.store_core.specs.Laws.{IsBlob};
 ghost use Rattle.crews.specs.Closing.{AreTheBlob, IsHandedOut};
-ghost use Rattle.crews.specs.Lists.{IsCutOfSource};
+ghost use Rattle.crews.specs.Lists.{IsCutOfSource, source_gives};
+ghost use Rattle.gather.specs.Available.{HaveSlices};
 
 use crate::fault::CrewsFault;
 use crate::gathering::gather_by;
 use crate::places::{SourceAt, Sources};
 use b3read::Source;
 use b3tree::{Hash, Mode};
-use gather::GatherFault;
+use gather::{GatherFault, Grain};
 use std::alloc::Global;
 use std::thread::Threads;
 use store_core::MAX_CAPACITY;
@@ -27,6 +28,7 @@ fn gather_within<R: Threads + Sync, S: Source + Sync>(
     mode: Mode,
     capacity: u32,
     workers: u32,
+    grain: Grain,
     sources: &[S],
 ) -> Result<Vec<u8>, CrewsFault>
     ensures root { IfOk result (λ blob. hash mode blob.items ≡ root.0) }
@@ -39,6 +41,9 @@ fn gather_within<R: Threads + Sync, S: Source + Sync>(
     ensures available { (blob : List ℕ) (i : ℕ) (source : S) → IsBlob (fixed_as root mode capacity) blob → chunk_count (length blob) ≤ capacity
         → slice_get sources.now i ≡ Some source → S.contents source ≡ Some (combined_text mode blob) → S.faultless source
         → IsHandedOut (IsCutOfSource S.contents S.faultless sources.now) (fixed_as root mode capacity) blob result }
+    ensures covered { (blob : List ℕ) → IsBlob (fixed_as root mode capacity) blob → chunk_count (length blob) ≤ capacity
+        → HaveSlices grain (source_gives S.contents S.faultless) mode blob sources.now
+        → IsHandedOut (IsCutOfSource S.contents S.faultless sources.now) (fixed_as root mode capacity) blob result }
 {
     gather_by::<R, SourceAt<'_, S>, Sources<'_, S>>(
         rt,
@@ -47,6 +52,7 @@ fn gather_within<R: Threads + Sync, S: Source + Sync>(
         mode,
         capacity,
         workers,
+        grain,
         &Sources(sources),
     )
 }
@@ -66,8 +72,8 @@ fn may_lack_room(gathered: &Result<Vec<u8>, CrewsFault>) -> bool
 /// may have its combined encoding, or any bytes, and other bytes at each read. What they have takes no memory but for the
 /// slices that workers ask for. So many workers, at least 1 and at most 64, fill a shared store, as `run` says, each with a
 /// seat of its own and all sources in their order. Then their seats are joined to one, which goes once more round the groups
-/// and asks for what is held by nobody; the store is let go at the end. A source of which a read answers a fault gives
-/// nothing then, and the next one is asked.
+/// and asks for what is held by nobody; with `Grain::Chunk` it then asks for each chunk by itself, as `salvage` says. The
+/// store is let go at the end. A source of which a read answers a fault gives nothing then, and the next one is asked.
 ///
 /// The store has room for `room` chunks, at least 1 and at most `capacity`. Where that is less than `capacity`, and the
 /// blob is too large for it or left unfinished, the work is done again with room for `capacity` chunks. As many as
@@ -81,7 +87,9 @@ fn may_lack_room(gathered: &Result<Vec<u8>, CrewsFault>) -> bool
 ///
 /// Where one of the sources never fails, its bytes are known, and they are the combined encoding of a blob with the root,
 /// of at most `capacity` chunks, that blob is answered, whatever the other sources are, whether or not they fail, and
-/// however the workers meet; or there was no memory, or such a pair as follows is named.
+/// however the workers meet; or there was no memory, or such a pair as follows is named. Nor need any source be whole: it
+/// is enough that what one gives as the slice of the last byte is known to be the blob's, and for each group of the blob's
+/// chunks what one gives as the group's slice, or with `Grain::Chunk` for each chunk as the chunk's.
 ///
 /// At 805 each blob with the root is longer than the capacity, and at 902 there is none; or two different inputs with
 /// one chaining value are named, one of the blob's and one of a slice's that is accepted under the root. Where the
@@ -95,6 +103,7 @@ pub fn gather_sources<R: Threads + Sync, S: Source + Sync>(
     capacity: u32,
     room: u32,
     workers: u32,
+    grain: Grain,
     sources: &[S],
 ) -> Result<Vec<u8>, CrewsFault>
     ensures root { IfOk result (λ blob. hash mode blob.items ≡ root.0) }
@@ -106,14 +115,17 @@ pub fn gather_sources<R: Threads + Sync, S: Source + Sync>(
     ensures available { (blob : List ℕ) (i : ℕ) (source : S) → IsBlob (fixed_as root mode capacity) blob → chunk_count (length blob) ≤ capacity
         → slice_get sources.now i ≡ Some source → S.contents source ≡ Some (combined_text mode blob) → S.faultless source
         → IsHandedOut (IsCutOfSource S.contents S.faultless sources.now) (fixed_as root mode capacity) blob result }
+    ensures covered { (blob : List ℕ) → IsBlob (fixed_as root mode capacity) blob → chunk_count (length blob) ≤ capacity
+        → HaveSlices grain (source_gives S.contents S.faultless) mode blob sources.now
+        → IsHandedOut (IsCutOfSource S.contents S.faultless sources.now) (fixed_as root mode capacity) blob result }
 {
     let first = room.max(1).min(capacity);
     if first == capacity || capacity > MAX_CAPACITY {
-        return gather_within(rt, alloc, root, mode, capacity, workers, sources);
+        return gather_within(rt, alloc, root, mode, capacity, workers, grain, sources);
     }
-    let gathered = gather_within(rt, alloc, root, mode, first, workers, sources);
+    let gathered = gather_within(rt, alloc, root, mode, first, workers, grain, sources);
     if may_lack_room(&gathered) {
-        return gather_within(rt, alloc, root, mode, capacity, workers, sources);
+        return gather_within(rt, alloc, root, mode, capacity, workers, grain, sources);
     }
     gathered
 }

@@ -2,7 +2,9 @@ ghost use Rattle.std.specs.Prelude.{◌≡◌, ◌≢◌, ◌↔◌, ◌⊎◌, 
 ghost use Rattle.b3tree.specs.Hashing.{hash};
 ghost use Rattle.bao_text.specs.Choice.{chunk_count};
 ghost use Rattle.bao_text.specs.Texts.{combined_text};
-ghost use Rattle.gather.specs.Encodings.{IsCutOf, encoding};
+ghost use Rattle.gather.specs.Available.{HaveSlices};
+ghost use Rattle.gather.specs.Encodings.{IsCutOf, cut_gives, encoding};
+ghost use Rattle.gather.specs.Room.{most_chunks};
 ghost use Rattle.gather.specs.Large.{AreLonger, IsOfNone, IsTooLarge, fixed_as};
 ghost use Rattle.crews.specs.declared.fault.CrewsFault.TheVariants.{Gather};
 ghost use Rattle.gather.specs.declared.texts.GatherFault.TheVariants.{Capacity, NotTheRoot, Starved, TooLarge};
@@ -19,7 +21,7 @@ use crate::fault::CrewsFault;
 use crate::gathering::gather_by;
 use crate::lists::Texts;
 use b3tree::{Hash, Mode};
-use gather::{Encoded, GatherFault, room_for};
+use gather::{Encoded, GatherFault, Grain, room_for};
 use std::alloc::Global;
 use std::thread::Threads;
 use store_core::MAX_CAPACITY;
@@ -61,6 +63,7 @@ fn gather_within<R: Threads + Sync>(
     mode: Mode,
     capacity: u32,
     workers: u32,
+    grain: Grain,
     texts: &[Vec<u8>],
 ) -> Result<Vec<u8>, CrewsFault>
     ensures root { IfOk result (λ blob. hash mode blob.items ≡ root.0) }
@@ -72,8 +75,20 @@ fn gather_within<R: Threads + Sync>(
     ensures available { (blob : List ℕ) (i : ℕ) → IsBlob (fixed_as root mode capacity) blob → chunk_count (length blob) ≤ capacity
         → slice_get (map vec_items texts.now) i ≡ Some (combined_text mode blob)
         → IsHandedOut (IsCutOf (map vec_items texts.now)) (fixed_as root mode capacity) blob result }
+    ensures covered { (blob : List ℕ) → IsBlob (fixed_as root mode capacity) blob → chunk_count (length blob) ≤ capacity
+        → HaveSlices grain cut_gives mode blob (map vec_items texts.now)
+        → IsHandedOut (IsCutOf (map vec_items texts.now)) (fixed_as root mode capacity) blob result }
 {
-    gather_by::<R, Encoded<'_>, Texts<'_>>(rt, alloc, root, mode, capacity, workers, &Texts(texts))
+    gather_by::<R, Encoded<'_>, Texts<'_>>(
+        rt,
+        alloc,
+        root,
+        mode,
+        capacity,
+        workers,
+        grain,
+        &Texts(texts),
+    )
 }
 
 // Whether it was for want of room that no blob was gathered.
@@ -86,9 +101,9 @@ fn lacks_room(gathered: &Result<Vec<u8>, CrewsFault>) -> bool
 /// The blob with this root in this mode, out of texts that nobody trusts: each may be its combined encoding, or any
 /// bytes. So many workers, at least 1 and at most 64, fill a shared store, as `run` says, each with a seat of its own and
 /// all texts in their order. Then their seats are joined to one, which goes once more round the groups and asks for
-/// what is held by nobody; the store is let go at the end. It has room for as many chunks as a blob with such an
-/// encoding may have, at most `capacity`: where that is less and too little, the work is done again with room for all.
-/// The texts are not copied.
+/// what is held by nobody; with `Grain::Chunk` it then asks for each chunk by itself, as `salvage` says. The store is let
+/// go at the end. It has room for as many chunks as a blob with such an encoding may have, at most `capacity`: where that
+/// is less and too little, the work is done again with room for all. The texts are not copied.
 ///
 /// 802 `Capacity` unless `capacity` is 1 to 65,536, asked before all else; 801 where there is no memory for the store,
 /// 806 for a worker's seat, and 911 `Starved` for the crews and the lists of texts. Then the blob is answered only
@@ -98,7 +113,9 @@ fn lacks_room(gathered: &Result<Vec<u8>, CrewsFault>) -> bool
 ///
 /// Where one of the texts is the combined encoding of a blob with the root, of at most `capacity` chunks, that blob is
 /// answered, whatever the other texts are and however the workers meet, or there was no memory, or such a pair as
-/// follows is named.
+/// follows is named. Nor need any text be whole, where one is as long as that encoding: it is enough that the slice of
+/// the last byte can be cut out of one, and for each group of the blob's chunks the group's slice out of one, or with
+/// `Grain::Chunk` for each chunk the chunk's.
 ///
 /// At 805 each blob with the root is longer than the capacity, and at 902 there is none; or two different inputs with
 /// one chaining value are named, one of the blob's and one of a slice's that is cut out of one of these texts and
@@ -110,6 +127,7 @@ pub fn gather_texts<R: Threads + Sync>(
     mode: Mode,
     capacity: u32,
     workers: u32,
+    grain: Grain,
     texts: &[Vec<u8>],
 ) -> Result<Vec<u8>, CrewsFault>
     ensures root { IfOk result (λ blob. hash mode blob.items ≡ root.0) }
@@ -121,14 +139,18 @@ pub fn gather_texts<R: Threads + Sync>(
     ensures available { (blob : List ℕ) (i : ℕ) → IsBlob (fixed_as root mode capacity) blob → chunk_count (length blob) ≤ capacity
         → slice_get (map vec_items texts.now) i ≡ Some (combined_text mode blob)
         → IsHandedOut (IsCutOf (map vec_items texts.now)) (fixed_as root mode capacity) blob result }
+    ensures covered { (blob : List ℕ) → IsBlob (fixed_as root mode capacity) blob → chunk_count (length blob) ≤ capacity
+        → chunk_count (length blob) ≤ most_chunks (map vec_items texts.now)
+        → HaveSlices grain cut_gives mode blob (map vec_items texts.now)
+        → IsHandedOut (IsCutOf (map vec_items texts.now)) (fixed_as root mode capacity) blob result }
 {
     let room = room_for(texts, capacity);
     if room == capacity || capacity > MAX_CAPACITY {
-        return gather_within(rt, alloc, root, mode, capacity, workers, texts);
+        return gather_within(rt, alloc, root, mode, capacity, workers, grain, texts);
     }
-    let gathered = gather_within(rt, alloc, root, mode, room, workers, texts);
+    let gathered = gather_within(rt, alloc, root, mode, room, workers, grain, texts);
     if lacks_room(&gathered) {
-        return gather_within(rt, alloc, root, mode, capacity, workers, texts);
+        return gather_within(rt, alloc, root, mode, capacity, workers, grain, texts);
     }
     gathered
 }

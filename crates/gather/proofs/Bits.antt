@@ -1,19 +1,9 @@
 -- Masks bit by bit.
-use Rattle.std.proofs.Common.{◌≡◌, zero, suc, ℕ, ◌+◌, ◌-◌, ◌*◌, ◌/◌, ◌%◌, ◌^◌, ◌<◌, ◌≤◌, nat_lt, nat_eq, ◌==◌, true, false, ◌&&◌, not, min, refl, sym, ap, ◌∙◌, arith, inl, inr, w64, bit_and}
+use Rattle.std.proofs.Common.{◌≡◌, zero, suc, ℕ, ◌-◌, ◌/◌, ◌%◌, ◌^◌, ◌<◌, nat_eq, ◌==◌, true, false, ◌&&◌, not, min, refl, ap, ◌∙◌, arith, w64, bit_and}
 use Rattle.std.specs.Int.{bit_at, bit_not}
-use Rattle.std.proofs.lemmas.Bool.{and_parts, and_from, and_right, cases_lt, lt-ltb, le-ltb}
-use Rattle.std.proofs.lemmas.Nat.{pow_below}
-use Rattle.std.proofs.lemmas.Nat.Bits.{bit_at-lt, bit_at-zero, bit_at_and, bit_at_not, bit_at_ones, bit_at_ones_above}
+use Rattle.std.proofs.lemmas.Bool.{and_parts, and_from, and_right}
+use Rattle.std.proofs.lemmas.Nat.Bits.{bit_at-lt, bit_at-zero, bit_at_and, bit_at_not}
 use Rattle.store_core.specs.Masks.{has_bit, in_mask}
-
--- the bits of 2 ^ k - 1 are those below k
-pub ones_below : (k j : ℕ) → j < k → has_bit (2 ^ k - 1) j ≡ true
-unfolding has_bit
-ones_below k j below = ap (λ x. nat_eq x 1) (bit_at_ones k j below)
-
-pub ones_above : (k j : ℕ) → k ≤ j → has_bit (2 ^ k - 1) j ≡ false
-unfolding has_bit
-ones_above k j above = ap (λ x. nat_eq x 1) (bit_at_ones_above k j above)
 
 -- a bit of one mask that isn't one of the other
 min_not : (a b : ℕ) → a < 2 → b < 2 → nat_eq (min a (1 - b)) 1 ≡ (nat_eq a 1 && not (nat_eq b 1))
@@ -42,19 +32,9 @@ in_without group mask other rest c bits of_mask not_other =
     and_from (c / 64 == group) (has_bit rest (c % 64)) here (bits (c % 64) (omega arith) ∙ and_from _ _ parts.1 (ap not unset))
 
 -- no chunk is of an empty mask
-has_bit_zero : (j : ℕ) → has_bit 0 j ≡ false
+pub has_bit_zero : (j : ℕ) → has_bit 0 j ≡ false
 unfolding has_bit
 has_bit_zero j = ap (λ x. nat_eq x 1) (bit_at-zero j)
 
 pub in_mask_zero : (group c : ℕ) → in_mask group 0 c ≡ false
 in_mask_zero group c = and_right (c / 64 == group) (has_bit 0 (c % 64)) (has_bit_zero (c % 64))
-
-pub power_fits : (k : ℕ) → k < 64 → 1 * 2 ^ k % 2 ^ 64 ≡ 2 ^ k
-power_fits k below = omega (arith, pow_below k 64 below)
-
--- the bits below those that a number has beyond another
-pub ones_test : (k j n m : ℕ) → k ≡ n - m → has_bit (2 ^ k - 1) j ≡ nat_lt (m + j) n
-ones_test k j n m is = elim (cases_lt j k) [
-  | inl below ↦ ones_below k j below ∙ sym (lt-ltb (m + j) n (omega (arith, is, below)))
-  | inr above ↦ ones_above k j above ∙ sym (le-ltb (m + j) n (omega (arith, is, above)))
-]

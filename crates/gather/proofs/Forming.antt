@@ -9,14 +9,14 @@ use Rattle.bao_check.specs.Outline.{outline_claimed}
 use Rattle.b3tree.specs.declared.mode.Mode.{Mode}
 use Rattle.bao_text.specs.Choice.{chunk_count}
 use Rattle.bao_text.specs.Texts.{slice_text}
-use Rattle.gather.specs.Available.{GivesSlices, IsServed, slice_of}
+use Rattle.gather.specs.Available.{GivesSlice, IsServed, slice_of}
 use Rattle.gather.proofs.Serving.{is_of, slice_good, slice_is}
 use Rattle.store_core.specs.Pieces.{piece_of}
 use Rattle.store_core.specs.Stores.{IsOf}
 use Rattle.gather.specs.declared.form.Form.{Form}
 use Rattle.gather.specs.declared.form.Form.TheVariants.{Slices, Bare}
 use Rattle.gather.specs.declared.form.Part.{Part}
-use Rattle.gather.specs.Forms.{AreSlices, HasGroup, IsEnd, IsGroup, IsLengthOf, IsMade, IsSliceCheck, made_of}
+use Rattle.gather.specs.Forms.{AreSlices, HasChunk, HasGroup, IsChunk, IsEnd, IsGroup, IsLengthOf, IsMade, IsSliceCheck, made_of}
 use Rattle.gather.specs.Holders.{GivesNoMore, IsGiven}
 use Rattle.store_core.specs.declared.fixed.Fixed.{Fixed}
 use Rattle.store_core.specs.declared.history.Piece.{Piece}
@@ -57,6 +57,10 @@ pub slice_group : (form : Form) (group : ℕ) (part : Part) → AreSlices form �
 slice_group Slices group part are is = is
 slice_group (Bare outline) group part are is = absurd are
 
+pub slice_chunk : (form : Form) (c : ℕ) (part : Part) → AreSlices form → IsChunk form c part → (part.start ≡ 1024 * c) × (part.len ≡ 1024)
+slice_chunk Slices c part are is = is
+slice_chunk (Bare outline) c part are is = absurd are
+
 pub slice_length : (form : Form) (len : ℕ) → AreSlices form → IsLengthOf form len
 slice_length Slices len are = tt
 slice_length (Bare outline) len are = absurd are
@@ -66,11 +70,24 @@ pub has_group : (form : Form) (len group : ℕ) → IsLengthOf form len → 64 *
 has_group Slices len group is below = tt
 has_group (Bare outline) len group is below = omega (arith, is, below)
 
+-- a blob of the form's length has its chunks
+pub has_chunk : (form : Form) (len c : ℕ) → IsLengthOf form len → c < chunk_count len → HasChunk form c
+has_chunk Slices len c is below = tt
+has_chunk (Bare outline) len c is below = omega (arith, is, below)
+
 -- the text that such a holder gave is the blob's slice
 pub slice_given : {H : Type 0} (form : Form) (gives : H → ℕ → ℕ → List ℕ → Type 0) (mode : Mode) (blob : List ℕ) (holder : H) (part : Part) (text given : List ℕ) → AreSlices form
-    → GivesSlices (made_of form gives) mode blob holder → text ≡ given → gives holder part.start part.len given → text ≡ slice_text mode blob part.start part.len
+    → GivesSlice (made_of form gives) mode blob part.start part.len holder → text ≡ given → gives holder part.start part.len given → text ≡ slice_text mode blob part.start part.len
 slice_given form gives mode blob holder part text given are slices same is =
-    same ∙ slices part.start part.len given (made_slices form gives holder part.start part.len given are is)
+    same ∙ slices given (made_slices form gives holder part.start part.len given are is)
+
+pub end_given : {H : Type 0} (form : Form) (gives : H → ℕ → ℕ → List ℕ → Type 0) (mode : Mode) (blob : List ℕ) (holder : H) (part : Part) (text given : List ℕ) → AreSlices form
+    → IsEnd form part → GivesSlice (made_of form gives) mode blob (2 ^ 64 - 1) 1 holder → text ≡ given → gives holder part.start part.len given
+    → text ≡ slice_text mode blob part.start part.len
+end_given form gives mode blob holder part text given are end slice same is =
+    let at = slice_end form part are end in
+    slice_given form gives mode blob holder part text given are (subst (λ (n : ℕ). GivesSlice (made_of form gives) mode blob n part.len holder) (sym at.0)
+    (subst (λ (n : ℕ). GivesSlice (made_of form gives) mode blob (2 ^ 64 - 1) n holder) (sym at.1) slice)) same is
 
 -- it is accepted as that slice
 pub slice_made : (form : Form) (fixed known : Fixed) (part : Part) (text : List ℕ) (piece : Checked) (blob : List ℕ) (start len : ℕ) → AreSlices form → part.start ≡ start → part.len ≡ len

@@ -1,5 +1,5 @@
 -- The slices of a blob with the root, for which the store has room.
-use Rattle.std.proofs.Common.{◌≡◌, ℕ, ◌+◌, ◌-◌, ◌*◌, ◌/◌, ◌^◌, ◌<◌, ◌≤◌, List, length, true, IsSome, Option, None, Some, refl, sym, subst, arith}
+use Rattle.std.proofs.Common.{◌≡◌, ℕ, ◌+◌, ◌-◌, ◌/◌, ◌^◌, ◌<◌, ◌≤◌, List, length, true, IsSome, Option, None, Some, refl, sym, subst, arith}
 use Rattle.std.specs.Option.{option_map}
 use Rattle.b3tree.specs.Valid.{IsKeyed}
 use Rattle.bao_check.specs.Accepted.{IsAccepted, places_of, slice_nodes}
@@ -10,7 +10,9 @@ use Rattle.bao_check.proofs.Written.{claimed-chosen_text, slice_accepted}
 use Rattle.bao_text.specs.Choice.{chunk_count, of_slice, slice_end, slice_start}
 use Rattle.bao_text.specs.Nodes.{nodes}
 use Rattle.bao_text.specs.Texts.{slice_text}
-use Rattle.gather.specs.Available.{IsServed, slice_of}
+use Rattle.gather.specs.declared.grain.Grain.{Grain}
+use Rattle.gather.specs.declared.grain.Grain.TheVariants.{Group as ByGroup, Chunk as ByChunk}
+use Rattle.gather.specs.Available.{IsAskedBy, IsServed, slice_of}
 use Rattle.store_core.specs.declared.fixed.Fixed.{Fixed}
 use Rattle.store_core.specs.Laws.{IsBlob}
 use Rattle.store_core.specs.Pieces.{EndsBlob, holds_chunk, length_of}
@@ -37,6 +39,10 @@ module _ (fixed : Fixed) (blob : List ℕ) (short : length blob < 2 ^ 64) where
       subst (λ (total : ℕ). holds_chunk (slice_of fixed.mode blob (2 ^ 64 - 1) 1) (chunk_count total - 1) ≡ true) (sym (long (2 ^ 64 - 1) 1))
       (present (2 ^ 64 - 1) 1 (chunk_count n - 1) (omega (arith, short)) (omega (arith, short)))
 
+  asked_there : (grain : Grain) (c start len : ℕ) → c < chunk_count (length blob) → IsAskedBy grain c start len → holds_chunk (slice_of fixed.mode blob start len) c ≡ true
+  asked_there ByGroup c start len below asked = present start len c (omega (arith, asked.0, below)) (omega (arith, asked.0, asked.1, below))
+  asked_there ByChunk c start len below asked = present start len c (omega (arith, asked.0, below)) (omega (arith, asked.0, asked.1, below))
+
 pub served : (fixed : Fixed) (blob : List ℕ) → IsKeyed fixed.mode → IsBlob fixed blob → chunk_count (length blob) ≤ fixed.capacity → fixed.capacity ≤ 65536
     → IsServed fixed blob
 served fixed blob keyed is room limit =
@@ -50,5 +56,5 @@ served fixed blob keyed is room limit =
           (slice_accepted fixed.mode blob start len keyed short);
       claims = long fixed blob short;
       ends = last_there fixed blob short;
-      holds = λ group c here below. present fixed blob short (65536 * group) 65536 c (omega (arith, here)) (omega (arith, here, below));
+      holds = λ grain c start len below asked. asked_there fixed blob short grain c start len below asked;
     }

@@ -1,7 +1,8 @@
 -- What a worker does with the slices of a blob that a holder gives.
-use Rattle.std.proofs.Common.{◌≡◌, ◌⊎◌, ℕ, ◌+◌, ◌-◌, ◌*◌, ◌/◌, ◌%◌, ◌^◌, ◌<◌, ◌≤◌, ◌==◌, ◌&&◌, not, Bool, true, false, List, [], ◌∷◌, zero, suc, get_or, set, slice_get, IfSome, IsSome, Option, None, Some, length, refl, sym, ap, subst, ◌∙◌, arith, inl, inr, ltb-true, mul_comm, nat_lt}
+use Rattle.std.proofs.Common.{◌≢◌, eqb-true, eq-eqb, ◌≡◌, ◌⊎◌, ℕ, ◌+◌, ◌-◌, ◌*◌, ◌/◌, ◌%◌, ◌^◌, ◌<◌, ◌≤◌, ◌==◌, ◌&&◌, not, Bool, true, false, List, [], ◌∷◌, zero, suc, get_or, set, slice_get, IfSome, IsSome, Option, None, Some, length, refl, sym, ap, subst, ◌∙◌, arith, inl, inr, ltb-true, mul_comm, nat_lt}
 use Rattle.std.proofs.lemmas.Option.{get_or_from_slice_get}
-use Rattle.std.proofs.lemmas.Bool.{and_parts, cases_lt, lt-ltb}
+use Rattle.std.proofs.lemmas.Bool.{and_parts, both_ways, cases_Bool, cases_lt, lt-ltb}
+use Rattle.gather.proofs.Bits.{has_bit_zero}
 use Rattle.std.proofs.Math.Nat.{add-mod_right, div-lt_iff_lt-mul, mod-eq_of_lt, mul-lt-mul_of_pos_right}
 use Rattle.gather.specs.Holders.{AreLater}
 use Rattle.b3tree.specs.declared.mode.Mode.{Mode}
@@ -9,13 +10,14 @@ use Rattle.bao_check.specs.Accepted.{IsAccepted, slice_nodes}
 use Rattle.bao_check.specs.Checked.{HoldsLast, IsPiece}
 use Rattle.bao_check.specs.declared.checked.Checked.{Checked}
 use Rattle.bao_text.specs.Texts.{slice_text}
-use Rattle.gather.specs.Available.{GivesSlices, HasTrue, IsServed, IsWanted, slice_of}
+use Rattle.gather.specs.declared.grain.Grain.{Grain}
+use Rattle.gather.specs.Available.{GivesSlice, HasSlice, HasTrue, HaveSlices, IsServed, IsWanted, slice_of}
 use Rattle.gather.specs.Counts.{HasFailed, asked_once, failed_once, memory_once}
 use Rattle.gather.specs.declared.report.Report.{Report}
 use Rattle.gather.specs.Large.{EndsTooFar}
 use Rattle.store_core.specs.declared.fixed.Fixed.{Fixed}
 use Rattle.store_core.specs.declared.history.Piece.{Piece}
-use Rattle.store_core.specs.Masks.{has_bit, in_mask}
+use Rattle.store_core.specs.Masks.{IsMaskOf, has_bit, in_mask}
 use Rattle.store_core.specs.Pieces.{EndsBlob, length_of, piece_of}
 use Rattle.store_core.specs.Stores.{IsOf}
 
@@ -89,11 +91,11 @@ get_set_after (x ∷ xs) zero (suc k) y after = refl
 get_set_after (x ∷ xs) (suc i) zero y after = absurd (omega (arith, after))
 get_set_after (x ∷ xs) (suc i) (suc k) y after = get_set_after xs i k y (omega (arith, after))
 
--- the holder that gives the blob's slices, when it is asked
-pub true_here : {H : Type 0} (gives : H → ℕ → ℕ → List ℕ → Type 0) (mode : Mode) (blob : List ℕ) (all now : List H) (d : H) (is : HasTrue gives mode blob all)
-    → slice_get now is.place ≡ slice_get all is.place → GivesSlices gives mode blob (get_or now is.place d)
-true_here gives mode blob all now d is same =
-    subst (λ h. GivesSlices gives mode blob h) (sym (get_or_from_slice_get now is.place is.holder d (same ∙ is.there))) is.gives_slices
+-- the holder that gives a slice of the blob, when it is asked
+pub slice_here : {H : Type 0} (gives : H → ℕ → ℕ → List ℕ → Type 0) (mode : Mode) (blob : List ℕ) (start len : ℕ) (all now : List H) (d : H)
+    (is : HasSlice gives mode blob start len all) → slice_get now is.place ≡ slice_get all is.place → GivesSlice gives mode blob start len (get_or now is.place d)
+slice_here gives mode blob start len all now d is same =
+    subst (λ h. GivesSlice gives mode blob start len h) (sym (get_or_from_slice_get now is.place is.holder d (same ∙ is.there))) is.gives_slice
 
 -- what is recorded is answered again
 pub known_some : (o then : Option ℕ) (P : ℕ → Type 0) → IfSome o P → IsSome o → ((n : ℕ) → P n → then ≡ Some n) → IsSome then
@@ -101,15 +103,20 @@ known_some None then P has is known = let no : false ≡ true = is in cc
 known_some (Some n) then P has is known = subst (λ (x : Option ℕ). IsSome x) (sym (known n has)) refl
 
 -- the wanted chunks of a group are those of the first ones
-pub wanted_below : (chunks group want : ℕ) → ((j : ℕ) → j < 64 → has_bit want j ≡ nat_lt (64 * group + j) chunks) → (c : ℕ) → IsWanted group want c → c < chunks
-wanted_below chunks group want bits c (here, bit) =
-    let below : 64 * group + c % 64 < chunks = ltb-true (64 * group + c % 64) chunks (sym (bits (c % 64) (omega arith)) ∙ bit) in
-    omega (arith, here, below)
+pub wanted_below : (chunks group want : ℕ) → IsMaskOf group want (λ c. nat_lt c chunks) → (c : ℕ) → IsWanted group want c → c < chunks
+wanted_below chunks group want is c (here, bit) = ltb-true c chunks (sym (is.bits c here) ∙ bit)
 
-pub wanted_there : (chunks group want : ℕ) → ((j : ℕ) → j < 64 → has_bit want j ≡ nat_lt (64 * group + j) chunks) → (c : ℕ) → c / 64 ≡ group → c < chunks
-    → IsWanted group want c
-wanted_there chunks group want bits c here below =
-    (here, bits (c % 64) (omega arith) ∙ lt-ltb (64 * group + c % 64) chunks (omega (arith, here, below)))
+pub wanted_there : (chunks group want : ℕ) → IsMaskOf group want (λ c. nat_lt c chunks) → (c : ℕ) → c / 64 ≡ group → c < chunks → IsWanted group want c
+wanted_there chunks group want is c here below = (here, is.bits c here ∙ lt-ltb c chunks below)
+
+-- of a mask of one bit one chunk is wanted
+pub wanted_one : (chunk group want c : ℕ) → group ≡ chunk / 64 → ((k : ℕ) → k ≢ chunk % 64 → has_bit want k ≡ has_bit 0 k) → IsWanted group want c → c ≡ chunk
+wanted_one chunk group want c at others (here, bit) = elim (cases_Bool (c % 64 == chunk % 64)) [
+  | inl same ↦ omega (arith, at, here, eqb-true (c % 64) (chunk % 64) same)
+  | inr other ↦
+      let unset : has_bit want (c % 64) ≡ false = others (c % 64) (λ same. both_ways _ other (eq-eqb (c % 64) (chunk % 64) same)) ∙ has_bit_zero (c % 64) in
+      absurd (both_ways _ unset bit)
+]
 
 -- a round over groups meets each of them
 pub round_meets : (first groups group : ℕ) → first < groups → group < groups → (k : ℕ) × (k < groups) × (group ≡ (first + k) % groups)
@@ -124,12 +131,32 @@ round_meets first groups group begun there = elim (cases_lt group first) [
       (k, omega (arith, begun, there, after), sym (ap (λ (n : ℕ). n % groups) sum ∙ mod-eq_of_lt there))
 ]
 
--- a holder that gives the slices of a blob goes on to
-pub later_true : {H : Type 0} (gives : H → ℕ → ℕ → List ℕ → Type 0) (mode : Mode) (blob : List ℕ) (old new : List H) → AreLater gives old new → HasTrue gives mode blob old
-    → HasTrue gives mode blob new
-later_true gives mode blob old new later has =
+-- a holder that gives a slice of a blob goes on to
+pub later_slice : {H : Type 0} (gives : H → ℕ → ℕ → List ℕ → Type 0) (mode : Mode) (blob : List ℕ) (start len : ℕ) (old new : List H) → AreLater gives old new
+    → HasSlice gives mode blob start len old → HasSlice gives mode blob start len new
+later_slice gives mode blob start len old new later has =
     let then = later.each has.place has.holder has.there in
-    record { place = has.place; holder = then.0; there = then.1; gives_slices = λ start len text is. has.gives_slices start len text (then.2 start len text is) }
+    record { place = has.place; holder = then.0; there = then.1; gives_slice = λ text is. has.gives_slice text (then.2 start len text is) }
+
+pub later_slices : {H : Type 0} (grain : Grain) (gives : H → ℕ → ℕ → List ℕ → Type 0) (mode : Mode) (blob : List ℕ) (old new : List H) → AreLater gives old new
+    → HaveSlices grain gives mode blob old → HaveSlices grain gives mode blob new
+later_slices grain gives mode blob old new later have = record {
+  end = later_slice gives mode blob (2 ^ 64 - 1) 1 old new later have.end;
+  each = λ c start len below asked. later_slice gives mode blob start len old new later (have.each c start len below asked);
+}
+
+-- one that gives nothing but the slices of a blob gives each
+true_slice : {H : Type 0} (gives : H → ℕ → ℕ → List ℕ → Type 0) (mode : Mode) (blob : List ℕ) (start len : ℕ) (holders : List H) → HasTrue gives mode blob holders
+    → HasSlice gives mode blob start len holders
+true_slice gives mode blob start len holders has =
+    record { place = has.place; holder = has.holder; there = has.there; gives_slice = λ text is. has.gives_slices start len text is }
+
+pub true_slices : {H : Type 0} (grain : Grain) (gives : H → ℕ → ℕ → List ℕ → Type 0) (mode : Mode) (blob : List ℕ) (holders : List H) → HasTrue gives mode blob holders
+    → HaveSlices grain gives mode blob holders
+true_slices grain gives mode blob holders has = record {
+  end = true_slice gives mode blob (2 ^ 64 - 1) 1 holders has;
+  each = λ c start len below asked. true_slice gives mode blob start len holders has;
+}
 
 -- a worker begins at one of the groups
 pub begins_within : (number workers groups : ℕ) → number < workers → 0 < groups → number * groups / workers < groups

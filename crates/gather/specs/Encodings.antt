@@ -11,6 +11,10 @@ encoding holder = holder.text.now
 abbrev pub IsCut : Encoded → ℕ → ℕ → List ℕ → Type 0
 IsCut holder start len text = text ≡ cut_text (encoding holder) start len
 
+-- a text gives what is cut out of it
+abbrev pub cut_gives : List ℕ → ℕ → ℕ → List ℕ → Type 0
+cut_gives text start len given = given ≡ cut_text text start len
+
 -- the piece is a slice that is cut out of one of these texts
 pub record IsCutOf (texts : List (List ℕ)) (piece : Piece) : Type 0 where
   pub place : ℕ

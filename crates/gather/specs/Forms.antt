@@ -37,7 +37,12 @@ abbrev pub IsLengthOf : Form → ℕ → Type 0
 IsLengthOf Slices len = Unit {0}
 IsLengthOf (Bare outline) len = outline_claimed outline.now ≡ len
 
--- a blob of the outline's length has chunks in the group
+-- a blob of the outline's length has the chunk
+abbrev pub HasChunk : Form → ℕ → Type 0
+HasChunk Slices c = Unit {0}
+HasChunk (Bare outline) c = c < chunk_count (outline_claimed outline.now)
+
+-- or chunks in the group
 abbrev pub HasGroup : Form → ℕ → Type 0
 HasGroup Slices group = Unit {0}
 HasGroup (Bare outline) group = 64 * group < chunk_count (outline_claimed outline.now)
@@ -63,6 +68,11 @@ IsEnd (Bare outline) part =
 abbrev pub IsGroup : Form → ℕ → Part → Type 0
 IsGroup Slices group part = (part.start ≡ 65536 * group) × (part.len ≡ 65536)
 IsGroup (Bare outline) group part = (part.start ≡ 65536 * group) × (part.len ≡ min 65536 (outline_claimed outline.now - 65536 * group))
+
+-- or for a chunk
+abbrev pub IsChunk : Form → ℕ → Part → Type 0
+IsChunk Slices c part = (part.start ≡ 1024 * c) × (part.len ≡ 1024)
+IsChunk (Bare outline) c part = (part.start ≡ 1024 * c) × (part.len ≡ min 1024 (outline_claimed outline.now - 1024 * c))
 
 -- the piece that is made of what was given for a part
 abbrev pub IsMade : Form → Part → List ℕ → Piece → Type 0

@@ -1,16 +1,13 @@
-ghost use Rattle.std.specs.Prelude.{IsTrue, IfOk, ◌↔◌};
-ghost use Rattle.gather.specs.Forms.{HasGroup, IsEnd, IsGroup, IsLengthOf, IsMade, IsPart, IsSliceCheck};
+ghost use Rattle.std.specs.Prelude.{IsTrue, IfOk, ◌↔◌, ◌<◌};
+ghost use Rattle.gather.specs.Forms.{HasChunk, HasGroup, IsChunk, IsEnd, IsGroup, IsLengthOf, IsMade, IsPart, IsSliceCheck};
 ghost use Rattle.store_core.specs.Pieces.{piece_of};
 
-use crate::masks::GROUP_LEN;
 use bao_check::{CheckFault, Checked, Outline, check_bare, check_slice};
 use std::alloc::Global;
-use store_core::Fixed;
+use store_core::{Fixed, GROUP_BYTES};
 
-// Bytes of a chunk, and of a group.
+// Bytes of a chunk, for numbers of bytes.
 pub(crate) const CHUNK_LEN: u64 = b3tree::CHUNK_LEN as u64;
-
-const GROUP_BYTES: u64 = GROUP_LEN * CHUNK_LEN;
 
 /// So many bytes of a blob, from byte `start` on.
 #[derive(Clone, Copy, Debug)]
@@ -76,6 +73,26 @@ impl Form<'_> {
             Form::Bare(outline) => Part {
                 start,
                 len: GROUP_BYTES.min(outline.claimed().saturating_sub(start)),
+            },
+        }
+    }
+
+    // What is asked for a chunk.
+    pub(crate) fn chunk(&self, chunk: u64) -> Part
+        requires number { chunk < 65536 }
+        requires chunk { HasChunk self.now chunk }
+        ensures chunk { IsChunk self.now chunk result }
+        ensures part { IsPart self.now result }
+    {
+        let start = CHUNK_LEN * chunk;
+        match self {
+            Form::Slices => Part {
+                start,
+                len: CHUNK_LEN,
+            },
+            Form::Bare(outline) => Part {
+                start,
+                len: CHUNK_LEN.min(outline.claimed().saturating_sub(start)),
             },
         }
     }

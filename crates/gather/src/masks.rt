@@ -1,4 +1,4 @@
-ghost use Rattle.std.specs.Prelude.{◌≡◌, ℕ, ◌+◌, ◌*◌, ◌<◌, nat_lt, not, ◌&&◌};
+ghost use Rattle.std.specs.Prelude.{◌≡◌, ℕ, ◌<◌, not, ◌&&◌};
 ghost use Rattle.store_core.specs.Masks.{has_bit};
 
 use store_core::MAX_CAPACITY;
@@ -8,18 +8,6 @@ pub(crate) const GROUP_LEN: u64 = store_core::GROUP_LEN as u64;
 
 // The most groups that a store has.
 pub(crate) const MAX_GROUPS: u64 = MAX_CAPACITY as u64 / GROUP_LEN;
-
-// The mask of the chunks of a group below the number `chunks`.
-pub(crate) fn wanted(chunks: u64, group: u32) -> u64
-    ensures { (j : ℕ) → j < 64 → has_bit result j ≡ nat_lt (64 * group + j) chunks }
-{
-    let before = GROUP_LEN * u64::from(group);
-    let below = chunks.saturating_sub(before);
-    if below >= GROUP_LEN {
-        return u64::MAX;
-    }
-    (1 << below) - 1
-}
 
 // A mask without the chunks of another.
 pub(crate) fn without(mask: u64, other: u64) -> u64

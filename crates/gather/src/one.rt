@@ -2,7 +2,8 @@ ghost use Rattle.std.specs.Prelude.{◌≡◌, ◌≤◌, ◌+◌, ◌⊎◌, �
 ghost use Rattle.store_core.specs.Stores.{fixed_of};
 ghost use Rattle.gather.specs.Claims.{Among};
 ghost use Rattle.bao_text.specs.Choice.{chunk_count};
-ghost use Rattle.gather.specs.Available.{HasTrue, IsFilled};
+ghost use Rattle.gather.specs.Available.{HaveSlices, IsFilled};
+ghost use Rattle.gather.specs.declared.grain.Grain.TheVariants.{Group as ByGroup};
 ghost use Rattle.gather.specs.Counts.{HasFailed, IsAnswered};
 ghost use Rattle.gather.specs.Lasting.{Holds, IsBusy, Records};
 ghost use Rattle.store_core.specs.Laws.{IsBlob};
@@ -107,9 +108,10 @@ impl Shelf for Alone {
 /// root, each chunk stored is the blob's of that number, or two different inputs with one chaining value are named, one
 /// of the blob's and one of that text's. No claim is left that the worker took.
 ///
-/// Where one of the holders gives nothing but the slices of a blob with the root, for which the store has room, and
-/// neither memory was refused nor a device failed, nor an accepted text certifies a length that is too large: a length
-/// is recorded, and if it is that blob's, each of its chunks is held, or was claimed by somebody before.
+/// It is enough that, of a blob with the root for which the store has room, one of the holders gives the slice of the last
+/// byte, and for each group of its chunks one gives the group's slice, whatever they give as other slices. Where neither
+/// memory was refused nor a device failed, nor an accepted text certifies a length that is too large, a length is recorded
+/// then, and if it is that blob's, each of its chunks is held, or was claimed by somebody before.
 ///
 /// The report's `committed` is the number of chunks stored and `parents` that of parents, `failed` is at most what
 /// the holders' counts rose together, and `too_large` is set only where an accepted text certifies a length above
@@ -125,7 +127,7 @@ pub fn run_one<H: Holder>(alloc: Global, store: &mut Store, holders: &mut [H]) -
     ensures too_large { IsTrue result.too_large → IsTooLarge (IsHanded H.gives holders.old) (fixed_of store.old) }
     ensures longer { IsTrue result.too_large → AreLonger (IsHanded H.gives holders.old) (fixed_of store.old) }
     ensures available { (blob : List ℕ) → IsBlob (fixed_of store.old) blob → chunk_count (length blob) ≤ (fixed_of store.old).capacity
-        → HasTrue H.gives (fixed_of store.old).mode blob holders.old
+        → HaveSlices ByGroup H.gives (fixed_of store.old).mode blob holders.old
         → HasFailed result ⊎ IsTooLarge (IsHanded H.gives holders.old) (fixed_of store.old) ⊎ IsFilled Records Holds IsBusy store.old store.new blob }
 {
     let place = Place {

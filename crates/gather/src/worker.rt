@@ -1,21 +1,23 @@
-ghost use Rattle.std.specs.Prelude.{IfSome, IsSome, IsTrue, List, length, true, false, ◌⊎◌, ◌≡◌, ℕ, ◌*◌, ◌<◌, ◌≤◌, Bool, nat_lt, sum_by};
+ghost use Rattle.std.specs.Prelude.{IfSome, IsSome, IsTrue, List, length, true, false, ◌⊎◌, ◌≡◌, ℕ, ◌-◌, ◌*◌, ◌^◌, ◌<◌, ◌≤◌, Bool, nat_lt, sum_by};
 ghost use Rattle.gather.specs.Claims.{Among, AmongAnd};
 ghost use Rattle.bao_text.specs.Choice.{chunk_count};
 ghost use Rattle.store_core.specs.Masks.{in_mask};
-ghost use Rattle.gather.specs.Available.{GivesSlices, HasTrue, IsFilled, IsServed, IsWanted};
-ghost use Rattle.gather.specs.Forms.{AreSlices, HasGroup, made_of};
+ghost use Rattle.gather.specs.Available.{GivesSlice, HasSlice, HaveSlices, IsFilled, IsServed, IsWanted, slice_of};
+ghost use Rattle.gather.specs.declared.grain.Grain.TheVariants.{Group as ByGroup};
+ghost use Rattle.gather.specs.Forms.{AreSlices, IsPart, made_of};
+ghost use Rattle.store_core.specs.Pieces.{holds_chunk};
 ghost use Rattle.gather.specs.Counts.{Fits, HasFailed, IsFetch, Reports};
 ghost use Rattle.gather.specs.Large.{IsTooLarge};
 ghost use Rattle.gather.specs.Holders.{AreLater, GivesNoMore, IsGiven, IsHanded};
 
 use crate::form::{CHUNK_LEN, Form, Part};
 use crate::holder::{Holder, HolderFault};
-use crate::masks::{GROUP_LEN, MAX_GROUPS, wanted, without};
+use crate::masks::{GROUP_LEN, MAX_GROUPS, without};
 use crate::parents::store_parents;
 use crate::report::Report;
 use crate::shelf::Shelf;
 use std::alloc::Global;
-use store_core::{Settling, StoreFault};
+use store_core::{Settling, StoreFault, mask_below};
 
 /// A worker's number among so many, from 0 on.
 #[derive(Clone, Copy, Debug)]
@@ -67,7 +69,7 @@ fn ask_end<S: Shelf, H: Holder>(
     ensures reports { Reports S.fixed_of S.gained seat.old seat.new (IsGiven (made_of form.now H.gives) holder.old) (IsGiven (made_of form.now H.gives) holder.new) (H.count holder.old) (H.count holder.new) report.old report.new }
     ensures no_more { GivesNoMore (made_of form.now H.gives) holder.old holder.new }
     ensures claims { Among (S.claims seat.old) (S.claims seat.new) }
-    ensures agreed { AreSlices form.now → (blob : List ℕ) → IsServed (S.fixed_of seat.old) blob → GivesSlices (made_of form.now H.gives) (S.fixed_of seat.old).mode blob holder.old
+    ensures agreed { AreSlices form.now → (blob : List ℕ) → IsServed (S.fixed_of seat.old) blob → GivesSlice (made_of form.now H.gives) (S.fixed_of seat.old).mode blob (2 ^ 64 - 1) 1 holder.old
         → HasFailed report.new ⊎ ((l : ℕ) × S.records seat.new l) }
     ensures large { IsTrue result → IsTooLarge (IsGiven (made_of form.now H.gives) holder.old) (S.fixed_of seat.old) }
 {
@@ -101,7 +103,7 @@ fn ask_end<S: Shelf, H: Holder>(
 
 // The recorded length. If there is none, the holders are asked for it in order, until one is recorded or a
 // certified one is above what the store has room for.
-fn agree<S: Shelf, H: Holder>(
+pub(crate) fn agree<S: Shelf, H: Holder>(
     alloc: Global,
     form: &Form<'_>,
     shelf: &S,
@@ -115,7 +117,7 @@ fn agree<S: Shelf, H: Holder>(
     ensures later { AreLater (made_of form.now H.gives) holders.old holders.new }
     ensures claims { Among (S.claims seat.old) (S.claims seat.new) }
     ensures records { IfSome result (λ l. S.records seat.new l) }
-    ensures agreed { AreSlices form.now → (blob : List ℕ) → IsServed (S.fixed_of seat.old) blob → HasTrue (made_of form.now H.gives) (S.fixed_of seat.old).mode blob holders.old
+    ensures agreed { AreSlices form.now → (blob : List ℕ) → IsServed (S.fixed_of seat.old) blob → HasSlice (made_of form.now H.gives) (S.fixed_of seat.old).mode blob (2 ^ 64 - 1) 1 holders.old
         → HasFailed report.new ⊎ IsTooLarge (IsHanded (made_of form.now H.gives) holders.old) (S.fixed_of seat.old) ⊎ IsSome result }
 {
     report.fits();
@@ -131,20 +133,21 @@ fn agree<S: Shelf, H: Holder>(
     length
 }
 
-// Asks one holder for a group, commits what its text holds of the chunks that are left, stores the text's parents, and
-// answers those that are left then.
+// Asks one holder for a part of a blob, commits what its text holds of a group's chunks that are left, stores the text's
+// parents, and answers those that are left then.
 fn ask<S: Shelf, H: Holder>(
     alloc: Global,
     form: &Form<'_>,
     shelf: &S,
     seat: &mut S::Seat,
     holder: &mut H,
+    part: &Part,
     group: u32,
     left: u64,
     report: &mut Report,
 ) -> u64
     requires has { S.has shelf.now seat.old }
-    requires group { HasGroup form.now group }
+    requires part { IsPart form.now part.now }
     ensures has { S.has shelf.now seat.new }
     ensures reports { Reports S.fixed_of S.gained seat.old seat.new (IsGiven (made_of form.now H.gives) holder.old) (IsGiven (made_of form.now H.gives) holder.new) (H.count holder.old) (H.count holder.new) report.old report.new }
     ensures no_more { GivesNoMore (made_of form.now H.gives) holder.old holder.new }
@@ -152,16 +155,15 @@ fn ask<S: Shelf, H: Holder>(
     ensures fewer { (c : ℕ) → in_mask group result c ≡ true → in_mask group left c ≡ true }
     ensures kept { (c : ℕ) → in_mask group left c ≡ true → S.claims seat.old c ≡ true
         → ((in_mask group result c ≡ true) × (S.claims seat.new c ≡ true)) ⊎ ((in_mask group result c ≡ false) × S.holds seat.new c) }
-    ensures served { AreSlices form.now → (blob : List ℕ) → IsServed (S.fixed_of seat.old) blob → GivesSlices (made_of form.now H.gives) (S.fixed_of seat.old).mode blob holder.old
-        → ((c : ℕ) → in_mask group left c ≡ true → (S.claims seat.old c ≡ true) × (c < chunk_count (length blob)))
+    ensures served { AreSlices form.now → (blob : List ℕ) → IsServed (S.fixed_of seat.old) blob → GivesSlice (made_of form.now H.gives) (S.fixed_of seat.old).mode blob part.now.start part.now.len holder.old
+        → ((c : ℕ) → in_mask group left c ≡ true → (S.claims seat.old c ≡ true) × (holds_chunk (slice_of (S.fixed_of seat.old).mode blob part.now.start part.now.len) c ≡ true))
         → HasFailed report.new ⊎ ((c : ℕ) → in_mask group result c ≡ false) }
 {
-    let part = form.group(group);
-    let Some(text) = fetched(alloc, holder, &part, report) else {
+    let Some(text) = fetched(alloc, holder, part, report) else {
         return left;
     };
     let fixed = shelf.fixed(seat);
-    match form.check(alloc, &fixed, &part, text.as_slice()) {
+    match form.check(alloc, &fixed, part, text.as_slice()) {
         Ok(piece) => match shelf.commit(seat, group, &piece) {
             Ok(committed) => {
                 report.committed = report
@@ -184,26 +186,27 @@ fn ask<S: Shelf, H: Holder>(
     }
 }
 
-// Takes the wanted chunks of a group, asks the holders in order until none is left of those granted, and gives
-// back those that are.
-fn work_group<S: Shelf, H: Holder>(
+// Takes the wanted chunks of a group, asks the holders in order for a part of the blob until none is left of those
+// granted, and gives back those that are.
+pub(crate) fn work_part<S: Shelf, H: Holder>(
     alloc: Global,
     form: &Form<'_>,
     shelf: &S,
     seat: &mut S::Seat,
     holders: &mut [H],
+    part: &Part,
     group: u32,
     want: u64,
     report: &mut Report,
 )
     requires has { S.has shelf.now seat.old }
-    requires group { HasGroup form.now group }
+    requires part { IsPart form.now part.now }
     ensures has { S.has shelf.now seat.new }
     ensures reports { Reports S.fixed_of S.gained seat.old seat.new (IsHanded (made_of form.now H.gives) holders.old) (IsHanded (made_of form.now H.gives) holders.new) (sum_by H.count holders.old) (sum_by H.count holders.new) report.old report.new }
     ensures later { AreLater (made_of form.now H.gives) holders.old holders.new }
     ensures claims { Among (S.claims seat.old) (S.claims seat.new) }
-    ensures served { AreSlices form.now → (blob : List ℕ) → IsServed (S.fixed_of seat.old) blob → HasTrue (made_of form.now H.gives) (S.fixed_of seat.old).mode blob holders.old
-        → ((c : ℕ) → IsWanted group want c → c < chunk_count (length blob))
+    ensures served { AreSlices form.now → (blob : List ℕ) → IsServed (S.fixed_of seat.old) blob → HasSlice (made_of form.now H.gives) (S.fixed_of seat.old).mode blob part.now.start part.now.len holders.old
+        → ((c : ℕ) → IsWanted group want c → (c < chunk_count (length blob)) × (holds_chunk (slice_of (S.fixed_of seat.old).mode blob part.now.start part.now.len) c ≡ true))
         → HasFailed report.new ⊎ ((c : ℕ) → IsWanted group want c → S.holds seat.new c ⊎ S.busy seat.old c) }
 {
     report.fits();
@@ -221,7 +224,7 @@ fn work_group<S: Shelf, H: Holder>(
         if left == 0 {
             break;
         }
-        left = ask(alloc, form, shelf, seat, holder, group, left, report);
+        left = ask(alloc, form, shelf, seat, holder, part, group, left, report);
     }
     if left == 0 {
         return;
@@ -254,7 +257,7 @@ pub fn work<S: Shelf, H: Holder>(
     ensures reports { Reports S.fixed_of S.gained seat.old seat.new (IsHanded H.gives holders.old) (IsHanded H.gives holders.new) (sum_by H.count holders.old) (sum_by H.count holders.new) report.old report.new }
     ensures later { AreLater H.gives holders.old holders.new }
     ensures claims { Among (S.claims seat.old) (S.claims seat.new) }
-    ensures served { (blob : List ℕ) → IsServed (S.fixed_of seat.old) blob → HasTrue H.gives (S.fixed_of seat.old).mode blob holders.old
+    ensures served { (blob : List ℕ) → IsServed (S.fixed_of seat.old) blob → HaveSlices ByGroup H.gives (S.fixed_of seat.old).mode blob holders.old
         → HasFailed report.new ⊎ IsTooLarge (IsHanded H.gives holders.old) (S.fixed_of seat.old) ⊎ IsFilled S.records S.holds S.busy seat.old seat.new blob }
 {
     work_as(alloc, &Form::Slices, shelf, seat, holders, place, report);
@@ -283,7 +286,7 @@ pub fn work_as<S: Shelf, H: Holder>(
     ensures reports { Reports S.fixed_of S.gained seat.old seat.new (IsHanded (made_of form.now H.gives) holders.old) (IsHanded (made_of form.now H.gives) holders.new) (sum_by H.count holders.old) (sum_by H.count holders.new) report.old report.new }
     ensures later { AreLater (made_of form.now H.gives) holders.old holders.new }
     ensures claims { Among (S.claims seat.old) (S.claims seat.new) }
-    ensures served { AreSlices form.now → (blob : List ℕ) → IsServed (S.fixed_of seat.old) blob → HasTrue (made_of form.now H.gives) (S.fixed_of seat.old).mode blob holders.old
+    ensures served { AreSlices form.now → (blob : List ℕ) → IsServed (S.fixed_of seat.old) blob → HaveSlices ByGroup (made_of form.now H.gives) (S.fixed_of seat.old).mode blob holders.old
         → HasFailed report.new ⊎ IsTooLarge (IsHanded (made_of form.now H.gives) holders.old) (S.fixed_of seat.old) ⊎ IsFilled S.records S.holds S.busy seat.old seat.new blob }
 {
     report.fits();
@@ -298,14 +301,16 @@ pub fn work_as<S: Shelf, H: Holder>(
     let first = u64::from(place.number) * groups / u64::from(place.workers);
     for step in 0..groups {
         let group = ((first + step) % groups) as u32;
-        work_group(
+        let part = form.group(group);
+        work_part(
             alloc,
             form,
             shelf,
             seat,
             holders,
+            &part,
             group,
-            wanted(chunks, group),
+            mask_below(group, chunks),
             report,
         );
     }

@@ -5,7 +5,7 @@ use Rattle.bao_text.specs.Choice.{chunk_count}
 use Rattle.crews.specs.declared.crew.Crew.{Crew}
 use Rattle.crews.specs.Crews.{IsHandedTo}
 use Rattle.crews.specs.Joined.{AreCallsOf, AreClaimsOf, HasAllNamesOf, HaveAllNames}
-use Rattle.crews.specs.Lists.{HaveTrue, IsLent}
+use Rattle.crews.specs.Lists.{HaveAll, IsLent}
 use Rattle.crews.specs.Seats.{BeginsAfter}
 use Rattle.crews.proofs.OfNone.{handed_wide, lent_all}
 use Rattle.crews.proofs.Summing.{all_each}
@@ -82,7 +82,7 @@ returns-clause-none g c = λ e.
 pub returns-clause-available : goal.returns-clause-available
 returns-clause-available g c =
     let handed : Piece → Type 0 = IsLent g.H.Holder.gives (g.L.Lists.over c.args.lists.now) in
-    subst (λ (f : Fixed). (blob : List ℕ) → IsBlob f blob → chunk_count (length blob) ≤ f.capacity → HaveTrue g.H.Holder.gives (g.L.Lists.over c.args.lists.now) f.mode blob
+    subst (λ (f : Fixed). (blob : List ℕ) → IsBlob f blob → chunk_count (length blob) ≤ f.capacity → HaveAll c.args.grain g.H.Holder.gives (g.L.Lists.over c.args.lists.now) f.mode blob
     → IsExcused c.in-Err.fault ⊎ HasPair handed f blob) c.in_ok-assembly.ensures.fixed c.in-Err.ensures.available
 
 pub returns-in-Ok-clause-found : goal.returns-in-Ok-clause-found

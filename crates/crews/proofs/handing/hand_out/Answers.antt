@@ -32,9 +32,9 @@ returns-in-Err-NotTheRoot-clause-none g c = λ _ blob is.
     let are : g.L.Lists.over c.args.lists.now holders =
     subst (λ (all : List g.row.H.Denot). g.L.Lists.over c.args.lists.now all) (sym c.as_mut_slice.ensures.value) c.in-Ok.ensures in
     let wide : (piece : Piece) → IsHanded gives holders piece → handed piece = (λ piece is. record { holders = holders; are = are; handed = is }) in
-    let met = c.closing_round.ensures in
-    pair_of handed fixed c.finish_join-finished.new.seat.view.seen blob (cuts _ gives g.H.Holder.count handed fixed c.args.seat c.closing_round.new.seat c.finish_join-finished.new.seat.view c.look_round.new.seat.view holders
-    c.closing_round.new.holders c.args.report c.closing_round.new.report wide c.requires.of.knows.fixed_is met.of.knows.fixed_is c.requires.left met.reports met.alone
+    let met = c.closing_rounds.ensures in
+    pair_of handed fixed c.finish_join-finished.new.seat.view.seen blob (cuts _ gives g.H.Holder.count handed fixed c.args.seat c.closing_rounds.new.seat c.finish_join-finished.new.seat.view c.look_round.new.seat.view holders
+    c.closing_rounds.new.holders c.args.report c.closing_rounds.new.report wide c.requires.of.knows.fixed_is met.of.knows.fixed_is c.requires.left met.reports met.alone
     c.finish_join-finished.ensures.asks c.look_round.ensures.looked)
     (c.finish_join-finished.ensures.none told blob is)
 
@@ -47,12 +47,12 @@ returns-in-Err-Unfinished-clause-too_large g c = λ e.
     let are : g.L.Lists.over c.args.lists.now holders =
     subst (λ (all : List g.row.H.Denot). g.L.Lists.over c.args.lists.now all) (sym c.as_mut_slice.ensures.value) c.in-Ok.ensures in
     let wide : (piece : Piece) → IsHanded gives holders piece → handed piece = (λ piece is. record { holders = holders; are = are; handed = is }) in
-    let met = c.closing_round.ensures in
-    let same : c.cause.result ≡ cause_of c.closing_round.new.report = c.cause.ensures in
-    let large : TooLarge ≡ cause_of c.closing_round.new.report = cc in
-    large_cut _ gives g.H.Holder.count handed fixed c.args.seat c.closing_round.new.seat c.finish_join-finished.new.seat.view c.look_round.new.seat.view holders
-    c.closing_round.new.holders c.args.report c.closing_round.new.report wide c.requires.of.knows.fixed_is met.of.knows.fixed_is c.requires.left met.reports met.alone
-    c.finish_join-finished.ensures.asks c.look_round.ensures.looked c.requires.large (is_large c.closing_round.new.report large)
+    let met = c.closing_rounds.ensures in
+    let same : c.cause.result ≡ cause_of c.closing_rounds.new.report = c.cause.ensures in
+    let large : TooLarge ≡ cause_of c.closing_rounds.new.report = cc in
+    large_cut _ gives g.H.Holder.count handed fixed c.args.seat c.closing_rounds.new.seat c.finish_join-finished.new.seat.view c.look_round.new.seat.view holders
+    c.closing_rounds.new.holders c.args.report c.closing_rounds.new.report wide c.requires.of.knows.fixed_is met.of.knows.fixed_is c.requires.left met.reports met.alone
+    c.finish_join-finished.ensures.asks c.look_round.ensures.looked c.requires.large (is_large c.closing_rounds.new.report large)
 
 pub returns-in-Err-Unfinished-clause-longer : goal.returns-in-Err-Unfinished-clause-longer
 returns-in-Err-Unfinished-clause-longer g c = λ e.
@@ -68,15 +68,15 @@ returns-in-Err-Unfinished-clause-available g c = λ blob is room there.
     let are : g.L.Lists.over c.args.lists.now holders =
     subst (λ (all : List g.row.H.Denot). g.L.Lists.over c.args.lists.now all) (sym c.as_mut_slice.ensures.value) c.in-Ok.ensures in
     let wide : (piece : Piece) → IsHanded gives holders piece → handed piece = (λ piece is. record { holders = holders; are = are; handed = is }) in
-    let met = c.closing_round.ensures in
+    let met = c.closing_rounds.ensures in
     let keyed : IsKeyed fixed.mode = subst (λ (mode : Mode). IsKeyed mode) c.mode.ensures c.is_keyed.ensures in
     let of = c.finish_join-finished.ensures.of in
     let legal : IsLegal fixed c.finish_join-finished.new.seat.view.seen = subst (λ (f : Fixed). IsLegal f c.finish_join-finished.new.seat.view.seen) of.knows.fixed_is of.knows.legal in
     let told : IsErrOf c.finish_join-finished.result finishing.Unfinished = grind arith in
     let unfinished = c.finish_join-finished.ensures.unfinished told in
-    elim (unfinished_handed _ gives g.H.Holder.count handed fixed c.args.seat c.closing_round.new.seat c.finish_join-finished.new.seat.view c.look_round.new.seat.view holders
-    c.closing_round.new.holders c.args.report c.closing_round.new.report wide c.requires.of.knows.fixed_is met.of.knows.fixed_is c.requires.left met.reports met.alone
-    c.finish_join-finished.ensures.asks c.look_round.ensures.looked blob c.requires.quiet keyed is room c.args.assembly.now.words.limit
+    elim (unfinished_handed _ gives g.H.Holder.count handed fixed c.args.seat c.closing_rounds.new.seat c.finish_join-finished.new.seat.view c.look_round.new.seat.view holders
+    c.closing_rounds.new.holders c.args.report c.closing_rounds.new.report wide c.requires.of.knows.fixed_is met.of.knows.fixed_is c.requires.left met.reports met.alone
+    c.finish_join-finished.ensures.asks c.look_round.ensures.looked c.args.grain blob c.requires.quiet keyed is room c.args.assembly.now.words.limit
     (there holders are (omega (arith, room, c.args.assembly.now.words.limit))) legal c.requires.failed c.requires.large
     (λ slices has. met.served blob slices has) unfinished) [
       | inl excused ↦ inl (subst (λ (fault : GatherFault). IsExcused fault) (sym c.cause.ensures) excused)
@@ -95,7 +95,7 @@ returns-in-Ok-finished-clause-found g c = λ blob is.
     let are : g.L.Lists.over c.args.lists.now holders =
     subst (λ (all : List g.row.H.Denot). g.L.Lists.over c.args.lists.now all) (sym c.as_mut_slice.ensures.value) c.in-Ok.ensures in
     let wide : (piece : Piece) → IsHanded gives holders piece → handed piece = (λ piece is. record { holders = holders; are = are; handed = is }) in
-    let met = c.closing_round.ensures in
+    let met = c.closing_rounds.ensures in
     let keyed : IsKeyed fixed.mode = subst (λ (mode : Mode). IsKeyed mode) c.mode.ensures c.is_keyed.ensures in
     let of = c.finish_join-finished.ensures.of in
     let legal : IsLegal fixed c.finish_join-finished.new.seat.view.seen = subst (λ (f : Fixed). IsLegal f c.finish_join-finished.new.seat.view.seen) of.knows.fixed_is of.knows.legal in
@@ -103,8 +103,8 @@ returns-in-Ok-finished-clause-found g c = λ blob is.
     subst (λ (r : Result (Vec ℕ Global) FinishFault). IfOk r (λ (bytes : Vec ℕ Global). IsWhole (state_after c.finish_join-finished.new.seat.view.seen) bytes.items))
     c.in-Ok-finished.is c.finish_join-finished.ensures.whole in
     whole_pair handed fixed c.finish_join-finished.new.seat.view.seen blob c.in-Ok-finished.blob.items keyed is legal
-    (cuts _ gives g.H.Holder.count handed fixed c.args.seat c.closing_round.new.seat c.finish_join-finished.new.seat.view c.look_round.new.seat.view holders
-    c.closing_round.new.holders c.args.report c.closing_round.new.report wide c.requires.of.knows.fixed_is met.of.knows.fixed_is c.requires.left met.reports met.alone
+    (cuts _ gives g.H.Holder.count handed fixed c.args.seat c.closing_rounds.new.seat c.finish_join-finished.new.seat.view c.look_round.new.seat.view holders
+    c.closing_rounds.new.holders c.args.report c.closing_rounds.new.report wide c.requires.of.knows.fixed_is met.of.knows.fixed_is c.requires.left met.reports met.alone
     c.finish_join-finished.ensures.asks c.look_round.ensures.looked) whole
 
 pub returns-in-Ok-finished-clause-available : goal.returns-in-Ok-finished-clause-available

@@ -20,3 +20,9 @@ returns-clause-available g c = λ blob i source is fits there known sound.
     handed_anyway (IsCutOfSource g.S.Source.contents g.S.Source.faultless c.args.sources.now) c.args.root c.args.mode c.min-first.result c.args.capacity blob
     c.gather_within-gathered.result is c.gather_within-gathered.ensures.found c.gather_within-gathered.ensures.none
     (λ e. both_ways _ c.if-may_lack_room.false (c.may_lack_room.ensures.large e)) (λ e. both_ways _ c.if-may_lack_room.false (c.may_lack_room.ensures.unfinished e))
+
+pub returns-clause-covered : goal.returns-clause-covered
+returns-clause-covered g c = λ blob is fits have.
+    handed_anyway (IsCutOfSource g.S.Source.contents g.S.Source.faultless c.args.sources.now) c.args.root c.args.mode c.min-first.result c.args.capacity blob
+    c.gather_within-gathered.result is c.gather_within-gathered.ensures.found c.gather_within-gathered.ensures.none
+    (λ e. both_ways _ c.if-may_lack_room.false (c.may_lack_room.ensures.large e)) (λ e. both_ways _ c.if-may_lack_room.false (c.may_lack_room.ensures.unfinished e))

@@ -1,11 +1,12 @@
 use Rattle.std.proofs.Common.{◌≡◌, ℕ, List, Option, map}
 use Rattle.crews.specs.declared.places.SourceAt.{SourceAt}
-use Rattle.crews.specs.Lists.{IsCutOfSource, IsLent}
-use Rattle.crews.proofs.Lending.{found_wider, gives_of, lent_source, out_wider, source_true}
+use Rattle.crews.specs.Lists.{IsCutOfSource, IsLent, source_gives}
+use Rattle.crews.proofs.Lending.{found_wider, gives_of, lent_source, out_wider, slices_mapped, source_true}
 use Rattle.crews.proofs.sources.gather_within.Goals as goal
 use Rattle.gather.specs.Large.{fixed_as}
 use Rattle.gather.proofs.Binding.{longer_wider, none_wider}
 use Rattle.gather.proofs.Reporting.{large_wider}
+use Rattle.gather.proofs.Serving.{true_slices}
 use Rattle.store_core.specs.declared.fixed.Fixed.{Fixed}
 use Rattle.store_core.specs.declared.history.Piece.{Piece}
 
@@ -56,4 +57,16 @@ returns-clause-available g c = λ blob i source is fits there known sound.
     let fixed : Fixed = fixed_as c.args.root c.args.mode c.args.capacity in
     out_wider (Lent contents faultless sources) (IsCutOfSource contents faultless sources) (lent_source source_of contents faultless sources) fixed blob c.gather_by.result
     (c.gather_by.ensures.available blob is fits
-    (λ holders are few. source_true source_of contents faultless holders sources c.args.mode blob i source are few there known sound))
+    (λ holders are few.
+    true_slices c.args.grain (gives_of source_of contents faultless) c.args.mode blob holders
+    (source_true source_of contents faultless holders sources c.args.mode blob i source are few there known sound)))
+
+pub returns-clause-covered : goal.returns-clause-covered
+returns-clause-covered g c = λ blob is fits have.
+    let contents = g.S.Source.contents in
+    let faultless = g.S.Source.faultless in
+    let sources : List g.row.S.Denot = c.args.sources.now in
+    let fixed : Fixed = fixed_as c.args.root c.args.mode c.args.capacity in
+    out_wider (Lent contents faultless sources) (IsCutOfSource contents faultless sources) (lent_source source_of contents faultless sources) fixed blob c.gather_by.result
+    (c.gather_by.ensures.available blob is fits
+    (λ holders are few. slices_mapped source_of (source_gives contents faultless) c.args.grain c.args.mode blob holders sources are have))

@@ -1,4 +1,4 @@
-use Rattle.std.proofs.Common.{ℕ, List, Result, Vec, inl, inr, map}
+use Rattle.std.proofs.Common.{arith, ℕ, List, Result, Vec, inl, inr, map}
 use Rattle.std.specs.Global.{Global}
 use Rattle.std.specs.Prelude.{vec_items}
 use Rattle.b3tree.specs.declared.mode.Mode.{Mode}
@@ -27,3 +27,9 @@ returns-clause-available g c = λ blob i is fits there.
     handed_at (IsCutOf (map vec_items c.args.texts.now)) c.args.root c.args.mode c.room_for-room.result c.args.capacity blob c.gather_within-gathered.result
     (c.gather_within-gathered.ensures.available blob i (blob_at c.args.root c.args.mode c.args.capacity c.room_for-room.result blob is)
     (c.room_for-room.ensures.enough c.args.mode blob i there fits) there)
+
+pub returns-clause-covered : goal.returns-clause-covered
+returns-clause-covered g c = λ blob is fits room have.
+    handed_at (IsCutOf (map vec_items c.args.texts.now)) c.args.root c.args.mode c.room_for-room.result c.args.capacity blob c.gather_within-gathered.result
+    (c.gather_within-gathered.ensures.covered blob (blob_at c.args.root c.args.mode c.args.capacity c.room_for-room.result blob is)
+    (omega (arith, c.room_for-room.ensures.value, fits, room)) have)

@@ -10,7 +10,8 @@ use Rattle.gather.proofs.Reporting.{large_wider}
 use Rattle.store_core.specs.declared.fixed.Fixed.{Fixed}
 use Rattle.gather.proofs.Binding.{handed_cut, longer_wider, none_wider, of_none}
 use Rattle.b3tree.specs.Valid.{IsKeyed}
-use Rattle.gather.specs.Available.{HasTrue}
+use Rattle.gather.specs.declared.grain.Grain.TheVariants.{Group as ByGroup}
+use Rattle.gather.specs.Available.{HaveSlices}
 use Rattle.gather.specs.HandedOut.{IsExcused}
 use Rattle.gather.specs.Large.{HasPair}
 use Rattle.bao_check.proofs.Laws.{accepted_binds}
@@ -20,6 +21,7 @@ use Rattle.gather.proofs.Binding.{are_longer, pair_wider}
 use Rattle.gather.proofs.Handing.{cause_handed, encoding_true, never_failed, unfinished_pair, whole_pair}
 use Rattle.store_core.specs.Laws.{IsBlob}
 use Rattle.store_core.specs.Stores.{fixed_of}
+use Rattle.gather.proofs.Serving.{true_slices}
 use Rattle.gather.proofs.texts.gather_within.Goals as goal
 
 pub returns-in-Err-NotTheRoot-clause-none : goal.returns-in-Err-NotTheRoot-clause-none
@@ -88,7 +90,8 @@ returns-in-Err-Unfinished-clause-available c = λ blob i is room there.
     let met = c.run_one-report.ensures in
     let gains = met.worked in
     let small : c.args.capacity ≤ 65536 = subst (λ (f : Fixed). f.capacity ≤ 65536) made.fixed c.in_ok-store.store.limit in
-    let has : HasTrue IsCut c.args.mode blob holders = encoding_true holders texts c.args.mode blob i over (omega (arith, room, small)) there in
+    let has : HaveSlices ByGroup IsCut c.args.mode blob holders =
+    true_slices ByGroup IsCut c.args.mode blob holders (encoding_true holders texts c.args.mode blob i over (omega (arith, room, small)) there) in
     let P = HasPair (IsHanded IsCut holders) F blob in
     let longer : IsTooLarge (IsHanded IsCut holders) (fixed_of c.in_ok-store.store) → P = λ large.
     elim (are_longer accepted_binds (IsHanded IsCut holders) F c.is_keyed.ensures (subst (λ (f : Fixed). IsTooLarge (IsHanded IsCut holders) f) made.fixed large) blob is) [
@@ -98,7 +101,7 @@ returns-in-Err-Unfinished-clause-available c = λ blob i is room there.
     let unfinished = c.in-Err-Unfinished.ensures.unfinished (ap (λ fault. Err fault) c.in-Err-Unfinished.field-0-is) in
     let handed : IsExcused (cause_of report) ⊎ P = cause_handed report P (λ none is_large. longer (met.too_large is_large)) (λ none not_large.
     elim (met.available blob (subst (λ (f : Fixed). IsBlob f blob) (sym made.fixed) is) (subst (λ (f : Fixed). chunk_count (length blob) ≤ f.capacity) (sym made.fixed) room)
-    (subst (λ (f : Fixed). HasTrue IsCut f.mode blob holders) (sym made.fixed) has)) [
+    (subst (λ (f : Fixed). HaveSlices ByGroup IsCut f.mode blob holders) (sym made.fixed) has)) [
       | inl (inl memory) ↦ absurd (omega (arith, memory, none))
       | inl (inr failed) ↦ absurd (omega (arith, failed, met.failed, never_failed c.run_one-report.new.holders))
       | inr (inl large) ↦ longer large

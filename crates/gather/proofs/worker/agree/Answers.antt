@@ -1,15 +1,15 @@
-use Rattle.std.proofs.Common.{◌≡◌, ◌∙◌, ◌<◌, ℕ, Option, IsSome, get_or, length, sum_by, refl, sym, subst, arith, inl, inr}
+use Rattle.std.proofs.Common.{◌-◌, ◌^◌, ◌≡◌, ◌∙◌, ◌<◌, ℕ, Option, IsSome, get_or, length, sum_by, refl, sym, subst, arith, inl, inr}
 use Rattle.std.proofs.lemmas.Bool.{cases_lt}
 use Rattle.std.proofs.lemmas.List.{set-get_or}
 use Rattle.std.proofs.lemmas.Option.{slice_get_within}
-use Rattle.gather.specs.Available.{GivesSlices, IsServed}
+use Rattle.gather.specs.Available.{GivesSlice, IsServed}
 use Rattle.gather.specs.Counts.{Reports}
 use Rattle.gather.specs.Holders.{IsHanded}
 use Rattle.gather.specs.Large.{IsTooLarge}
 use Rattle.store_core.specs.declared.fixed.Fixed.{Fixed}
 use Rattle.gather.proofs.Gaining.{among_onward}
 use Rattle.gather.proofs.Reporting.{among_holders, handed_here, large_wider, later_one, later_then, onward, onward_none}
-use Rattle.gather.proofs.Serving.{fails_on, get_set_after, known_some, true_here}
+use Rattle.gather.proofs.Serving.{fails_on, get_set_after, known_some, slice_here}
 use Rattle.gather.proofs.worker.agree.Goals.{then-is_some-via-else-is_some+then-too_large, then-is_some-via-then-is_some}
 use Rattle.gather.specs.Forms.{made_of}
 use Rattle.gather.proofs.worker.agree.Goals as goal
@@ -48,11 +48,11 @@ loop-holder-preserved g c =
         ]
         | inr not_sooner ↦
             let at : has.place ≡ x.holder-index = omega (arith, before, not_sooner) in
-            let slices : GivesSlices (made_of c.args.form.now g.H.Holder.gives) F.mode blob (get_or x.holders x.holder-index c.holder-item.result) =
-            subst (λ (k : ℕ). GivesSlices (made_of c.args.form.now g.H.Holder.gives) F.mode blob (get_or x.holders k c.holder-item.result)) at
-            (true_here (made_of c.args.form.now g.H.Holder.gives) F.mode blob c.args.holders.now x.holders c.holder-item.result has (x.invariant.4 has.place (omega (arith, at)))) in
+            let slices : GivesSlice (made_of c.args.form.now g.H.Holder.gives) F.mode blob (2 ^ 64 - 1) 1 (get_or x.holders x.holder-index c.holder-item.result) =
+            subst (λ (k : ℕ). GivesSlice (made_of c.args.form.now g.H.Holder.gives) F.mode blob (2 ^ 64 - 1) 1 (get_or x.holders k c.holder-item.result)) at
+            (slice_here (made_of c.args.form.now g.H.Holder.gives) F.mode blob (2 ^ 64 - 1) 1 c.args.holders.now x.holders c.holder-item.result has (x.invariant.4 has.place (omega (arith, at)))) in
             elim (met.agreed are blob (subst (λ (f : Fixed). IsServed f blob) (sym same) served)
-            (subst (λ (f : Fixed). GivesSlices (made_of c.args.form.now g.H.Holder.gives) f.mode blob (get_or x.holders x.holder-index c.holder-item.result)) (sym same) slices)) [
+            (subst (λ (f : Fixed). GivesSlice (made_of c.args.form.now g.H.Holder.gives) f.mode blob (2 ^ 64 - 1) 1 (get_or x.holders x.holder-index c.holder-item.result)) (sym same) slices)) [
               | inl failed ↦ inl failed
               | inr recorded ↦ inr (inr (subst (λ (o : Option ℕ). IsSome o) (sym (then.known recorded.0 recorded.1)) refl))
             ]

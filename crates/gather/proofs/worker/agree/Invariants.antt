@@ -4,8 +4,8 @@ use Rattle.std.specs.List.{sum_by}
 use Rattle.gather.specs.Counts.{Reports}
 use Rattle.gather.specs.Holders.{AreLater, IsHanded}
 use Rattle.gather.proofs.worker.agree.Given as goal
-use Rattle.std.specs.Prelude.{◌≡◌, ◌⊎◌, ℕ, ◌<◌, ◌≤◌, List, IfSome, IsSome, IsTrue, slice_get}
-use Rattle.gather.specs.Available.{HasTrue, IsServed}
+use Rattle.std.specs.Prelude.{◌-◌, ◌^◌, ◌≡◌, ◌⊎◌, ℕ, ◌<◌, ◌≤◌, List, IfSome, IsSome, IsTrue, slice_get}
+use Rattle.gather.specs.Available.{HasSlice, IsServed}
 use Rattle.gather.specs.Counts.{HasFailed}
 use Rattle.gather.specs.Large.{IsTooLarge}
 
@@ -17,5 +17,5 @@ invariant-loop-holder g l = g.S.Shelf.has l.shelf l.seat
     × ((k : ℕ) → l.holder-index ≤ k → slice_get l.holders k ≡ slice_get l.fn.holders k)
     × IfSome l.length (λ n. g.S.Shelf.records l.seat n)
     × (IsTrue l.too_large → IsTooLarge (IsHanded (made_of l.form g.H.Holder.gives) l.fn.holders) (g.S.Shelf.fixed_of l.fn.seat))
-    × (AreSlices l.form → (blob : List ℕ) → IsServed (g.S.Shelf.fixed_of l.fn.seat) blob → (has : HasTrue (made_of l.form g.H.Holder.gives) (g.S.Shelf.fixed_of l.fn.seat).mode blob l.fn.holders) → has.place < l.holder-index
+    × (AreSlices l.form → (blob : List ℕ) → IsServed (g.S.Shelf.fixed_of l.fn.seat) blob → (has : HasSlice (made_of l.form g.H.Holder.gives) (g.S.Shelf.fixed_of l.fn.seat).mode blob (2 ^ 64 - 1) 1 l.fn.holders) → has.place < l.holder-index
     → HasFailed l.report ⊎ IsTooLarge (IsHanded (made_of l.form g.H.Holder.gives) l.fn.holders) (g.S.Shelf.fixed_of l.fn.seat) ⊎ IsSome l.length)

@@ -1,4 +1,4 @@
-use Rattle.std.proofs.Common.{◌*◌, ◌∙◌, ℕ, List, sym, subst, arith}
+use Rattle.std.proofs.Common.{◌∙◌, refl, ℕ, List, sym, subst, arith}
 use Rattle.gather.specs.declared.report.Report.{Report}
 use Rattle.gather.specs.Counts.{Fits, Reports}
 use Rattle.gather.specs.Holders.{IsGiven}
@@ -15,7 +15,7 @@ use Rattle.store_core.specs.Masks.{has_bit, in_mask}
 use Rattle.store_core.specs.Pieces.{holds_chunk}
 use Rattle.gather.proofs.worker.ask.Goals.{else-eq, then-eq}
 use Rattle.gather.specs.Forms.{made_of}
-use Rattle.gather.proofs.Forming.{made_given, made_no_more, slice_given, slice_group, slice_made, slice_of_store, slice_refused}
+use Rattle.gather.proofs.Forming.{made_given, made_no_more, slice_given, slice_made, slice_of_store, slice_refused}
 use Rattle.gather.proofs.worker.ask.Goals as goal
 
 pub returns-in-Ok-commit-clause-claims : goal.returns-in-Ok-commit-clause-claims
@@ -34,8 +34,8 @@ returns-in_default-clause-reports g c =
 pub returns-in-Ok-commit-clause-reports : goal.returns-in-Ok-commit-clause-reports
 returns-in-Ok-commit-clause-reports g c =
     let A = IsGiven (made_of c.args.form.now g.H.Holder.gives) c.args.holder.now in
-    let given : A (piece_of c.in-Ok.piece) = made_given c.args.form.now g.H.Holder.gives c.args.holder.now c.group-part.result c.as_slice.result.now (piece_of c.in-Ok.piece)
-    (subst (λ (xs : List ℕ). g.H.Holder.gives c.args.holder.now c.group-part.result.start c.group-part.result.len xs) (sym c.as_slice.ensures.value) c.in-Some.ensures.gives) c.in-Ok.ensures.made in
+    let given : A (piece_of c.in-Ok.piece) = made_given c.args.form.now g.H.Holder.gives c.args.holder.now c.args.part.now c.as_slice.result.now (piece_of c.in-Ok.piece)
+    (subst (λ (xs : List ℕ). g.H.Holder.gives c.args.holder.now c.args.part.now.start c.args.part.now.len xs) (sym c.as_slice.ensures.value) c.in-Some.ensures.gives) c.in-Ok.ensures.made in
     let y = c.fetched.new.report in
     let asked = fetch_some g.S.Shelf.fixed_of g.S.Shelf.gained g.S.Shelf.goes _ _ A A _ _ _ y (none_gained g.S.Shelf.fixed_of g.S.Shelf.gained g.S.Shelf.goes A c.args.seat.now) (λ piece is. is) c.in-Some.ensures.fits c.in-Some.ensures.fetch in
     let fits : Fits y = subst (λ (x : Report). Fits x) (sym c.in-Some.ensures.fetch.1) c.in-Some.ensures.fits in
@@ -68,31 +68,30 @@ returns-in-Ok-commit-clause-kept g c = λ n asked claimed.
 pub returns-in-Ok-commit-clause-served : goal.returns-in-Ok-commit-clause-served
 returns-in-Ok-commit-clause-served g c = λ are blob served slices asked.
     let F = g.S.Shelf.fixed_of c.args.seat.now in
-    let at = slice_group c.args.form.now c.args.group c.group-part.result are c.group-part.ensures.group in
-    let text = slice_given c.args.form.now g.H.Holder.gives F.mode blob c.args.holder.now c.group-part.result c.as_slice.result.now _ are slices c.as_slice.ensures.value c.in-Some.ensures.gives in
-    let is : piece_of c.in-Ok.piece ≡ slice_of F.mode blob (65536 * c.args.group) 65536 =
-    slice_made c.args.form.now F _ c.group-part.result _ c.in-Ok.piece blob _ _ are at.0 at.1 text c.in-Ok.ensures.slice in
+    let text = slice_given c.args.form.now g.H.Holder.gives F.mode blob c.args.holder.now c.args.part.now c.as_slice.result.now _ are slices c.as_slice.ensures.value c.in-Some.ensures.gives in
+    let is : piece_of c.in-Ok.piece ≡ slice_of F.mode blob c.args.part.now.start c.args.part.now.len =
+    slice_made c.args.form.now F _ c.args.part.now _ c.in-Ok.piece blob _ _ are refl refl text c.in-Ok.ensures.slice in
     inr (λ n. elim (cases_Bool (in_mask c.args.group c.without.result n)) [
       | inr out ↦ out
       | inl rest ↦
           let parts = rest_parts c.args.group c.args.left c.in-Ok-commit.committed _ n c.without.ensures rest in
           let here : n / 64 ≡ c.args.group = eqb-true (n / 64) c.args.group (and_parts (n / 64 == c.args.group) (has_bit c.args.left (n % 64)) parts.0).0 in
           let known = asked n parts.0 in
-          let has : holds_chunk (piece_of c.in-Ok.piece) n ≡ true = subst (λ (piece : Piece). holds_chunk piece n ≡ true) (sym is) (served.holds c.args.group n here known.1) in
+          let has : holds_chunk (piece_of c.in-Ok.piece) n ≡ true = subst (λ (piece : Piece). holds_chunk piece n ≡ true) (sym is) known.1 in
           absurd (both_ways _ parts.1 (c.in-Ok-commit.ensures.all n here known.0 has))
     ])
 
 pub returns-clause-served : goal.returns-clause-served
 returns-clause-served g c = λ are blob served slices asked.
     let F = g.S.Shelf.fixed_of c.args.seat.now in
-    let text = slice_given c.args.form.now g.H.Holder.gives F.mode blob c.args.holder.now c.group-part.result c.as_slice.result.now _ are slices c.as_slice.ensures.value c.in-Some.ensures.gives in
-    absurd (slice_refused c.args.form.now F c.fixed-fixed.result c.group-part.result _ blob _ are served c.fixed-fixed.ensures text c.in-Err.ensures.slice)
+    let text = slice_given c.args.form.now g.H.Holder.gives F.mode blob c.args.holder.now c.args.part.now c.as_slice.result.now _ are slices c.as_slice.ensures.value c.in-Some.ensures.gives in
+    absurd (slice_refused c.args.form.now F c.fixed-fixed.result c.args.part.now _ blob _ are served c.fixed-fixed.ensures text c.in-Err.ensures.slice)
 
 pub returns-in-Ok-clause-reports : goal.returns-in-Ok-clause-reports
 returns-in-Ok-clause-reports g c =
     let A = IsGiven (made_of c.args.form.now g.H.Holder.gives) c.args.holder.now in
-    let given : A (piece_of c.in-Ok.piece) = made_given c.args.form.now g.H.Holder.gives c.args.holder.now c.group-part.result c.as_slice.result.now (piece_of c.in-Ok.piece)
-    (subst (λ (xs : List ℕ). g.H.Holder.gives c.args.holder.now c.group-part.result.start c.group-part.result.len xs) (sym c.as_slice.ensures.value) c.in-Some.ensures.gives) c.in-Ok.ensures.made in
+    let given : A (piece_of c.in-Ok.piece) = made_given c.args.form.now g.H.Holder.gives c.args.holder.now c.args.part.now c.as_slice.result.now (piece_of c.in-Ok.piece)
+    (subst (λ (xs : List ℕ). g.H.Holder.gives c.args.holder.now c.args.part.now.start c.args.part.now.len xs) (sym c.as_slice.ensures.value) c.in-Some.ensures.gives) c.in-Ok.ensures.made in
     let asked = fetch_some g.S.Shelf.fixed_of g.S.Shelf.gained g.S.Shelf.goes _ _ _ _ _ _ _ _ (it_gained g.S.Shelf.fixed_of g.S.Shelf.gained g.S.Shelf.goes A _ _ _ 0 0 given c.in-Err-commit.ensures.gained) (λ piece is. made_no_more c.args.form.now g.H.Holder.gives _ _ c.in-Some.ensures.no_more _ _ _ is)
     c.in-Some.ensures.fits c.in-Some.ensures.fetch in
     let Then : Report → Type 0 = λ y. Reports g.S.Shelf.fixed_of g.S.Shelf.gained c.args.seat.now c.commit.new.seat A (IsGiven (made_of c.args.form.now g.H.Holder.gives) c.fetched.new.holder)
@@ -109,7 +108,7 @@ returns-in-Ok-clause-served g c = λ are blob served slices asked.
       | then-eq w ↦ inl (memory_failed _ _ (w.report-is ∙ w.count_memory.ensures))
       | else-eq w ↦ elim c.in-Err-commit.ensures.refused [
         | inl memory ↦ let no : false ≡ true = rw memory at w.if-eq.ensures in cc
-        | inr other ↦ absurd (other (slice_of_store c.args.form.now F c.fixed-fixed.result c.group-part.result _ c.in-Ok.piece are c.fixed-fixed.ensures c.in-Ok.ensures.slice))
+        | inr other ↦ absurd (other (slice_of_store c.args.form.now F c.fixed-fixed.result c.args.part.now _ c.in-Ok.piece are c.fixed-fixed.ensures c.in-Ok.ensures.slice))
       ]
     ]
 

@@ -8,7 +8,7 @@ use Rattle.store_core.specs.Stores.{IsOf}
 use Rattle.gather.specs.Available.{slice_of}
 use Rattle.gather.proofs.Serving.{fetch_failed, holds_last, never_large}
 use Rattle.gather.specs.Forms.{made_of}
-use Rattle.gather.proofs.Forming.{made_given, made_no_more, slice_end, slice_given, slice_made, slice_of_store, slice_refused}
+use Rattle.gather.proofs.Forming.{made_given, made_no_more, end_given, slice_end, slice_made, slice_of_store, slice_refused}
 use Rattle.gather.proofs.worker.ask_end.Goals as goal
 
 pub returns-in_default-tail-clause-reports : goal.returns-in_default-tail-clause-reports
@@ -47,7 +47,7 @@ returns-in-Ok g c =
       agreed = λ are blob served slices.
           let stored = c.store_parents.ensures.reports in
           let F = g.S.Shelf.fixed_of c.args.seat.now in
-          let text = slice_given c.args.form.now g.H.Holder.gives F.mode blob c.args.holder.now c.end-part.result c.as_slice.result.now _ are slices c.as_slice.ensures.value c.in-Some.ensures.gives in
+          let text = end_given c.args.form.now g.H.Holder.gives F.mode blob c.args.holder.now c.end-part.result c.as_slice.result.now _ are c.end-part.ensures.end slices c.as_slice.ensures.value c.in-Some.ensures.gives in
           let at = slice_end c.args.form.now c.end-part.result are c.end-part.ensures.end in
           let is : piece_of c.in-Ok.piece ≡ slice_of F.mode blob (2 ^ 64 - 1) 1 = slice_made c.args.form.now F _ c.end-part.result _ c.in-Ok.piece blob _ _ are at.0 at.1 text c.in-Ok.ensures.slice in
           let tail_is = ap (λ (it : Checked). piece_of it) c.in-Some-tail.ensures.piece ∙ is in
@@ -61,7 +61,7 @@ returns-in-Ok g c =
 pub returns-in_default-tail-clause-agreed : goal.returns-in_default-tail-clause-agreed
 returns-in_default-tail-clause-agreed g c = λ are blob served slices.
     let F = g.S.Shelf.fixed_of c.args.seat.now in
-    let text = slice_given c.args.form.now g.H.Holder.gives F.mode blob c.args.holder.now c.end-part.result c.as_slice.result.now _ are slices c.as_slice.ensures.value c.in-Some.ensures.gives in
+    let text = end_given c.args.form.now g.H.Holder.gives F.mode blob c.args.holder.now c.end-part.result c.as_slice.result.now _ are c.end-part.ensures.end slices c.as_slice.ensures.value c.in-Some.ensures.gives in
     let at = slice_end c.args.form.now c.end-part.result are c.end-part.ensures.end in
     let is : piece_of c.in-Ok.piece ≡ slice_of F.mode blob (2 ^ 64 - 1) 1 = slice_made c.args.form.now F _ c.end-part.result _ c.in-Ok.piece blob _ _ are at.0 at.1 text c.in-Ok.ensures.slice in
     let no : false ≡ true = c.in_default-tail.ensures.there.1 (holds_last F c.in-Ok.piece blob served is) in
@@ -70,7 +70,7 @@ returns-in_default-tail-clause-agreed g c = λ are blob served slices.
 pub returns-in-TooLarge-clause-agreed : goal.returns-in-TooLarge-clause-agreed
 returns-in-TooLarge-clause-agreed g c = λ are blob served slices.
     let F = g.S.Shelf.fixed_of c.args.seat.now in
-    let text = slice_given c.args.form.now g.H.Holder.gives F.mode blob c.args.holder.now c.end-part.result c.as_slice.result.now _ are slices c.as_slice.ensures.value c.in-Some.ensures.gives in
+    let text = end_given c.args.form.now g.H.Holder.gives F.mode blob c.args.holder.now c.end-part.result c.as_slice.result.now _ are c.end-part.ensures.end slices c.as_slice.ensures.value c.in-Some.ensures.gives in
     let at = slice_end c.args.form.now c.end-part.result are c.end-part.ensures.end in
     let is : piece_of c.in-Ok.piece ≡ slice_of F.mode blob (2 ^ 64 - 1) 1 = slice_made c.args.form.now F _ c.end-part.result _ c.in-Ok.piece blob _ _ are at.0 at.1 text c.in-Ok.ensures.slice in
     let tail_is = ap (λ (it : Checked). piece_of it) c.in-Some-tail.ensures.piece ∙ is in
@@ -86,7 +86,7 @@ returns-in-TooLarge-clause-large g c = λ _.
 pub returns-clause-agreed : goal.returns-clause-agreed
 returns-clause-agreed g c = λ are blob served slices.
     let F = g.S.Shelf.fixed_of c.args.seat.now in
-    let text = slice_given c.args.form.now g.H.Holder.gives F.mode blob c.args.holder.now c.end-part.result c.as_slice.result.now _ are slices c.as_slice.ensures.value c.in-Some.ensures.gives in
+    let text = end_given c.args.form.now g.H.Holder.gives F.mode blob c.args.holder.now c.end-part.result c.as_slice.result.now _ are c.end-part.ensures.end slices c.as_slice.ensures.value c.in-Some.ensures.gives in
     absurd (slice_refused c.args.form.now F c.fixed-fixed.result c.end-part.result _ blob _ are served c.fixed-fixed.ensures text c.in-Err.ensures.slice)
 
 pub returns-in_default-clause-agreed : goal.returns-in_default-clause-agreed

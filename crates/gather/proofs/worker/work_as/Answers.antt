@@ -1,33 +1,45 @@
 use Rattle.gather.proofs.Gaining.{among_onward}
 use Rattle.gather.proofs.Reporting.{later_then, onward}
 use Rattle.std.proofs.Common.{IsSome, Option, false, true, ap, ◌∙◌, ◌+◌, ◌*◌, ◌%◌, ◌≡◌, ◌<◌, ◌/◌, ◌==◌, ℕ, length, sym, subst, arith, inl, inr, eqb-true, eq-eqb}
+use Rattle.std.proofs.Math.Nat.{mod-lt}
 use Rattle.std.proofs.lemmas.Bool.{both_ways, cases_Bool, cases_lt}
 use Rattle.bao_text.specs.Choice.{chunk_count}
-use Rattle.gather.specs.Available.{HasTrue, IsServed}
-use Rattle.gather.proofs.Serving.{begins_within, fails_on, later_true, round_meets, wanted_below, wanted_there}
+use Rattle.gather.specs.declared.grain.Grain.TheVariants.{Group as ByGroup}
+use Rattle.gather.specs.Available.{HaveSlices, IsServed}
+use Rattle.gather.proofs.Serving.{begins_within, fails_on, later_slices, round_meets, wanted_below, wanted_there}
 use Rattle.store_core.specs.declared.fixed.Fixed.{Fixed}
 use Rattle.gather.specs.Forms.{made_of}
+use Rattle.gather.proofs.Forming.{slice_group}
 use Rattle.gather.proofs.worker.work_as.Goals as goal
 
 pub loop-step-preserved : goal.loop-step-preserved
 loop-step-preserved g c = (
-  c.work_group.ensures.has,
-  onward g.S.Shelf.fixed_of g.S.Shelf.gained g.S.Shelf.goes _ _ _ _ _ _ _ _ _ _ _ _ c.loop-step.invariant.1 c.work_group.ensures.reports,
-  among_onward _ _ _ c.loop-step.invariant.2 c.work_group.ensures.claims,
-  later_then (made_of c.args.form.now g.H.Holder.gives) _ _ _ c.loop-step.invariant.3 c.work_group.ensures.later,
+  c.work_part.ensures.has,
+  onward g.S.Shelf.fixed_of g.S.Shelf.gained g.S.Shelf.goes _ _ _ _ _ _ _ _ _ _ _ _ c.loop-step.invariant.1 c.work_part.ensures.reports,
+  among_onward _ _ _ c.loop-step.invariant.2 c.work_part.ensures.claims,
+  later_then (made_of c.args.form.now g.H.Holder.gives) _ _ _ c.loop-step.invariant.3 c.work_part.ensures.later,
   λ are blob served has long.
       let x = c.loop-step in
-      let met = c.work_group.ensures in
+      let met = c.work_part.ensures in
       let F = g.S.Shelf.fixed_of c.args.seat.now in
       let same : g.S.Shelf.fixed_of x.seat ≡ F = g.S.Shelf.goes.keeps _ _ _ _ _ x.invariant.1.gains in
       let chunks : c.max-chunks.result ≡ chunk_count (length blob) = omega (arith, c.div_ceil.ensures, c.max-chunks.ensures, long) in
-      let has_now : HasTrue (made_of c.args.form.now g.H.Holder.gives) (g.S.Shelf.fixed_of x.seat).mode blob x.holders =
-      subst (λ (f : Fixed). HasTrue (made_of c.args.form.now g.H.Holder.gives) f.mode blob x.holders) (sym same) (later_true (made_of c.args.form.now g.H.Holder.gives) F.mode blob _ _ x.invariant.3 has) in
-      elim (met.served are blob (subst (λ (f : Fixed). IsServed f blob) (sym same) served) has_now
-      (λ n wanted. omega (arith, chunks, wanted_below c.max-chunks.result _ c.wanted.result c.wanted.ensures n wanted))) [
+      let now : HaveSlices ByGroup (made_of c.args.form.now g.H.Holder.gives) (g.S.Shelf.fixed_of x.seat).mode blob x.holders =
+      subst (λ (f : Fixed). HaveSlices ByGroup (made_of c.args.form.now g.H.Holder.gives) f.mode blob x.holders) (sym same) (later_slices ByGroup (made_of c.args.form.now g.H.Holder.gives) F.mode blob _ _ x.invariant.3 has) in
+      let here : IsServed (g.S.Shelf.fixed_of x.seat) blob = subst (λ (f : Fixed). IsServed f blob) (sym same) served in
+      let begun : ℕ = c.from.result * c.min-groups.result / c.from-2.result + x.step in
+      let group : ℕ = begun % c.min-groups.result in
+      let within : group < c.min-groups.result = mod-lt begun (omega (arith, c.loop-step-test.true)) in
+      let at = slice_group c.args.form.now group c.group-part.result are c.group-part.ensures.group in
+      elim (met.served are blob here (now.each (64 * group) c.group-part.result.start c.group-part.result.len (omega (arith, chunks, within, c.div_ceil-2.ensures, c.min-groups.ensures)) (omega (arith, at.0), at.1))
+      (λ n wanted.
+      let below : n < chunk_count (length blob) = omega (arith, chunks, wanted_below c.max-chunks.result _ c.mask_below.result c.mask_below.ensures n wanted) in (
+        below,
+        here.holds ByGroup n c.group-part.result.start c.group-part.result.len below (omega (arith, at.0, wanted.0), at.1),
+      ))) [
         | inl failed ↦ inl failed
-        | inr here ↦ elim (x.invariant.4 are blob served has long) [
-          | inl failed ↦ inl (fails_on x.report c.work_group.new.report met.reports.no_less failed)
+        | inr filled ↦ elim (x.invariant.4 are blob served has long) [
+          | inl failed ↦ inl (fails_on x.report c.work_part.new.report met.reports.no_less failed)
           | inr before ↦ inr (λ k n early at below. elim (cases_lt k x.step) [
             | inl sooner ↦ elim (before k n sooner at below) [
               | inl held ↦ inl (g.S.Shelf.lasts.chunk _ _ _ met.reports.chunks met.reports.parents n met.reports.gains held)
@@ -35,7 +47,7 @@ loop-step-preserved g c = (
             ]
             | inr not_sooner ↦
                 let now : k ≡ x.step = omega (arith, early, not_sooner) in
-                elim (here n (wanted_there c.max-chunks.result _ c.wanted.result c.wanted.ensures n (at ∙ ap (λ (j : ℕ). (c.from.result * c.min-groups.result / c.from-2.result + j) % c.min-groups.result) now) (omega (arith, chunks, below)))) [
+                elim (filled n (wanted_there c.max-chunks.result _ c.mask_below.result c.mask_below.ensures n (at ∙ ap (λ (j : ℕ). (c.from.result * c.min-groups.result / c.from-2.result + j) % c.min-groups.result) now) (omega (arith, chunks, below)))) [
                   | inl held ↦ inl held
                   | inr busy ↦ elim (g.S.Shelf.lasts.frees _ _ _ x.invariant.1.chunks x.invariant.1.parents n x.invariant.1.gains x.invariant.2 busy) [
                     | inl was ↦ inr was
@@ -45,11 +57,11 @@ loop-step-preserved g c = (
           ])
         ]
       ],
-  g.S.Shelf.lasts.length _ _ _ c.work_group.ensures.reports.chunks c.work_group.ensures.reports.parents c.in-Some.length c.work_group.ensures.reports.gains c.loop-step.invariant.5,
+  g.S.Shelf.lasts.length _ _ _ c.work_part.ensures.reports.chunks c.work_part.ensures.reports.parents c.in-Some.length c.work_part.ensures.reports.gains c.loop-step.invariant.5,
 )
 
 pub returns-in_default-clause-served : goal.returns-in_default-clause-served
-returns-in_default-clause-served g c = λ are blob served has. elim (c.agree.ensures.agreed are blob served has) [
+returns-in_default-clause-served g c = λ are blob served has. elim (c.agree.ensures.agreed are blob served has.end) [
   | inl failed ↦ inl failed
   | inr (inl large) ↦ inr (inl large)
   | inr (inr some) ↦ let no : false ≡ true = subst (λ (o : Option ℕ). IsSome o) c.in_default.is some in cc

@@ -7,15 +7,16 @@ use Rattle.gather.specs.Claims.{AmongAnd}
 use Rattle.gather.proofs.Gaining.{among_and_none}
 use Rattle.gather.proofs.Bits.{in_mask_zero}
 use Rattle.gather.proofs.Reporting.{counted_none, still_gained, later_none, among_holders, later_one, later_then, onward, onward_none}
-use Rattle.gather.proofs.worker.work_group.Goals.{else-loop-holder-test, then-loop-holder-test+then-left-eq0}
+use Rattle.gather.proofs.worker.work_part.Goals.{else-loop-holder-test, then-loop-holder-test+then-left-eq0}
 use Rattle.std.proofs.lemmas.Option.{slice_get_within}
 use Rattle.std.proofs.lemmas.Bool.{both_ways, cases_Bool, cases_lt}
-use Rattle.gather.specs.Available.{GivesSlices, IsServed}
-use Rattle.gather.proofs.Serving.{fails_on, get_set_after, true_here}
+use Rattle.gather.specs.Available.{GivesSlice, IsServed, slice_of}
+use Rattle.gather.proofs.Serving.{fails_on, get_set_after, slice_here}
 use Rattle.store_core.specs.declared.fixed.Fixed.{Fixed}
 use Rattle.store_core.specs.Masks.{in_mask}
+use Rattle.store_core.specs.Pieces.{holds_chunk}
 use Rattle.gather.specs.Forms.{made_of}
-use Rattle.gather.proofs.worker.work_group.Goals as goal
+use Rattle.gather.proofs.worker.work_part.Goals as goal
 
 pub loop-holder-preserved : goal.loop-holder-preserved
 loop-holder-preserved g c =
@@ -48,13 +49,13 @@ loop-holder-preserved g c =
         ]
         | inr not_sooner ↦
             let at : has.place ≡ x.holder-index = omega (arith, before, not_sooner) in
-            let slices : GivesSlices (made_of c.args.form.now g.H.Holder.gives) F.mode blob (get_or x.holders x.holder-index c.holder-item.result) =
-            subst (λ (k : ℕ). GivesSlices (made_of c.args.form.now g.H.Holder.gives) F.mode blob (get_or x.holders k c.holder-item.result)) at
-            (true_here (made_of c.args.form.now g.H.Holder.gives) F.mode blob c.args.holders.now x.holders c.holder-item.result has (x.invariant.4 has.place (omega (arith, at)))) in
+            let slices : GivesSlice (made_of c.args.form.now g.H.Holder.gives) F.mode blob c.args.part.now.start c.args.part.now.len (get_or x.holders x.holder-index c.holder-item.result) =
+            subst (λ (k : ℕ). GivesSlice (made_of c.args.form.now g.H.Holder.gives) F.mode blob c.args.part.now.start c.args.part.now.len (get_or x.holders k c.holder-item.result)) at
+            (slice_here (made_of c.args.form.now g.H.Holder.gives) F.mode blob c.args.part.now.start c.args.part.now.len c.args.holders.now x.holders c.holder-item.result has (x.invariant.4 has.place (omega (arith, at)))) in
             met.served are blob (subst (λ (f : Fixed). IsServed f blob) (sym same) served)
-            (subst (λ (f : Fixed). GivesSlices (made_of c.args.form.now g.H.Holder.gives) f.mode blob (get_or x.holders x.holder-index c.holder-item.result)) (sym same) slices) (λ n asked. (
+            (subst (λ (f : Fixed). GivesSlice (made_of c.args.form.now g.H.Holder.gives) f.mode blob c.args.part.now.start c.args.part.now.len (get_or x.holders x.holder-index c.holder-item.result)) (sym same) slices) (λ n asked. (
               elim (x.invariant.6 n (x.invariant.5 n asked)) [ inl left ↦ left.1 | inr held ↦ absurd (both_ways _ held.0 asked) ],
-              bound n (x.invariant.5 n asked),
+              subst (λ (f : Fixed). holds_chunk (slice_of f.mode blob c.args.part.now.start c.args.part.now.len) n ≡ true) (sym same) (bound n (x.invariant.5 n asked)),
             ))
       ],
     )
@@ -78,7 +79,7 @@ pub returns-then-left-eq0-2-clause-served : goal.returns-then-left-eq0-2-clause-
 returns-then-left-eq0-2-clause-served g c = λ are blob served has wanted.
     let x = c.loop-holder in
     let group = c.args.group in
-    inr (λ n asked. elim (c.in-Ok.ensures.rest n asked (omega (arith, wanted n asked, served.room))) [
+    inr (λ n asked. elim (c.in-Ok.ensures.rest n asked (omega (arith, (wanted n asked).0, served.room))) [
       | inr (inl held) ↦ inl (g.S.Shelf.lasts.chunk _ _ _ x.invariant.1.chunks x.invariant.1.parents n x.invariant.1.gains held)
       | inr (inr busy) ↦ inr busy
       | inl granted ↦ elim (x.invariant.6 n granted) [
@@ -97,9 +98,9 @@ returns-clause-served g c = λ are blob served has wanted.
       | else-loop-holder-test w ↦ omega (arith, slice_get_within c.args.holders.now has.place has.holder has.there, x.invariant.3.len, w.loop-holder-test.false)
       | then-loop-holder-test+then-left-eq0 w ↦ absurd (c.if-left-eq0-2.false w.if-left-eq0.true)
     ] in
-    elim (x.invariant.7 are blob served has over (λ n granted. wanted n (c.in-Ok.ensures.granted n granted).0)) [
+    elim (x.invariant.7 are blob served has over (λ n granted. (wanted n (c.in-Ok.ensures.granted n granted).0).1)) [
       | inl failed ↦ inl failed
-      | inr none ↦ inr (λ n asked. elim (c.in-Ok.ensures.rest n asked (omega (arith, wanted n asked, served.room))) [
+      | inr none ↦ inr (λ n asked. elim (c.in-Ok.ensures.rest n asked (omega (arith, (wanted n asked).0, served.room))) [
         | inr (inl held) ↦ inl (on n (g.S.Shelf.lasts.chunk _ _ _ x.invariant.1.chunks x.invariant.1.parents n x.invariant.1.gains held))
         | inr (inr busy) ↦ inr busy
         | inl granted ↦ elim (x.invariant.6 n granted) [

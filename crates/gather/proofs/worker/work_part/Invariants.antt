@@ -3,10 +3,10 @@ use Rattle.gather.specs.Claims.{AmongAnd}
 use Rattle.std.specs.List.{sum_by}
 use Rattle.gather.specs.Counts.{Reports}
 use Rattle.gather.specs.Holders.{AreLater, IsHanded}
-use Rattle.gather.proofs.worker.work_group.Given as goal
-use Rattle.std.specs.Prelude.{◌≡◌, ◌⊎◌, ℕ, ◌<◌, ◌≤◌, List, length, true, false, slice_get}
-use Rattle.bao_text.specs.Choice.{chunk_count}
-use Rattle.gather.specs.Available.{HasTrue, IsServed}
+use Rattle.gather.proofs.worker.work_part.Given as goal
+use Rattle.std.specs.Prelude.{◌≡◌, ◌⊎◌, ℕ, ◌<◌, ◌≤◌, List, true, false, slice_get}
+use Rattle.store_core.specs.Pieces.{holds_chunk}
+use Rattle.gather.specs.Available.{HasSlice, IsServed, slice_of}
 use Rattle.gather.specs.Counts.{HasFailed}
 use Rattle.store_core.specs.Masks.{in_mask}
 
@@ -18,5 +18,5 @@ invariant-loop-holder g l = g.S.Shelf.has l.shelf l.seat
     × ((k : ℕ) → l.holder-index ≤ k → slice_get l.holders k ≡ slice_get l.fn.holders k)
     × ((c : ℕ) → in_mask l.group l.left c ≡ true → in_mask l.group l.granted c ≡ true)
     × ((c : ℕ) → in_mask l.group l.granted c ≡ true → ((in_mask l.group l.left c ≡ true) × (g.S.Shelf.claims l.seat c ≡ true)) ⊎ ((in_mask l.group l.left c ≡ false) × g.S.Shelf.holds l.seat c))
-    × (AreSlices l.form → (blob : List ℕ) → IsServed (g.S.Shelf.fixed_of l.fn.seat) blob → (has : HasTrue (made_of l.form g.H.Holder.gives) (g.S.Shelf.fixed_of l.fn.seat).mode blob l.fn.holders) → has.place < l.holder-index
-    → ((c : ℕ) → in_mask l.group l.granted c ≡ true → c < chunk_count (length blob)) → HasFailed l.report ⊎ ((c : ℕ) → in_mask l.group l.left c ≡ false))
+    × (AreSlices l.form → (blob : List ℕ) → IsServed (g.S.Shelf.fixed_of l.fn.seat) blob → (has : HasSlice (made_of l.form g.H.Holder.gives) (g.S.Shelf.fixed_of l.fn.seat).mode blob l.part.start l.part.len l.fn.holders) → has.place < l.holder-index
+    → ((c : ℕ) → in_mask l.group l.granted c ≡ true → holds_chunk (slice_of (g.S.Shelf.fixed_of l.fn.seat).mode blob l.part.start l.part.len) c ≡ true) → HasFailed l.report ⊎ ((c : ℕ) → in_mask l.group l.left c ≡ false))

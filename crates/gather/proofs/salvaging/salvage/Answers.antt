@@ -1,0 +1,89 @@
+use Rattle.gather.proofs.Gaining.{among_onward}
+use Rattle.gather.proofs.Reporting.{later_then, onward}
+use Rattle.std.proofs.Common.{IsSome, Option, false, true, ◌%◌, ◌≡◌, ◌<◌, ◌==◌, ℕ, length, sym, subst, arith, inl, inr, eqb-true, eq-eqb}
+use Rattle.std.proofs.lemmas.Bool.{both_ways, cases_Bool, cases_lt}
+use Rattle.bao_text.specs.Choice.{chunk_count}
+use Rattle.gather.specs.declared.grain.Grain.TheVariants.{Chunk as ByChunk}
+use Rattle.gather.specs.Available.{HaveSlices, IsServed, slice_of}
+use Rattle.store_core.specs.Masks.{has_bit}
+use Rattle.store_core.specs.Pieces.{holds_chunk}
+use Rattle.gather.proofs.Forming.{slice_chunk}
+use Rattle.gather.proofs.Serving.{fails_on, later_slices, wanted_one}
+use Rattle.store_core.specs.declared.fixed.Fixed.{Fixed}
+use Rattle.gather.specs.Forms.{made_of}
+use Rattle.gather.proofs.salvaging.salvage.Goals as goal
+
+pub returns-in_default-clause-served : goal.returns-in_default-clause-served
+returns-in_default-clause-served g c = λ are blob served has. elim (c.agree.ensures.agreed are blob served has.end) [
+  | inl failed ↦ inl failed
+  | inr (inl large) ↦ inr (inl large)
+  | inr (inr some) ↦ let no : false ≡ true = subst (λ (o : Option ℕ). IsSome o) c.in_default.is some in cc
+]
+
+pub returns-clause-served : goal.returns-clause-served
+returns-clause-served g c = λ are blob served has.
+    let x = c.loop-chunk in
+    let recorded = x.invariant.5 in
+    elim (cases_Bool (c.in-Some.length == length blob)) [
+      | inr other ↦
+          inr (inr (record { recorded = c.in-Some.length; is = recorded; chunks = λ long. absurd (both_ways _ other (eq-eqb c.in-Some.length (length blob) long)) }))
+      | inl same ↦
+          let long : c.in-Some.length ≡ length blob = eqb-true c.in-Some.length (length blob) same in
+          elim (x.invariant.4 are blob served has long) [
+            | inl failed ↦ inl failed
+            | inr visited ↦
+                inr (inr (record {
+                  recorded = c.in-Some.length;
+                  is = recorded;
+                  chunks = λ _ n below. visited n (omega (arith, below, served.few, long, c.div_ceil.ensures, c.loop-chunk-test.false)) below;
+                }))
+          ]
+    ]
+
+pub loop-chunk-preserved : goal.loop-chunk-preserved
+loop-chunk-preserved g c = (
+  c.work_part.ensures.has,
+  onward g.S.Shelf.fixed_of g.S.Shelf.gained g.S.Shelf.goes _ _ _ _ _ _ _ _ _ _ _ _ c.loop-chunk.invariant.1 c.work_part.ensures.reports,
+  among_onward _ _ _ c.loop-chunk.invariant.2 c.work_part.ensures.claims,
+  later_then (made_of c.args.form.now g.H.Holder.gives) _ _ _ c.loop-chunk.invariant.3 c.work_part.ensures.later,
+  λ are blob served has long.
+      let x = c.loop-chunk in
+      let met = c.work_part.ensures in
+      let F = g.S.Shelf.fixed_of c.args.seat.now in
+      let G = made_of c.args.form.now g.H.Holder.gives in
+      let at : ℕ = x.chunk in
+      let part = c.chunk-part.result in
+      let same : g.S.Shelf.fixed_of x.seat ≡ F = g.S.Shelf.goes.keeps _ _ _ _ _ x.invariant.1.gains in
+      let below : at < chunk_count (length blob) = omega (arith, c.div_ceil.ensures, c.loop-chunk-test.true, long) in
+      let asked = slice_chunk c.args.form.now at part are c.chunk-part.ensures.chunk in
+      let now : HaveSlices ByChunk G (g.S.Shelf.fixed_of x.seat).mode blob x.holders =
+      subst (λ (f : Fixed). HaveSlices ByChunk G f.mode blob x.holders) (sym same) (later_slices ByChunk G F.mode blob _ _ x.invariant.3 has) in
+      let here : IsServed (g.S.Shelf.fixed_of x.seat) blob = subst (λ (f : Fixed). IsServed f blob) (sym same) served in
+      elim (met.served are blob here (now.each at part.start part.len below asked) (λ n wanted.
+      let one : n ≡ at = wanted_one at _ _ n (omega arith) c.with_bit-want.ensures.others wanted in (
+        omega (arith, one, below),
+        subst (λ (k : ℕ). holds_chunk (slice_of (g.S.Shelf.fixed_of x.seat).mode blob part.start part.len) k ≡ true) (sym one) (here.holds ByChunk at part.start part.len below asked),
+      ))) [
+        | inl failed ↦ inl failed
+        | inr filled ↦ elim (x.invariant.4 are blob served has long) [
+          | inl failed ↦ inl (fails_on x.report c.work_part.new.report met.reports.no_less failed)
+          | inr before ↦ inr (λ n early there. elim (cases_lt n at) [
+            | inl sooner ↦ elim (before n sooner there) [
+              | inl held ↦ inl (g.S.Shelf.lasts.chunk _ _ _ met.reports.chunks met.reports.parents n met.reports.gains held)
+              | inr busy ↦ inr busy
+            ]
+            | inr not_sooner ↦
+                let one : n ≡ at = omega (arith, early, not_sooner) in
+                let hit = subst (λ (k : ℕ). has_bit c.with_bit-want.result (k % 64) ≡ true) (sym one) c.with_bit-want.ensures.same in
+                elim (filled n (omega (arith, one), hit)) [
+                  | inl held ↦ inl held
+                  | inr busy ↦ elim (g.S.Shelf.lasts.frees _ _ _ x.invariant.1.chunks x.invariant.1.parents n x.invariant.1.gains x.invariant.2 busy) [
+                    | inl was ↦ inr was
+                    | inr held ↦ inl (g.S.Shelf.lasts.chunk _ _ _ met.reports.chunks met.reports.parents n met.reports.gains held)
+                  ]
+                ]
+          ])
+        ]
+      ],
+  g.S.Shelf.lasts.length _ _ _ c.work_part.ensures.reports.chunks c.work_part.ensures.reports.parents c.in-Some.length c.work_part.ensures.reports.gains c.loop-chunk.invariant.5,
+)

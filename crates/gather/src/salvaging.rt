@@ -1,0 +1,67 @@
+ghost use Rattle.std.specs.Prelude.{◌⊎◌, ℕ, List, sum_by};
+ghost use Rattle.gather.specs.Available.{HaveSlices, IsFilled, IsServed};
+ghost use Rattle.gather.specs.Claims.{Among};
+ghost use Rattle.gather.specs.Counts.{HasFailed, Reports};
+ghost use Rattle.gather.specs.declared.grain.Grain.TheVariants.{Chunk as ByChunk};
+ghost use Rattle.gather.specs.Forms.{AreSlices, made_of};
+ghost use Rattle.gather.specs.Holders.{AreLater, IsHanded};
+ghost use Rattle.gather.specs.Large.{IsTooLarge};
+
+use crate::form::{CHUNK_LEN, Form};
+use crate::holder::Holder;
+use crate::masks::GROUP_LEN;
+use crate::report::Report;
+use crate::shelf::Shelf;
+use crate::worker::{agree, work_part};
+use std::alloc::Global;
+use store_core::{MAX_CAPACITY, with_bit};
+
+/// A worker's work where groups are missing that no holder has whole: it sees to it that a length is recorded, as
+/// [`work`](crate::work) does, and goes once over all chunks that the length needs, in their order. It takes each that
+/// isn't held, and asks its holders in order, each once, for its bytes alone, (1,024 * c, 1,024) for the chunk c, until it
+/// is committed; else it gives it back. So a chunk that no holder has costs no other one. No claim is left that it took.
+///
+/// Holders of plain copies are asked for min(1,024, L - 1,024 * c) bytes of it, with the length L that the form's outboard
+/// encoding claims, and the worker ends where another length is recorded.
+///
+/// It is enough that, of a blob with the root for which the store has room, one of the holders gives the slice of the last
+/// byte, and for each of its chunks one gives the chunk's slice, whatever they give as other slices, as with
+/// [`run_one`](crate::run_one).
+///
+/// It refuses nothing. The report goes on from what it was, as with [`work`](crate::work).
+pub fn salvage<S: Shelf, H: Holder>(
+    alloc: Global,
+    form: &Form<'_>,
+    shelf: &S,
+    seat: &mut S::Seat,
+    holders: &mut [H],
+    report: &mut Report,
+)
+    requires has { S.has shelf.now seat.old }
+    ensures has { S.has shelf.now seat.new }
+    ensures reports { Reports S.fixed_of S.gained seat.old seat.new (IsHanded (made_of form.now H.gives) holders.old) (IsHanded (made_of form.now H.gives) holders.new) (sum_by H.count holders.old) (sum_by H.count holders.new) report.old report.new }
+    ensures later { AreLater (made_of form.now H.gives) holders.old holders.new }
+    ensures claims { Among (S.claims seat.old) (S.claims seat.new) }
+    ensures served { AreSlices form.now → (blob : List ℕ) → IsServed (S.fixed_of seat.old) blob → HaveSlices ByChunk (made_of form.now H.gives) (S.fixed_of seat.old).mode blob holders.old
+        → HasFailed report.new ⊎ IsTooLarge (IsHanded (made_of form.now H.gives) holders.old) (S.fixed_of seat.old) ⊎ IsFilled S.records S.holds S.busy seat.old seat.new blob }
+{
+    report.fits();
+    let Some(length) = agree(alloc, form, shelf, seat, holders, report) else {
+        return;
+    };
+    if !form.is_of(length) {
+        return;
+    }
+    let chunks = length
+        .div_ceil(CHUNK_LEN)
+        .max(1)
+        .min(u64::from(MAX_CAPACITY));
+    for chunk in 0..chunks {
+        let part = form.chunk(chunk);
+        let group = (chunk / GROUP_LEN) as u32;
+        let want = with_bit(0, (chunk % GROUP_LEN) as u32);
+        work_part(
+            alloc, form, shelf, seat, holders, &part, group, want, report,
+        );
+    }
+}
