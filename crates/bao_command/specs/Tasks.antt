@@ -33,7 +33,7 @@ line_of mode (Hash at length file) bytes = digits_line (stream mode bytes at len
 line_of mode (Encode encoding file out) bytes = digits_line (hash mode bytes)
 line_of mode (Decode root part file out) bytes = part_line part bytes
 line_of mode (DecodeCopy root outboard copy out) bytes = ok_line (length bytes)
-line_of mode (Gather root workers capacity outboard encode verbose files out) bytes = ok_line (length bytes)
+line_of mode (Gather root workers capacity outboard salvage encode verbose files out) bytes = ok_line (length bytes)
 line_of mode (Replay root capacity script files) bytes = bytes
 
 -- the task's root, where it has one, is 64 hexadecimal digits
@@ -42,7 +42,7 @@ HasRoot (Hash at length file) = Unit {0}
 HasRoot (Encode encoding file out) = Unit {0}
 HasRoot (Decode root part file out) = IsDigits root.now
 HasRoot (DecodeCopy root outboard copy out) = IsDigits root.now
-HasRoot (Gather root workers capacity outboard encode verbose files out) = IsDigits root.now
+HasRoot (Gather root workers capacity outboard salvage encode verbose files out) = IsDigits root.now
 HasRoot (Replay root capacity script files) = IsDigits root.now
 
 -- the path isn't one of the three names of standard output
@@ -55,7 +55,7 @@ WritesApart (Hash at length file) = Unit {0}
 WritesApart (Encode encoding file out) = IsNoOutput out.now
 WritesApart (Decode root part file out) = IsNoOutput out.now
 WritesApart (DecodeCopy root outboard copy out) = IsNoOutput out.now
-WritesApart (Gather root workers capacity outboard encode verbose files out) = IsNoOutput out.now
+WritesApart (Gather root workers capacity outboard salvage encode verbose files out) = IsNoOutput out.now
 WritesApart (Replay root capacity script files) = Unit {0}
 
 -- the output that the task asks for ends after 2^64 - 1
@@ -64,7 +64,7 @@ IsPastOutput (Hash at length file) = ¬ (at + length ≤ 2 ^ 64 - 1)
 IsPastOutput (Encode encoding file out) = ⊥
 IsPastOutput (Decode root part file out) = ⊥
 IsPastOutput (DecodeCopy root outboard copy out) = ⊥
-IsPastOutput (Gather root workers capacity outboard encode verbose files out) = ⊥
+IsPastOutput (Gather root workers capacity outboard salvage encode verbose files out) = ⊥
 IsPastOutput (Replay root capacity script files) = ⊥
 
 -- the task has more than 64 files
@@ -73,7 +73,7 @@ HasManyFiles (Hash at length file) = ⊥
 HasManyFiles (Encode encoding file out) = ⊥
 HasManyFiles (Decode root part file out) = ⊥
 HasManyFiles (DecodeCopy root outboard copy out) = ⊥
-HasManyFiles (Gather root workers capacity outboard encode verbose files out) = 64 < length files.items
+HasManyFiles (Gather root workers capacity outboard salvage encode verbose files out) = 64 < length files.items
 HasManyFiles (Replay root capacity script files) = 64 < length files.items
 
 -- The words are refused only with reason: for the root, for where the output ends, for how many files there are, and for where OUT is.
@@ -109,7 +109,7 @@ IsRight mode (Hash at length file) bytes = Unit {0}
 IsRight mode (Encode encoding file out) bytes = Unit {0}
 IsRight mode (Decode root part file out) bytes = IsRightPart mode root.now part bytes
 IsRight mode (DecodeCopy root outboard copy out) bytes = IsRightCopy mode root.now bytes
-IsRight mode (Gather root workers capacity outboard encode verbose files out) bytes =
+IsRight mode (Gather root workers capacity outboard salvage encode verbose files out) bytes =
     (length files.items ≤ 64) × ((HasHash mode root.now bytes × (length bytes ≤ 1024 * capacity)) × IsBeside mode root.now outboard)
 IsRight mode (Replay root capacity script files) bytes = (length files.items ≤ 64) × IsReplay mode root.now capacity (length files.items) bytes
 

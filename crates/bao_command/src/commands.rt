@@ -21,7 +21,7 @@ use bao_files::{
     Encoding, FileFault, Once, Part, bytes_of_digits, encode_file, open_file, print_count,
     print_digits, print_input, print_text, shared_len,
 };
-use bao_gathered::{Fate, GatheredFault, Gathering, Worth, gather_beside, gather_files};
+use bao_gathered::{Fate, GatheredFault, Gathering, Grain, Worth, gather_beside, gather_files};
 use bao_replay::replay_files;
 use bao_request::{Request, Task, parse};
 use bao_shown::{Progress, Shown};
@@ -225,6 +225,11 @@ fn tell<E: Write>(verbose: bool, files: &[&str], fates: &[Fate], err: &mut E) {
     }
 }
 
+// The smallest part that the files are asked for.
+fn grain_of(salvage: bool) -> Grain {
+    if salvage { Grain::Chunk } else { Grain::Group }
+}
+
 // Gathers the blob out of the files, which are plain copies where an outboard encoding is named.
 fn gather_by<'a, R: Files<File = File> + AllocGlobal + Threads + Sync>(
     rt: &R,
@@ -349,6 +354,7 @@ fn serve_task<
             workers,
             capacity,
             outboard,
+            salvage,
             encode,
             verbose,
             files,
@@ -359,6 +365,7 @@ fn serve_task<
                 capacity: *capacity,
                 encode: *encode,
                 count: *verbose,
+                grain: grain_of(*salvage),
             };
             gather(
                 rt,

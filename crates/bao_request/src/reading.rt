@@ -126,6 +126,7 @@ fn gather_of<'a>(alloc: Global, words: &ArgMatches<'a>) -> Result<Option<Task<'a
         workers,
         capacity,
         outboard: text(words, "outboard"),
+        salvage: flag(words, "salvage"),
         encode: flag(words, "encode"),
         verbose: flag(words, "verbose"),
         files: files.to_vec(alloc)?,

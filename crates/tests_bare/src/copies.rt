@@ -6,7 +6,7 @@ use b3tree::{Hash, Mode};
 use bao_check::{Outline, check_outboard, check_slice};
 use bao_text::{outboard, slice};
 use crews::{Crew, CrewsFault, Open, finish, gather_copies, run_bare};
-use gather::{FinishFault, GatherFault, Plain, Report};
+use gather::{FinishFault, GatherFault, Grain, Plain, Report};
 use std::alloc::Global;
 use std::test::Fail;
 use std::thread::Threads;
@@ -107,7 +107,15 @@ fn a_blob_of_copies(rt: HostRuntime) -> Result<(), Fail> {
     let other = changed(rt.alloc(), 3000, 0)?;
     let copies = vec![in rt.alloc(); cut, other, longer]?;
     for workers in [0, 1, 3, 100] {
-        let gathered = gather_copies(&rt, rt.alloc(), &outline, 3, workers, copies.as_slice())?;
+        let gathered = gather_copies(
+            &rt,
+            rt.alloc(),
+            &outline,
+            3,
+            workers,
+            Grain::Group,
+            copies.as_slice(),
+        )?;
         assert_eq!(rt; gathered.as_slice(), bytes.as_slice());
     }
     Ok(())
@@ -120,7 +128,16 @@ fn room_for_two_chunks(rt: HostRuntime) -> Result<(), Fail> {
     let (root, text) = outboard(rt.alloc(), &Mode::hash(), bytes.as_slice())?;
     let outline = check_outboard(rt.alloc(), &Mode::hash(), &root, text.as_slice())?;
     let copies = vec![in rt.alloc(); bytes]?;
-    let fault = gather_copies(&rt, rt.alloc(), &outline, 2, 1, copies.as_slice()).err();
+    let fault = gather_copies(
+        &rt,
+        rt.alloc(),
+        &outline,
+        2,
+        1,
+        Grain::Group,
+        copies.as_slice(),
+    )
+    .err();
     assert_eq!(rt; fault, Some(CrewsFault::Gather(GatherFault::TooLarge)));
     Ok(())
 }

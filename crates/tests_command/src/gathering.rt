@@ -1,6 +1,6 @@
 use crate::streams::{Broken, blob, expect, failing, path};
 use b3tree::{Cv, Hash, Mode, cv, parent_input, root_hash, rooted, subtree_cv};
-use bao_gathered::{Gathering, write_gathered};
+use bao_gathered::{Gathering, Grain, write_gathered};
 use bao_text::combined;
 use std::alloc::Global;
 use std::io::ErrorKind;
@@ -88,6 +88,7 @@ fn blobs_to_writers(rt: HostRuntime) -> Result<(), Fail> {
             capacity: 3,
             encode,
             count: false,
+            grain: Grain::Group,
         };
         for room in [0, 10, 2048] {
             let mut out: Broken = failing(rt.alloc(), room, ErrorKind::Interrupted);

@@ -3,7 +3,7 @@ use b3tree::Mode;
 use bao_check::check_outboard;
 use bao_text::{combined, outboard};
 use crews::{CrewsFault, gather_copies_at, gather_sources};
-use gather::GatherFault;
+use gather::{GatherFault, Grain};
 use std::io;
 use std::test::Fail;
 use tests_workers::blob;
@@ -37,7 +37,17 @@ fn a_true_source_among_others(rt: HostRuntime) -> Result<(), Fail> {
     let sources = [other.as_slice(), cut, text.as_slice()];
     for room in [0, 1, 300, 70_000] {
         for workers in [1, 4] {
-            let gathered = gather_sources(&rt, alloc, root, mode, 65_536, room, workers, &sources)?;
+            let gathered = gather_sources(
+                &rt,
+                alloc,
+                root,
+                mode,
+                65_536,
+                room,
+                workers,
+                Grain::Group,
+                &sources,
+            )?;
             assert_eq!(rt; gathered.as_slice(), bytes.as_slice());
         }
     }
@@ -53,13 +63,23 @@ fn refusals(rt: HostRuntime) -> Result<(), Fail> {
     let (root, text) = combined(alloc, &mode, bytes.as_slice())?;
     let whole = [text.as_slice()];
     let cut = [text.as_slice().get(..1_000).ok_or("a cut")?];
-    let fault = gather_sources(&rt, alloc, root, mode, 200, 1, 2, &whole).err();
+    let fault = gather_sources(&rt, alloc, root, mode, 200, 1, 2, Grain::Group, &whole).err();
     assert_eq!(rt; fault, Some(CrewsFault::Gather(GatherFault::TooLarge)));
     for capacity in [0, 65_537] {
-        let fault = gather_sources(&rt, alloc, root, mode, capacity, 1, 2, &whole).err();
+        let fault = gather_sources(
+            &rt,
+            alloc,
+            root,
+            mode,
+            capacity,
+            1,
+            2,
+            Grain::Group,
+            &whole,
+        ).err();
         assert_eq!(rt; fault, Some(CrewsFault::Gather(GatherFault::Capacity)));
     }
-    let fault = gather_sources(&rt, alloc, root, mode, 400, 300, 2, &cut).err();
+    let fault = gather_sources(&rt, alloc, root, mode, 400, 300, 2, Grain::Group, &cut).err();
     assert_eq!(rt; fault, Some(CrewsFault::Gather(GatherFault::Unfinished)));
     Ok(())
 }
@@ -81,7 +101,17 @@ fn devices_that_fail(rt: HostRuntime) -> Result<(), Fail> {
     };
     let sources = [broken, true_one];
     for workers in [1, 2, 64] {
-        let gathered = gather_sources(&rt, alloc, root, mode, 700, 700, workers, &sources)?;
+        let gathered = gather_sources(
+            &rt,
+            alloc,
+            root,
+            mode,
+            700,
+            700,
+            workers,
+            Grain::Group,
+            &sources,
+        )?;
         assert_eq!(rt; gathered.as_slice(), bytes.as_slice());
     }
     Ok(())
@@ -109,7 +139,15 @@ fn copies(rt: HostRuntime) -> Result<(), Fail> {
     };
     let sources = [cut, broken, true_one];
     for workers in [1, 3] {
-        let gathered = gather_copies_at(&rt, alloc, &outline, 700, workers, &sources)?;
+        let gathered = gather_copies_at(
+            &rt,
+            alloc,
+            &outline,
+            700,
+            workers,
+            Grain::Group,
+            &sources,
+        )?;
         assert_eq!(rt; gathered.as_slice(), bytes.as_slice());
     }
     Ok(())

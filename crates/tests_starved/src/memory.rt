@@ -1,7 +1,7 @@
 use b3tree::Mode;
 use bao_text::combined;
 use crews::{CrewsFault, Open, finish, gather_texts};
-use gather::{Encoded, FinishFault, GatherFault, Holder, HolderFault, Report};
+use gather::{Encoded, FinishFault, GatherFault, Grain, Holder, HolderFault, Report};
 use std::sync::atomic::{AtomicU64, Ordering};
 use std::test::Fail;
 use tests_workers::{blob, run_lists, run_texts, shared};
@@ -112,7 +112,16 @@ fn a_growth_that_is_refused(rt: HostRuntime) -> Result<(), Fail> {
             assert_eq!(rt; gathered.as_slice(), bytes.as_slice());
         }
     }
-    match gather_texts(&rt, rt.alloc(), root, mode, 3, 2, texts.as_slice()) {
+    match gather_texts(
+        &rt,
+        rt.alloc(),
+        root,
+        mode,
+        3,
+        2,
+        Grain::Group,
+        texts.as_slice(),
+    ) {
         Ok(gathered) => assert_eq!(rt; gathered.as_slice(), bytes.as_slice()),
         Err(fault) => {
             assert!(rt;
@@ -123,7 +132,16 @@ fn a_growth_that_is_refused(rt: HostRuntime) -> Result<(), Fail> {
                         | CrewsFault::Gather(GatherFault::Memory | GatherFault::Starved)
                 )
             );
-            let gathered = gather_texts(&rt, rt.alloc(), root, mode, 3, 2, texts.as_slice())?;
+            let gathered = gather_texts(
+                &rt,
+                rt.alloc(),
+                root,
+                mode,
+                3,
+                2,
+                Grain::Group,
+                texts.as_slice(),
+            )?;
             assert_eq!(rt; gathered.as_slice(), bytes.as_slice());
         }
     }
@@ -137,7 +155,16 @@ fn sixteen_workers(rt: HostRuntime) -> Result<(), Fail> {
     let bytes = blob(rt.alloc(), 3000)?;
     let (root, whole) = combined(rt.alloc(), &mode, bytes.as_slice())?;
     let texts = vec![in rt.alloc(); whole]?;
-    match gather_texts(&rt, rt.alloc(), root, mode, 3, 16, texts.as_slice()) {
+    match gather_texts(
+        &rt,
+        rt.alloc(),
+        root,
+        mode,
+        3,
+        16,
+        Grain::Group,
+        texts.as_slice(),
+    ) {
         Ok(gathered) => assert_eq!(rt; gathered.as_slice(), bytes.as_slice()),
         Err(fault) => assert!(rt;
             matches!(
