@@ -100,6 +100,7 @@ DECODE = "bao_gather decode"
 GATHER = "bao_gather gather, one true file"
 GATHER_BESIDE = "bao_gather gather --outboard, one true copy"
 GATHER_TEN = "bao_gather gather, ten damaged files"
+GATHER_SALVAGE = "bao_gather gather --salvage, three files damaged in the same groups"
 HASH_GATHERED = "bao_gather hash of the gathered blob"
 SLICE = "cut_slice of 1 MiB"
 SLICE_OF_SIXTEENTH = "cut_slice of 1 MiB, a sixteenth of the file"
@@ -164,6 +165,7 @@ ROWS = [
     (GATHER, "whole program, four workers, of the combined encoding of the first 64 MiB"),
     (GATHER_BESIDE, "as before, of the first 64 MiB as they are, beside their outboard encoding"),
     (GATHER_TEN, "whole program, four workers, of ten such encodings, each with another tenth damaged"),
+    (GATHER_SALVAGE, "whole program, four workers, of three such encodings, each with another byte damaged in one of 16 groups"),
     ("hash", "b3tree::hash in one process, one thread"),
     ("hash_join", "b3par::hash_join in one process, several threads"),
     (POOL_ONE, "b3par::hash_pool in one process, one worker"),
@@ -321,22 +323,26 @@ def read_document():
 
 
 def holders(room, path):
-    """The first bytes of the file, as many as a store has room for, with their root, a true encoding of them and ten damaged ones."""
+    """The first bytes of the file, as many as a store has room for, with their root, a true encoding of them, ten damaged ones, and three that are damaged in the same groups."""
     blob, encoding = f"{room}/blob", f"{room}/blob.bao"
     with open(path, "rb") as whole, open(blob, "wb") as it:
         it.write(whole.read(MOST_GATHERED))
     root = output([PROGRAM, "encode", blob, encoding]).strip()
     with open(encoding, "rb") as it:
         text = it.read()
+    tenths = [range(len(text) * tenth // 10, len(text) * (tenth + 1) // 10, 512) for tenth in range(10)]
+    # A group of 64 chunks takes as many bytes of an encoding, but for the few parents above groups.
+    group = 64 * (1024 + 64)
+    bytes_of = [range(8 + group // 4 * (1 + third), len(text) - group, 16 * group) for third in range(3)]
     damaged = []
-    for tenth in range(10):
+    for number, places in enumerate([*tenths, *bytes_of]):
         changed = bytearray(text)
-        for at in range(len(text) * tenth // 10, len(text) * (tenth + 1) // 10, 512):
+        for at in places:
             changed[at] ^= 1
-        damaged.append(f"{room}/damaged-{tenth}")
+        damaged.append(f"{room}/damaged-{number}")
         with open(damaged[-1], "wb") as it:
             it.write(changed)
-    return blob, root, encoding, damaged
+    return blob, root, encoding, damaged[:10], damaged[10:]
 
 
 def measure(room, mib, runs):
@@ -360,9 +366,10 @@ def measure(room, mib, runs):
     encoding = f"{room}/encoding"
     root = output([PROGRAM, "encode", path, encoding]).strip()
     commands.append((DECODE, [PROGRAM, "decode", root, encoding, made], path))
-    blob, root, encoding, damaged = holders(room, path)
+    blob, root, encoding, damaged, torn = holders(room, path)
     commands.append((GATHER, [PROGRAM, "gather", root, made, encoding], blob))
     commands.append((GATHER_TEN, [PROGRAM, "gather", root, made, *damaged], blob))
+    commands.append((GATHER_SALVAGE, [PROGRAM, "gather", "--salvage", root, made, *torn], blob))
     parents = f"{room}/parents"
     output([PROGRAM, "outboard", blob, parents])
     commands.append((GATHER_BESIDE, [PROGRAM, "gather", "--outboard", parents, root, made, blob], blob))

@@ -269,6 +269,9 @@ def tasks(options):
     root, whole, piece = mode.hash(blob).hex(), bao.combined(mode, blob), bao.slice_text(mode, blob, 5, 9999)
     damaged = whole[:40_000] + bytes([whole[40_000] ^ 1]) + whole[40_001:]
     parents, marred = bao.outboard(mode, blob), blob[:40_000] + bytes([blob[40_000] ^ 1]) + blob[40_001:]
+    # Damaged in other chunks of the last group, which has five.
+    changed = lambda data, at: data[:at] + bytes([data[at] ^ 1]) + data[at + 1 :]
+    torn, worn = {"first": changed(whole, 70_000), "second": changed(whole, 73_000)}, {"third": changed(blob, 66_000), "fourth": changed(blob, 69_000)}
     steps = b"claim 1 0 1\nhash 1 0 0 1\nload 2 0 3\nfill 1 0\npublish 1 0\nload 2 0 3\nhash 1 1 69000 1000\nsettle 1\nlength 2\n"
 
     def case(words, files):
@@ -291,6 +294,10 @@ def tasks(options):
     yield case(f"gather --verbose --capacity 100 {root} out piece nofile whole", {"piece": piece, "whole": whole})
     yield case(f"gather --outboard parents --capacity 100 {root} out marred blob", {"parents": parents, "marred": marred, "blob": blob})
     yield case(f"gather --outboard parents --workers 1 --encode {root} out blob", {"parents": parents, "blob": blob})
+    yield case(f"gather --workers 1 --capacity 100 {root} out first second", torn)
+    yield case(f"gather --salvage --capacity 100 {root} out first second", torn)
+    yield case(f"gather --salvage --verbose --workers 1 --capacity 100 {root} out first nofile second", torn)
+    yield case(f"gather --salvage --outboard parents --workers 1 {root} out third fourth", {"parents": parents, **worn})
     yield case(f"decode --outboard parents {root} blob out", {"parents": parents, "blob": blob})
     yield case(f"replay --capacity 100 {root} script whole damaged", {"script": steps, "whole": whole, "damaged": damaged})
 
@@ -425,6 +432,8 @@ def holders():
     yield Case(["gather", "--verbose", "--capacity", "100", root, OUT, "pipe", "nofile", *names, "whole"], files, pipes=["pipe"])
     yield gather(["nofile", *names], "--verbose", "--capacity", "100")
     yield gather(names)
+    yield gather(names, "--salvage", "--capacity", "100")
+    yield gather(["whole", *names], "--salvage", "--capacity", "100", "--workers", "1")
     yield gather([*names[:10], "whole"])
     yield gather([*names[:10], "whole"], "--workers", "1")
     yield gather(["whole", "whole"])

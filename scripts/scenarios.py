@@ -690,7 +690,7 @@ class Programs:
         self.told = []
         while words:
             word = words.pop(0)
-            if word in ("--encode", "--verbose"):
+            if word in ("--salvage", "--encode", "--verbose"):
                 options[word] = ""
             elif word.startswith("--"):
                 options[word] = words.pop(0)
@@ -780,11 +780,12 @@ class Programs:
         found = [it for it in files if it in self.files]
         regular = [it for it in found if it not in self.irregular]
         answer, opened, is_done = Refused(3, f"cannot read {files[0]}"), [], False
+        grains = [GROUP_LEN, 1] if "--salvage" in options else [GROUP_LEN]
         # What isn't a regular file is opened only where the regular ones leave the blob unfinished.
         for names in [regular] if found == regular else [regular, found]:
             if names and not is_done:
                 opened = names
-                answer = self.gathered(mode, root, int(options["--capacity"]), outline, [self.files[it] for it in names])
+                answer = self.gathered(mode, root, int(options["--capacity"]), outline, [self.files[it] for it in names], grains)
                 is_done = not isinstance(answer, Refused) or str(answer) not in ("901 unfinished", "805 too large")
         for it in files if "--verbose" in options else []:
             if it in self.irregular and it not in opened:
@@ -798,8 +799,8 @@ class Programs:
         self.write(out, bao.combined(mode, answer) if "--encode" in options else answer)
         return f"ok {len(answer)}"
 
-    def gathered(self, mode, root, capacity, outline, texts):
-        """The blob that these texts give, or why they give none."""
+    def gathered(self, mode, root, capacity, outline, texts, grains):
+        """The blob that these texts give, or why they give none: they are asked for what is missing by so many chunks, one grain after another."""
         held, length = {}, None
         for piece in self.pieces(mode, root, outline, texts, 2**64 - 1, 1):
             if piece.length > bao.CHUNK_LEN * capacity:
@@ -808,11 +809,13 @@ class Programs:
             break
         if length is None:
             return Refused(1, "901 unfinished")
-        group_bytes = GROUP_LEN * bao.CHUNK_LEN
-        for group in range(-(-bao.chunks_of(length) // GROUP_LEN)):
-            for piece in self.pieces(mode, root, outline, texts, group_bytes * group, group_bytes):
-                held.update(piece.chunks)
-                break
+        for grain in grains:
+            for first in range(0, bao.chunks_of(length), grain):
+                if all(k in held for k in range(first, min(first + grain, bao.chunks_of(length)))):
+                    continue
+                for piece in self.pieces(mode, root, outline, texts, bao.CHUNK_LEN * first, bao.CHUNK_LEN * grain):
+                    held.update(piece.chunks)
+                    break
         blob = b"".join(held.get(k, b"") for k in range(bao.chunks_of(length)))
         if len(blob) != length:
             return Refused(1, "901 unfinished")
