@@ -16,7 +16,7 @@ CPU := $(if $(filter-out $(sort $(shell cat /proc/cpuinfo 2>/dev/null)),$(V3_NEE
 endif
 
 # Crates of which nothing goes into the program.
-ASIDE := bao_bind bao_refused bench berylwool text_scenarios store_scenarios program_scenarios tests_b3 tests_text tests_gather tests_shared tests_workers tests_crews tests_peers tests_bare tests_placed tests_starved tests_files tests_command
+ASIDE := bao_bind bao_refused bench berylwool text_scenarios store_scenarios program_scenarios tests_b3 tests_text tests_gather tests_shared tests_workers tests_crews tests_peers tests_ring tests_bare tests_placed tests_starved tests_files tests_command
 
 # The files and folders whose change asks for a new proof. With the folders, a file that was taken
 # away is seen too.
@@ -29,7 +29,7 @@ help:
 	@echo 'make sum                  prints the checksum of the built bao_gather'
 	@echo 'make install PREFIX=DIR   copies bao_gather to DIR/bin, its manual page and completions to DIR/share (PREFIX is /usr/local if left out; DESTDIR goes before it)'
 	@echo 'make dist                 makes the folder of a release, out/dist, of a commit: programs for both processor levels, manual page, completions, checksums'
-	@echo 'make test                 the gate: what make scenarios does, rt ci (every proof from nothing, the must-fail edits, the tests and the programs), then what make docs and make refuse do'
+	@echo 'make test                 the gate: what make scenarios does, rt ci (every proof from nothing, the must-fail edits, the tests and the programs), then what make docs, make refuse and make c-test do'
 	@echo 'make wrong-bodies         tries the wrong bodies that the gate leaves out, of all crates or of CRATES="NAME .."'
 	@echo 'make docs                 runs the shell examples of README and docs/CLI.md and compares what they print, and compares the wanted figures of docs/BENCH.md with scripts/bench.py'
 	@echo 'make scenarios            holds what the programs of scenarios have to print to replies made by the definitions alone'
@@ -68,7 +68,7 @@ dist:
 	@for cpu in x86-64 x86-64-v3; do $(MAKE) CPU=$$cpu out/bao_gather; install -D -m 755 out/bao_gather out/levels/$$cpu/bao_gather; done
 	@python3 scripts/dist.py out/dist x86-64=out/levels/x86-64/bao_gather x86-64-v3=out/levels/x86-64-v3/bao_gather
 
-# What rt ci leaves is the program that it proved.
+# What rt ci leaves is the program that it proved, and the libraries that the C library is built over.
 test:
 	@python3 scripts/wrong_bodies.py --read
 	@python3 scripts/scenarios.py
@@ -77,6 +77,8 @@ test:
 	@python3 scripts/bench.py --read
 	@python3 scripts/refuse_libraries.py
 	@python3 scripts/refuse.py crates/bao_gather/out/bao_gather
+	@python3 scripts/proved_by_ci.py berylwool
+	@$(MAKE) --no-print-directory c-test
 
 wrong-bodies:
 	@python3 scripts/wrong_bodies.py $(if $(JOBS),--jobs $(JOBS)) $(CRATES)
