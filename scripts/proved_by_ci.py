@@ -3,9 +3,9 @@
 
 usage: python3 scripts/proved_by_ci.py CRATE
 
-At the top of the repository, after `rt ci`. That leaves each library in out/rlib without the stamp by which `rt lib`, `rt run` and `rt check` know one that is
-proved, so that these would prove all of them anew. This writes the stamps. A library passes if it is what `rt ci` keeps of a proof of these sources over these
-libraries, whenever that was; where nothing is kept, if it is newer than each of its sources. Any other is refused.
+At the top of the repository, after `rt ci`. That leaves in out/rlib what it proved, or what stood there before, without the stamp by which `rt lib`, `rt run`
+and `rt check` know a library that is proved, so that these would prove all of them anew. This writes the stamps, where the library is what `rt ci` keeps of a
+proof of these sources over these libraries, or is put there from what it keeps. One that it doesn't keep is named, and rt proves it anew, with those above it.
 """
 import json
 import os
@@ -15,20 +15,18 @@ sys.dont_write_bytecode = True
 import rt_module
 
 
-def times(folder):
-    for at, _, files in os.walk(folder):
-        for file in files:
-            yield os.stat(f"{at}/{file}").st_mtime
-
-
-def is_proved(rt, kept, it):
-    found = [[file, rt.rtlib.sum_of(f"{it.folder}/out/{file}")] for file in kept.made(it, False)]
+def is_kept(rt, kept, it):
+    """Whether the library in out/ is what rt ci keeps of a proof of these sources."""
     try:
         with open(f"{kept.place(it, False, kept.key(it))}/made.json", encoding="utf-8") as made:
-            return json.load(made)["files"] == found
+            return json.load(made)["files"] == [[file, rt.rtlib.sum_of(f"{it.folder}/out/{file}")] for file in kept.made(it, False)]
     except OSError:
-        sources = [when for part in ("src", "specs", "proofs") for when in times(f"{it.folder}/{part}")]
-        return max(sources) < min(times(it.rlib), default=0)
+        return False
+
+
+def is_put(rt, kept, it):
+    rt.clear(f"{it.folder}/out/rlib")
+    return kept.give(it, False, kept.key(it))
 
 
 def main(name):
@@ -43,8 +41,9 @@ def main(name):
     held = rt.rtlib.lock(below)
     kept = rt.Kept(below)
     for it in below:
-        if not is_proved(rt, kept, it):
-            return f"proved_by_ci: rt ci proved no {it.name} of these sources"
+        if not is_kept(rt, kept, it) and not is_put(rt, kept, it):
+            print(f"proved_by_ci: rt ci keeps no {it.name} of these sources: rt proves it anew")
+            break
         kept.is_built(it)
         with open(f"{it.folder}/out/rlib/stamp", "w", encoding="utf-8") as stamp:
             stamp.write(it.stamp())
