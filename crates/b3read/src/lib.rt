@@ -4,7 +4,7 @@
 
 pub use fault::ReadFault;
 pub use pieces::{ends_at, fill};
-pub use ranges::{RANGES, hash_source};
+pub use ranges::{LEAST_RANGE_LEN, PIECE_LEN, RANGES, hash_source};
 pub use source::Source;
 
 mod fault;

@@ -12,11 +12,11 @@ use std::thread::{Threads, join};
 /// So many ranges keep several processors busy, also where other programs use them, and take 4 MiB of memory.
 pub const RANGES: u64 = 16;
 
-// Fewer bytes than these aren't worth a thread.
-const LEAST_RANGE_LEN: u64 = 1 << 20;
+/// Fewer bytes than these aren't worth a thread.
+pub const LEAST_RANGE_LEN: u64 = 1 << 20;
 
-// The most bytes that a thread asks for at once: few enough to stay in a processor's cache.
-const PIECE_LEN: usize = 1 << 18;
+/// The most bytes that a thread asks for at once: few enough to stay in a processor's cache.
+pub const PIECE_LEN: usize = 1 << 18;
 
 // The top of the tree over a range, by this thread.
 fn top_alone<S: Source>(

@@ -13,16 +13,10 @@ use crate::search::walk;
 use crate::verdict::{AuditFault, Verdict};
 use b3tree::{CHUNK_LEN, Hash, Hasher, Input};
 use bao_check::Checked;
+use bao_text::chunk_count;
 
 // The bytes of a blob that are hashed before their chunks are compared: they are in the cache then.
 const SHARE_LEN: usize = 512 * CHUNK_LEN;
-
-// How many chunks `n` bytes have.
-fn chunk_count(n: u64) -> u64
-    ensures { result ≡ chunk_count n }
-{
-    n.div_ceil(CHUNK_LEN as u64).max(1)
-}
 
 // Chunk `number` of a blob, if it has so many.
 fn chunk_of(blob: &[u8], number: u64) -> Option<&[u8]>

@@ -8,11 +8,9 @@ ghost use Rattle.bao_check.specs.Walk.{Meets};
 
 use crate::asked::{Asked, meets};
 use crate::fault::CheckFault;
-use crate::walk::{PARENT_LEN, part_values};
+use crate::walk::part_values;
 use b3tree::{CHUNK_LEN, Cv, Mode, eight_values, left_len, top_input};
-
-// The bytes of eight chunks.
-const EIGHT_LEN: usize = 8 * CHUNK_LEN;
+use bao_text::{EIGHT_LEN, PARENT_LEN};
 
 // The first `len` bytes of chunk `k`, as far as they are there: the chunks lie side by side, and chunk `first`
 // is the first.

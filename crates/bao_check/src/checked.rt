@@ -17,7 +17,7 @@ use crate::outline::Outline;
 use crate::tail::Tail;
 use crate::walk::claimed;
 use b3tree::{CHUNK_LEN, Hash, Mode, bytes_are};
-use bao_text::{Choice, Nodes};
+use bao_text::{Choice, Nodes, chunk_count};
 
 /// What a slice is read from.
 #[derive(Clone, Copy, Debug)]
@@ -215,7 +215,7 @@ impl<'a> Checked<'a> {
         ensures piece { IfSome result (λ tail. tail_piece tail ≡ self.now) }
         ensures certificate { IfSome result (λ _. HasLastCertificate self.now (piece_claimed self.now)) }
     {
-        let last = self.claimed().div_ceil(CHUNK_LEN as u64).max(1) - 1;
+        let last = chunk_count(self.claimed()) - 1;
         let (first, after) = self.chunks();
         if first <= last && last < after {
             self.is_of_bytes();

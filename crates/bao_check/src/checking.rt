@@ -6,10 +6,10 @@ ghost use Rattle.bao_check.specs.Waiting.{AreParts, AreParts-prop, IsAcceptedAs,
 use crate::asked::{Asked, meets};
 use crate::fault::CheckFault;
 use crate::waiting::{Waiting, node_size, push_wanted, take_node};
-use crate::walk::{LENGTH_LEN, claimed};
+use crate::walk::claimed;
 use arrayvec::ArrayVec;
 use b3tree::{Cv, Hash, Mode, top_input};
-use bao_text::Choice;
+use bao_text::{Choice, LENGTH_LEN};
 
 // Verifies a text's length, and answers what the text is of and the parts that come after the length. An empty
 // chunk has no bytes of its own, so it is verified with it.

@@ -14,8 +14,9 @@ use crate::fault::CheckFault;
 use crate::form::Form;
 use crate::outline::Outline;
 use crate::source::{Bytes, Source};
-use crate::walk::{LENGTH_LEN, check_text};
+use crate::walk::check_text;
 use b3tree::{CHUNK_LEN, Cv, Hash, Mode};
+use bao_text::{LENGTH_LEN, chunk_count};
 use std::alloc::Global;
 
 // Checks a text of the form that is there as a whole.
@@ -97,7 +98,7 @@ pub fn check_outboard<'a>(
 pub fn bare_fits(outline: &Outline<'_>, first: u64, count: u64) -> bool
     ensures { IsTrue result ↔ AreChunksOf outline.now first count }
 {
-    let chunks = outline.claimed().div_ceil(CHUNK_LEN as u64).max(1);
+    let chunks = chunk_count(outline.claimed());
     count >= 1 && count <= chunks && first <= chunks - count
 }
 

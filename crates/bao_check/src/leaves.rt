@@ -5,8 +5,9 @@ ghost use Rattle.bao_text.specs.Nodes.{Side, placed, subtree_nodes};
 ghost use Rattle.bao_check.specs.Leaves.{HasParents};
 ghost use Rattle.bao_check.specs.Pieces.{IsLeafValue};
 
-use crate::walk::{PARENT_LEN, part_values};
+use crate::walk::part_values;
 use b3tree::{CHUNK_LEN, Cv, left_len};
+use bao_text::PARENT_LEN;
 
 // The value of chunk `i` in the parents of the subtree over `n` bytes from chunk `number` on, the first of
 // which begins at `at`.

@@ -4,11 +4,13 @@ ghost use Rattle.bao_text.specs.Nodes.{Side, placed, size, subtree_nodes, subtre
 ghost use Rattle.bao_check.specs.Spans.{Counts, HasDigits, bytes_before, chunk_place, first_of};
 
 use b3tree::{CHUNK_LEN, left_len};
-use bao_text::{Choice, encoded_len, outboard_len};
+use bao_text::{Choice, chunk_count, encoded_len, outboard_len};
 
-pub(crate) const LENGTH_LEN: u128 = 8;
+// Bytes of the length at an encoding's start, for places.
+pub(crate) const LENGTH_LEN: u128 = bao_text::LENGTH_LEN as u128;
 
-pub(crate) const PARENT_LEN: u128 = 64;
+// Bytes of a parent, for places.
+pub(crate) const PARENT_LEN: u128 = bao_text::PARENT_LEN as u128;
 
 /// Where a text has a chunk: the offset of its first byte, and how many bytes it has.
 #[derive(Clone, Copy)]
@@ -56,13 +58,6 @@ pub(crate) fn nodes_size(choice: &Choice, number: u64, n: u64) -> u128
     let left = nodes_size(choice, number, left_len);
     let right = nodes_size(choice, number + left_len / CHUNK_LEN as u64, n - left_len);
     PARENT_LEN + left + right
-}
-
-// How many chunks `n` bytes have: no bytes are one empty chunk.
-pub(crate) fn chunk_count(n: u64) -> u64
-    ensures { result ≡ chunk_count n }
-{
-    n.div_ceil(CHUNK_LEN as u64).max(1)
 }
 
 // How many parents stand before chunk `k`, where chunk `last` is the last, and `first` the first that is wanted of k and

@@ -6,8 +6,9 @@ ghost use Rattle.bao_check.specs.AcceptedProp.{IsAccepted-prop};
 ghost use Rattle.bao_check.specs.Pieces.{IsLeafValue};
 
 use crate::leaves::leaf_below;
-use crate::walk::{LENGTH_LEN, claimed};
+use crate::walk::claimed;
 use b3tree::{CHUNK_LEN, Cv, Hash, Mode, bytes_are};
+use bao_text::LENGTH_LEN;
 
 /// A text that was accepted as an outboard encoding under a root: it carries that it was, so whoever holds
 /// one needs no premise. All calls on it take no memory, and cost at most the height of the tree.

@@ -6,16 +6,16 @@ ghost use Rattle.bao_check.specs.Accepted.{places_of};
 ghost use Rattle.bao_check.specs.Parents.{IsParentMask, parent_in, parent_place};
 
 use crate::checked::{Body, Checked};
-use crate::locate::{Before, LENGTH_LEN, PARENT_LEN, bytes_from, chunk_count};
+use crate::locate::{Before, LENGTH_LEN, PARENT_LEN, bytes_from};
 use crate::outline::Outline;
 use b3tree::CHUNK_LEN;
-use bao_text::Choice;
+use bao_text::{Choice, chunk_count};
 
-// How many boundaries a group has.
-const GROUP_LEN: u64 = 64;
+/// How many chunks a group has, and boundaries before them.
+pub const GROUP_LEN: u64 = 64;
 
-// How many bytes the chunks of a group have.
-const GROUP_BYTES: u64 = GROUP_LEN * CHUNK_LEN as u64;
+/// How many bytes a group's chunks have.
+pub const GROUP_BYTES: u64 = GROUP_LEN * CHUNK_LEN as u64;
 
 // How many of `n` bytes a parent's subtree has that begins with chunk `k` and has `half` chunks on the left.
 fn parent_len(n: u64, half: u64, k: u64) -> u64

@@ -7,9 +7,9 @@ use crate::asked::Asked;
 use crate::fault::CheckFault;
 use crate::locate::nodes_size;
 use crate::source::{Bytes, Source};
-use crate::walk::{LENGTH_LEN, check_parent, check_subtree, claimed};
+use crate::walk::{check_parent, check_subtree, claimed};
 use b3tree::{CHUNK_LEN, Cv, Hash, Mode, left_len};
-use bao_text::Choice;
+use bao_text::{Choice, LENGTH_LEN};
 
 /// A part of the check of a text: the wanted nodes of a subtree, the place at which they begin in the text, and
 /// the value that its top must have. The parts of a text can be checked in any order, and at once. None of the

@@ -9,6 +9,7 @@ ghost use Rattle.bao_check.specs.Pieces.{chunk_in};
 
 use crate::checked::Checked;
 use b3tree::{Hash, Mode};
+use bao_text::chunk_count;
 
 /// A piece that holds the last chunk of the length that it claims, so that the length is certified. It
 /// keeps the piece's text by reference.
@@ -61,7 +62,7 @@ impl<'a> Tail<'a> {
     {
         self.is_last();
         let length = self.piece.claimed();
-        let _last = self.piece.chunk(length.div_ceil(1024).max(1) - 1);
+        let _last = self.piece.chunk(chunk_count(length) - 1);
         length
     }
 }

@@ -10,8 +10,8 @@ ghost use Rattle.b3tree.specs.Pieces.{lane_place, piece};
 ghost use Rattle.b3tree.specs.Tree.{parent_input};
 ghost use Rattle.bao_check.specs.Whole.{IsWholeOf, whole_len};
 
-use crate::walk::PARENT_LEN;
 use b3tree::{CHUNK_LEN, Mode, parent_lanes, spaced_chunks, spaced_words};
+use bao_text::PARENT_LEN;
 use std::simd::u32x8;
 
 #[inline(always)]

@@ -6,10 +6,10 @@ ghost use Rattle.bao_check.specs.Waiting.{AreParts, HasRefused, HasTaken, IsBefo
 use crate::asked::{Asked, meets};
 use crate::fault::CheckFault;
 use crate::part::Part;
-use crate::walk::{PARENT_LEN, part_values};
+use crate::walk::part_values;
 use arrayvec::ArrayVec;
 use b3tree::{CHUNK_LEN, Cv, Mode, left_len, parent_input, top_input};
-use bao_text::Choice;
+use bao_text::{Choice, PARENT_LEN};
 
 // A tree has at most 54 levels of parents. On each the right part waits, and at last a chunk.
 const WAITING_LEN: usize = 55;

@@ -10,16 +10,9 @@ use crate::asked::{Asked, meets};
 use crate::fault::CheckFault;
 use crate::form::Form;
 use crate::source::Source;
-use crate::whole::{EIGHT_LEN, chunks_a_lane, is_whole_outline, is_whole_text};
+use crate::whole::{chunks_a_lane, is_whole_outline, is_whole_text};
 use b3tree::{CHUNK_LEN, Cv, Hash, Mode, left_len, parent_input, top_input};
-use bao_text::Choice;
-
-// The bytes of the length at a text's start.
-pub(crate) const LENGTH_LEN: usize = 8;
-
-pub(crate) const PARENT_LEN: usize = 64;
-
-const CV_LEN: usize = 32;
+use bao_text::{CV_LEN, Choice, EIGHT_LEN, LENGTH_LEN, PARENT_LEN};
 
 // Takes the `size` bytes of the node that comes next.
 fn take_node<S: Source>(source: &mut S, size: usize) -> Result<(), CheckFault>

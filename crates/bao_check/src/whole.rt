@@ -9,12 +9,10 @@ ghost use Rattle.bao_check.specs.Whole.{HasEight, HasFour, HasParts, IsWholeAske
 
 use crate::asked::{Asked, meets};
 use crate::text_lanes::{outline_lanes, text_lanes};
-use crate::walk::{PARENT_LEN, part_values};
+use crate::walk::part_values;
 use b3tree::{CHUNK_LEN, EightParents, FourParents, Mode, Parts, lane_parents, parent_input};
+use bao_text::{EIGHT_LEN, PARENT_LEN};
 use std::simd::u32x8;
-
-/// The bytes of eight chunks.
-pub(crate) const EIGHT_LEN: usize = 8 * CHUNK_LEN;
 
 // The most chunks of a lane.
 const MOST_A_LANE: u64 = 64;

@@ -10,10 +10,10 @@ ghost use Rattle.bao_decode.specs.Copies.{IsCopy, LeavesCopy};
 ghost use Rattle.bao_decode.specs.Faults.{IsQuiet, NamesEither};
 
 use crate::fault::DecodeFault;
-use b3tree::{CHUNK_LEN, Hash, Mode};
+use b3tree::{Hash, Mode};
 use bao_check::{CheckFault, Outline, check_bare, check_outboard};
 use bao_files::{FileFault, LateFile, read_file};
-use bao_text::write_text;
+use bao_text::{chunk_count, write_text};
 use std::io::Write;
 use std::rt::Files;
 
@@ -21,7 +21,7 @@ use std::rt::Files;
 fn chunks_of(outline: &Outline<'_>) -> u64
     ensures { result ≡ chunk_count (outline_claimed outline.now) }
 {
-    outline.claimed().div_ceil(CHUNK_LEN as u64).max(1)
+    chunk_count(outline.claimed())
 }
 
 // Verifies all of a plain copy beside the outline.

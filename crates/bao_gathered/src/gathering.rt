@@ -18,11 +18,11 @@ ghost use Rattle.bao_gathered.specs.Worth.{IsGoodCut, IsGoodPart, IsWorth, group
 use crate::fate::Fate;
 use crate::fault::GatheredFault;
 use crate::placed::gather_placed;
-use crate::worth::{Worth, chunk_count, worth_of_copy, worth_of_encoding};
+use crate::worth::{Worth, worth_of_copy, worth_of_encoding};
 use b3tree::{Hash, Mode};
 use bao_check::{Outline, check_outboard};
 use bao_files::{FileFault, LateFile, read_file};
-use bao_text::{WriteFault, write_combined, write_text};
+use bao_text::{WriteFault, chunk_count, write_combined, write_text};
 use crews::{CrewsFault, gather_copies, gather_texts};
 use gather::{GatherFault, Grain};
 use std::alloc::{AllocError, Global};

@@ -5,16 +5,10 @@ ghost use Rattle.gather.specs.Plains.{part_of};
 ghost use Rattle.bao_gathered.specs.Worth.{IsGoodCut, IsGoodPart, IsWorth, Judges, groups_of, groups_within};
 
 use b3tree::{CHUNK_LEN, Hash, Mode};
-use bao_check::{Outline, check_bare, check_slice};
-use bao_text::{Memory, cut_slice};
+use bao_check::{GROUP_LEN, Outline, check_bare, check_slice};
+use bao_text::{LENGTH_LEN, Memory, chunk_count, cut_slice};
 use std::alloc::Global;
 use store_core::GROUP_BYTES;
-
-// Bytes of the length at a text's start.
-const LENGTH_LEN: usize = 8;
-
-// Chunks of a group, for numbers of chunks.
-const GROUP_LEN: u64 = store_core::GROUP_LEN as u64;
 
 /// What a file is worth to a gathering, by itself: of the groups of 64 chunks, 65,536 bytes of the blob, that it is asked for, how
 /// many are refused. What other files have, and which worker asks whom, makes no difference.
@@ -24,13 +18,6 @@ pub struct Worth {
     pub groups: u32,
     /// How many of them are refused.
     pub refused: u32,
-}
-
-// How many chunks `len` bytes are.
-pub(crate) fn chunk_count(len: u64) -> u64
-    ensures { result ≡ chunk_count len }
-{
-    len.div_ceil(CHUNK_LEN as u64).max(1)
 }
 
 // How many groups a blob of `len` bytes has, as far as the capacity goes.

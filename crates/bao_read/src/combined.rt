@@ -7,15 +7,12 @@ ghost use Rattle.b3tree.specs.Tree.{parent_input};
 ghost use Rattle.bao_text.specs.Texts.{joined};
 ghost use Rattle.bao_read.specs.Encodings.{GainsText, IsCombinedOf};
 
-use crate::pieces::{PIECE_LEN, append_in_pieces};
-use b3read::{ReadFault, Source, ends_at};
+use crate::pieces::append_in_pieces;
+use b3read::{LEAST_RANGE_LEN, PIECE_LEN, ReadFault, Source, ends_at};
 use b3tree::{CHUNK_LEN, Cv, Hash, Input, Mode, cv, left_len, parent_input, root_hash, rooted};
 use bao_text::{Choice, PARENT_LEN, encoded_len, put_parent};
 use std::alloc::Global;
 use std::thread::{Threads, join};
-
-// Fewer bytes than these aren't worth a thread.
-const LEAST_RANGE_LEN: u64 = 1 << 20;
 
 // A subtree's last compression, and its text in parts that follow one another.
 #[derive(Drop)]

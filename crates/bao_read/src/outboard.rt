@@ -2,8 +2,8 @@ ghost use Rattle.std.specs.Prelude.{◌≡◌, ℕ, List, IfErr, IfOk, IfSome};
 ghost use Rattle.b3read.specs.Given.{HasOther};
 ghost use Rattle.bao_read.specs.Encodings.{IsOutboardOf};
 
-use crate::pieces::{PIECE_LEN, append_in_pieces};
-use b3read::{ReadFault, Source, ends_at};
+use crate::pieces::append_in_pieces;
+use b3read::{PIECE_LEN, ReadFault, Source, ends_at};
 use b3tree::{Hash, Mode, root_hash, rooted};
 use bao_text::{Choice, outboard_len};
 use std::alloc::Global;

@@ -6,9 +6,6 @@ use b3read::{ReadFault, Source, fill};
 use b3tree::{CHUNK_LEN, Cv, Input, Mode, bytes_are, cv, left_len, parent_input};
 use bao_text::{Choice, PARENT_LEN, append_subtree, put_parent};
 
-/// The most bytes that are asked for at once: few enough to stay in a processor's cache.
-pub(crate) const PIECE_LEN: usize = 1 << 18;
-
 // Appends the text of the subtree over `len` bytes of the source, which begin with chunk `first`, of a blob all of
 // whose positions are chosen, and answers the subtree's last compression. The bytes come in pieces through `piece`,
 // and the place of a parent of several pieces is kept free until the values of its parts are there.

@@ -4,7 +4,9 @@
 pub use choice::Choice;
 pub use cut::cut_slice;
 pub use fault::{Memory, WriteFault};
-pub use sizes::{PARENT_LEN, encoded_len, outboard_len};
+pub use sizes::{
+    CV_LEN, EIGHT_LEN, LENGTH_LEN, PARENT_LEN, chunk_count, encoded_len, outboard_len,
+};
 pub use slices::nodes;
 pub use texts::{append_subtree, combined, outboard, put_parent, slice};
 pub use walk::{Node, Nodes};

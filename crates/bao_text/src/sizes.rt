@@ -6,13 +6,20 @@ ghost use Rattle.bao_text.specs.Texts.{combined_text, outboard_text};
 
 use b3tree::CHUNK_LEN;
 
-/// The bytes of the length at a text's start.
-pub(crate) const LENGTH_LEN: usize = 8;
+/// The bytes of the length at an encoding's start.
+pub const LENGTH_LEN: usize = 8;
+
+/// The bytes of a chaining value.
+pub const CV_LEN: usize = 32;
 
 /// The bytes of a parent: two chaining values.
-pub const PARENT_LEN: usize = 64;
+pub const PARENT_LEN: usize = 2 * CV_LEN;
 
-fn chunk_count(len: u64) -> u64
+/// The bytes of eight chunks, which are hashed side by side.
+pub const EIGHT_LEN: usize = 8 * CHUNK_LEN;
+
+/// How many chunks a blob of `len` bytes has: no bytes are one empty chunk.
+pub fn chunk_count(len: u64) -> u64
     ensures { result ≡ chunk_count len }
 {
     len.div_ceil(CHUNK_LEN as u64).max(1)

@@ -10,17 +10,12 @@ ghost use Rattle.bao_text.specs.Texts.{chosen_text, combined_text, length_text, 
 use crate::choice::Choice;
 use crate::eight::append_eight;
 use crate::fault::Memory;
-use crate::sizes::{LENGTH_LEN, PARENT_LEN, encoded_len, outboard_len};
+use crate::sizes::{CV_LEN, EIGHT_LEN, LENGTH_LEN, PARENT_LEN, encoded_len, outboard_len};
 use b3tree::{
     CHUNK_LEN, Cv, Hash, Input, Mode, cv, eight_parents, left_len, parent_input, root_hash, rooted,
     top_input,
 };
 use std::alloc::Global;
-
-const CV_LEN: usize = 32;
-
-// Bytes of eight chunks.
-const EIGHT_LEN: usize = 8 * CHUNK_LEN;
 
 // Appends `bytes`; where the growth is refused the text is unchanged.
 pub(crate) fn extend(text: &mut Vec<u8>, bytes: &[u8]) -> Result<(), Memory>

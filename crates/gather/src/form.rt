@@ -3,6 +3,7 @@ ghost use Rattle.gather.specs.Forms.{HasChunk, HasGroup, IsChunk, IsEnd, IsGroup
 ghost use Rattle.store_core.specs.Pieces.{piece_of};
 
 use bao_check::{CheckFault, Checked, Outline, check_bare, check_slice};
+use bao_text::chunk_count;
 use std::alloc::Global;
 use store_core::{Fixed, GROUP_BYTES};
 
@@ -48,7 +49,7 @@ impl Form<'_> {
             },
             Form::Bare(outline) => {
                 let total = outline.claimed();
-                let last = total.div_ceil(CHUNK_LEN).max(1) - 1;
+                let last = chunk_count(total) - 1;
                 let start = CHUNK_LEN * last;
                 Part {
                     start,
@@ -120,7 +121,7 @@ impl Form<'_> {
             ),
             Form::Bare(outline) => {
                 let first = part.start / CHUNK_LEN;
-                let count = part.len.div_ceil(CHUNK_LEN).max(1);
+                let count = chunk_count(part.len);
                 check_bare(outline, first, count, text)
             }
         }

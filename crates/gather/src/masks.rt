@@ -1,10 +1,8 @@
 ghost use Rattle.std.specs.Prelude.{◌≡◌, ℕ, ◌<◌, not, ◌&&◌};
 ghost use Rattle.store_core.specs.Masks.{has_bit};
 
+use bao_check::GROUP_LEN;
 use store_core::MAX_CAPACITY;
-
-// How many chunks a group has, for numbers of chunks.
-pub(crate) const GROUP_LEN: u64 = store_core::GROUP_LEN as u64;
 
 // The most groups that a store has.
 pub(crate) const MAX_GROUPS: u64 = MAX_CAPACITY as u64 / GROUP_LEN;

@@ -8,10 +8,10 @@ ghost use Rattle.gather.specs.Groups.{AreGroups, IsNext};
 ghost use Rattle.gather.specs.Holders.{IsIt};
 ghost use Rattle.store_core.specs.Pieces.{piece_of};
 
-use crate::masks::{GROUP_LEN, MAX_GROUPS};
+use crate::masks::MAX_GROUPS;
 use crate::report::Report;
 use crate::shelf::Shelf;
-use bao_check::Checked;
+use bao_check::{Checked, GROUP_LEN};
 use bao_text::Node;
 use store_core::StoreFault;
 

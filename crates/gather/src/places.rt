@@ -10,10 +10,7 @@ use crate::form::CHUNK_LEN;
 use crate::holder::HolderFault;
 use b3read::Source;
 use b3tree::left_len;
-use bao_text::{Choice, PARENT_LEN, encoded_len};
-
-// The bytes of the length at a text's start.
-const LENGTH_LEN: usize = 8;
+use bao_text::{Choice, LENGTH_LEN, PARENT_LEN, encoded_len};
 
 // No file and no slice of memory has a byte at this place or after it.
 const END: u128 = i64::MAX as u128;

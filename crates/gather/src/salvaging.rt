@@ -7,12 +7,13 @@ ghost use Rattle.gather.specs.Forms.{AreSlices, made_of};
 ghost use Rattle.gather.specs.Holders.{AreLater, IsHanded};
 ghost use Rattle.gather.specs.Large.{IsTooLarge};
 
-use crate::form::{CHUNK_LEN, Form};
+use crate::form::Form;
 use crate::holder::Holder;
-use crate::masks::GROUP_LEN;
 use crate::report::Report;
 use crate::shelf::Shelf;
 use crate::worker::{agree, work_part};
+use bao_check::GROUP_LEN;
+use bao_text::chunk_count;
 use std::alloc::Global;
 use store_core::{MAX_CAPACITY, with_bit};
 
@@ -52,10 +53,7 @@ pub fn salvage<S: Shelf, H: Holder>(
     if !form.is_of(length) {
         return;
     }
-    let chunks = length
-        .div_ceil(CHUNK_LEN)
-        .max(1)
-        .min(u64::from(MAX_CAPACITY));
+    let chunks = chunk_count(length).min(u64::from(MAX_CAPACITY));
     for chunk in 0..chunks {
         let part = form.chunk(chunk);
         let group = (chunk / GROUP_LEN) as u32;

@@ -10,12 +10,14 @@ ghost use Rattle.gather.specs.Counts.{Fits, HasFailed, IsFetch, Reports};
 ghost use Rattle.gather.specs.Large.{IsTooLarge};
 ghost use Rattle.gather.specs.Holders.{AreLater, GivesNoMore, IsGiven, IsHanded};
 
-use crate::form::{CHUNK_LEN, Form, Part};
+use crate::form::{Form, Part};
 use crate::holder::{Holder, HolderFault};
-use crate::masks::{GROUP_LEN, MAX_GROUPS, without};
+use crate::masks::{MAX_GROUPS, without};
 use crate::parents::store_parents;
 use crate::report::Report;
 use crate::shelf::Shelf;
+use bao_check::GROUP_LEN;
+use bao_text::chunk_count;
 use std::alloc::Global;
 use store_core::{Settling, StoreFault, mask_below};
 
@@ -296,7 +298,7 @@ pub fn work_as<S: Shelf, H: Holder>(
     if !form.is_of(length) {
         return;
     }
-    let chunks = length.div_ceil(CHUNK_LEN).max(1);
+    let chunks = chunk_count(length);
     let groups = chunks.div_ceil(GROUP_LEN).min(MAX_GROUPS);
     let first = u64::from(place.number) * groups / u64::from(place.workers);
     for step in 0..groups {

@@ -1,6 +1,7 @@
 //! The one-thread store of a blob's chunks: its state, its events, their histories, and a seat's view.
 #![tactic(auto)]
 
+pub use bao_check::GROUP_BYTES;
 pub use fault::{BadCapacity, Missing, ReplayFault, ServeFault, StoreFault};
 pub use fixed::Fixed;
 pub use history::{Call, Event, Piece, Serving, Settling, Storing};
@@ -8,7 +9,7 @@ pub use law::{
     claims_apart, held_binds, held_is_committed, held_lasts, join_keeps, names_stay_in_order,
     parents_last, read_means, runs_are_legal, served_binds, state_determines,
 };
-pub use masks::{CELL_WORDS, GROUP_BYTES, GROUP_LEN, PARENT_WORDS, has_bit, mask_below, with_bit};
+pub use masks::{CELL_WORDS, GROUP_LEN, PARENT_WORDS, has_bit, mask_below, with_bit};
 pub use micro::{MicroStep, ReadBytes, Reply};
 pub use schedule::replay;
 pub use store::{MAX_CAPACITY, Store};

@@ -1,13 +1,8 @@
 ghost use Rattle.std.specs.Prelude.{◌≡◌, ◌≢◌, ℕ, ◌<◌, nat_lt, true};
 ghost use Rattle.store_core.specs.Masks.{IsMaskOf, has_bit};
 
-use b3tree::CHUNK_LEN;
-
 /// How many chunks a group has, and how many boundaries.
-pub const GROUP_LEN: u32 = 64;
-
-/// How many bytes a group's chunks have room for.
-pub const GROUP_BYTES: u64 = GROUP_LEN as u64 * CHUNK_LEN as u64;
+pub const GROUP_LEN: u32 = bao_check::GROUP_LEN as u32;
 
 /// How many words a chunk's cell has: the size, then 128 words of eight bytes.
 pub const CELL_WORDS: u8 = 129;

@@ -1,8 +1,8 @@
 ghost use Rattle.std.specs.Prelude.{◌≡◌, ◌+◌, ◌^◌, ◌<◌, ◌≤◌, length};
 
-use crate::masks::GROUP_BYTES;
 use crate::micro::{ReadBytes, Reply};
 use crate::store::Store;
+use bao_check::GROUP_BYTES;
 use std::alloc::{AllocError, Global};
 
 // A read under way: its first position, its length, and the bytes that it has so far.
