@@ -35,7 +35,7 @@ returns-clause-served g c = λ are blob served has.
                 inr (inr (record {
                   recorded = c.in-Some.length;
                   is = recorded;
-                  chunks = λ _ n below. visited n (omega (arith, below, served.few, long, c.div_ceil.ensures, c.loop-chunk-test.false)) below;
+                  chunks = λ _ n below. visited n (omega (arith, below, served.few, long, c.chunk_count.ensures, c.loop-chunk-test.false)) below;
                 }))
           ]
     ]
@@ -54,7 +54,7 @@ loop-chunk-preserved g c = (
       let at : ℕ = x.chunk in
       let part = c.chunk-part.result in
       let same : g.S.Shelf.fixed_of x.seat ≡ F = g.S.Shelf.goes.keeps _ _ _ _ _ x.invariant.1.gains in
-      let below : at < chunk_count (length blob) = omega (arith, c.div_ceil.ensures, c.loop-chunk-test.true, long) in
+      let below : at < chunk_count (length blob) = omega (arith, c.chunk_count.ensures, c.loop-chunk-test.true, long) in
       let asked = slice_chunk c.args.form.now at part are c.chunk-part.ensures.chunk in
       let now : HaveSlices ByChunk G (g.S.Shelf.fixed_of x.seat).mode blob x.holders =
       subst (λ (f : Fixed). HaveSlices ByChunk G f.mode blob x.holders) (sym same) (later_slices ByChunk G F.mode blob _ _ x.invariant.3 has) in

@@ -23,7 +23,7 @@ loop-step-preserved g c = (
       let met = c.work_part.ensures in
       let F = g.S.Shelf.fixed_of c.args.seat.now in
       let same : g.S.Shelf.fixed_of x.seat ≡ F = g.S.Shelf.goes.keeps _ _ _ _ _ x.invariant.1.gains in
-      let chunks : c.max-chunks.result ≡ chunk_count (length blob) = omega (arith, c.div_ceil.ensures, c.max-chunks.ensures, long) in
+      let chunks : c.chunk_count-chunks.result ≡ chunk_count (length blob) = omega (arith, c.chunk_count-chunks.ensures, long) in
       let now : HaveSlices ByGroup (made_of c.args.form.now g.H.Holder.gives) (g.S.Shelf.fixed_of x.seat).mode blob x.holders =
       subst (λ (f : Fixed). HaveSlices ByGroup (made_of c.args.form.now g.H.Holder.gives) f.mode blob x.holders) (sym same) (later_slices ByGroup (made_of c.args.form.now g.H.Holder.gives) F.mode blob _ _ x.invariant.3 has) in
       let here : IsServed (g.S.Shelf.fixed_of x.seat) blob = subst (λ (f : Fixed). IsServed f blob) (sym same) served in
@@ -31,9 +31,9 @@ loop-step-preserved g c = (
       let group : ℕ = begun % c.min-groups.result in
       let within : group < c.min-groups.result = mod-lt begun (omega (arith, c.loop-step-test.true)) in
       let at = slice_group c.args.form.now group c.group-part.result are c.group-part.ensures.group in
-      elim (met.served are blob here (now.each (64 * group) c.group-part.result.start c.group-part.result.len (omega (arith, chunks, within, c.div_ceil-2.ensures, c.min-groups.ensures)) (omega (arith, at.0), at.1))
+      elim (met.served are blob here (now.each (64 * group) c.group-part.result.start c.group-part.result.len (omega (arith, chunks, within, c.div_ceil.ensures, c.min-groups.ensures)) (omega (arith, at.0), at.1))
       (λ n wanted.
-      let below : n < chunk_count (length blob) = omega (arith, chunks, wanted_below c.max-chunks.result _ c.mask_below.result c.mask_below.ensures n wanted) in (
+      let below : n < chunk_count (length blob) = omega (arith, chunks, wanted_below c.chunk_count-chunks.result _ c.mask_below.result c.mask_below.ensures n wanted) in (
         below,
         here.holds ByGroup n c.group-part.result.start c.group-part.result.len below (omega (arith, at.0, wanted.0), at.1),
       ))) [
@@ -47,7 +47,7 @@ loop-step-preserved g c = (
             ]
             | inr not_sooner ↦
                 let now : k ≡ x.step = omega (arith, early, not_sooner) in
-                elim (filled n (wanted_there c.max-chunks.result _ c.mask_below.result c.mask_below.ensures n (at ∙ ap (λ (j : ℕ). (c.from.result * c.min-groups.result / c.from-2.result + j) % c.min-groups.result) now) (omega (arith, chunks, below)))) [
+                elim (filled n (wanted_there c.chunk_count-chunks.result _ c.mask_below.result c.mask_below.ensures n (at ∙ ap (λ (j : ℕ). (c.from.result * c.min-groups.result / c.from-2.result + j) % c.min-groups.result) now) (omega (arith, chunks, below)))) [
                   | inl held ↦ inl held
                   | inr busy ↦ elim (g.S.Shelf.lasts.frees _ _ _ x.invariant.1.chunks x.invariant.1.parents n x.invariant.1.gains x.invariant.2 busy) [
                     | inl was ↦ inr was
@@ -83,7 +83,7 @@ returns-clause-served g c = λ are blob served has.
                   recorded = c.in-Some.length;
                   is = recorded;
                   chunks = λ _ n below.
-                      let group : n / 64 < c.min-groups.result = omega (arith, below, served.few, long, c.div_ceil.ensures, c.max-chunks.ensures, c.div_ceil-2.ensures, c.min-groups.ensures) in
+                      let group : n / 64 < c.min-groups.result = omega (arith, below, served.few, long, c.chunk_count-chunks.ensures, c.div_ceil.ensures, c.min-groups.ensures) in
                       let met = round_meets _ c.min-groups.result (n / 64) (subst (λ (n : ℕ). n * c.min-groups.result / c.from-2.result < c.min-groups.result) (sym c.from.ensures) (subst (λ (w : ℕ). c.args.place.number * c.min-groups.result / w < c.min-groups.result) (sym c.from-2.ensures) (begins_within c.args.place.number c.args.place.workers c.min-groups.result c.requires.place (omega (arith, group))))) group in
                       visited met.0 n (omega (arith, met.1, c.loop-step-test.false)) met.2 below;
                 }))
