@@ -10,6 +10,7 @@ pub use law::{
     written_accepted,
 };
 pub use outline::Outline;
+pub use parent::{GROUP_BYTES, GROUP_LEN};
 pub use read::{check_stream, read_checked, read_piece};
 pub use subtree::Subtree;
 pub use tail::Tail;
