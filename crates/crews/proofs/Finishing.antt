@@ -1,5 +1,6 @@
 -- What finishing a blob found, in the state after all that its seat has seen.
 use Rattle.std.proofs.Common.{bytes_eq, true, false, not, ◌≡◌, ℕ, ◌+◌, ◌*◌, ◌≤◌, List, [], ◌∷◌, ◌++◌, append_assoc, append-nil, length, drop, Option, None, Some, refl, sym, ap, subst, ◌∙◌, arith, inl, inr}
+use Rattle.std.proofs.lemmas.Bool.{cases_Bool}
 use Rattle.std.proofs.lemmas.List.{drop_all}
 use Rattle.std.proofs.lemmas.Slice.Eq.{bytes_eq-Decides}
 use Rattle.b3tree.specs.Hashing.{hash}
@@ -35,7 +36,7 @@ pub length_there : (old new : SeatView) (recorded : Option ℕ) → Called (Leng
 length_there old new recorded called =
     ap (λ (s : State). s.recorded) (same_there (Length recorded) old new called (λ s. refl)) ∙ sym (right_there (Length recorded) old new called)
 
-read_there : (old new : SeatView) (at len : ℕ) (bytes : List ℕ) → Called (Read at len bytes) old new → bytes ≡ read_bytes (state_after new.seen) at len
+pub read_there : (old new : SeatView) (at len : ℕ) (bytes : List ℕ) → Called (Read at len bytes) old new → bytes ≡ read_bytes (state_after new.seen) at len
 read_there old new at len bytes called =
     right_there (Read at len bytes) old new called ∙ ap (λ (s : State). read_bytes s at len) (sym (same_there (Read at len bytes) old new called (λ s. refl)))
 
@@ -49,7 +50,7 @@ recorded_then old then new l at len bytes asked read =
     subst (λ (h : List Event). (state_after h).recorded ≡ Some l) (sym is)
     (record_lasts new.fixed then.seen more l legal (length_there old then (Some l) asked))
 
-filled_whole : (bytes old new : List ℕ) → new ≡ bytes ++ drop (length bytes) old → length bytes ≡ length old → new ≡ bytes
+pub filled_whole : (bytes old new : List ℕ) → new ≡ bytes ++ drop (length bytes) old → length bytes ≡ length old → new ≡ bytes
 filled_whole bytes old new filled all =
     filled ∙ ap (λ (rest : List ℕ). bytes ++ rest) (drop_all (length bytes) old (omega (arith, all))) ∙ append-nil bytes
 
@@ -84,6 +85,13 @@ asks_both old then new before after l missing long asked read =
 -- bytes that a test tells apart
 pub differs : (xs ys : List ℕ) → true ≡ not (bytes_eq xs ys) → xs ≡ ys → ⊥
 differs xs ys apart same = let alike : bytes_eq xs ys ≡ true = (bytes_eq-Decides xs ys).1 same in let no : true ≡ false = rw alike at apart in cc
+
+-- and bytes that it doesn't
+pub alike : (xs ys : List ℕ) → false ≡ not (bytes_eq xs ys) → xs ≡ ys
+alike xs ys same = elim (cases_Bool (bytes_eq xs ys)) [
+  | inl equal ↦ (bytes_eq-Decides xs ys).0 equal
+  | inr other ↦ let no : false ≡ true = rw other at same in cc
+]
 
 -- bytes whose hash isn't the root are no blob's with the root, so that a pair is named
 pub binds_none : (fixed : Fixed) (history : List Event) (bytes : List ℕ) → IsKeyed fixed.mode → IsLegal fixed history → IsWhole (state_after history) bytes

@@ -1,18 +1,18 @@
 -- What the seat with which all others were joined hands out.
-use Rattle.std.proofs.Common.{◌≡◌, ◌⊎◌, ℕ, ◌/◌, ◌<◌, ◌≤◌, IsTrue, false, true, List, [], ◌∷◌, ◌++◌, append_assoc, length, Contains, None, Some, refl, sym, ap, subst, ◌∙◌, arith, inl, inr}
+use Rattle.std.proofs.Common.{◌≡◌, ◌⊎◌, ℕ, ◌/◌, ◌<◌, ◌≤◌, IsTrue, false, true, List, [], ◌∷◌, ◌++◌, append-nil, length, Contains, None, Some, refl, sym, subst, ◌∙◌, arith, inl, inr}
 use Rattle.std.specs.List.{sum_by}
 use Rattle.std.proofs.lemmas.Bool.{both_ways}
 use Rattle.std.proofs.lemmas.List.Elements.{Contains-append_cases}
 use Rattle.std.proofs.lemmas.List.Sums.{sum_by-cons}
 use Rattle.b3tree.specs.Valid.{IsKeyed}
 use Rattle.bao_check.proofs.Laws.{accepted_binds}
-use Rattle.bao_check.proofs.Lists.{All-from_members, All-member, Contains-cons_cases}
+use Rattle.bao_check.proofs.Lists.{All-first, All-from_members, All-member}
 use Rattle.bao_text.specs.Choice.{chunk_count}
 use Rattle.crews.specs.Closing.{CallsAreFrom, IsLeft}
-use Rattle.crews.specs.Finished.{Asks}
 use Rattle.crews.specs.Going.{goes}
 use Rattle.crews.specs.Lasting.{Claims, HoldsOn, IsAlone, Records}
 use Rattle.crews.specs.Seats.{GoneOn, claims_of, fixed_of as fixed_at}
+use Rattle.crews.specs.Wholes.{IsReading, ReadOn, WasUnfinished}
 use Rattle.crews.proofs.Alone.{seen_own}
 use Rattle.gather.specs.declared.report.Report.{Report}
 use Rattle.gather.specs.declared.grain.Grain.{Grain}
@@ -31,17 +31,19 @@ use Rattle.gather.proofs.Reporting.{large_wider}
 use Rattle.gather.proofs.Served.{served}
 use Rattle.store_core.specs.declared.fixed.Fixed.{Fixed}
 use Rattle.store_core.specs.declared.history.Call.{Call}
+use Rattle.store_core.specs.declared.history.Call.TheVariants.{Commit, Give, Length, Parents, Read, Serve, Settle, Take}
 use Rattle.store_core.specs.declared.history.Event.{Event}
 use Rattle.store_core.specs.declared.history.Piece.{Piece}
 use Rattle.store_core.specs.declared.view.Named.{Named}
 use Rattle.store_core.specs.declared.view.SeatView.{SeatView}
 use Rattle.store_core.specs.Histories.{IsLegal, state_after}
 use Rattle.store_core.specs.Laws.{IsBlob}
-use Rattle.store_core.specs.States.{is_held}
+use Rattle.store_core.specs.States.{empty, is_held}
 use Rattle.store_core.specs.Views.{mine}
 use Rattle.store_core.proofs.Bound.{held_binds, record_binds}
+use Rattle.store_core.proofs.Lasting.{legal-append}
 use Rattle.store_shared.specs.Seats.{Gripped}
-use Rattle.store_core.specs.Knowledge.{AreAllNames, LooksRound, Called, event_of}
+use Rattle.store_core.specs.Knowledge.{AreAllNames, LooksRound}
 
 -- a length is recorded, all chunks of the blob are held if it is the blob's, and the store is unfinished: a pair is named
 unfinished_named : (fixed : Fixed) (history : List Event) (blob : List ℕ) (l : ℕ) → IsKeyed fixed.mode → IsBlob fixed blob → IsLegal fixed history
@@ -64,6 +66,17 @@ unfinished_named fixed history blob l keyed is legal recorded chunks unfinished 
       ]
     ]
 
+-- a call that reads is of no piece
+from_none : (handed : Piece → Type 0) (call : Call) → IsReading call → IsFrom handed call
+from_none handed (Length recorded) is = tt
+from_none handed (Read at len bytes) is = tt
+from_none handed (Take group want granted) is = absurd is
+from_none handed (Give group mask given) is = absurd is
+from_none handed (Commit group piece committed) is = absurd is
+from_none handed (Settle piece answer) is = absurd is
+from_none handed (Parents group piece answer) is = absurd is
+from_none handed (Serve start len answer) is = absurd is
+
 module _ (handed : Piece → Type 0) where
   -- each of the seat's calls is of a piece that was handed over, after it worked as well
   pub calls_on : (old new : Gripped) (n q : ℕ) → GoneOn handed old new n q → CallsAreFrom handed old.view → CallsAreFrom handed new.view
@@ -73,64 +86,41 @@ module _ (handed : Piece → Type 0) where
         | inr last ↦ All-member (λ (x : Event). IsFrom handed x.call) gone.own gone.from e last
       ]
 
-  calls_last : (old new : SeatView) (call : Call) → IsFrom handed call → Called call old new → CallsAreFrom handed old → CallsAreFrom handed new
-  calls_last old new call is called each e h =
-      elim (Contains-append_cases (mine old) (event_of old call ∷ []) e (subst (λ (es : List Event). Contains es e) called.goes_on.mine_is h)) [
-        | inl before ↦ each e before
-        | inr last ↦ elim (Contains-cons_cases [] (event_of old call) e last) [
-          | inl same ↦ subst (λ (x : Event). IsFrom handed x.call) (sym same) is
-          | inr never ↦ absurd (omega (arith, never.1))
-        ]
-      ]
-
-  calls_asked : (old new : SeatView) → Asks old new → CallsAreFrom handed old → CallsAreFrom handed new × (new.names ≡ old.names)
-  calls_asked old new (inl asks) each = (calls_last old new _ tt asks.length each, asks.length.goes_on.names_are)
-  calls_asked old new (inr asks) each = (
-    calls_last asks.then new _ tt asks.read (calls_last old asks.then _ tt asks.length each),
-    asks.read.goes_on.names_are ∙ asks.length.goes_on.names_are,
-  )
+  calls_read : (old new : SeatView) → ReadOn old new → CallsAreFrom handed old → CallsAreFrom handed new
+  calls_read old new on each e h = elim (on.calls e h) [ inl before ↦ each e before | inr reads ↦ from_none handed e.call reads ]
 
   -- once the seat has looked round, each call that was made is one of these
-  pub all_from : (seat finished round : SeatView) → AreAllNames seat.names → CallsAreFrom handed seat → Asks seat finished → LooksRound finished round
+  pub all_from : (seat finished round : SeatView) → AreAllNames seat.names → CallsAreFrom handed seat → ReadOn seat finished → LooksRound finished round
       → AreFrom handed finished.seen
-  all_from seat finished round all each asks looked =
-      let asked = calls_asked seat finished asks each in
-      let whole : AreAllNames finished.names = subst (λ (ns : List Named). AreAllNames ns) (sym asked.1) all in
+  all_from seat finished round all each on_reading looked =
+      let asked : CallsAreFrom handed finished = calls_read seat finished on_reading each in
+      let whole : AreAllNames finished.names =
+      subst (λ (ns : List Named). AreAllNames ns) (append-nil finished.names)
+      (on_reading.names [] (subst (λ (ns : List Named). AreAllNames ns) (sym (append-nil seat.names)) all)) in
       let on = looked.sees.goes_on in
       All-from_members (λ (e : Event). IsFrom handed e.call) finished.seen (λ e h.
       elim (Contains-append_cases (mine finished) [] e (subst (λ (es : List Event). Contains es e) on.mine_is (seen_own finished round whole looked e h))) [
-        | inl ours ↦ asked.0 e ours
+        | inl ours ↦ asked e ours
         | inr never ↦ absurd (omega (arith, never.1))
       ])
 
--- what a seat asked for stands after what it had seen
-called_more : (old new : SeatView) (call : Call) → Called call old new → (more : List Event) × (new.seen ≡ old.seen ++ more)
-called_more old new call called = (
-  called.between ++ event_of old call ∷ [],
-  called.goes_on.seen_is ∙ append_assoc old.seen called.between (event_of old call ∷ []),
-)
-
-asks_more : (old new : SeatView) → Asks old new → (more : List Event) × (new.seen ≡ old.seen ++ more)
-asks_more old new (inl asks) = called_more old new _ asks.length
-asks_more old new (inr asks) =
-    let first = called_more old asks.then _ asks.length in
-    let second = called_more asks.then new _ asks.read in
-    (first.0 ++ second.0, second.1 ∙ ap (λ (seen : List Event). seen ++ second.0) first.1 ∙ append_assoc old.seen first.0 second.0)
-
 -- a seat that filled its store from the blob doesn't find it unfinished, unless a pair is named
 pub unfinished_pair : (handed : Piece → Type 0) (fixed : Fixed) (start seat : Gripped) (finished : SeatView) (blob : List ℕ) → seat.view.fixed ≡ fixed → IsKeyed fixed.mode
-    → IsBlob fixed blob → IsLegal fixed finished.seen → ((c : ℕ) → claims_of start c ≡ false) → IsFilled Records HoldsOn Claims start seat blob → Asks seat.view finished
-    → AreFrom handed finished.seen → IsUnfinished (state_after finished.seen) → HasPair handed fixed blob
-unfinished_pair handed fixed start seat finished blob same keyed is legal unclaimed filled asks from unfinished =
-    let more = asks_more seat.view finished asks in
-    let there : IsLegal seat.view.fixed (seat.view.seen ++ more.0) =
-    subst (λ (f : Fixed). IsLegal f (seat.view.seen ++ more.0)) (sym same) (subst (λ (h : List Event). IsLegal fixed h) more.1 legal) in
-    pair_of handed fixed finished.seen blob from (unfinished_named fixed finished.seen blob filled.recorded keyed is legal
-    (subst (λ (h : List Event). (state_after h).recorded ≡ Some filled.recorded) (sym more.1) (filled.is more.0 there))
+    → IsBlob fixed blob → IsLegal fixed finished.seen → ((c : ℕ) → claims_of start c ≡ false) → IsFilled Records HoldsOn Claims start seat blob
+    → AreFrom handed finished.seen → WasUnfinished seat.view finished → HasPair handed fixed blob
+unfinished_pair handed fixed start seat finished blob same keyed is legal unclaimed filled from was =
+    let history : List Event = seat.view.seen ++ was.before in
+    let begun : IsLegal fixed history =
+    (legal-append fixed empty history was.after (subst (λ (h : List Event). IsLegal fixed h) was.seen_is legal)).0 in
+    let there : IsLegal seat.view.fixed history = subst (λ (f : Fixed). IsLegal f history) (sym same) begun in
+    let all : AreFrom handed history =
+    All-first (λ (e : Event). IsFrom handed e.call) history was.after (subst (λ (h : List Event). AreFrom handed h) was.seen_is from) in
+    pair_of handed fixed history blob all (unfinished_named fixed history blob filled.recorded keyed is begun
+    (filled.is was.before there)
     (λ long c below. elim (filled.chunks long c below) [
-      | inl held ↦ subst (λ (h : List Event). is_held (state_after h) c ≡ true) (sym more.1) (held more.0 there)
+      | inl held ↦ held was.before there
       | inr claimed ↦ absurd (both_ways _ (unclaimed c) claimed)
-    ]) unfinished)
+    ]) was.unfinished)
 
 -- the bytes that it finds are the blob's, or a pair is named
 pub whole_pair : (handed : Piece → Type 0) (fixed : Fixed) (history : List Event) (blob bytes : List ℕ) → IsKeyed fixed.mode → IsBlob fixed blob → IsLegal fixed history
@@ -159,13 +149,13 @@ module _ (H : Type 0) (gives : H → ℕ → ℕ → List ℕ → Type 0) (count
     (holders later : List H) (report report' : Report) (wide : (piece : Piece) → IsHanded gives holders piece → handed piece)
     (of_start : start.view.fixed ≡ fixed) (of_seat : seat.view.fixed ≡ fixed) (left : IsLeft handed start.view)
     (reports : Reports fixed_at GoneOn start seat (IsHanded gives holders) (IsHanded gives later) (sum_by count holders) (sum_by count later) report report')
-    (alone : IsAlone seat.view) (asks : Asks seat.view finished) (looked : LooksRound finished round) where
+    (alone : IsAlone seat.view) (on : ReadOn seat.view finished) (looked : LooksRound finished round) where
   -- each call that was made is of a piece that was handed over
   pub cuts : AreFrom handed finished.seen
   cuts =
       let gone : GoneOn handed start seat reports.chunks reports.parents =
       goes.wider (IsHanded gives holders) handed wide start seat reports.chunks reports.parents reports.gains in
-      all_from handed seat.view finished round alone.all (calls_on handed start seat reports.chunks reports.parents gone left.from) asks looked
+      all_from handed seat.view finished round alone.all (calls_on handed start seat reports.chunks reports.parents gone left.from) on looked
 
   -- a length that is too large is certified by one
   pub large_cut : (IsTrue report.too_large → IsTooLarge handed fixed) → IsTrue report'.too_large → IsTooLarge handed fixed
@@ -181,7 +171,7 @@ module _ (H : Type 0) (gives : H → ℕ → ℕ → List ℕ → Type 0) (count
       → (IsTrue report.too_large → IsTooLarge handed fixed)
       → (IsServed start.view.fixed blob → HaveSlices grain gives start.view.fixed.mode blob holders
       → HasFailed report' ⊎ IsTooLarge (IsHanded gives holders) start.view.fixed ⊎ IsFilled Records HoldsOn Claims start seat blob)
-      → IsUnfinished (state_after finished.seen) → IsExcused (cause_of report') ⊎ HasPair handed fixed blob
+      → WasUnfinished seat.view finished → IsExcused (cause_of report') ⊎ HasPair handed fixed blob
   unfinished_handed grain blob quiet keyed is room limit has legal no_fault before met unfinished =
       let P : Type 0 = HasPair handed fixed blob in
       let slices : IsServed fixed blob = served fixed blob keyed is room limit in
@@ -194,5 +184,5 @@ module _ (H : Type 0) (gives : H → ℕ → ℕ → List ℕ → Type 0) (count
         | inl (inl memory) ↦ absurd (omega (arith, memory, none))
         | inl (inr failed) ↦ absurd (omega (arith, failed, reports.failed, no_fault, none_failed count quiet later))
         | inr (inl large) ↦ more large
-        | inr (inr filled) ↦ unfinished_pair handed fixed start seat finished blob of_seat keyed is legal left.unclaimed filled asks cuts unfinished
+        | inr (inr filled) ↦ unfinished_pair handed fixed start seat finished blob of_seat keyed is legal left.unclaimed filled cuts unfinished
       ])

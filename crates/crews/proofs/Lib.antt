@@ -8,5 +8,6 @@ pub mod OfNone
 pub mod Uniting
 pub mod Alone
 pub mod Whence
+pub mod Rereading
 pub mod HandingOut
 pub mod Lending

@@ -1,7 +1,7 @@
 -- What several workers leave whose holders hand over no more than is known of them.
 use Rattle.std.proofs.Common.{◌≡◌, ◌<◌, get_or, length, nat_lt, subst, ℕ, List, Bool, true, false, refl, if◌then◌else◌}
 use Rattle.gather.specs.declared.report.Report.{Report}
-use Rattle.gather.specs.declared.texts.GatherFault.TheVariants.{Starved, TooLarge, Unfinished}
+use Rattle.gather.specs.declared.texts.GatherFault.TheVariants.{Capacity, Starved, TooLarge, Unfinished}
 use Rattle.gather.specs.Faults.{cause_of}
 use Rattle.gather.specs.Holders.{IsHanded}
 use Rattle.crews.specs.declared.crew.Crew.{Crew}
@@ -34,5 +34,14 @@ large_of false true e = refl
 large_of false false e = let bad : TooLarge ≡ Unfinished = e in cc
 
 -- a blob that was left unfinished because it is too large was reported so
+never_capacity : (starved large : Bool) → Capacity ≡ (if starved then Starved else if large then TooLarge else Unfinished) → ⊥
+never_capacity true large e = cc
+never_capacity false true e = cc
+never_capacity false false e = cc
+
+-- no report is of a capacity
+pub cause_never : (report : Report) → Capacity ≡ cause_of report → ⊥
+cause_never report e = never_capacity (nat_lt 0 report.memory) report.too_large e
+
 pub is_large : (report : Report) → TooLarge ≡ cause_of report → report.too_large ≡ true
 is_large report e = large_of (nat_lt 0 report.memory) report.too_large e

@@ -21,7 +21,7 @@ has_there : (a b : List Named) → ((n : Named) → Contains a n → Contains b 
 has_there a b to name h = let e = entry_of a name h in subst (λ (n : Name). has_name (plain b) n ≡ true) e.2 (name_there b e.0 (to e.0 e.1))
 
 -- whether these are all names hangs on the entries alone
-names_same : (a b : List Named) → ((n : Named) → Contains a n → Contains b n) → ((n : Named) → Contains b n → Contains a n) → AreAllNames a → AreAllNames b
+pub names_same : (a b : List Named) → ((n : Named) → Contains a n → Contains b n) → ((n : Named) → Contains b n → Contains a n) → AreAllNames a → AreAllNames b
 names_same a b to back all = record {
   first = has_there a b to [] all.first;
   split = λ named number among below. has_there a b to (named.name ++ number ∷ []) (all.split named number (back named among) below);
@@ -45,7 +45,7 @@ put_has named (other ∷ others) n is = elim (cases_Bool (name_le named.name oth
   ])
 ]
 
-merge_has : (ours theirs : List Named) (n : Named) → Contains ours n ⊎ Contains theirs n → Contains (merge_names ours theirs) n
+pub merge_has : (ours theirs : List Named) (n : Named) → Contains ours n ⊎ Contains theirs n → Contains (merge_names ours theirs) n
 merge_has [] theirs n (inl never) = absurd (omega (arith, never.1))
 merge_has [] theirs n (inr h) = h
 merge_has (named ∷ ours) theirs n (inl h) = elim (Contains-cons_cases ours named n h) [
@@ -99,7 +99,7 @@ joined_names one merged crews crew is all =
     ]) all
 
 -- the first name splits
-split_all : (names rest all : List Named) → ((n : Named) → Contains all n → Contains (new_names names) n ⊎ Contains rest n)
+pub split_all : (names rest all : List Named) → ((n : Named) → Contains all n → Contains (new_names names) n ⊎ Contains rest n)
     → ((n : Named) → Contains (new_names names) n ⊎ Contains rest n → Contains all n) → AreAllNames (names ++ rest) → AreAllNames (raise_least names ++ all)
 split_all [] rest all to back h =
     names_same rest all (λ n k. back n (inr k)) (λ n k. elim (to n k) [ inl never ↦ absurd (omega (arith, never.1)) | inr r ↦ r ]) h
@@ -189,7 +189,7 @@ shares ours (other ∷ theirs) name a b = elim (or_cases (same_name name other) 
 ]
 
 -- a call of a merged seat is one of the one's or the other's
-merged_calls : (one two merged : SeatView) → IsMerged one two merged → (e : Event) → Contains (mine merged) e → Contains (mine one) e ⊎ Contains (mine two) e
+pub merged_calls : (one two merged : SeatView) → IsMerged one two merged → (e : Event) → Contains (mine merged) e → Contains (mine one) e ⊎ Contains (mine two) e
 merged_calls one two merged is e h =
     let k = join_keeps one two merged is.joined in
     let there = by_them (names_of merged) merged.seen e h in

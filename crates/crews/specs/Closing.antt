@@ -37,3 +37,7 @@ IsHandedOut handed fixed blob result = MatchResult result (λ bytes. bytes.items
 -- the bytes are each blob's with the root, or a pair is named from it and a piece that was handed over
 abbrev pub AreTheBlob : (Piece → Type 0) → Fixed → List ℕ → Type 0
 AreTheBlob handed fixed bytes = (blob : List ℕ) → IsBlob fixed blob → (bytes ≡ blob) ⊎ HasPair handed fixed blob
+
+-- the same of a blob that stays in the store that it was gathered in
+abbrev pub IsFoundWhole : (Piece → Type 0) → Fixed → List ℕ → Result (List ℕ) CrewsFault → Type 0
+IsFoundWhole handed fixed blob result = MatchResult result (λ bytes. bytes ≡ blob) IsExcused ⊎ HasPair handed fixed blob

@@ -9,3 +9,4 @@ pub mod Joined
 pub mod Beside
 pub mod Closing
 pub mod Lists
+pub mod Wholes

@@ -1,5 +1,4 @@
-ghost use Rattle.std.specs.Prelude.{◌≡◌, ◌≢◌, ◌*◌, ◌<◌, ◌≤◌, Err, IfOk, IsErrOf, None, length, max};
-ghost use Rattle.std.specs.Int.{div_ceil};
+ghost use Rattle.std.specs.Prelude.{◌≡◌, ◌≢◌, ◌*◌, ◌≤◌, Err, IfOk, IsErrOf, None, length};
 ghost use Rattle.b3tree.specs.Hashing.{hash};
 ghost use Rattle.gather.specs.declared.fault.FinishFault.TheVariants.{Memory, NotTheRoot, Unfinished};
 ghost use Rattle.gather.specs.Finished.{IsOther, IsUnfinished, IsWhole};
@@ -7,24 +6,10 @@ ghost use Rattle.store_core.specs.Histories.{state_after};
 ghost use Rattle.store_shared.specs.Seats.{IsSeatOf, fixed_of};
 ghost use Rattle.crews.specs.Finished.{Asks, BindsNone};
 
-use b3par::hash_join;
-use b3tree::{CHUNK_LEN, Hash, hash};
+use b3tree::{Hash, hash};
 use gather::FinishFault;
 use std::alloc::Global;
-use std::thread::Threads;
 use store_shared::{Assembly, Seat};
-
-// Fewer chunks than these aren't worth a thread of their own.
-const LEAST_GRAIN: u64 = 256;
-
-// How many chunks of so many bytes one thread hashes, where there are so many threads.
-fn grain_of(len: usize, workers: u32) -> u64
-    requires { 0 < workers }
-    ensures { result ≡ max (div_ceil (div_ceil len 1024) workers) 256 }
-{
-    let chunks = len.div_ceil(CHUNK_LEN) as u64;
-    chunks.div_ceil(u64::from(workers)).max(LEAST_GRAIN)
-}
 
 // All bytes of a shared store below its recorded length.
 fn read_all(alloc: Global, assembly: &Assembly, seat: &mut Seat) -> Result<Vec<u8>, FinishFault>
@@ -94,30 +79,4 @@ pub fn finish(alloc: Global, assembly: &Assembly, seat: &mut Seat) -> Result<Vec
     let blob = read_all(alloc, assembly, seat)?;
     let hashed = hash(&assembly.mode(), blob.as_slice());
     certified(assembly, seat, blob, hashed)
-}
-
-// The same, and so many threads hash the bytes.
-pub(crate) fn finish_join<R: Threads + Sync>(
-    rt: &R,
-    alloc: Global,
-    assembly: &Assembly,
-    seat: &mut Seat,
-    workers: u32,
-) -> Result<Vec<u8>, FinishFault>
-    requires workers { 0 < workers }
-    requires of { IsSeatOf assembly.now seat.old }
-    ensures of { IsSeatOf assembly.now seat.new }
-    ensures asks { Asks seat.old.view seat.new.view }
-    ensures root { IfOk result (λ blob. hash (fixed_of assembly.now).mode blob.items ≡ (fixed_of assembly.now).root.0) }
-    ensures whole { IfOk result (λ blob. IsWhole (state_after seat.new.view.seen) blob.items) }
-    ensures fits { IfOk result (λ blob. length blob.items ≤ 1024 * (fixed_of assembly.now).capacity) }
-    ensures no_length { (state_after seat.new.view.seen).recorded ≡ None → result ≡ Err Unfinished }
-    ensures unfinished { IsErrOf result Unfinished → IsUnfinished (state_after seat.new.view.seen) }
-    ensures other { IsErrOf result NotTheRoot → IsOther (fixed_of assembly.now) (state_after seat.new.view.seen) }
-    ensures none { IsErrOf result NotTheRoot → BindsNone (fixed_of assembly.now) seat.new.view.seen }
-{
-    let blob = read_all(alloc, assembly, seat)?;
-    let grain = grain_of(blob.len(), workers);
-    let joined = hash_join(rt, &assembly.mode(), blob.as_slice(), grain);
-    certified(assembly, seat, blob, joined)
 }

@@ -8,6 +8,7 @@ use crate::fault::CrewsFault;
 use crate::gathering::gather_beside;
 use crate::lists::Copies;
 use crate::places::CopiesAt;
+use crate::whole::{Whole, in_memory};
 use b3read::Source;
 use bao_check::Outline;
 use gather::{Grain, Plain, PlainAt};
@@ -37,26 +38,24 @@ pub fn gather_copies<R: Threads + Sync>(
     ensures fits { IfOk result (λ blob. length blob.items ≤ 1024 * capacity) }
     ensures capacity { (result ≡ Err (Gather Capacity)) ↔ ((capacity ≡ 0) ⊎ (65536 < capacity)) }
 {
-    gather_beside::<R, Plain<'_>, Copies<'_>>(
-        rt,
-        alloc,
-        outline,
-        capacity,
-        workers,
-        grain,
-        &Copies(copies),
-    )
+    let copies = Copies(copies);
+    let gathered = gather_beside::<R, Plain<'_>, Copies<'_>>(
+        rt, alloc, outline, capacity, workers, grain, &copies,
+    );
+    in_memory(alloc, gathered)
 }
 
 /// The blob of an outboard encoding that was accepted, out of plain copies of it that are read at places, as files are, and
 /// that nobody trusts: each may be whole, cut, changed, or any bytes, and have other bytes at each read. So many workers, at
 /// least 1 and at most 64, fill a shared store with room for `capacity` chunks, as `run_bare` says, each with a seat of its
 /// own and all copies in their order; with `Grain::Chunk` one more seat then asks for each chunk by itself, as `salvage`
-/// says. The store is let go at the end. The copies' bytes take no memory but for those of the part that a worker asks one for. A copy of which a read answers a fault gives nothing then, and the next one is asked.
+/// says. The blob stays in that store, and is read from there. The copies' bytes take no memory but for those of the part that a
+/// worker asks one for. A copy of which a read answers a fault gives nothing then, and the next one is asked.
 ///
 /// 802 `Capacity` unless `capacity` is 1 to 65,536, asked before all else; 801 where there is no memory for the store,
 /// 806 for a worker's seat, and 911 `Starved` for the crews and the lists of copies. Then the blob is answered only
-/// once its hash is the outline's root: 902 `NotTheRoot` where it isn't, 903 `Memory` where there is no memory for the blob. An
+/// once its hash is the outline's root: 902 `NotTheRoot` where it isn't, 903 `Memory` where there is none for the pieces, of
+/// 256 KiB, in which workers read it. An
 /// unfinished blob is 911 where memory was refused to a worker, else 805 `TooLarge` where one met a length above 1,024 times
 /// the capacity, else 901 `Unfinished`.
 pub fn gather_copies_at<R: Threads + Sync, S: Source + Sync>(
@@ -67,9 +66,9 @@ pub fn gather_copies_at<R: Threads + Sync, S: Source + Sync>(
     workers: u32,
     grain: Grain,
     copies: &[S],
-) -> Result<Vec<u8>, CrewsFault>
-    ensures root { IfOk result (λ blob. hash (outline_mode outline.now) blob.items ≡ outline_root outline.now) }
-    ensures fits { IfOk result (λ blob. length blob.items ≤ 1024 * capacity) }
+) -> Result<Whole, CrewsFault>
+    ensures root { IfOk result (λ blob. hash (outline_mode outline.now) blob ≡ outline_root outline.now) }
+    ensures fits { IfOk result (λ blob. length blob ≤ 1024 * capacity) }
     ensures capacity { (result ≡ Err (Gather Capacity)) ↔ ((capacity ≡ 0) ⊎ (65536 < capacity)) }
 {
     gather_beside::<R, PlainAt<'_, S>, CopiesAt<'_, S>>(

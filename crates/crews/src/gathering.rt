@@ -7,10 +7,9 @@ ghost use Rattle.gather.specs.declared.texts.GatherFault.TheVariants.{Capacity, 
 ghost use Rattle.gather.specs.Large.{AreLonger, IsOfNone, IsTooLarge, fixed_as};
 ghost use Rattle.store_core.specs.Laws.{IsBlob};
 ghost use Rattle.store_shared.specs.Seats.{IsSeatOf};
-ghost use Rattle.crews.specs.Closing.{AreTheBlob, IsHandedOut};
+ghost use Rattle.crews.specs.Closing.{AreTheBlob, IsFoundWhole};
 ghost use Rattle.crews.specs.Lists.{HaveAll, IsLent};
 
-use crate::blob::finish_join;
 use crate::crewing::{MOST_WORKERS, crews_with};
 use crate::fault::CrewsFault;
 use crate::handing::hand_out;
@@ -18,6 +17,7 @@ use crate::joining::all_joined;
 use crate::lists::Lists;
 use crate::runs::{run, run_bare};
 use crate::shared::Shared;
+use crate::whole::{Whole, certify};
 use b3par::Open;
 use b3tree::{Hash, Mode};
 use bao_check::Outline;
@@ -37,28 +37,25 @@ pub(crate) fn gather_by<R: Threads + Sync, H: Holder + Send + Drop, L: Lists<H>>
     workers: u32,
     grain: Grain,
     lists: &L,
-) -> Result<Vec<u8>, CrewsFault>
+) -> Result<Whole, CrewsFault>
     requires quiet { (holder : H) → H.count holder ≡ 0 }
-    ensures root { IfOk result (λ blob. hash mode blob.items ≡ root.0) }
-    ensures fits { IfOk result (λ blob. length blob.items ≤ 1024 * capacity) }
+    ensures root { IfOk result (λ blob. hash mode blob ≡ root.0) }
+    ensures fits { IfOk result (λ blob. length blob ≤ 1024 * capacity) }
     ensures capacity { (result ≡ Err (Gather Capacity)) ↔ ((capacity ≡ 0) ⊎ (65536 < capacity)) }
     ensures too_large { IsErrOf result (Gather TooLarge) → IsTooLarge (IsLent H.gives (L.over lists.now)) (fixed_as root mode capacity) }
     ensures longer { IsErrOf result (Gather TooLarge) → AreLonger (IsLent H.gives (L.over lists.now)) (fixed_as root mode capacity) }
     ensures none { IsErrOf result (Gather NotTheRoot) → IsOfNone (IsLent H.gives (L.over lists.now)) (fixed_as root mode capacity) }
-    ensures found { IfOk result (λ blob. AreTheBlob (IsLent H.gives (L.over lists.now)) (fixed_as root mode capacity) blob.items) }
+    ensures found { IfOk result (λ blob. AreTheBlob (IsLent H.gives (L.over lists.now)) (fixed_as root mode capacity) blob) }
     ensures available { (blob : List ℕ) → IsBlob (fixed_as root mode capacity) blob → chunk_count (length blob) ≤ capacity
         → HaveAll grain H.gives (L.over lists.now) mode blob
-        → IsHandedOut (IsLent H.gives (L.over lists.now)) (fixed_as root mode capacity) blob result }
+        → IsFoundWhole (IsLent H.gives (L.over lists.now)) (fixed_as root mode capacity) blob result }
 {
     let (assembly, seat) = Assembly::new(alloc, root, mode, capacity)?;
     let workers = workers.clamp(1, MOST_WORKERS);
     let (mut crews, seat) = crews_with::<H, L>(alloc, &assembly, seat, workers, lists)?;
     let report = run(rt, alloc, &assembly, crews.as_mut_slice(), &Open);
     let seat = all_joined(&assembly, seat, crews);
-    match hand_out::<R, H, L>(rt, alloc, &assembly, seat, workers, grain, lists, report) {
-        Ok(blob) => Ok(blob),
-        Err(fault) => Err(CrewsFault::Gather(fault)),
-    }
+    hand_out::<R, H, L>(rt, alloc, assembly, seat, workers, grain, lists, report)
 }
 
 // The round by chunks beside the outline, where these are asked for: by a seat of its own, over a list of all holders.
@@ -97,9 +94,9 @@ pub(crate) fn gather_beside<R: Threads + Sync, H: Holder + Send + Drop, L: Lists
     workers: u32,
     grain: Grain,
     lists: &L,
-) -> Result<Vec<u8>, CrewsFault>
-    ensures root { IfOk result (λ blob. hash (outline_mode outline.now) blob.items ≡ outline_root outline.now) }
-    ensures fits { IfOk result (λ blob. length blob.items ≤ 1024 * capacity) }
+) -> Result<Whole, CrewsFault>
+    ensures root { IfOk result (λ blob. hash (outline_mode outline.now) blob ≡ outline_root outline.now) }
+    ensures fits { IfOk result (λ blob. length blob ≤ 1024 * capacity) }
     ensures capacity { (result ≡ Err (Gather Capacity)) ↔ ((capacity ≡ 0) ⊎ (65536 < capacity)) }
 {
     let (assembly, seat) = Assembly::new(alloc, outline.root(), outline.mode(), capacity)?;
@@ -115,8 +112,9 @@ pub(crate) fn gather_beside<R: Threads + Sync, H: Holder + Send + Drop, L: Lists
         lists,
         &mut report,
     )?;
-    match finish_join(rt, alloc, &assembly, &mut seat, workers) {
-        Ok(bytes) => Ok(bytes),
+    let (ended, seat) = certify(rt, alloc, &assembly, seat, workers);
+    match ended {
+        Ok(len) => Ok(Whole::new(assembly, seat, len)),
         Err(FinishFault::Unfinished) => Err(CrewsFault::Gather(cause(&report))),
         Err(FinishFault::NotTheRoot) => Err(CrewsFault::Gather(GatherFault::NotTheRoot)),
         Err(FinishFault::Memory) => Err(CrewsFault::Gather(GatherFault::Memory)),

@@ -12,6 +12,7 @@ pub use runs::{run, run_bare};
 pub use shared::Shared;
 pub use sources::gather_sources;
 pub use texts::{crews_over, gather_texts};
+pub use whole::Whole;
 
 mod blob;
 mod closing;
@@ -25,8 +26,10 @@ mod joining;
 mod lists;
 mod peer;
 mod places;
+mod reading;
 mod rounds;
 mod runs;
 mod shared;
 mod sources;
 mod texts;
+mod whole;

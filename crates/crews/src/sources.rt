@@ -6,13 +6,14 @@ ghost use Rattle.gather.specs.Large.{AreLonger, IsOfNone, IsTooLarge, fixed_as};
 ghost use Rattle.crews.specs.declared.fault.CrewsFault.TheVariants.{Gather};
 ghost use Rattle.gather.specs.declared.texts.GatherFault.TheVariants.{Capacity, NotTheRoot, TooLarge, Unfinished};
 ghost use Rattle.store_core.specs.Laws.{IsBlob};
-ghost use Rattle.crews.specs.Closing.{AreTheBlob, IsHandedOut};
+ghost use Rattle.crews.specs.Closing.{AreTheBlob, IsFoundWhole};
 ghost use Rattle.crews.specs.Lists.{IsCutOfSource, source_gives};
 ghost use Rattle.gather.specs.Available.{HaveSlices};
 
 use crate::fault::CrewsFault;
 use crate::gathering::gather_by;
 use crate::places::{SourceAt, Sources};
+use crate::whole::Whole;
 use b3read::Source;
 use b3tree::{Hash, Mode};
 use gather::{GatherFault, Grain};
@@ -30,20 +31,20 @@ fn gather_within<R: Threads + Sync, S: Source + Sync>(
     workers: u32,
     grain: Grain,
     sources: &[S],
-) -> Result<Vec<u8>, CrewsFault>
-    ensures root { IfOk result (λ blob. hash mode blob.items ≡ root.0) }
-    ensures fits { IfOk result (λ blob. length blob.items ≤ 1024 * capacity) }
+) -> Result<Whole, CrewsFault>
+    ensures root { IfOk result (λ blob. hash mode blob ≡ root.0) }
+    ensures fits { IfOk result (λ blob. length blob ≤ 1024 * capacity) }
     ensures capacity { (result ≡ Err (Gather Capacity)) ↔ ((capacity ≡ 0) ⊎ (65536 < capacity)) }
     ensures too_large { IsErrOf result (Gather TooLarge) → IsTooLarge (IsCutOfSource S.contents S.faultless sources.now) (fixed_as root mode capacity) }
     ensures longer { IsErrOf result (Gather TooLarge) → AreLonger (IsCutOfSource S.contents S.faultless sources.now) (fixed_as root mode capacity) }
     ensures none { IsErrOf result (Gather NotTheRoot) → IsOfNone (IsCutOfSource S.contents S.faultless sources.now) (fixed_as root mode capacity) }
-    ensures found { IfOk result (λ blob. AreTheBlob (IsCutOfSource S.contents S.faultless sources.now) (fixed_as root mode capacity) blob.items) }
+    ensures found { IfOk result (λ blob. AreTheBlob (IsCutOfSource S.contents S.faultless sources.now) (fixed_as root mode capacity) blob) }
     ensures available { (blob : List ℕ) (i : ℕ) (source : S) → IsBlob (fixed_as root mode capacity) blob → chunk_count (length blob) ≤ capacity
         → slice_get sources.now i ≡ Some source → S.contents source ≡ Some (combined_text mode blob) → S.faultless source
-        → IsHandedOut (IsCutOfSource S.contents S.faultless sources.now) (fixed_as root mode capacity) blob result }
+        → IsFoundWhole (IsCutOfSource S.contents S.faultless sources.now) (fixed_as root mode capacity) blob result }
     ensures covered { (blob : List ℕ) → IsBlob (fixed_as root mode capacity) blob → chunk_count (length blob) ≤ capacity
         → HaveSlices grain (source_gives S.contents S.faultless) mode blob sources.now
-        → IsHandedOut (IsCutOfSource S.contents S.faultless sources.now) (fixed_as root mode capacity) blob result }
+        → IsFoundWhole (IsCutOfSource S.contents S.faultless sources.now) (fixed_as root mode capacity) blob result }
 {
     gather_by::<R, SourceAt<'_, S>, Sources<'_, S>>(
         rt,
@@ -58,7 +59,7 @@ fn gather_within<R: Threads + Sync, S: Source + Sync>(
 }
 
 // Whether it may be for want of room that no blob was gathered.
-fn may_lack_room(gathered: &Result<Vec<u8>, CrewsFault>) -> bool
+fn may_lack_room(gathered: &Result<Whole, CrewsFault>) -> bool
     ensures large { IsErrOf gathered.now (Gather TooLarge) → IsTrue result }
     ensures unfinished { IsErrOf gathered.now (Gather Unfinished) → IsTrue result }
 {
@@ -105,19 +106,19 @@ pub fn gather_sources<R: Threads + Sync, S: Source + Sync>(
     workers: u32,
     grain: Grain,
     sources: &[S],
-) -> Result<Vec<u8>, CrewsFault>
-    ensures root { IfOk result (λ blob. hash mode blob.items ≡ root.0) }
-    ensures fits { IfOk result (λ blob. length blob.items ≤ 1024 * capacity) }
+) -> Result<Whole, CrewsFault>
+    ensures root { IfOk result (λ blob. hash mode blob ≡ root.0) }
+    ensures fits { IfOk result (λ blob. length blob ≤ 1024 * capacity) }
     ensures capacity { (result ≡ Err (Gather Capacity)) ↔ ((capacity ≡ 0) ⊎ (65536 < capacity)) }
     ensures too_large { IsErrOf result (Gather TooLarge) → IsTooLarge (IsCutOfSource S.contents S.faultless sources.now) (fixed_as root mode capacity) }
     ensures longer { IsErrOf result (Gather TooLarge) → AreLonger (IsCutOfSource S.contents S.faultless sources.now) (fixed_as root mode capacity) }
     ensures none { IsErrOf result (Gather NotTheRoot) → IsOfNone (IsCutOfSource S.contents S.faultless sources.now) (fixed_as root mode capacity) }
     ensures available { (blob : List ℕ) (i : ℕ) (source : S) → IsBlob (fixed_as root mode capacity) blob → chunk_count (length blob) ≤ capacity
         → slice_get sources.now i ≡ Some source → S.contents source ≡ Some (combined_text mode blob) → S.faultless source
-        → IsHandedOut (IsCutOfSource S.contents S.faultless sources.now) (fixed_as root mode capacity) blob result }
+        → IsFoundWhole (IsCutOfSource S.contents S.faultless sources.now) (fixed_as root mode capacity) blob result }
     ensures covered { (blob : List ℕ) → IsBlob (fixed_as root mode capacity) blob → chunk_count (length blob) ≤ capacity
         → HaveSlices grain (source_gives S.contents S.faultless) mode blob sources.now
-        → IsHandedOut (IsCutOfSource S.contents S.faultless sources.now) (fixed_as root mode capacity) blob result }
+        → IsFoundWhole (IsCutOfSource S.contents S.faultless sources.now) (fixed_as root mode capacity) blob result }
 {
     let first = room.max(1).min(capacity);
     if first == capacity || capacity > MAX_CAPACITY {

@@ -20,6 +20,7 @@ use crate::crewing::crews_with;
 use crate::fault::CrewsFault;
 use crate::gathering::gather_by;
 use crate::lists::Texts;
+use crate::whole::in_memory;
 use b3tree::{Hash, Mode};
 use gather::{Encoded, GatherFault, Grain, room_for};
 use std::alloc::Global;
@@ -79,16 +80,11 @@ fn gather_within<R: Threads + Sync>(
         → HaveSlices grain cut_gives mode blob (map vec_items texts.now)
         → IsHandedOut (IsCutOf (map vec_items texts.now)) (fixed_as root mode capacity) blob result }
 {
-    gather_by::<R, Encoded<'_>, Texts<'_>>(
-        rt,
-        alloc,
-        root,
-        mode,
-        capacity,
-        workers,
-        grain,
-        &Texts(texts),
-    )
+    let texts = Texts(texts);
+    let gathered = gather_by::<R, Encoded<'_>, Texts<'_>>(
+        rt, alloc, root, mode, capacity, workers, grain, &texts,
+    );
+    in_memory(alloc, gathered)
 }
 
 // Whether it was for want of room that no blob was gathered.

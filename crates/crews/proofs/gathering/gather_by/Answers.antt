@@ -1,8 +1,9 @@
-use Rattle.std.proofs.Common.{◌≡◌, ◌⊎◌, ℕ, ◌≤◌, Err, List, length, sym, ap, arith, subst}
+use Rattle.std.proofs.Common.{◌≡◌, ℕ, ◌≤◌, IfOk, List, length, sym, ap, arith, subst}
 use Rattle.std.proofs.lemmas.List.{with_items_is}
 use Rattle.std.specs.List.{All}
 use Rattle.bao_text.specs.Choice.{chunk_count}
 use Rattle.crews.specs.declared.crew.Crew.{Crew}
+use Rattle.crews.specs.Closing.{AreTheBlob, IsFoundWhole}
 use Rattle.crews.specs.Crews.{IsHandedTo}
 use Rattle.crews.specs.Joined.{AreCallsOf, AreClaimsOf, HasAllNamesOf, HaveAllNames}
 use Rattle.crews.specs.Lists.{HaveAll, IsLent}
@@ -11,9 +12,7 @@ use Rattle.crews.proofs.OfNone.{handed_wide, lent_all}
 use Rattle.crews.proofs.Summing.{all_each}
 use Rattle.crews.proofs.Whence.{left_to_one, no_faults, opening_all}
 use Rattle.crews.proofs.gathering.gather_by.Goals as goal
-use Rattle.gather.specs.declared.texts.GatherFault.TheVariants as GatherFault
-use Rattle.gather.specs.HandedOut.{IsExcused}
-use Rattle.gather.specs.Large.{AreLonger, HasPair, IsOfNone, IsTooLarge}
+use Rattle.gather.specs.Large.{AreLonger, IsOfNone, IsTooLarge}
 use Rattle.gather.proofs.Reporting.{large_wider}
 use Rattle.store_core.specs.declared.fixed.Fixed.{Fixed}
 use Rattle.store_core.specs.declared.history.Piece.{Piece}
@@ -66,29 +65,23 @@ hand_out-requires-clause-large g c = λ _ _ large.
 
 pub returns-clause-too_large : goal.returns-clause-too_large
 returns-clause-too_large g c = λ e.
-    let same : c.in-Err.fault ≡ GatherFault.TooLarge = cc in
-    subst (λ (fixed : Fixed). IsTooLarge (IsLent g.H.Holder.gives (g.L.Lists.over c.args.lists.now)) fixed) c.in_ok-assembly.ensures.fixed (c.in-Err.ensures.too_large (ap (λ fault. Err fault) same))
+    subst (λ (fixed : Fixed). IsTooLarge (IsLent g.H.Holder.gives (g.L.Lists.over c.args.lists.now)) fixed) c.in_ok-assembly.ensures.fixed (c.hand_out.ensures.too_large e)
 
 pub returns-clause-longer : goal.returns-clause-longer
 returns-clause-longer g c = λ e.
-    let same : c.in-Err.fault ≡ GatherFault.TooLarge = cc in
-    subst (λ (fixed : Fixed). AreLonger (IsLent g.H.Holder.gives (g.L.Lists.over c.args.lists.now)) fixed) c.in_ok-assembly.ensures.fixed (c.in-Err.ensures.longer (ap (λ fault. Err fault) same))
+    subst (λ (fixed : Fixed). AreLonger (IsLent g.H.Holder.gives (g.L.Lists.over c.args.lists.now)) fixed) c.in_ok-assembly.ensures.fixed (c.hand_out.ensures.longer e)
 
 pub returns-clause-none : goal.returns-clause-none
 returns-clause-none g c = λ e.
-    let same : c.in-Err.fault ≡ GatherFault.NotTheRoot = cc in
-    subst (λ (fixed : Fixed). IsOfNone (IsLent g.H.Holder.gives (g.L.Lists.over c.args.lists.now)) fixed) c.in_ok-assembly.ensures.fixed (c.in-Err.ensures.none (ap (λ fault. Err fault) same))
+    subst (λ (fixed : Fixed). IsOfNone (IsLent g.H.Holder.gives (g.L.Lists.over c.args.lists.now)) fixed) c.in_ok-assembly.ensures.fixed (c.hand_out.ensures.none e)
+
+pub returns-clause-found : goal.returns-clause-found
+returns-clause-found g c =
+    let handed : Piece → Type 0 = IsLent g.H.Holder.gives (g.L.Lists.over c.args.lists.now) in
+    subst (λ (f : Fixed). IfOk c.hand_out.result (λ bytes. AreTheBlob handed f bytes)) c.in_ok-assembly.ensures.fixed c.hand_out.ensures.found
 
 pub returns-clause-available : goal.returns-clause-available
 returns-clause-available g c =
     let handed : Piece → Type 0 = IsLent g.H.Holder.gives (g.L.Lists.over c.args.lists.now) in
     subst (λ (f : Fixed). (blob : List ℕ) → IsBlob f blob → chunk_count (length blob) ≤ f.capacity → HaveAll c.args.grain g.H.Holder.gives (g.L.Lists.over c.args.lists.now) f.mode blob
-    → IsExcused c.in-Err.fault ⊎ HasPair handed f blob) c.in_ok-assembly.ensures.fixed c.in-Err.ensures.available
-
-pub returns-in-Ok-clause-found : goal.returns-in-Ok-clause-found
-returns-in-Ok-clause-found g c =
-    let handed : Piece → Type 0 = IsLent g.H.Holder.gives (g.L.Lists.over c.args.lists.now) in
-    subst (λ (f : Fixed). (blob : List ℕ) → IsBlob f blob → (c.in-Ok.blob.items ≡ blob) ⊎ HasPair handed f blob) c.in_ok-assembly.ensures.fixed c.in-Ok.ensures.found
-
-pub returns-in-Ok-clause-available : goal.returns-in-Ok-clause-available
-returns-in-Ok-clause-available g c = λ blob is room there. returns-in-Ok-clause-found g c blob is
+    → IsFoundWhole handed f blob c.hand_out.result) c.in_ok-assembly.ensures.fixed c.hand_out.ensures.available

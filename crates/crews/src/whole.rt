@@ -1,0 +1,173 @@
+ghost use Rattle.std.specs.Prelude.{◌≡◌, ◌≢◌, ◌↔◌, ◌⊎◌, ◌-◌, ◌<◌, ◌++◌, [], Err, IfErr, IfOk, IsErrOf, Ok, IsTrue, drop, length, min, take};
+ghost use Rattle.b3tree.specs.Hashing.{hash};
+ghost use Rattle.gather.specs.declared.fault.FinishFault.TheVariants.{NotTheRoot, Unfinished};
+ghost use Rattle.store_core.specs.Histories.{state_after};
+ghost use Rattle.store_core.specs.States.{read_bytes};
+ghost use Rattle.store_shared.specs.Seats.{IsSeatOf, fixed_of};
+ghost use Rattle.crews.specs.declared.fault.CrewsFault.TheVariants.{Gather};
+ghost use Rattle.gather.specs.declared.texts.GatherFault.TheVariants.{Memory};
+ghost use Rattle.crews.specs.Finished.{BindsNone};
+ghost use Rattle.crews.specs.Wholes.{IsFull, IsTopRead, ReadOn, WasUnfinished};
+
+use crate::fault::CrewsFault;
+use crate::reading::{read_part, top_by_seats};
+use b3read::LEAST_RANGE_LEN;
+use b3tree::{Input, root_hash, rooted};
+use gather::{FinishFault, GatherFault};
+use std::alloc::{AllocError, Global};
+use std::marker::Model;
+use std::thread::Threads;
+use store_shared::{Assembly, Seat};
+
+// The length of the blob of a shared store all of whose bytes are held, once the hash that this top of their tree gives is the root.
+fn judged(assembly: &Assembly, seat: &Seat, len: u64, top: &Input) -> Result<u64, FinishFault>
+    requires of { IsSeatOf assembly.now seat.now }
+    requires full { IsFull (state_after seat.now.view.seen) len }
+    requires top { IsTopRead (state_after seat.now.view.seen) (fixed_of assembly.now).mode 0 len top.now }
+    ensures len { IfOk result (λ l. l ≡ len) }
+    ensures root { IfOk result (λ l. hash (fixed_of assembly.now).mode (read_bytes (state_after seat.now.view.seen) 0 l) ≡ (fixed_of assembly.now).root.0) }
+    ensures none { IsErrOf result NotTheRoot → BindsNone (fixed_of assembly.now) seat.now.view.seen }
+    ensures never { result ≢ Err Unfinished }
+{
+    assembly.mode().is_keyed();
+    let hashed = root_hash(&rooted(top));
+    if hashed != assembly.root() {
+        return Err(FinishFault::NotTheRoot);
+    }
+    Ok(len)
+}
+
+// How long the blob of a shared store is, once all of its bytes were read and their hash in the mode is the root: so many
+// workers read and hash a part each, by seats of their own, in pieces that take 256 KiB.
+pub(crate) fn certify<R: Threads + Sync>(
+    rt: &R,
+    alloc: Global,
+    assembly: &Assembly,
+    seat: Seat,
+    workers: u32,
+) -> (Result<u64, FinishFault>, Seat)
+    requires workers { 0 < workers }
+    requires of { IsSeatOf assembly.now seat }
+    ensures of { IsSeatOf assembly.now result.1 }
+    ensures on { ReadOn seat.view result.1.view }
+    ensures full { IfOk result.0 (λ len. IsFull (state_after result.1.view.seen) len) }
+    ensures root { IfOk result.0 (λ len. hash (fixed_of assembly.now).mode (read_bytes (state_after result.1.view.seen) 0 len) ≡ (fixed_of assembly.now).root.0) }
+    ensures unfinished { IsErrOf result.0 Unfinished → WasUnfinished seat.view result.1.view }
+    ensures none { IsErrOf result.0 NotTheRoot → BindsNone (fixed_of assembly.now) result.1.view.seen }
+{
+    let mode = assembly.mode();
+    let mut seat = seat;
+    let len = match assembly.length(&mut seat) {
+        Some(len) => len,
+        None => return (Err(FinishFault::Unfinished), seat),
+    };
+    let most = len.div_ceil(u64::from(workers)).max(LEAST_RANGE_LEN);
+    let (top, seat) = top_by_seats(rt, alloc, &mode, assembly, seat, 0, len, most);
+    match top {
+        Ok(top) => {
+            let judged = judged(assembly, &seat, len, &top);
+            (judged, seat)
+        }
+        Err(fault) => (Err(fault), seat),
+    }
+}
+
+/// A blob that came together, in the shared store that it was gathered in: its bytes are read from there, so that they take no
+/// memory of their own. The store is nobody else's.
+#[derive(Drop)]
+pub struct Whole {
+    assembly: Assembly,
+    seat: Seat,
+    len: u64,
+}
+
+impl Model for Whole {
+    ghost use Rattle.std.specs.Prelude.{ℕ, List};
+    ghost use Rattle.store_core.specs.Histories.{state_after};
+    ghost use Rattle.store_core.specs.States.{read_bytes};
+    ghost use Rattle.store_shared.specs.Seats.{IsSeatOf};
+    ghost use Rattle.crews.specs.Wholes.{IsFull};
+
+    ghost Value = { List ℕ };
+
+    ghost view = { λ w. read_bytes (state_after w.seat.view.seen) 0 w.len };
+
+    ghost invariant = { λ w. IsSeatOf w.assembly w.seat × IsFull (state_after w.seat.view.seen) w.len };
+}
+
+impl Whole {
+    // The blob of this store, all of whose bytes are held.
+    pub(crate) fn new(assembly: Assembly, seat: Seat, len: u64) -> Whole
+        requires of { IsSeatOf assembly seat }
+        requires full { IsFull (state_after seat.view.seen) len }
+        ensures { result ≡ read_bytes (state_after seat.view.seen) 0 len }
+    {
+        Whole {
+            assembly,
+            seat,
+            len,
+        }
+    }
+
+    /// How many bytes the blob has.
+    pub fn len(&self) -> u64
+        ensures { result ≡ length self.now }
+    {
+        self.len
+    }
+
+    /// Whether the blob has no byte.
+    pub fn is_empty(&self) -> bool
+        ensures { IsTrue result ↔ (self.now ≡ []) }
+    {
+        self.len == 0
+    }
+
+    /// Reads bytes of the blob from the position `at` on to the front of `out`, and answers how many: as many as there is room
+    /// for, where the blob has so many there. The rest of `out` is unchanged. It takes no memory.
+    pub fn read(&mut self, at: u64, out: &mut [u8]) -> usize
+        ensures same { self.new ≡ self.old }
+        ensures count { result ≡ min (length out.old) (length self.old - at) }
+        ensures bytes { out.new ≡ take result (drop at self.old) ++ drop result out.old }
+    {
+        let left = self.len.saturating_sub(at);
+        let count = left.min(out.len() as u64) as usize;
+        match read_part(&self.assembly, &mut self.seat, at, &mut out[..count]) {
+            Ok(()) => count,
+            Err(_) => unreachable!(),
+        }
+    }
+
+    /// All bytes of the blob, in memory of their own.
+    ///
+    /// Refused where there is none.
+    pub fn to_vec(&mut self, alloc: Global) -> Result<Vec<u8>, AllocError>
+        ensures same { self.new ≡ self.old }
+        ensures bytes { IfOk result (λ blob. blob.items ≡ self.old) }
+    {
+        let mut blob = vec![in alloc; 0u8; self.len as usize]?;
+        self.read(0, blob.as_mut_slice());
+        Ok(blob)
+    }
+}
+
+// A blob that came together, in memory of its own.
+pub(crate) fn in_memory(
+    alloc: Global,
+    gathered: Result<Whole, CrewsFault>,
+) -> Result<Vec<u8>, CrewsFault>
+    ensures blob { IfOk result (λ blob. gathered ≡ Ok blob.items) }
+    ensures fault { IfErr result (λ fault. (gathered ≡ Err fault) ⊎ (fault ≡ Gather Memory)) }
+    ensures kept { IfErr gathered (λ fault. result ≡ Err fault) }
+{
+    match gathered {
+        Ok(whole) => {
+            let mut whole = whole;
+            match whole.to_vec(alloc) {
+                Ok(blob) => Ok(blob),
+                Err(_) => Err(CrewsFault::Gather(GatherFault::Memory)),
+            }
+        }
+        Err(fault) => Err(fault),
+    }
+}
