@@ -26,14 +26,15 @@ pub made_no_more : {H : Type 0} (form : Form) (gives : H → ℕ → ℕ → Lis
 made_no_more Slices gives old new no_more = no_more
 made_no_more (Bare outline) gives old new no_more = λ start len text is. record { bytes = is.bytes; given = no_more start _ is.bytes is.given; is = is.is }
 
--- a checked piece is made of what its holder gave
-pub made_given : {H : Type 0} (form : Form) (gives : H → ℕ → ℕ → List ℕ → Type 0) (holder : H) (part : Part) (text : List ℕ) (piece : Piece) → gives holder part.start part.len text
+-- a checked piece is made of what its holder gave, which was read as a text
+pub made_given : {H : Type 0} (form : Form) (gives : H → ℕ → ℕ → List ℕ → Type 0) (holder : H) (part : Part) (text bytes : List ℕ) (piece : Piece) → text ≡ bytes → gives holder part.start part.len bytes
     → IsMade form part text piece → IsGiven (made_of form gives) holder piece
-made_given Slices gives holder part text piece given made = subst (λ (p : Piece). IsGiven gives holder p) (sym made) given
-made_given (Bare outline) gives holder part text piece given made = record {
+made_given Slices gives holder part text bytes piece same given made =
+    subst (λ (p : Piece). IsGiven gives holder p) (sym made) (subst (λ (xs : List ℕ). gives holder part.start part.len xs) (sym same) given)
+made_given (Bare outline) gives holder part text bytes piece same given made = record {
   bytes = text;
   given = subst (λ (n : ℕ). gives holder n (bare_len (outline_claimed outline.now) piece.start piece.len) text) (sym made.0)
-      (subst (λ (n : ℕ). gives holder part.start n text) made.1 given);
+      (subst (λ (n : ℕ). gives holder part.start n text) made.1 (subst (λ (xs : List ℕ). gives holder part.start part.len xs) (sym same) given));
   is = made.2;
 }
 

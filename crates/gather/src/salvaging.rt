@@ -47,7 +47,8 @@ pub fn salvage<S: Shelf, H: Holder>(
         → HasFailed report.new ⊎ IsTooLarge (IsHanded (made_of form.now H.gives) holders.old) (S.fixed_of seat.old) ⊎ IsFilled S.records S.holds S.busy seat.old seat.new blob }
 {
     report.fits();
-    let Some(length) = agree(alloc, form, shelf, seat, holders, report) else {
+    let mut room = Vec::new(alloc);
+    let Some(length) = agree(alloc, form, shelf, seat, holders, &mut room, report) else {
         return;
     };
     if !form.is_of(length) {
@@ -59,7 +60,7 @@ pub fn salvage<S: Shelf, H: Holder>(
         let group = (chunk / GROUP_LEN) as u32;
         let want = with_bit(0, (chunk % GROUP_LEN) as u32);
         work_part(
-            alloc, form, shelf, seat, holders, &part, group, want, report,
+            alloc, form, shelf, seat, holders, &part, group, want, &mut room, report,
         );
     }
 }

@@ -28,23 +28,23 @@ pub struct Place {
     pub workers: u32,
 }
 
-// One fetch of a text, with its counts.
-fn fetched<H: Holder>(
-    alloc: Global,
+// One fetch of a text, with its counts, into the room that a worker has for one: the last text goes.
+fn fetched<'a, H: Holder>(
     holder: &mut H,
     part: &Part,
+    room: &'a mut Vec<u8>,
     report: &mut Report,
-) -> Option<Vec<u8>>
+) -> Option<&'a Vec<u8>>
     ensures fetch { IsFetch (H.count holder.old) (H.count holder.new) result report.old report.new }
-    ensures gives { IfSome result (λ text. H.gives holder.old part.now.start part.now.len text.items) }
+    ensures gives { IfSome result (λ text. H.gives holder.old part.now.start part.now.len text.now.items) }
     ensures no_more { GivesNoMore H.gives holder.old holder.new }
     ensures fits { Fits report.old }
 {
     report.fits();
     report.asked = report.asked.saturating_add(1);
-    let mut text = Vec::new(alloc);
-    match holder.fetch(part.start, part.len, &mut text) {
-        Ok(()) => Some(text),
+    room.clear();
+    match holder.fetch(part.start, part.len, room) {
+        Ok(()) => Some(room),
         Err(HolderFault::Device) => {
             report.failed = report.failed.saturating_add(1);
             None
@@ -64,6 +64,7 @@ fn ask_end<S: Shelf, H: Holder>(
     shelf: &S,
     seat: &mut S::Seat,
     holder: &mut H,
+    room: &mut Vec<u8>,
     report: &mut Report,
 ) -> bool
     requires { S.has shelf.now seat.old }
@@ -76,7 +77,7 @@ fn ask_end<S: Shelf, H: Holder>(
     ensures large { IsTrue result → IsTooLarge (IsGiven (made_of form.now H.gives) holder.old) (S.fixed_of seat.old) }
 {
     let part = form.end();
-    let Some(text) = fetched(alloc, holder, &part, report) else {
+    let Some(text) = fetched(holder, &part, room, report) else {
         return false;
     };
     let fixed = shelf.fixed(seat);
@@ -111,6 +112,7 @@ pub(crate) fn agree<S: Shelf, H: Holder>(
     shelf: &S,
     seat: &mut S::Seat,
     holders: &mut [H],
+    room: &mut Vec<u8>,
     report: &mut Report,
 ) -> Option<u64>
     requires { S.has shelf.now seat.old }
@@ -129,7 +131,7 @@ pub(crate) fn agree<S: Shelf, H: Holder>(
         if length.is_some() || too_large {
             break;
         }
-        too_large = ask_end(alloc, form, shelf, seat, holder, report);
+        too_large = ask_end(alloc, form, shelf, seat, holder, room, report);
         length = shelf.length(seat);
     }
     length
@@ -146,6 +148,7 @@ fn ask<S: Shelf, H: Holder>(
     part: &Part,
     group: u32,
     left: u64,
+    room: &mut Vec<u8>,
     report: &mut Report,
 ) -> u64
     requires has { S.has shelf.now seat.old }
@@ -161,7 +164,7 @@ fn ask<S: Shelf, H: Holder>(
         → ((c : ℕ) → in_mask group left c ≡ true → (S.claims seat.old c ≡ true) × (holds_chunk (slice_of (S.fixed_of seat.old).mode blob part.now.start part.now.len) c ≡ true))
         → HasFailed report.new ⊎ ((c : ℕ) → in_mask group result c ≡ false) }
 {
-    let Some(text) = fetched(alloc, holder, part, report) else {
+    let Some(text) = fetched(holder, part, room, report) else {
         return left;
     };
     let fixed = shelf.fixed(seat);
@@ -199,6 +202,7 @@ pub(crate) fn work_part<S: Shelf, H: Holder>(
     part: &Part,
     group: u32,
     want: u64,
+    room: &mut Vec<u8>,
     report: &mut Report,
 )
     requires has { S.has shelf.now seat.old }
@@ -226,7 +230,9 @@ pub(crate) fn work_part<S: Shelf, H: Holder>(
         if left == 0 {
             break;
         }
-        left = ask(alloc, form, shelf, seat, holder, part, group, left, report);
+        left = ask(
+            alloc, form, shelf, seat, holder, part, group, left, room, report,
+        );
     }
     if left == 0 {
         return;
@@ -292,7 +298,8 @@ pub fn work_as<S: Shelf, H: Holder>(
         → HasFailed report.new ⊎ IsTooLarge (IsHanded (made_of form.now H.gives) holders.old) (S.fixed_of seat.old) ⊎ IsFilled S.records S.holds S.busy seat.old seat.new blob }
 {
     report.fits();
-    let Some(length) = agree(alloc, form, shelf, seat, holders, report) else {
+    let mut room = Vec::new(alloc);
+    let Some(length) = agree(alloc, form, shelf, seat, holders, &mut room, report) else {
         return;
     };
     if !form.is_of(length) {
@@ -313,6 +320,7 @@ pub fn work_as<S: Shelf, H: Holder>(
             &part,
             group,
             mask_below(group, chunks),
+            &mut room,
             report,
         );
     }

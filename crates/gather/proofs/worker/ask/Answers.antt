@@ -1,4 +1,4 @@
-use Rattle.std.proofs.Common.{◌∙◌, refl, ℕ, List, sym, subst, arith}
+use Rattle.std.proofs.Common.{refl, sym, subst, arith}
 use Rattle.gather.specs.declared.report.Report.{Report}
 use Rattle.gather.specs.Counts.{Fits, Reports}
 use Rattle.gather.specs.Holders.{IsGiven}
@@ -9,11 +9,10 @@ use Rattle.std.proofs.Common.{◌≡◌, ◌/◌, ◌%◌, ◌==◌, false, true
 use Rattle.std.proofs.lemmas.Bool.{and_parts, both_ways, cases_Bool}
 use Rattle.gather.specs.Available.{slice_of}
 use Rattle.gather.proofs.Bits.{in_without}
-use Rattle.gather.proofs.Serving.{memory_failed, fetch_failed, rest_parts}
+use Rattle.gather.proofs.Serving.{fetch_failed, rest_parts}
 use Rattle.store_core.specs.declared.history.Piece.{Piece}
 use Rattle.store_core.specs.Masks.{has_bit, in_mask}
 use Rattle.store_core.specs.Pieces.{holds_chunk}
-use Rattle.gather.proofs.worker.ask.Goals.{else-eq, then-eq}
 use Rattle.gather.specs.Forms.{made_of}
 use Rattle.gather.proofs.Forming.{made_given, made_no_more, slice_given, slice_made, slice_of_store, slice_refused}
 use Rattle.gather.proofs.worker.ask.Goals as goal
@@ -23,8 +22,8 @@ returns-in-Ok-commit-clause-claims g c = λ before among.
     among_and_onward before _ _ c.args.group _ (among_committed before _ _ c.args.group c.args.left c.in-Ok-commit.committed _ c.without.ensures among c.in-Ok-commit.ensures.claims)
     c.store_parents.ensures.claims
 
-pub returns-clause-reports : goal.returns-clause-reports
-returns-clause-reports g c =
+pub returns-in-Err-clause-reports : goal.returns-in-Err-clause-reports
+returns-in-Err-clause-reports g c =
     refused_done g.S.Shelf.fixed_of g.S.Shelf.gained g.S.Shelf.goes _ _ _ _ _ _ _ _ c.in-Err.fault (λ piece is. made_no_more c.args.form.now g.H.Holder.gives _ _ c.in-Some.ensures.no_more _ _ _ is) c.in-Some.ensures.fits c.in-Some.ensures.fetch c.count_refused.ensures
 
 pub returns-in_default-clause-reports : goal.returns-in_default-clause-reports
@@ -34,8 +33,7 @@ returns-in_default-clause-reports g c =
 pub returns-in-Ok-commit-clause-reports : goal.returns-in-Ok-commit-clause-reports
 returns-in-Ok-commit-clause-reports g c =
     let A = IsGiven (made_of c.args.form.now g.H.Holder.gives) c.args.holder.now in
-    let given : A (piece_of c.in-Ok.piece) = made_given c.args.form.now g.H.Holder.gives c.args.holder.now c.args.part.now c.as_slice.result.now (piece_of c.in-Ok.piece)
-    (subst (λ (xs : List ℕ). g.H.Holder.gives c.args.holder.now c.args.part.now.start c.args.part.now.len xs) (sym c.as_slice.ensures.value) c.in-Some.ensures.gives) c.in-Ok.ensures.made in
+    let given : A (piece_of c.in-Ok.piece) = made_given c.args.form.now g.H.Holder.gives c.args.holder.now c.args.part.now c.as_slice.result.now _ (piece_of c.in-Ok.piece) c.as_slice.ensures.value c.in-Some.ensures.gives c.in-Ok.ensures.made in
     let y = c.fetched.new.report in
     let asked = fetch_some g.S.Shelf.fixed_of g.S.Shelf.gained g.S.Shelf.goes _ _ A A _ _ _ y (none_gained g.S.Shelf.fixed_of g.S.Shelf.gained g.S.Shelf.goes A c.args.seat.now) (λ piece is. is) c.in-Some.ensures.fits c.in-Some.ensures.fetch in
     let fits : Fits y = subst (λ (x : Report). Fits x) (sym c.in-Some.ensures.fetch.1) c.in-Some.ensures.fits in
@@ -81,45 +79,45 @@ returns-in-Ok-commit-clause-served g c = λ are blob served slices asked.
           absurd (both_ways _ parts.1 (c.in-Ok-commit.ensures.all n here known.0 has))
     ])
 
-pub returns-clause-served : goal.returns-clause-served
-returns-clause-served g c = λ are blob served slices asked.
+pub returns-in-Err-clause-served : goal.returns-in-Err-clause-served
+returns-in-Err-clause-served g c = λ are blob served slices asked.
     let F = g.S.Shelf.fixed_of c.args.seat.now in
     let text = slice_given c.args.form.now g.H.Holder.gives F.mode blob c.args.holder.now c.args.part.now c.as_slice.result.now _ are slices c.as_slice.ensures.value c.in-Some.ensures.gives in
     absurd (slice_refused c.args.form.now F c.fixed-fixed.result c.args.part.now _ blob _ are served c.fixed-fixed.ensures text c.in-Err.ensures.slice)
 
-pub returns-in-Ok-clause-reports : goal.returns-in-Ok-clause-reports
-returns-in-Ok-clause-reports g c =
+pub returns-then-eq-clause-reports : goal.returns-then-eq-clause-reports
+returns-then-eq-clause-reports g c =
     let A = IsGiven (made_of c.args.form.now g.H.Holder.gives) c.args.holder.now in
-    let given : A (piece_of c.in-Ok.piece) = made_given c.args.form.now g.H.Holder.gives c.args.holder.now c.args.part.now c.as_slice.result.now (piece_of c.in-Ok.piece)
-    (subst (λ (xs : List ℕ). g.H.Holder.gives c.args.holder.now c.args.part.now.start c.args.part.now.len xs) (sym c.as_slice.ensures.value) c.in-Some.ensures.gives) c.in-Ok.ensures.made in
+    let given : A (piece_of c.in-Ok.piece) = made_given c.args.form.now g.H.Holder.gives c.args.holder.now c.args.part.now c.as_slice.result.now _ (piece_of c.in-Ok.piece) c.as_slice.ensures.value c.in-Some.ensures.gives c.in-Ok.ensures.made in
     let asked = fetch_some g.S.Shelf.fixed_of g.S.Shelf.gained g.S.Shelf.goes _ _ _ _ _ _ _ _ (it_gained g.S.Shelf.fixed_of g.S.Shelf.gained g.S.Shelf.goes A _ _ _ 0 0 given c.in-Err-commit.ensures.gained) (λ piece is. made_no_more c.args.form.now g.H.Holder.gives _ _ c.in-Some.ensures.no_more _ _ _ is)
     c.in-Some.ensures.fits c.in-Some.ensures.fetch in
-    let Then : Report → Type 0 = λ y. Reports g.S.Shelf.fixed_of g.S.Shelf.gained c.args.seat.now c.commit.new.seat A (IsGiven (made_of c.args.form.now g.H.Holder.gives) c.fetched.new.holder)
-    (g.H.Holder.count c.args.holder.now) (g.H.Holder.count c.fetched.new.holder) c.args.report.now y in
-    elim c.if-eq.branch [
-      | then-eq w ↦ subst Then (sym (w.report-is ∙ w.count_memory.ensures)) (starved g.S.Shelf.fixed_of g.S.Shelf.gained g.S.Shelf.goes _ _ _ _ _ _ _ _ c.in-Some.ensures.fits asked)
-      | else-eq w ↦ subst Then (sym w.report-is) asked
-    ]
+    subst (λ (y : Report). Reports g.S.Shelf.fixed_of g.S.Shelf.gained c.args.seat.now c.commit.new.seat A (IsGiven (made_of c.args.form.now g.H.Holder.gives) c.fetched.new.holder)
+    (g.H.Holder.count c.args.holder.now) (g.H.Holder.count c.fetched.new.holder) c.args.report.now y) (sym c.count_memory.ensures) (starved g.S.Shelf.fixed_of g.S.Shelf.gained g.S.Shelf.goes _ _ _ _ _ _ _ _ c.in-Some.ensures.fits asked)
 
-pub returns-in-Ok-clause-served : goal.returns-in-Ok-clause-served
-returns-in-Ok-clause-served g c = λ are blob served slices asked.
-    let F = g.S.Shelf.fixed_of c.args.seat.now in
-    elim c.if-eq.branch [
-      | then-eq w ↦ inl (memory_failed _ _ (w.report-is ∙ w.count_memory.ensures))
-      | else-eq w ↦ elim c.in-Err-commit.ensures.refused [
-        | inl memory ↦ let no : false ≡ true = rw memory at w.if-eq.ensures in cc
-        | inr other ↦ absurd (other (slice_of_store c.args.form.now F c.fixed-fixed.result c.args.part.now _ c.in-Ok.piece are c.fixed-fixed.ensures c.in-Ok.ensures.slice))
-      ]
-    ]
+pub returns-else-eq-clause-reports : goal.returns-else-eq-clause-reports
+returns-else-eq-clause-reports g c =
+    let A = IsGiven (made_of c.args.form.now g.H.Holder.gives) c.args.holder.now in
+    let given : A (piece_of c.in-Ok.piece) = made_given c.args.form.now g.H.Holder.gives c.args.holder.now c.args.part.now c.as_slice.result.now _ (piece_of c.in-Ok.piece) c.as_slice.ensures.value c.in-Some.ensures.gives c.in-Ok.ensures.made in
+    fetch_some g.S.Shelf.fixed_of g.S.Shelf.gained g.S.Shelf.goes _ _ _ _ _ _ _ _ (it_gained g.S.Shelf.fixed_of g.S.Shelf.gained g.S.Shelf.goes A _ _ _ 0 0 given c.in-Err-commit.ensures.gained) (λ piece is. made_no_more c.args.form.now g.H.Holder.gives _ _ c.in-Some.ensures.no_more _ _ _ is)
+    c.in-Some.ensures.fits c.in-Some.ensures.fetch
 
-pub returns-in-Ok-clause-no_more : goal.returns-in-Ok-clause-no_more
-returns-in-Ok-clause-no_more g c = made_no_more c.args.form.now g.H.Holder.gives _ _ c.in-Some.ensures.no_more
+pub returns-else-eq-clause-served : goal.returns-else-eq-clause-served
+returns-else-eq-clause-served g c = λ are blob served slices asked. elim c.in-Err-commit.ensures.refused [
+  | inl memory ↦ let no : false ≡ true = rw memory at c.if-eq.ensures in cc
+  | inr other ↦ absurd (other (slice_of_store c.args.form.now (g.S.Shelf.fixed_of c.args.seat.now) c.fixed-fixed.result c.args.part.now _ c.in-Ok.piece are c.fixed-fixed.ensures c.in-Ok.ensures.slice))
+]
+
+pub returns-then-eq-clause-no_more : goal.returns-then-eq-clause-no_more
+returns-then-eq-clause-no_more g c = made_no_more c.args.form.now g.H.Holder.gives _ _ c.in-Some.ensures.no_more
+
+pub returns-else-eq-clause-no_more : goal.returns-else-eq-clause-no_more
+returns-else-eq-clause-no_more g c = made_no_more c.args.form.now g.H.Holder.gives _ _ c.in-Some.ensures.no_more
 
 pub returns-in-Ok-commit-clause-no_more : goal.returns-in-Ok-commit-clause-no_more
 returns-in-Ok-commit-clause-no_more g c = made_no_more c.args.form.now g.H.Holder.gives _ _ c.in-Some.ensures.no_more
 
-pub returns-clause-no_more : goal.returns-clause-no_more
-returns-clause-no_more g c = made_no_more c.args.form.now g.H.Holder.gives _ _ c.in-Some.ensures.no_more
+pub returns-in-Err-clause-no_more : goal.returns-in-Err-clause-no_more
+returns-in-Err-clause-no_more g c = made_no_more c.args.form.now g.H.Holder.gives _ _ c.in-Some.ensures.no_more
 
 pub returns-in_default-clause-no_more : goal.returns-in_default-clause-no_more
 returns-in_default-clause-no_more g c = made_no_more c.args.form.now g.H.Holder.gives _ _ c.in_default.ensures.no_more

@@ -1,4 +1,4 @@
-use Rattle.std.proofs.Common.{◌∙◌, ◌≡◌, ◌-◌, ◌^◌, false, true, ap, inl, inr, ℕ, List, refl, sym, subst}
+use Rattle.std.proofs.Common.{◌∙◌, ◌≡◌, ◌-◌, ◌^◌, false, true, ap, inl, inr, refl, sym, subst}
 use Rattle.bao_check.specs.declared.checked.Checked.{Checked}
 use Rattle.gather.specs.Holders.{IsGiven}
 use Rattle.gather.proofs.Gaining.{among_onward}
@@ -17,25 +17,23 @@ returns-in_default-tail-clause-reports g c =
 
 pub returns-in-TooLarge-clause-reports : goal.returns-in-TooLarge-clause-reports
 returns-in-TooLarge-clause-reports g c =
-    let given : IsGiven (made_of c.args.form.now g.H.Holder.gives) c.args.holder.now (piece_of c.in-Ok.piece) = made_given c.args.form.now g.H.Holder.gives c.args.holder.now c.end-part.result c.as_slice.result.now (piece_of c.in-Ok.piece)
-    (subst (λ (xs : List ℕ). g.H.Holder.gives c.args.holder.now c.end-part.result.start c.end-part.result.len xs) (sym c.as_slice.ensures.value) c.in-Some.ensures.gives) c.in-Ok.ensures.made in
+    let given : IsGiven (made_of c.args.form.now g.H.Holder.gives) c.args.holder.now (piece_of c.in-Ok.piece) = made_given c.args.form.now g.H.Holder.gives c.args.holder.now c.end-part.result c.as_slice.result.now _ (piece_of c.in-Ok.piece) c.as_slice.ensures.value c.in-Some.ensures.gives c.in-Ok.ensures.made in
     let of_tail = subst (λ (it : Checked). IsGiven (made_of c.args.form.now g.H.Holder.gives) c.args.holder.now (piece_of it)) (sym c.in-Some-tail.ensures.piece) given in
     fetch_large g.S.Shelf.fixed_of g.S.Shelf.gained g.S.Shelf.goes _ _ _ _ _ _ _ _ _ c.in-TooLarge.ensures.still.0 (λ piece is. made_no_more c.args.form.now g.H.Holder.gives _ _ c.in-Some.ensures.no_more _ _ _ is) c.in-Some.ensures.fits c.in-Some.ensures.fetch of_tail
     (c.in-TooLarge.ensures.large refl)
 
-pub returns-clause-reports : goal.returns-clause-reports
-returns-clause-reports g c =
+pub returns-in-Err-clause-reports : goal.returns-in-Err-clause-reports
+returns-in-Err-clause-reports g c =
     refused_done g.S.Shelf.fixed_of g.S.Shelf.gained g.S.Shelf.goes _ _ _ _ _ _ _ _ c.in-Err.fault (λ piece is. made_no_more c.args.form.now g.H.Holder.gives _ _ c.in-Some.ensures.no_more _ _ _ is) c.in-Some.ensures.fits c.in-Some.ensures.fetch c.count_refused.ensures
 
 pub returns-in_default-clause-reports : goal.returns-in_default-clause-reports
 returns-in_default-clause-reports g c =
     fetch_none g.S.Shelf.fixed_of g.S.Shelf.gained g.S.Shelf.goes _ _ _ _ _ _ _ (λ piece is. made_no_more c.args.form.now g.H.Holder.gives _ _ c.in_default.ensures.no_more _ _ _ is) c.in_default.ensures.fits c.in_default.ensures.fetch
 
-pub returns-in-Ok : goal.returns-in-Ok
-returns-in-Ok g c =
+pub returns-in_default-settle : goal.returns-in_default-settle
+returns-in_default-settle g c =
     let A = IsGiven (made_of c.args.form.now g.H.Holder.gives) c.args.holder.now in
-    let given : A (piece_of c.in-Ok.piece) = made_given c.args.form.now g.H.Holder.gives c.args.holder.now c.end-part.result c.as_slice.result.now (piece_of c.in-Ok.piece)
-    (subst (λ (xs : List ℕ). g.H.Holder.gives c.args.holder.now c.end-part.result.start c.end-part.result.len xs) (sym c.as_slice.ensures.value) c.in-Some.ensures.gives) c.in-Ok.ensures.made in
+    let given : A (piece_of c.in-Ok.piece) = made_given c.args.form.now g.H.Holder.gives c.args.holder.now c.end-part.result c.as_slice.result.now _ (piece_of c.in-Ok.piece) c.as_slice.ensures.value c.in-Some.ensures.gives c.in-Ok.ensures.made in
     let of_tail = subst (λ (it : Checked). A (piece_of it)) (sym c.in-Some-tail.ensures.piece) given in
     let settled = fetch_some g.S.Shelf.fixed_of g.S.Shelf.gained g.S.Shelf.goes _ _ A A _ _ _ _ (it_gained g.S.Shelf.fixed_of g.S.Shelf.gained g.S.Shelf.goes A _ _ _ 0 0 of_tail c.settle.ensures.still.0) (λ piece is. is) c.in-Some.ensures.fits c.in-Some.ensures.fetch in
     record {
@@ -79,12 +77,11 @@ returns-in-TooLarge-clause-agreed g c = λ are blob served slices.
 pub returns-in-TooLarge-clause-large : goal.returns-in-TooLarge-clause-large
 returns-in-TooLarge-clause-large g c = λ _.
     let A = IsGiven (made_of c.args.form.now g.H.Holder.gives) c.args.holder.now in
-    let given : A (piece_of c.in-Ok.piece) = made_given c.args.form.now g.H.Holder.gives c.args.holder.now c.end-part.result c.as_slice.result.now (piece_of c.in-Ok.piece)
-    (subst (λ (xs : List ℕ). g.H.Holder.gives c.args.holder.now c.end-part.result.start c.end-part.result.len xs) (sym c.as_slice.ensures.value) c.in-Some.ensures.gives) c.in-Ok.ensures.made in
+    let given : A (piece_of c.in-Ok.piece) = made_given c.args.form.now g.H.Holder.gives c.args.holder.now c.end-part.result c.as_slice.result.now _ (piece_of c.in-Ok.piece) c.as_slice.ensures.value c.in-Some.ensures.gives c.in-Ok.ensures.made in
     record { piece = _; from = subst (λ (it : Checked). A (piece_of it)) (sym c.in-Some-tail.ensures.piece) given; large = c.in-TooLarge.ensures.large refl }
 
-pub returns-clause-agreed : goal.returns-clause-agreed
-returns-clause-agreed g c = λ are blob served slices.
+pub returns-in-Err-clause-agreed : goal.returns-in-Err-clause-agreed
+returns-in-Err-clause-agreed g c = λ are blob served slices.
     let F = g.S.Shelf.fixed_of c.args.seat.now in
     let text = end_given c.args.form.now g.H.Holder.gives F.mode blob c.args.holder.now c.end-part.result c.as_slice.result.now _ are c.end-part.ensures.end slices c.as_slice.ensures.value c.in-Some.ensures.gives in
     absurd (slice_refused c.args.form.now F c.fixed-fixed.result c.end-part.result _ blob _ are served c.fixed-fixed.ensures text c.in-Err.ensures.slice)
@@ -98,8 +95,8 @@ returns-in_default-tail-clause-no_more g c = made_no_more c.args.form.now g.H.Ho
 pub returns-in-TooLarge-clause-no_more : goal.returns-in-TooLarge-clause-no_more
 returns-in-TooLarge-clause-no_more g c = made_no_more c.args.form.now g.H.Holder.gives _ _ c.in-Some.ensures.no_more
 
-pub returns-clause-no_more : goal.returns-clause-no_more
-returns-clause-no_more g c = made_no_more c.args.form.now g.H.Holder.gives _ _ c.in-Some.ensures.no_more
+pub returns-in-Err-clause-no_more : goal.returns-in-Err-clause-no_more
+returns-in-Err-clause-no_more g c = made_no_more c.args.form.now g.H.Holder.gives _ _ c.in-Some.ensures.no_more
 
 pub returns-in_default-clause-no_more : goal.returns-in_default-clause-no_more
 returns-in_default-clause-no_more g c = made_no_more c.args.form.now g.H.Holder.gives _ _ c.in_default.ensures.no_more

@@ -1,12 +1,13 @@
 use Rattle.std.proofs.Common.{false, true, refl, ◌<◌, get_or, length, inl, inr, ℕ, ◌≡◌, sym, subst, ◌∙◌, arith}
 use Rattle.std.specs.List.{sum_by}
 use Rattle.std.proofs.lemmas.List.{set-get_or}
+use Rattle.gather.specs.declared.report.Report.{Report}
 use Rattle.gather.specs.Counts.{Reports}
-use Rattle.gather.specs.Holders.{IsHanded}
+use Rattle.gather.specs.Holders.{AreLater, IsHanded}
 use Rattle.gather.specs.Claims.{AmongAnd}
-use Rattle.gather.proofs.Gaining.{among_and_none}
+use Rattle.gather.proofs.Gaining.{among_and_none, among_given}
 use Rattle.gather.proofs.Bits.{in_mask_zero}
-use Rattle.gather.proofs.Reporting.{counted_none, still_gained, later_none, among_holders, later_one, later_then, onward, onward_none}
+use Rattle.gather.proofs.Reporting.{counted_none, starved, still_gained, later_none, among_holders, later_one, later_then, onward, onward_none}
 use Rattle.gather.proofs.worker.work_part.Goals.{else-loop-holder-test, then-loop-holder-test+then-left-eq0}
 use Rattle.std.proofs.lemmas.Option.{slice_get_within}
 use Rattle.std.proofs.lemmas.Bool.{both_ways, cases_Bool, cases_lt}
@@ -60,6 +61,20 @@ loop-holder-preserved g c =
       ],
     )
 
+pub returns-then-eq-clause-reports : goal.returns-then-eq-clause-reports
+returns-then-eq-clause-reports g c =
+    let taken = counted_none g.S.Shelf.fixed_of g.S.Shelf.gained g.S.Shelf.goes _ _ (IsHanded (made_of c.args.form.now g.H.Holder.gives) c.args.holders.now) (sum_by g.H.Holder.count c.args.holders.now) c.args.report.now
+    (still_gained g.S.Shelf.fixed_of g.S.Shelf.gained g.S.Shelf.goes _ _ _ c.in-Err.ensures.gained) c.fits.ensures in
+    subst (λ (y : Report). Reports g.S.Shelf.fixed_of g.S.Shelf.gained c.args.seat.now c.take.new.seat (IsHanded (made_of c.args.form.now g.H.Holder.gives) c.args.holders.now) (IsHanded (made_of c.args.form.now g.H.Holder.gives) c.args.holders.now)
+    (sum_by g.H.Holder.count c.args.holders.now) (sum_by g.H.Holder.count c.args.holders.now) c.args.report.now y) (sym c.count_memory.ensures) (starved g.S.Shelf.fixed_of g.S.Shelf.gained g.S.Shelf.goes _ _ _ _ _ _ _ _ c.fits.ensures taken)
+
+pub returns-else-eq-clause-reports : goal.returns-else-eq-clause-reports
+returns-else-eq-clause-reports g c =
+    counted_none g.S.Shelf.fixed_of g.S.Shelf.gained g.S.Shelf.goes _ _ _ _ _ (still_gained g.S.Shelf.fixed_of g.S.Shelf.gained g.S.Shelf.goes _ _ _ c.in-Err.ensures.gained) c.fits.ensures
+
+pub returns-clause-claims : goal.returns-clause-claims
+returns-clause-claims g c = among_given _ _ _ c.args.group _ c.loop-holder.invariant.2 c.give.ensures.claims
+
 pub returns-clause-reports : goal.returns-clause-reports
 returns-clause-reports g c =
     let same : c.loop-holder-test.holders ≡ c.loop-holder.holders = elim c.loop-holder-test.branch [
@@ -70,23 +85,29 @@ returns-clause-reports g c =
     (sym same) c.loop-holder.invariant.1 in
     onward_none g.S.Shelf.fixed_of g.S.Shelf.gained g.S.Shelf.goes _ _ _ _ _ _ _ _ _ asked c.give.ensures.gained
 
-pub returns-then-left-eq0-2-clause-claims : goal.returns-then-left-eq0-2-clause-claims
-returns-then-left-eq0-2-clause-claims g c =
-    let none_left = subst (λ (left : ℕ). AmongAnd (g.S.Shelf.claims c.args.seat.now) c.args.group left (g.S.Shelf.claims c.loop-holder.seat)) c.if-left-eq0-2.true c.loop-holder.invariant.2 in
-    among_and_none _ _ c.args.group none_left
-
-pub returns-then-left-eq0-2-clause-served : goal.returns-then-left-eq0-2-clause-served
-returns-then-left-eq0-2-clause-served g c = λ are blob served has wanted.
+pub returns-then-left-eq0-2 : goal.returns-then-left-eq0-2
+returns-then-left-eq0-2 g c =
     let x = c.loop-holder in
     let group = c.args.group in
-    inr (λ n asked. elim (c.in-Ok.ensures.rest n asked (omega (arith, (wanted n asked).0, served.room))) [
-      | inr (inl held) ↦ inl (g.S.Shelf.lasts.chunk _ _ _ x.invariant.1.chunks x.invariant.1.parents n x.invariant.1.gains held)
-      | inr (inr busy) ↦ inr busy
-      | inl granted ↦ elim (x.invariant.6 n granted) [
-        | inl left ↦ let in_none : in_mask group 0 n ≡ true = subst (λ (mask : ℕ). in_mask group mask n ≡ true) c.if-left-eq0-2.true left.0 in absurd (both_ways _ (in_mask_zero group n) in_none)
-        | inr held ↦ inl held.1
-      ]
-    ])
+    let same : c.loop-holder-test.holders ≡ x.holders = elim c.loop-holder-test.branch [
+      | else-loop-holder-test w ↦ w.holders-is
+      | then-loop-holder-test+then-left-eq0 w ↦ w.holders-is ∙ set-get_or x.holders x.holder-index w.holder-item.result
+    ] in
+    record {
+      has = x.invariant.0;
+      reports = subst (λ holders. Reports g.S.Shelf.fixed_of g.S.Shelf.gained c.args.seat.now x.seat (IsHanded (made_of c.args.form.now g.H.Holder.gives) c.args.holders.now) (IsHanded (made_of c.args.form.now g.H.Holder.gives) holders) (sum_by g.H.Holder.count c.args.holders.now) (sum_by g.H.Holder.count holders) c.args.report.now x.report)
+          (sym same) x.invariant.1;
+      later = subst (λ holders. AreLater (made_of c.args.form.now g.H.Holder.gives) c.args.holders.now holders) (sym same) x.invariant.3;
+      claims = among_and_none _ _ group (subst (λ (left : ℕ). AmongAnd (g.S.Shelf.claims c.args.seat.now) group left (g.S.Shelf.claims x.seat)) c.if-left-eq0-2.true x.invariant.2);
+      served = λ are blob served has wanted. inr (λ n asked. elim (c.in-Ok.ensures.rest n asked (omega (arith, (wanted n asked).0, served.room))) [
+        | inr (inl held) ↦ inl (g.S.Shelf.lasts.chunk _ _ _ x.invariant.1.chunks x.invariant.1.parents n x.invariant.1.gains held)
+        | inr (inr busy) ↦ inr busy
+        | inl granted ↦ elim (x.invariant.6 n granted) [
+          | inl left ↦ let in_none : in_mask group 0 n ≡ true = subst (λ (mask : ℕ). in_mask group mask n ≡ true) c.if-left-eq0-2.true left.0 in absurd (both_ways _ (in_mask_zero group n) in_none)
+          | inr held ↦ inl held.1
+        ]
+      ]);
+    }
 
 pub returns-clause-served : goal.returns-clause-served
 returns-clause-served g c = λ are blob served has wanted.
