@@ -9,6 +9,8 @@ use Rattle.bao_check.specs.Accepted.{IsAccepted, outboard_nodes}
 use Rattle.bao_check.specs.declared.outline.Outline.{Outline}
 use Rattle.bao_check.specs.Outline.{outline_mode, outline_root}
 use Rattle.crews.specs.declared.fault.CrewsFault.{CrewsFault}
+use Rattle.crews.specs.declared.fault.CrewsFault.TheVariants.{Gather as OfGathering}
+use Rattle.gather.specs.declared.texts.GatherFault.TheVariants.{Memory}
 use Rattle.crews.specs.Closing.{IsExcused as IsExcusedOfCrews}
 use Rattle.gather.specs.Large.{HasPair}
 use Rattle.store_core.specs.declared.fixed.Fixed.{Fixed}
@@ -31,6 +33,11 @@ IsGathered how mode root blob = (hash mode blob ≡ root) × (length blob ≤ 10
 -- there was no memory for the text, and nothing was written, or writing to this path failed, and a beginning of it was
 abbrev pub IsUnwritten : Bor (List ℕ) → List ℕ → Option (List ℕ) → Option (List ℕ) → FileFault → Type 0
 IsUnwritten path text old new fault = ((fault ≡ Encoding) × Keeps old new) ⊎ ((fault ≡ Write path) × AppendsBeginning old new text)
+
+-- the same of a blob that is still in its store: there was no memory to take it out either, and nothing was written
+abbrev pub IsUnwrittenFound : Bor (List ℕ) → List ℕ → Option (List ℕ) → Option (List ℕ) → GatheredFault → Type 0
+IsUnwrittenFound path text old new fault =
+    ((fault ≡ Gather (OfGathering Memory)) × Keeps old new) ⊎ ((fault ≡ File Encoding) × Keeps old new) ⊎ ((fault ≡ File (Write path)) × AppendsBeginning old new text)
 
 -- the text of such a blob of `count` bytes was written
 abbrev pub WritesBlob : Gathering → Mode → List ℕ → Option (List ℕ) → Option (List ℕ) → ℕ → Type 0

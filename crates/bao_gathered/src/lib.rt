@@ -10,6 +10,7 @@ pub use worth::{Worth, worth_of_copy, worth_of_encoding};
 
 mod fate;
 mod fault;
+mod found;
 mod gathering;
 mod placed;
 mod worth;

@@ -11,7 +11,8 @@ ghost use Rattle.bao_gathered.specs.Gathered.{IsGathered, IsUnder, IsWrittenOut,
 
 use crate::fate::Fate;
 use crate::fault::GatheredFault;
-use crate::gathering::{Gathering, note, room_beside, unfinished_by, write_whole};
+use crate::found::write_found;
+use crate::gathering::{Gathering, note, room_beside, unfinished_by};
 use b3read::Source;
 use b3tree::{Hash, Mode};
 use bao_check::Outline;
@@ -69,7 +70,7 @@ pub fn write_sources<'a, R: AllocGlobal + Threads + Sync, S: Source + Sync, W: W
         Ok(blob) => blob,
         Err(fault) => return Err(GatheredFault::Gather(fault)),
     };
-    Ok(write_whole(alloc, mode, how.encode, blob.as_slice(), path, out)?)
+    write_found(alloc, mode, how.encode, blob, path, out)
 }
 
 /// As `write_beside`, out of plain copies that are read at places, as files are: what they have takes no memory but for the
@@ -92,14 +93,7 @@ pub fn write_copies<'a, R: AllocGlobal + Threads + Sync, S: Source + Sync, W: Wr
         Ok(blob) => blob,
         Err(fault) => return Err(GatheredFault::Gather(fault)),
     };
-    Ok(write_whole(
-        alloc,
-        &outline.mode(),
-        how.encode,
-        blob.as_slice(),
-        path,
-        out,
-    )?)
+    write_found(alloc, &outline.mode(), how.encode, blob, path, out)
 }
 
 // Regular files that are open.

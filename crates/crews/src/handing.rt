@@ -62,8 +62,7 @@ pub(crate) fn hand_out<R: Threads + Sync, H: Holder + Drop, L: Lists<H>>(
         grain,
         &mut report,
     );
-    let (ended, seat) = certify(rt, alloc, &assembly, seat, workers);
-    let mut seat = seat;
+    let (ended, mut seat) = certify(rt, alloc, &assembly, seat, workers);
     assembly.look_round(&mut seat);
     match ended {
         Ok(len) => Ok(Whole::new(assembly, seat, len)),

@@ -74,7 +74,8 @@ fn may_lack_room(gathered: &Result<Whole, CrewsFault>) -> bool
 /// slices that workers ask for. So many workers, at least 1 and at most 64, fill a shared store, as `run` says, each with a
 /// seat of its own and all sources in their order. Then their seats are joined to one, which goes once more round the groups
 /// and asks for what is held by nobody; with `Grain::Chunk` it then asks for each chunk by itself, as `salvage` says. The
-/// store is let go at the end. A source of which a read answers a fault gives nothing then, and the next one is asked.
+/// blob stays in that store, and is read from there. A source of which a read answers a fault gives nothing then, and the
+/// next one is asked.
 ///
 /// The store has room for `room` chunks, at least 1 and at most `capacity`. Where that is less than `capacity`, and the
 /// blob is too large for it or left unfinished, the work is done again with room for `capacity` chunks. As many as
@@ -82,9 +83,10 @@ fn may_lack_room(gathered: &Result<Whole, CrewsFault>) -> bool
 ///
 /// 802 `Capacity` unless `capacity` is 1 to 65,536, asked before all else; 801 where there is no memory for the store,
 /// 806 for a worker's seat, and 911 `Starved` for the crews and the lists of sources. Then the blob is answered only
-/// once its hash is the root: 902 `NotTheRoot` where it isn't, 903 `Memory` where there is no memory for the blob. An
-/// unfinished blob is 911 where memory was refused to a worker, or in the last round, else 805 `TooLarge` where one met
-/// a length above 1,024 times the capacity, else 901 `Unfinished`.
+/// once its hash is the root: 902 `NotTheRoot` where it isn't, 903 `Memory` where there is none for the pieces, of 256 KiB,
+/// in which so many workers read it from the store and hash it. An unfinished blob is 911 where memory was refused to a
+/// worker, or in the last round, else 805 `TooLarge` where one met a length above 1,024 times the capacity, else 901
+/// `Unfinished`.
 ///
 /// Where one of the sources never fails, its bytes are known, and they are the combined encoding of a blob with the root,
 /// of at most `capacity` chunks, that blob is answered, whatever the other sources are, whether or not they fail, and

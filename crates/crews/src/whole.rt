@@ -72,8 +72,8 @@ pub(crate) fn certify<R: Threads + Sync>(
     }
 }
 
-/// A blob that came together, in the shared store that it was gathered in: its bytes are read from there, so that they take no
-/// memory of their own. The store is nobody else's.
+/// A blob that came together, in the shared store that it was gathered in: its bytes are read from there, by whom has it, so that
+/// they take no memory of their own. The store is let go with it. Contracts see the blob's bytes.
 #[derive(Drop)]
 pub struct Whole {
     assembly: Assembly,
@@ -113,14 +113,15 @@ impl Whole {
     pub fn len(&self) -> u64
         ensures { result ≡ length self.now }
     {
-        self.len
+        let Whole { len, .. } = self;
+        *len
     }
 
     /// Whether the blob has no byte.
     pub fn is_empty(&self) -> bool
         ensures { IsTrue result ↔ (self.now ≡ []) }
     {
-        self.len == 0
+        self.len() == 0
     }
 
     /// Reads bytes of the blob from the position `at` on to the front of `out`, and answers how many: as many as there is room
@@ -161,13 +162,10 @@ pub(crate) fn in_memory(
     ensures kept { IfErr gathered (λ fault. result ≡ Err fault) }
 {
     match gathered {
-        Ok(whole) => {
-            let mut whole = whole;
-            match whole.to_vec(alloc) {
-                Ok(blob) => Ok(blob),
-                Err(_) => Err(CrewsFault::Gather(GatherFault::Memory)),
-            }
-        }
+        Ok(mut whole) => match whole.to_vec(alloc) {
+            Ok(blob) => Ok(blob),
+            Err(_) => Err(CrewsFault::Gather(GatherFault::Memory)),
+        },
         Err(fault) => Err(fault),
     }
 }

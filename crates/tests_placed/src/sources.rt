@@ -37,7 +37,7 @@ fn a_true_source_among_others(rt: HostRuntime) -> Result<(), Fail> {
     let sources = [other.as_slice(), cut, text.as_slice()];
     for room in [0, 1, 300, 70_000] {
         for workers in [1, 4] {
-            let gathered = gather_sources(
+            let mut whole = gather_sources(
                 &rt,
                 alloc,
                 root,
@@ -48,6 +48,7 @@ fn a_true_source_among_others(rt: HostRuntime) -> Result<(), Fail> {
                 Grain::Group,
                 &sources,
             )?;
+            let gathered = whole.to_vec(alloc)?;
             assert_eq!(rt; gathered.as_slice(), bytes.as_slice());
         }
     }
@@ -101,7 +102,7 @@ fn devices_that_fail(rt: HostRuntime) -> Result<(), Fail> {
     };
     let sources = [broken, true_one];
     for workers in [1, 2, 64] {
-        let gathered = gather_sources(
+        let mut whole = gather_sources(
             &rt,
             alloc,
             root,
@@ -112,6 +113,7 @@ fn devices_that_fail(rt: HostRuntime) -> Result<(), Fail> {
             Grain::Group,
             &sources,
         )?;
+        let gathered = whole.to_vec(alloc)?;
         assert_eq!(rt; gathered.as_slice(), bytes.as_slice());
     }
     Ok(())
@@ -139,7 +141,7 @@ fn copies(rt: HostRuntime) -> Result<(), Fail> {
     };
     let sources = [cut, broken, true_one];
     for workers in [1, 3] {
-        let gathered = gather_copies_at(
+        let mut whole = gather_copies_at(
             &rt,
             alloc,
             &outline,
@@ -148,6 +150,7 @@ fn copies(rt: HostRuntime) -> Result<(), Fail> {
             Grain::Group,
             &sources,
         )?;
+        let gathered = whole.to_vec(alloc)?;
         assert_eq!(rt; gathered.as_slice(), bytes.as_slice());
     }
     Ok(())
