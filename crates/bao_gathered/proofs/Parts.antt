@@ -7,7 +7,7 @@ use Rattle.std.specs.Io.KnownBytes.{Appends}
 use Rattle.bao_files.specs.Printed.{AppendsBeginning}
 use Rattle.bao_gathered.specs.declared.fault.GatheredFault.{GatheredFault}
 use Rattle.bao_gathered.specs.declared.gathering.Gathering.{Gathering}
-use Rattle.bao_gathered.specs.Gathered.{IsExcused, IsUnwrittenFound, IsWrittenOut, gathered_text}
+use Rattle.bao_gathered.specs.Gathered.{IsExcused, IsUnwrittenWhole, IsWrittenOut, gathered_text}
 use Rattle.bao_text.specs.declared.fault.WriteFault.{WriteFault}
 use Rattle.bao_text.specs.declared.fault.WriteFault.TheVariants.{Memory, Writer}
 use Rattle.bao_text.specs.Faults.{WroteOnly}
@@ -42,10 +42,6 @@ part_written old mid out blob rest new at n (Writer w) within is before wrote =
           (Appends-trans old mid out (take at blob) (take w (take n new)) before wrote.1),
     )
 
--- all of it
-pub all_written : (old out : Option (List ℕ)) (blob : List ℕ) (at : ℕ) → length blob ≤ at → Appends old out (take at blob) → Appends old out blob
-all_written old out blob at all is = subst (λ (xs : List ℕ). Appends old out xs) (take_all at blob all) is
-
 -- all of it is a beginning
 pub all_begin : (old out : Option (List ℕ)) (text : List ℕ) → Appends old out text → AppendsBeginning old out text
 all_begin old out text is = (length text, subst (λ (xs : List ℕ). Appends old out xs) (sym (take_all (length text) text (omega arith))) is)
@@ -54,7 +50,7 @@ all_begin old out text is = (length text, subst (λ (xs : List ℕ). Appends old
 pub written_out : (handed : Piece → Type 0) (fixed : Fixed) (how : Gathering) (path : Bor (List ℕ)) (blob found : List ℕ) (old new : Option (List ℕ))
     (result : Result ℕ GatheredFault) → (found ≡ blob) ⊎ HasPair handed fixed blob → IfOk result (λ count. count ≡ length found)
     → OnOk result (Appends old new (gathered_text how.encode fixed.mode found))
-    → IfErr result (λ fault. IsUnwrittenFound path (gathered_text how.encode fixed.mode found) old new fault) → IsWrittenOut handed fixed how blob old new result
+    → IfErr result (λ fault. IsUnwrittenWhole path (gathered_text how.encode fixed.mode found) old new fault) → IsWrittenOut handed fixed how blob old new result
 written_out handed fixed how path blob found old new result (inr pair) count text fault = inr pair
 written_out handed fixed how path blob found old new (Ok n) (inl same) count text fault =
     inl (count ∙ ap length same, subst (λ (bytes : List ℕ). Appends old new (gathered_text how.encode fixed.mode bytes)) same text)

@@ -34,9 +34,10 @@ IsGathered how mode root blob = (hash mode blob ≡ root) × (length blob ≤ 10
 abbrev pub IsUnwritten : Bor (List ℕ) → List ℕ → Option (List ℕ) → Option (List ℕ) → FileFault → Type 0
 IsUnwritten path text old new fault = ((fault ≡ Encoding) × Keeps old new) ⊎ ((fault ≡ Write path) × AppendsBeginning old new text)
 
--- the same of a blob that is still in its store: there was no memory to take it out either, and nothing was written
-abbrev pub IsUnwrittenFound : Bor (List ℕ) → List ℕ → Option (List ℕ) → Option (List ℕ) → GatheredFault → Type 0
-IsUnwrittenFound path text old new fault =
+-- there was no memory to read the blob from its store, or for its text, and nothing was written; or writing to this path failed, and
+-- a beginning of it was
+abbrev pub IsUnwrittenWhole : Bor (List ℕ) → List ℕ → Option (List ℕ) → Option (List ℕ) → GatheredFault → Type 0
+IsUnwrittenWhole path text old new fault =
     ((fault ≡ Gather (OfGathering Memory)) × Keeps old new) ⊎ ((fault ≡ File Encoding) × Keeps old new) ⊎ ((fault ≡ File (Write path)) × AppendsBeginning old new text)
 
 -- the text of such a blob of `count` bytes was written
@@ -48,7 +49,8 @@ WritesBlob how mode root old new count =
 abbrev pub BeginsBlob : Gathering → Mode → List ℕ → Option (List ℕ) → Option (List ℕ) → Type 0
 BeginsBlob how mode root old new = (blob : List ℕ) × IsGathered how mode root blob × AppendsBeginning old new (gathered_text how.encode mode blob)
 
--- no blob was gathered, or there was no memory to encode it, and nothing was written; or writing to this path failed
+-- no blob was gathered, or there was no memory to read it from its store or to encode it, and nothing was written; or writing to this
+-- path failed
 abbrev pub LeavesBlob : Gathering → Mode → List ℕ → Bor (List ℕ) → Option (List ℕ) → Option (List ℕ) → GatheredFault → Type 0
 LeavesBlob how mode root path old new fault =
     (((cause : CrewsFault) × (fault ≡ Gather cause)) × Keeps old new)

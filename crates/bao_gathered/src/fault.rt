@@ -12,7 +12,7 @@ pub enum GatheredFault<'a> {
     /// The outboard encoding was not accepted: its first fault.
     #[error("{0}")]
     Outboard(CheckFault),
-    /// No blob came together.
+    /// No blob came together, or there was no memory to read it from its store.
     #[error("{0}")]
     Gather(CrewsFault),
 }

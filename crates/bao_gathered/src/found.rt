@@ -1,7 +1,7 @@
 ghost use Rattle.std.specs.Prelude.{◌≡◌, ◌<◌, IfErr, IfOk, OnErr, OnOk, length};
 ghost use Rattle.std.specs.Io.KnownBytes.{Appends};
 ghost use Rattle.bao_files.specs.Printed.{AppendsBeginning};
-ghost use Rattle.bao_gathered.specs.Gathered.{IsUnwrittenFound, gathered_text};
+ghost use Rattle.bao_gathered.specs.Gathered.{IsUnwrittenWhole, gathered_text};
 
 use crate::fault::GatheredFault;
 use crate::gathering::write_whole;
@@ -14,10 +14,10 @@ use gather::GatherFault;
 use std::alloc::Global;
 use std::io::Write;
 
-// There was no memory to take a blob out of its store.
+// There was no memory to read a blob from its store.
 const NO_MEMORY: CrewsFault = CrewsFault::Gather(GatherFault::Memory);
 
-// Writes the bytes of a blob that is still in its store, as many at a time as the part has room for.
+// Writes the bytes of a blob from its store, as many at a time as the part has room for.
 fn write_parts<W: Write>(blob: &mut Whole, part: &mut [u8], out: &mut W) -> Result<(), WriteFault>
     requires room { 0 < length part.old }
     ensures same { blob.new ≡ blob.old }
@@ -35,8 +35,8 @@ fn write_parts<W: Write>(blob: &mut Whole, part: &mut [u8], out: &mut W) -> Resu
     Ok(())
 }
 
-// Writes a blob that is still in its store, to `out`, which is flushed, and answers how many bytes it has.
-fn write_blob<'a, W: Write>(
+// Writes a blob from its store to `out`, which is flushed, and answers how many bytes it has.
+fn write_in_parts<'a, W: Write>(
     alloc: Global,
     blob: &mut Whole,
     path: &'a str,
@@ -44,7 +44,7 @@ fn write_blob<'a, W: Write>(
 ) -> Result<u64, GatheredFault<'a>>
     ensures count { IfOk result (λ count. count ≡ length blob.old) }
     ensures text { OnOk result (Appends (W.contents out.old) (W.contents out.new) blob.old) }
-    ensures fault { IfErr result (IsUnwrittenFound path.entry blob.old (W.contents out.old) (W.contents out.new)) }
+    ensures fault { IfErr result (IsUnwrittenWhole path.entry blob.old (W.contents out.old) (W.contents out.new)) }
 {
     let Ok(mut part) = vec![in alloc; 0u8; PIECE_LEN] else {
         return Err(GatheredFault::Gather(NO_MEMORY));
@@ -60,8 +60,8 @@ fn write_blob<'a, W: Write>(
     }
 }
 
-// Writes such a blob, or its combined encoding, for which it is taken out of its store, to `out`, which is flushed, and answers
-// how many bytes the blob has.
+// Writes a blob from its store, or its combined encoding, for which it is taken out of there, to `out`, which is flushed, and
+// answers how many bytes the blob has.
 pub(crate) fn write_found<'a, W: Write>(
     alloc: Global,
     mode: &Mode,
@@ -72,14 +72,15 @@ pub(crate) fn write_found<'a, W: Write>(
 ) -> Result<u64, GatheredFault<'a>>
     ensures count { IfOk result (λ count. count ≡ length blob) }
     ensures text { OnOk result (Appends (W.contents out.old) (W.contents out.new) (gathered_text encode mode.now blob)) }
-    ensures fault { IfErr result (IsUnwrittenFound path.entry (gathered_text encode mode.now blob) (W.contents out.old) (W.contents out.new)) }
+    ensures fault { IfErr result (IsUnwrittenWhole path.entry (gathered_text encode mode.now blob) (W.contents out.old) (W.contents out.new)) }
 {
     let mut blob = blob;
     if !encode {
-        return write_blob(alloc, &mut blob, path, out);
+        return write_in_parts(alloc, &mut blob, path, out);
     }
     let Ok(bytes) = blob.to_vec(alloc) else {
         return Err(GatheredFault::Gather(NO_MEMORY));
     };
+    drop(blob);
     Ok(write_whole(alloc, mode, encode, bytes.as_slice(), path, out)?)
 }

@@ -1,5 +1,4 @@
-ghost use Rattle.std.specs.Borrow.{Bor};
-ghost use Rattle.std.specs.Prelude.{◌≡◌, ◌⊎◌, ◌≤◌, ℕ, List, IfErr, IfOk, IsSome, IsTrue, MatchOption, OnOk, Some, length, map, slice_get, vec_items, IfSome};
+ghost use Rattle.std.specs.Prelude.{◌≡◌, ◌≤◌, ℕ, List, IfErr, IfOk, IsSome, IsTrue, MatchOption, OnOk, Some, length, map, slice_get, vec_items, IfSome};
 ghost use Rattle.bao_text.specs.Choice.{chunk_count};
 ghost use Rattle.bao_text.specs.Texts.{combined_text};
 ghost use Rattle.gather.specs.Available.{HaveSlices};

@@ -34,7 +34,9 @@ fn most_chunks(len: u64) -> u32 {
 
 /// As `write_gathered`, out of sources that are read at places, as files are: what they have takes no memory but for the
 /// slices that workers ask for. The store has room for `room` chunks at first, and for `capacity` where those are too few.
-/// What is said of true texts is said of sources that never fail, where their bytes are known.
+/// The blob is written from that store, a part of 256 KiB at a time; with `encode` it is taken out first, into memory of its
+/// own. `Gather` with 903 is answered where there was none for the one or the other too, and nothing was written then. What is
+/// said of true texts is said of sources that never fail, where their bytes are known.
 pub fn write_sources<'a, R: AllocGlobal + Threads + Sync, S: Source + Sync, W: Write>(
     rt: &R,
     mode: &Mode,
@@ -74,7 +76,7 @@ pub fn write_sources<'a, R: AllocGlobal + Threads + Sync, S: Source + Sync, W: W
 }
 
 /// As `write_beside`, out of plain copies that are read at places, as files are: what they have takes no memory but for the
-/// parts that workers ask for.
+/// parts that workers ask for. The blob is written from its store, as by `write_sources`.
 pub fn write_copies<'a, R: AllocGlobal + Threads + Sync, S: Source + Sync, W: Write>(
     rt: &R,
     outline: &Outline<'_>,

@@ -12,7 +12,7 @@ use Rattle.crews.specs.Closing.{CallsAreFrom, IsLeft}
 use Rattle.crews.specs.Going.{goes}
 use Rattle.crews.specs.Lasting.{Claims, HoldsOn, IsAlone, Records}
 use Rattle.crews.specs.Seats.{GoneOn, claims_of, fixed_of as fixed_at}
-use Rattle.crews.specs.Wholes.{IsReading, ReadOn, WasUnfinished}
+use Rattle.crews.specs.Wholes.{OnlyReads, ReadOn, WasUnfinished}
 use Rattle.crews.proofs.Alone.{seen_own}
 use Rattle.gather.specs.declared.report.Report.{Report}
 use Rattle.gather.specs.declared.grain.Grain.{Grain}
@@ -67,7 +67,7 @@ unfinished_named fixed history blob l keyed is legal recorded chunks unfinished 
     ]
 
 -- a call that reads is of no piece
-from_none : (handed : Piece → Type 0) (call : Call) → IsReading call → IsFrom handed call
+from_none : (handed : Piece → Type 0) (call : Call) → OnlyReads call → IsFrom handed call
 from_none handed (Length recorded) is = tt
 from_none handed (Read at len bytes) is = tt
 from_none handed (Take group want granted) is = absurd is

@@ -10,7 +10,7 @@ use Rattle.bao_text.specs.Texts.{combined_text, slice_text}
 use Rattle.bao_text.proofs.Laws.{cut_text-combined, length-combined_text}
 use Rattle.crews.specs.declared.fault.CrewsFault.{CrewsFault}
 use Rattle.crews.specs.declared.fault.CrewsFault.TheVariants.{Gather, Seat, Store}
-use Rattle.crews.specs.Closing.{AreTheBlob, IsExcused, IsFoundWhole, IsHandedOut}
+use Rattle.crews.specs.Closing.{AreTheBlob, IsExcused, IsKeptWhole, IsHandedOut}
 use Rattle.crews.specs.Lists.{IsCutOfSource, IsLent}
 use Rattle.gather.specs.declared.holder.Encoded.{Encoded}
 use Rattle.gather.specs.declared.texts.GatherFault.TheVariants.{Capacity, Memory, NotTheRoot, Starved, TooLarge, Unfinished}
@@ -112,7 +112,7 @@ lost_appends contents faultless start len old new same never = record { text = [
 
 -- what is handed over is handed over by more
 pub out_wider : (handed wider : Piece → Type 0) → ((piece : Piece) → handed piece → wider piece) → (fixed : Fixed) (blob : List ℕ) (r : Result (List ℕ) CrewsFault)
-    → IsFoundWhole handed fixed blob r → IsFoundWhole wider fixed blob r
+    → IsKeptWhole handed fixed blob r → IsKeptWhole wider fixed blob r
 out_wider handed wider more fixed blob r is = elim is [ inl same ↦ inl same | inr pair ↦ inr (pair_wider handed wider more fixed blob pair) ]
 
 pub found_wider : (handed wider : Piece → Type 0) → ((piece : Piece) → handed piece → wider piece) → (fixed : Fixed) (r : Result (List ℕ) CrewsFault)
@@ -124,7 +124,7 @@ found_wider handed wider more fixed (Err fault) found = tt
 -- a store that had room enough for what was gathered, whatever its capacity
 pub handed_anyway : (handed : Piece → Type 0) (root : Hash) (mode : Mode) (a b : ℕ) (blob : List ℕ) (r : Result (List ℕ) CrewsFault) → IsBlob (fixed_as root mode b) blob
     → IfOk r (λ bytes. AreTheBlob handed (fixed_as root mode a) bytes) → (IsErrOf r (Gather NotTheRoot) → IsOfNone handed (fixed_as root mode a))
-    → (IsErrOf r (Gather TooLarge) → ⊥) → (IsErrOf r (Gather Unfinished) → ⊥) → IsFoundWhole handed (fixed_as root mode b) blob r
+    → (IsErrOf r (Gather TooLarge) → ⊥) → (IsErrOf r (Gather Unfinished) → ⊥) → IsKeptWhole handed (fixed_as root mode b) blob r
 handed_anyway handed root mode a b blob (Ok bytes) is found none large unfinished = elim (found blob (blob_at root mode b a blob is)) [
   | inl same ↦ inl same
   | inr pair ↦ inr (pair_at handed root mode a b blob pair)
@@ -142,7 +142,7 @@ handed_anyway handed root mode a b blob (Err (Gather Starved)) is found none lar
 -- what came out, in memory of its own
 pub in_memory_out : (handed : Piece → Type 0) (fixed : Fixed) (blob : List ℕ) (gathered : Result (List ℕ) CrewsFault) (r : Result (Vec ℕ Global) CrewsFault)
     → IfOk r (λ (bytes : Vec ℕ Global). gathered ≡ Ok bytes.items) → IfErr r (λ fault. (gathered ≡ Err fault) ⊎ (fault ≡ Gather Memory))
-    → IsFoundWhole handed fixed blob gathered → IsHandedOut handed fixed blob r
+    → IsKeptWhole handed fixed blob gathered → IsHandedOut handed fixed blob r
 in_memory_out handed fixed blob gathered (Ok bytes) is fault (inl out) =
     inl (subst (λ (g : Result (List ℕ) CrewsFault). MatchResult g (λ bytes. bytes ≡ blob) IsExcused) is out)
 in_memory_out handed fixed blob gathered (Err other) is (inl same) (inl out) =

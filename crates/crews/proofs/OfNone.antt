@@ -33,7 +33,6 @@ large_of true large e = let bad : TooLarge ≡ Starved = e in cc
 large_of false true e = refl
 large_of false false e = let bad : TooLarge ≡ Unfinished = e in cc
 
--- a blob that was left unfinished because it is too large was reported so
 never_capacity : (starved large : Bool) → Capacity ≡ (if starved then Starved else if large then TooLarge else Unfinished) → ⊥
 never_capacity true large e = cc
 never_capacity false true e = cc
@@ -43,5 +42,6 @@ never_capacity false false e = cc
 pub cause_never : (report : Report) → Capacity ≡ cause_of report → ⊥
 cause_never report e = never_capacity (nat_lt 0 report.memory) report.too_large e
 
+-- a blob that was left unfinished because it is too large was reported so
 pub is_large : (report : Report) → TooLarge ≡ cause_of report → report.too_large ≡ true
 is_large report e = large_of (nat_lt 0 report.memory) report.too_large e

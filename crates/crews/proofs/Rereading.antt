@@ -9,7 +9,7 @@ use Rattle.b3tree.specs.declared.mode.Mode.{Mode}
 use Rattle.b3tree.specs.Hashing.{hash, root_hash, rooted}
 use Rattle.b3tree.specs.Tree.{parent_input, subtree_cv, top_input}
 use Rattle.bao_check.proofs.Lists.{Contains-cons_cases}
-use Rattle.crews.specs.Wholes.{HasBytes, IsFull, IsReading, IsTopRead, LackedByte, ReadOn, WasUnfinished}
+use Rattle.crews.specs.Wholes.{HasBytes, IsFull, OnlyReads, IsTopRead, LackedByte, ReadOn, WasUnfinished}
 use Rattle.crews.proofs.Finishing.{filled_whole, length_there, read_there}
 use Rattle.crews.proofs.Uniting.{merge_has, merged_calls, names_same, split_all}
 use Rattle.gather.specs.declared.fault.FinishFault.{FinishFault}
@@ -34,17 +34,8 @@ use Rattle.store_core.proofs.ReadLaws.{read_is, read_means}
 use Rattle.store_shared.proofs.Asking.{right_there}
 use Rattle.store_steps.proofs.Naming.{merge-cases}
 
-pub on_same : (view : SeatView) → ReadOn view view
-on_same view = record {
-  fixed_is = refl;
-  more = [];
-  seen_is = sym (append-nil view.seen);
-  calls = λ e h. inl h;
-  names = λ others all. all;
-}
-
 -- a call that reads
-pub on_called : (old new : SeatView) (call : Call) → IsReading call → Called call old new → ReadOn old new
+pub on_called : (old new : SeatView) (call : Call) → OnlyReads call → Called call old new → ReadOn old new
 on_called old new call is called = record {
   fixed_is = called.goes_on.fixed_is;
   more = called.between ++ event_of old call ∷ [];
@@ -52,7 +43,7 @@ on_called old new call is called = record {
   calls = λ e h. elim (Contains-append_cases (mine old) (event_of old call ∷ []) e (subst (λ (es : List Event). Contains es e) called.goes_on.mine_is h)) [
     | inl before ↦ inl before
     | inr last ↦ elim (Contains-cons_cases [] (event_of old call) e last) [
-      | inl same ↦ inr (subst (λ (x : Event). IsReading x.call) (sym same) is)
+      | inl same ↦ inr (subst (λ (x : Event). OnlyReads x.call) (sym same) is)
       | inr never ↦ absurd (omega (arith, never.1))
     ]
   ];
@@ -107,9 +98,6 @@ module _ (old first second one two merged : SeatView) (parts : ArePartsOf old fi
     (is : IsMerged one two merged) where
   seen_first : first.seen ≡ old.seen
   seen_first = ap (λ (v : SeatView). v.seen) parts.first_is
-
-  seen_second : second.seen ≡ old.seen
-  seen_second = ap (λ (v : SeatView). v.seen) parts.second_is
 
   calls_first : mine first ≡ mine old
   calls_first = ap mine parts.first_is ∙ ap (λ (ns : List Name). events_of ns old.seen) (split_keeps old)

@@ -30,14 +30,19 @@ IsExcused Store = Unit {0}
 IsExcused Seat = Unit {0}
 IsExcused (Gather fault) = IsExcusedOfTexts fault
 
--- it is this blob, or the fault isn't one of the texts, or a pair is named from the blob and a piece that was handed over
+-- what is answered, of which these are the bytes: it is this blob, or the fault isn't one of the texts, or a pair is named from the
+-- blob and a piece that was handed over
+abbrev pub IsAnswer : {T : Type 0} → (T → List ℕ) → (Piece → Type 0) → Fixed → List ℕ → Result T CrewsFault → Type 0
+IsAnswer bytes_of handed fixed blob result = MatchResult result (λ answer. bytes_of answer ≡ blob) IsExcused ⊎ HasPair handed fixed blob
+
+-- so it is of a blob in memory
 abbrev pub IsHandedOut : (Piece → Type 0) → Fixed → List ℕ → Result (Vec ℕ Global) CrewsFault → Type 0
-IsHandedOut handed fixed blob result = MatchResult result (λ bytes. bytes.items ≡ blob) IsExcused ⊎ HasPair handed fixed blob
+IsHandedOut handed fixed blob result = IsAnswer (λ bytes. bytes.items) handed fixed blob result
+
+-- and of one that stays in its store
+abbrev pub IsKeptWhole : (Piece → Type 0) → Fixed → List ℕ → Result (List ℕ) CrewsFault → Type 0
+IsKeptWhole handed fixed blob result = IsAnswer (λ bytes. bytes) handed fixed blob result
 
 -- the bytes are each blob's with the root, or a pair is named from it and a piece that was handed over
 abbrev pub AreTheBlob : (Piece → Type 0) → Fixed → List ℕ → Type 0
 AreTheBlob handed fixed bytes = (blob : List ℕ) → IsBlob fixed blob → (bytes ≡ blob) ⊎ HasPair handed fixed blob
-
--- the same of a blob that stays in the store that it was gathered in
-abbrev pub IsFoundWhole : (Piece → Type 0) → Fixed → List ℕ → Result (List ℕ) CrewsFault → Type 0
-IsFoundWhole handed fixed blob result = MatchResult result (λ bytes. bytes ≡ blob) IsExcused ⊎ HasPair handed fixed blob

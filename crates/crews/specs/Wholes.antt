@@ -15,30 +15,30 @@ use Rattle.store_core.specs.States.{State, byte_at, read_bytes}
 use Rattle.store_core.specs.Views.{mine}
 
 -- the call asks for the length, or reads
-abbrev pub IsReading : Call → Type 0
-IsReading (Length recorded) = Unit {0}
-IsReading (Read at len bytes) = Unit {0}
-IsReading (Take group want granted) = ⊥
-IsReading (Give group mask given) = ⊥
-IsReading (Commit group piece committed) = ⊥
-IsReading (Settle piece answer) = ⊥
-IsReading (Parents group piece answer) = ⊥
-IsReading (Serve start len answer) = ⊥
+abbrev pub OnlyReads : Call → Type 0
+OnlyReads (Length recorded) = Unit {0}
+OnlyReads (Read at len bytes) = Unit {0}
+OnlyReads (Take group want granted) = ⊥
+OnlyReads (Give group mask given) = ⊥
+OnlyReads (Commit group piece committed) = ⊥
+OnlyReads (Settle piece answer) = ⊥
+OnlyReads (Parents group piece answer) = ⊥
+OnlyReads (Serve start len answer) = ⊥
 
 -- A seat went on, and seats that were split off from it and joined with it again: it has seen all that it had seen, its new
--- calls read, and no name is lost that it, or one of those, had.
+-- calls ask for the length or read, and names that, with others, were all that there are still are, with those others.
 pub record ReadOn (old new : SeatView) : Type 0 where
   pub fixed_is : new.fixed ≡ old.fixed
   pub more : List Event
   pub seen_is : new.seen ≡ old.seen ++ more
-  pub calls : (e : Event) → Contains (mine new) e → Contains (mine old) e ⊎ IsReading e.call
+  pub calls : (e : Event) → Contains (mine new) e → Contains (mine old) e ⊎ OnlyReads e.call
   pub names : (others : List Named) → AreAllNames (old.names ++ others) → AreAllNames (new.names ++ others)
 
 -- so many bytes are held from a position on
 abbrev pub HasBytes : State → ℕ → ℕ → Type 0
 HasBytes s at len = length (read_bytes s at len) ≡ len
 
--- All bytes below the recorded length are held.
+-- all bytes below the recorded length are held: this says of a length what `IsWhole` says of bytes
 pub record IsFull (s : State) (len : ℕ) : Type 0 where
   pub recorded : s.recorded ≡ Some len
   pub held : HasBytes s 0 len

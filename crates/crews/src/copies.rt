@@ -23,8 +23,9 @@ use std::thread::Threads;
 /// 802 `Capacity` unless `capacity` is 1 to 65,536, asked before all else; 801 where there is no memory for the store,
 /// 806 for a worker's seat, and 911 `Starved` for the crews and the lists of copies. Then the blob is answered only
 /// once its hash is the outline's root: 902 `NotTheRoot` where it isn't, 903 `Memory` where there is none for the blob, or for
-/// the pieces, of 256 KiB, in which so many workers read it from the store and hash it. An unfinished blob is 911 where memory
-/// was refused to a worker, else 805 `TooLarge` where one met a length above 1,024 times the capacity, else 901 `Unfinished`.
+/// the pieces of at most 256 KiB in which it is read from the store and hashed, on about so many threads at the most. An
+/// unfinished blob is 911 where memory was refused to a worker, else 805 `TooLarge` where one met a length above 1,024 times
+/// the capacity, else 901 `Unfinished`.
 pub fn gather_copies<R: Threads + Sync>(
     rt: &R,
     alloc: Global,
@@ -54,9 +55,10 @@ pub fn gather_copies<R: Threads + Sync>(
 ///
 /// 802 `Capacity` unless `capacity` is 1 to 65,536, asked before all else; 801 where there is no memory for the store,
 /// 806 for a worker's seat, and 911 `Starved` for the crews and the lists of copies. Then the blob is answered only
-/// once its hash is the outline's root: 902 `NotTheRoot` where it isn't, 903 `Memory` where there is none for the pieces, of
-/// 256 KiB, in which so many workers read it from the store and hash it. An unfinished blob is 911 where memory was refused to
-/// a worker, else 805 `TooLarge` where one met a length above 1,024 times the capacity, else 901 `Unfinished`.
+/// once its hash is the outline's root: 902 `NotTheRoot` where it isn't, 903 `Memory` where there is none for the pieces of
+/// at most 256 KiB in which it is read from the store and hashed, on about so many threads at the most. An unfinished blob is
+/// 911 where memory was refused to a worker, else 805 `TooLarge` where one met a length above 1,024 times the capacity, else
+/// 901 `Unfinished`.
 pub fn gather_copies_at<R: Threads + Sync, S: Source + Sync>(
     rt: &R,
     alloc: Global,

@@ -7,7 +7,7 @@ ghost use Rattle.gather.specs.declared.texts.GatherFault.TheVariants.{Capacity, 
 ghost use Rattle.gather.specs.Large.{AreLonger, IsOfNone, IsTooLarge, fixed_as};
 ghost use Rattle.store_core.specs.Laws.{IsBlob};
 ghost use Rattle.store_shared.specs.Seats.{IsSeatOf};
-ghost use Rattle.crews.specs.Closing.{AreTheBlob, IsFoundWhole};
+ghost use Rattle.crews.specs.Closing.{AreTheBlob, IsKeptWhole};
 ghost use Rattle.crews.specs.Lists.{HaveAll, IsLent};
 
 use crate::crewing::{MOST_WORKERS, crews_with};
@@ -48,7 +48,7 @@ pub(crate) fn gather_by<R: Threads + Sync, H: Holder + Send + Drop, L: Lists<H>>
     ensures found { IfOk result (λ blob. AreTheBlob (IsLent H.gives (L.over lists.now)) (fixed_as root mode capacity) blob) }
     ensures available { (blob : List ℕ) → IsBlob (fixed_as root mode capacity) blob → chunk_count (length blob) ≤ capacity
         → HaveAll grain H.gives (L.over lists.now) mode blob
-        → IsFoundWhole (IsLent H.gives (L.over lists.now)) (fixed_as root mode capacity) blob result }
+        → IsKeptWhole (IsLent H.gives (L.over lists.now)) (fixed_as root mode capacity) blob result }
 {
     let (assembly, seat) = Assembly::new(alloc, root, mode, capacity)?;
     let workers = workers.clamp(1, MOST_WORKERS);

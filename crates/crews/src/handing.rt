@@ -6,7 +6,7 @@ ghost use Rattle.gather.specs.declared.texts.GatherFault.TheVariants.{Capacity, 
 ghost use Rattle.gather.specs.Large.{AreLonger, IsOfNone, IsTooLarge};
 ghost use Rattle.store_core.specs.Laws.{IsBlob};
 ghost use Rattle.store_shared.specs.Seats.{IsSeatOf, fixed_of};
-ghost use Rattle.crews.specs.Closing.{AreTheBlob, IsFoundWhole, IsLeft};
+ghost use Rattle.crews.specs.Closing.{AreTheBlob, IsKeptWhole, IsLeft};
 ghost use Rattle.crews.specs.Lists.{HaveAll, IsLent};
 
 use crate::closing::closing_rounds;
@@ -45,7 +45,7 @@ pub(crate) fn hand_out<R: Threads + Sync, H: Holder + Drop, L: Lists<H>>(
     ensures found { IfOk result (λ blob. AreTheBlob (IsLent H.gives (L.over lists.now)) (fixed_of assembly) blob) }
     ensures available { (blob : List ℕ) → IsBlob (fixed_of assembly) blob → chunk_count (length blob) ≤ (fixed_of assembly).capacity
         → HaveAll grain H.gives (L.over lists.now) (fixed_of assembly).mode blob
-        → IsFoundWhole (IsLent H.gives (L.over lists.now)) (fixed_of assembly) blob result }
+        → IsKeptWhole (IsLent H.gives (L.over lists.now)) (fixed_of assembly) blob result }
 {
     assembly.mode().is_keyed();
     let mut holders = match lists.list(alloc) {

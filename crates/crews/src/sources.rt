@@ -6,7 +6,7 @@ ghost use Rattle.gather.specs.Large.{AreLonger, IsOfNone, IsTooLarge, fixed_as};
 ghost use Rattle.crews.specs.declared.fault.CrewsFault.TheVariants.{Gather};
 ghost use Rattle.gather.specs.declared.texts.GatherFault.TheVariants.{Capacity, NotTheRoot, TooLarge, Unfinished};
 ghost use Rattle.store_core.specs.Laws.{IsBlob};
-ghost use Rattle.crews.specs.Closing.{AreTheBlob, IsFoundWhole};
+ghost use Rattle.crews.specs.Closing.{AreTheBlob, IsKeptWhole};
 ghost use Rattle.crews.specs.Lists.{IsCutOfSource, source_gives};
 ghost use Rattle.gather.specs.Available.{HaveSlices};
 
@@ -41,10 +41,10 @@ fn gather_within<R: Threads + Sync, S: Source + Sync>(
     ensures found { IfOk result (λ blob. AreTheBlob (IsCutOfSource S.contents S.faultless sources.now) (fixed_as root mode capacity) blob) }
     ensures available { (blob : List ℕ) (i : ℕ) (source : S) → IsBlob (fixed_as root mode capacity) blob → chunk_count (length blob) ≤ capacity
         → slice_get sources.now i ≡ Some source → S.contents source ≡ Some (combined_text mode blob) → S.faultless source
-        → IsFoundWhole (IsCutOfSource S.contents S.faultless sources.now) (fixed_as root mode capacity) blob result }
+        → IsKeptWhole (IsCutOfSource S.contents S.faultless sources.now) (fixed_as root mode capacity) blob result }
     ensures covered { (blob : List ℕ) → IsBlob (fixed_as root mode capacity) blob → chunk_count (length blob) ≤ capacity
         → HaveSlices grain (source_gives S.contents S.faultless) mode blob sources.now
-        → IsFoundWhole (IsCutOfSource S.contents S.faultless sources.now) (fixed_as root mode capacity) blob result }
+        → IsKeptWhole (IsCutOfSource S.contents S.faultless sources.now) (fixed_as root mode capacity) blob result }
 {
     gather_by::<R, SourceAt<'_, S>, Sources<'_, S>>(
         rt,
@@ -83,10 +83,10 @@ fn may_lack_room(gathered: &Result<Whole, CrewsFault>) -> bool
 ///
 /// 802 `Capacity` unless `capacity` is 1 to 65,536, asked before all else; 801 where there is no memory for the store,
 /// 806 for a worker's seat, and 911 `Starved` for the crews and the lists of sources. Then the blob is answered only
-/// once its hash is the root: 902 `NotTheRoot` where it isn't, 903 `Memory` where there is none for the pieces, of 256 KiB,
-/// in which so many workers read it from the store and hash it. An unfinished blob is 911 where memory was refused to a
-/// worker, or in the last round, else 805 `TooLarge` where one met a length above 1,024 times the capacity, else 901
-/// `Unfinished`.
+/// once its hash is the root: 902 `NotTheRoot` where it isn't, 903 `Memory` where there is none for the pieces of at
+/// most 256 KiB in which it is read from the store and hashed, on about so many threads at the most. An unfinished blob is
+/// 911 where memory was refused to a worker, or in the last round, else 805 `TooLarge` where one met a length above 1,024
+/// times the capacity, else 901 `Unfinished`.
 ///
 /// Where one of the sources never fails, its bytes are known, and they are the combined encoding of a blob with the root,
 /// of at most `capacity` chunks, that blob is answered, whatever the other sources are, whether or not they fail, and
@@ -117,10 +117,10 @@ pub fn gather_sources<R: Threads + Sync, S: Source + Sync>(
     ensures none { IsErrOf result (Gather NotTheRoot) → IsOfNone (IsCutOfSource S.contents S.faultless sources.now) (fixed_as root mode capacity) }
     ensures available { (blob : List ℕ) (i : ℕ) (source : S) → IsBlob (fixed_as root mode capacity) blob → chunk_count (length blob) ≤ capacity
         → slice_get sources.now i ≡ Some source → S.contents source ≡ Some (combined_text mode blob) → S.faultless source
-        → IsFoundWhole (IsCutOfSource S.contents S.faultless sources.now) (fixed_as root mode capacity) blob result }
+        → IsKeptWhole (IsCutOfSource S.contents S.faultless sources.now) (fixed_as root mode capacity) blob result }
     ensures covered { (blob : List ℕ) → IsBlob (fixed_as root mode capacity) blob → chunk_count (length blob) ≤ capacity
         → HaveSlices grain (source_gives S.contents S.faultless) mode blob sources.now
-        → IsFoundWhole (IsCutOfSource S.contents S.faultless sources.now) (fixed_as root mode capacity) blob result }
+        → IsKeptWhole (IsCutOfSource S.contents S.faultless sources.now) (fixed_as root mode capacity) blob result }
 {
     let first = room.max(1).min(capacity);
     if first == capacity || capacity > MAX_CAPACITY {

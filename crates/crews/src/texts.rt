@@ -1,4 +1,4 @@
-ghost use Rattle.std.specs.Prelude.{◌≡◌, ◌≢◌, ◌↔◌, ◌⊎◌, ◌*◌, ◌<◌, ◌≤◌, ℕ, All, Err, IfErr, IfOk, IsErrOf, IsTrue, List, Some, length, map, slice_get, vec_items, vec_len};
+ghost use Rattle.std.specs.Prelude.{◌≡◌, ◌↔◌, ◌⊎◌, ◌*◌, ◌<◌, ◌≤◌, ℕ, All, Err, IfErr, IfOk, IsErrOf, IsTrue, List, Some, length, map, slice_get, vec_items, vec_len};
 ghost use Rattle.b3tree.specs.Hashing.{hash};
 ghost use Rattle.bao_text.specs.Choice.{chunk_count};
 ghost use Rattle.bao_text.specs.Texts.{combined_text};
@@ -104,9 +104,9 @@ fn lacks_room(gathered: &Result<Vec<u8>, CrewsFault>) -> bool
 /// 802 `Capacity` unless `capacity` is 1 to 65,536, asked before all else; 801 where there is no memory for the store,
 /// 806 for a worker's seat, and 911 `Starved` for the crews and the lists of texts. Then the blob is answered only
 /// once its hash is the root: 902 `NotTheRoot` where it isn't, 903 `Memory` where there is none for the blob, or for the
-/// pieces, of 256 KiB, in which so many workers read it from the store and hash it. An unfinished blob is 911 where memory
-/// was refused to a worker, or in the last round, else 805 `TooLarge` where one met a length above 1,024 times the capacity,
-/// else 901 `Unfinished`.
+/// pieces of at most 256 KiB in which it is read from the store and hashed, on about so many threads at the most. An
+/// unfinished blob is 911 where memory was refused to a worker, or in the last round, else 805 `TooLarge` where one met a
+/// length above 1,024 times the capacity, else 901 `Unfinished`.
 ///
 /// Where one of the texts is the combined encoding of a blob with the root, of at most `capacity` chunks, that blob is
 /// answered, whatever the other texts are and however the workers meet, or there was no memory, or such a pair as

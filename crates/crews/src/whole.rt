@@ -37,8 +37,9 @@ fn judged(assembly: &Assembly, seat: &Seat, len: u64, top: &Input) -> Result<u64
     Ok(len)
 }
 
-// How long the blob of a shared store is, once all of its bytes were read and their hash in the mode is the root: so many
-// workers read and hash a part each, by seats of their own, in pieces that take 256 KiB.
+// How long the blob of a shared store is, once all of its bytes were read and their hash in the mode is the root. Its tree's
+// parts of at most about that many workers' share are read and hashed at once, by a seat each; where no seat can be split off, one
+// reads both parts.
 pub(crate) fn certify<R: Threads + Sync>(
     rt: &R,
     alloc: Global,
@@ -72,7 +73,7 @@ pub(crate) fn certify<R: Threads + Sync>(
     }
 }
 
-/// A blob that came together, in the shared store that it was gathered in: its bytes are read from there, by whom has it, so that
+/// A blob that came together, in the shared store that it was gathered in: whoever has it reads its bytes from there, so that
 /// they take no memory of their own. The store is let go with it. Contracts see the blob's bytes.
 #[derive(Drop)]
 pub struct Whole {
@@ -141,7 +142,7 @@ impl Whole {
 
     /// All bytes of the blob, in memory of their own.
     ///
-    /// Refused where there is none.
+    /// Refused where there is none. The blob is as it was in either case.
     pub fn to_vec(&mut self, alloc: Global) -> Result<Vec<u8>, AllocError>
         ensures same { self.new ≡ self.old }
         ensures bytes { IfOk result (λ blob. blob.items ≡ self.old) }

@@ -55,6 +55,32 @@ fn a_true_source_among_others(rt: HostRuntime) -> Result<(), Fail> {
     Ok(())
 }
 
+// A blob of more than a MiB: where there are several workers, parts of it are read from the store at once, by a seat each.
+#[test]
+fn a_blob_of_several_parts(rt: HostRuntime) -> Result<(), Fail> {
+    let alloc = rt.alloc();
+    let mode = Mode::hash();
+    let bytes = blob(alloc, 1_100_001)?;
+    let (root, text) = combined(alloc, &mode, bytes.as_slice())?;
+    let sources = [text.as_slice()];
+    for workers in [1, 4] {
+        let mut whole = gather_sources(
+            &rt,
+            alloc,
+            root,
+            mode,
+            1_100,
+            1_100,
+            workers,
+            Grain::Group,
+            &sources,
+        )?;
+        let gathered = whole.to_vec(alloc)?;
+        assert_eq!(rt; gathered.as_slice(), bytes.as_slice());
+    }
+    Ok(())
+}
+
 // Its refusals: a capacity that is too small, none, one too many, and nobody who has all.
 #[test]
 fn refusals(rt: HostRuntime) -> Result<(), Fail> {

@@ -2,7 +2,7 @@ use Rattle.std.proofs.Common.{◌≡◌, ◌⊎◌, List, ℕ, Result, subst}
 use Rattle.bao_gathered.proofs.Parts.{written_out}
 use Rattle.bao_gathered.proofs.placed.write_sources.Goals as goal
 use Rattle.crews.specs.declared.fault.CrewsFault.{CrewsFault}
-use Rattle.crews.specs.Closing.{IsFoundWhole}
+use Rattle.crews.specs.Closing.{IsKeptWhole}
 use Rattle.crews.specs.Lists.{IsCutOfSource}
 use Rattle.gather.specs.Large.{HasPair, fixed_as}
 
@@ -11,7 +11,7 @@ returns-clause-available g c = λ blob i source is fits there known sound.
     let handed = IsCutOfSource g.S.Source.contents g.S.Source.faultless c.args.sources.now in
     let fixed = fixed_as c.args.root.now c.args.mode.now c.args.how.capacity in
     let found : (c.in-Ok.blob ≡ blob) ⊎ HasPair handed fixed blob =
-    subst (λ (r : Result (List ℕ) CrewsFault). IsFoundWhole handed fixed blob r) c.in-Ok.is (c.gather_sources-gathered.ensures.available blob i source is fits there known sound) in
+    subst (λ (r : Result (List ℕ) CrewsFault). IsKeptWhole handed fixed blob r) c.in-Ok.is (c.gather_sources-gathered.ensures.available blob i source is fits there known sound) in
     written_out handed fixed c.args.how c.args.path blob c.in-Ok.blob _ _ c.write_found.result found c.write_found.ensures.count c.write_found.ensures.text c.write_found.ensures.fault
 
 pub returns-clause-covered : goal.returns-clause-covered
@@ -19,5 +19,5 @@ returns-clause-covered g c = λ blob is fits have.
     let handed = IsCutOfSource g.S.Source.contents g.S.Source.faultless c.args.sources.now in
     let fixed = fixed_as c.args.root.now c.args.mode.now c.args.how.capacity in
     let found : (c.in-Ok.blob ≡ blob) ⊎ HasPair handed fixed blob =
-    subst (λ (r : Result (List ℕ) CrewsFault). IsFoundWhole handed fixed blob r) c.in-Ok.is (c.gather_sources-gathered.ensures.covered blob is fits have) in
+    subst (λ (r : Result (List ℕ) CrewsFault). IsKeptWhole handed fixed blob r) c.in-Ok.is (c.gather_sources-gathered.ensures.covered blob is fits have) in
     written_out handed fixed c.args.how c.args.path blob c.in-Ok.blob _ _ c.write_found.result found c.write_found.ensures.count c.write_found.ensures.text c.write_found.ensures.fault

@@ -3,7 +3,7 @@ use Rattle.std.proofs.lemmas.List.{with_items_is}
 use Rattle.std.specs.List.{All}
 use Rattle.bao_text.specs.Choice.{chunk_count}
 use Rattle.crews.specs.declared.crew.Crew.{Crew}
-use Rattle.crews.specs.Closing.{AreTheBlob, IsFoundWhole}
+use Rattle.crews.specs.Closing.{AreTheBlob, IsKeptWhole}
 use Rattle.crews.specs.Crews.{IsHandedTo}
 use Rattle.crews.specs.Joined.{AreCallsOf, AreClaimsOf, HasAllNamesOf, HaveAllNames}
 use Rattle.crews.specs.Lists.{HaveAll, IsLent}
@@ -84,4 +84,4 @@ pub returns-clause-available : goal.returns-clause-available
 returns-clause-available g c =
     let handed : Piece → Type 0 = IsLent g.H.Holder.gives (g.L.Lists.over c.args.lists.now) in
     subst (λ (f : Fixed). (blob : List ℕ) → IsBlob f blob → chunk_count (length blob) ≤ f.capacity → HaveAll c.args.grain g.H.Holder.gives (g.L.Lists.over c.args.lists.now) f.mode blob
-    → IsFoundWhole handed f blob c.hand_out.result) c.in_ok-assembly.ensures.fixed c.hand_out.ensures.available
+    → IsKeptWhole handed f blob c.hand_out.result) c.in_ok-assembly.ensures.fixed c.hand_out.ensures.available
