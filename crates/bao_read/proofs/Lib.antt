@@ -1,1 +1,4 @@
+pub mod Deque
 pub mod Parents
+pub mod Parts
+pub mod Placed

@@ -2,7 +2,7 @@
 use Rattle.std.specs.Prelude.{◌≡◌, ℕ, List, ◌++◌, length, Option}
 use Rattle.b3word.specs.declared.input.Input.{Input}
 use Rattle.b3tree.specs.declared.mode.Mode.{Mode}
-use Rattle.b3read.specs.Given.{IsHashOf, IsTopOf}
+use Rattle.bao_read.specs.Given.{IsHashOf, IsTopOf}
 use Rattle.bao_text.specs.declared.choice.Choice.{Choice}
 use Rattle.bao_text.specs.Choice.{of_combined, of_outboard}
 use Rattle.bao_text.specs.Texts.{chosen_text, subtree_text}

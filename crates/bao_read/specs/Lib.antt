@@ -1,1 +1,4 @@
 pub mod Encodings
+pub mod Faults
+pub mod Given
+pub mod Jobs

@@ -1,14 +1,69 @@
-ghost use Rattle.std.specs.Prelude.{◌≡◌, ◌+◌, ◌-◌, ◌*◌, ◌^◌, ◌<◌, ◌≤◌, length, IfErr, IfOk};
-ghost use Rattle.b3read.specs.Given.{Lacks};
+ghost use Rattle.std.specs.Prelude.{◌≡◌, true, ◌+◌, ◌-◌, ◌*◌, ◌^◌, ◌<◌, ◌≤◌, List, ℕ, Some, length, IfErr, IfOk, IfSome, OnOk};
 ghost use Rattle.bao_read.specs.Encodings.{GainsText};
+ghost use Rattle.bao_read.specs.Given.{GivenAt, Lacks};
 
-use b3read::{ReadFault, Source, fill};
+use crate::fault::ReadFault;
+use crate::source::Source;
 use b3tree::{CHUNK_LEN, Cv, Input, Mode, bytes_are, cv, left_len, parent_input};
 use bao_text::{Choice, PARENT_LEN, append_subtree, put_parent};
 
-// Appends the text of the subtree over `len` bytes of the source, which begin with chunk `first`, of a blob all of
-// whose positions are chosen, and answers the subtree's last compression. The bytes come in pieces through `piece`,
-// and the place of a parent of several pieces is kept free until the values of its parts are there.
+/// The most bytes that a thread asks for at once: few enough to stay in a processor's cache.
+pub const PIECE_LEN: usize = 1 << 18;
+
+/// Fills `buf` with the source's bytes from the place `at` on, by as many reads as it takes.
+///
+/// Answers `Reader` (312) where a read answered a fault, one of the kind `Interrupted` too, which is not tried
+/// again, or no byte. What the buffer has then is not said.
+pub fn fill<S: Source>(source: &S, at: u64, buf: &mut [u8]) -> Result<(), ReadFault>
+    requires { at + length buf.old ≤ 2 ^ 64 - 1 }
+    ensures given { OnOk result (GivenAt (S.contents source.now) at buf.new) }
+    ensures fault { IfErr result (λ fault. fault ≡ ReadFault.Reader) }
+    ensures lacks { IfErr result (λ _. Lacks (S.contents source.now) (S.faultless source.now) (at + length buf.old)) }
+{
+    let mut filled = 0;
+    'reads: while filled < buf.len() {
+        match source.read_at(&mut buf[filled..], at + filled as u64) {
+            Ok(0) | Err(_) => return Err(ReadFault::Reader),
+            Ok(count) => filled += count,
+        }
+    }
+    Ok(())
+}
+
+/// Whether the source has no byte at `len` and after it. Where the read fails, it isn't said to end there.
+pub fn ends_at<S: Source>(source: &S, len: u64) -> bool
+    ensures ends { result ≡ true → IfSome (S.contents source.now) (λ s. length s ≤ len) }
+    ensures found { S.faultless source.now → IfSome (S.contents source.now) (λ s. length s ≤ len → result ≡ true) }
+{
+    matches!(source.read_at(&mut [0], len), Ok(0))
+}
+
+// As `append_in_pieces`, of bytes that lie in memory, where they stand.
+pub(crate) fn append_at_hand(
+    choice: &Choice,
+    mode: &Mode,
+    bytes: &[u8],
+    first: u64,
+    len: u64,
+    text: &mut Vec<u8>,
+) -> Result<Input, ReadFault>
+    requires range { 1024 * first + len ≤ 2 ^ 64 - 1 }
+    ensures text { IfOk result (λ top. GainsText (Some bytes.now) choice.now mode.now first len text.old.items text.new.items top) }
+    ensures fault { IfErr result (λ fault. fault ≡ ReadFault.Reader → length bytes.now < 1024 * first + len) }
+{
+    let start = CHUNK_LEN as u64 * first;
+    let end = start + len;
+    if end > bytes.len() as u64 {
+        return Err(ReadFault::Reader);
+    }
+    let part = &bytes[start as usize..end as usize];
+    bytes_are(part);
+    Ok(append_subtree(choice, mode, first, part, text)?)
+}
+
+// Appends what the choice wants of the subtree over `len` bytes of the source, which begin with chunk `first`, and
+// answers the subtree's last compression. The bytes come in pieces through `piece`, and the place of a parent of several
+// pieces is kept free until the values of its parts are there.
 #[cycle(pieces)]
 pub(crate) fn append_in_pieces<S: Source>(
     choice: &Choice,
@@ -20,8 +75,6 @@ pub(crate) fn append_in_pieces<S: Source>(
     text: &mut Vec<u8>,
 ) -> Result<Input, ReadFault>
     requires room { length piece.old < 1024 → len ≤ length piece.old }
-    requires start { choice.now.start ≡ 0 }
-    requires end { 1024 * first + len ≤ choice.now.end }
     requires range { 1024 * first + len ≤ 2 ^ 64 - 1 }
     ensures room { length piece.new ≡ length piece.old }
     ensures text { IfOk result (λ top. GainsText (S.contents source.now) choice.now mode.now first len text.old.items text.new.items top) }
@@ -31,11 +84,13 @@ pub(crate) fn append_in_pieces<S: Source>(
         let part = &mut piece[..len as usize];
         fill(source, CHUNK_LEN as u64 * first, part)?;
         bytes_are(part);
-        let top = append_subtree(choice, mode, first, part, text).map_err(|_| ReadFault::Memory)?;
-        return Ok(top);
+        return Ok(append_subtree(choice, mode, first, part, text)?);
     }
     let at = text.len();
-    text.extend_from_slice(&[0; PARENT_LEN])?;
+    let is_wanted = choice.wants(CHUNK_LEN as u64 * first, len);
+    if is_wanted {
+        text.extend_from_slice(&[0; PARENT_LEN])?;
+    }
     let left_len = left_len(len);
     let right_len = len - left_len;
     let right_first = first + left_len / CHUNK_LEN as u64;
@@ -43,6 +98,8 @@ pub(crate) fn append_in_pieces<S: Source>(
     let left = Cv(cv(&left));
     let right = append_in_pieces(choice, mode, source, right_first, right_len, piece, text)?;
     let right = Cv(cv(&right));
-    put_parent(text, at, &left, &right);
+    if is_wanted {
+        put_parent(text, at, &left, &right);
+    }
     Ok(parent_input(mode, &left, &right))
 }

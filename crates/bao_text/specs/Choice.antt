@@ -26,6 +26,10 @@ of_combined total = record { start = 0; end = max total 1; chunks = true }
 abbrev pub of_outboard : ℕ → Choice
 of_outboard total = record { start = 0; end = max total 1; chunks = false }
 
+-- no position
+abbrev pub of_nothing : Choice
+of_nothing = record { start = 0; end = 0; chunks = false }
+
 -- whether the n bytes from position `at` on meet the positions of the choice; no bytes count as one
 abbrev pub wants : Choice → ℕ → ℕ → Bool
 wants choice at n = nat_lt at choice.end && nat_lt choice.start (at + max n 1)

@@ -9,7 +9,7 @@ pub struct Choice {
 }
 
 impl Choice {
-    ghost use Rattle.bao_text.specs.Choice.{of_combined, of_outboard, of_slice, wants};
+    ghost use Rattle.bao_text.specs.Choice.{of_combined, of_nothing, of_outboard, of_slice, wants};
 
     /// What a combined encoding of a blob of `total` bytes is of: everything.
     pub fn of_combined(total: u64) -> Choice
@@ -29,6 +29,17 @@ impl Choice {
         Choice {
             chunks: false,
             ..Choice::of_combined(total)
+        }
+    }
+
+    /// What no text is of: nothing, as where a hash alone is asked for.
+    pub fn of_nothing() -> Choice
+        ensures { result ≡ of_nothing }
+    {
+        Choice {
+            start: 0,
+            end: 0,
+            chunks: false,
         }
     }
 

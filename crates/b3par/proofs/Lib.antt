@@ -1,3 +1,0 @@
-pub mod Slots
-pub mod Deque
-pub mod Parts

@@ -1,0 +1,97 @@
+ghost use Rattle.std.specs.Prelude.{◌≡◌, ℕ, List, ◌++◌, ◌≤◌, ◌⊎◌, length, IfErr, IfOk, IfSome};
+ghost use Rattle.bao_text.specs.declared.choice.Choice.{Choice};
+ghost use Rattle.bao_text.specs.Texts.{joined};
+ghost use Rattle.bao_read.specs.Encodings.{IsCombinedOf, IsOutboardOf, IsTextOf};
+ghost use Rattle.bao_read.specs.Given.{HasOther};
+
+use crate::fault::ReadFault;
+use crate::gate::Open;
+use crate::jobs::{Cutting, sharers};
+use crate::pieces::ends_at;
+use crate::pool::tree_by_pool;
+use crate::source::Source;
+use crate::tree::Tree;
+use b3tree::{Hash, Mode, root_hash, rooted};
+use bao_text::Choice;
+use std::alloc::Global;
+use std::thread::Threads;
+
+// What the choice wants of the `len` bytes of the source, after their length, and their hash.
+fn chosen_source<R: Threads + Sync, S: Source + Sync>(
+    rt: &R,
+    alloc: Global,
+    choice: &Choice,
+    mode: &Mode,
+    source: &S,
+    len: u64,
+    workers: usize,
+) -> Result<(Hash, Vec<Vec<u8>>), ReadFault>
+    ensures all { (of : ℕ → Choice) → choice.now ≡ of len
+        → IfOk result (λ made. IfSome (S.contents source.now) (λ bytes. IsTextOf of mode.now len bytes made.0.0 (joined made.1.items))) }
+    ensures some { (of : ℕ → Choice) → choice.now ≡ of len
+        → IfOk result (λ made. (bytes : List ℕ) × IsTextOf of mode.now len bytes made.0.0 (joined made.1.items)) }
+    ensures fault { IfErr result (λ fault. fault ≡ ReadFault.Reader → HasOther (S.contents source.now) (S.faultless source.now) len) }
+{
+    let mut length = Vec::new(alloc);
+    length.extend_from_slice(&len.to_le_bytes())?;
+    let mut texts = Vec::new(alloc);
+    texts.push(length)?;
+    let cutting = Cutting::of_source(len);
+    let workers = sharers(len, workers);
+    let done = tree_by_pool(rt, alloc, choice, mode, source, &cutting, workers, &Open)?;
+    let Tree {
+        top,
+        texts: mut rest,
+    } = done.tree;
+    if !ends_at(source, len) {
+        return Err(ReadFault::Reader);
+    }
+    texts.append(&mut rest)?;
+    Ok((root_hash(&rooted(&top)), texts))
+}
+
+/// The combined encoding of the `len` bytes of `source` in `mode`, in texts that follow one another, and the bytes'
+/// hash, by a pool of at most `workers` threads, 1 to 64, that steal subtrees: each reads what it takes in pieces of at most
+/// 256 KiB, and makes its text. The memory that this takes is the encoding's, and that of a piece for each thread.
+///
+/// Answers `Memory` (311) where it runs out of memory for a piece, the pool or the encoding, and `Reader` (312) where a read
+/// answered a fault, one of the kind `Interrupted` too, which is not tried again, and where the source has fewer
+/// or more than `len` bytes. The threads have ended in any case; the work of one that can't be started is done by
+/// another.
+pub fn combined_source<R: Threads + Sync, S: Source + Sync>(
+    rt: &R,
+    alloc: Global,
+    mode: &Mode,
+    source: &S,
+    len: u64,
+    workers: usize,
+) -> Result<(Hash, Vec<Vec<u8>>), ReadFault>
+    requires workers { (1 ≤ workers) × (workers ≤ 64) }
+    ensures all { IfOk result (λ made. IfSome (S.contents source.now) (λ bytes. IsCombinedOf mode.now len bytes made.0.0 (joined made.1.items))) }
+    ensures some { IfOk result (λ made. (bytes : List ℕ) × IsCombinedOf mode.now len bytes made.0.0 (joined made.1.items)) }
+    ensures fault { IfErr result (λ fault. fault ≡ ReadFault.Reader → HasOther (S.contents source.now) (S.faultless source.now) len) }
+{
+    let choice = Choice::of_combined(len);
+    chosen_source(rt, alloc, &choice, mode, source, len, workers)
+}
+
+/// The outboard encoding of the `len` bytes of `source` in `mode`, and their hash, in the same way: the memory that this takes
+/// is the encoding's, a sixteenth of the bytes, and that of a piece, at most 256 KiB, for each thread.
+///
+/// Answers `Memory` (311) and `Reader` (312) where `combined_source` does.
+pub fn outboard_source<R: Threads + Sync, S: Source + Sync>(
+    rt: &R,
+    alloc: Global,
+    mode: &Mode,
+    source: &S,
+    len: u64,
+    workers: usize,
+) -> Result<(Hash, Vec<Vec<u8>>), ReadFault>
+    requires workers { (1 ≤ workers) × (workers ≤ 64) }
+    ensures all { IfOk result (λ made. IfSome (S.contents source.now) (λ bytes. IsOutboardOf mode.now len bytes made.0.0 (joined made.1.items))) }
+    ensures some { IfOk result (λ made. (bytes : List ℕ) × IsOutboardOf mode.now len bytes made.0.0 (joined made.1.items)) }
+    ensures fault { IfErr result (λ fault. fault ≡ ReadFault.Reader → HasOther (S.contents source.now) (S.faultless source.now) len) }
+{
+    let choice = Choice::of_outboard(len);
+    chosen_source(rt, alloc, &choice, mode, source, len, workers)
+}

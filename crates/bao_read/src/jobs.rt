@@ -1,0 +1,114 @@
+ghost use Rattle.std.specs.Prelude.{◌≡◌, ◌*◌, ◌<◌, ◌≤◌, ◌^◌};
+
+use crate::fault::ReadFault;
+use crate::made::Made;
+use b3tree::CHUNK_LEN;
+
+/// The most chunks of a job of bytes that lie in memory: so many that the work is worth the stealing, and few enough that
+/// no thread waits long for the last.
+pub const JOB_CHUNKS: u64 = 64;
+
+/// Fewer bytes than these of a source that has to be read aren't worth a thread.
+pub const LEAST_RANGE_LEN: u64 = 1 << 20;
+
+// The most jobs of a source that has to be read: so many that no thread waits long for the last, and few enough that what
+// is kept of each is nothing beside its bytes.
+const MOST_JOBS: u64 = 256;
+
+/// A subtree that one thread hashes, or makes the text of.
+#[derive(Clone, Copy)]
+pub(crate) struct Job {
+    /// Its place among the jobs, from 0.
+    pub number: usize,
+    /// The number of its first chunk.
+    pub first: u64,
+    /// How many bytes it is over.
+    pub len: u64,
+}
+
+/// What a job came to.
+#[derive(Drop)]
+pub(crate) struct Answer {
+    pub job: Job,
+    pub made: Result<Made, ReadFault>,
+}
+
+/// So many bytes, cut into jobs of so many chunks. Where that is a power of two, the jobs are the largest subtrees of at most
+/// so many chunks that the tree's splits give.
+#[derive(Clone, Copy)]
+pub(crate) struct Cutting {
+    len: u64,
+    chunks: u64,
+    ghost some: { 0 < chunks },
+    ghost most: { 1024 * chunks ≤ 2 ^ 63 },
+}
+
+impl Cutting {
+    ghost use Rattle.std.specs.Prelude.{◌+◌, ◌-◌};
+    ghost use Rattle.bao_read.specs.Jobs.{IsJob, job_count, job_with};
+
+    /// That of bytes that lie in memory.
+    pub(crate) fn of_bytes(len: u64) -> Cutting
+        ensures { (result.len ≡ len) × (result.chunks ≡ 64) }
+    {
+        Cutting {
+            len,
+            chunks: JOB_CHUNKS,
+        }
+    }
+
+    /// That of a source that has to be read: of not many more jobs than a longer source has.
+    pub(crate) fn of_source(len: u64) -> Cutting
+        ensures { result.len ≡ len }
+    {
+        let share = len.div_ceil(CHUNK_LEN as u64 * MOST_JOBS);
+        Cutting {
+            len,
+            chunks: share.next_power_of_two().max(JOB_CHUNKS),
+        }
+    }
+
+    /// How many bytes there are.
+    pub(crate) fn len(&self) -> u64
+        ensures { result ≡ self.now.len }
+    {
+        self.len
+    }
+
+    /// The chunks of a job that is not the last.
+    pub(crate) fn chunks(&self) -> u64
+        ensures value { result ≡ self.now.chunks }
+        ensures some { 0 < result }
+        ensures most { 1024 * result ≤ 2 ^ 63 }
+    {
+        self.chunks
+    }
+
+    /// How many jobs there are: of no bytes there is one.
+    pub(crate) fn count(&self) -> usize
+        ensures { result ≡ job_count (1024 * self.now.chunks) self.now.len }
+    {
+        self.len.div_ceil(CHUNK_LEN as u64 * self.chunks).max(1) as usize
+    }
+
+    /// The job with this number.
+    pub(crate) fn job(&self, number: usize) -> Job
+        requires { number < job_count (1024 * self.now.chunks) self.now.len }
+        ensures value { result ≡ job_with self.now.chunks self.now.len number }
+        ensures range { IsJob result }
+    {
+        let first = self.chunks * number as u64;
+        let start = CHUNK_LEN as u64 * first;
+        Job {
+            number,
+            first,
+            len: (CHUNK_LEN as u64 * self.chunks).min(self.len - start),
+        }
+    }
+}
+
+/// How many of the workers are worth their threads over so many bytes that have to be read.
+pub(crate) fn sharers(len: u64, workers: usize) -> usize {
+    let most = len.div_ceil(LEAST_RANGE_LEN).max(1);
+    workers.min(usize::try_from(most).unwrap_or(usize::MAX))
+}

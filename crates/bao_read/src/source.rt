@@ -1,0 +1,60 @@
+ghost use Rattle.std.specs.Prelude.{◌≡◌, ℕ, List, Option, None, Some, IfOk, IfSome, IsOk};
+ghost use Rattle.std.specs.Io.{ReadsAtMost};
+ghost use Rattle.bao_read.specs.Given.{ReadsAt};
+
+use std::fs::File;
+use std::io;
+use std::os::unix::fs::FileExt;
+
+/// Bytes that are read by position, by several threads at once where it is `Sync`.
+pub trait Source {
+    // The bytes, where they are known.
+    ghost contents: { Self → Option (List ℕ) } = { λ _. None };
+
+    // That no read of it answers a fault.
+    ghost faultless: { Self → Type 0 } = { λ _. ⊥ };
+
+    /// Reads bytes from the place `at` on to the front of `buf`, and answers how many: none only past the
+    /// end, or where `buf` is empty.
+    fn read_at(&self, buf: &mut [u8], at: u64) -> io::Result<usize>
+        ensures bound { ReadsAtMost result buf.new }
+        ensures bytes { IfOk result (λ count. ReadsAt (contents self.now) at count buf.new) }
+        ensures fault { faultless self.now → IsOk result };
+
+    /// All of the bytes, where they lie in memory, so that nobody has to copy them.
+    fn at_hand(&self) -> Option<&[u8]>
+        ensures { IfSome result (λ bytes. contents self.now ≡ Some bytes.now) }
+    {
+        None
+    }
+}
+
+/// The position of the file is neither used nor moved.
+impl Source for File {
+    fn read_at(&self, buf: &mut [u8], at: u64) -> io::Result<usize> {
+        FileExt::read_at(self, buf, at)
+    }
+}
+
+impl Source for &[u8] {
+    ghost use Rattle.std.specs.Prelude.{IsSome, Some, ⊤};
+
+    ghost contents = { λ bytes. Some bytes.now };
+
+    ghost faultless = { λ _. ⊤ };
+
+    fn read_at(&self, buf: &mut [u8], at: u64) -> io::Result<usize> {
+        let start = usize::try_from(at).unwrap_or(usize::MAX).min(self.len());
+        let rest = &self[start..];
+        let count = rest.len().min(buf.len());
+        buf[..count].copy_from_slice(&rest[..count]);
+        Ok(count)
+    }
+
+    fn at_hand(&self) -> Option<&[u8]>
+        ensures there { IsSome result }
+        ensures all { IfSome result (λ bytes. Some self.now.now ≡ Some bytes.now) }
+    {
+        Some(self)
+    }
+}
