@@ -34,29 +34,29 @@ typedef uint32_t bw_status;
 enum {
     BW_OK = 0,
     BW_TOO_LONG = 201,       /* more than 2^64 - 1 bytes */
-    BW_TEXT_MEMORY = 401,    /* no memory for a text */
-    BW_SHORT = 501,          /* the text ends within the node that begins at *at */
+    BW_TEXT_MEMORY = 401,    /* out of memory for an encoding */
+    BW_SHORT = 501,          /* the encoding ends within the node that begins at *at */
     BW_MISMATCH = 502,       /* the node that begins at *at is damaged */
     BW_TRAILING = 503,       /* all is good, and something follows at *at */
-    BW_TOO_MUCH = 504,       /* 2^64 bytes of a text or more */
+    BW_TOO_MUCH = 504,       /* 2^64 bytes of an encoding or more */
     BW_OTHER_BLOB = 601,     /* the blob's hash isn't the root */
-    BW_COLLISION = 602,      /* two inputs with one chaining value are named */
-    BW_STORE_MEMORY = 801,   /* no memory for a store */
+    BW_COLLISION = 602,      /* a collision: two different inputs with one chaining value */
+    BW_STORE_MEMORY = 801,   /* out of memory for a store */
     BW_CAPACITY = 802,       /* the capacity isn't 1 to 65,536 chunks */
     BW_NO_GROUP = 803,       /* the store has no such group */
     BW_TOO_LARGE = 805,      /* the length is above what the store has room for */
-    BW_SPLIT_MEMORY = 806,   /* no memory for a seat */
-    BW_OTHER_LENGTH = 807,   /* the recorded length isn't the one that the text claims, or there is none */
+    BW_SPLIT_MEMORY = 806,   /* out of memory for a seat */
+    BW_OTHER_LENGTH = 807,   /* the recorded length isn't the one that the encoding claims, or there is none */
     BW_NO_LENGTH = 808,      /* no length is recorded */
     BW_LACKING = 809,        /* the node in *lacking isn't held */
-    BW_SERVE_MEMORY = 810,   /* no memory for a slice */
+    BW_SERVE_MEMORY = 810,   /* out of memory for a slice */
     BW_UNFINISHED = 901,     /* no length is recorded, or a byte isn't held */
     BW_NOT_THE_ROOT = 902,   /* the hash of the bytes isn't the root */
     BW_ROOM = 1201,          /* the caller's buffer has no room */
     BW_NO_HANDLE = 1202,     /* the handle is empty, or of another kind */
-    BW_MEMORY = 1203,        /* no memory for what a handle owns */
+    BW_MEMORY = 1203,        /* out of memory for what a handle owns */
     BW_MISSING = 1204,       /* the byte at *missing isn't held */
-    BW_NO_TAIL = 1205,       /* the text hasn't the last chunk of its length */
+    BW_NO_TAIL = 1205,       /* the encoding hasn't the last chunk of its length */
     BW_DIFFERS = 1206,       /* another length is recorded */
     BW_NOT_UTF8 = 1207,      /* the context isn't UTF-8 */
     BW_PAST_OUTPUT = 1208,   /* the output asked for ends above 2^64 - 1 */
@@ -126,7 +126,7 @@ typedef struct bw_node {
     uint64_t number;
 } bw_node;
 
-/* What bw_gather did: chunks that it committed, parents that it stored, slices that it asked for, texts that a check refused, fetches whose
+/* What bw_gather did: chunks that it committed, parents that it stored, slices that it asked for, encodings that a check refused, fetches whose
  * device failed (there is none here), refusals of memory, and 1 where a certified length was above what the store has room for. A count
  * stays at 2^64 - 1 once there. */
 typedef struct bw_report {
@@ -208,37 +208,37 @@ bw_status bw_check_bare(const bw_mode *mode, const uint8_t root[BW_AT_LEAST(BW_H
 
 /* Checks a slice, and compares it with a blob. BW_OK: it is accepted, each chunk of it is the blob's, and the length that it certifies, if it
  * does, is the blob's. BW_OTHER_BLOB: the blob's hash isn't the root. BW_COLLISION: *ours is an input that hashing the blob compresses, and
- * *theirs one that checking the text compresses; they differ and have one chaining value. */
+ * *theirs one that checking the encoding compresses; they differ and have one chaining value. */
 bw_status bw_audit(const bw_mode *mode, const uint8_t root[BW_AT_LEAST(BW_HASH_LEN)], uint64_t start, uint64_t len,
                    const uint8_t *text, size_t text_len, const uint8_t *blob, size_t blob_len, uint64_t *at, bw_input *ours,
                    bw_input *theirs);
 
-/* --- Encodings checked in pieces: a text is given a node at a time, in its order, while it comes, and none of its bytes are kept. What is
+/* --- Encodings checked in pieces: an encoding is given a node at a time, in its order, while it comes, and none of its bytes are kept. What is
  * accepted, and else the first fault and its place, are those of bw_check_slice and bw_check_combined. A program asks bw_feed_wants for the
- * size of the next node and hands bw_feed_take so many bytes, again and again; then it hands bw_feed_finish what is left of the text, where it
+ * size of the next node and hands bw_feed_take so many bytes, again and again; then it hands bw_feed_finish what is left of the encoding, where it
  * ends or nothing is wanted. Each call but the first two can answer BW_NO_HANDLE. Memory is taken by the first two alone. */
 
-/* A check that has taken nothing, of a text as the slice of `len` bytes from byte `start` on, or as the combined encoding; what the handle
+/* A check that has taken nothing, of an encoding as the slice of `len` bytes from byte `start` on, or as the combined encoding; what the handle
  * owned is freed. BW_MEMORY, with an empty handle. */
 bw_status bw_feed_slice(const bw_mode *mode, const uint8_t root[BW_AT_LEAST(BW_HASH_LEN)], uint64_t start, uint64_t len, bw_handle *feed);
 bw_status bw_feed_combined(const bw_mode *mode, const uint8_t root[BW_AT_LEAST(BW_HASH_LEN)], bw_handle *feed);
 
 /* How many bytes the node has that comes next: 8 for the length, 64 for a parent, 1 to 1,024 for a chunk. 0 exactly where what was taken is an
- * accepted text. */
+ * accepted encoding. */
 bw_status bw_feed_wants(bw_handle *feed, size_t *size);
 
-/* Takes the node that comes next, and verifies it. BW_MISMATCH: that is the first fault of every text that begins with what was taken and
+/* Takes the node that comes next, and verifies it. BW_MISMATCH: that is the first fault of every encoding that begins with what was taken and
  * this node, at *at. BW_TOO_MUCH, with 0 in *at. BW_OTHER_SIZE: `node` has another length than is wanted, or nothing is. The check is as it was
  * then, and can take other bytes in their place. */
 bw_status bw_feed_take(bw_handle *feed, const uint8_t *node, size_t node_len, uint64_t *at);
 
-/* What is said of the whole text, which is what was taken and then `rest`: BW_OK exactly where it is accepted, BW_SHORT where a node comes
+/* What is said of the whole encoding, which is what was taken and then `rest`: BW_OK exactly where it is accepted, BW_SHORT where a node comes
  * next, BW_TRAILING where none does and `rest` has bytes. BW_OTHER_SIZE: `rest` has all bytes of a node, which is to be taken first. The check
  * is as it was, and can go on. */
 bw_status bw_feed_finish(bw_handle *feed, const uint8_t *rest, size_t rest_len, uint64_t *at);
 
 /* --- The store that threads share: each thread has a seat of its own, and the store lives until its last seat is freed. Nothing is taken on
- * anybody's word: what is stored comes from texts accepted under the store's root. Chunks are in groups of 64, and a mask is of a group:
+ * anybody's word: what is stored comes from encodings accepted under the store's root. Chunks are in groups of 64, and a mask is of a group:
  * bit j stands for chunk 64 * group + j. Each call can answer BW_NO_HANDLE. */
 
 /* A store of at most `capacity` chunks, 1 to 65,536, and its first seat; what the handle owned is freed. BW_CAPACITY, BW_STORE_MEMORY,
@@ -265,25 +265,25 @@ bw_status bw_seat_take(bw_handle *seat, uint32_t group, uint64_t want, uint64_t 
 /* Ends the seat's claims among the mask. */
 bw_status bw_seat_give(bw_handle *seat, uint32_t group, uint64_t mask, uint64_t *given);
 
-/* Checks a text as the slice (start, len), stores exactly the chunks of the group that the seat claims and the text has, and ends these
+/* Checks an encoding as the slice (start, len), stores exactly the chunks of the group that the seat claims and the encoding has, and ends these
  * claims. BW_SHORT, BW_MISMATCH, BW_TRAILING as bw_check_slice. */
 bw_status bw_seat_commit(bw_handle *seat, uint32_t group, uint64_t start, uint64_t len, const uint8_t *text, size_t text_len,
                          uint64_t *committed, uint64_t *at);
 
-/* Checks a text as the slice (2^64 - 1, 1), which has the last chunk, and records its length, if none is recorded. BW_SHORT, BW_MISMATCH,
+/* Checks an encoding as the slice (2^64 - 1, 1), which has the last chunk, and records its length, if none is recorded. BW_SHORT, BW_MISMATCH,
  * BW_TRAILING, BW_NO_TAIL, BW_TOO_LARGE, BW_DIFFERS. */
 bw_status bw_seat_settle(bw_handle *seat, const uint8_t *text, size_t text_len, uint64_t *at);
 
-/* Checks a text as the slice (start, len), and stores its parents at boundaries of the group, so that the store can serve them: bit j of
+/* Checks an encoding as the slice (start, len), and stores its parents at boundaries of the group, so that the store can serve them: bit j of
  * *stored stands for the parent whose right part begins at chunk 64 * group + j. BW_SHORT, BW_MISMATCH, BW_TRAILING, BW_OTHER_LENGTH. */
 bw_status bw_seat_commit_parents(bw_handle *seat, uint32_t group, uint64_t start, uint64_t len, const uint8_t *text, size_t text_len,
                                  uint64_t *stored, uint64_t *at);
 
-/* One worker's round over one text, which may be the blob's combined encoding, or any bytes: N threads with a seat each are N workers, with
+/* One worker's round over one encoding, which may be the blob's combined encoding, or any bytes: N threads with a seat each are N workers, with
  * the numbers 0 to N - 1. Where no length is recorded, it cuts out the slice of the last byte and settles the length that this certifies;
  * it ends where there is none, or where it is too large. Then it goes once round all groups, from its own part of them on, takes each group's
  * chunks, cuts out their slice, commits from it and stores its parents, and gives back what is left. What it did is added to *report, which
- * begins as all 0. The answer is BW_OK also where nothing was committed; another text is another call. Its seat claims nothing more. */
+ * begins as all 0. The answer is BW_OK also where nothing was committed; another encoding is another call. Its seat claims nothing more. */
 bw_status bw_gather(bw_handle *seat, uint32_t number, uint32_t workers, const uint8_t *text, size_t text_len, bw_report *report);
 
 /* The recorded length of the blob. BW_UNFINISHED: none is. */
@@ -293,7 +293,7 @@ bw_status bw_seat_length(bw_handle *seat, uint64_t *len);
  * filled in. */
 bw_status bw_seat_read(bw_handle *seat, uint64_t from, uint8_t *out, size_t out_len, uint64_t *missing);
 
-/* Puts the text of the slice (start, len) to the start of `out`, also of an unfinished store. BW_NO_LENGTH, BW_LACKING, BW_SERVE_MEMORY,
+/* Puts the encoding of the slice (start, len) to the start of `out`, also of an unfinished store. BW_NO_LENGTH, BW_LACKING, BW_SERVE_MEMORY,
  * BW_ROOM. */
 bw_status bw_seat_serve_slice(bw_handle *seat, uint64_t start, uint64_t len, uint8_t *out, size_t out_len, size_t *used, bw_node *lacking);
 

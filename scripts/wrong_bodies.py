@@ -13,8 +13,8 @@ that isn't proved, and for another reason than a callee without a proof, has its
 tried without those that were, and then alone, at last from nothing, as `rt must-fail` does: so is an edit that changes anything but
 one function's body.
 Prints a line for each edit and last 'N refused, M not refused'. The exit status is 1 where one isn't refused.
-A crate's file wrong-bodies/TRIED has a sum of the crate's text, and of each of these edits that was refused of that text its own
-sum and name. Those are not tried again, but with --anew or once the text has changed.
+A crate's file wrong-bodies/TRIED has a sum of the crate's text without its comments, and of each of these edits that was refused of
+that text its own sum and name. Those are not tried again, but with --anew or once the text has changed.
 --read proves nothing and takes a second: it fails on an edit of either folder that can't be applied any more, or that
 stands in both, and names each crate on which they were never tried so, or that has changed since. With --strict it fails on those too.
 """
@@ -39,6 +39,11 @@ BATCH = 12
 EDIT = re.compile(r"[A-Za-z0-9_-][A-Za-z0-9_.-]*\.edit")
 # What `rt check` doesn't read.
 TESTS = re.compile(r"src/tests[^/]*(/.*)?")
+# A comment to its line's end, in Rattle beside the literals, where none begins, and in antt where it has its line for itself.
+# A file that has a comment of the other kind, which ends elsewhere, is left as it is.
+RATTLE = re.compile(r'''(r(#*)".*?"\2|"(?:\\.|[^"\\])*"|'(?:\\.|[^'\\])')|^[ \t]*//[^\n]*\n|[ \t]*//[^\n]*''', re.M | re.S)
+ANTT = re.compile(r"^[ \t]*--[^\n]*\n", re.M)
+COMMENTS = {".rt": (RATTLE, "/*"), ".antt": (ANTT, "{-")}
 # A function's first line, with its indent and name.
 HEAD = re.compile(r"( *)(?:pub(?:\([^)]*\))? )?(?:(?:const|unsafe|final|extern \"C\") )*fn (\w+)")
 # What the prover says of a function that is not proved by itself, and of one that waits for another's proof.
@@ -57,14 +62,20 @@ def edits_of(crate, part):
     return good, bad
 
 
+def without_comments(name, text):
+    """Returns the text of the file of that name without its comments, which change no verdict."""
+    comment, other = COMMENTS.get(os.path.splitext(name)[1], (None, ""))
+    return text if comment is None or other in text else comment.sub(lambda it: it[1] if it.lastindex else "", text)
+
+
 def sum_of(rt, folder):
-    """Returns a sum of the crate's text, its tests aside."""
+    """Returns a sum of the crate's text, its tests and comments aside."""
     made = hashlib.sha256()
     for file in rt.rtlib.files_of(folder):
         name = os.path.relpath(file, folder)
         if not TESTS.fullmatch(name):
-            with open(file, "rb") as it:
-                made.update(repr((name, it.read())).encode())
+            with open(file, encoding="utf-8", newline="") as it:
+                made.update(repr((name, without_comments(name, it.read()))).encode())
     return made.hexdigest()
 
 

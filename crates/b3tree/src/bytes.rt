@@ -6,6 +6,7 @@ ghost use Rattle.b3tree.specs.Valid.{AreBytes};
 pub fn bytes_are(bytes: &[u8])
     ensures { AreBytes bytes.now }
 {
+    // A read of the slice, so that the proof has what its type says of it.
     let _count = bytes.len();
 }
 

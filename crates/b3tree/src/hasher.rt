@@ -3,6 +3,7 @@ ghost use Rattle.std.specs.Int.{IsPowerOfTwo};
 
 use crate::chunk::CHUNK_LEN;
 use crate::hashing::{root_hash, rooted};
+use crate::lanes::MOST_CHUNKS;
 use crate::mode::Mode;
 use crate::output::fill_output;
 use crate::stack::{Stack, push_subtree};
@@ -16,9 +17,6 @@ use thiserror::Error;
 const BUFFER_CHUNKS: usize = 8;
 
 const BUFFER_LEN: usize = BUFFER_CHUNKS * CHUNK_LEN;
-
-// The most chunks of a subtree that is hashed at once.
-const MOST_CHUNKS: usize = 512;
 
 // The chunks of the largest whole subtree that comes after `before` chunks and leaves some of `len`
 // bytes, up to `MOST_CHUNKS`.

@@ -23,8 +23,9 @@ use std::simd::u32x8;
 // Lanes of a vector.
 const LANES: usize = 8;
 
-// The most chunks of a lane. More would lie further apart than the caches like.
-const MOST_A_LANE: usize = 64;
+/// The most chunks of a subtree that is hashed at once. Those of more lanes would lie further apart than the
+/// caches like.
+pub(crate) const MOST_CHUNKS: usize = 512;
 
 // Blocks of a whole chunk.
 pub(crate) const BLOCKS: usize = CHUNK_LEN / BLOCK_LEN;
@@ -266,18 +267,18 @@ pub(crate) fn whole_top(mode: &Mode, first: u64, bytes: &[u8], chunks: usize) ->
     parent_input(mode, &Cv(left.to_array()), &Cv(right.to_array()))
 }
 
-// How many chunks each lane has, where `len` bytes are a whole subtree of at most 512 chunks and at
-// least eight.
-pub(crate) fn chunks_a_lane(len: usize) -> Option<usize>
-    ensures { IfSome result (λ chunks. IsPowerOfTwo chunks × (len ≡ 8192 * chunks)) }
+/// How many chunks each of eight lanes has, where `len` bytes are a whole subtree of at least eight chunks
+/// and at most 512.
+pub fn chunks_a_lane(len: u64) -> Option<usize>
+    ensures { IfSome result (λ chunks. IsPowerOfTwo chunks × (len ≡ 8192 * chunks) × (chunks ≤ 64)) }
 {
-    let count = len / (LANES * CHUNK_LEN);
-    if count == 0 {
+    let count = len / (LANES * CHUNK_LEN) as u64;
+    if count == 0 || count > (MOST_CHUNKS / LANES) as u64 {
         return None;
     }
-    let chunks = 1 << count.ilog2();
-    if chunks <= MOST_A_LANE && LANES * CHUNK_LEN * chunks == len {
-        return Some(chunks);
+    let chunks = 1u64 << count.ilog2();
+    if (LANES * CHUNK_LEN) as u64 * chunks == len {
+        return Some(chunks as usize);
     }
     None
 }

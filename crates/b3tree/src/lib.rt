@@ -9,10 +9,10 @@ pub use chunk::{BLOCK_LEN, CHUNK_LEN, chunk_input};
 pub use eight::{EightParents, FourParents, Parts, eight_parents, eight_values, lane_parents};
 pub use hasher::{Hasher, TooLong};
 pub use hashing::{hash, root_hash, rooted, subtree_cv};
-pub use lanes::parent_lanes;
+pub use lanes::{chunks_a_lane, parent_lanes};
 pub use mode::Mode;
 pub use output::{xof, xof_fits};
-pub use spaced::{spaced_chunks, spaced_words};
+pub use spaced::{spaced_chunks, spaced_values};
 pub use tree::{left_len, parent_input, top_input};
 pub use values::{Cv, Hash};
 

@@ -59,6 +59,7 @@ impl Mode {
     pub fn is_keyed(&self)
         ensures { IsKeyed self.now }
     {
+        // A law, so that the proof has what it says: nothing runs.
         words_are(&self.key);
         word_is(self.domain);
     }
@@ -92,11 +93,13 @@ impl Mode {
 fn words_are(words: &[u32])
     ensures { AreWords words.now }
 {
+    // A read, so that the proof has what the type says.
     let _count = words.len();
 }
 
 fn word_is(word: u32)
     ensures { word < 2 ^ 32 }
 {
+    // A read, so that the proof has what the type says.
     let _word = word;
 }

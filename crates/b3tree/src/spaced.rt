@@ -14,9 +14,9 @@ use crate::mode::Mode;
 use b3word::{cv_lanes, transposed};
 use std::simd::u32x8;
 
-// Half a block of the text, 32 bytes, in each lane.
+/// The words of 32 bytes of the text in each lane, those of lane 0 from place `at` on.
 #[inline(always)]
-fn spaced_half_blocks(text: &[u8], at: usize, step: usize) -> [u32x8; 8]
+pub fn spaced_values(text: &[u8], at: usize, step: usize) -> [u32x8; 8]
     requires { at + step * 7 + 288 ≤ length text.now }
     ensures { (j : ℕ) → j < 8 → lane8 j result ≡ words_of 8 (piece text.now (lane_place at step j) 32) }
 {
@@ -32,15 +32,15 @@ fn spaced_half_blocks(text: &[u8], at: usize, step: usize) -> [u32x8; 8]
     )
 }
 
-/// The words of 64 bytes of the text in each lane, those of lane 0 from place `at` on.
+// The words of 64 bytes.
 #[inline(always)]
-pub fn spaced_words(text: &[u8], at: usize, step: usize) -> [u32x8; 16]
+fn spaced_words(text: &[u8], at: usize, step: usize) -> [u32x8; 16]
     requires { at + step * 7 + 320 ≤ length text.now }
     ensures { (j : ℕ) → j < 8 → lane16 j result
         ≡ words_of 8 (piece text.now (lane_place at step j) 32) ++ words_of 8 (piece text.now (lane_place at step j + 32) 32) }
 {
-    let [m0, m1, m2, m3, m4, m5, m6, m7] = spaced_half_blocks(text, at, step);
-    let [m8, m9, m10, m11, m12, m13, m14, m15] = spaced_half_blocks(text, at + BLOCK_LEN / 2, step);
+    let [m0, m1, m2, m3, m4, m5, m6, m7] = spaced_values(text, at, step);
+    let [m8, m9, m10, m11, m12, m13, m14, m15] = spaced_values(text, at + BLOCK_LEN / 2, step);
     [
         m0, m1, m2, m3, m4, m5, m6, m7, m8, m9, m10, m11, m12, m13, m14, m15,
     ]

@@ -76,7 +76,7 @@ pub fn top_input(mode: &Mode, first: u64, bytes: &[u8]) -> Input
     if bytes.len() <= CHUNK_LEN {
         return last_chunk_input(mode, first, bytes);
     }
-    if let Some(chunks) = chunks_a_lane(bytes.len()) {
+    if let Some(chunks) = chunks_a_lane(bytes.len() as u64) {
         return whole_top(mode, first, bytes, chunks);
     }
     let left_len = left_len(bytes.len() as u64);

@@ -10,7 +10,7 @@ use Rattle.bao_bind.specs.declared.pair.Pair.{Pair}
 abbrev pub part_inputs : Bool → Mode → ℕ → List ℕ → List Input
 part_inputs top mode first s = inputs_within (length s / 1024) top mode first s
 
--- A pair is found, one of each list; or none, and then this holds.
+-- A collision is found, one input of each list; or none, and then this holds.
 abbrev pub Finds : List Input → List Input → Type 0 → Option Pair → Type 0
 Finds ours theirs same None = same
 Finds ours theirs same (Some pair) = Names ours theirs pair.ours pair.theirs

@@ -44,7 +44,7 @@ Compared blob piece to (Some chunk) =
 abbrev pub HasRoot : List ℕ → Checked → Type 0
 HasRoot blob piece = hash (piece_mode piece) blob ≡ piece_root piece
 
--- An audit of the piece says that it agrees; that it is of another root; or names a pair.
+-- An audit of the piece says that it agrees; that it is of another root; or exhibits a collision.
 abbrev pub IsOfBlob : List ℕ → Checked → Type 0
 IsOfBlob blob piece = HasRoot blob piece × AgreesWith blob piece
 

@@ -120,6 +120,7 @@ pub fn audit(blob: &[u8], piece: &Checked<'_>) -> Result<Verdict, AuditFault>
         return Ok(Verdict::Agrees);
     };
     let mode = piece.mode();
+    // A law, so that the proof has what it says: nothing runs.
     mode.is_keyed();
     let ours = Part {
         first: 0,

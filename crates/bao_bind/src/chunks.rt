@@ -28,6 +28,7 @@ fn blocks_apart(mode: &Mode, ours: &Part<'_>, k: usize, theirs: &Part<'_>, l: us
         → Finds (whole_chunk top mode.now ours.now.first ours.now.bytes.now) (whole_chunk top mode.now theirs.now.first theirs.now.bytes.now)
         (take (64 * (k + 1)) ours.now.bytes.now ≡ take (64 * (l + 1)) theirs.now.bytes.now) result }
 {
+    // Laws, so that the proof has what they say: nothing runs.
     bytes_are(ours.bytes);
     bytes_are(theirs.bytes);
     if k == 0 || l == 0 {
@@ -54,6 +55,7 @@ pub(crate) fn chunks_apart(
         → Finds (whole_chunk top mode.now ours.now.first ours.now.bytes.now) (whole_chunk top mode.now theirs.now.first theirs.now.bytes.now)
         ((ours.now.first ≡ theirs.now.first) × (ours.now.bytes.now ≡ theirs.now.bytes.now)) result }
 {
+    // Laws, so that the proof has what they say: nothing runs.
     bytes_are(ours.bytes);
     bytes_are(theirs.bytes);
     let k = last_block(ours.bytes);

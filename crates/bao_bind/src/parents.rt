@@ -6,6 +6,7 @@ ghost use Rattle.bao_check.specs.Accepted.{part_value};
 
 use b3tree::{Cv, Input, Mode, parent_input};
 use bao_check::Checked;
+use bao_text::CV_LEN;
 
 /// Where the parents of a tree come from.
 pub(crate) trait Parents {
@@ -27,8 +28,6 @@ impl<'a> Parents for Checked<'a> {
         self.parent(m)
     }
 }
-
-const CV_LEN: usize = 32;
 
 // The input that a parent's 64 bytes make: the chaining values of its left and of its right part.
 #[tactic(auto, unfolding(bao_check::specs::Accepted::part_value))]

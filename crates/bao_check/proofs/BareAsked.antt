@@ -7,17 +7,17 @@ use Rattle.b3tree.specs.Tree.{left_len}
 use Rattle.bao_text.specs.declared.choice.Choice.{Choice}
 use Rattle.bao_text.specs.Choice.{chunk_count, of_outboard}
 use Rattle.bao_text.specs.Cut.{claimed}
-use Rattle.bao_text.specs.Nodes.{Node, Side, left, placed, right, subtree_nodes, subtree_size}
+use Rattle.bao_text.specs.Nodes.{TreeNode, Side, left, placed, right, subtree_nodes, subtree_size}
 use Rattle.bao_text.proofs.SubtreeText.{Parts, left_len-Parts}
 use Rattle.bao_check.specs.declared.asked.Asked.{Asked}
 use Rattle.bao_check.specs.Accepted.{outboard_nodes, places_of}
 use Rattle.bao_check.specs.Bare.{HasValue}
 use Rattle.bao_check.specs.BareWalk.{asks, below}
 use Rattle.bao_check.specs.Inputs.{marked}
-use Rattle.bao_check.specs.Leaves.{HasParents}
+use Rattle.bao_check.specs.Leaves.{WantsParents}
 use Rattle.bao_check.specs.Pieces.{IsLeafValue}
 use Rattle.bao_check.specs.Walk.{Meets, asked_root}
-use Rattle.bao_check.proofs.Outlines.{far-HasParents, leaf-far, leaf-near, leaf-top, leaf-unique, near-HasParents, outboard-HasParents}
+use Rattle.bao_check.proofs.Outlines.{far-WantsParents, leaf-far, leaf-near, leaf-top, leaf-unique, near-WantsParents, outboard-WantsParents}
 
 pub asks-small : (levels : ℕ) (asked : Asked) (outline : List ℕ) (k number n at : ℕ) → n ≤ 1024 → asks levels asked outline k number n at ≡ asked
 unfolding asks
@@ -36,12 +36,12 @@ unfolding asks
 asks-far levels asked outline k number n at more after = rw (lt-leb n 1024 more, le-ltb k (number + left_len n / 1024) after) refl
 
 -- it is the value that a parent of the outline has for the chunk
-record IsAskedLeaf (outline : List ℕ) (places : List (ℕ × Node)) (k : ℕ) (asked : Asked) : Type 0 where
+record IsAskedLeaf (outline : List ℕ) (places : List (ℕ × TreeNode)) (k : ℕ) (asked : Asked) : Type 0 where
   top : asked.top ≡ false
   value : IsLeafValue outline places k asked.value.0
 
 asks-leaf : (levels : ℕ) (asked : Asked) (outline : List ℕ) (k : ℕ) (own : Choice) (number n : ℕ) (sides : List Side) (source at : ℕ) → 1024 < n → n ≤ 1024 * levels + 1024
-    → HasParents own number n → number ≤ k → k < number + chunk_count n
+    → WantsParents own number n → number ≤ k → k < number + chunk_count n
     → IsAskedLeaf outline (placed at (subtree_nodes own number n sides source)) k (asks levels asked outline k number n at)
 asks-leaf zero asked outline k own number n sides source at more hn has first last = absurd (omega arith)
 asks-leaf (suc levels) asked outline k own number n sides source at more hn has first last =
@@ -57,7 +57,7 @@ asks-leaf (suc levels) asked outline k own number n sides source at more hn has 
                 (record { top = refl; value = leaf-top outline k own number n sides source at left more has (omega (arith, parts.some), omega (arith, parts.some)) })
             | inl two ↦
                 let in_near = asks-leaf levels (below left bytes) outline k own number l (sides ++ left ∷ []) (source + 64) (at + 64) two (omega (arith, parts.whole, parts.below))
-                (near-HasParents own number n more has) first (omega (arith, parts.whole)) in
+                (near-WantsParents own number n more has) first (omega (arith, parts.whole)) in
                 let near : Asked = asks levels (below left bytes) outline k number l (at + 64) in
                 subst P (sym (asks-near levels asked outline k number n at more before))
                 (record { top = in_near.top; value = leaf-near outline k near.value.0 own number n sides source at more has in_near.value })
@@ -69,7 +69,7 @@ asks-leaf (suc levels) asked outline k own number n sides source at more hn has 
                 (record { top = refl; value = leaf-top outline k own number n sides source at right more has (omega (arith, parts.below), omega (arith, parts.whole, parts.below, parts.some)) })
             | inl two ↦
                 let in_far = asks-leaf levels (below right bytes) outline k own (number + l / 1024) (n - l) (sides ++ right ∷ []) (source + 64 + subtree_size l) (at + 64 * (l / 1024)) two
-                (omega (arith, parts.some)) (far-HasParents own number n more has) after (omega (arith, parts.whole, parts.below)) in
+                (omega (arith, parts.some)) (far-WantsParents own number n more has) after (omega (arith, parts.whole, parts.below)) in
                 let far : Asked = asks levels (below right bytes) outline k (number + l / 1024) (n - l) (at + 64 * (l / 1024)) in
                 subst P (sym (asks-far levels asked outline k number n at more after))
                 (record { top = in_far.top; value = leaf-far outline k far.value.0 own number n sides source at more has in_far.value })
@@ -97,7 +97,7 @@ value-meets_more root outline k x more last =
     let several : 1 < chunk_count total = omega arith in
     let asked : Asked = asks_of root outline k in
     let leaf : IsAskedLeaf outline (places_of (outboard_nodes outline)) k asked =
-    asks-leaf total (asked_root root) outline k (of_outboard total) 0 total [] 8 8 more (omega arith) (outboard-HasParents total) (omega arith) (omega arith) in
+    asks-leaf total (asked_root root) outline k (of_outboard total) 0 total [] 8 8 more (omega arith) (outboard-WantsParents total) (omega arith) (omega arith) in
     let plain : cv (marked asked.top x) ≡ cv x = ap (λ (top : Bool). cv (marked top x)) leaf.top in (
       (λ h. plain ∙ leaf-unique outline k (cv x) asked.value.0 (h.1 several) leaf.value),
       λ meets. (

@@ -14,15 +14,15 @@ use Rattle.bao_check.specs.Walk.{AreGood, asked_root}
 use Rattle.bao_check.proofs.BareAsked.{value-meets}
 use Rattle.bao_check.proofs.BareGood.{Inside, Ranges, asked_levels, good_levels, input_beside, there_levels}
 use Rattle.bao_check.proofs.BesidePlaces.{Finds-all, IsMade, IsOfChunks-counted, IsWhole, made-At, made-claimed, made-ends, whole-chunks, whole-text}
-use Rattle.bao_check.proofs.Outlines.{outboard-HasParents}
+use Rattle.bao_check.proofs.Outlines.{outboard-WantsParents}
 
--- a text of bytes claims less than 2 ^ 64
+-- an encoding of bytes claims less than 2 ^ 64
 pub claimed-small : (text : List ℕ) → AreBytes text → claimed text < 2 ^ 64
 claimed-small text valid =
     let eight : AreBytes (take 8 text) = AreBytes-take 8 text valid in
     omega (arith, eight.at 0, eight.at 1, eight.at 2, eight.at 3, eight.at 4, eight.at 5, eight.at 6, eight.at 7)
 
--- the text of the chunks
+-- the encoding of the chunks
 abbrev made : List ℕ → ℕ → ℕ → List ℕ → List ℕ
 made outline first count chunks = beside_text outline (1024 * first) (bare_part count) chunks
 
@@ -82,7 +82,7 @@ module _ (mode : Mode) (root outline chunks : List ℕ) (first count : ℕ) (acc
       (value-meets root outline k (input_beside mode outline text chunks (of_outboard total) (of_slice total start len) total (start / 1024) (first + count) ranges k) (omega arith)).0 (good_bare k since to).1 in
       let good : AreGood (asked_root root) [] mode text 8 (nodes total start len) =
       good_levels mode outline text chunks (of_outboard total) (of_slice total start len) total (start / 1024) (first + count) ranges
-      total (asked_root root) 0 total [] 8 8 8 (omega arith) (Inside-all total) (outboard-HasParents total) (Finds-all total) accepted.good
+      total (asked_root root) 0 total [] 8 8 8 (omega arith) (Inside-all total) (outboard-WantsParents total) (Finds-all total) accepted.good
       whole.sizes (made-At outline start len chunks accepted.long) each in
       let ends = made-ends outline start len chunks accepted.long whole in
       subst (λ (k : ℕ). IsAccepted mode root text (nodes k start len)) (sym claims) (record { long = omega arith; good = good; ends = ends })
@@ -96,7 +96,7 @@ module _ (mode : Mode) (root outline chunks : List ℕ) (first count : ℕ) (acc
       let whole : IsWhole outline start len chunks = whole-text outline start len chunks is_made own.ends in
       let ranges = ranges_counted total first count small some within in
       let each = asked_levels mode outline text chunks (of_outboard total) (of_slice total start len) total (start / 1024) (first + count) ranges
-      total (asked_root root) 0 total [] 8 8 8 (omega arith) (Inside-all total) (outboard-HasParents total) (Finds-all total)
+      total (asked_root root) 0 total [] 8 8 8 (omega arith) (Inside-all total) (outboard-WantsParents total) (Finds-all total)
       whole.sizes (made-At outline start len chunks accepted.long) own.good in
       let there = there_levels mode outline text chunks (of_outboard total) (of_slice total start len) total (start / 1024) (first + count) ranges
       total 0 total [] 8 (omega arith) (Inside-all total) whole.sizes in

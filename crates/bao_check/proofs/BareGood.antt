@@ -1,4 +1,4 @@
--- The nodes of a text that an outline and chunks make are good exactly where each chunk has the outline's value.
+-- The nodes of an encoding that an outline and chunks make are good exactly where each chunk has the outline's value.
 use Rattle.std.proofs.Common.{◌≡◌, ℕ, zero, suc, ◌+◌, ◌-◌, ◌*◌, ◌/◌, ◌<◌, ◌≤◌, max, min, List, [], ◌∷◌, ◌++◌, length, take, drop, true, refl, sym, ap, subst, ◌∙◌, arith, inl, inr}
 use Rattle.std.specs.List.{AllByRecursion, flat_map}
 use Rattle.std.proofs.lemmas.Bool.{cases_Bool, cases_lt}
@@ -10,7 +10,7 @@ use Rattle.b3tree.specs.Chunk.{last_chunk_input}
 use Rattle.b3tree.specs.Tree.{left_len, parent_input}
 use Rattle.bao_text.specs.declared.choice.Choice.{Choice}
 use Rattle.bao_text.specs.Choice.{chunk_count, wants}
-use Rattle.bao_text.specs.Nodes.{Node, Side, left, right, size, subtree_nodes, subtree_size}
+use Rattle.bao_text.specs.Nodes.{TreeNode, Side, left, right, size, subtree_nodes, subtree_size}
 use Rattle.bao_text.proofs.Everything.{At, At_first, At_rest}
 use Rattle.bao_text.proofs.SubtreeNodes.{parent_node, subtree_nodes-parent, subtree_nodes-unwanted}
 use Rattle.bao_text.proofs.SubtreeText.{Parts, left_len-Parts}
@@ -18,14 +18,14 @@ use Rattle.bao_check.specs.declared.asked.Asked.{Asked}
 use Rattle.bao_check.specs.Accepted.{outboard_nodes, part_value, places_of}
 use Rattle.bao_check.specs.Bare.{bare_chunk}
 use Rattle.bao_check.specs.Beside.{node_beside}
-use Rattle.bao_check.specs.Leaves.{HasParents}
+use Rattle.bao_check.specs.Leaves.{WantsParents}
 use Rattle.bao_check.specs.Walk.{AreGood}
 use Rattle.bao_check.specs.Walk as walk
 use Rattle.bao_check.specs.BareWalk.{asks}
 use Rattle.bao_check.proofs.BareAsked.{asks-far, asks-near, asks-small}
 use Rattle.bao_check.proofs.BesidePlaces.{Finds, Finds-far, Finds-near, flat-size, parent-beside}
 use Rattle.bao_check.proofs.Lists.{All-first, All-second, nodes_size}
-use Rattle.bao_check.proofs.Outlines.{far-HasParents, near-HasParents, near-size}
+use Rattle.bao_check.proofs.Outlines.{far-WantsParents, near-WantsParents, near-size}
 use Rattle.bao_check.proofs.Parts.{AreGood-join, AreGood-split, below}
 use Rattle.bao_check.proofs.Presence.{Meets, Meets-from_wants, wants-from_Meets}
 use Rattle.bao_check.proofs.Sizes.{wants_whole}
@@ -60,15 +60,15 @@ Inside-far total number n more inside =
     }
 
 module _ (mode : Mode) (outline text chunks : List ℕ) (own choice : Choice) (total first after : ℕ) (ranges : Ranges total first after choice) where
-  abbrev all_places : List (ℕ × Node)
+  abbrev all_places : List (ℕ × TreeNode)
   all_places = places_of (outboard_nodes outline)
 
   -- the bytes that are made for a node
-  abbrev made : Node → List ℕ
+  abbrev made : TreeNode → List ℕ
   made node = node_beside outline first chunks node
 
   -- they are as many as it has
-  abbrev IsMadeWhole : Node → Type 0
+  abbrev IsMadeWhole : TreeNode → Type 0
   IsMadeWhole node = length (made node) ≡ size node
 
   -- the input of a chunk
@@ -110,11 +110,11 @@ module _ (mode : Mode) (outline text chunks : List ℕ) (own choice : Choice) (t
       → AllByRecursion IsMadeWhole (subtree_nodes choice number n sides source) → At text at (flat_map made (subtree_nodes choice number n sides source))
       → AreAsked levels asked number n from → AreGood asked sides mode text at (subtree_nodes choice number n sides source)
   good-small levels asked number n sides source at from one inside whole here each =
-      let P : List Node → Type 0 = AreGood asked sides mode text at in
+      let P : List TreeNode → Type 0 = AreGood asked sides mode text at in
       elim (cases_Bool (wants choice (1024 * number) n)) [
         | inr skipped ↦ subst P (sym (subtree_nodes-unwanted choice number n sides source skipped)) tt
         | inl wanted ↦
-            let node : Node = chunk_node number n sides source in
+            let node : TreeNode = chunk_node number n sides source in
             let is : subtree_nodes choice number n sides source ≡ node ∷ [] = leaf_nodes choice number n sides source wanted one ranges.chunks in
             let own_whole : AllByRecursion IsMadeWhole (node ∷ []) = subst (AllByRecursion IsMadeWhole) is whole in
             let there : At text at (made node) = subst (At text at) (ap (flat_map made) is ∙ append-nil (made node)) here in
@@ -135,7 +135,7 @@ module _ (mode : Mode) (outline text chunks : List ℕ) (own choice : Choice) (t
       → AreGood asked sides mode text at (subtree_nodes choice number n sides source) → AreAsked levels asked number n from
   asked-small levels asked number n sides source at from one inside whole here good k since to low high =
       let wanted : wants choice (1024 * number) n ≡ true = is_wanted number n k since to low high in
-      let node : Node = chunk_node number n sides source in
+      let node : TreeNode = chunk_node number n sides source in
       let is : subtree_nodes choice number n sides source ≡ node ∷ [] = leaf_nodes choice number n sides source wanted one ranges.chunks in
       let own_whole : AllByRecursion IsMadeWhole (node ∷ []) = subst (AllByRecursion IsMadeWhole) is whole in
       let there : At text at (made node) = subst (At text at) (ap (flat_map made) is ∙ append-nil (made node)) here in
@@ -167,13 +167,13 @@ module _ (mode : Mode) (outline text chunks : List ℕ) (own choice : Choice) (t
         (flat_map made (subtree_nodes choice (number + left_len n / 1024) (n - left_len n) (sides ++ right ∷ []) (source + 64 + subtree_size (left_len n))))
 
   parts_at : (at number n : ℕ) (sides : List Side) (source from : ℕ) → wants choice (1024 * number) n ≡ true → 1024 < n
-      → HasParents own number n → Finds all_places own number n sides source from
+      → WantsParents own number n → Finds all_places own number n sides source from
       → AllByRecursion IsMadeWhole (subtree_nodes choice number n sides source) → At text at (flat_map made (subtree_nodes choice number n sides source))
       → PartsAt at number n sides source from
   parts_at at number n sides source from wanted more has finds whole here =
-      let top : Node = parent_node number n sides source in
-      let near : List Node = subtree_nodes choice number (left_len n) (sides ++ left ∷ []) (source + 64) in
-      let far : List Node = subtree_nodes choice (number + left_len n / 1024) (n - left_len n) (sides ++ right ∷ []) (source + 64 + subtree_size (left_len n)) in
+      let top : TreeNode = parent_node number n sides source in
+      let near : List TreeNode = subtree_nodes choice number (left_len n) (sides ++ left ∷ []) (source + 64) in
+      let far : List TreeNode = subtree_nodes choice (number + left_len n / 1024) (n - left_len n) (sides ++ right ∷ []) (source + 64 + subtree_size (left_len n)) in
       let all : AllByRecursion IsMadeWhole (top ∷ (near ++ far)) = split-whole number n sides source wanted more whole in
       let near_all : AllByRecursion IsMadeWhole near = All-first IsMadeWhole near far all.1 in
       let both : At text at (made top ++ (flat_map made near ++ flat_map made far)) =
@@ -208,7 +208,7 @@ module _ (mode : Mode) (outline text chunks : List ℕ) (own choice : Choice) (t
 
   -- by the number of levels, a subtree is good where its chunks are what is asked
   pub good_levels : (levels : ℕ) (asked : Asked) (number n : ℕ) (sides : List Side) (source at from : ℕ) → n ≤ 1024 * levels + 1024 → Inside total number n
-      → HasParents own number n → Finds all_places own number n sides source from → AreGood asked sides mode outline from (subtree_nodes own number n sides source)
+      → WantsParents own number n → Finds all_places own number n sides source from → AreGood asked sides mode outline from (subtree_nodes own number n sides source)
       → AllByRecursion IsMadeWhole (subtree_nodes choice number n sides source) → At text at (flat_map made (subtree_nodes choice number n sides source))
       → AreAsked levels asked number n from → AreGood asked sides mode text at (subtree_nodes choice number n sides source)
   good_levels zero asked number n sides source at from hn inside has finds outlined whole here each = good-small zero asked number n sides source at from (omega arith) inside whole here each
@@ -222,10 +222,10 @@ module _ (mode : Mode) (outline text chunks : List ℕ) (own choice : Choice) (t
               let parts : Parts n l = left_len-Parts n more in
               let near_sides : List Side = sides ++ left ∷ [] in
               let far_sides : List Side = sides ++ right ∷ [] in
-              let near : List Node = subtree_nodes choice number l near_sides (source + 64) in
-              let far : List Node = subtree_nodes choice (number + l / 1024) (n - l) far_sides (source + 64 + subtree_size l) in
-              let own_near : List Node = subtree_nodes own number l near_sides (source + 64) in
-              let own_far : List Node = subtree_nodes own (number + l / 1024) (n - l) far_sides (source + 64 + subtree_size l) in
+              let near : List TreeNode = subtree_nodes choice number l near_sides (source + 64) in
+              let far : List TreeNode = subtree_nodes choice (number + l / 1024) (n - l) far_sides (source + 64 + subtree_size l) in
+              let own_near : List TreeNode = subtree_nodes own number l near_sides (source + 64) in
+              let own_far : List TreeNode = subtree_nodes own (number + l / 1024) (n - l) far_sides (source + 64 + subtree_size l) in
               let all_wanted : wants own (1024 * number) n ≡ true = wants_whole own (1024 * number) n has.start (omega (arith, has.end)) in
               let outline_parts = AreGood-split asked own mode outline from number n sides source all_wanted more outlined in
               let len : nodes_size own_near + 64 ≡ 64 * (l / 1024) = near-size own number n sides source more has in
@@ -234,11 +234,11 @@ module _ (mode : Mode) (outline text chunks : List ℕ) (own choice : Choice) (t
               let there = parts_at at number n sides source from wanted more has finds whole here in
               let near_good : AreGood (below left bytes) near_sides mode text (at + 64) near =
               good_levels levels (below left bytes) number l near_sides (source + 64) (at + 64) (from + 64) (omega (arith, parts.whole, parts.below)) (Inside-near total number n more inside)
-              (near-HasParents own number n more has) (Finds-near all_places own number n sides source from more has finds) outline_parts.near_good
+              (near-WantsParents own number n more has) (Finds-near all_places own number n sides source from more has finds) outline_parts.near_good
               there.near_whole there.near_at (asked_near levels asked number n from more each) in
               let far_good : AreGood (below right bytes) far_sides mode text (at + 64 + nodes_size near) far =
               good_levels levels (below right bytes) (number + l / 1024) (n - l) far_sides (source + 64 + subtree_size l) (at + 64 + nodes_size near) (from + 64 * (l / 1024)) (omega (arith, parts.some))
-              (Inside-far total number n more inside) (far-HasParents own number n more has) (Finds-far all_places own number n sides source from more has finds)
+              (Inside-far total number n more inside) (far-WantsParents own number n more has) (Finds-far all_places own number n sides source from more has finds)
               (subst (λ (k : ℕ). AreGood (below right bytes) far_sides mode outline k own_far) e outline_parts.far_good)
               there.far_whole there.far_at (asked_far levels asked number n from more each) in
               let back : bytes ≡ take 64 (drop at text) = sym there.parent_is in
@@ -254,7 +254,7 @@ module _ (mode : Mode) (outline text chunks : List ℕ) (own choice : Choice) (t
 
   -- and its chunks are what is asked where it is good
   pub asked_levels : (levels : ℕ) (asked : Asked) (number n : ℕ) (sides : List Side) (source at from : ℕ) → n ≤ 1024 * levels + 1024 → Inside total number n
-      → HasParents own number n → Finds all_places own number n sides source from
+      → WantsParents own number n → Finds all_places own number n sides source from
       → AllByRecursion IsMadeWhole (subtree_nodes choice number n sides source) → At text at (flat_map made (subtree_nodes choice number n sides source))
       → AreGood asked sides mode text at (subtree_nodes choice number n sides source) → AreAsked levels asked number n from
   asked_levels zero asked number n sides source at from hn inside has finds whole here good = asked-small zero asked number n sides source at from (omega arith) inside whole here good
@@ -266,8 +266,8 @@ module _ (mode : Mode) (outline text chunks : List ℕ) (own choice : Choice) (t
         let parts : Parts n l = left_len-Parts n more in
         let near_sides : List Side = sides ++ left ∷ [] in
         let far_sides : List Side = sides ++ right ∷ [] in
-        let near : List Node = subtree_nodes choice number l near_sides (source + 64) in
-        let far : List Node = subtree_nodes choice (number + l / 1024) (n - l) far_sides (source + 64 + subtree_size l) in
+        let near : List TreeNode = subtree_nodes choice number l near_sides (source + 64) in
+        let far : List TreeNode = subtree_nodes choice (number + l / 1024) (n - l) far_sides (source + 64 + subtree_size l) in
         let wanted : wants choice (1024 * number) n ≡ true = is_wanted number n k since to low high in
         let good_parts = AreGood-split asked choice mode text at number n sides source wanted more good in
         let there = parts_at at number n sides source from wanted more has finds whole here in
@@ -276,13 +276,13 @@ module _ (mode : Mode) (outline text chunks : List ℕ) (own choice : Choice) (t
           | inl before ↦
               subst (λ (a : Asked). walk.Meets a (input_beside k)) (sym (asks-near levels asked outline k number n from more before))
               (asked_levels levels (below left bytes) number l near_sides (source + 64) (at + 64) (from + 64) (omega (arith, parts.whole, parts.below)) (Inside-near total number n more inside)
-              (near-HasParents own number n more has) (Finds-near all_places own number n sides source from more has finds) there.near_whole there.near_at
+              (near-WantsParents own number n more has) (Finds-near all_places own number n sides source from more has finds) there.near_whole there.near_at
               (subst (λ (xs : List ℕ). AreGood (below left xs) near_sides mode text (at + 64) near) there.parent_is good_parts.near_good)
               k since to low (omega (arith, parts.whole, parts.some)))
           | inr beyond ↦
               subst (λ (a : Asked). walk.Meets a (input_beside k)) (sym (asks-far levels asked outline k number n from more beyond))
               (asked_levels levels (below right bytes) (number + l / 1024) (n - l) far_sides (source + 64 + subtree_size l) (at + 64 + nodes_size near) (from + 64 * (l / 1024)) (omega (arith, parts.some))
-              (Inside-far total number n more inside) (far-HasParents own number n more has) (Finds-far all_places own number n sides source from more has finds) there.far_whole there.far_at
+              (Inside-far total number n more inside) (far-WantsParents own number n more has) (Finds-far all_places own number n sides source from more has finds) there.far_whole there.far_at
               (subst (λ (xs : List ℕ). AreGood (below right xs) far_sides mode text (at + 64 + nodes_size near) far) there.parent_is good_parts.far_good)
               k since to beyond (omega (arith, parts.whole, parts.below)))
         ]
@@ -295,7 +295,7 @@ module _ (mode : Mode) (outline text chunks : List ℕ) (own choice : Choice) (t
   there-small : (number n : ℕ) (sides : List Side) (source : ℕ) → n ≤ 1024 → Inside total number n → AllByRecursion IsMadeWhole (subtree_nodes choice number n sides source) → AreThere number n
   there-small number n sides source one inside whole k since to low high =
       let wanted : wants choice (1024 * number) n ≡ true = is_wanted number n k since to low high in
-      let node : Node = chunk_node number n sides source in
+      let node : TreeNode = chunk_node number n sides source in
       let own_whole : AllByRecursion IsMadeWhole (node ∷ []) = subst (AllByRecursion IsMadeWhole) (leaf_nodes choice number n sides source wanted one ranges.chunks) whole in
       let same : number ≡ k = omega arith in
       subst (λ (j : ℕ). length (bare_chunk total first chunks j) ≡ min 1024 (total - 1024 * j)) same
@@ -310,8 +310,8 @@ module _ (mode : Mode) (outline text chunks : List ℕ) (own choice : Choice) (t
         λ k since to low high.
         let l : ℕ = left_len n in
         let parts : Parts n l = left_len-Parts n more in
-        let near : List Node = subtree_nodes choice number l (sides ++ left ∷ []) (source + 64) in
-        let far : List Node = subtree_nodes choice (number + l / 1024) (n - l) (sides ++ right ∷ []) (source + 64 + subtree_size l) in
+        let near : List TreeNode = subtree_nodes choice number l (sides ++ left ∷ []) (source + 64) in
+        let far : List TreeNode = subtree_nodes choice (number + l / 1024) (n - l) (sides ++ right ∷ []) (source + 64 + subtree_size l) in
         let all = split-whole number n sides source (is_wanted number n k since to low high) more whole in
         elim (cases_lt k (number + l / 1024)) [
           | inl before ↦

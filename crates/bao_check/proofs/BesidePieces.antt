@@ -7,7 +7,7 @@ use Rattle.std.proofs.lemmas.Bool.Decides.{eqb_tells}
 use Rattle.b3tree.specs.declared.mode.Mode.{Mode}
 use Rattle.bao_text.specs.Cut.{claimed}
 use Rattle.bao_text.specs.NodeNames.{boundary}
-use Rattle.bao_text.specs.Nodes.{Node, nodes, size}
+use Rattle.bao_text.specs.Nodes.{TreeNode, nodes, size}
 use Rattle.bao_check.specs.declared.locate.Span.{Span}
 use Rattle.bao_check.specs.Accepted.{IsAccepted, bytes_at, outboard_nodes, places_of, slice_nodes, text_end}
 use Rattle.bao_check.specs.Beside.{IsOfChunks, beside_text, node_beside}
@@ -20,15 +20,15 @@ use Rattle.bao_check.proofs.Locating.{chunk_in-place}
 use Rattle.bao_check.proofs.Parenting.{parent_in-place}
 
 -- the place at which a chunk is found
-record IsChunkPlace (places : List (ℕ × Node)) (i : ℕ) (span : Span) : Type 0 where
-  place : ℕ × Node
+record IsChunkPlace (places : List (ℕ × TreeNode)) (i : ℕ) (span : Span) : Type 0 where
+  place : ℕ × TreeNode
   there : Contains places place
   chunk : place.1.is_chunk ≡ true
   number_is : place.1.number ≡ i
   at_is : place.0 ≡ span.at
   len_is : place.1.len ≡ span.len
 
-chunk_found : (places : List (ℕ × Node)) (i : ℕ) (span : Span) → chunk_place places i ≡ Some span → IsChunkPlace places i span
+chunk_found : (places : List (ℕ × TreeNode)) (i : ℕ) (span : Span) → chunk_place places i ≡ Some span → IsChunkPlace places i span
 chunk_found [] i span is = let none : None ≡ Some span = is in cc
 chunk_found (place ∷ places) i span is =
     let further : chunk_place places i ≡ Some span → IsChunkPlace (place ∷ places) i span =
@@ -54,14 +54,14 @@ chunk_found (place ∷ places) i span is =
     ]
 
 -- and that at which a parent is
-record IsParentPlace (places : List (ℕ × Node)) (m at : ℕ) : Type 0 where
-  place : ℕ × Node
+record IsParentPlace (places : List (ℕ × TreeNode)) (m at : ℕ) : Type 0 where
+  place : ℕ × TreeNode
   there : Contains places place
   parent : place.1.is_chunk ≡ false
   boundary_is : boundary place.1 ≡ m
   at_is : place.0 ≡ at
 
-parent_found : (places : List (ℕ × Node)) (m at : ℕ) → parent_place places m ≡ Some at → IsParentPlace places m at
+parent_found : (places : List (ℕ × TreeNode)) (m at : ℕ) → parent_place places m ≡ Some at → IsParentPlace places m at
 parent_found [] m at is = let none : None ≡ Some at = is in cc
 parent_found (place ∷ places) m at is =
     let further : parent_place places m ≡ Some at → IsParentPlace (place ∷ places) m at =
@@ -84,10 +84,10 @@ there_is : (o : Option (List ℕ)) → length (unwrap_or o []) ≡ 64 → o ≡ 
 there_is None full = absurd (omega (arith, full))
 there_is (Some bytes) full = refl
 
--- the nodes of the made text stand at their places
+-- the nodes of the made encoding stand at their places
 abbrev pub StandBeside : List ℕ → ℕ → ℕ → List ℕ → Type 0
 StandBeside outline start len chunks =
-    (place : ℕ × Node) → Contains (places_of (slice_nodes (beside_text outline start len chunks) start len)) place
+    (place : ℕ × TreeNode) → Contains (places_of (slice_nodes (beside_text outline start len chunks) start len)) place
     → (bytes_at (beside_text outline start len chunks) place ≡ node_beside outline (start / 1024) chunks place.1)
     × (length (node_beside outline (start / 1024) chunks place.1) ≡ size place.1)
 
@@ -95,10 +95,10 @@ module _ (outline : List ℕ) (start len : ℕ) (chunks : List ℕ) (stand : Sta
   abbrev text : List ℕ
   text = beside_text outline start len chunks
 
-  abbrev places : List (ℕ × Node)
+  abbrev places : List (ℕ × TreeNode)
   places = places_of (slice_nodes text start len)
 
-  abbrev outline_places : List (ℕ × Node)
+  abbrev outline_places : List (ℕ × TreeNode)
   outline_places = places_of (outboard_nodes outline)
 
   -- chunk i's bytes, where it is found
@@ -127,7 +127,7 @@ module _ (outline : List ℕ) (start len : ℕ) (chunks : List ℕ) (stand : Sta
       let full : length (unwrap_or (parent_in outline outline_places m) []) ≡ 64 = ap length (sym node_is) ∙ (stand h.place h.there).1 ∙ sym size_is in
       there_is (parent_in outline outline_places m) full ∙ sym value
 
--- they do where the text is accepted
+-- they do where the encoding is accepted
 pub stand_beside : (outer inner : Mode) (outer_root inner_root outline : List ℕ) (start len : ℕ) (chunks : List ℕ)
     → IsOfChunks (claimed outline) start len → IsAccepted inner inner_root outline (outboard_nodes outline)
     → IsAccepted outer outer_root (beside_text outline start len chunks) (slice_nodes (beside_text outline start len chunks) start len) → StandBeside outline start len chunks
@@ -137,5 +137,5 @@ stand_beside outer inner outer_root inner_root outline start len chunks range pa
     let made : IsMade outline start len chunks = record { of_chunks = range; parents = omega (arith, parents.ends) } in
     λ place there.
     let h : Stands outline start len chunks place =
-    beside-bytes outline start len chunks made (accepted.ends ∙ ap text_end same) place (subst (λ (ns : List Node). Contains (places_of ns) place) same there) in
+    beside-bytes outline start len chunks made (accepted.ends ∙ ap text_end same) place (subst (λ (ns : List TreeNode). Contains (places_of ns) place) same there) in
     (h.bytes, h.size_is)

@@ -1,4 +1,4 @@
--- The bytes of a text that an outline and chunks make stand at their places.
+-- The bytes of an encoding that an outline and chunks make stand at their places.
 use Rattle.std.proofs.Common.{◌≡◌, ℕ, zero, suc, ◌+◌, ◌-◌, ◌*◌, ◌/◌, ◌^◌, ◌<◌, ◌≤◌, max, min, List, [], ◌∷◌, ◌++◌, length, take, drop, true, Some, refl, sym, ap, subst, ◌∙◌, arith, inl, inr, length-append, length-drop, length-take}
 use Rattle.std.specs.List.{AllByRecursion, Contains, flat_map}
 use Rattle.std.specs.Int.{w64, from_le_bytes}
@@ -10,17 +10,17 @@ use Rattle.b3tree.specs.Tree.{left_len}
 use Rattle.bao_text.specs.declared.choice.Choice.{Choice}
 use Rattle.bao_text.specs.Choice.{chunk_count, of_outboard, of_slice, wants}
 use Rattle.bao_text.specs.Cut.{claimed}
-use Rattle.bao_text.specs.Nodes.{Node, Side, left, nodes, placed, right, size, subtree_nodes, subtree_size}
+use Rattle.bao_text.specs.Nodes.{TreeNode, Side, left, nodes, placed, right, size, subtree_nodes, subtree_size}
 use Rattle.bao_text.proofs.Everything.{At, At_first, At_rest}
 use Rattle.bao_text.proofs.SubtreeNodes.{parent_node, subtree_nodes-parent, subtree_nodes-unwanted}
 use Rattle.bao_text.proofs.SubtreeText.{Parts, left_len-Parts}
 use Rattle.bao_check.specs.Accepted.{bytes_at, outboard_nodes, places_of, text_end}
 use Rattle.bao_check.specs.Bare.{bare_part}
 use Rattle.bao_check.specs.Beside.{IsOfChunks, bare_len, beside_text, node_beside}
-use Rattle.bao_check.specs.Leaves.{HasParents}
+use Rattle.bao_check.specs.Leaves.{WantsParents}
 use Rattle.bao_check.specs.Parents.{parent_in, parent_place}
 use Rattle.bao_check.proofs.Lists.{All-append, All-member, Contains-cons_cases, nodes_size, nodes_size-cons}
-use Rattle.bao_check.proofs.Outlines.{far-HasParents, near-HasParents, near-size, outboard-HasParents}
+use Rattle.bao_check.proofs.Outlines.{far-WantsParents, near-WantsParents, near-size, outboard-WantsParents}
 use Rattle.bao_check.proofs.Parenting.{parent_in-place, parent_place-far, parent_place-here, parent_place-near}
 use Rattle.bao_check.proofs.Parts.{placed-All}
 use Rattle.bao_check.proofs.Presence.{Meets, Meets-from_wants}
@@ -29,10 +29,10 @@ use Rattle.bao_check.proofs.Walking.{chunk_node, leaf_nodes}
 use Rattle.bao_check.proofs.Written.{At_bytes}
 
 -- The parents of a subtree are found among all places as they are among the subtree's own.
-pub record Finds (all : List (ℕ × Node)) (choice : Choice) (number n : ℕ) (sides : List Side) (source at : ℕ) : Type 0 where
+pub record Finds (all : List (ℕ × TreeNode)) (choice : Choice) (number n : ℕ) (sides : List Side) (source at : ℕ) : Type 0 where
   pub same : (m : ℕ) → number < m → m < number + chunk_count n → parent_place all m ≡ parent_place (placed at (subtree_nodes choice number n sides source)) m
 
-module _ (all : List (ℕ × Node)) (choice : Choice) (number n : ℕ) (sides : List Side) (source at : ℕ) (more : 1024 < n) (has : HasParents choice number n) (finds : Finds all choice number n sides source at) where
+module _ (all : List (ℕ × TreeNode)) (choice : Choice) (number n : ℕ) (sides : List Side) (source at : ℕ) (more : 1024 < n) (has : WantsParents choice number n) (finds : Finds all choice number n sides source at) where
   wanted : wants choice (1024 * number) n ≡ true
   wanted = wants_whole choice (1024 * number) n has.start (omega (arith, has.end))
 
@@ -48,8 +48,8 @@ module _ (all : List (ℕ × Node)) (choice : Choice) (number n : ℕ) (sides : 
   pub Finds-far : Finds all choice (number + left_len n / 1024) (n - left_len n) (sides ++ right ∷ []) (source + 64 + subtree_size (left_len n)) (at + 64 * (left_len n / 1024))
   Finds-far =
       let parts : Parts n (left_len n) = left_len-Parts n more in
-      let near : List Node = subtree_nodes choice number (left_len n) (sides ++ left ∷ []) (source + 64) in
-      let far : List Node = subtree_nodes choice (number + left_len n / 1024) (n - left_len n) (sides ++ right ∷ []) (source + 64 + subtree_size (left_len n)) in
+      let near : List TreeNode = subtree_nodes choice number (left_len n) (sides ++ left ∷ []) (source + 64) in
+      let far : List TreeNode = subtree_nodes choice (number + left_len n / 1024) (n - left_len n) (sides ++ right ∷ []) (source + 64 + subtree_size (left_len n)) in
       let len : nodes_size near + 64 ≡ 64 * (left_len n / 1024) = near-size choice number n sides source more has in
       let e : at + 64 + nodes_size near ≡ at + 64 * (left_len n / 1024) = omega arith in
       record {
@@ -79,19 +79,19 @@ pub record Covers (total first len : ℕ) (choice : Choice) : Type 0 where
   pub chunks : choice.chunks ≡ true
 
 -- the bytes made for a node are no more than it has, and as many where no chunk is missing
-pub record Fits (outline : List ℕ) (first len : ℕ) (chunks : List ℕ) (node : Node) : Type 0 where
+pub record Fits (outline : List ℕ) (first len : ℕ) (chunks : List ℕ) (node : TreeNode) : Type 0 where
   pub most : length (node_beside outline first chunks node) ≤ size node
   pub whole : len ≤ length chunks → length (node_beside outline first chunks node) ≡ size node
 
 -- a parent has the 64 bytes that the outline has for it
-pub parent-beside : (outline chunks : List ℕ) (first : ℕ) (own : Choice) (number n : ℕ) (sides : List Side) (source at : ℕ) → 1024 < n → HasParents own number n
+pub parent-beside : (outline chunks : List ℕ) (first : ℕ) (own : Choice) (number n : ℕ) (sides : List Side) (source at : ℕ) → 1024 < n → WantsParents own number n
     → Finds (places_of (outboard_nodes outline)) own number n sides source at
     → node_beside outline first chunks (parent_node number n sides source) ≡ take 64 (drop at outline)
 parent-beside outline chunks first own number n sides source at more has finds =
     ap (λ (o : Option (List ℕ)). unwrap_or o []) (Finds-here (places_of (outboard_nodes outline)) own number n sides source at more has finds outline)
 
 module _ (outline chunks : List ℕ) (own choice : Choice) (total first len : ℕ) (covers : Covers total first len choice) where
-  abbrev all_places : List (ℕ × Node)
+  abbrev all_places : List (ℕ × TreeNode)
   all_places = places_of (outboard_nodes outline)
 
   fits_chunk : (number n : ℕ) (sides : List Side) (source : ℕ) → wants choice (1024 * number) n ≡ true → n ≤ 1024 → 1024 * number + n ≤ total
@@ -109,7 +109,7 @@ module _ (outline chunks : List ℕ) (own choice : Choice) (total first len : �
   fits_small : (number n : ℕ) (sides : List Side) (source : ℕ) → n ≤ 1024 → 1024 * number + n ≤ total
       → AllByRecursion (Fits outline first len chunks) (subtree_nodes choice number n sides source)
   fits_small number n sides source one within =
-      let P : List Node → Type 0 = AllByRecursion (Fits outline first len chunks) in
+      let P : List TreeNode → Type 0 = AllByRecursion (Fits outline first len chunks) in
       elim (cases_Bool (wants choice (1024 * number) n)) [
         | inr skipped ↦ subst P (sym (subtree_nodes-unwanted choice number n sides source skipped)) tt
         | inl wanted ↦
@@ -117,27 +117,27 @@ module _ (outline chunks : List ℕ) (own choice : Choice) (total first len : �
       ]
 
   fits_levels : (levels number n : ℕ) (sides : List Side) (source at : ℕ) → n ≤ 1024 * levels + 1024 → 1024 * number + n ≤ total
-      → HasParents own number n → Finds all_places own number n sides source at → at + 64 * (chunk_count n - 1) ≤ length outline
+      → WantsParents own number n → Finds all_places own number n sides source at → at + 64 * (chunk_count n - 1) ≤ length outline
       → AllByRecursion (Fits outline first len chunks) (subtree_nodes choice number n sides source)
   fits_levels zero number n sides source at hn within has finds there = fits_small number n sides source (omega arith) within
   fits_levels (suc levels) number n sides source at hn within has finds there = elim (cases_lt 1024 n) [
     | inr one ↦ fits_small number n sides source one within
     | inl more ↦
-        let P : List Node → Type 0 = AllByRecursion (Fits outline first len chunks) in
+        let P : List TreeNode → Type 0 = AllByRecursion (Fits outline first len chunks) in
         elim (cases_Bool (wants choice (1024 * number) n)) [
           | inr skipped ↦ subst P (sym (subtree_nodes-unwanted choice number n sides source skipped)) tt
           | inl wanted ↦
               let l : ℕ = left_len n in
               let parts : Parts n l = left_len-Parts n more in
-              let near : List Node = subtree_nodes choice number l (sides ++ left ∷ []) (source + 64) in
-              let far : List Node = subtree_nodes choice (number + l / 1024) (n - l) (sides ++ right ∷ []) (source + 64 + subtree_size l) in
+              let near : List TreeNode = subtree_nodes choice number l (sides ++ left ∷ []) (source + 64) in
+              let far : List TreeNode = subtree_nodes choice (number + l / 1024) (n - l) (sides ++ right ∷ []) (source + 64 + subtree_size l) in
               let near_fits : P near =
               fits_levels levels number l (sides ++ left ∷ []) (source + 64) (at + 64) (omega (arith, parts.whole, parts.below)) (omega (arith, parts.below))
-              (near-HasParents own number n more has) (Finds-near all_places own number n sides source at more has finds) (omega (arith, parts.whole, parts.some, parts.below)) in
+              (near-WantsParents own number n more has) (Finds-near all_places own number n sides source at more has finds) (omega (arith, parts.whole, parts.some, parts.below)) in
               let far_fits : P far =
               fits_levels levels (number + l / 1024) (n - l) (sides ++ right ∷ []) (source + 64 + subtree_size l) (at + 64 * (l / 1024))
               (omega (arith, parts.some)) (omega (arith, parts.whole, parts.below))
-              (far-HasParents own number n more has) (Finds-far all_places own number n sides source at more has finds) (omega (arith, parts.whole, parts.some, parts.below)) in
+              (far-WantsParents own number n more has) (Finds-far all_places own number n sides source at more has finds) (omega (arith, parts.whole, parts.some, parts.below)) in
               let rest : length (drop at outline) ≡ length outline - at = length-drop at outline in
               let all : length (node_beside outline first chunks (parent_node number n sides source)) ≡ 64 =
               ap length (parent-beside outline chunks first own number n sides source at more has finds) ∙ length-take-le 64 (drop at outline) (omega arith) in
@@ -147,14 +147,14 @@ module _ (outline chunks : List ℕ) (own choice : Choice) (total first len : �
   ]
 
 -- lists for nodes, one after another, where none is longer than its node
-flat-most : (f : Node → List ℕ) (nodes : List Node) → AllByRecursion (λ node. length (f node) ≤ size node) nodes → length (flat_map f nodes) ≤ nodes_size nodes
+flat-most : (f : TreeNode → List ℕ) (nodes : List TreeNode) → AllByRecursion (λ node. length (f node) ≤ size node) nodes → length (flat_map f nodes) ≤ nodes_size nodes
 flat-most f [] all = omega arith
 flat-most f (node ∷ nodes) all =
     let rest : length (flat_map f nodes) ≤ nodes_size nodes = flat-most f nodes all.1 in
     omega (arith, all.0, length-append (f node) (flat_map f nodes), nodes_size-cons node nodes)
 
 -- each is as long as its node, where all together are
-flat-whole : (f : Node → List ℕ) (nodes : List Node) → AllByRecursion (λ node. length (f node) ≤ size node) nodes → nodes_size nodes ≤ length (flat_map f nodes)
+flat-whole : (f : TreeNode → List ℕ) (nodes : List TreeNode) → AllByRecursion (λ node. length (f node) ≤ size node) nodes → nodes_size nodes ≤ length (flat_map f nodes)
     → AllByRecursion (λ node. length (f node) ≡ size node) nodes
 flat-whole f [] all enough = tt
 flat-whole f (node ∷ nodes) all enough =
@@ -163,23 +163,23 @@ flat-whole f (node ∷ nodes) all enough =
     let sum : nodes_size (node ∷ nodes) ≡ size node + nodes_size nodes = nodes_size-cons node nodes in
     (omega (arith, all.0), flat-whole f nodes all.1 (omega (arith, all.0)))
 
-pub flat-size : (f : Node → List ℕ) (nodes : List Node) → AllByRecursion (λ node. length (f node) ≡ size node) nodes → length (flat_map f nodes) ≡ nodes_size nodes
+pub flat-size : (f : TreeNode → List ℕ) (nodes : List TreeNode) → AllByRecursion (λ node. length (f node) ≡ size node) nodes → length (flat_map f nodes) ≡ nodes_size nodes
 flat-size f [] all = refl
 flat-size f (node ∷ nodes) all =
     let rest : length (flat_map f nodes) ≡ nodes_size nodes = flat-size f nodes all.1 in
     omega (arith, all.0, length-append (f node) (flat_map f nodes), nodes_size-cons node nodes)
 
 -- then each stands at its node's place
-pub flat-placed : (f : Node → List ℕ) (text : List ℕ) (at : ℕ) (nodes : List Node) → AllByRecursion (λ node. length (f node) ≡ size node) nodes → At text at (flat_map f nodes)
-    → (place : ℕ × Node) → Contains (placed at nodes) place → bytes_at text place ≡ f place.1
+pub flat-placed : (f : TreeNode → List ℕ) (text : List ℕ) (at : ℕ) (nodes : List TreeNode) → AllByRecursion (λ node. length (f node) ≡ size node) nodes → At text at (flat_map f nodes)
+    → (place : ℕ × TreeNode) → Contains (placed at nodes) place → bytes_at text place ≡ f place.1
 flat-placed f text at [] all here place none = absurd (omega (arith, none.1))
 flat-placed f text at (node ∷ nodes) all here place there = elim (Contains-cons_cases (placed (at + size node) nodes) (at, node) place there) [
   | inl same ↦
-      subst (λ (p : ℕ × Node). bytes_at text p ≡ f p.1) (sym same) (At_bytes text at (size node) (f node) all.0 (At_first text at (f node) (flat_map f nodes) here))
+      subst (λ (p : ℕ × TreeNode). bytes_at text p ≡ f p.1) (sym same) (At_bytes text at (size node) (f node) all.0 (At_first text at (f node) (flat_map f nodes) here))
   | inr rest ↦ flat-placed f text (at + size node) nodes all.1 (At_rest text at (size node) (f node) (flat_map f nodes) all.0 here) place rest
 ]
 
-All-map : (P Q : Node → Type 0) (nodes : List Node) → ((node : Node) → P node → Q node) → AllByRecursion P nodes → AllByRecursion Q nodes
+All-map : (P Q : TreeNode → Type 0) (nodes : List TreeNode) → ((node : TreeNode) → P node → Q node) → AllByRecursion P nodes → AllByRecursion Q nodes
 All-map P Q [] each all = tt
 All-map P Q (node ∷ nodes) each all = (each node all.0, All-map P Q nodes each all.1)
 
@@ -194,7 +194,7 @@ covers_chunks total start len is = record {
   chunks = refl;
 }
 
--- a text of an outline that has all its parents, and of chunks
+-- an encoding of an outline that has all its parents, and of chunks
 pub record IsMade (outline : List ℕ) (start len : ℕ) (chunks : List ℕ) : Type 0 where
   pub of_chunks : IsOfChunks (claimed outline) start len
   pub parents : text_end (outboard_nodes outline) ≤ length outline
@@ -207,9 +207,9 @@ made_fits outline start len chunks made =
     nodes_size-without_chunks (of_outboard total) 0 total [] 8 (omega arith) (omega arith) refl in
     let there : 8 + 64 * (chunk_count total - 1) ≤ length outline = omega (arith, made.parents) in
     fits_levels outline chunks (of_outboard total) (of_slice total start len) total (start / 1024) (bare_len total start len) (covers_chunks total start len made.of_chunks)
-    total 0 total [] 8 8 (omega arith) (omega arith) (outboard-HasParents total) (Finds-all total) there
+    total 0 total [] 8 8 (omega arith) (omega arith) (outboard-WantsParents total) (Finds-all total) there
 
--- how long the text is
+-- how long the encoding is
 made_length : (outline : List ℕ) (start len : ℕ) (chunks : List ℕ) → 8 ≤ length outline
     → length (beside_text outline start len chunks)
     ≡ 8 + (length (flat_map (node_beside outline (start / 1024) chunks) (nodes (claimed outline) start len)) + length (drop (bare_len (claimed outline) start len) chunks))
@@ -218,7 +218,7 @@ made_length outline start len chunks long =
     let rest : List ℕ = drop (bare_len (claimed outline) start len) chunks in
     length-append (take 8 outline) (bytes ++ rest) ∙ (λ i. length-take-le 8 outline long i + length-append bytes rest i)
 
--- no node's bytes are short where the text is as long as it is to be, and nothing follows
+-- no node's bytes are short where the encoding is as long as it is to be, and nothing follows
 pub record IsWhole (outline : List ℕ) (start len : ℕ) (chunks : List ℕ) : Type 0 where
   pub sizes : AllByRecursion (λ node. length (node_beside outline (start / 1024) chunks node) ≡ size node) (nodes (claimed outline) start len)
   pub none : length (drop (bare_len (claimed outline) start len) chunks) ≡ 0
@@ -227,7 +227,7 @@ pub record IsWhole (outline : List ℕ) (start len : ℕ) (chunks : List ℕ) : 
 pub whole-chunks : (outline : List ℕ) (start len : ℕ) (chunks : List ℕ) → IsMade outline start len chunks → length chunks ≡ bare_len (claimed outline) start len
     → IsWhole outline start len chunks
 whole-chunks outline start len chunks made exact =
-    let f : Node → List ℕ = node_beside outline (start / 1024) chunks in
+    let f : TreeNode → List ℕ = node_beside outline (start / 1024) chunks in
     let bare : ℕ = bare_len (claimed outline) start len in
     record {
       sizes = All-map (Fits outline (start / 1024) bare chunks) (λ node. length (f node) ≡ size node) (nodes (claimed outline) start len)
@@ -238,8 +238,8 @@ whole-chunks outline start len chunks made exact =
 pub whole-text : (outline : List ℕ) (start len : ℕ) (chunks : List ℕ) → IsMade outline start len chunks
     → length (beside_text outline start len chunks) ≡ text_end (nodes (claimed outline) start len) → IsWhole outline start len chunks
 whole-text outline start len chunks made ends =
-    let f : Node → List ℕ = node_beside outline (start / 1024) chunks in
-    let ns : List Node = nodes (claimed outline) start len in
+    let f : TreeNode → List ℕ = node_beside outline (start / 1024) chunks in
+    let ns : List TreeNode = nodes (claimed outline) start len in
     let bare : ℕ = bare_len (claimed outline) start len in
     let fits : AllByRecursion (Fits outline (start / 1024) bare chunks) ns = made_fits outline start len chunks made in
     let rest : length (drop bare chunks) ≡ length chunks - bare = length-drop bare chunks in
@@ -257,7 +257,7 @@ whole-text outline start len chunks made ends =
           record { sizes = sizes; none = omega (arith, flat-size f ns sizes) }
     ]
 
--- Then the text has at each place the bytes that are made for its node, and ends as it is to.
+-- Then the encoding has at each place the bytes that are made for its node, and ends as it is to.
 pub made-At : (outline : List ℕ) (start len : ℕ) (chunks : List ℕ) → 8 ≤ length outline
     → At (beside_text outline start len chunks) 8 (flat_map (node_beside outline (start / 1024) chunks) (nodes (claimed outline) start len))
 made-At outline start len chunks long =
@@ -266,8 +266,8 @@ made-At outline start len chunks long =
 pub made-ends : (outline : List ℕ) (start len : ℕ) (chunks : List ℕ) → 8 ≤ length outline → IsWhole outline start len chunks
     → length (beside_text outline start len chunks) ≡ text_end (nodes (claimed outline) start len)
 made-ends outline start len chunks long whole =
-    let f : Node → List ℕ = node_beside outline (start / 1024) chunks in
-    let ns : List Node = nodes (claimed outline) start len in
+    let f : TreeNode → List ℕ = node_beside outline (start / 1024) chunks in
+    let ns : List TreeNode = nodes (claimed outline) start len in
     made_length outline start len chunks long ∙ (λ i. 8 + (flat-size f ns whole.sizes i + whole.none i)) ∙ (let e : 8 + (nodes_size ns + 0) ≡ 8 + nodes_size ns = omega arith in e)
 
 -- it claims the outline's length
@@ -276,16 +276,16 @@ made-claimed outline start len chunks long =
     let bytes : List ℕ = flat_map (node_beside outline (start / 1024) chunks) (nodes (claimed outline) start len) in
     ap (from_le_bytes w64) (take_at (take 8 outline) (bytes ++ drop (bare_len (claimed outline) start len) chunks) 8 (length-take-le 8 outline long))
 
--- what stands at a place of such a text
-pub record Stands (outline : List ℕ) (start len : ℕ) (chunks : List ℕ) (place : ℕ × Node) : Type 0 where
+-- what stands at a place of such an encoding
+pub record Stands (outline : List ℕ) (start len : ℕ) (chunks : List ℕ) (place : ℕ × TreeNode) : Type 0 where
   pub bytes : bytes_at (beside_text outline start len chunks) place ≡ node_beside outline (start / 1024) chunks place.1
   pub size_is : length (node_beside outline (start / 1024) chunks place.1) ≡ size place.1
 
 pub whole-stands : (outline : List ℕ) (start len : ℕ) (chunks : List ℕ) → 8 ≤ length outline → IsWhole outline start len chunks
-    → (place : ℕ × Node) → Contains (places_of (nodes (claimed outline) start len)) place → Stands outline start len chunks place
+    → (place : ℕ × TreeNode) → Contains (places_of (nodes (claimed outline) start len)) place → Stands outline start len chunks place
 whole-stands outline start len chunks long whole place there =
-    let f : Node → List ℕ = node_beside outline (start / 1024) chunks in
-    let ns : List Node = nodes (claimed outline) start len in
+    let f : TreeNode → List ℕ = node_beside outline (start / 1024) chunks in
+    let ns : List TreeNode = nodes (claimed outline) start len in
     record {
       bytes = flat-placed f (beside_text outline start len chunks) 8 ns whole.sizes (made-At outline start len chunks long) place there;
       size_is = All-member (λ p. length (f p.1) ≡ size p.1) (placed 8 ns) (placed-All (λ node. length (f node) ≡ size node) 8 ns whole.sizes) place there;
@@ -293,6 +293,6 @@ whole-stands outline start len chunks long whole place there =
 
 pub beside-bytes : (outline : List ℕ) (start len : ℕ) (chunks : List ℕ) → IsMade outline start len chunks
     → length (beside_text outline start len chunks) ≡ text_end (nodes (claimed outline) start len)
-    → (place : ℕ × Node) → Contains (places_of (nodes (claimed outline) start len)) place → Stands outline start len chunks place
+    → (place : ℕ × TreeNode) → Contains (places_of (nodes (claimed outline) start len)) place → Stands outline start len chunks place
 beside-bytes outline start len chunks made ends place there =
     whole-stands outline start len chunks (omega (arith, made.parents)) (whole-text outline start len chunks made ends) place there

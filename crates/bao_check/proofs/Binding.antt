@@ -1,4 +1,4 @@
--- A certificate binds its chunk: another chunk than the blob's names a pair of inputs.
+-- A certificate binds its chunk: another chunk than the blob's exhibits a collision.
 use Rattle.std.proofs.Common.{◌≡◌, ◌⊎◌, ℕ, ◌+◌, ◌-◌, ◌*◌, ◌/◌, ◌<◌, ◌≤◌, List, [], ◌∷◌, ◌++◌, length, take, drop, false, true, refl, sym, ap, ◌∙◌, arith, inl, inr, length-drop}
 use Rattle.std.specs.Prelude.{Bool, Contains, Some}
 use Rattle.std.specs.List.{AllByRecursion}
@@ -143,7 +143,7 @@ right_there top mode first s more x there =
 pub top_parent : (mode : Mode) (first : ℕ) (s : List ℕ) → 1024 < length s → top_input mode first s ≡ subtree_parent mode first s
 top_parent mode first s more = top_input-parent mode first s (left_len (length s)) (left_len-IsLeftLen (length s) more) more
 
--- the way against the tree over s: it ends in a chunk of the tree, or a pair is named
+-- the way against the tree over s: it ends in a chunk of the tree, or a collision is exhibited
 way_binds : (top : Bool) (mode : Mode) (first : ℕ) (s : List ℕ) (steps : List Step) (number : ℕ) (bytes : List ℕ) → AreBytes s → AreBytes bytes
     → cv (marked top (top_input mode first s)) ≡ cv (marked top (first_input mode steps number bytes)) → GoesOn mode steps number bytes
     → Reached first s steps number bytes ⊎ Named (subtree_inputs top mode first s) (way_inputs top mode steps number bytes)
@@ -216,7 +216,7 @@ way_binds top mode first s (step ∷ steps) number bytes hs hb same on =
 pub chunk_of-there : (blob : List ℕ) (number : ℕ) → number < chunk_count (length blob) → chunk_of blob number ≡ Some (take 1024 (drop (1024 * number) blob))
 chunk_of-there blob number there = rw (lt-ltb number (chunk_count (length blob)) there) refl
 
--- a certificate under a blob's root is of the blob's chunk, or a pair of inputs is named
+-- a certificate under a blob's root is of the blob's chunk, or a collision is exhibited
 pub certificate_binds : CertificateBinds
 certificate_binds mode root blob number bytes c keyed hblob is =
     let x : Input = top_input mode 0 blob in

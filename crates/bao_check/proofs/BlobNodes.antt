@@ -9,7 +9,7 @@ use Rattle.b3tree.specs.declared.mode.Mode.{Mode}
 use Rattle.b3tree.specs.Tree.{left_len}
 use Rattle.bao_text.specs.declared.choice.Choice.{Choice}
 use Rattle.bao_text.specs.Choice.{chunk_count, of_combined, of_slice, wants}
-use Rattle.bao_text.specs.Nodes.{Node, Side, chosen_nodes, left, nodes, right, subtree_nodes, subtree_size}
+use Rattle.bao_text.specs.Nodes.{TreeNode, Side, chosen_nodes, left, nodes, right, subtree_nodes, subtree_size}
 use Rattle.bao_text.specs.Texts.{length_text, node_text}
 use Rattle.bao_text.proofs.Everything.{wants_all}
 use Rattle.bao_text.proofs.Laws.{chosen_text-nodes}
@@ -23,7 +23,7 @@ use Rattle.bao_check.proofs.Lists.{All-append, All-from_members, All-member, Con
 use Rattle.bao_check.proofs.Parenting.{IsInside, boundaries_inside, not_parent_at}
 use Rattle.bao_check.proofs.Walking.{leaf_nodes, leaf_without}
 
-find_parent-first : (xs ys : List Node) (m : ℕ) (node : Node) → find_parent xs m ≡ Some node → find_parent (xs ++ ys) m ≡ Some node
+find_parent-first : (xs ys : List TreeNode) (m : ℕ) (node : TreeNode) → find_parent xs m ≡ Some node → find_parent (xs ++ ys) m ≡ Some node
 find_parent-first [] ys m node h = let bad : None ≡ Some node = h in cc
 find_parent-first (x ∷ xs) ys m node h = elim (cases_Bool (is_parent_at m x)) [
   | inl here ↦
@@ -32,18 +32,18 @@ find_parent-first (x ∷ xs) ys m node h = elim (cases_Bool (is_parent_at m x)) 
   | inr other ↦ rw other (find_parent-first xs ys m node (rw other at h))
 ]
 
-find_parent-second : (xs ys : List Node) (m : ℕ) → AllByRecursion (λ x. is_parent_at m x ≡ false) xs → find_parent (xs ++ ys) m ≡ find_parent ys m
+find_parent-second : (xs ys : List TreeNode) (m : ℕ) → AllByRecursion (λ x. is_parent_at m x ≡ false) xs → find_parent (xs ++ ys) m ≡ find_parent ys m
 find_parent-second [] ys m all = refl
 find_parent-second (x ∷ xs) ys m all = rw all.0 (find_parent-second xs ys m all.1)
 
 -- the parent is the one that everything has at its boundary
-abbrev IsFound : Choice → ℕ → ℕ → List Side → ℕ → Node → Type 0
+abbrev IsFound : Choice → ℕ → ℕ → List Side → ℕ → TreeNode → Type 0
 IsFound all number n sides source node = node.is_chunk ≡ false → find_parent (subtree_nodes all number n sides source) (boundary node) ≡ Some node
 
 found_small : (all choice : Choice) (number n : ℕ) (sides : List Side) (source : ℕ) → n ≤ 1024
     → AllByRecursion (IsFound all number n sides source) (subtree_nodes choice number n sides source)
 found_small all choice number n sides source one =
-    let P : List Node → Type 0 = AllByRecursion (IsFound all number n sides source) in
+    let P : List TreeNode → Type 0 = AllByRecursion (IsFound all number n sides source) in
     elim (cases_Bool (wants choice (1024 * number) n)) [
       | inr skipped ↦ subst P (sym (subtree_nodes-unwanted choice number n sides source skipped)) tt
       | inl wanted ↦
@@ -57,16 +57,16 @@ module _ (all choice : Choice) (number n : ℕ) (sides : List Side) (source : �
   abbrev middle : ℕ
   middle = number + left_len n / 1024
 
-  abbrev own : Node
+  abbrev own : TreeNode
   own = parent_node number n sides source
 
-  abbrev near_of : Choice → List Node
+  abbrev near_of : Choice → List TreeNode
   near_of c = subtree_nodes c number (left_len n) (sides ++ left ∷ []) (source + 64)
 
-  abbrev far_of : Choice → List Node
+  abbrev far_of : Choice → List TreeNode
   far_of c = subtree_nodes c middle (n - left_len n) (sides ++ right ∷ []) (source + 64 + subtree_size (left_len n))
 
-  abbrev everything : List Node
+  abbrev everything : List TreeNode
   everything = subtree_nodes all number n sides source
 
   parts : Parts n (left_len n)
@@ -82,22 +82,22 @@ module _ (all choice : Choice) (number n : ℕ) (sides : List Side) (source : �
   past_own : (m : ℕ) → (middle ≡ m → ⊥) → find_parent everything m ≡ find_parent (near_of all ++ far_of all) m
   past_own m other =
       let miss : is_parent_at m own ≡ false = not_parent_at m own (λ parent. other) in
-      ap (λ (xs : List Node). find_parent xs m) whole ∙ rw miss refl
+      ap (λ (xs : List TreeNode). find_parent xs m) whole ∙ rw miss refl
 
   found_own : find_parent everything middle ≡ Some own
   found_own = elim (eqb_tells middle middle) [
-    | inl hit ↦ ap (λ (xs : List Node). find_parent xs middle) whole ∙ rw hit.0 refl
+    | inl hit ↦ ap (λ (xs : List TreeNode). find_parent xs middle) whole ∙ rw hit.0 refl
     | inr other ↦ absurd (other.1 refl)
   ]
 
-  found_near : (x : Node) → Contains (near_of choice) x → IsFound all number (left_len n) (sides ++ left ∷ []) (source + 64) x → IsFound all number n sides source x
+  found_near : (x : TreeNode) → Contains (near_of choice) x → IsFound all number (left_len n) (sides ++ left ∷ []) (source + 64) x → IsFound all number n sides source x
   found_near x h found parent =
       let inside = All-member (IsInside number (chunk_count (left_len n))) (near_of choice)
       (boundaries_inside choice number (left_len n) (sides ++ left ∷ []) (source + 64)) x h parent in
       let high : boundary x < number + chunk_count (left_len n) = inside.1 in
       past_own (boundary x) (λ same. omega (arith, high, same, near_count)) ∙ find_parent-first (near_of all) (far_of all) (boundary x) x (found parent)
 
-  found_far : (x : Node) → Contains (far_of choice) x → IsFound all middle (n - left_len n) (sides ++ right ∷ []) (source + 64 + subtree_size (left_len n)) x → IsFound all number n sides source x
+  found_far : (x : TreeNode) → Contains (far_of choice) x → IsFound all middle (n - left_len n) (sides ++ right ∷ []) (source + 64 + subtree_size (left_len n)) x → IsFound all number n sides source x
   found_far x h found parent =
       let inside = All-member (IsInside middle (chunk_count (n - left_len n))) (far_of choice)
       (boundaries_inside choice middle (n - left_len n) (sides ++ right ∷ []) (source + 64 + subtree_size (left_len n))) x h parent in
@@ -116,17 +116,17 @@ found_levels zero all choice number n sides source hn start fits = found_small a
 found_levels (suc levels) all choice number n sides source hn start fits = elim (cases_lt 1024 n) [
   | inr one ↦ found_small all choice number n sides source one
   | inl more ↦
-      let P : Node → Type 0 = IsFound all number n sides source in
+      let P : TreeNode → Type 0 = IsFound all number n sides source in
       elim (cases_Bool (wants choice (1024 * number) n)) [
         | inr skipped ↦ subst (AllByRecursion P) (sym (subtree_nodes-unwanted choice number n sides source skipped)) tt
         | inl wanted ↦
             let l : ℕ = left_len n in
             let parts : Parts n l = left_len-Parts n more in
             let all_wanted : wants all (1024 * number) n ≡ true = wants_all all (1024 * number) n start (omega arith) in
-            let near : List Node = subtree_nodes choice number l (sides ++ left ∷ []) (source + 64) in
-            let far : List Node = subtree_nodes choice (number + l / 1024) (n - l) (sides ++ right ∷ []) (source + 64 + subtree_size l) in
-            let Near : Node → Type 0 = IsFound all number l (sides ++ left ∷ []) (source + 64) in
-            let Far : Node → Type 0 = IsFound all (number + l / 1024) (n - l) (sides ++ right ∷ []) (source + 64 + subtree_size l) in
+            let near : List TreeNode = subtree_nodes choice number l (sides ++ left ∷ []) (source + 64) in
+            let far : List TreeNode = subtree_nodes choice (number + l / 1024) (n - l) (sides ++ right ∷ []) (source + 64 + subtree_size l) in
+            let Near : TreeNode → Type 0 = IsFound all number l (sides ++ left ∷ []) (source + 64) in
+            let Far : TreeNode → Type 0 = IsFound all (number + l / 1024) (n - l) (sides ++ right ∷ []) (source + 64 + subtree_size l) in
             let in_near = found_levels levels all choice number l (sides ++ left ∷ []) (source + 64) (omega (arith, parts.whole, parts.below)) start (omega (arith, parts.below)) in
             let in_far = found_levels levels all choice (number + l / 1024) (n - l) (sides ++ right ∷ []) (source + 64 + subtree_size l) (omega (arith, parts.some)) start (omega (arith, parts.whole, parts.below)) in
             subst (AllByRecursion P) (sym (subtree_nodes-parent choice number n sides source wanted more)) (
@@ -139,7 +139,7 @@ found_levels (suc levels) all choice number n sides source hn start fits = elim 
 ]
 
 -- the parent of a slice of the blob is the blob's
-pub parent_of-boundary : (mode : Mode) (blob : List ℕ) (choice : Choice) (node : Node) → Contains (chosen_nodes choice (length blob)) node → node.is_chunk ≡ false
+pub parent_of-boundary : (mode : Mode) (blob : List ℕ) (choice : Choice) (node : TreeNode) → Contains (chosen_nodes choice (length blob)) node → node.is_chunk ≡ false
     → parent_of mode blob (boundary node) ≡ Some (node_text mode blob node)
 parent_of-boundary mode blob choice node there parent =
     let total : ℕ = length blob in
@@ -148,7 +148,7 @@ parent_of-boundary mode blob choice node there parent =
     All-member (IsFound all 0 total [] 8) (chosen_nodes choice total) (found_levels total all choice 0 total [] 8 (omega arith) refl (omega arith)) node there parent in
     ap (option_map (node_text mode blob)) found
 
-pub parent_of-node : (mode : Mode) (blob : List ℕ) (choice : Choice) (m : ℕ) (node : Node) → Contains (chosen_nodes choice (length blob)) node → is_parent_at m node ≡ true
+pub parent_of-node : (mode : Mode) (blob : List ℕ) (choice : Choice) (m : ℕ) (node : TreeNode) → Contains (chosen_nodes choice (length blob)) node → is_parent_at m node ≡ true
     → parent_of mode blob m ≡ Some (node_text mode blob node)
 parent_of-node mode blob choice m node there is = elim (cases_Bool node.is_chunk) [
   | inl chunk ↦ let bad : false ≡ true = rw chunk at is in cc
@@ -159,17 +159,17 @@ parent_of-node mode blob choice m node there is = elim (cases_Bool node.is_chunk
 ]
 
 -- a chunk's node is a whole chunk or the last one
-record IsChunkOf (total : ℕ) (node : Node) : Type 0 where
+record IsChunkOf (total : ℕ) (node : TreeNode) : Type 0 where
   below : node.number < chunk_count total
   len_is : node.len ≡ min 1024 (total - 1024 * node.number)
 
-abbrev IsChunkIn : ℕ → Node → Type 0
+abbrev IsChunkIn : ℕ → TreeNode → Type 0
 IsChunkIn total node = node.is_chunk ≡ true → IsChunkOf total node
 
 chunks_small : (total : ℕ) (choice : Choice) (number n : ℕ) (sides : List Side) (source : ℕ) → n ≤ 1024 → number < chunk_count total → n ≡ min 1024 (total - 1024 * number)
     → AllByRecursion (IsChunkIn total) (subtree_nodes choice number n sides source)
 chunks_small total choice number n sides source one below len_is =
-    let P : List Node → Type 0 = AllByRecursion (IsChunkIn total) in
+    let P : List TreeNode → Type 0 = AllByRecursion (IsChunkIn total) in
     elim (cases_Bool (wants choice (1024 * number) n)) [
       | inr skipped ↦ subst P (sym (subtree_nodes-unwanted choice number n sides source skipped)) tt
       | inl wanted ↦
@@ -197,14 +197,14 @@ chunks_levels zero total choice number n sides source hn is = chunks_small total
 chunks_levels (suc levels) total choice number n sides source hn is = elim (cases_lt 1024 n) [
   | inr one ↦ chunks_small total choice number n sides source one is.below (part_len total number n one is)
   | inl more ↦
-      let P : Node → Type 0 = IsChunkIn total in
+      let P : TreeNode → Type 0 = IsChunkIn total in
       elim (cases_Bool (wants choice (1024 * number) n)) [
         | inr skipped ↦ subst (AllByRecursion P) (sym (subtree_nodes-unwanted choice number n sides source skipped)) tt
         | inl wanted ↦
             let l : ℕ = left_len n in
             let parts : Parts n l = left_len-Parts n more in
-            let near : List Node = subtree_nodes choice number l (sides ++ left ∷ []) (source + 64) in
-            let far : List Node = subtree_nodes choice (number + l / 1024) (n - l) (sides ++ right ∷ []) (source + 64 + subtree_size l) in
+            let near : List TreeNode = subtree_nodes choice number l (sides ++ left ∷ []) (source + 64) in
+            let far : List TreeNode = subtree_nodes choice (number + l / 1024) (n - l) (sides ++ right ∷ []) (source + 64 + subtree_size l) in
             let near_is : IsPart total number l = record { below = is.below; fits = omega (arith, is.fits, parts.below); ends = inr (omega (arith, parts.some), parts.whole) } in
             let far_is : IsPart total (number + l / 1024) (n - l) = record {
               below = omega (arith, is.fits, parts.below, parts.whole);
@@ -224,7 +224,7 @@ chunks_levels (suc levels) total choice number n sides source hn is = elim (case
 ]
 
 -- the chunk of a slice of the blob is the blob's
-pub chunk_of-node : (mode : Mode) (blob : List ℕ) (choice : Choice) (node : Node) → Contains (chosen_nodes choice (length blob)) node → node.is_chunk ≡ true
+pub chunk_of-node : (mode : Mode) (blob : List ℕ) (choice : Choice) (node : TreeNode) → Contains (chosen_nodes choice (length blob)) node → node.is_chunk ≡ true
     → chunk_of blob node.number ≡ Some (node_text mode blob node)
 chunk_of-node mode blob choice node there chunk =
     let total : ℕ = length blob in
@@ -240,7 +240,7 @@ chunk_of-node mode blob choice node there chunk =
     rw (lt-ltb node.number (chunk_count total) is.below, chunk) (ap Some cut)
 
 -- what a blob has at each node of a slice of it
-pub known-node : (mode : Mode) (blob : List ℕ) (choice : Choice) (node : Node) → Contains (chosen_nodes choice (length blob)) node
+pub known-node : (mode : Mode) (blob : List ℕ) (choice : Choice) (node : TreeNode) → Contains (chosen_nodes choice (length blob)) node
     → known_at (chunk_of blob) (parent_of mode blob) node ≡ Some (node_text mode blob node)
 known-node mode blob choice node there = elim (cases_Bool node.is_chunk) [
   | inl chunk ↦
@@ -251,7 +251,7 @@ known-node mode blob choice node there = elim (cases_Bool node.is_chunk) [
       known ∙ parent_of-boundary mode blob choice node there parent
 ]
 
-flat_map-same : (f g : Node → List ℕ) (xs : List Node) → ((x : Node) → Contains xs x → f x ≡ g x) → flat_map f xs ≡ flat_map g xs
+flat_map-same : (f g : TreeNode → List ℕ) (xs : List TreeNode) → ((x : TreeNode) → Contains xs x → f x ≡ g x) → flat_map f xs ≡ flat_map g xs
 flat_map-same f g [] same = refl
 flat_map-same f g (x ∷ xs) same =
     let rest : flat_map f xs ≡ flat_map g xs = flat_map-same f g xs (λ y h. same y (Contains-tail xs x y h)) in

@@ -1,4 +1,4 @@
--- What an accepted text has as a chunk, it certifies.
+-- What an accepted encoding has as a chunk, it certifies.
 use Rattle.std.proofs.Common.{◌≡◌, ◌⊎◌, ℕ, zero, suc, ◌+◌, ◌-◌, ◌*◌, ◌/◌, ◌<◌, ◌≤◌, ◌==◌, ◌&&◌, None, Some, Bool, List, [], ◌∷◌, ◌++◌, length, take, drop, true, false, refl, sym, ap, subst, ◌∙◌, arith, inl, inr, length-drop}
 use Rattle.std.specs.List.{AllByRecursion, Contains}
 use Rattle.std.proofs.lemmas.Bool.{cases_Bool, cases_lt, eqb-true}
@@ -15,7 +15,7 @@ use Rattle.b3tree.proofs.BlockWords.{AreBytes-drop, AreBytes-take}
 use Rattle.bao_text.specs.declared.choice.Choice.{Choice}
 use Rattle.bao_text.specs.Choice.{chunk_count, of_slice, wants}
 use Rattle.bao_text.specs.Cut.{claimed}
-use Rattle.bao_text.specs.Nodes.{Node, Side, chosen_nodes, chunk_nodes, left, placed, right, size, subtree_nodes, subtree_size}
+use Rattle.bao_text.specs.Nodes.{TreeNode, Side, chosen_nodes, chunk_nodes, left, placed, right, size, subtree_nodes, subtree_size}
 use Rattle.bao_text.proofs.SubtreeNodes.{parent_node, subtree_nodes-leaf, subtree_nodes-unwanted}
 use Rattle.bao_text.proofs.SubtreeText.{Parts, left_len-Parts}
 use Rattle.bao_check.specs.declared.asked.Asked.{Asked}
@@ -51,7 +51,7 @@ Begins-root mode root (step ∷ steps) last h = h
 
 -- The way down to chunk k, which is `bytes`, in the subtree of n bytes from chunk `number` on that has
 -- these places.
-record Way (asked : Asked) (mode : Mode) (text : List ℕ) (places : List (ℕ × Node)) (number n k : ℕ) (bytes : List ℕ) : Type 0 where
+record Way (asked : Asked) (mode : Mode) (text : List ℕ) (places : List (ℕ × TreeNode)) (number n k : ℕ) (bytes : List ℕ) : Type 0 where
   steps : List Step
   holds : Starts asked mode steps (last_chunk_input mode k bytes)
   inputs : (x : Input) → Contains (way_inputs asked.top mode steps k bytes) x → Contains (text_inputs mode text places) x
@@ -63,7 +63,7 @@ record Way (asked : Asked) (mode : Mode) (text : List ℕ) (places : List (ℕ �
   ends : k + 1 ≡ number + chunk_count n → 1024 * k + length bytes ≡ 1024 * number + n
 
 -- a chunk among places after one another is among the first or the second
-chunk_in-append : (text : List ℕ) (xs ys : List (ℕ × Node)) (k : ℕ) (bytes : List ℕ) → chunk_in text (xs ++ ys) k ≡ Some bytes
+chunk_in-append : (text : List ℕ) (xs ys : List (ℕ × TreeNode)) (k : ℕ) (bytes : List ℕ) → chunk_in text (xs ++ ys) k ≡ Some bytes
     → (chunk_in text xs k ≡ Some bytes) ⊎ (chunk_in text ys k ≡ Some bytes)
 chunk_in-append text [] ys k bytes h = inr h
 chunk_in-append text (x ∷ xs) ys k bytes h = elim (cases_Bool (x.1.is_chunk && (x.1.number == k))) [
@@ -80,7 +80,7 @@ pub is_top-below : (sides : List Side) (side : Side) → false ≡ is_top (sides
 is_top-below [] side = refl
 is_top-below (d ∷ sides) side = refl
 
--- that chunk is what the text has there
+-- that chunk is what the encoding has there
 pub same_chunk : (text : List ℕ) (at number n : ℕ) (sides : List Side) (source k : ℕ) (bytes : List ℕ)
     → chunk_in text ((at, chunk_node number n sides source) ∷ []) k ≡ Some bytes → (number ≡ k) × (take n (drop at text) ≡ bytes)
 same_chunk text at number n sides source k bytes there = elim (cases_Bool (number == k)) [
@@ -114,16 +114,16 @@ way-one : (asked : Asked) (mode : Mode) (text : List ℕ) (at number n : ℕ) (s
     → Way asked mode text ((at, chunk_node number n sides source) ∷ []) number n k bytes
 way-one asked mode text at number n sides source k bytes top one good there =
     let same : (number ≡ k) × (take n (drop at text) ≡ bytes) = same_chunk text at number n sides source k bytes there in
-    let places : List (ℕ × Node) = (at, chunk_node number n sides source) ∷ [] in
+    let places : List (ℕ × TreeNode) = (at, chunk_node number n sides source) ∷ [] in
     subst (λ (j : ℕ). Way asked mode text places number n j bytes) same.0
     (subst (Way asked mode text places number n number) same.1
     (way-here asked mode text at number n sides source top one good.0.0 (good.0.1.0 refl)))
 
 -- no nodes have no chunk
-no_way : (asked : Asked) (sides : List Side) (mode : Mode) (text : List ℕ) (at number n k : ℕ) (bytes : List ℕ) (nodes : List Node) → nodes ≡ []
+no_way : (asked : Asked) (sides : List Side) (mode : Mode) (text : List ℕ) (at number n k : ℕ) (bytes : List ℕ) (nodes : List TreeNode) → nodes ≡ []
     → chunk_in text (placed at nodes) k ≡ Some bytes → Way asked mode text (placed at nodes) number n k bytes
 no_way asked sides mode text at number n k bytes nodes none there =
-    let bad : None ≡ Some bytes = ap (λ (xs : List Node). chunk_in text (placed at xs) k) (sym none) ∙ there in cc
+    let bad : None ≡ Some bytes = ap (λ (xs : List TreeNode). chunk_in text (placed at xs) k) (sym none) ∙ there in cc
 
 way-chunk : (asked : Asked) (choice : Choice) (mode : Mode) (text : List ℕ) (at number n : ℕ) (sides : List Side) (source k : ℕ) (bytes : List ℕ)
     → asked.top ≡ is_top sides → n ≤ 1024
@@ -131,7 +131,7 @@ way-chunk : (asked : Asked) (choice : Choice) (mode : Mode) (text : List ℕ) (a
     → chunk_in text (placed at (chunk_nodes choice number n sides source)) k ≡ Some bytes
     → Way asked mode text (placed at (chunk_nodes choice number n sides source)) number n k bytes
 way-chunk asked choice mode text at number n sides source k bytes top one good there =
-    let P : List Node → Type 0 = λ nodes. AreGood asked sides mode text at nodes → chunk_in text (placed at nodes) k ≡ Some bytes
+    let P : List TreeNode → Type 0 = λ nodes. AreGood asked sides mode text at nodes → chunk_in text (placed at nodes) k ≡ Some bytes
     → Way asked mode text (placed at nodes) number n k bytes in
     elim (cases_Bool choice.chunks) [
       | inl with_chunks ↦
@@ -148,7 +148,7 @@ way-small : (asked : Asked) (choice : Choice) (mode : Mode) (text : List ℕ) (a
     → chunk_in text (placed at (subtree_nodes choice number n sides source)) k ≡ Some bytes
     → Way asked mode text (placed at (subtree_nodes choice number n sides source)) number n k bytes
 way-small asked choice mode text at number n sides source k bytes top one good there =
-    let P : List Node → Type 0 = λ nodes. AreGood asked sides mode text at nodes → chunk_in text (placed at nodes) k ≡ Some bytes
+    let P : List TreeNode → Type 0 = λ nodes. AreGood asked sides mode text at nodes → chunk_in text (placed at nodes) k ≡ Some bytes
     → Way asked mode text (placed at nodes) number n k bytes in
     elim (cases_Bool (wants choice (1024 * number) n)) [
       | inr skipped ↦
@@ -159,7 +159,7 @@ way-small asked choice mode text at number n sides source k bytes top one good t
     ]
 
 -- the compressions of a way from a parent on
-inputs-step : (asked : Asked) (mode : Mode) (text : List ℕ) (q : ℕ × Node) (near far own : List (ℕ × Node)) (step : Step) (steps : List Step) (k : ℕ) (bytes : List ℕ)
+inputs-step : (asked : Asked) (mode : Mode) (text : List ℕ) (q : ℕ × TreeNode) (near far own : List (ℕ × TreeNode)) (step : Step) (steps : List Step) (k : ℕ) (bytes : List ℕ)
     → ((x : Input) → Contains (text_inputs mode text own) x → Contains (text_inputs mode text (near ++ far)) x)
     → place_inputs mode text q ≡ marked asked.top (step_input mode step) ∷ []
     → ((x : Input) → Contains (way_inputs false mode steps k bytes) x → Contains (text_inputs mode text own) x)
@@ -173,13 +173,13 @@ inputs-step asked mode text q near far own step steps k bytes further first rest
     ])
 
 -- the parts' compressions are among the whole's
-pub text_inputs-near : (mode : Mode) (text : List ℕ) (near far : List (ℕ × Node)) (x : Input) → Contains (text_inputs mode text near) x
+pub text_inputs-near : (mode : Mode) (text : List ℕ) (near far : List (ℕ × TreeNode)) (x : Input) → Contains (text_inputs mode text near) x
     → Contains (text_inputs mode text (near ++ far)) x
 text_inputs-near mode text near far x h =
     subst (λ (xs : List Input). Contains xs x) (sym (flat_map-append (place_inputs mode text) near far))
     (Contains-append_left (text_inputs mode text near) (text_inputs mode text far) x h)
 
-pub text_inputs-far : (mode : Mode) (text : List ℕ) (near far : List (ℕ × Node)) (x : Input) → Contains (text_inputs mode text far) x
+pub text_inputs-far : (mode : Mode) (text : List ℕ) (near far : List (ℕ × TreeNode)) (x : Input) → Contains (text_inputs mode text far) x
     → Contains (text_inputs mode text (near ++ far)) x
 text_inputs-far mode text near far x h =
     subst (λ (xs : List Input). Contains xs x) (sym (flat_map-append (place_inputs mode text) near far))
@@ -210,7 +210,7 @@ parent_there text at there valid =
     (length-take-le 64 (drop at text) (omega arith), AreBytes-take 64 (drop at text) (AreBytes-drop at text valid))
 
 -- from a part of a parent to the whole
-way-near : (asked : Asked) (mode : Mode) (text : List ℕ) (at number n : ℕ) (sides : List Side) (source k : ℕ) (bytes : List ℕ) (near far : List (ℕ × Node))
+way-near : (asked : Asked) (mode : Mode) (text : List ℕ) (at number n : ℕ) (sides : List Side) (source k : ℕ) (bytes : List ℕ) (near far : List (ℕ × TreeNode))
     → asked.top ≡ is_top sides → 1024 < n → at + 64 ≤ length text
     → Meets asked (parent_input mode (part_value left (take 64 (drop at text))) (part_value right (take 64 (drop at text))))
     → Way (below left (take 64 (drop at text))) mode text near number (left_len n) k bytes
@@ -219,7 +219,7 @@ way-near asked mode text at number n sides source k bytes near far top more ther
     let l : ℕ = left_len n in
     let parts : Parts n l = left_len-Parts n more in
     let bs : List ℕ = take 64 (drop at text) in
-    let q : ℕ × Node = (at, parent_node number n sides source) in
+    let q : ℕ × TreeNode = (at, parent_node number n sides source) in
     let step : Step = record { parent = bs; side = left } in
     let first : place_inputs mode text q ≡ marked asked.top (step_input mode step) ∷ [] =
     ap (λ (t : Bool). marked t (step_input mode step) ∷ []) (sym top) in
@@ -239,7 +239,7 @@ way-near asked mode text at number n sides source k bytes near far top more ther
       ends = λ same. absurd (omega arith);
     }
 
-way-far : (asked : Asked) (mode : Mode) (text : List ℕ) (at number n : ℕ) (sides : List Side) (source k : ℕ) (bytes : List ℕ) (near far : List (ℕ × Node))
+way-far : (asked : Asked) (mode : Mode) (text : List ℕ) (at number n : ℕ) (sides : List Side) (source k : ℕ) (bytes : List ℕ) (near far : List (ℕ × TreeNode))
     → asked.top ≡ is_top sides → 1024 < n → at + 64 ≤ length text
     → Meets asked (parent_input mode (part_value left (take 64 (drop at text))) (part_value right (take 64 (drop at text))))
     → Way (below right (take 64 (drop at text))) mode text far (number + left_len n / 1024) (n - left_len n) k bytes
@@ -248,7 +248,7 @@ way-far asked mode text at number n sides source k bytes near far top more there
     let l : ℕ = left_len n in
     let parts : Parts n l = left_len-Parts n more in
     let bs : List ℕ = take 64 (drop at text) in
-    let q : ℕ × Node = (at, parent_node number n sides source) in
+    let q : ℕ × TreeNode = (at, parent_node number n sides source) in
     let step : Step = record { parent = bs; side = right } in
     let first : place_inputs mode text q ≡ marked asked.top (step_input mode step) ∷ [] =
     ap (λ (t : Bool). marked t (step_input mode step) ∷ []) (sym top) in
@@ -285,15 +285,15 @@ way-levels (suc levels) asked choice mode text at number n sides source k bytes 
             let l : ℕ = left_len n in
             let parts : Parts n l = left_len-Parts n more in
             let bs : List ℕ = take 64 (drop at text) in
-            let q : ℕ × Node = (at, parent_node number n sides source) in
-            let near_nodes : List Node = subtree_nodes choice number l (sides ++ left ∷ []) (source + 64) in
-            let far_nodes : List Node = subtree_nodes choice (number + l / 1024) (n - l) (sides ++ right ∷ []) (source + 64 + subtree_size l) in
-            let near : List (ℕ × Node) = placed (at + 64) near_nodes in
-            let far : List (ℕ × Node) = placed (at + 64 + nodes_size near_nodes) far_nodes in
+            let q : ℕ × TreeNode = (at, parent_node number n sides source) in
+            let near_nodes : List TreeNode = subtree_nodes choice number l (sides ++ left ∷ []) (source + 64) in
+            let far_nodes : List TreeNode = subtree_nodes choice (number + l / 1024) (n - l) (sides ++ right ∷ []) (source + 64 + subtree_size l) in
+            let near : List (ℕ × TreeNode) = placed (at + 64) near_nodes in
+            let far : List (ℕ × TreeNode) = placed (at + 64 + nodes_size near_nodes) far_nodes in
             let places_are : placed at (subtree_nodes choice number n sides source) ≡ q ∷ (near ++ far) = placed-parent choice number n sides source at wanted more in
             let both : PartsGood asked sides mode text at near_nodes far_nodes = AreGood-split asked choice mode text at number n sides source wanted more good in
-            let among : chunk_in text (near ++ far) k ≡ Some bytes = ap (λ (ps : List (ℕ × Node)). chunk_in text ps k) (sym places_are) ∙ there in
-            subst (λ (ps : List (ℕ × Node)). Way asked mode text ps number n k bytes) (sym places_are)
+            let among : chunk_in text (near ++ far) k ≡ Some bytes = ap (λ (ps : List (ℕ × TreeNode)). chunk_in text ps k) (sym places_are) ∙ there in
+            subst (λ (ps : List (ℕ × TreeNode)). Way asked mode text ps number n k bytes) (sym places_are)
             (elim (chunk_in-append text near far k bytes among) [
               | inl here ↦
                   way-near asked mode text at number n sides source k bytes near far top more both.there both.meets
@@ -307,9 +307,9 @@ way-levels (suc levels) asked choice mode text at number n sides source k bytes 
       ]
 ]
 
--- A way down to the chunk that the text has there, made of the text's own compressions. By the length
+-- A way down to the chunk that the encoding has there, made of the encoding's own compressions. By the length
 -- `total` of the blob the last chunk ends it, and each other is whole.
-pub record IsCertified (mode : Mode) (root text : List ℕ) (places : List (ℕ × Node)) (total number : ℕ) (bytes : List ℕ) : Type 0 where
+pub record IsCertified (mode : Mode) (root text : List ℕ) (places : List (ℕ × TreeNode)) (total number : ℕ) (bytes : List ℕ) : Type 0 where
   pub steps : List Step
   pub holds : Begins mode root steps (last_chunk_input mode number bytes)
   pub inputs : (x : Input) → Contains (way_inputs true mode steps number bytes) x → Contains (text_inputs mode text places) x
@@ -321,8 +321,8 @@ pub record IsCertified (mode : Mode) (root text : List ℕ) (places : List (ℕ 
   pub last : number + 1 ≡ chunk_count total → AllByRecursion GoesRight steps
   pub ends : number + 1 ≡ chunk_count total → 1024 * number + length bytes ≡ total
 
--- a chunk of a text of bytes is of bytes
-chunk_in-AreBytes : (text : List ℕ) (places : List (ℕ × Node)) (number : ℕ) (bytes : List ℕ) → AreBytes text → chunk_in text places number ≡ Some bytes → AreBytes bytes
+-- a chunk of an encoding of bytes is of bytes
+chunk_in-AreBytes : (text : List ℕ) (places : List (ℕ × TreeNode)) (number : ℕ) (bytes : List ℕ) → AreBytes text → chunk_in text places number ≡ Some bytes → AreBytes bytes
 chunk_in-AreBytes text [] number bytes valid there = let none : None ≡ Some bytes = there in cc
 chunk_in-AreBytes text (place ∷ places) number bytes valid there = elim (cases_Bool (place.1.is_chunk && (place.1.number == number))) [
   | inl hit ↦
@@ -360,7 +360,7 @@ pub certified : (mode : Mode) (root text : List ℕ) (start len : ℕ) → IsAcc
 certified mode root text start len accepted number bytes there =
     chosen_certified (of_slice (claimed text) start len) mode root text (claimed text) accepted number bytes there
 
--- the certificate of a chunk of a text of bytes
-abbrev pub certificate_of : {mode : Mode} {root text : List ℕ} {places : List (ℕ × Node)} {total number : ℕ} {bytes : List ℕ} → IsCertified mode root text places total number bytes
+-- the certificate of a chunk of an encoding of bytes
+abbrev pub certificate_of : {mode : Mode} {root text : List ℕ} {places : List (ℕ × TreeNode)} {total number : ℕ} {bytes : List ℕ} → IsCertified mode root text places total number bytes
     → AreBytes text → Certificate mode root number bytes
 certificate_of found valid = record { steps = found.steps; parents = found.parents valid; chunk = found.chunk valid; holds = found.holds }

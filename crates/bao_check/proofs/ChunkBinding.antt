@@ -1,4 +1,4 @@
--- A chaining value binds its chunk: other bytes, or another number, name a pair of inputs.
+-- A chaining value binds its chunk: other bytes, or another number, exhibit a collision.
 use Rattle.std.proofs.Common.{◌≡◌, ◌⊎◌, ℕ, zero, suc, ◌-◌, ◌*◌, ◌<◌, List, ◌++◌, length, take, drop, false, sym, ◌∙◌, arith, inl, inr}
 use Rattle.std.specs.Prelude.{Bool}
 use Rattle.b3word.specs.declared.input.Input.{Input}

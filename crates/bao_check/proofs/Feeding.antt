@@ -1,4 +1,4 @@
--- A text that is checked in pieces: what its parts come to, a node at a time.
+-- An encoding that is checked in pieces: what its parts come to, a node at a time.
 use Rattle.std.proofs.Common.{◌≡◌, ℕ, zero, suc, Option, None, is_some, IfSome, Bool, not, ◌==◌, nat_eq, ◌+◌, ◌-◌, ◌*◌, ◌/◌, ◌^◌, ◌<◌, ◌≤◌, List, [], ◌∷◌, ◌++◌, length, take, drop, map, Some, if◌then◌else◌, true, false, refl, sym, ap, subst, ◌∙◌, arith, inl, inr, length-append}
 use Rattle.std.specs.Option.{option_map}
 use Rattle.std.specs.Prelude.{IsNone}
@@ -105,7 +105,7 @@ AreParts-last choice parts after part is all wanted within levels =
     let fits : part.len ≤ 1024 * 2 ^ (54 - length shapes) = subst (λ (k : ℕ). part.len ≤ 1024 * 2 ^ (54 - k)) (sym (length-map parts shape)) levels in
     subst (AreWaiting choice 54) (sym (shapes_last parts after part is)) (AreWaiting-last choice 54 shapes (shape part) all (wanted, (within, fits)))
 
--- the node that comes after those taken, in every text that has it there
+-- the node that comes after those taken, in every encoding that has it there
 module _ (asked : Asked) (mode : Mode) (choice : Choice) (number n : ℕ) (taken node more : List ℕ) (wanted : wants choice (1024 * number) n ≡ true) where
   abbrev text : List ℕ
   text = (taken ++ node) ++ more
@@ -383,7 +383,7 @@ pub waits_trailing : (task : Task) (choice : Choice) (parts : List Part) (text :
 waits_trailing task choice parts text at none w less =
     w.trailing at (subst (λ (ps : List Part). AllPass task.mode choice ps text at at) (sym (none_waits parts none)) refl) less
 
--- a text that ends within the node that comes next is short there
+-- an encoding that ends within the node that comes next is short there
 part_short : (mode : Mode) (choice : Choice) (parts : List Part) (part : Part) (n : ℕ) (taken more : List ℕ) → First choice parts part n → choice.chunks ≡ true → length more < n
     → StopsIn part.asked mode choice part.number part.len ((taken ++ more) ++ []) (length taken) (Short (length taken))
 part_short mode choice parts part n taken more first there less = elim (cases_lt 1024 part.len) [
@@ -413,7 +413,7 @@ none_or : (o : Option ℕ) → ((n : ℕ) → o ≡ Some n → ⊥) → IsNone o
 none_or None h = refl
 none_or (Some n) h = absurd (h n refl)
 
--- nothing comes after an accepted text
+-- nothing comes after an accepted encoding
 pub accepted_done : (task : Task) (choice : Choice) (parts : List Part) (taken : List ℕ) → AreParts choice parts → choice.chunks ≡ true
     → ((more : List ℕ) → WaitsIn task choice parts (taken ++ more) (length taken)) → IsAcceptedAs task taken → IsNone (next_size parts)
 accepted_done task choice parts taken all there waits accepted =

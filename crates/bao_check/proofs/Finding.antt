@@ -16,7 +16,7 @@ use Rattle.bao_check.proofs.Lists.{nodes_size}
 use Rattle.bao_check.proofs.Locating.{chunk_place-far, chunk_place-near, chunk_place-unwanted, chunk_place-without}
 use Rattle.bao_check.proofs.Parenting.{outside_lacks, parent_place-none}
 use Rattle.bao_check.proofs.Presence.{IsThere, Meets, Meets-from_wants, chunk_len, present_levels, wants-from_Meets}
-use Rattle.bao_check.proofs.Standing.{ChunkStands, Few, ParentStands, chunk_stands, parent_lacks, parent_len, parent_stands}
+use Rattle.bao_check.proofs.DigitPlaces.{ChunkStands, Few, ParentStands, chunk_stands, parent_lacks, parent_len, parent_stands}
 
 bytes_few : (choice : Choice) (number k : ℕ) → bytes_before choice number k ≤ 1024 * k
 bytes_few choice number k = elim (cases_Bool choice.chunks) [ inl there ↦ rw there (omega arith) | inr gone ↦ rw gone (omega arith) ]
@@ -170,14 +170,14 @@ not_some : {X : Type 0} (o : Option X) → (IsSome o → ⊥) → o ≡ None
 not_some None h = refl
 not_some (Some x) h = absurd (h refl)
 
--- a text with chunks lacks one that isn't wanted
+-- an encoding with chunks lacks one that isn't wanted
 pub chunk_lacks : (choice : Choice) (number n : ℕ) (sides : List Side) (source at i : ℕ) → choice.chunks ≡ true → (IsThere choice number n i → ⊥)
     → chunk_place (placed at (subtree_nodes choice number n sides source)) i ≡ None
 chunk_lacks choice number n sides source at i there lacks =
     not_some (chunk_place (placed at (subtree_nodes choice number n sides source)) i)
     (λ some. lacks ((present_levels n choice number n sides source at i (omega arith) there).0 some))
 
--- a text without chunks lacks all
+-- an encoding without chunks lacks all
 chunkless_small : (choice : Choice) (number n : ℕ) (sides : List Side) (source at i : ℕ) → n ≤ 1024 → choice.chunks ≡ false
     → chunk_place (placed at (subtree_nodes choice number n sides source)) i ≡ None
 chunkless_small choice number n sides source at i one gone = elim (cases_Bool (wants choice (1024 * number) n)) [
@@ -212,7 +212,7 @@ pub chunkless : (choice : Choice) (number n : ℕ) (sides : List Side) (source a
     → chunk_place (placed at (subtree_nodes choice number n sides source)) i ≡ None
 chunkless choice number n sides source at i gone = chunkless_levels n choice number n sides source at i (omega arith) gone
 
--- a text that lacks chunk i, of so many bytes, since it isn't wanted
+-- an encoding that lacks chunk i, of so many bytes, since it isn't wanted
 pub chunk_unwanted : (choice : Choice) (number n : ℕ) (sides : List Side) (source at i len : ℕ) → choice.chunks ≡ true → number ≤ i
     → len ≡ min 1024 (n - 1024 * (i - number)) → wants choice (1024 * i) len ≡ false
     → chunk_place (placed at (subtree_nodes choice number n sides source)) i ≡ None

@@ -1,10 +1,10 @@
--- The laws of accepted texts, from what they certify and what a certificate binds.
+-- The laws of accepted encodings, from what they certify and what a certificate binds.
 use Rattle.std.proofs.Common.{◌≡◌, ℕ, Some, List, ◌∷◌, ◌++◌, sym, subst, ◌∙◌, arith, inl, inr}
 use Rattle.std.specs.List.{AllByRecursion}
 use Rattle.b3tree.specs.declared.mode.Mode.{Mode}
 use Rattle.b3tree.specs.Valid.{AreBytes}
 use Rattle.bao_text.specs.Cut.{claimed}
-use Rattle.bao_text.specs.Nodes.{Node}
+use Rattle.bao_text.specs.Nodes.{TreeNode}
 use Rattle.bao_check.specs.declared.fault.CheckFault.{CheckFault}
 use Rattle.bao_check.specs.declared.fault.CheckFault.TheVariants.{Short, Mismatch, Trailing, Memory, Reader}
 use Rattle.bao_check.specs.Accepted.{IsAccepted, IsGood, places_of, slice_nodes}
@@ -19,14 +19,14 @@ use Rattle.bao_check.proofs.Lists.{All-second}
 use Rattle.bao_check.proofs.Naming.{Named-within}
 use Rattle.bao_check.proofs.Written.{combined_accepted, outboard_accepted, slice_accepted}
 
--- what an accepted text of bytes has as a chunk, it certifies
+-- what an accepted encoding of bytes has as a chunk, it certifies
 pub chunk_certificate : (mode : Mode) (root text : List ℕ) (start len number : ℕ) (bytes : List ℕ) → IsAccepted mode root text (slice_nodes text start len) → AreBytes text
     → chunk_in text (places_of (slice_nodes text start len)) number ≡ Some bytes → Certificate mode root number bytes
 chunk_certificate mode root text start len number bytes accepted valid there = certificate_of (certified mode root text start len accepted number bytes there) valid
 
 pub accepted_binds : AcceptedBinds
 accepted_binds mode root text blob start len number bytes keyed valid_blob valid_text is accepted there =
-    let places : List (ℕ × Node) = places_of (slice_nodes text start len) in
+    let places : List (ℕ × TreeNode) = places_of (slice_nodes text start len) in
     let c : IsCertified mode root text places (claimed text) number bytes = certified mode root text start len accepted number bytes there in
     let certificate : Certificate mode root number bytes = certificate_of c valid_text in
     elim (certificate_binds mode root blob number bytes certificate keyed valid_blob is) [
@@ -41,15 +41,15 @@ written_accepted mode blob keyed bound = (
   outboard_accepted mode blob keyed bound,
 )
 
--- an accepted text has no node that isn't good
-no_first_bad : (mode : Mode) (root text : List ℕ) (nodes : List Node) (place : ℕ × Node) → IsFirstBad mode root text (places_of nodes) place → IsAccepted mode root text nodes → ⊥
+-- an accepted encoding has no node that isn't good
+no_first_bad : (mode : Mode) (root text : List ℕ) (nodes : List TreeNode) (place : ℕ × TreeNode) → IsFirstBad mode root text (places_of nodes) place → IsAccepted mode root text nodes → ⊥
 no_first_bad mode root text nodes place bad accepted =
-    let P : ℕ × Node → Type 0 = IsGood mode root text (places_of nodes) in
+    let P : ℕ × TreeNode → Type 0 = IsGood mode root text (places_of nodes) in
     let all : AllByRecursion P (bad.earlier ++ place ∷ bad.later) = subst (AllByRecursion P) bad.split accepted.good in
     bad.bad (All-second P bad.earlier (place ∷ bad.later) all).0
 
 -- nor a first fault
-pub first_fault-not_accepted : (mode : Mode) (root text : List ℕ) (nodes : List Node) (fault : CheckFault) → IsFirstFault mode root text nodes fault
+pub first_fault-not_accepted : (mode : Mode) (root text : List ℕ) (nodes : List TreeNode) (fault : CheckFault) → IsFirstFault mode root text nodes fault
     → IsAccepted mode root text nodes → ⊥
 first_fault-not_accepted mode root text nodes (Short at) (inl short) accepted = omega (arith, short.0, accepted.long)
 first_fault-not_accepted mode root text nodes (Short at) (inr bad) accepted = no_first_bad mode root text nodes bad.1.0 bad.1.1 accepted

@@ -2,7 +2,7 @@
 use Rattle.std.proofs.Common.{◌≡◌, ◌⊎◌, ℕ, zero, suc, ◌+◌, List, [], ◌∷◌, ◌++◌, refl, sym, ap, subst, ◌∙◌, arith, inl, inr, sum_by}
 use Rattle.std.specs.List.{AllByRecursion, Contains}
 use Rattle.std.proofs.lemmas.List.Sums.{sum_by-append}
-use Rattle.bao_text.specs.Nodes.{Node, placed, size}
+use Rattle.bao_text.specs.Nodes.{TreeNode, placed, size}
 
 pub Contains-head : {X : Type 0} (xs : List X) (x : X) → Contains (x ∷ xs) x
 Contains-head xs x = (0, omega arith, refl)
@@ -38,14 +38,14 @@ All-second P [] ys h = h
 All-second P (x ∷ xs) ys h = All-second P xs ys h.1
 
 -- how long nodes are together
-abbrev pub nodes_size : List Node → ℕ
+abbrev pub nodes_size : List TreeNode → ℕ
 nodes_size nodes = sum_by size nodes
 
-pub nodes_size-cons : (node : Node) (nodes : List Node) → nodes_size (node ∷ nodes) ≡ size node + nodes_size nodes
+pub nodes_size-cons : (node : TreeNode) (nodes : List TreeNode) → nodes_size (node ∷ nodes) ≡ size node + nodes_size nodes
 nodes_size-cons node nodes = sum_by-append size (node ∷ []) nodes ∙ omega arith
 
-pub placed-append : (at : ℕ) (xs ys : List Node) → placed at (xs ++ ys) ≡ placed at xs ++ placed (at + nodes_size xs) ys
+pub placed-append : (at : ℕ) (xs ys : List TreeNode) → placed at (xs ++ ys) ≡ placed at xs ++ placed (at + nodes_size xs) ys
 placed-append at [] ys = let e : at ≡ at + 0 = omega arith in ap (λ (k : ℕ). placed k ys) e
 placed-append at (x ∷ xs) ys =
     let e : at + size x + nodes_size xs ≡ at + nodes_size (x ∷ xs) = omega (arith, nodes_size-cons x xs) in
-    ap (λ (ps : List (ℕ × Node)). (at, x) ∷ ps) (placed-append (at + size x) xs ys ∙ ap (λ (k : ℕ). placed (at + size x) xs ++ placed k ys) e)
+    ap (λ (ps : List (ℕ × TreeNode)). (at, x) ∷ ps) (placed-append (at + size x) xs ys ∙ ap (λ (k : ℕ). placed (at + size x) xs ++ placed k ys) e)

@@ -8,7 +8,7 @@ use Rattle.std.proofs.lemmas.Bool.Decides.{eqb_tells}
 use Rattle.b3tree.specs.Tree.{left_len}
 use Rattle.bao_text.specs.declared.choice.Choice.{Choice}
 use Rattle.bao_text.specs.Choice.{chunk_count, wants}
-use Rattle.bao_text.specs.Nodes.{Node, Side, left, placed, right, size, subtree_nodes, subtree_size}
+use Rattle.bao_text.specs.Nodes.{TreeNode, Side, left, placed, right, size, subtree_nodes, subtree_size}
 use Rattle.bao_text.proofs.SubtreeNodes.{subtree_nodes-parent, subtree_nodes-unwanted}
 use Rattle.bao_text.proofs.SubtreeText.{Parts, left_len-Parts}
 use Rattle.bao_check.specs.Accepted.{end_of}
@@ -19,13 +19,13 @@ use Rattle.bao_check.proofs.Parts.{placed-All, placed-parent}
 use Rattle.bao_check.proofs.Walking.{leaf_nodes, leaf_without}
 
 -- the nodes' chunk numbers lie in the subtree
-abbrev pub IsWithin : ℕ → ℕ → Node → Type 0
+abbrev pub IsWithin : ℕ → ℕ → TreeNode → Type 0
 IsWithin number count node = (number ≤ node.number) × (node.number < number + count)
 
 numbers_small : (choice : Choice) (number n : ℕ) (sides : List Side) (source : ℕ) → n ≤ 1024
     → AllByRecursion (IsWithin number (chunk_count n)) (subtree_nodes choice number n sides source)
 numbers_small choice number n sides source one =
-    let P : List Node → Type 0 = AllByRecursion (IsWithin number (chunk_count n)) in
+    let P : List TreeNode → Type 0 = AllByRecursion (IsWithin number (chunk_count n)) in
     elim (cases_Bool (wants choice (1024 * number) n)) [
       | inr skipped ↦ subst P (sym (subtree_nodes-unwanted choice number n sides source skipped)) tt
       | inl wanted ↦
@@ -48,14 +48,14 @@ numbers_levels zero choice number n sides source hn = numbers_small choice numbe
 numbers_levels (suc levels) choice number n sides source hn = elim (cases_lt 1024 n) [
   | inr one ↦ numbers_small choice number n sides source one
   | inl more ↦
-      let P : List Node → Type 0 = AllByRecursion (IsWithin number (chunk_count n)) in
+      let P : List TreeNode → Type 0 = AllByRecursion (IsWithin number (chunk_count n)) in
       elim (cases_Bool (wants choice (1024 * number) n)) [
         | inr skipped ↦ subst P (sym (subtree_nodes-unwanted choice number n sides source skipped)) tt
         | inl wanted ↦
             let l : ℕ = left_len n in
             let parts : Parts n l = left_len-Parts n more in
-            let near : List Node = subtree_nodes choice number l (sides ++ left ∷ []) (source + 64) in
-            let far : List Node = subtree_nodes choice (number + l / 1024) (n - l) (sides ++ right ∷ []) (source + 64 + subtree_size l) in
+            let near : List TreeNode = subtree_nodes choice number l (sides ++ left ∷ []) (source + 64) in
+            let far : List TreeNode = subtree_nodes choice (number + l / 1024) (n - l) (sides ++ right ∷ []) (source + 64 + subtree_size l) in
             let in_near = numbers_levels levels choice number l (sides ++ left ∷ []) (source + 64) (omega (arith, parts.whole, parts.below)) in
             let in_far = numbers_levels levels choice (number + l / 1024) (n - l) (sides ++ right ∷ []) (source + 64 + subtree_size l) (omega (arith, parts.some)) in
             let near_count : chunk_count l ≡ l / 1024 = count_left n more in
@@ -93,21 +93,21 @@ and_false : (b : Bool) → (b && false) ≡ false
 and_false true = refl
 and_false false = refl
 
-skip_place : (place : ℕ × Node) (places : List (ℕ × Node)) (i : ℕ) → place.1.number ≢ i → chunk_place (place ∷ places) i ≡ chunk_place places i
+skip_place : (place : ℕ × TreeNode) (places : List (ℕ × TreeNode)) (i : ℕ) → place.1.number ≢ i → chunk_place (place ∷ places) i ≡ chunk_place places i
 skip_place place places i differ = rw (not_same place.1.number i differ, and_false place.1.is_chunk) refl
 
-pub chunk_place-none : (places : List (ℕ × Node)) (i : ℕ) → AllByRecursion (λ place. place.1.number ≢ i) places → chunk_place places i ≡ None
+pub chunk_place-none : (places : List (ℕ × TreeNode)) (i : ℕ) → AllByRecursion (λ place. place.1.number ≢ i) places → chunk_place places i ≡ None
 chunk_place-none [] i all = refl
 chunk_place-none (place ∷ places) i all = skip_place place places i all.0 ∙ chunk_place-none places i all.1
 
-pub chunk_place-first : (xs ys : List (ℕ × Node)) (i : ℕ) → AllByRecursion (λ place. place.1.number ≢ i) ys → chunk_place (xs ++ ys) i ≡ chunk_place xs i
+pub chunk_place-first : (xs ys : List (ℕ × TreeNode)) (i : ℕ) → AllByRecursion (λ place. place.1.number ≢ i) ys → chunk_place (xs ++ ys) i ≡ chunk_place xs i
 chunk_place-first [] ys i all = chunk_place-none ys i all
 chunk_place-first (x ∷ xs) ys i all = elim (cases_Bool (x.1.is_chunk && (x.1.number == i))) [
   | inl here ↦ rw here refl
   | inr other ↦ rw other (chunk_place-first xs ys i all)
 ]
 
-pub chunk_place-second : (xs ys : List (ℕ × Node)) (i : ℕ) → AllByRecursion (λ place. place.1.number ≢ i) xs → chunk_place (xs ++ ys) i ≡ chunk_place ys i
+pub chunk_place-second : (xs ys : List (ℕ × TreeNode)) (i : ℕ) → AllByRecursion (λ place. place.1.number ≢ i) xs → chunk_place (xs ++ ys) i ≡ chunk_place ys i
 chunk_place-second [] ys i all = refl
 chunk_place-second (x ∷ xs) ys i all = skip_place x (xs ++ ys) i all.0 ∙ chunk_place-second xs ys i all.1
 
@@ -131,16 +131,16 @@ others_right choice number n i at source sides before =
     let low : number ≤ x.number = w.0 in absurd (omega arith)))
 
 module _ (choice : Choice) (number n : ℕ) (sides : List Side) (source at i : ℕ) (wanted : wants choice (1024 * number) n ≡ true) (more : 1024 < n) where
-  abbrev near_nodes : List Node
+  abbrev near_nodes : List TreeNode
   near_nodes = subtree_nodes choice number (left_len n) (sides ++ left ∷ []) (source + 64)
 
-  abbrev far_nodes : List Node
+  abbrev far_nodes : List TreeNode
   far_nodes = subtree_nodes choice (number + left_len n / 1024) (n - left_len n) (sides ++ right ∷ []) (source + 64 + subtree_size (left_len n))
 
   pub chunk_place-near : i < number + left_len n / 1024 → chunk_place (placed at (subtree_nodes choice number n sides source)) i ≡ chunk_place (placed (at + 64) near_nodes) i
   chunk_place-near before =
       let far_at : ℕ = at + 64 + nodes_size near_nodes in
-      ap (λ (ps : List (ℕ × Node)). chunk_place ps i) (placed-parent choice number n sides source at wanted more)
+      ap (λ (ps : List (ℕ × TreeNode)). chunk_place ps i) (placed-parent choice number n sides source at wanted more)
       ∙ chunk_place-first (placed (at + 64) near_nodes) (placed far_at far_nodes) i
       (others_right choice (number + left_len n / 1024) (n - left_len n) i far_at (source + 64 + subtree_size (left_len n)) (sides ++ right ∷ []) before)
 
@@ -149,19 +149,19 @@ module _ (choice : Choice) (number n : ℕ) (sides : List Side) (source at i : �
   chunk_place-far after =
       let far_at : ℕ = at + 64 + nodes_size near_nodes in
       let count : chunk_count (left_len n) ≡ left_len n / 1024 = count_left n more in
-      ap (λ (ps : List (ℕ × Node)). chunk_place ps i) (placed-parent choice number n sides source at wanted more)
+      ap (λ (ps : List (ℕ × TreeNode)). chunk_place ps i) (placed-parent choice number n sides source at wanted more)
       ∙ chunk_place-second (placed (at + 64) near_nodes) (placed far_at far_nodes) i
       (others_left choice number (left_len n) i (at + 64) (source + 64) (sides ++ left ∷ []) (omega arith))
 
 pub chunk_place-unwanted : (choice : Choice) (number n : ℕ) (sides : List Side) (source at i : ℕ) → wants choice (1024 * number) n ≡ false
     → chunk_place (placed at (subtree_nodes choice number n sides source)) i ≡ None
 chunk_place-unwanted choice number n sides source at i skipped =
-    ap (λ (nodes : List Node). chunk_place (placed at nodes) i) (subtree_nodes-unwanted choice number n sides source skipped)
+    ap (λ (nodes : List TreeNode). chunk_place (placed at nodes) i) (subtree_nodes-unwanted choice number n sides source skipped)
 
 pub chunk_place-leaf : (choice : Choice) (number n : ℕ) (sides : List Side) (source at : ℕ) → wants choice (1024 * number) n ≡ true → n ≤ 1024 → choice.chunks ≡ true
     → chunk_place (placed at (subtree_nodes choice number n sides source)) number ≡ Some (record { at = at; len = n })
 chunk_place-leaf choice number n sides source at wanted one there =
-    ap (λ (nodes : List Node). chunk_place (placed at nodes) number) (leaf_nodes choice number n sides source wanted one there) ∙ rw (same_is number) refl
+    ap (λ (nodes : List TreeNode). chunk_place (placed at nodes) number) (leaf_nodes choice number n sides source wanted one there) ∙ rw (same_is number) refl
 
 pub chunk_place-other : (choice : Choice) (number n : ℕ) (sides : List Side) (source at i : ℕ) → n ≤ 1024 → number ≢ i
     → chunk_place (placed at (subtree_nodes choice number n sides source)) i ≡ None
@@ -177,10 +177,10 @@ chunk_place-other choice number n sides source at i one differ =
 pub chunk_place-without : (choice : Choice) (number n : ℕ) (sides : List Side) (source at i : ℕ) → wants choice (1024 * number) n ≡ true → n ≤ 1024 → choice.chunks ≡ false
     → chunk_place (placed at (subtree_nodes choice number n sides source)) i ≡ None
 chunk_place-without choice number n sides source at i wanted one gone =
-    ap (λ (nodes : List Node). chunk_place (placed at nodes) i) (leaf_without choice number n sides source wanted one gone)
+    ap (λ (nodes : List TreeNode). chunk_place (placed at nodes) i) (leaf_without choice number n sides source wanted one gone)
 
 -- the bytes of a chunk are those at its place
-pub chunk_in-place : (text : List ℕ) (places : List (ℕ × Node)) (i : ℕ) → chunk_in text places i ≡ option_map (λ span. take span.len (drop span.at text)) (chunk_place places i)
+pub chunk_in-place : (text : List ℕ) (places : List (ℕ × TreeNode)) (i : ℕ) → chunk_in text places i ≡ option_map (λ span. take span.len (drop span.at text)) (chunk_place places i)
 chunk_in-place text [] i = refl
 chunk_in-place text (place ∷ places) i = elim (cases_Bool place.1.is_chunk) [
   | inr other ↦ rw other (chunk_in-place text places i)
@@ -191,8 +191,8 @@ chunk_in-place text (place ∷ places) i = elim (cases_Bool place.1.is_chunk) [
       ]
 ]
 
--- a chunk of an accepted text lies within it
-pub chunk_place-within : (size : ℕ) (places : List (ℕ × Node)) (i : ℕ) → AllByRecursion (λ place. end_of place ≤ size) places
+-- a chunk of an accepted encoding lies within it
+pub chunk_place-within : (size : ℕ) (places : List (ℕ × TreeNode)) (i : ℕ) → AllByRecursion (λ place. end_of place ≤ size) places
     → IfSome (chunk_place places i) (λ span. span.at + span.len ≤ size)
 chunk_place-within size [] i all = tt
 chunk_place-within size (place ∷ places) i all = elim (cases_Bool place.1.is_chunk) [

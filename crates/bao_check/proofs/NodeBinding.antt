@@ -1,4 +1,4 @@
--- An accepted text of a blob's length binds its nodes: each is the blob's, or a pair of inputs is named.
+-- An accepted encoding of a blob's length binds its nodes: each is the blob's, or a collision is exhibited.
 use Rattle.std.proofs.Common.{◌≡◌, ◌⊎◌, ℕ, zero, suc, ◌+◌, ◌-◌, ◌*◌, ◌/◌, ◌<◌, ◌≤◌, None, Some, Bool, List, [], ◌∷◌, ◌++◌, length, take, drop, true, false, refl, sym, ap, subst, ◌∙◌, arith, inl, inr, length-drop}
 use Rattle.std.specs.List.{AllByRecursion, Contains}
 use Rattle.std.proofs.lemmas.Bool.{cases_Bool, cases_lt}
@@ -19,7 +19,7 @@ use Rattle.b3tree.proofs.TopInput.{top_input-chunk}
 use Rattle.bao_text.specs.declared.choice.Choice.{Choice}
 use Rattle.bao_text.specs.Choice.{of_slice, wants}
 use Rattle.bao_text.specs.Cut.{claimed}
-use Rattle.bao_text.specs.Nodes.{Node, Side, chosen_nodes, left, placed, right, subtree_nodes, subtree_size}
+use Rattle.bao_text.specs.Nodes.{TreeNode, Side, chosen_nodes, left, placed, right, subtree_nodes, subtree_size}
 use Rattle.bao_text.specs.Texts.{node_text, parent_text}
 use Rattle.bao_text.proofs.SubtreeNodes.{parent_node, subtree_nodes-unwanted}
 use Rattle.bao_text.proofs.SubtreeText.{Parts, left_len-Parts}
@@ -43,11 +43,11 @@ use Rattle.bao_check.proofs.SubtreeInputs.{blob_inputs-subtree, subtree_inputs, 
 use Rattle.bao_check.proofs.Walking.{chunk_node, leaf_nodes, leaf_without}
 
 -- the bytes at each place are the blob's at its node
-abbrev pub AreBlobs : Mode → List ℕ → List ℕ → List (ℕ × Node) → Type 0
+abbrev pub AreBlobs : Mode → List ℕ → List ℕ → List (ℕ × TreeNode) → Type 0
 AreBlobs mode blob text places = AllByRecursion (λ place. bytes_at text place ≡ node_text mode blob place.1) places
 
--- or a pair is named, from the subtree over s
-abbrev Bound : Bool → Mode → List ℕ → List ℕ → ℕ → List ℕ → List (ℕ × Node) → Type 0
+-- or a collision is exhibited, from the subtree over s
+abbrev Bound : Bool → Mode → List ℕ → List ℕ → ℕ → List ℕ → List (ℕ × TreeNode) → Type 0
 Bound top mode blob s number text places = AreBlobs mode blob text places ⊎ Named (subtree_inputs top mode number s) (text_inputs mode text places)
 
 -- a subtree's places are good under the value of the blob's subtree
@@ -58,7 +58,7 @@ Good top mode choice blob text at number n sides source =
 bound_none : (top : Bool) (mode : Mode) (choice : Choice) (blob s text : List ℕ) (at number n : ℕ) (sides : List Side) (source : ℕ) → subtree_nodes choice number n sides source ≡ []
     → Bound top mode blob s number text (placed at (subtree_nodes choice number n sides source))
 bound_none top mode choice blob s text at number n sides source none =
-    inl (subst (λ (nodes : List Node). AreBlobs mode blob text (placed at nodes)) (sym none) tt)
+    inl (subst (λ (nodes : List TreeNode). AreBlobs mode blob text (placed at nodes)) (sym none) tt)
 
 -- a chunk alone
 bound_chunk : (top : Bool) (mode : Mode) (blob text : List ℕ) (at number n : ℕ) (sides : List Side) (source : ℕ) → top ≡ is_top sides → AreBytes blob → AreBytes text
@@ -97,9 +97,9 @@ bound_small top mode choice blob text at number n sides source top_is hb ht one 
             | inr without ↦ bound_none top mode choice blob s text at number n sides source (leaf_without choice number n sides source wanted one without)
             | inl there ↦
                 let node : subtree_nodes choice number n sides source ≡ chunk_node number n sides source ∷ [] = leaf_nodes choice number n sides source wanted one there in
-                subst (λ (nodes : List Node). Bound top mode blob s number text (placed at nodes)) (sym node)
+                subst (λ (nodes : List TreeNode). Bound top mode blob s number text (placed at nodes)) (sym node)
                 (bound_chunk top mode blob text at number n sides source top_is hb ht one fits
-                (subst (λ (nodes : List Node). AreGood (asked_of top (cv (marked top (top_input mode number s)))) sides mode text at nodes) node good))
+                (subst (λ (nodes : List TreeNode). AreGood (asked_of top (cv (marked top (top_input mode number s)))) sides mode text at nodes) node good))
           ]
     ]
 
@@ -147,11 +147,11 @@ bound_levels (suc levels) top mode choice blob text at number n sides source hn 
             let le : left_len (length s) ≡ l = ap left_len e in
             let parts : Parts n l = left_len-Parts n more in
             let parent : List ℕ = take 64 (drop at text) in
-            let near_nodes : List Node = subtree_nodes choice number l (sides ++ left ∷ []) (source + 64) in
-            let far_nodes : List Node = subtree_nodes choice (number + l / 1024) (n - l) (sides ++ right ∷ []) (source + 64 + subtree_size l) in
-            let near : List (ℕ × Node) = placed (at + 64) near_nodes in
-            let far : List (ℕ × Node) = placed (at + 64 + nodes_size near_nodes) far_nodes in
-            let here : ℕ × Node = (at, parent_node number n sides source) in
+            let near_nodes : List TreeNode = subtree_nodes choice number l (sides ++ left ∷ []) (source + 64) in
+            let far_nodes : List TreeNode = subtree_nodes choice (number + l / 1024) (n - l) (sides ++ right ∷ []) (source + 64 + subtree_size l) in
+            let near : List (ℕ × TreeNode) = placed (at + 64) near_nodes in
+            let far : List (ℕ × TreeNode) = placed (at + 64 + nodes_size near_nodes) far_nodes in
+            let here : ℕ × TreeNode = (at, parent_node number n sides source) in
             let asked = asked_of top (cv (marked top (top_input mode number s))) in
             let split : PartsGood asked sides mode text at near_nodes far_nodes = AreGood-split asked choice mode text at number n sides source wanted more good in
             let x : Input = subtree_parent mode number s in
@@ -164,7 +164,7 @@ bound_levels (suc levels) top mode choice blob text at number n sides source hn 
             subst (λ (t : Bool). Contains theirs (marked t y)) (sym top_is) (Contains-head (text_inputs mode text (near ++ far)) (marked (is_top sides) y)) in
             let further : (z : Input) → Contains (text_inputs mode text (near ++ far)) z → Contains theirs z =
             (λ z h. Contains-tail (text_inputs mode text (near ++ far)) (marked (is_top sides) y) z h) in
-            subst (λ (places : List (ℕ × Node)). Bound top mode blob s number text places) (sym (placed-parent choice number n sides source at wanted more))
+            subst (λ (places : List (ℕ × TreeNode)). Bound top mode blob s number text places) (sym (placed-parent choice number n sides source at wanted more))
             (elim (same_or_named ours theirs (marked top x) (marked top y) (parent_there top mode number s more_s) y_there (sym (meets ∙ own))) [
               | inr named ↦ inr named
               | inl equal ↦
@@ -201,7 +201,7 @@ bound_levels (suc levels) top mode choice blob text at number n sides source hn 
       ]
 ]
 
--- the nodes of an accepted text that claims the blob's length
+-- the nodes of an accepted encoding that claims the blob's length
 pub nodes_bind : (mode : Mode) (root text blob : List ℕ) (start len : ℕ) → IsKeyed mode → AreBytes blob → AreBytes text → hash mode blob ≡ root
     → IsAccepted mode root text (slice_nodes text start len) → claimed text ≡ length blob
     → AreBlobs mode blob text (places_of (slice_nodes text start len)) ⊎ NamesPair mode blob text (places_of (slice_nodes text start len))
@@ -221,14 +221,14 @@ nodes_bind mode root text blob start len keyed hb ht is accepted whole =
           inr (rw (blob_inputs-subtree mode blob) (subst (λ (s : List ℕ). Named (subtree_inputs true mode 0 s) (text_inputs mode text (places_of (slice_nodes text start len)))) all named))
     ]
 
--- what a text has as a parent it has at the place of a node
-record AtNode (mode : Mode) (blob text : List ℕ) (places : List (ℕ × Node)) (m : ℕ) (bytes : List ℕ) : Type 0 where
-  place : ℕ × Node
+-- what an encoding has as a parent it has at the place of a node
+record AtNode (mode : Mode) (blob text : List ℕ) (places : List (ℕ × TreeNode)) (m : ℕ) (bytes : List ℕ) : Type 0 where
+  place : ℕ × TreeNode
   there : Contains places place
   is_parent : is_parent_at m place.1 ≡ true
   bytes_are : bytes ≡ node_text mode blob place.1
 
-at_node : (mode : Mode) (blob text : List ℕ) (places : List (ℕ × Node)) (m : ℕ) (bytes : List ℕ) → AreBlobs mode blob text places → parent_in text places m ≡ Some bytes
+at_node : (mode : Mode) (blob text : List ℕ) (places : List (ℕ × TreeNode)) (m : ℕ) (bytes : List ℕ) → AreBlobs mode blob text places → parent_in text places m ≡ Some bytes
     → AtNode mode blob text places m bytes
 at_node mode blob text [] m bytes all there = let none : None ≡ Some bytes = there in cc
 at_node mode blob text (place ∷ places) m bytes all there = elim (cases_Bool (is_parent_at m place.1)) [
@@ -242,13 +242,13 @@ at_node mode blob text (place ∷ places) m bytes all there = elim (cases_Bool (
 ]
 
 -- a place is of a node
-node_there : (at : ℕ) (nodes : List Node) (place : ℕ × Node) → Contains (placed at nodes) place → Contains nodes place.1
+node_there : (at : ℕ) (nodes : List TreeNode) (place : ℕ × TreeNode) → Contains (placed at nodes) place → Contains nodes place.1
 node_there at nodes place there =
     All-member (λ place. Contains nodes place.1) (placed at nodes) (placed-All (λ node. Contains nodes node) at nodes (All-from_members (λ node. Contains nodes node) nodes (λ x h. h))) place there
 
 pub parent_binds : ParentBinds
 parent_binds mode root text blob start len m bytes keyed hb ht is accepted whole there =
-    let places : List (ℕ × Node) = places_of (slice_nodes text start len) in
+    let places : List (ℕ × TreeNode) = places_of (slice_nodes text start len) in
     elim (nodes_bind mode root text blob start len keyed hb ht is accepted whole) [
       | inr named ↦ inr named
       | inl all ↦

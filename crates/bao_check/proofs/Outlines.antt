@@ -9,37 +9,37 @@ use Rattle.b3tree.specs.Tree.{left_len}
 use Rattle.bao_text.specs.declared.choice.Choice.{Choice}
 use Rattle.bao_text.specs.Choice.{chunk_count, of_outboard, wants}
 use Rattle.bao_text.specs.Cut.{claimed}
-use Rattle.bao_text.specs.Nodes.{Node, Side, left, placed, right, subtree_nodes, subtree_size}
+use Rattle.bao_text.specs.Nodes.{TreeNode, Side, left, placed, right, subtree_nodes, subtree_size}
 use Rattle.bao_text.proofs.SubtreeNodes.{parent_node, subtree_nodes-leaf, subtree_nodes-unwanted}
 use Rattle.bao_text.proofs.SubtreeText.{Parts, left_len-Parts}
 use Rattle.bao_check.specs.Accepted.{IsAccepted, bytes_at, outboard_nodes, part_value, places_of}
-use Rattle.bao_check.specs.Leaves.{HasParents}
+use Rattle.bao_check.specs.Leaves.{WantsParents}
 use Rattle.bao_check.specs.Pieces.{HasLeaf, IsLeafValue}
 use Rattle.bao_check.proofs.Lists.{Contains-cons_cases, Contains-head, Contains-tail, nodes_size}
 use Rattle.bao_check.proofs.Parts.{placed-parent}
 use Rattle.bao_check.proofs.Sizes.{nodes_size-without_chunks, wants_whole}
 
 -- the nodes of the two parts of a subtree
-abbrev near_nodes : Choice → ℕ → ℕ → List Side → ℕ → List Node
+abbrev near_nodes : Choice → ℕ → ℕ → List Side → ℕ → List TreeNode
 near_nodes choice number n sides source = subtree_nodes choice number (left_len n) (sides ++ left ∷ []) (source + 64)
 
-abbrev far_nodes : Choice → ℕ → ℕ → List Side → ℕ → List Node
+abbrev far_nodes : Choice → ℕ → ℕ → List Side → ℕ → List TreeNode
 far_nodes choice number n sides source =
     subtree_nodes choice (number + left_len n / 1024) (n - left_len n) (sides ++ right ∷ []) (source + 64 + subtree_size (left_len n))
 
 -- the choice has all parents of both parts
-pub near-HasParents : (choice : Choice) (number n : ℕ) → 1024 < n → HasParents choice number n → HasParents choice number (left_len n)
-near-HasParents choice number n more all =
+pub near-WantsParents : (choice : Choice) (number n : ℕ) → 1024 < n → WantsParents choice number n → WantsParents choice number (left_len n)
+near-WantsParents choice number n more all =
     let parts : Parts n (left_len n) = left_len-Parts n more in
     record { start = all.start; end = omega (arith, parts.below, all.end); without = all.without }
 
-pub far-HasParents : (choice : Choice) (number n : ℕ) → 1024 < n → HasParents choice number n → HasParents choice (number + left_len n / 1024) (n - left_len n)
-far-HasParents choice number n more all =
+pub far-WantsParents : (choice : Choice) (number n : ℕ) → 1024 < n → WantsParents choice number n → WantsParents choice (number + left_len n / 1024) (n - left_len n)
+far-WantsParents choice number n more all =
     let parts : Parts n (left_len n) = left_len-Parts n more in
     record { start = omega (arith, all.start); end = omega (arith, parts.below, parts.whole, all.end); without = all.without }
 
 -- how many bytes they are
-pub near-size : (choice : Choice) (number n : ℕ) (sides : List Side) (source : ℕ) → 1024 < n → HasParents choice number n
+pub near-size : (choice : Choice) (number n : ℕ) (sides : List Side) (source : ℕ) → 1024 < n → WantsParents choice number n
     → nodes_size (near_nodes choice number n sides source) + 64 ≡ 64 * (left_len n / 1024)
 near-size choice number n sides source more all =
     let l : ℕ = left_len n in
@@ -49,37 +49,37 @@ near-size choice number n sides source more all =
     omega (arith, parts.whole, parts.some)
 
 -- the places of a subtree of more than one chunk: its parent's, and those of its two parts
-parent-places : (choice : Choice) (number n : ℕ) (sides : List Side) (source at : ℕ) → 1024 < n → HasParents choice number n
+parent-places : (choice : Choice) (number n : ℕ) (sides : List Side) (source at : ℕ) → 1024 < n → WantsParents choice number n
     → placed at (subtree_nodes choice number n sides source)
     ≡ (at, parent_node number n sides source)
     ∷ (placed (at + 64) (near_nodes choice number n sides source) ++ placed (at + 64 * (left_len n / 1024)) (far_nodes choice number n sides source))
 parent-places choice number n sides source at more all =
-    let near : List Node = near_nodes choice number n sides source in
+    let near : List TreeNode = near_nodes choice number n sides source in
     let size : nodes_size near + 64 ≡ 64 * (left_len n / 1024) = near-size choice number n sides source more all in
     let e : at + 64 + nodes_size near ≡ at + 64 * (left_len n / 1024) = omega arith in
     placed-parent choice number n sides source at (wants_whole choice (1024 * number) n all.start (omega (arith, all.end))) more
     ∙ ap (λ (k : ℕ). (at, parent_node number n sides source) ∷ (placed (at + 64) near ++ placed k (far_nodes choice number n sides source))) e
 
 -- the parent at the top has a chunk's value on a side
-pub leaf-top : (text : List ℕ) (i : ℕ) (choice : Choice) (number n : ℕ) (sides : List Side) (source at : ℕ) (side : Side) → 1024 < n → HasParents choice number n
+pub leaf-top : (text : List ℕ) (i : ℕ) (choice : Choice) (number n : ℕ) (sides : List Side) (source at : ℕ) (side : Side) → 1024 < n → WantsParents choice number n
     → HasLeaf side (parent_node number n sides source) i
     → IsLeafValue text (placed at (subtree_nodes choice number n sides source)) i (part_value side (take 64 (drop at text)))
 leaf-top text i choice number n sides source at side more all over =
-    let top : ℕ × Node = (at, parent_node number n sides source) in
-    let near : List (ℕ × Node) = placed (at + 64) (near_nodes choice number n sides source) in
-    let far : List (ℕ × Node) = placed (at + 64 * (left_len n / 1024)) (far_nodes choice number n sides source) in
-    subst (λ (ps : List (ℕ × Node)). IsLeafValue text ps i (part_value side (take 64 (drop at text)))) (sym (parent-places choice number n sides source at more all))
+    let top : ℕ × TreeNode = (at, parent_node number n sides source) in
+    let near : List (ℕ × TreeNode) = placed (at + 64) (near_nodes choice number n sides source) in
+    let far : List (ℕ × TreeNode) = placed (at + 64 * (left_len n / 1024)) (far_nodes choice number n sides source) in
+    subst (λ (ps : List (ℕ × TreeNode)). IsLeafValue text ps i (part_value side (take 64 (drop at text)))) (sym (parent-places choice number n sides source at more all))
     (record { parent = top; side = side; there = Contains-head (near ++ far) top; over = over; value_is = refl })
 
 -- or a parent of one of the parts has it
-pub leaf-near : (text : List ℕ) (i : ℕ) (value : List ℕ) (choice : Choice) (number n : ℕ) (sides : List Side) (source at : ℕ) → 1024 < n → HasParents choice number n
+pub leaf-near : (text : List ℕ) (i : ℕ) (value : List ℕ) (choice : Choice) (number n : ℕ) (sides : List Side) (source at : ℕ) → 1024 < n → WantsParents choice number n
     → IsLeafValue text (placed (at + 64) (near_nodes choice number n sides source)) i value
     → IsLeafValue text (placed at (subtree_nodes choice number n sides source)) i value
 leaf-near text i value choice number n sides source at more all h =
-    let top : ℕ × Node = (at, parent_node number n sides source) in
-    let near : List (ℕ × Node) = placed (at + 64) (near_nodes choice number n sides source) in
-    let far : List (ℕ × Node) = placed (at + 64 * (left_len n / 1024)) (far_nodes choice number n sides source) in
-    subst (λ (ps : List (ℕ × Node)). IsLeafValue text ps i value) (sym (parent-places choice number n sides source at more all))
+    let top : ℕ × TreeNode = (at, parent_node number n sides source) in
+    let near : List (ℕ × TreeNode) = placed (at + 64) (near_nodes choice number n sides source) in
+    let far : List (ℕ × TreeNode) = placed (at + 64 * (left_len n / 1024)) (far_nodes choice number n sides source) in
+    subst (λ (ps : List (ℕ × TreeNode)). IsLeafValue text ps i value) (sym (parent-places choice number n sides source at more all))
     (record {
       parent = h.parent;
       side = h.side;
@@ -88,14 +88,14 @@ leaf-near text i value choice number n sides source at more all h =
       value_is = h.value_is;
     })
 
-pub leaf-far : (text : List ℕ) (i : ℕ) (value : List ℕ) (choice : Choice) (number n : ℕ) (sides : List Side) (source at : ℕ) → 1024 < n → HasParents choice number n
+pub leaf-far : (text : List ℕ) (i : ℕ) (value : List ℕ) (choice : Choice) (number n : ℕ) (sides : List Side) (source at : ℕ) → 1024 < n → WantsParents choice number n
     → IsLeafValue text (placed (at + 64 * (left_len n / 1024)) (far_nodes choice number n sides source)) i value
     → IsLeafValue text (placed at (subtree_nodes choice number n sides source)) i value
 leaf-far text i value choice number n sides source at more all h =
-    let top : ℕ × Node = (at, parent_node number n sides source) in
-    let near : List (ℕ × Node) = placed (at + 64) (near_nodes choice number n sides source) in
-    let far : List (ℕ × Node) = placed (at + 64 * (left_len n / 1024)) (far_nodes choice number n sides source) in
-    subst (λ (ps : List (ℕ × Node)). IsLeafValue text ps i value) (sym (parent-places choice number n sides source at more all))
+    let top : ℕ × TreeNode = (at, parent_node number n sides source) in
+    let near : List (ℕ × TreeNode) = placed (at + 64) (near_nodes choice number n sides source) in
+    let far : List (ℕ × TreeNode) = placed (at + 64 * (left_len n / 1024)) (far_nodes choice number n sides source) in
+    subst (λ (ps : List (ℕ × TreeNode)). IsLeafValue text ps i value) (sym (parent-places choice number n sides source at more all))
     (record {
       parent = h.parent;
       side = h.side;
@@ -180,15 +180,15 @@ no_parents choice number n sides source one without = elim (cases_Bool (wants ch
 ]
 
 -- so no place is among them
-none_there : (choice : Choice) (number n : ℕ) (sides : List Side) (source at : ℕ) (place : ℕ × Node) → n ≤ 1024 → choice.chunks ≡ false
+none_there : (choice : Choice) (number n : ℕ) (sides : List Side) (source at : ℕ) (place : ℕ × TreeNode) → n ≤ 1024 → choice.chunks ≡ false
     → Contains (placed at (subtree_nodes choice number n sides source)) place → ⊥
 none_there choice number n sides source at place one without there =
-    let none : Contains [] place = subst (λ (nodes : List Node). Contains (placed at nodes) place) (no_parents choice number n sides source one without) there in
+    let none : Contains [] place = subst (λ (nodes : List TreeNode). Contains (placed at nodes) place) (no_parents choice number n sides source one without) there in
     omega (arith, none.1)
 
 -- a parent of the subtree has no other value for chunk i
-leaf-is : (levels : ℕ) (text : List ℕ) (i : ℕ) (choice : Choice) (number n : ℕ) (sides : List Side) (source at : ℕ) (place : ℕ × Node) (side : Side) → n ≤ 1024 * levels + 1024
-    → HasParents choice number n → Contains (placed at (subtree_nodes choice number n sides source)) place → HasLeaf side place.1 i
+leaf-is : (levels : ℕ) (text : List ℕ) (i : ℕ) (choice : Choice) (number n : ℕ) (sides : List Side) (source at : ℕ) (place : ℕ × TreeNode) (side : Side) → n ≤ 1024 * levels + 1024
+    → WantsParents choice number n → Contains (placed at (subtree_nodes choice number n sides source)) place → HasLeaf side place.1 i
     → IsWithin levels text i number n at (part_value side (bytes_at text place))
 leaf-is zero text i choice number n sides source at place side hn all there over =
     absurd (none_there choice number n sides source at place (omega arith) all.without there)
@@ -196,37 +196,37 @@ leaf-is (suc levels) text i choice number n sides source at place side hn all th
   | inr one ↦ absurd (none_there choice number n sides source at place one all.without there)
   | inl more ↦
       let parts : Parts n (left_len n) = left_len-Parts n more in
-      let top : ℕ × Node = (at, parent_node number n sides source) in
-      let near : List (ℕ × Node) = placed (at + 64) (near_nodes choice number n sides source) in
-      let far : List (ℕ × Node) = placed (at + 64 * (left_len n / 1024)) (far_nodes choice number n sides source) in
-      let split : Contains (top ∷ (near ++ far)) place = subst (λ (ps : List (ℕ × Node)). Contains ps place) (parent-places choice number n sides source at more all) there in
+      let top : ℕ × TreeNode = (at, parent_node number n sides source) in
+      let near : List (ℕ × TreeNode) = placed (at + 64) (near_nodes choice number n sides source) in
+      let far : List (ℕ × TreeNode) = placed (at + 64 * (left_len n / 1024)) (far_nodes choice number n sides source) in
+      let split : Contains (top ∷ (near ++ far)) place = subst (λ (ps : List (ℕ × TreeNode)). Contains ps place) (parent-places choice number n sides source at more all) there in
       elim (Contains-cons_cases (near ++ far) top place split) [
         | inl same ↦
-            subst (λ (p : ℕ × Node). IsWithin (suc levels) text i number n at (part_value side (bytes_at text p))) (sym same)
-            (within-top levels text i number n sides source at side more (subst (λ (p : ℕ × Node). HasLeaf side p.1 i) same over))
+            subst (λ (p : ℕ × TreeNode). IsWithin (suc levels) text i number n at (part_value side (bytes_at text p))) (sym same)
+            (within-top levels text i number n sides source at side more (subst (λ (p : ℕ × TreeNode). HasLeaf side p.1 i) same over))
         | inr rest ↦
             elim (Contains-append_cases near far place rest) [
               | inl own ↦
                   within-near levels text i number n at (part_value side (bytes_at text place)) more
                   (leaf-is levels text i choice number (left_len n) (sides ++ left ∷ []) (source + 64) (at + 64) place side (omega (arith, parts.whole, parts.below))
-                  (near-HasParents choice number n more all) own over)
+                  (near-WantsParents choice number n more all) own over)
               | inr own ↦
                   within-far levels text i number n at (part_value side (bytes_at text place)) more
                   (leaf-is levels text i choice (number + left_len n / 1024) (n - left_len n) (sides ++ right ∷ []) (source + 64 + subtree_size (left_len n))
-                  (at + 64 * (left_len n / 1024)) place side (omega (arith, parts.some)) (far-HasParents choice number n more all) own over)
+                  (at + 64 * (left_len n / 1024)) place side (omega (arith, parts.some)) (far-WantsParents choice number n more all) own over)
             ]
       ]
 ]
 
 -- an outboard encoding has all parents
-pub outboard-HasParents : (total : ℕ) → HasParents (of_outboard total) 0 total
-outboard-HasParents total = record { start = omega arith; end = omega arith; without = refl }
+pub outboard-WantsParents : (total : ℕ) → WantsParents (of_outboard total) 0 total
+outboard-WantsParents total = record { start = omega arith; end = omega arith; without = refl }
 
 -- two values that the parents of an outboard encoding have for one chunk are the same
 pub leaf-unique : (text : List ℕ) (i : ℕ) (v w : List ℕ) → IsLeafValue text (places_of (outboard_nodes text)) i v → IsLeafValue text (places_of (outboard_nodes text)) i w → v ≡ w
 leaf-unique text i v w h k =
     let total : ℕ = claimed text in
-    let all : HasParents (of_outboard total) 0 total = outboard-HasParents total in
+    let all : WantsParents (of_outboard total) 0 total = outboard-WantsParents total in
     let ours : IsWithin total text i 0 total 8 (part_value h.side (bytes_at text h.parent)) =
     leaf-is total text i (of_outboard total) 0 total [] 8 8 h.parent h.side (omega arith) all h.there h.over in
     let theirs : IsWithin total text i 0 total 8 (part_value k.side (bytes_at text k.parent)) =

@@ -1,4 +1,4 @@
--- Masks of the boundaries of a group at which the nodes of a text have a parent.
+-- Masks of the boundaries of a group at which the nodes of an encoding have a parent.
 use Rattle.std.proofs.Common.{◌≡◌, ◌≢◌, ℕ, zero, suc, ◌+◌, ◌-◌, ◌*◌, ◌%◌, ◌^◌, ◌<◌, ◌≤◌, min, List, [], Option, is_some, Bool, true, false, nat_eq, w64, sym, ap, subst, ◌∙◌, arith, inl, inr}
 use Rattle.std.specs.Int.{bit_at, from_bool}
 use Rattle.std.specs.Int.RustNames.{bit_or}
@@ -52,7 +52,7 @@ up_to_same choice n group mask j up lacks = record {
   above = λ i h. up.above i (omega arith);
 }
 
--- a mask whose bits are right is one of the parents that a text has at its nodes
+-- a mask whose bits are right is one of the parents that an encoding has at its nodes
 pub mask_of : (choice : Choice) (n group mask : ℕ) → ((i : ℕ) → i < 64 → nat_eq (bit_at mask i) 1 ≡ has_parent choice n (64 * group + i)) → (text : List ℕ)
     → IsParentMask text (places_of (chosen_nodes choice n)) group mask
 mask_of choice n group mask right text = λ i h. right i h ∙ sym (parent_in-some text (places_of (chosen_nodes choice n)) (64 * group + i))

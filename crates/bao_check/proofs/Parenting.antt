@@ -8,7 +8,7 @@ use Rattle.std.proofs.lemmas.Bool.Decides.{eqb_tells}
 use Rattle.b3tree.specs.Tree.{left_len}
 use Rattle.bao_text.specs.declared.choice.Choice.{Choice}
 use Rattle.bao_text.specs.Choice.{chunk_count, wants}
-use Rattle.bao_text.specs.Nodes.{Node, Side, left, placed, right, subtree_nodes, subtree_size}
+use Rattle.bao_text.specs.Nodes.{TreeNode, Side, left, placed, right, subtree_nodes, subtree_size}
 use Rattle.bao_text.proofs.SubtreeNodes.{subtree_nodes-parent, subtree_nodes-unwanted}
 use Rattle.bao_text.proofs.SubtreeText.{Parts, left_len-Parts}
 use Rattle.bao_check.specs.Accepted.{end_of}
@@ -20,13 +20,13 @@ use Rattle.bao_check.proofs.Parts.{placed-All, placed-parent}
 use Rattle.bao_check.proofs.Walking.{leaf_nodes, leaf_without}
 
 -- a parent's right part begins within the subtree, and not at its start
-abbrev pub IsInside : ℕ → ℕ → Node → Type 0
+abbrev pub IsInside : ℕ → ℕ → TreeNode → Type 0
 IsInside number count node = node.is_chunk ≡ false → (number < boundary node) × (boundary node < number + count)
 
 inside_small : (choice : Choice) (number n : ℕ) (sides : List Side) (source : ℕ) → n ≤ 1024
     → AllByRecursion (IsInside number (chunk_count n)) (subtree_nodes choice number n sides source)
 inside_small choice number n sides source one =
-    let P : List Node → Type 0 = AllByRecursion (IsInside number (chunk_count n)) in
+    let P : List TreeNode → Type 0 = AllByRecursion (IsInside number (chunk_count n)) in
     elim (cases_Bool (wants choice (1024 * number) n)) [
       | inr skipped ↦ subst P (sym (subtree_nodes-unwanted choice number n sides source skipped)) tt
       | inl wanted ↦
@@ -42,14 +42,14 @@ inside_levels zero choice number n sides source hn = inside_small choice number 
 inside_levels (suc levels) choice number n sides source hn = elim (cases_lt 1024 n) [
   | inr one ↦ inside_small choice number n sides source one
   | inl more ↦
-      let P : List Node → Type 0 = AllByRecursion (IsInside number (chunk_count n)) in
+      let P : List TreeNode → Type 0 = AllByRecursion (IsInside number (chunk_count n)) in
       elim (cases_Bool (wants choice (1024 * number) n)) [
         | inr skipped ↦ subst P (sym (subtree_nodes-unwanted choice number n sides source skipped)) tt
         | inl wanted ↦
             let l : ℕ = left_len n in
             let parts : Parts n l = left_len-Parts n more in
-            let near : List Node = subtree_nodes choice number l (sides ++ left ∷ []) (source + 64) in
-            let far : List Node = subtree_nodes choice (number + l / 1024) (n - l) (sides ++ right ∷ []) (source + 64 + subtree_size l) in
+            let near : List TreeNode = subtree_nodes choice number l (sides ++ left ∷ []) (source + 64) in
+            let far : List TreeNode = subtree_nodes choice (number + l / 1024) (n - l) (sides ++ right ∷ []) (source + 64 + subtree_size l) in
             let in_near = inside_levels levels choice number l (sides ++ left ∷ []) (source + 64) (omega (arith, parts.whole, parts.below)) in
             let in_far = inside_levels levels choice (number + l / 1024) (n - l) (sides ++ right ∷ []) (source + 64 + subtree_size l) (omega (arith, parts.some)) in
             let near_count : chunk_count l ≡ l / 1024 = omega (arith, parts.whole, parts.some) in
@@ -71,7 +71,7 @@ pub boundaries_inside : (choice : Choice) (number n : ℕ) (sides : List Side) (
 boundaries_inside choice number n sides source = inside_levels n choice number n sides source (omega arith)
 
 -- a node that isn't that parent
-pub not_parent_at : (m : ℕ) (node : Node) → (node.is_chunk ≡ false → boundary node ≢ m) → is_parent_at m node ≡ false
+pub not_parent_at : (m : ℕ) (node : TreeNode) → (node.is_chunk ≡ false → boundary node ≢ m) → is_parent_at m node ≡ false
 not_parent_at m node differ = elim (cases_Bool node.is_chunk) [
   | inl chunk ↦ rw chunk refl
   | inr parent ↦
@@ -82,13 +82,13 @@ not_parent_at m node differ = elim (cases_Bool node.is_chunk) [
 ]
 
 -- a subtree without it
-abbrev Lacks : ℕ → List (ℕ × Node) → Type 0
+abbrev Lacks : ℕ → List (ℕ × TreeNode) → Type 0
 Lacks m places = AllByRecursion (λ place. is_parent_at m place.1 ≡ false) places
 
 pub outside_lacks : (choice : Choice) (number n m at source : ℕ) (sides : List Side) → ((number < m) × (m < number + chunk_count n) → ⊥)
     → Lacks m (placed at (subtree_nodes choice number n sides source))
 outside_lacks choice number n m at source sides outside =
-    let nodes : List Node = subtree_nodes choice number n sides source in
+    let nodes : List TreeNode = subtree_nodes choice number n sides source in
     placed-All (λ node. is_parent_at m node ≡ false) at nodes
     (All-from_members (λ node. is_parent_at m node ≡ false) nodes
     (λ x h. not_parent_at m x
@@ -97,29 +97,29 @@ outside_lacks choice number n m at source sides outside =
     let low : number < boundary x = w.0 in let high : boundary x < number + chunk_count n = w.1 in
     outside (omega (arith, same), omega (arith, same)))))
 
-pub parent_place-none : (places : List (ℕ × Node)) (m : ℕ) → Lacks m places → parent_place places m ≡ None
+pub parent_place-none : (places : List (ℕ × TreeNode)) (m : ℕ) → Lacks m places → parent_place places m ≡ None
 parent_place-none [] m all = refl
 parent_place-none (place ∷ places) m all = rw all.0 (parent_place-none places m all.1)
 
-parent_place-first : (xs ys : List (ℕ × Node)) (m : ℕ) → Lacks m ys → parent_place (xs ++ ys) m ≡ parent_place xs m
+parent_place-first : (xs ys : List (ℕ × TreeNode)) (m : ℕ) → Lacks m ys → parent_place (xs ++ ys) m ≡ parent_place xs m
 parent_place-first [] ys m all = parent_place-none ys m all
 parent_place-first (x ∷ xs) ys m all = elim (cases_Bool (is_parent_at m x.1)) [
   | inl here ↦ rw here refl
   | inr other ↦ rw other (parent_place-first xs ys m all)
 ]
 
-parent_place-second : (xs ys : List (ℕ × Node)) (m : ℕ) → Lacks m xs → parent_place (xs ++ ys) m ≡ parent_place ys m
+parent_place-second : (xs ys : List (ℕ × TreeNode)) (m : ℕ) → Lacks m xs → parent_place (xs ++ ys) m ≡ parent_place ys m
 parent_place-second [] ys m all = refl
 parent_place-second (x ∷ xs) ys m all = rw all.0 (parent_place-second xs ys m all.1)
 
 module _ (choice : Choice) (number n : ℕ) (sides : List Side) (source at m : ℕ) (wanted : wants choice (1024 * number) n ≡ true) (more : 1024 < n) where
-  abbrev near_nodes : List Node
+  abbrev near_nodes : List TreeNode
   near_nodes = subtree_nodes choice number (left_len n) (sides ++ left ∷ []) (source + 64)
 
-  abbrev far_nodes : List Node
+  abbrev far_nodes : List TreeNode
   far_nodes = subtree_nodes choice (number + left_len n / 1024) (n - left_len n) (sides ++ right ∷ []) (source + 64 + subtree_size (left_len n))
 
-  abbrev all_places : List (ℕ × Node)
+  abbrev all_places : List (ℕ × TreeNode)
   all_places = placed at (subtree_nodes choice number n sides source)
 
   near_count : chunk_count (left_len n) ≡ left_len n / 1024
@@ -128,7 +128,7 @@ module _ (choice : Choice) (number n : ℕ) (sides : List Side) (source at m : �
   -- the subtree's own parent
   pub parent_place-here : number + left_len n / 1024 ≡ m → parent_place all_places m ≡ Some at
   parent_place-here same = elim (eqb_tells (number + left_len n / 1024) m) [
-    | inl hit ↦ ap (λ (ps : List (ℕ × Node)). parent_place ps m) (placed-parent choice number n sides source at wanted more) ∙ rw hit.0 refl
+    | inl hit ↦ ap (λ (ps : List (ℕ × TreeNode)). parent_place ps m) (placed-parent choice number n sides source at wanted more) ∙ rw hit.0 refl
     | inr other ↦ absurd (other.1 same)
   ]
 
@@ -138,7 +138,7 @@ module _ (choice : Choice) (number n : ℕ) (sides : List Side) (source at m : �
     | inl hit ↦ absurd (omega (arith, hit.1))
     | inr other ↦
         let far_at : ℕ = at + 64 + nodes_size near_nodes in
-        ap (λ (ps : List (ℕ × Node)). parent_place ps m) (placed-parent choice number n sides source at wanted more)
+        ap (λ (ps : List (ℕ × TreeNode)). parent_place ps m) (placed-parent choice number n sides source at wanted more)
         ∙ rw other.0 (parent_place-first (placed (at + 64) near_nodes) (placed far_at far_nodes) m
         (outside_lacks choice (number + left_len n / 1024) (n - left_len n) m far_at (source + 64 + subtree_size (left_len n)) (sides ++ right ∷ []) (λ h. omega (arith, h.0))))
   ]
@@ -148,7 +148,7 @@ module _ (choice : Choice) (number n : ℕ) (sides : List Side) (source at m : �
     | inl hit ↦ absurd (omega (arith, hit.1))
     | inr other ↦
         let far_at : ℕ = at + 64 + nodes_size near_nodes in
-        ap (λ (ps : List (ℕ × Node)). parent_place ps m) (placed-parent choice number n sides source at wanted more)
+        ap (λ (ps : List (ℕ × TreeNode)). parent_place ps m) (placed-parent choice number n sides source at wanted more)
         ∙ rw other.0 (parent_place-second (placed (at + 64) near_nodes) (placed far_at far_nodes) m
         (outside_lacks choice number (left_len n) m (at + 64) (source + 64) (sides ++ left ∷ []) (λ h. omega (arith, h.1, near_count))))
   ]
@@ -156,7 +156,7 @@ module _ (choice : Choice) (number n : ℕ) (sides : List Side) (source at m : �
 pub parent_place-unwanted : (choice : Choice) (number n : ℕ) (sides : List Side) (source at m : ℕ) → wants choice (1024 * number) n ≡ false
     → parent_place (placed at (subtree_nodes choice number n sides source)) m ≡ None
 parent_place-unwanted choice number n sides source at m skipped =
-    ap (λ (nodes : List Node). parent_place (placed at nodes) m) (subtree_nodes-unwanted choice number n sides source skipped)
+    ap (λ (nodes : List TreeNode). parent_place (placed at nodes) m) (subtree_nodes-unwanted choice number n sides source skipped)
 
 pub parent_place-chunk : (choice : Choice) (number n : ℕ) (sides : List Side) (source at m : ℕ) → n ≤ 1024
     → parent_place (placed at (subtree_nodes choice number n sides source)) m ≡ None
@@ -166,7 +166,7 @@ parent_place-chunk choice number n sides source at m one =
     (outside_lacks choice number n m at source sides (λ h. omega (arith, h.0, h.1)))
 
 -- the bytes of a parent are those at its place
-pub parent_in-place : (text : List ℕ) (places : List (ℕ × Node)) (m : ℕ) → parent_in text places m ≡ option_map (λ at. take 64 (drop at text)) (parent_place places m)
+pub parent_in-place : (text : List ℕ) (places : List (ℕ × TreeNode)) (m : ℕ) → parent_in text places m ≡ option_map (λ at. take 64 (drop at text)) (parent_place places m)
 parent_in-place text [] m = refl
 parent_in-place text (place ∷ places) m = elim (cases_Bool place.1.is_chunk) [
   | inl chunk ↦ rw chunk (parent_in-place text places m)
@@ -182,12 +182,12 @@ some_too f None = refl
 some_too f (Some at) = refl
 
 -- so it has bytes where it has a place
-pub parent_in-some : (text : List ℕ) (places : List (ℕ × Node)) (m : ℕ) → is_some (parent_in text places m) ≡ is_some (parent_place places m)
+pub parent_in-some : (text : List ℕ) (places : List (ℕ × TreeNode)) (m : ℕ) → is_some (parent_in text places m) ≡ is_some (parent_place places m)
 parent_in-some text places m =
     ap (λ (bytes : Option (List ℕ)). is_some bytes) (parent_in-place text places m) ∙ some_too (λ at. take 64 (drop at text)) (parent_place places m)
 
--- a parent of an accepted text lies within it
-pub parent_place-within : (size : ℕ) (places : List (ℕ × Node)) (m : ℕ) → AllByRecursion (λ place. end_of place ≤ size) places
+-- a parent of an accepted encoding lies within it
+pub parent_place-within : (size : ℕ) (places : List (ℕ × TreeNode)) (m : ℕ) → AllByRecursion (λ place. end_of place ≤ size) places
     → IfSome (parent_place places m) (λ at. at + 64 ≤ size)
 parent_place-within size [] m all = tt
 parent_place-within size (place ∷ places) m all = elim (cases_Bool place.1.is_chunk) [

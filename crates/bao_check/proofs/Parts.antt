@@ -8,7 +8,7 @@ use Rattle.b3tree.specs.declared.mode.Mode.{Mode}
 use Rattle.b3tree.specs.Tree.{left_len, parent_input}
 use Rattle.bao_text.specs.declared.choice.Choice.{Choice}
 use Rattle.bao_text.specs.Choice.{wants}
-use Rattle.bao_text.specs.Nodes.{Node, Side, left, right, size, placed, subtree_nodes, subtree_size}
+use Rattle.bao_text.specs.Nodes.{TreeNode, Side, left, right, size, placed, subtree_nodes, subtree_size}
 use Rattle.bao_check.specs.declared.asked.Asked.{Asked}
 use Rattle.bao_check.specs.Accepted.{bytes_at, end_of, input_at, part_value}
 use Rattle.bao_check.specs.Walk.{AreGood, IsAskedIn, IsGoodIn, Meets}
@@ -41,7 +41,7 @@ Extends-same sides = record { tail = []; is = sym (append-nil sides) }
 nodes-Extends_small : (choice : Choice) (number n : ℕ) (sides : List Side) (source : ℕ) → n ≤ 1024
     → AllByRecursion (λ node. Extends sides node.sides) (subtree_nodes choice number n sides source)
 nodes-Extends_small choice number n sides source one =
-    let P : List Node → Type 0 = λ nodes. AllByRecursion (λ node. Extends sides node.sides) nodes in
+    let P : List TreeNode → Type 0 = λ nodes. AllByRecursion (λ node. Extends sides node.sides) nodes in
     elim (cases_Bool (wants choice (1024 * number) n)) [
       | inr skipped ↦ subst P (sym (subtree_nodes-unwanted choice number n sides source skipped)) tt
       | inl wanted ↦
@@ -55,14 +55,14 @@ nodes-Extends_levels zero choice number n sides source hn = nodes-Extends_small 
 nodes-Extends_levels (suc levels) choice number n sides source hn = elim (cases_lt 1024 n) [
   | inr one ↦ nodes-Extends_small choice number n sides source one
   | inl more ↦
-      let P : List Node → Type 0 = λ nodes. AllByRecursion (λ node. Extends sides node.sides) nodes in
+      let P : List TreeNode → Type 0 = λ nodes. AllByRecursion (λ node. Extends sides node.sides) nodes in
       elim (cases_Bool (wants choice (1024 * number) n)) [
         | inr skipped ↦ subst P (sym (subtree_nodes-unwanted choice number n sides source skipped)) tt
         | inl wanted ↦
             let l : ℕ = left_len n in
             let parts : Parts n l = left_len-Parts n more in
-            let near : List Node = subtree_nodes choice number l (sides ++ left ∷ []) (source + 64) in
-            let far : List Node = subtree_nodes choice (number + l / 1024) (n - l) (sides ++ right ∷ []) (source + 64 + subtree_size l) in
+            let near : List TreeNode = subtree_nodes choice number l (sides ++ left ∷ []) (source + 64) in
+            let far : List TreeNode = subtree_nodes choice (number + l / 1024) (n - l) (sides ++ right ∷ []) (source + 64 + subtree_size l) in
             let near_on : AllByRecursion (λ node. Extends (sides ++ left ∷ []) node.sides) near =
             nodes-Extends_levels levels choice number l (sides ++ left ∷ []) (source + 64) (omega (arith, parts.whole, parts.below)) in
             let far_on : AllByRecursion (λ node. Extends (sides ++ right ∷ []) node.sides) far =
@@ -79,20 +79,20 @@ nodes-Extends_levels (suc levels) choice number n sides source hn = elim (cases_
 nodes-Extends : (choice : Choice) (number n : ℕ) (sides : List Side) (source : ℕ) → AllByRecursion (λ node. Extends sides node.sides) (subtree_nodes choice number n sides source)
 nodes-Extends choice number n sides source = nodes-Extends_levels n choice number n sides source (omega arith)
 
-pub placed-All : (P : Node → Type 0) (at : ℕ) (nodes : List Node) → AllByRecursion P nodes → AllByRecursion (λ place. P place.1) (placed at nodes)
+pub placed-All : (P : TreeNode → Type 0) (at : ℕ) (nodes : List TreeNode) → AllByRecursion P nodes → AllByRecursion (λ place. P place.1) (placed at nodes)
 placed-All P at [] all = tt
 placed-All P at (node ∷ nodes) all = (all.0, placed-All P (at + size node) nodes all.1)
 
 -- the places `own` are those of the part on side d of the parent q, among the places ps
-record IsPart (sides : List Side) (d : Side) (ps : List (ℕ × Node)) (q : ℕ × Node) (own : List (ℕ × Node)) : Type 0 where
+record IsPart (sides : List Side) (d : Side) (ps : List (ℕ × TreeNode)) (q : ℕ × TreeNode) (own : List (ℕ × TreeNode)) : Type 0 where
   parent_there : Contains ps q
   parent_sides : q.1.sides ≡ sides
-  own_there : (a : ℕ × Node) → Contains own a → Contains ps a
-  own_sides : (a : ℕ × Node) → Contains own a → Extends (sides ++ d ∷ []) a.1.sides
-  others : (a : ℕ × Node) → Contains ps a → (a ≡ q) ⊎ (Contains own a ⊎ ((e : Side) × (e ≢ d) × Extends (sides ++ e ∷ []) a.1.sides))
+  own_there : (a : ℕ × TreeNode) → Contains own a → Contains ps a
+  own_sides : (a : ℕ × TreeNode) → Contains own a → Extends (sides ++ d ∷ []) a.1.sides
+  others : (a : ℕ × TreeNode) → Contains ps a → (a ≡ q) ⊎ (Contains own a ⊎ ((e : Side) × (e ≢ d) × Extends (sides ++ e ∷ []) a.1.sides))
 
 -- what a place of the part asks for, seen from the whole and seen from the part
-down : (asked : Asked) (sides : List Side) (d : Side) (mode : Mode) (text : List ℕ) (ps own : List (ℕ × Node)) (q p : ℕ × Node) → IsPart sides d ps q own
+down : (asked : Asked) (sides : List Side) (d : Side) (mode : Mode) (text : List ℕ) (ps own : List (ℕ × TreeNode)) (q p : ℕ × TreeNode) → IsPart sides d ps q own
     → IsAskedIn asked sides mode text ps p → IsAskedIn (below d (bytes_at text q)) (sides ++ d ∷ []) mode text own p
 down asked sides d mode text ps own q p part h = (
   λ top. h.1 q d part.parent_there (top ∙ ap (λ (s : List Side). s ++ d ∷ []) (sym part.parent_sides)),
@@ -115,14 +115,14 @@ apart sides d e side more upper h k is =
     append_cancel_left sides ((d ∷ []) ++ h.tail) ((e ∷ []) ++ (k.tail ++ side ∷ [])) (sym more_is ∙ is ∙ upper_is) in
     cc
 
-up : (asked : Asked) (sides : List Side) (d : Side) (mode : Mode) (text : List ℕ) (ps own : List (ℕ × Node)) (q p : ℕ × Node) → IsPart sides d ps q own
+up : (asked : Asked) (sides : List Side) (d : Side) (mode : Mode) (text : List ℕ) (ps own : List (ℕ × TreeNode)) (q p : ℕ × TreeNode) → IsPart sides d ps q own
     → Extends (sides ++ d ∷ []) p.1.sides → IsAskedIn (below d (bytes_at text q)) (sides ++ d ∷ []) mode text own p → IsAskedIn asked sides mode text ps p
 up asked sides d mode text ps own q p part on h = (
   λ top. let longer : length sides < length p.1.sides = Extends-longer sides d p.1.sides on in absurd (omega (arith, ap length top)),
   λ above side there is.
       elim (part.others above there) [
         | inl at_q ↦
-            let from_q : p.1.sides ≡ sides ++ side ∷ [] = is ∙ ap (λ (a : ℕ × Node). a.1.sides ++ side ∷ []) at_q ∙ ap (λ (s : List Side). s ++ side ∷ []) part.parent_sides in
+            let from_q : p.1.sides ≡ sides ++ side ∷ [] = is ∙ ap (λ (a : ℕ × TreeNode). a.1.sides ++ side ∷ []) at_q ∙ ap (λ (s : List Side). s ++ side ∷ []) part.parent_sides in
             let same : d ≡ side = only_below sides d side p.1.sides on from_q in
             let top : p.1.sides ≡ sides ++ d ∷ [] = from_q ∙ ap (λ (s : Side). sides ++ s ∷ []) (sym same) in
             h.0 top ∙ (λ i. part_value (same i) (bytes_at text (sym at_q i)))
@@ -135,12 +135,12 @@ up asked sides d mode text ps own q p part on h = (
 )
 
 -- the parent itself, where all others go on from it
-top_down : (asked : Asked) (sides : List Side) (mode : Mode) (text : List ℕ) (ps : List (ℕ × Node)) (q : ℕ × Node) → q.1.sides ≡ sides
+top_down : (asked : Asked) (sides : List Side) (mode : Mode) (text : List ℕ) (ps : List (ℕ × TreeNode)) (q : ℕ × TreeNode) → q.1.sides ≡ sides
     → IsAskedIn asked sides mode text ps q → Meets asked (input_at mode text q)
 top_down asked sides mode text ps q is h = h.0 is
 
-top_up : (asked : Asked) (sides : List Side) (mode : Mode) (text : List ℕ) (ps : List (ℕ × Node)) (q : ℕ × Node) → q.1.sides ≡ sides
-    → ((a : ℕ × Node) → Contains ps a → Extends sides a.1.sides) → Meets asked (input_at mode text q) → IsAskedIn asked sides mode text ps q
+top_up : (asked : Asked) (sides : List Side) (mode : Mode) (text : List ℕ) (ps : List (ℕ × TreeNode)) (q : ℕ × TreeNode) → q.1.sides ≡ sides
+    → ((a : ℕ × TreeNode) → Contains ps a → Extends sides a.1.sides) → Meets asked (input_at mode text q) → IsAskedIn asked sides mode text ps q
 top_up asked sides mode text ps q is on h = (
   λ _. h,
   λ above side there under.
@@ -151,7 +151,7 @@ top_up asked sides mode text ps q is on h = (
 )
 
 -- the places of a subtree: its parent's, and those of its two parts
-pub record Tree (sides : List Side) (q : ℕ × Node) (near far : List (ℕ × Node)) : Type 0 where
+pub record Tree (sides : List Side) (q : ℕ × TreeNode) (near far : List (ℕ × TreeNode)) : Type 0 where
   pub top : q.1.sides ≡ sides
   pub near_on : AllByRecursion (λ place. Extends (sides ++ left ∷ []) place.1.sides) near
   pub far_on : AllByRecursion (λ place. Extends (sides ++ right ∷ []) place.1.sides) far
@@ -159,7 +159,7 @@ pub record Tree (sides : List Side) (q : ℕ × Node) (near far : List (ℕ × N
 pub left_right : left ≢ right
 left_right e = cc
 
-near_part : (sides : List Side) (q : ℕ × Node) (near far : List (ℕ × Node)) → Tree sides q near far → IsPart sides left (q ∷ (near ++ far)) q near
+near_part : (sides : List Side) (q : ℕ × TreeNode) (near far : List (ℕ × TreeNode)) → Tree sides q near far → IsPart sides left (q ∷ (near ++ far)) q near
 near_part sides q near far tree = record {
   parent_there = Contains-head (near ++ far) q;
   parent_sides = tree.top;
@@ -175,7 +175,7 @@ near_part sides q near far tree = record {
   ];
 }
 
-far_part : (sides : List Side) (q : ℕ × Node) (near far : List (ℕ × Node)) → Tree sides q near far → IsPart sides right (q ∷ (near ++ far)) q far
+far_part : (sides : List Side) (q : ℕ × TreeNode) (near far : List (ℕ × TreeNode)) → Tree sides q near far → IsPart sides right (q ∷ (near ++ far)) q far
 far_part sides q near far tree = record {
   parent_there = Contains-head (near ++ far) q;
   parent_sides = tree.top;
@@ -191,9 +191,9 @@ far_part sides q near far tree = record {
   ];
 }
 
-all_on : (sides : List Side) (q : ℕ × Node) (near far : List (ℕ × Node)) → Tree sides q near far → (a : ℕ × Node) → Contains (q ∷ (near ++ far)) a → Extends sides a.1.sides
+all_on : (sides : List Side) (q : ℕ × TreeNode) (near far : List (ℕ × TreeNode)) → Tree sides q near far → (a : ℕ × TreeNode) → Contains (q ∷ (near ++ far)) a → Extends sides a.1.sides
 all_on sides q near far tree a h = elim (Contains-cons_cases (near ++ far) q a h) [
-  | inl same ↦ record { tail = []; is = ap (λ (p : ℕ × Node). p.1.sides) same ∙ tree.top ∙ sym (append-nil sides) }
+  | inl same ↦ record { tail = []; is = ap (λ (p : ℕ × TreeNode). p.1.sides) same ∙ tree.top ∙ sym (append-nil sides) }
   | inr rest ↦
       elim (Contains-append_cases near far a rest) [
         | inl own ↦ Extends-further sides left a.1.sides (All-member (λ place. Extends (sides ++ left ∷ []) place.1.sides) near tree.near_on a own)
@@ -202,16 +202,16 @@ all_on sides q near far tree a h = elim (Contains-cons_cases (near ++ far) q a h
 ]
 
 -- a good place of a part is one of the whole
-pub near_good : (asked : Asked) (sides : List Side) (mode : Mode) (text : List ℕ) (q : ℕ × Node) (near far : List (ℕ × Node)) → Tree sides q near far
-    → (p : ℕ × Node) → Contains near p → IsGoodIn (below left (bytes_at text q)) (sides ++ left ∷ []) mode text near p → IsGoodIn asked sides mode text (q ∷ (near ++ far)) p
+pub near_good : (asked : Asked) (sides : List Side) (mode : Mode) (text : List ℕ) (q : ℕ × TreeNode) (near far : List (ℕ × TreeNode)) → Tree sides q near far
+    → (p : ℕ × TreeNode) → Contains near p → IsGoodIn (below left (bytes_at text q)) (sides ++ left ∷ []) mode text near p → IsGoodIn asked sides mode text (q ∷ (near ++ far)) p
 near_good asked sides mode text q near far tree p there h = (
   h.0,
   up asked sides left mode text (q ∷ (near ++ far)) near q p (near_part sides q near far tree)
       (All-member (λ place. Extends (sides ++ left ∷ []) place.1.sides) near tree.near_on p there) h.1,
 )
 
-pub far_good : (asked : Asked) (sides : List Side) (mode : Mode) (text : List ℕ) (q : ℕ × Node) (near far : List (ℕ × Node)) → Tree sides q near far
-    → (p : ℕ × Node) → Contains far p → IsGoodIn (below right (bytes_at text q)) (sides ++ right ∷ []) mode text far p → IsGoodIn asked sides mode text (q ∷ (near ++ far)) p
+pub far_good : (asked : Asked) (sides : List Side) (mode : Mode) (text : List ℕ) (q : ℕ × TreeNode) (near far : List (ℕ × TreeNode)) → Tree sides q near far
+    → (p : ℕ × TreeNode) → Contains far p → IsGoodIn (below right (bytes_at text q)) (sides ++ right ∷ []) mode text far p → IsGoodIn asked sides mode text (q ∷ (near ++ far)) p
 far_good asked sides mode text q near far tree p there h = (
   h.0,
   up asked sides right mode text (q ∷ (near ++ far)) far q p (far_part sides q near far tree)
@@ -219,26 +219,26 @@ far_good asked sides mode text q near far tree p there h = (
 )
 
 -- and one that isn't, isn't
-pub near_bad : (asked : Asked) (sides : List Side) (mode : Mode) (text : List ℕ) (q : ℕ × Node) (near far : List (ℕ × Node)) → Tree sides q near far
-    → (p : ℕ × Node) → ¬ IsAskedIn (below left (bytes_at text q)) (sides ++ left ∷ []) mode text near p → ¬ IsAskedIn asked sides mode text (q ∷ (near ++ far)) p
+pub near_bad : (asked : Asked) (sides : List Side) (mode : Mode) (text : List ℕ) (q : ℕ × TreeNode) (near far : List (ℕ × TreeNode)) → Tree sides q near far
+    → (p : ℕ × TreeNode) → ¬ IsAskedIn (below left (bytes_at text q)) (sides ++ left ∷ []) mode text near p → ¬ IsAskedIn asked sides mode text (q ∷ (near ++ far)) p
 near_bad asked sides mode text q near far tree p bad h = bad (down asked sides left mode text (q ∷ (near ++ far)) near q p (near_part sides q near far tree) h)
 
-pub far_bad : (asked : Asked) (sides : List Side) (mode : Mode) (text : List ℕ) (q : ℕ × Node) (near far : List (ℕ × Node)) → Tree sides q near far
-    → (p : ℕ × Node) → ¬ IsAskedIn (below right (bytes_at text q)) (sides ++ right ∷ []) mode text far p → ¬ IsAskedIn asked sides mode text (q ∷ (near ++ far)) p
+pub far_bad : (asked : Asked) (sides : List Side) (mode : Mode) (text : List ℕ) (q : ℕ × TreeNode) (near far : List (ℕ × TreeNode)) → Tree sides q near far
+    → (p : ℕ × TreeNode) → ¬ IsAskedIn (below right (bytes_at text q)) (sides ++ right ∷ []) mode text far p → ¬ IsAskedIn asked sides mode text (q ∷ (near ++ far)) p
 far_bad asked sides mode text q near far tree p bad h = bad (down asked sides right mode text (q ∷ (near ++ far)) far q p (far_part sides q near far tree) h)
 
 -- the top is good where it is there and has the value asked for, and isn't where it hasn't
-pub top_good : (asked : Asked) (sides : List Side) (mode : Mode) (text : List ℕ) (q : ℕ × Node) (near far : List (ℕ × Node)) → Tree sides q near far
+pub top_good : (asked : Asked) (sides : List Side) (mode : Mode) (text : List ℕ) (q : ℕ × TreeNode) (near far : List (ℕ × TreeNode)) → Tree sides q near far
     → end_of q ≤ length text → Meets asked (input_at mode text q) → IsGoodIn asked sides mode text (q ∷ (near ++ far)) q
 top_good asked sides mode text q near far tree there meets =
     (there, top_up asked sides mode text (q ∷ (near ++ far)) q tree.top (all_on sides q near far tree) meets)
 
-pub top_bad : (asked : Asked) (sides : List Side) (mode : Mode) (text : List ℕ) (q : ℕ × Node) (ps : List (ℕ × Node)) → q.1.sides ≡ sides
+pub top_bad : (asked : Asked) (sides : List Side) (mode : Mode) (text : List ℕ) (q : ℕ × TreeNode) (ps : List (ℕ × TreeNode)) → q.1.sides ≡ sides
     → ¬ Meets asked (input_at mode text q) → ¬ IsAskedIn asked sides mode text ps q
 top_bad asked sides mode text q ps top bad h = bad (h.0 top)
 
 -- all places of the whole are good where those of the parts are
-pub whole_good : (asked : Asked) (sides : List Side) (mode : Mode) (text : List ℕ) (q : ℕ × Node) (near far : List (ℕ × Node)) → Tree sides q near far
+pub whole_good : (asked : Asked) (sides : List Side) (mode : Mode) (text : List ℕ) (q : ℕ × TreeNode) (near far : List (ℕ × TreeNode)) → Tree sides q near far
     → end_of q ≤ length text → Meets asked (input_at mode text q)
     → AllByRecursion (IsGoodIn (below left (bytes_at text q)) (sides ++ left ∷ []) mode text near) near
     → AllByRecursion (IsGoodIn (below right (bytes_at text q)) (sides ++ right ∷ []) mode text far) far
@@ -253,7 +253,7 @@ whole_good asked sides mode text q near far tree there meets near_all far_all = 
 )
 
 -- and those of the parts where those of the whole are
-near_from_whole : (asked : Asked) (sides : List Side) (mode : Mode) (text : List ℕ) (q : ℕ × Node) (near far : List (ℕ × Node)) → Tree sides q near far
+near_from_whole : (asked : Asked) (sides : List Side) (mode : Mode) (text : List ℕ) (q : ℕ × TreeNode) (near far : List (ℕ × TreeNode)) → Tree sides q near far
     → AllByRecursion (IsGoodIn asked sides mode text (q ∷ (near ++ far))) (q ∷ (near ++ far))
     → AllByRecursion (IsGoodIn (below left (bytes_at text q)) (sides ++ left ∷ []) mode text near) near
 near_from_whole asked sides mode text q near far tree all =
@@ -262,7 +262,7 @@ near_from_whole asked sides mode text q near far tree all =
     let whole = All-member (IsGoodIn asked sides mode text (q ∷ (near ++ far))) (q ∷ (near ++ far)) all p (Contains-tail (near ++ far) q p (Contains-append_left near far p h)) in
     (whole.0, down asked sides left mode text (q ∷ (near ++ far)) near q p (near_part sides q near far tree) whole.1))
 
-far_from_whole : (asked : Asked) (sides : List Side) (mode : Mode) (text : List ℕ) (q : ℕ × Node) (near far : List (ℕ × Node)) → Tree sides q near far
+far_from_whole : (asked : Asked) (sides : List Side) (mode : Mode) (text : List ℕ) (q : ℕ × TreeNode) (near far : List (ℕ × TreeNode)) → Tree sides q near far
     → AllByRecursion (IsGoodIn asked sides mode text (q ∷ (near ++ far))) (q ∷ (near ++ far))
     → AllByRecursion (IsGoodIn (below right (bytes_at text q)) (sides ++ right ∷ []) mode text far) far
 far_from_whole asked sides mode text q near far tree all =
@@ -280,7 +280,7 @@ pub placed-parent : (choice : Choice) (number n : ℕ) (sides : List Side) (sour
     (subtree_nodes choice (number + left_len n / 1024) (n - left_len n) (sides ++ right ∷ []) (source + 64 + subtree_size (left_len n))))
 placed-parent choice number n sides source at wanted more =
     ap (placed at) (subtree_nodes-parent choice number n sides source wanted more)
-    ∙ ap (λ (ps : List (ℕ × Node)). (at, parent_node number n sides source) ∷ ps)
+    ∙ ap (λ (ps : List (ℕ × TreeNode)). (at, parent_node number n sides source) ∷ ps)
     (placed-append (at + 64) (subtree_nodes choice number (left_len n) (sides ++ left ∷ []) (source + 64))
     (subtree_nodes choice (number + left_len n / 1024) (n - left_len n) (sides ++ right ∷ []) (source + 64 + subtree_size (left_len n))))
 
@@ -298,7 +298,7 @@ subtree_Tree choice number n sides source at at_far = record {
 }
 
 -- the parent is there and has its value, and its two parts are good after it
-pub record PartsGood (asked : Asked) (sides : List Side) (mode : Mode) (text : List ℕ) (at : ℕ) (near far : List Node) : Type 0 where
+pub record PartsGood (asked : Asked) (sides : List Side) (mode : Mode) (text : List ℕ) (at : ℕ) (near far : List TreeNode) : Type 0 where
   pub there : at + 64 ≤ length text
   pub meets : Meets asked (parent_input mode (part_value left (take 64 (drop at text))) (part_value right (take 64 (drop at text))))
   pub near_good : AreGood (below left (take 64 (drop at text))) (sides ++ left ∷ []) mode text (at + 64) near
@@ -310,13 +310,13 @@ pub AreGood-split : (asked : Asked) (choice : Choice) (mode : Mode) (text : List
     → PartsGood asked sides mode text at (subtree_nodes choice number (left_len n) (sides ++ left ∷ []) (source + 64))
     (subtree_nodes choice (number + left_len n / 1024) (n - left_len n) (sides ++ right ∷ []) (source + 64 + subtree_size (left_len n)))
 AreGood-split asked choice mode text at number n sides source wanted more good =
-    let q : ℕ × Node = (at, parent_node number n sides source) in
-    let near_nodes : List Node = subtree_nodes choice number (left_len n) (sides ++ left ∷ []) (source + 64) in
-    let far_nodes : List Node = subtree_nodes choice (number + left_len n / 1024) (n - left_len n) (sides ++ right ∷ []) (source + 64 + subtree_size (left_len n)) in
-    let near : List (ℕ × Node) = placed (at + 64) near_nodes in
-    let far : List (ℕ × Node) = placed (at + 64 + nodes_size near_nodes) far_nodes in
+    let q : ℕ × TreeNode = (at, parent_node number n sides source) in
+    let near_nodes : List TreeNode = subtree_nodes choice number (left_len n) (sides ++ left ∷ []) (source + 64) in
+    let far_nodes : List TreeNode = subtree_nodes choice (number + left_len n / 1024) (n - left_len n) (sides ++ right ∷ []) (source + 64 + subtree_size (left_len n)) in
+    let near : List (ℕ × TreeNode) = placed (at + 64) near_nodes in
+    let far : List (ℕ × TreeNode) = placed (at + 64 + nodes_size near_nodes) far_nodes in
     let all : AllByRecursion (IsGoodIn asked sides mode text (q ∷ (near ++ far))) (q ∷ (near ++ far)) =
-    subst (λ (ps : List (ℕ × Node)). AllByRecursion (IsGoodIn asked sides mode text ps) ps) (placed-parent choice number n sides source at wanted more) good in
+    subst (λ (ps : List (ℕ × TreeNode)). AllByRecursion (IsGoodIn asked sides mode text ps) ps) (placed-parent choice number n sides source at wanted more) good in
     let tree : Tree sides q near far = subtree_Tree choice number n sides source at (at + 64 + nodes_size near_nodes) in
     record {
       there = all.0.0;
@@ -331,11 +331,11 @@ pub AreGood-join : (asked : Asked) (choice : Choice) (mode : Mode) (text : List 
     (subtree_nodes choice (number + left_len n / 1024) (n - left_len n) (sides ++ right ∷ []) (source + 64 + subtree_size (left_len n)))
     → AreGood asked sides mode text at (subtree_nodes choice number n sides source)
 AreGood-join asked choice mode text at number n sides source wanted more parts =
-    let q : ℕ × Node = (at, parent_node number n sides source) in
-    let near_nodes : List Node = subtree_nodes choice number (left_len n) (sides ++ left ∷ []) (source + 64) in
-    let far_nodes : List Node = subtree_nodes choice (number + left_len n / 1024) (n - left_len n) (sides ++ right ∷ []) (source + 64 + subtree_size (left_len n)) in
-    let near : List (ℕ × Node) = placed (at + 64) near_nodes in
-    let far : List (ℕ × Node) = placed (at + 64 + nodes_size near_nodes) far_nodes in
+    let q : ℕ × TreeNode = (at, parent_node number n sides source) in
+    let near_nodes : List TreeNode = subtree_nodes choice number (left_len n) (sides ++ left ∷ []) (source + 64) in
+    let far_nodes : List TreeNode = subtree_nodes choice (number + left_len n / 1024) (n - left_len n) (sides ++ right ∷ []) (source + 64 + subtree_size (left_len n)) in
+    let near : List (ℕ × TreeNode) = placed (at + 64) near_nodes in
+    let far : List (ℕ × TreeNode) = placed (at + 64 + nodes_size near_nodes) far_nodes in
     let tree : Tree sides q near far = subtree_Tree choice number n sides source at (at + 64 + nodes_size near_nodes) in
-    subst (λ (ps : List (ℕ × Node)). AllByRecursion (IsGoodIn asked sides mode text ps) ps) (sym (placed-parent choice number n sides source at wanted more))
+    subst (λ (ps : List (ℕ × TreeNode)). AllByRecursion (IsGoodIn asked sides mode text ps) ps) (sym (placed-parent choice number n sides source at wanted more))
     (whole_good asked sides mode text q near far tree parts.there parts.meets parts.near_good parts.far_good)

@@ -1,11 +1,11 @@
--- Which chunks a text has.
+-- Which chunks an encoding has.
 use Rattle.std.proofs.Common.{ltb, ◌&&◌, ◌≡◌, ℕ, zero, suc, ◌+◌, ◌-◌, ◌*◌, ◌/◌, ◌<◌, ◌≤◌, ◌↔◌, min, max, List, [], ◌∷◌, ◌++◌, Bool, true, false, None, Some, Option, IsSome, refl, sym, ap, subst, ◌∙◌, arith, inl, inr}
 use Rattle.std.proofs.lemmas.Bool.{and_from, cases_Bool, cases_lt, lt-ltb, ltb-true}
 use Rattle.std.proofs.lemmas.Bool.Decides.{eqb_tells}
 use Rattle.b3tree.specs.Tree.{left_len}
 use Rattle.bao_text.specs.declared.choice.Choice.{Choice}
 use Rattle.bao_text.specs.Choice.{chunk_count, of_slice, slice_end, slice_start, wants}
-use Rattle.bao_text.specs.Nodes.{Node, Side, left, nodes, placed, right, subtree_nodes, subtree_size}
+use Rattle.bao_text.specs.Nodes.{TreeNode, Side, left, nodes, placed, right, subtree_nodes, subtree_size}
 use Rattle.bao_text.proofs.SubtreeText.{Parts, left_len-Parts}
 use Rattle.bao_check.specs.declared.locate.Span.{Span}
 use Rattle.bao_check.specs.Spans.{chunk_place}
@@ -121,7 +121,7 @@ present_levels (suc levels) choice number n sides source at i hn chunks = elim (
         | inl wanted ↦
             let l : ℕ = left_len n in
             let parts : Parts n l = left_len-Parts n more in
-            let near : List Node = subtree_nodes choice number l (sides ++ left ∷ []) (source + 64) in
+            let near : List TreeNode = subtree_nodes choice number l (sides ++ left ∷ []) (source + 64) in
             elim (cases_lt i (number + l / 1024)) [
               | inl before ↦
                   let same = chunk_place-near choice number n sides source at i wanted more before in

@@ -1,18 +1,18 @@
--- How many bytes of a text the nodes of a subtree are.
+-- How many bytes of an encoding the nodes of a subtree are.
 use Rattle.std.proofs.Common.{◌≡◌, ℕ, zero, suc, ◌+◌, ◌-◌, ◌*◌, ◌/◌, ◌<◌, ◌≤◌, max, List, [], ◌∷◌, ◌++◌, true, false, refl, ap, ◌∙◌, arith, inl, inr, zero-add}
 use Rattle.std.proofs.lemmas.Bool.{and_from, cases_Bool, cases_lt, lt-ltb}
 use Rattle.std.proofs.lemmas.List.Sums.{sum_by-append}
 use Rattle.b3tree.specs.Tree.{left_len}
 use Rattle.bao_text.specs.declared.choice.Choice.{Choice}
 use Rattle.bao_text.specs.Choice.{chunk_count, wants}
-use Rattle.bao_text.specs.Nodes.{Node, Side, chunk_nodes, left, right, size, subtree_nodes, subtree_size}
+use Rattle.bao_text.specs.Nodes.{TreeNode, Side, chunk_nodes, left, right, size, subtree_nodes, subtree_size}
 use Rattle.bao_text.proofs.Everything.{chunk_part}
 use Rattle.bao_text.proofs.SubtreeNodes.{parent_node, subtree_nodes-leaf, subtree_nodes-parent, subtree_nodes-unwanted, subtree_size-parts}
 use Rattle.bao_text.proofs.SubtreeText.{Parts, left_len-Parts}
 use Rattle.bao_check.proofs.Lists.{nodes_size, nodes_size-cons}
 
 -- a parent and its two parts
-pub nodes_size-parent : (number n : ℕ) (sides : List Side) (source : ℕ) (near far : List Node)
+pub nodes_size-parent : (number n : ℕ) (sides : List Side) (source : ℕ) (near far : List TreeNode)
     → nodes_size (parent_node number n sides source ∷ (near ++ far)) ≡ 64 + (nodes_size near + nodes_size far)
 nodes_size-parent number n sides source near far =
     nodes_size-cons (parent_node number n sides source) (near ++ far) ∙ ap (λ (k : ℕ). 64 + k) (sum_by-append size near far)
@@ -54,8 +54,8 @@ size-levels (suc levels) choice number n sides source hn start end = elim (cases
   | inl more ↦
       let l : ℕ = left_len n in
       let parts : Parts n l = left_len-Parts n more in
-      let near : List Node = subtree_nodes choice number l (sides ++ left ∷ []) (source + 64) in
-      let far : List Node = subtree_nodes choice (number + l / 1024) (n - l) (sides ++ right ∷ []) (source + 64 + subtree_size l) in
+      let near : List TreeNode = subtree_nodes choice number l (sides ++ left ∷ []) (source + 64) in
+      let far : List TreeNode = subtree_nodes choice (number + l / 1024) (n - l) (sides ++ right ∷ []) (source + 64 + subtree_size l) in
       let near_end : 1024 * number + max l 1 ≤ choice.end = omega (arith, parts.some, parts.below) in
       let far_start : choice.start ≤ 1024 * (number + l / 1024) = omega arith in
       let far_end : 1024 * (number + l / 1024) + max (n - l) 1 ≤ choice.end = omega (arith, parts.whole, parts.below) in
@@ -112,8 +112,8 @@ bound-levels (suc levels) choice number n sides source hn = elim (cases_lt 1024 
         | inl wanted ↦
             let l : ℕ = left_len n in
             let parts : Parts n l = left_len-Parts n more in
-            let near : List Node = subtree_nodes choice number l (sides ++ left ∷ []) (source + 64) in
-            let far : List Node = subtree_nodes choice (number + l / 1024) (n - l) (sides ++ right ∷ []) (source + 64 + subtree_size l) in
+            let near : List TreeNode = subtree_nodes choice number l (sides ++ left ∷ []) (source + 64) in
+            let far : List TreeNode = subtree_nodes choice (number + l / 1024) (n - l) (sides ++ right ∷ []) (source + 64 + subtree_size l) in
             let near_size : nodes_size near ≤ subtree_size l =
             bound-levels levels choice number l (sides ++ left ∷ []) (source + 64) (omega (arith, parts.whole, parts.below)) in
             let far_size : nodes_size far ≤ subtree_size (n - l) =

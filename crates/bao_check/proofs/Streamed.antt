@@ -6,7 +6,7 @@ use Rattle.std.specs.List.{AllByRecursion}
 use Rattle.b3word.specs.Compression.{cv}
 use Rattle.b3tree.specs.declared.mode.Mode.{Mode}
 use Rattle.b3tree.specs.Hashing.{rooted}
-use Rattle.bao_text.specs.Nodes.{Node, placed, size}
+use Rattle.bao_text.specs.Nodes.{TreeNode, placed, size}
 use Rattle.bao_check.specs.declared.fault.CheckFault.{CheckFault}
 use Rattle.bao_check.specs.declared.fault.CheckFault.TheVariants.{Short, Mismatch, Trailing, Memory, Reader}
 use Rattle.bao_check.specs.declared.form.Form.TheVariants.{Slice}
@@ -18,11 +18,11 @@ use Rattle.bao_check.specs.Walk.{AreGoodUpTo, IsAskedIn, IsSourceFault, PassesTe
 use Rattle.bao_check.proofs.Lists.{All-from_members, All-member, All-second}
 use Rattle.bao_check.proofs.WholeText.{accepted_from_walk, bad_place, form_nodes-append, mismatch_at, short_at}
 
--- a walk that passed took an accepted text
+-- a walk that passed took an accepted encoding
 pub read_accepted : (mode : Mode) (root : List ℕ) (start len : ℕ) (new : List ℕ) → PassesText mode root new (form_nodes (Slice start len) new) → IsAccepted mode root new (slice_nodes new start len)
 read_accepted mode root start len new h = accepted_from_walk mode root (Slice start len) new [] new (sym (append-nil new)) (omega arith) h
 
-read_mismatched : (mode : Mode) (root new : List ℕ) (nodes : List Node) (at : ℕ) (place : ℕ × Node) → 8 ≤ length new → at ≡ place.0 → length new ≡ end_of place
+read_mismatched : (mode : Mode) (root new : List ℕ) (nodes : List TreeNode) (at : ℕ) (place : ℕ × TreeNode) → 8 ≤ length new → at ≡ place.0 → length new ≡ end_of place
     → AreGoodUpTo (asked_root root) [] mode (new ++ []) (placed 8 nodes) place → ¬ IsAskedIn (asked_root root) [] mode (new ++ []) (placed 8 nodes) place
     → EndsMismatched mode root new nodes at
 read_mismatched mode root new nodes at place long is ends good bad =
@@ -65,16 +65,16 @@ stream_fault mode root start len new rest all Memory is h = tt
 stream_fault mode root start len new rest all Reader is h = tt
 
 -- the bytes of a node that is there, whatever follows
-bytes_at-append : (text rest : List ℕ) (place : ℕ × Node) → end_of place ≤ length text → bytes_at (text ++ rest) place ≡ bytes_at text place
+bytes_at-append : (text rest : List ℕ) (place : ℕ × TreeNode) → end_of place ≤ length text → bytes_at (text ++ rest) place ≡ bytes_at text place
 bytes_at-append text rest place there =
     ap (take (size place.1)) (drop-append-le place.0 text rest (omega arith))
     ∙ take-append-le (size place.1) (drop place.0 text) rest (omega (arith, length-drop place.0 text))
 
--- the nodes of an accepted text are good, whatever follows
-good-append : (mode : Mode) (root text rest : List ℕ) (nodes : List Node) → IsAccepted mode root text nodes
+-- the nodes of an accepted encoding are good, whatever follows
+good-append : (mode : Mode) (root text rest : List ℕ) (nodes : List TreeNode) → IsAccepted mode root text nodes
     → AllByRecursion (IsGood mode root (text ++ rest) (places_of nodes)) (places_of nodes)
 good-append mode root text rest nodes h =
-    let places : List (ℕ × Node) = places_of nodes in
+    let places : List (ℕ × TreeNode) = places_of nodes in
     let good = All-member (IsGood mode root text places) places h.good in
     All-from_members (IsGood mode root (text ++ rest) places) places (λ place member.
     let here : IsGood mode root text places place = good place member in
@@ -93,16 +93,16 @@ begun_good : (mode : Mode) (root : List ℕ) (start len : ℕ) (all : List ℕ) 
     → AllByRecursion (IsGood mode root all (places_of (slice_nodes all start len))) (places_of (slice_nodes all start len))
 begun_good mode root start len all h =
     let same : slice_nodes h.text start len ≡ slice_nodes all start len = form_nodes-append (Slice start len) h.text h.rest all h.accepted.long h.split in
-    subst (λ (nodes : List Node). AllByRecursion (IsGood mode root all (places_of nodes)) (places_of nodes)) same
+    subst (λ (nodes : List TreeNode). AllByRecursion (IsGood mode root all (places_of nodes)) (places_of nodes)) same
     (subst (λ (s : List ℕ). AllByRecursion (IsGood mode root s (places_of (slice_nodes h.text start len))) (places_of (slice_nodes h.text start len))) (sym h.split)
     (good-append mode root h.text h.rest (slice_nodes h.text start len) h.accepted))
 
-none_bad : (mode : Mode) (root all : List ℕ) (places : List (ℕ × Node)) (place : ℕ × Node) → AllByRecursion (IsGood mode root all places) places → IsFirstBad mode root all places place → ⊥
+none_bad : (mode : Mode) (root all : List ℕ) (places : List (ℕ × TreeNode)) (place : ℕ × TreeNode) → AllByRecursion (IsGood mode root all places) places → IsFirstBad mode root all places place → ⊥
 none_bad mode root all places place good bad =
-    let P : ℕ × Node → Type 0 = IsGood mode root all places in
+    let P : ℕ × TreeNode → Type 0 = IsGood mode root all places in
     bad.bad (All-second P bad.earlier (place ∷ bad.later) (subst (AllByRecursion P) bad.split good)).0
 
--- bytes that begin with an accepted text have no first fault
+-- bytes that begin with an accepted encoding have no first fault
 pub fault-not_begun : (mode : Mode) (root : List ℕ) (start len : ℕ) (all : List ℕ) (fault : CheckFault) → IsStreamFault mode root start len all fault → IsOfBytes fault
     → BeginsAccepted mode root start len all → ⊥
 fault-not_begun mode root start len all (Short at) (inl short) own h = absurd (omega (arith, short.0, h.accepted.long, ap length h.split, length-append h.text h.rest))

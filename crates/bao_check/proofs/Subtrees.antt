@@ -1,4 +1,4 @@
--- Walks through the parts of a text that is there as a whole.
+-- Walks through the parts of an encoding that is there as a whole.
 use Rattle.std.proofs.Common.{◌≡◌, ℕ, ◌+◌, ◌-◌, ◌*◌, ◌/◌, ◌<◌, ◌≤◌, List, [], ◌∷◌, ◌++◌, length, take, drop, min, Some, true, refl, sym, ap, subst, ◌∙◌, arith, length-append}
 use Rattle.std.proofs.lemmas.List.{append_assoc, drop_at, length-take-le, take-append-drop, take_at}
 use Rattle.std.proofs.Math.Seq.{take-add}
@@ -22,13 +22,13 @@ use Rattle.bao_check.proofs.Parts.{below}
 use Rattle.bao_check.proofs.Walking.{TookParent, far_stops, near_stops, whole_passes}
 use Rattle.bao_check.proofs.WholeText.{accepted_from_walk, claimed-append, first_fault_from_walk, text_passes, text_stops, trailing_from_walk}
 
--- a longer beginning of a text goes on from a shorter one
+-- a longer beginning of an encoding goes on from a shorter one
 pub take_on : (a b : ℕ) (text : List ℕ) → a ≤ b → take b text ≡ take a text ++ take (b - a) (drop a text)
 take_on a b text le =
     let e : b ≡ a + (b - a) = omega arith in
     ap (λ (k : ℕ). take k text) e ∙ take-add a (b - a) text
 
--- what was taken is the text up to a place, and what is left the rest
+-- what was taken is the encoding up to a place, and what is left the rest
 pub record TookUpTo (text new rest : List ℕ) : Type 0 where
   pub taken : take (length new) text ≡ new
   pub after : drop (length new) text ≡ rest
@@ -45,7 +45,7 @@ took_up_to text old new ahead rest at old_is ahead_is h =
       within = omega (arith, ap length is, length-append new rest);
     }
 
--- a walk that began at a place of the text
+-- a walk that began at a place of the encoding
 module _ (asked : Asked) (mode : Mode) (choice : Choice) (number n : ℕ) (text : List ℕ) (at : ℕ) (old new ahead rest : List ℕ) (inside : at ≤ length text)
     (old_is : old ≡ take at text) (ahead_is : ahead ≡ drop at text) (grows : Grows old new (Some ahead) (Some rest)) where
   begins : length old ≡ at
@@ -153,7 +153,7 @@ module _ (asked asked_near asked_far : Asked) (mode : Mode) (choice : Choice) (n
             (far.stops (sides ++ right ∷ []) (source + 64 + subtree_size (left_len n)))));
       }
 
--- the subtree of all nodes of a text
+-- the subtree of all nodes of an encoding
 module _ (mode : Mode) (root text : List ℕ) (start len total : ℕ) (choice : Choice) (asked : Asked) (long : 8 ≤ length text) (total_is : total ≡ claimed text)
     (chosen : choice ≡ of_slice total start len) (asks : asked ≡ asked_root root) where
   first_len : length (take 8 text) ≡ 8

@@ -10,7 +10,7 @@ use Rattle.b3tree.specs.declared.mode.Mode.{Mode}
 use Rattle.b3tree.specs.Tree.{left_len}
 use Rattle.bao_text.specs.declared.choice.Choice.{Choice}
 use Rattle.bao_text.specs.Choice.{wants}
-use Rattle.bao_text.specs.Nodes.{Node, Side, left, placed, right, size, subtree_nodes, subtree_size}
+use Rattle.bao_text.specs.Nodes.{TreeNode, Side, left, placed, right, size, subtree_nodes, subtree_size}
 use Rattle.bao_text.proofs.SubtreeNodes.{parent_node, subtree_nodes-leaf, subtree_nodes-parent}
 use Rattle.bao_check.specs.declared.asked.Asked.{Asked}
 use Rattle.bao_check.specs.declared.fault.CheckFault.{CheckFault}
@@ -54,7 +54,7 @@ taken_at old new rest n bytes grown len =
     ∙ take_at bytes rest n size ∙ sym at
 
 -- a walk that ends at the first place
-stop_top : (fails : CheckFault → Type 0) (asked : Asked) (sides : List Side) (mode : Mode) (old new : List ℕ) (after : Option (List ℕ)) (node : Node) (others : List (ℕ × Node)) (x : Input)
+stop_top : (fails : CheckFault → Type 0) (asked : Asked) (sides : List Side) (mode : Mode) (old new : List ℕ) (after : Option (List ℕ)) (node : TreeNode) (others : List (ℕ × TreeNode)) (x : Input)
     → node.sides ≡ sides → ((rest : List ℕ) → length new ≡ length old + size node → input_at mode (new ++ rest) (length old, node) ≡ x)
     → (fault : CheckFault) → IsRefused fails asked x (size node) old new after fault → StopsAt fails asked sides mode new after ((length old, node) ∷ others) fault (length old, node)
 stop_top fails asked sides mode old new after node others x top is (Short at) h = (h.0, h.1, h.2, record { earlier = []; later = others; split = refl; good = tt })
@@ -71,7 +71,7 @@ stop_top fails asked sides mode old new after node others x top is Memory h = (h
 stop_top fails asked sides mode old new after node others x top is Reader h = (h.0, h.1, record { earlier = []; later = others; split = refl; good = tt })
 
 -- one chunk
-abbrev pub chunk_node : ℕ → ℕ → List Side → ℕ → Node
+abbrev pub chunk_node : ℕ → ℕ → List Side → ℕ → TreeNode
 chunk_node number n sides source = record { is_chunk = true; number = number; len = n; sides = sides; source = source }
 
 chunk_is : (mode : Mode) (old new bytes : List ℕ) (number n : ℕ) (sides : List Side) (source : ℕ) (rest : List ℕ) → new ≡ old ++ bytes → length new ≡ length old + n
@@ -99,47 +99,47 @@ chunk_stops fails asked sides mode old new bytes after number n source grown fau
 )
 
 -- the parent is there, and has its value
-record TopIs (asked : Asked) (mode : Mode) (text : List ℕ) (q : ℕ × Node) (parent : List ℕ) : Type 0 where
+record TopIs (asked : Asked) (mode : Mode) (text : List ℕ) (q : ℕ × TreeNode) (parent : List ℕ) : Type 0 where
   there : end_of q ≤ length text
   bytes : bytes_at text q ≡ parent
   meets : Meets asked (input_at mode text q)
 
 -- as far as a place of the left part
-near_up_to : (asked asked_near : Asked) (sides : List Side) (mode : Mode) (text : List ℕ) (q p : ℕ × Node) (near far : List (ℕ × Node)) (parent : List ℕ) → Tree sides q near far
+near_up_to : (asked asked_near : Asked) (sides : List Side) (mode : Mode) (text : List ℕ) (q p : ℕ × TreeNode) (near far : List (ℕ × TreeNode)) (parent : List ℕ) → Tree sides q near far
     → TopIs asked mode text q parent → asked_near ≡ below left parent → AreGoodUpTo asked_near (sides ++ left ∷ []) mode text near p
     → AreGoodUpTo asked sides mode text (q ∷ (near ++ far)) p
 near_up_to asked asked_near sides mode text q p near far parent tree top is h =
-    let whole : Asked → ℕ × Node → Type 0 = λ a x. IsGoodIn a (sides ++ left ∷ []) mode text near x in
+    let whole : Asked → ℕ × TreeNode → Type 0 = λ a x. IsGoodIn a (sides ++ left ∷ []) mode text near x in
     let same : asked_near ≡ below left (bytes_at text q) = is ∙ ap (below left) (sym top.bytes) in
     record {
       earlier = q ∷ h.earlier;
       later = h.later ++ far;
-      split = ap (λ (ps : List (ℕ × Node)). q ∷ (ps ++ far)) h.split ∙ ap (λ (ps : List (ℕ × Node)). q ∷ ps) (append_assoc h.earlier (p ∷ h.later) far);
+      split = ap (λ (ps : List (ℕ × TreeNode)). q ∷ (ps ++ far)) h.split ∙ ap (λ (ps : List (ℕ × TreeNode)). q ∷ ps) (append_assoc h.earlier (p ∷ h.later) far);
       good = (
         top_good asked sides mode text q near far tree top.there top.meets,
         All-from_members (IsGoodIn asked sides mode text (q ∷ (near ++ far))) h.earlier
             (λ x member.
             near_good asked sides mode text q near far tree x
-            (subst (λ (ps : List (ℕ × Node)). Contains ps x) (sym h.split) (Contains-append_left h.earlier (p ∷ h.later) x member))
+            (subst (λ (ps : List (ℕ × TreeNode)). Contains ps x) (sym h.split) (Contains-append_left h.earlier (p ∷ h.later) x member))
             (subst (λ (a : Asked). whole a x) same (All-member (whole asked_near) h.earlier h.good x member))),
       );
     }
 
 -- as far as a place of the right part, where the left one is good
-far_up_to : (asked asked_near asked_far : Asked) (sides : List Side) (mode : Mode) (text : List ℕ) (q p : ℕ × Node) (near far : List (ℕ × Node)) (parent : List ℕ) → Tree sides q near far
+far_up_to : (asked asked_near asked_far : Asked) (sides : List Side) (mode : Mode) (text : List ℕ) (q p : ℕ × TreeNode) (near far : List (ℕ × TreeNode)) (parent : List ℕ) → Tree sides q near far
     → TopIs asked mode text q parent → asked_near ≡ below left parent → asked_far ≡ below right parent
     → AllByRecursion (IsGoodIn asked_near (sides ++ left ∷ []) mode text near) near
     → AreGoodUpTo asked_far (sides ++ right ∷ []) mode text far p
     → AreGoodUpTo asked sides mode text (q ∷ (near ++ far)) p
 far_up_to asked asked_near asked_far sides mode text q p near far parent tree top is_near is_far near_all h =
-    let in_near : Asked → ℕ × Node → Type 0 = λ a x. IsGoodIn a (sides ++ left ∷ []) mode text near x in
-    let in_far : Asked → ℕ × Node → Type 0 = λ a x. IsGoodIn a (sides ++ right ∷ []) mode text far x in
+    let in_near : Asked → ℕ × TreeNode → Type 0 = λ a x. IsGoodIn a (sides ++ left ∷ []) mode text near x in
+    let in_far : Asked → ℕ × TreeNode → Type 0 = λ a x. IsGoodIn a (sides ++ right ∷ []) mode text far x in
     let same_near : asked_near ≡ below left (bytes_at text q) = is_near ∙ ap (below left) (sym top.bytes) in
     let same_far : asked_far ≡ below right (bytes_at text q) = is_far ∙ ap (below right) (sym top.bytes) in
     record {
       earlier = q ∷ (near ++ h.earlier);
       later = h.later;
-      split = ap (λ (ps : List (ℕ × Node)). q ∷ (near ++ ps)) h.split ∙ ap (λ (ps : List (ℕ × Node)). q ∷ ps) (sym (append_assoc near h.earlier (p ∷ h.later)));
+      split = ap (λ (ps : List (ℕ × TreeNode)). q ∷ (near ++ ps)) h.split ∙ ap (λ (ps : List (ℕ × TreeNode)). q ∷ ps) (sym (append_assoc near h.earlier (p ∷ h.later)));
       good = (
         top_good asked sides mode text q near far tree top.there top.meets,
         All-append (IsGoodIn asked sides mode text (q ∷ (near ++ far))) near h.earlier
@@ -150,12 +150,12 @@ far_up_to asked asked_near asked_far sides mode text q p near far parent tree to
             (All-from_members (IsGoodIn asked sides mode text (q ∷ (near ++ far))) h.earlier
             (λ x member.
             far_good asked sides mode text q near far tree x
-            (subst (λ (ps : List (ℕ × Node)). Contains ps x) (sym h.split) (Contains-append_left h.earlier (p ∷ h.later) x member))
+            (subst (λ (ps : List (ℕ × TreeNode)). Contains ps x) (sym h.split) (Contains-append_left h.earlier (p ∷ h.later) x member))
             (subst (λ (a : Asked). in_far a x) same_far (All-member (in_far asked_far) h.earlier h.good x member)))),
       );
     }
 
-near_stop : (fails : CheckFault → Type 0) (asked asked_near : Asked) (sides : List Side) (mode : Mode) (new : List ℕ) (after : Option (List ℕ)) (q p : ℕ × Node) (near far : List (ℕ × Node)) (parent : List ℕ)
+near_stop : (fails : CheckFault → Type 0) (asked asked_near : Asked) (sides : List Side) (mode : Mode) (new : List ℕ) (after : Option (List ℕ)) (q p : ℕ × TreeNode) (near far : List (ℕ × TreeNode)) (parent : List ℕ)
     → Tree sides q near far → ((rest : List ℕ) → TopIs asked mode (new ++ rest) q parent) → asked_near ≡ below left parent
     → (fault : CheckFault) → StopsAt fails asked_near (sides ++ left ∷ []) mode new after near fault p → StopsAt fails asked sides mode new after (q ∷ (near ++ far)) fault p
 near_stop fails asked asked_near sides mode new after q p near far parent tree top is (Short at) h =
@@ -176,7 +176,7 @@ near_stop fails asked asked_near sides mode new after q p near far parent tree t
 near_stop fails asked asked_near sides mode new after q p near far parent tree top is Reader h =
     (h.0, h.1, near_up_to asked asked_near sides mode new q p near far parent tree (subst (λ (s : List ℕ). TopIs asked mode s q parent) (append-nil new) (top [])) is h.2)
 
-far_stop : (fails : CheckFault → Type 0) (asked asked_near asked_far : Asked) (sides : List Side) (mode : Mode) (new : List ℕ) (after : Option (List ℕ)) (q p : ℕ × Node) (near far : List (ℕ × Node)) (parent : List ℕ)
+far_stop : (fails : CheckFault → Type 0) (asked asked_near asked_far : Asked) (sides : List Side) (mode : Mode) (new : List ℕ) (after : Option (List ℕ)) (q p : ℕ × TreeNode) (near far : List (ℕ × TreeNode)) (parent : List ℕ)
     → Tree sides q near far → ((rest : List ℕ) → TopIs asked mode (new ++ rest) q parent) → asked_near ≡ below left parent → asked_far ≡ below right parent
     → ((rest : List ℕ) → AllByRecursion (IsGoodIn asked_near (sides ++ left ∷ []) mode (new ++ rest) near) near)
     → (fault : CheckFault) → StopsAt fails asked_far (sides ++ right ∷ []) mode new after far fault p → StopsAt fails asked sides mode new after (q ∷ (near ++ far)) fault p
@@ -218,7 +218,7 @@ pub record TookParent (asked : Asked) (mode : Mode) (old new : List ℕ) : Type 
   pub len : length new ≡ length old + 64
   pub meets : Meets asked (parent_taken mode old new)
 
--- then it is there in every text that goes on from them
+-- then it is there in every encoding that goes on from them
 parent_tops : (asked : Asked) (mode : Mode) (old new text more : List ℕ) (number n : ℕ) (sides : List Side) (source : ℕ) → TookParent asked mode old new → text ≡ new ++ more
     → TopIs asked mode text (length old, parent_node number n sides source) (drop (length old) new)
 parent_tops asked mode old new text more number n sides source took on =
@@ -231,20 +231,20 @@ parent_tops asked mode old new text more number n sides source took on =
     }
 
 module _ (asked : Asked) (choice : Choice) (mode : Mode) (number n : ℕ) (sides : List Side) (source : ℕ) (wanted : wants choice (1024 * number) n ≡ true) (more : 1024 < n) where
-  abbrev near_nodes : List Node
+  abbrev near_nodes : List TreeNode
   near_nodes = subtree_nodes choice number (left_len n) (sides ++ left ∷ []) (source + 64)
 
-  abbrev far_nodes : List Node
+  abbrev far_nodes : List TreeNode
   far_nodes = subtree_nodes choice (number + left_len n / 1024) (n - left_len n) (sides ++ right ∷ []) (source + 64 + subtree_size (left_len n))
 
   pub parent_stops : (fails : CheckFault → Type 0) (old new bytes : List ℕ) (after : Option (List ℕ)) → new ≡ old ++ bytes
       → (fault : CheckFault) → IsRefused fails asked (parent_taken mode old new) 64 old new after fault
       → Stops fails asked sides mode new after (length old) (subtree_nodes choice number n sides source) fault
   parent_stops fails old new bytes after grown fault h =
-      let q : ℕ × Node = (length old, parent_node number n sides source) in
+      let q : ℕ × TreeNode = (length old, parent_node number n sides source) in
       let all = placed-parent choice number n sides source (length old) wanted more in (
         q,
-        subst (λ (ps : List (ℕ × Node)). StopsAt fails asked sides mode new after ps fault q) (sym all)
+        subst (λ (ps : List (ℕ × TreeNode)). StopsAt fails asked sides mode new after ps fault q) (sym all)
             (stop_top fails asked sides mode old new after (parent_node number n sides source)
             (placed (length old + 64) near_nodes ++ placed (length old + 64 + nodes_size near_nodes) far_nodes) (parent_taken mode old new) refl
             (λ rest len. ap (λ (s : List ℕ). parent_taken mode [] s) (taken_at old new rest 64 bytes grown len)) fault h),
@@ -256,17 +256,17 @@ module _ (asked : Asked) (choice : Choice) (mode : Mode) (number n : ℕ) (sides
       → Stops fails asked sides mode new_near after (length old) (subtree_nodes choice number n sides source) fault
   near_stops fails asked_near old new new_near bytes after took is grown fault h =
       let at_far : ℕ = length old + 64 + nodes_size near_nodes in
-      let q : ℕ × Node = (length old, parent_node number n sides source) in
+      let q : ℕ × TreeNode = (length old, parent_node number n sides source) in
       let all = placed-parent choice number n sides source (length old) wanted more in (
         h.0,
-        subst (λ (ps : List (ℕ × Node)). StopsAt fails asked sides mode new_near after ps fault h.0) (sym all)
+        subst (λ (ps : List (ℕ × TreeNode)). StopsAt fails asked sides mode new_near after ps fault h.0) (sym all)
             (near_stop fails asked asked_near sides mode new_near after q h.0 (placed (length old + 64) near_nodes) (placed at_far far_nodes) (drop (length old) new)
             (subtree_Tree choice number n sides source (length old) at_far)
             (λ rest. parent_tops asked mode old new (new_near ++ rest) (bytes ++ rest) number n sides source took (ap (λ (s : List ℕ). s ++ rest) grown ∙ append_assoc new bytes rest))
             is fault (subst (λ (k : ℕ). StopsAt fails asked_near (sides ++ left ∷ []) mode new_near after (placed k near_nodes) fault h.0) took.len h.1)),
       )
 
-  -- where the left part passed, from the text after it
+  -- where the left part passed, from the encoding after it
   near_all : (asked_near : Asked) (old new new_near bytes text : List ℕ) → TookParent asked mode old new → text ≡ new_near ++ bytes
       → Passes asked_near (sides ++ left ∷ []) mode new_near (length new) near_nodes
       → AllByRecursion (IsGoodIn asked_near (sides ++ left ∷ []) mode text (placed (length old + 64) near_nodes)) (placed (length old + 64) near_nodes)
@@ -285,11 +285,11 @@ module _ (asked : Asked) (choice : Choice) (mode : Mode) (number n : ℕ) (sides
       → Stops fails asked sides mode new_far after (length old) (subtree_nodes choice number n sides source) fault
   far_stops fails asked_near asked_far old new new_near new_far bytes bytes_far after took is_near is_far grown grown_far passes fault h =
       let at_far : ℕ = length old + 64 + nodes_size near_nodes in
-      let q : ℕ × Node = (length old, parent_node number n sides source) in
+      let q : ℕ × TreeNode = (length old, parent_node number n sides source) in
       let all = placed-parent choice number n sides source (length old) wanted more in
       let far_on = λ (rest : List ℕ). ap (λ (s : List ℕ). s ++ rest) grown_far ∙ append_assoc new_near bytes_far rest in (
         h.0,
-        subst (λ (ps : List (ℕ × Node)). StopsAt fails asked sides mode new_far after ps fault h.0) (sym all)
+        subst (λ (ps : List (ℕ × TreeNode)). StopsAt fails asked sides mode new_far after ps fault h.0) (sym all)
             (far_stop fails asked asked_near asked_far sides mode new_far after q h.0 (placed (length old + 64) near_nodes) (placed at_far far_nodes) (drop (length old) new)
             (subtree_Tree choice number n sides source (length old) at_far)
             (λ rest. parent_tops asked mode old new (new_far ++ rest) (bytes ++ (bytes_far ++ rest)) number n sides source took
@@ -305,10 +305,10 @@ module _ (asked : Asked) (choice : Choice) (mode : Mode) (number n : ℕ) (sides
       → Passes asked sides mode new_far (length old) (subtree_nodes choice number n sides source)
   whole_passes asked_near asked_far old new new_near new_far bytes bytes_far took is_near is_far grown grown_far near_passes far_passes =
       let at_far : ℕ = length old + 64 + nodes_size near_nodes in
-      let pn : Node = parent_node number n sides source in
-      let q : ℕ × Node = (length old, pn) in
-      let near : List (ℕ × Node) = placed (length old + 64) near_nodes in
-      let far : List (ℕ × Node) = placed at_far far_nodes in
+      let pn : TreeNode = parent_node number n sides source in
+      let q : ℕ × TreeNode = (length old, pn) in
+      let near : List (ℕ × TreeNode) = placed (length old + 64) near_nodes in
+      let far : List (ℕ × TreeNode) = placed at_far far_nodes in
       let all = placed-parent choice number n sides source (length old) wanted more in
       let nodes = subtree_nodes-parent choice number n sides source wanted more in
       let sum : nodes_size (subtree_nodes choice number n sides source) ≡ 64 + (nodes_size near_nodes + nodes_size far_nodes) =
@@ -323,16 +323,16 @@ module _ (asked : Asked) (choice : Choice) (mode : Mode) (number n : ℕ) (sides
             let near_good_all = near_all asked_near old new new_near (bytes_far ++ rest) (new_far ++ rest) took on near_passes in
             let far_good_all = subst (λ (k : ℕ). AllByRecursion (IsGoodIn asked_far (sides ++ right ∷ []) mode (new_far ++ rest) (placed k far_nodes)) (placed k far_nodes))
             (far_at old new new_near asked_near took near_passes) (far_passes.good rest) in
-            subst (λ (ps : List (ℕ × Node)). AllByRecursion (IsGoodIn asked sides mode (new_far ++ rest) ps) ps) (sym all)
+            subst (λ (ps : List (ℕ × TreeNode)). AllByRecursion (IsGoodIn asked sides mode (new_far ++ rest) ps) ps) (sym all)
             (whole_good asked sides mode (new_far ++ rest) q near far (subtree_Tree choice number n sides source (length old) at_far) top.there top.meets
             (subst (λ (a : Asked). AllByRecursion (IsGoodIn a (sides ++ left ∷ []) mode (new_far ++ rest) near) near) (is_near ∙ ap (below left) (sym top.bytes)) near_good_all)
             (subst (λ (a : Asked). AllByRecursion (IsGoodIn a (sides ++ right ∷ []) mode (new_far ++ rest) far) far) (is_far ∙ ap (below right) (sym top.bytes)) far_good_all));
       }
 
 -- no nodes
-pub none_passes : (asked : Asked) (sides : List Side) (mode : Mode) (old : List ℕ) (nodes : List Node) → nodes ≡ [] → Passes asked sides mode old (length old) nodes
+pub none_passes : (asked : Asked) (sides : List Side) (mode : Mode) (old : List ℕ) (nodes : List TreeNode) → nodes ≡ [] → Passes asked sides mode old (length old) nodes
 none_passes asked sides mode old nodes none =
-    subst (λ (xs : List Node). Passes asked sides mode old (length old) xs) (sym none) (record { ends = omega arith; good = λ rest. tt })
+    subst (λ (xs : List TreeNode). Passes asked sides mode old (length old) xs) (sym none) (record { ends = omega arith; good = λ rest. tt })
 
 -- the nodes of a wanted chunk
 pub leaf_nodes : (choice : Choice) (number n : ℕ) (sides : List Side) (source : ℕ) → wants choice (1024 * number) n ≡ true → n ≤ 1024 → choice.chunks ≡ true

@@ -1,4 +1,4 @@
--- The way down to a chunk of an accepted text: what it has at a chunk and at a parent.
+-- The way down to a chunk of an accepted encoding: what it has at a chunk and at a parent.
 use Rattle.std.proofs.Common.{◌≡◌, ℕ, ◌+◌, ◌-◌, ◌*◌, ◌/◌, ◌<◌, ◌≤◌, None, Some, Option, Bool, List, [], ◌∷◌, ◌++◌, take, drop, true, false, refl, sym, ap, subst, ◌∙◌, arith, inl, inr}
 use Rattle.std.specs.List.{Contains}
 use Rattle.std.specs.Option.{option_map}
@@ -12,7 +12,7 @@ use Rattle.b3tree.specs.Chunk.{last_chunk_input}
 use Rattle.b3tree.specs.Tree.{left_len, parent_input}
 use Rattle.bao_text.specs.Choice.{chunk_count, of_slice, wants}
 use Rattle.bao_text.specs.Cut.{claimed}
-use Rattle.bao_text.specs.Nodes.{Node, Side, left, placed, right, subtree_nodes, subtree_size}
+use Rattle.bao_text.specs.Nodes.{TreeNode, Side, left, placed, right, subtree_nodes, subtree_size}
 use Rattle.bao_text.proofs.SubtreeNodes.{parent_node, subtree_nodes-unwanted}
 use Rattle.bao_text.proofs.SubtreeText.{Parts, left_len-Parts}
 use Rattle.bao_check.specs.Accepted.{IsAccepted, part_value, places_of, slice_nodes}
@@ -28,7 +28,7 @@ use Rattle.bao_check.proofs.Parenting.{parent_in-place, parent_place-far, parent
 use Rattle.bao_check.proofs.Parts.{AreGood-split, PartsGood, placed-parent}
 use Rattle.bao_check.proofs.Walking.{chunk_node, leaf_nodes, leaf_without}
 
--- from the top of an accepted text
+-- from the top of an accepted encoding
 pub way_whole : (mode : Mode) (root text : List ℕ) (start len number : ℕ) (bytes : List ℕ) → IsAccepted mode root text (slice_nodes text start len)
     → chunk_in text (places_of (slice_nodes text start len)) number ≡ Some bytes
     → LeadsTo (parent_in text (places_of (slice_nodes text start len))) (text_inputs mode text (places_of (slice_nodes text start len))) mode true (words_of 8 root) 0 (claimed text) number bytes
@@ -61,9 +61,9 @@ pub record AtParent (parents : ℕ → Option (List ℕ)) (inputs : List Input) 
   pub far : from + left_len n / 1024 ≤ number → LeadsTo parents inputs mode false (part_value right parent) (from + left_len n / 1024) (n - left_len n) number bytes
 
 -- no nodes have a chunk
-no_chunk : (text : List ℕ) (at number : ℕ) (bytes : List ℕ) (nodes : List Node) → nodes ≡ [] → chunk_in text (placed at nodes) number ≡ Some bytes → ⊥
+no_chunk : (text : List ℕ) (at number : ℕ) (bytes : List ℕ) (nodes : List TreeNode) → nodes ≡ [] → chunk_in text (placed at nodes) number ≡ Some bytes → ⊥
 no_chunk text at number bytes nodes none there =
-    let bad : None ≡ Some bytes = ap (λ (xs : List Node). chunk_in text (placed at xs) number) (sym none) ∙ there in cc
+    let bad : None ≡ Some bytes = ap (λ (xs : List TreeNode). chunk_in text (placed at xs) number) (sym none) ∙ there in cc
 
 at_chunk : (inputs : List Input) (mode : Mode) (top : Bool) (value : List ℕ) (from n number : ℕ) (bytes text : List ℕ) (at : ℕ) (sides : List Side) (source : ℕ) → top ≡ is_top sides
     → AreGood (asked_of top value) sides mode text at (chunk_node from n sides source ∷ [])
@@ -84,7 +84,7 @@ at_chunk inputs mode top value from n number bytes text at sides source top_is g
 pub way_chunk : (parents : ℕ → Option (List ℕ)) (inputs : List Input) (mode : Mode) (top : Bool) (value : List ℕ) (from n number : ℕ) (bytes : List ℕ) → n ≤ 1024
     → LeadsTo parents inputs mode top value from n number bytes → AtChunk inputs mode top value from number bytes
 way_chunk parents inputs mode top value from n number bytes one w =
-    let nodes : List Node = subtree_nodes w.choice from n w.sides w.source in
+    let nodes : List TreeNode = subtree_nodes w.choice from n w.sides w.source in
     elim (cases_Bool (wants w.choice (1024 * from) n)) [
       | inr skipped ↦ absurd (no_chunk w.text w.at number bytes nodes (subtree_nodes-unwanted w.choice from n w.sides w.source skipped) w.there)
       | inl wanted ↦
@@ -93,9 +93,9 @@ way_chunk parents inputs mode top value from n number bytes one w =
             | inl with_chunks ↦
                 let node : nodes ≡ chunk_node from n w.sides w.source ∷ [] = leaf_nodes w.choice from n w.sides w.source wanted one with_chunks in
                 at_chunk inputs mode top value from n number bytes w.text w.at w.sides w.source w.top_is
-                (subst (λ (xs : List Node). AreGood (asked_of top value) w.sides mode w.text w.at xs) node w.good)
-                (subst (λ (xs : List Node). chunk_in w.text (placed w.at xs) number ≡ Some bytes) node w.there)
-                (subst (λ (xs : List Node). (x : Input) → Contains (text_inputs mode w.text (placed w.at xs)) x → Contains inputs x) node w.inputs_are)
+                (subst (λ (xs : List TreeNode). AreGood (asked_of top value) w.sides mode w.text w.at xs) node w.good)
+                (subst (λ (xs : List TreeNode). chunk_in w.text (placed w.at xs) number ≡ Some bytes) node w.there)
+                (subst (λ (xs : List TreeNode). (x : Input) → Contains (text_inputs mode w.text (placed w.at xs)) x → Contains inputs x) node w.inputs_are)
           ]
     ]
 
@@ -107,7 +107,7 @@ module _ (parents : ℕ → Option (List ℕ)) (inputs : List Input) (mode : Mod
   abbrev parent : List ℕ
   parent = take 64 (drop w.at w.text)
 
-  abbrev all : List (ℕ × Node)
+  abbrev all : List (ℕ × TreeNode)
   all = placed w.at (subtree_nodes w.choice from n w.sides w.source)
 
   abbrev near_source : ℕ
@@ -116,19 +116,19 @@ module _ (parents : ℕ → Option (List ℕ)) (inputs : List Input) (mode : Mod
   abbrev far_source : ℕ
   far_source = w.source + 64 + subtree_size (left_len n)
 
-  abbrev near_nodes : List Node
+  abbrev near_nodes : List TreeNode
   near_nodes = subtree_nodes w.choice from (left_len n) (w.sides ++ left ∷ []) near_source
 
-  abbrev far_nodes : List Node
+  abbrev far_nodes : List TreeNode
   far_nodes = subtree_nodes w.choice middle (n - left_len n) (w.sides ++ right ∷ []) far_source
 
-  abbrev near : List (ℕ × Node)
+  abbrev near : List (ℕ × TreeNode)
   near = placed (w.at + 64) near_nodes
 
-  abbrev far : List (ℕ × Node)
+  abbrev far : List (ℕ × TreeNode)
   far = placed (w.at + 64 + nodes_size near_nodes) far_nodes
 
-  abbrev here : ℕ × Node
+  abbrev here : ℕ × TreeNode
   here = (w.at, parent_node from n w.sides w.source)
 
   split : PartsGood (asked_of top value) w.sides mode w.text w.at near_nodes far_nodes
@@ -154,14 +154,14 @@ module _ (parents : ℕ → Option (List ℕ)) (inputs : List Input) (mode : Mod
 
   inputs_further : (x : Input) → Contains (text_inputs mode w.text (near ++ far)) x → Contains inputs x
   inputs_further x h =
-      w.inputs_are x (subst (λ (places : List (ℕ × Node)). Contains (text_inputs mode w.text places) x) (sym places_are)
+      w.inputs_are x (subst (λ (places : List (ℕ × TreeNode)). Contains (text_inputs mode w.text places) x) (sym places_are)
       (Contains-tail (text_inputs mode w.text (near ++ far)) (marked (is_top w.sides) (parent_input mode (part_value left parent) (part_value right parent))) x h))
 
   input_there : Contains inputs (marked top (parent_input mode (part_value left parent) (part_value right parent)))
   input_there =
       let own : Input = parent_input mode (part_value left parent) (part_value right parent) in
       subst (λ (t : Bool). Contains inputs (marked t own)) (sym w.top_is)
-      (w.inputs_are (marked (is_top w.sides) own) (subst (λ (places : List (ℕ × Node)). Contains (text_inputs mode w.text places) (marked (is_top w.sides) own)) (sym places_are)
+      (w.inputs_are (marked (is_top w.sides) own) (subst (λ (places : List (ℕ × TreeNode)). Contains (text_inputs mode w.text places) (marked (is_top w.sides) own)) (sym places_are)
       (Contains-head (text_inputs mode w.text (near ++ far)) (marked (is_top w.sides) own))))
 
   way_near : number < middle → LeadsTo parents inputs mode false (part_value left parent) from (left_len n) number bytes

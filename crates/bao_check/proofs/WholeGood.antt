@@ -1,4 +1,4 @@
--- The text of a whole subtree that was verified by lanes has all its nodes good.
+-- The encoding of a whole subtree that was verified by lanes has all its nodes good.
 use Rattle.std.proofs.Common.{◌≡◌, ℕ, ◌+◌, ◌-◌, ◌*◌, ◌/◌, ◌^◌, ◌<◌, ◌≤◌, max, List, [], ◌∷◌, ◌++◌, length, take, drop, Bool, true, false, refl, sym, ap, subst, ◌∙◌, arith, length-append, pow_pos}
 use Rattle.std.specs.Int.{IsPowerOfTwo}
 use Rattle.std.proofs.lemmas.Bool.{and_from, lt-ltb}
@@ -15,7 +15,7 @@ use Rattle.b3tree.proofs.LeftLen.{IsLeftLen_double, IsLeftLen_unique, left_len-I
 use Rattle.b3tree.proofs.Pieces.{IsPowerOfTwo_double, length-piece, piece-append}
 use Rattle.bao_text.specs.declared.choice.Choice.{Choice}
 use Rattle.bao_text.specs.Choice.{wants}
-use Rattle.bao_text.specs.Nodes.{Node, left, right, subtree_nodes, subtree_size}
+use Rattle.bao_text.specs.Nodes.{TreeNode, left, right, subtree_nodes, subtree_size}
 use Rattle.bao_check.specs.declared.asked.Asked.{Asked}
 use Rattle.bao_check.specs.Accepted.{part_value}
 use Rattle.bao_check.specs.Walk.{Meets, Passes, chunk_taken, parent_taken}
@@ -26,7 +26,7 @@ wants_whole : (kept : Bool) (choice : Choice) (number chunks : ℕ) → 0 < chun
 wants_whole kept choice number chunks some has =
     and_from _ _ (lt-ltb (1024 * number) choice.end (omega (arith, has.end))) (lt-ltb choice.start (1024 * number + max (1024 * chunks) 1) (omega (arith, has.start)))
 
--- the text of two parts and of the parent before them
+-- the encoding of two parts and of the parent before them
 pub whole_len-double : (kept : Bool) (n : ℕ) → 0 < n → whole_len kept (n + n) ≡ 64 + (whole_len kept n + whole_len kept n)
 whole_len-double true n some = omega arith
 whole_len-double false n some = omega arith
@@ -56,7 +56,7 @@ chunk_whole mode number text size = record {
       let nodes = leaf_nodes choice number 1024 sides from (wants_whole true choice number 1 (omega arith) has) (omega arith) has.with_chunks in
       let on : drop (length old) (old ++ text) ≡ text = drop_at old text (length old) refl in
       let met : Meets asked (chunk_taken mode number old (old ++ text)) = subst (λ (s : List ℕ). Meets asked (last_chunk_input mode number s)) (sym on) meets in
-      subst (λ (xs : List Node). Passes asked sides mode (old ++ text) (length old) xs) (sym nodes)
+      subst (λ (xs : List TreeNode). Passes asked sides mode (old ++ text) (length old) xs) (sym nodes)
       (chunk_passes asked sides mode old (old ++ text) text number 1024 from refl (length-append old text ∙ ap (λ (n : ℕ). length old + n) size) met);
 }
 
@@ -66,7 +66,7 @@ no_chunk_whole mode number value text none = record {
   size = ap length none;
   passes = λ choice old sides from has.
       let asked : Asked = record { top = false; value = record { 0 = value } } in
-      let nodes : List Node = subtree_nodes choice number 1024 sides from in
+      let nodes : List TreeNode = subtree_nodes choice number 1024 sides from in
       let same : old ≡ old ++ text = sym (append-nil old) ∙ ap (λ (s : List ℕ). old ++ s) (sym none) in
       subst (λ (s : List ℕ). Passes asked sides mode s (length old) nodes) same
       (none_passes asked sides mode old nodes (leaf_without choice number 1024 sides from (wants_whole false choice number 1 (omega arith) has) (omega arith) has.with_chunks));
@@ -120,7 +120,7 @@ parent_whole kept mode number n p l r lv rv power size pl pr near far =
           asked_near asked_far old new new_near new_far l r took refl refl refl grown_far near_passes far_passes;
     }
 
--- the halves of a parent in the text, as words
+-- the halves of a parent in the encoding, as words
 pub left_words : (text : List ℕ) (at : ℕ) → part_value left (piece text at 64) ≡ words_of 8 (piece text at 32)
 unfolding part_value
 left_words text at = ap (words_of 8) (take-take 32 64 (drop at text) (omega arith))
@@ -129,7 +129,7 @@ pub right_words : (text : List ℕ) (at : ℕ) → part_value right (piece text 
 unfolding part_value
 right_words text at = ap (words_of 8) (drop-take 32 32 (drop at text) ∙ ap (take 32) (drop-drop 32 at text))
 
--- the same of pieces of one text
+-- the same of pieces of one encoding
 pub joined_whole : (kept : Bool) (mode : Mode) (text : List ℕ) (number n at near far next : ℕ) (lv rv : List ℕ) → IsPowerOfTwo n → at + whole_len kept (n + n) ≤ length text
     → near ≡ at + 64 → far ≡ at + 64 + whole_len kept n → next ≡ number + n
     → part_value left (piece text at 64) ≡ lv → part_value right (piece text at 64) ≡ rv
@@ -166,7 +166,7 @@ at_second s = omega arith
 at_last : (s : ℕ) → 384 + s * 6 ≡ 256 + s * 4 + 128 + s * 2
 at_last s = omega arith
 
--- eight parts, each whole, and the seven parents of the text that are theirs
+-- eight parts, each whole, and the seven parents of the encoding that are theirs
 pub eight_whole : (kept : Bool) (mode : Mode) (text : List ℕ) (number n : ℕ) (v : ℕ → List ℕ) → IsPowerOfTwo n → length text ≡ 448 + 8 * whole_len kept n
     → ((j : ℕ) → j < 8 → IsWholeOf kept mode (number + n * j) n (v j) (piece text (lane_place 192 (whole_len kept n) j) (whole_len kept n)))
     → HasEight text (whole_len kept n) (lane_parents mode v)

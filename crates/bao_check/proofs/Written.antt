@@ -19,7 +19,7 @@ use Rattle.b3tree.proofs.TopInput.{top_input-chunk, top_input-parent}
 use Rattle.bao_text.specs.declared.choice.Choice.{Choice}
 use Rattle.bao_text.specs.Choice.{of_combined, of_outboard, of_slice, slice_end, slice_start, wants}
 use Rattle.bao_text.specs.Cut.{claimed}
-use Rattle.bao_text.specs.Nodes.{Node, Side, chosen_nodes, chunk_nodes, left, nodes, right, subtree_nodes, subtree_size}
+use Rattle.bao_text.specs.Nodes.{TreeNode, Side, chosen_nodes, chunk_nodes, left, nodes, right, subtree_nodes, subtree_size}
 use Rattle.bao_text.specs.Texts.{chosen_text, chunk_text, combined_text, length_text, outboard_text, parent_text, slice_text, subtree_text}
 use Rattle.bao_text.proofs.Everything.{At, At_first, At_rest, length-parent_text}
 use Rattle.b3tree.proofs.HashOutput.{length-bytes_of}
@@ -33,7 +33,7 @@ use Rattle.bao_check.proofs.Lists.{Contains-cons_cases, nodes_size}
 use Rattle.bao_check.proofs.Sizes.{nodes_size-parent}
 use Rattle.bao_check.proofs.Parts.{AreGood-join, below}
 
--- the text is there, and is what is taken from its place
+-- the encoding is there, and is what is taken from its place
 pub At_fits : (text : List ℕ) (at n : ℕ) (x : List ℕ) → length x ≡ n → At text at x → at + n ≤ length text
 At_fits text at n x len h =
     let all : length text ≡ length h.before + (length x + length h.after) =
@@ -46,7 +46,7 @@ At_bytes text at n x len h =
     ∙ ap (take n) (drop_at h.before (x ++ h.after) at h.place)
     ∙ take_at x h.after n len
 
--- the text of a subtree has as many bytes as its nodes
+-- the encoding of a subtree has as many bytes as its nodes
 chunk_size : (choice : Choice) (s : List ℕ) (number n : ℕ) (sides : List Side) (source : ℕ) → length s ≡ n
     → length (chunk_text choice s) ≡ nodes_size (chunk_nodes choice number n sides source)
 chunk_size choice s number n sides source e = elim (cases_Bool choice.chunks) [
@@ -69,7 +69,7 @@ text_size-small choice mode blob number n sides source one fits =
           ∙ ap nodes_size (sym (subtree_nodes-leaf choice number n sides source wanted one))
     ]
 
--- a parent's text, and those of its parts of the blob
+-- a parent's encoding, and those of its parts of the blob
 text_parts : (choice : Choice) (mode : Mode) (blob : List ℕ) (number n : ℕ) → 1024 * number + n ≤ length blob → wants choice (1024 * number) n ≡ true → 1024 < n
     → subtree_text choice mode number (span blob number n)
     ≡ parent_text mode number (span blob number n)
@@ -102,8 +102,8 @@ text_size-levels (suc levels) choice mode blob number n sides source hn fits = e
         | inl wanted ↦
             let l : ℕ = left_len n in
             let parts : Parts n l = left_len-Parts n more in
-            let near : List Node = subtree_nodes choice number l (sides ++ left ∷ []) (source + 64) in
-            let far : List Node = subtree_nodes choice (number + l / 1024) (n - l) (sides ++ right ∷ []) (source + 64 + subtree_size l) in
+            let near : List TreeNode = subtree_nodes choice number l (sides ++ left ∷ []) (source + 64) in
+            let far : List TreeNode = subtree_nodes choice (number + l / 1024) (n - l) (sides ++ right ∷ []) (source + 64 + subtree_size l) in
             let a : List ℕ = subtree_text choice mode number (span blob number l) in
             let b : List ℕ = subtree_text choice mode (number + l / 1024) (span blob (number + l / 1024) (n - l)) in
             let near_len : length a ≡ nodes_size near =
@@ -135,7 +135,7 @@ one_good asked mode text at number n sides source there meets = (
       (λ _. meets),
       λ above side in_it under. elim (Contains-cons_cases [] _ above in_it) [
         | inl same ↦
-            let upper : sides ≡ sides ++ side ∷ [] = under ∙ ap (λ (a : ℕ × Node). a.1.sides ++ side ∷ []) same in
+            let upper : sides ≡ sides ++ side ∷ [] = under ∙ ap (λ (a : ℕ × TreeNode). a.1.sides ++ side ∷ []) same in
             absurd (omega (arith, ap length upper, length_push sides side))
         | inr none ↦ absurd (omega (arith, none.1))
       ],
@@ -144,7 +144,7 @@ one_good asked mode text at number n sides source there meets = (
   tt,
 )
 
--- the values in a parent's text
+-- the values in a parent's encoding
 near_value : (mode : Mode) (first : ℕ) (s : List ℕ) → IsKeyed mode → 1024 < length s → 1024 * first + length s < 2 ^ 64
     → part_value left (parent_text mode first s) ≡ subtree_cv mode first (take (left_len (length s)) s)
 unfolding part_value
@@ -188,7 +188,7 @@ good-small : (asked : Asked) (choice : Choice) (mode : Mode) (blob text : List �
     → Meets asked (top_input mode number (span blob number n)) → At text at (subtree_text choice mode number (span blob number n))
     → AreGood asked sides mode text at (subtree_nodes choice number n sides source)
 good-small asked choice mode blob text at number n sides source one fits meets h =
-    let P : List Node → Type 0 = AreGood asked sides mode text at in
+    let P : List TreeNode → Type 0 = AreGood asked sides mode text at in
     let s : List ℕ = span blob number n in
     let e : length s ≡ n = length-span blob number n fits in
     elim (cases_Bool (wants choice (1024 * number) n)) [
@@ -202,7 +202,7 @@ good-small asked choice mode blob text at number n sides source one fits meets h
           (chunk_good asked choice mode text at number n s sides source e (subst (Meets asked) top meets) here)
     ]
 
--- what the text of a parent of the blob says
+-- what the encoding of a parent of the blob says
 parent_values : (mode : Mode) (blob : List ℕ) (number n : ℕ) → IsKeyed mode → length blob < 2 ^ 64 → 1024 * number + n ≤ length blob → 1024 < n
     → (part_value left (parent_text mode number (span blob number n)) ≡ cv (top_input mode number (span blob number (left_len n))))
     × (part_value right (parent_text mode number (span blob number n))
@@ -224,7 +224,7 @@ parent_values mode blob number n keyed bound fits more =
       top_input-parent mode number s m (left_len-IsLeftLen (length s) long) long ∙ (λ i. parent_input mode (sym near i) (sym far i)),
     )
 
--- by the number of levels, the text of a subtree is good where the subtree has the value asked for
+-- by the number of levels, the encoding of a subtree is good where the subtree has the value asked for
 pub good-levels : (levels : ℕ) (asked : Asked) (choice : Choice) (mode : Mode) (blob text : List ℕ) (at number n : ℕ) (sides : List Side) (source : ℕ)
     → IsKeyed mode → length blob < 2 ^ 64 → n ≤ 1024 * levels + 1024 → 1024 * number + n ≤ length blob
     → Meets asked (top_input mode number (span blob number n)) → At text at (subtree_text choice mode number (span blob number n))
@@ -270,7 +270,7 @@ good-levels (suc levels) asked choice mode blob text at number n sides source ke
       ]
 ]
 
--- the text of a blob for a choice is accepted under the blob's hash
+-- the encoding of a blob for a choice is accepted under the blob's hash
 pub written_accepted : (choice : Choice) (mode : Mode) (blob : List ℕ) → IsKeyed mode → length blob < 2 ^ 64
     → IsAccepted mode (hash mode blob) (chosen_text choice mode blob) (chosen_nodes choice (length blob))
 written_accepted choice mode blob keyed bound =

@@ -1,4 +1,4 @@
--- Which texts are accepted under a root (Bao specification, on decoding).
+-- Which encodings are accepted under a root (Bao specification, on decoding).
 use Rattle.std.specs.Prelude.{◌≡◌, ℕ, ◌+◌, ◌≤◌, List, [], ◌∷◌, ◌++◌, length, take, drop, sum_by, Contains, if◌then◌else◌}
 use Rattle.std.specs.List.{AllByRecursion}
 use Rattle.b3word.specs.declared.input.Input.{Input}
@@ -10,14 +10,14 @@ use Rattle.b3tree.specs.Tree.{parent_input}
 use Rattle.b3tree.specs.Hashing.{rooted}
 use Rattle.bao_text.specs.Choice.{of_outboard}
 use Rattle.bao_text.specs.Cut.{claimed}
-use Rattle.bao_text.specs.Nodes.{Node, Side, chosen_nodes, left, nodes, placed, right, size}
+use Rattle.bao_text.specs.Nodes.{TreeNode, Side, chosen_nodes, left, nodes, placed, right, size}
 
--- where the node of a place ends: a place is an offset in the text, and the node that begins there
-abbrev pub end_of : ℕ × Node → ℕ
+-- where the node of a place ends: a place is an offset in the encoding, and the node that begins there
+abbrev pub end_of : ℕ × TreeNode → ℕ
 end_of place = place.0 + size place.1
 
--- the bytes that the text has there
-abbrev pub bytes_at : List ℕ → ℕ × Node → List ℕ
+-- the bytes that the encoding has there
+abbrev pub bytes_at : List ℕ → ℕ × TreeNode → List ℕ
 bytes_at text place = take (size place.1) (drop place.0 text)
 
 -- the chaining value that a parent's 64 bytes have for the part on a side
@@ -26,45 +26,45 @@ part_value left bytes = words_of 8 (take 32 bytes)
 part_value right bytes = words_of 8 (drop 32 bytes)
 
 -- the last compression of a node with these bytes: a chunk's last, or a parent's
-abbrev pub input_of : Mode → Node → List ℕ → Input
+abbrev pub input_of : Mode → TreeNode → List ℕ → Input
 input_of mode node bytes =
     if node.is_chunk then last_chunk_input mode node.number bytes
     else parent_input mode (part_value left bytes) (part_value right bytes)
 
 -- that of the node at a place
-abbrev pub input_at : Mode → List ℕ → ℕ × Node → Input
+abbrev pub input_at : Mode → List ℕ → ℕ × TreeNode → Input
 input_at mode text place = input_of mode place.1 (bytes_at text place)
 
 -- The node at a place has the value that its place asks for: at the top, with ROOT, the root's words;
 -- below a parent the half of it that the node's last side names.
-abbrev pub IsAsked : Mode → List ℕ → List ℕ → List (ℕ × Node) → ℕ × Node → Type 0
+abbrev pub IsAsked : Mode → List ℕ → List ℕ → List (ℕ × TreeNode) → ℕ × TreeNode → Type 0
 IsAsked mode root text places place =
     (place.1.sides ≡ [] → cv (rooted (input_at mode text place)) ≡ words_of 8 root)
-    × ((above : ℕ × Node) (side : Side) → Contains places above → place.1.sides ≡ above.1.sides ++ side ∷ []
+    × ((above : ℕ × TreeNode) (side : Side) → Contains places above → place.1.sides ≡ above.1.sides ++ side ∷ []
     → cv (input_at mode text place) ≡ part_value side (bytes_at text above))
 
 -- the node is there, and has its value
-abbrev pub IsGood : Mode → List ℕ → List ℕ → List (ℕ × Node) → ℕ × Node → Type 0
+abbrev pub IsGood : Mode → List ℕ → List ℕ → List (ℕ × TreeNode) → ℕ × TreeNode → Type 0
 IsGood mode root text places place = (end_of place ≤ length text) × IsAsked mode root text places place
 
--- a text's nodes with their offsets: the first 8 bytes are the length
-abbrev pub places_of : List Node → List (ℕ × Node)
+-- an encoding's nodes with their offsets: the first 8 bytes are the length
+abbrev pub places_of : List TreeNode → List (ℕ × TreeNode)
 places_of nodes = placed 8 nodes
 
 -- where the last of them ends
-abbrev pub text_end : List Node → ℕ
+abbrev pub text_end : List TreeNode → ℕ
 text_end nodes = 8 + sum_by size nodes
 
--- the text is the length and these nodes, all of them good, and nothing follows
-pub record IsAccepted (mode : Mode) (root text : List ℕ) (nodes : List Node) : Type 0 where
+-- the encoding is the length and these nodes, all of them good, and nothing follows
+pub record IsAccepted (mode : Mode) (root text : List ℕ) (nodes : List TreeNode) : Type 0 where
   pub long : 8 ≤ length text
   pub good : AllByRecursion (IsGood mode root text (places_of nodes)) (places_of nodes)
   pub ends : length text ≡ text_end nodes
 
--- the nodes of the slice (start, len) in a text, by the length that it claims
-abbrev pub slice_nodes : List ℕ → ℕ → ℕ → List Node
+-- the nodes of the slice (start, len) in an encoding, by the length that it claims
+abbrev pub slice_nodes : List ℕ → ℕ → ℕ → List TreeNode
 slice_nodes text start len = nodes (claimed text) start len
 
 -- the nodes of an outboard encoding, by the length that it claims
-abbrev pub outboard_nodes : List ℕ → List Node
+abbrev pub outboard_nodes : List ℕ → List TreeNode
 outboard_nodes text = chosen_nodes (of_outboard (claimed text)) (claimed text)

@@ -1,9 +1,9 @@
--- That a text is accepted has at most one proof, so a ghost field may say it.
+-- That an encoding is accepted has at most one proof, so a ghost field may say it.
 use Rattle.std.specs.Prelude.{◌≡◌, ℕ, List, length}
 use Rattle.std.specs.List.{AllByRecursion-prop}
 use Rattle.std.specs.Coded.{×_prop, Π_prop, le_prop, Coded-set, coded_ℕ, coded_list}
 use Rattle.b3tree.specs.declared.mode.Mode.{Mode}
-use Rattle.bao_text.specs.Nodes.{Node}
+use Rattle.bao_text.specs.Nodes.{TreeNode}
 use Rattle.bao_check.specs.Accepted.{IsAccepted, IsAsked, IsGood, places_of, text_end}
 
 -- so has an equation of two numbers
@@ -14,16 +14,16 @@ same_number-prop a b = Coded-set coded_ℕ a b
 same_list-prop : (a b : List ℕ) → IsProp (a ≡ b)
 same_list-prop a b = Coded-set (coded_list coded_ℕ) a b
 
--- and that a node of a text has the value that its place asks for
-pub IsAsked-prop : (mode : Mode) (root text : List ℕ) (places : List (ℕ × Node)) (place : ℕ × Node) → IsProp (IsAsked mode root text places place)
+-- and that a node of an encoding has the value that its place asks for
+pub IsAsked-prop : (mode : Mode) (root text : List ℕ) (places : List (ℕ × TreeNode)) (place : ℕ × TreeNode) → IsProp (IsAsked mode root text places place)
 IsAsked-prop mode root text places place =
     ×_prop (Π_prop (λ _. same_list-prop _ _)) (Π_prop (λ above. Π_prop (λ side. Π_prop (λ _. Π_prop (λ _. same_list-prop _ _)))))
 
 -- and that it is there and has its value
-pub IsGood-prop : (mode : Mode) (root text : List ℕ) (places : List (ℕ × Node)) (place : ℕ × Node) → IsProp (IsGood mode root text places place)
+pub IsGood-prop : (mode : Mode) (root text : List ℕ) (places : List (ℕ × TreeNode)) (place : ℕ × TreeNode) → IsProp (IsGood mode root text places place)
 IsGood-prop mode root text places place = ×_prop le_prop (IsAsked-prop mode root text places place)
 
-pub IsAccepted-prop : (mode : Mode) (root text : List ℕ) (nodes : List Node) → IsProp (IsAccepted mode root text nodes)
+pub IsAccepted-prop : (mode : Mode) (root text : List ℕ) (nodes : List TreeNode) → IsProp (IsAccepted mode root text nodes)
 IsAccepted-prop mode root text nodes =
     let good = AllByRecursion-prop (IsGood mode root text (places_of nodes)) (IsGood-prop mode root text (places_of nodes)) (places_of nodes) in
     let ends = same_number-prop (length text) (text_end nodes) in

@@ -44,12 +44,12 @@ HasValue root outline k x =
     × (1 < chunk_count (claimed outline) → IsLeafValue outline (places_of (outboard_nodes outline)) k (cv x))
 
 -- it has that of chunk k's bytes
-abbrev pub IsSame : Mode → List ℕ → List ℕ → ℕ → List ℕ → ℕ → Type 0
-IsSame mode root outline first chunks k = HasValue root outline k (last_chunk_input mode k (bare_chunk (claimed outline) first chunks k))
+abbrev pub HasChunkValue : Mode → List ℕ → List ℕ → ℕ → List ℕ → ℕ → Type 0
+HasChunkValue mode root outline first chunks k = HasValue root outline k (last_chunk_input mode k (bare_chunk (claimed outline) first chunks k))
 
 -- chunk k is there, and has the outline's value
 abbrev pub IsGoodBare : Mode → List ℕ → List ℕ → ℕ → List ℕ → ℕ → Type 0
-IsGoodBare mode root outline first chunks k = IsWhollyThere (claimed outline) first chunks k × IsSame mode root outline first chunks k
+IsGoodBare mode root outline first chunks k = IsWhollyThere (claimed outline) first chunks k × HasChunkValue mode root outline first chunks k
 
 -- so are those from chunk `first` on, up to and without `after`
 abbrev pub AreGoodBare : Mode → List ℕ → List ℕ → ℕ → List ℕ → ℕ → Type 0
@@ -68,7 +68,7 @@ IsBareFault mode root outline first count chunks (Short at) =
     × ¬ IsWhollyThere (claimed outline) first chunks k
 IsBareFault mode root outline first count chunks (Mismatch at) =
     (k : ℕ) × (first ≤ k) × (k < first + count) × (at ≡ bare_at first k) × AreGoodBare mode root outline first chunks k
-    × IsWhollyThere (claimed outline) first chunks k × ¬ IsSame mode root outline first chunks k
+    × IsWhollyThere (claimed outline) first chunks k × ¬ HasChunkValue mode root outline first chunks k
 IsBareFault mode root outline first count chunks (Trailing at) =
     AreGoodBare mode root outline first chunks (first + count) × (at ≡ bare_len (claimed outline) (1024 * first) (1024 * count)) × (at < length chunks)
 IsBareFault mode root outline first count chunks Memory = ⊥

@@ -1,16 +1,16 @@
--- The text that an outline and chunks beside it make: the chunks' bytes lie side by side, as in the blob.
+-- The encoding that an outline and chunks beside it make: the chunks' bytes lie side by side, as in the blob.
 use Rattle.std.specs.Prelude.{◌≡◌, ℕ, ◌+◌, ◌-◌, ◌*◌, ◌/◌, ◌<◌, ◌≤◌, max, min, List, [], ◌++◌, take, drop, if◌then◌else◌}
 use Rattle.std.specs.List.{flat_map}
 use Rattle.std.specs.Option.{unwrap_or}
 use Rattle.bao_text.specs.Cut.{claimed}
 use Rattle.bao_text.specs.NodeNames.{boundary}
-use Rattle.bao_text.specs.Nodes.{Node, nodes}
+use Rattle.bao_text.specs.Nodes.{TreeNode, nodes}
 use Rattle.bao_check.specs.Accepted.{outboard_nodes, places_of}
 use Rattle.bao_check.specs.Parents.{parent_in}
 
 -- The bytes of a node: a parent's are those that the outline has for its boundary, and chunk k's begin at
 -- 1024 * (k - first) of the chunks.
-abbrev pub node_beside : List ℕ → ℕ → List ℕ → Node → List ℕ
+abbrev pub node_beside : List ℕ → ℕ → List ℕ → TreeNode → List ℕ
 node_beside outline first chunks node =
     if node.is_chunk then take node.len (drop (1024 * (node.number - first)) chunks)
     else unwrap_or (parent_in outline (places_of (outboard_nodes outline)) (boundary node)) []
@@ -20,7 +20,7 @@ abbrev pub bare_len : ℕ → ℕ → ℕ → ℕ
 bare_len total start len = min (start + max len 1) total - start
 
 -- The slice encoding (start, len) made of the outline's length and parents and the chunks, of which chunk
--- start / 1024 is the first. What follows the last chunk follows the text.
+-- start / 1024 is the first. What follows the last chunk follows the encoding.
 abbrev pub beside_text : List ℕ → ℕ → ℕ → List ℕ → List ℕ
 beside_text outline start len chunks =
     take 8 outline ++ (flat_map (node_beside outline (start / 1024) chunks) (nodes (claimed outline) start len) ++ drop (bare_len (claimed outline) start len) chunks)

@@ -1,4 +1,4 @@
--- The text of a slice, from what it is read from.
+-- The encoding of a slice, from what it is read from.
 use Rattle.std.specs.Prelude.{ℕ, ◌*◌, ◌/◌, List}
 use Rattle.std.specs.Coded.{Coded-set, coded_ℕ, le_prop}
 use Rattle.bao_check.specs.declared.checked.Body.{Body}
@@ -6,7 +6,7 @@ use Rattle.bao_check.specs.declared.checked.Body.TheVariants.{Text, Beside}
 use Rattle.bao_check.specs.Beside.{IsOfChunks, beside_text}
 use Rattle.bao_check.specs.Outline.{outline_claimed, outline_text}
 
--- the text as it was given, or the one that an outline and the chunks beside it make
+-- the encoding as it was given, or the one that an outline and the chunks beside it make
 abbrev pub text_of : Body → ℕ → ℕ → List ℕ
 text_of (Text text) start len = text.now
 text_of (Beside outline chunks) start len = beside_text (outline_text outline.now) start len chunks.now
@@ -16,6 +16,7 @@ abbrev pub IsOfWhole : Body → ℕ → ℕ → Type 0
 IsOfWhole (Text text) start len = Unit {0}
 IsOfWhole (Beside outline chunks) start len = IsOfChunks (outline_claimed outline.now) start len
 
+-- at most one proof, as a ghost field that says it has to have
 IsOfChunks-prop : (total start len : ℕ) → IsProp (IsOfChunks total start len)
 IsOfChunks-prop total start len =
     let starts = Coded-set coded_ℕ (1024 * (start / 1024)) start in

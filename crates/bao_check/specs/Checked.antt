@@ -4,7 +4,7 @@ use Rattle.std.proofs.Math.Bool.{Bool-set}
 use Rattle.b3tree.specs.declared.mode.Mode.{Mode}
 use Rattle.bao_text.specs.Choice.{chunk_count}
 use Rattle.bao_text.specs.Cut.{claimed}
-use Rattle.bao_text.specs.Nodes.{Node}
+use Rattle.bao_text.specs.Nodes.{TreeNode}
 use Rattle.bao_check.specs.declared.checked.Checked.{Checked}
 use Rattle.bao_check.specs.Bodies.{text_of}
 use Rattle.bao_check.specs.Certificate.{Certificate, IsLast}
@@ -14,7 +14,7 @@ use Rattle.bao_check.specs.Accepted.{places_of, slice_nodes}
 abbrev pub piece_mode : Checked → Mode
 piece_mode piece = piece.mode
 
--- the root under which its text was accepted, 32 bytes
+-- the root under which its encoding was accepted, 32 bytes
 abbrev pub piece_root : Checked → List ℕ
 piece_root piece = piece.root.0
 
@@ -28,12 +28,12 @@ piece_start piece = piece.start
 abbrev pub piece_len : Checked → ℕ
 piece_len piece = piece.len
 
--- the nodes of its text, by the slice that was asked for and the length that it claims
-abbrev pub piece_nodes : Checked → List Node
+-- the nodes of its encoding, by the slice that was asked for and the length that it claims
+abbrev pub piece_nodes : Checked → List TreeNode
 piece_nodes piece = slice_nodes (piece_text piece) piece.start piece.len
 
 -- with their offsets
-abbrev pub piece_places : Checked → List (ℕ × Node)
+abbrev pub piece_places : Checked → List (ℕ × TreeNode)
 piece_places piece = places_of (piece_nodes piece)
 
 -- the length that it claims
@@ -44,17 +44,18 @@ piece_claimed piece = claimed (piece_text piece)
 abbrev pub HoldsLast : Checked → Type 0
 HoldsLast piece = is_some (chunk_in (piece_text piece) (piece_places piece) (chunk_count (piece_claimed piece) - 1)) ≡ true
 
+-- at most one proof, as a ghost field that says it has to have
 pub HoldsLast-prop : (piece : Checked) → IsProp (HoldsLast piece)
 HoldsLast-prop piece = Bool-set _ _
 
--- the piece's text has the last chunk of a blob of `total` bytes, and a certificate of it that is last
+-- the piece's encoding has the last chunk of a blob of `total` bytes, and a certificate of it that is last
 pub record HasLastCertificate (piece : Checked) (total : ℕ) : Type 0 where
   pub bytes : List ℕ
   pub there : chunk_in (piece_text piece) (piece_places piece) (chunk_count total - 1) ≡ Some bytes
   pub certificate : Certificate (piece_mode piece) (piece_root piece) (chunk_count total - 1) bytes
   pub last : IsLast certificate
 
--- the piece is this text, accepted as the slice (start, len) under the root in the mode
+-- the piece is this encoding, accepted as the slice (start, len) under the root in the mode
 pub record IsPiece (piece : Checked) (mode : Mode) (root : List ℕ) (start len : ℕ) (text : List ℕ) : Type 0 where
   pub mode_is : piece.mode ≡ mode
   pub root_is : piece.root.0 ≡ root

@@ -1,8 +1,8 @@
--- The first fault of a text that isn't accepted, in the order of the text.
+-- The first fault of an encoding that isn't accepted, in the order of the encoding.
 use Rattle.std.specs.Prelude.{◌≡◌, ℕ, ◌<◌, ◌≤◌, ◌⊎◌, List, ◌∷◌, ◌++◌, length}
 use Rattle.std.specs.List.{AllByRecursion}
 use Rattle.b3tree.specs.declared.mode.Mode.{Mode}
-use Rattle.bao_text.specs.Nodes.{Node}
+use Rattle.bao_text.specs.Nodes.{TreeNode}
 use Rattle.bao_check.specs.declared.fault.CheckFault.{CheckFault}
 use Rattle.bao_check.specs.declared.fault.CheckFault.TheVariants.{Short, Mismatch, Trailing, Memory, Reader}
 use Rattle.bao_check.specs.Accepted.{IsGood, end_of, places_of, text_end}
@@ -16,34 +16,34 @@ number_of Memory = 504
 number_of Reader = 505
 
 -- the first of the places whose node isn't good
-pub record IsFirstBad (mode : Mode) (root text : List ℕ) (places : List (ℕ × Node)) (place : ℕ × Node) : Type 0 where
-  pub earlier : List (ℕ × Node)
-  pub later : List (ℕ × Node)
+pub record IsFirstBad (mode : Mode) (root text : List ℕ) (places : List (ℕ × TreeNode)) (place : ℕ × TreeNode) : Type 0 where
+  pub earlier : List (ℕ × TreeNode)
+  pub later : List (ℕ × TreeNode)
   pub split : places ≡ earlier ++ place ∷ later
   pub good : AllByRecursion (IsGood mode root text places) earlier
   pub bad : ¬ IsGood mode root text places place
 
--- That the text's first fault, by its nodes, is `Short`: it ends before its length's end, or before the
+-- That the encoding's first fault, by its nodes, is `Short`: it ends before its length's end, or before the
 -- end of the first node that isn't good. The fault is where that begins.
-abbrev pub IsShortAt : Mode → List ℕ → List ℕ → List Node → ℕ → Type 0
+abbrev pub IsShortAt : Mode → List ℕ → List ℕ → List TreeNode → ℕ → Type 0
 IsShortAt mode root text nodes at =
     ((length text < 8) × (at ≡ 0))
     ⊎ ((8 ≤ length text)
-    × ((place : ℕ × Node) × IsFirstBad mode root text (places_of nodes) place × (at ≡ place.0) × (length text < end_of place)))
+    × ((place : ℕ × TreeNode) × IsFirstBad mode root text (places_of nodes) place × (at ≡ place.0) × (length text < end_of place)))
 
 -- the first node that isn't good is wholly there
-abbrev pub IsMismatchAt : Mode → List ℕ → List ℕ → List Node → ℕ → Type 0
+abbrev pub IsMismatchAt : Mode → List ℕ → List ℕ → List TreeNode → ℕ → Type 0
 IsMismatchAt mode root text nodes at =
     (8 ≤ length text)
-    × ((place : ℕ × Node) × IsFirstBad mode root text (places_of nodes) place × (at ≡ place.0) × (end_of place ≤ length text))
+    × ((place : ℕ × TreeNode) × IsFirstBad mode root text (places_of nodes) place × (at ≡ place.0) × (end_of place ≤ length text))
 
 -- all nodes are good, and something follows them
-abbrev pub IsTrailingAt : Mode → List ℕ → List ℕ → List Node → ℕ → Type 0
+abbrev pub IsTrailingAt : Mode → List ℕ → List ℕ → List TreeNode → ℕ → Type 0
 IsTrailingAt mode root text nodes at =
     (8 ≤ length text) × AllByRecursion (IsGood mode root text (places_of nodes)) (places_of nodes) × (at ≡ text_end nodes) × (at < length text)
 
--- the fault is the text's first one
-abbrev pub IsFirstFault : Mode → List ℕ → List ℕ → List Node → CheckFault → Type 0
+-- the fault is the encoding's first one
+abbrev pub IsFirstFault : Mode → List ℕ → List ℕ → List TreeNode → CheckFault → Type 0
 IsFirstFault mode root text nodes (Short at) = IsShortAt mode root text nodes at
 IsFirstFault mode root text nodes (Mismatch at) = IsMismatchAt mode root text nodes at
 IsFirstFault mode root text nodes (Trailing at) = IsTrailingAt mode root text nodes at

@@ -1,4 +1,4 @@
--- The compressions that a blob, a text and a certificate are made of, and what it is to name two of them
+-- The compressions that a blob, an encoding and a certificate are made of, and what it is to name two of them
 -- with one chaining value.
 use Rattle.std.specs.Prelude.{◌≡◌, ◌≢◌, ℕ, zero, suc, ◌+◌, ◌-◌, ◌/◌, List, [], ◌∷◌, ◌++◌, length, map, take, drop, nat_le, Contains, Bool, true, false, if◌then◌else◌}
 use Rattle.std.specs.List.{flat_map, range_with_len}
@@ -8,7 +8,7 @@ use Rattle.b3tree.specs.declared.mode.Mode.{Mode}
 use Rattle.b3tree.specs.Chunk.{block_count, chunk_input, last_chunk_input}
 use Rattle.b3tree.specs.Tree.{left_len, parent_input, subtree_cv}
 use Rattle.b3tree.specs.Hashing.{rooted}
-use Rattle.bao_text.specs.Nodes.{Node, Side, left, right}
+use Rattle.bao_text.specs.Nodes.{TreeNode, Side, left, right}
 use Rattle.bao_check.specs.Accepted.{bytes_at, part_value}
 use Rattle.bao_check.specs.Certificate.{Certificate, Step, step_input}
 
@@ -40,14 +40,14 @@ abbrev pub is_top : List Side → Bool
 is_top [] = true
 is_top (side ∷ sides) = false
 
--- the inputs of the node at a place of a text
-abbrev pub place_inputs : Mode → List ℕ → ℕ × Node → List Input
+-- the inputs of the node at a place of an encoding
+abbrev pub place_inputs : Mode → List ℕ → ℕ × TreeNode → List Input
 place_inputs mode text place =
     if place.1.is_chunk then whole_chunk (is_top place.1.sides) mode place.1.number (bytes_at text place)
     else marked (is_top place.1.sides) (parent_input mode (part_value left (bytes_at text place)) (part_value right (bytes_at text place))) ∷ []
 
--- the inputs of a text: each chunk's whole list and each parent's, the first node's with ROOT
-abbrev pub text_inputs : Mode → List ℕ → List (ℕ × Node) → List Input
+-- the inputs of an encoding: each chunk's whole list and each parent's, the first node's with ROOT
+abbrev pub text_inputs : Mode → List ℕ → List (ℕ × TreeNode) → List Input
 text_inputs mode text places = flat_map (place_inputs mode text) places
 
 -- the inputs of a way down to a chunk: each parent's, and then the chunk's whole list, the top one marked
@@ -66,6 +66,6 @@ pub record Names (ours theirs : List Input) (x y : Input) : Type 0 where
   pub differ : x ≢ y
   pub same : cv x ≡ cv y
 
--- a pair is named from a blob and a text with these nodes
-abbrev pub NamesPair : Mode → List ℕ → List ℕ → List (ℕ × Node) → Type 0
+-- a collision is exhibited from a blob and an encoding with these nodes
+abbrev pub NamesPair : Mode → List ℕ → List ℕ → List (ℕ × TreeNode) → Type 0
 NamesPair mode blob text places = (x : Input) × ((y : Input) × Names (blob_inputs mode blob) (text_inputs mode text places) x y)

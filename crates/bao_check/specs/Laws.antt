@@ -1,4 +1,4 @@
--- The laws of accepted texts.
+-- The laws of accepted encodings.
 use Rattle.std.specs.Prelude.{◌≡◌, ℕ, ◌+◌, ◌-◌, ◌*◌, ◌^◌, ◌<◌, ◌≤◌, ◌⊎◌, ◌↔◌, List, ◌++◌, length, Some, Contains, Option, if◌then◌else◌}
 use Rattle.std.specs.List.{flat_map}
 use Rattle.b3word.specs.declared.input.Input.{Input}
@@ -7,7 +7,7 @@ use Rattle.b3tree.specs.Hashing.{hash}
 use Rattle.b3tree.specs.Valid.{AreBytes, IsKeyed}
 use Rattle.bao_text.specs.Choice.{chunk_count}
 use Rattle.bao_text.specs.Cut.{claimed}
-use Rattle.bao_text.specs.Nodes.{Node, nodes}
+use Rattle.bao_text.specs.Nodes.{TreeNode, nodes}
 use Rattle.bao_text.specs.Texts.{combined_text, length_text, outboard_text, slice_text}
 use Rattle.bao_check.specs.Accepted.{IsAccepted, outboard_nodes, places_of, slice_nodes}
 use Rattle.bao_check.specs.Bare.{AreBare, bare_part}
@@ -18,25 +18,25 @@ use Rattle.bao_text.specs.NodeNames.{boundary}
 use Rattle.bao_check.specs.Parents.{parent_in, parent_of}
 use Rattle.bao_check.specs.Pieces.{chunk_in, chunk_of}
 
--- The bytes are the blob's chunk of that number, and where it is the last of the length that the text
--- claims, that length is the blob's: or a pair of inputs is named, one of the blob's and one of the
--- text's, that differ and have one chaining value.
+-- The bytes are the blob's chunk of that number, and where it is the last of the length that the encoding
+-- claims, that length is the blob's: or a collision is exhibited, one input of the blob's and one of the
+-- encoding's.
 abbrev pub Binds : Mode → List ℕ → ℕ → ℕ → List ℕ → ℕ → List ℕ → Type 0
 Binds mode text start len blob number bytes =
     ((chunk_of blob number ≡ Some bytes) × (number + 1 ≡ chunk_count (claimed text) → claimed text ≡ length blob))
     ⊎ NamesPair mode blob text (places_of (slice_nodes text start len))
 
 -- For each certificate under a root, and each blob with that root: its bytes are the blob's chunk of that number, and
--- where it is last the blob ends with them; or a pair of inputs is named, one of the blob's and one of the
--- certificate's, that differ and have one chaining value.
+-- where it is last the blob ends with them; or a collision is exhibited, one input of the blob's and one of the
+-- certificate's.
 abbrev pub CertificateBinds : Type 0
 CertificateBinds = (mode : Mode) (root blob : List ℕ) (number : ℕ) (bytes : List ℕ) (certificate : Certificate mode root number bytes)
     → IsKeyed mode → AreBytes blob → hash mode blob ≡ root
     → ((chunk_of blob number ≡ Some bytes) × (IsLast certificate → 1024 * number + length bytes ≡ length blob))
     ⊎ ((x : Input) × ((y : Input) × Names (blob_inputs mode blob) (certificate_inputs certificate) x y))
 
--- For each text that is accepted as a slice under a root, and each blob with that root: each chunk that
--- the text has is the blob's, or a pair of inputs is named.
+-- For each encoding that is accepted as a slice under a root, and each blob with that root: each chunk that
+-- the encoding has is the blob's, or a collision is exhibited.
 abbrev pub AcceptedBinds : Type 0
 AcceptedBinds = (mode : Mode) (root text blob : List ℕ) (start len number : ℕ) (bytes : List ℕ)
     → IsKeyed mode → AreBytes blob → AreBytes text → hash mode blob ≡ root
@@ -60,8 +60,8 @@ BareAccepted = (mode : Mode) (root outline chunks : List ℕ) (first count : ℕ
     ↔ IsAccepted mode root (beside_text outline (1024 * first) (bare_part count) chunks)
     (slice_nodes (beside_text outline (1024 * first) (bare_part count) chunks) (1024 * first) (bare_part count))
 
--- For each text that is accepted as a slice under a root, and each blob with that root and of the length that the
--- text claims: each parent that the text has is the blob's, or a pair of inputs is named.
+-- For each encoding that is accepted as a slice under a root, and each blob with that root and of the length that the
+-- encoding claims: each parent that the encoding has is the blob's, or a collision is exhibited.
 abbrev pub ParentBinds : Type 0
 ParentBinds = (mode : Mode) (root text blob : List ℕ) (start len m : ℕ) (bytes : List ℕ)
     → IsKeyed mode → AreBytes blob → AreBytes text → hash mode blob ≡ root
@@ -70,11 +70,11 @@ ParentBinds = (mode : Mode) (root text blob : List ℕ) (start len m : ℕ) (byt
     → (parent_of mode blob m ≡ Some bytes) ⊎ NamesPair mode blob text (places_of (slice_nodes text start len))
 
 -- what is known of a blob at a node: a chunk by its number, a parent by its boundary
-abbrev pub known_at : (ℕ → Option (List ℕ)) → (ℕ → Option (List ℕ)) → Node → Option (List ℕ)
+abbrev pub known_at : (ℕ → Option (List ℕ)) → (ℕ → Option (List ℕ)) → TreeNode → Option (List ℕ)
 known_at chunks parents node = if node.is_chunk then chunks node.number else parents (boundary node)
 
--- The length of a blob, and of each node of a slice of it what the blob has there, are the slice's text.
+-- The length of a blob, and of each node of a slice of it what the blob has there, are the slice's encoding.
 abbrev pub NodesMakeSlice : Type 0
-NodesMakeSlice = (mode : Mode) (blob : List ℕ) (start len : ℕ) (bytes : Node → List ℕ)
-    → ((node : Node) → Contains (nodes (length blob) start len) node → known_at (chunk_of blob) (parent_of mode blob) node ≡ Some (bytes node))
+NodesMakeSlice = (mode : Mode) (blob : List ℕ) (start len : ℕ) (bytes : TreeNode → List ℕ)
+    → ((node : TreeNode) → Contains (nodes (length blob) start len) node → known_at (chunk_of blob) (parent_of mode blob) node ≡ Some (bytes node))
     → length_text (length blob) ++ flat_map bytes (nodes (length blob) start len) ≡ slice_text mode blob start len

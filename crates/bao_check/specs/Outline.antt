@@ -7,7 +7,7 @@ use Rattle.bao_check.specs.declared.outline.Outline.{Outline}
 abbrev pub outline_mode : Outline → Mode
 outline_mode outline = outline.mode
 
--- the root under which its text was accepted, 32 bytes
+-- the root under which its encoding was accepted, 32 bytes
 abbrev pub outline_root : Outline → List ℕ
 outline_root outline = outline.root.0
 
@@ -18,7 +18,7 @@ outline_text outline = outline.text.now
 abbrev pub outline_claimed : Outline → ℕ
 outline_claimed outline = claimed outline.text.now
 
--- the outline is this text, accepted as an outboard encoding under the root in the mode
+-- the outline is this encoding, accepted as an outboard encoding under the root in the mode
 pub record IsOutline (outline : Outline) (mode : Mode) (root text : List ℕ) : Type 0 where
   pub mode_is : outline.mode ≡ mode
   pub root_is : outline.root.0 ≡ root

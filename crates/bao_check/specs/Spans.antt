@@ -1,12 +1,12 @@
--- Where a text has its chunks.
+-- Where an encoding has its chunks.
 use Rattle.std.specs.Prelude.{◌≡◌, ℕ, ◌+◌, ◌-◌, ◌*◌, ◌/◌, ◌%◌, ◌^◌, ◌<◌, ◌≤◌, ◌==◌, ◌&&◌, min, List, [], ◌∷◌, Option, None, Some, if◌then◌else◌}
 use Rattle.std.specs.Int.Count.{ones}
 use Rattle.bao_text.specs.declared.choice.Choice.{Choice}
-use Rattle.bao_text.specs.Nodes.{Node}
+use Rattle.bao_text.specs.Nodes.{TreeNode}
 use Rattle.bao_check.specs.declared.locate.Span.{Span}
 
 -- where chunk `number` is among the places, if it is one of them
-abbrev pub chunk_place : List (ℕ × Node) → ℕ → Option Span
+abbrev pub chunk_place : List (ℕ × TreeNode) → ℕ → Option Span
 chunk_place [] number = None
 chunk_place (place ∷ places) number =
     if place.1.is_chunk && (place.1.number == number) then Some (record { at = place.0; len = place.1.len }) else chunk_place places number

@@ -1,4 +1,4 @@
--- Texts that are read from a reader: what it has left may go on after the text, and that is no fault.
+-- Encodings that are read from a reader: what it has left may go on after the encoding, and that is no fault.
 use Rattle.std.specs.Prelude.{◌≡◌, ◌⊎◌, ℕ, ◌≤◌, List, ◌∷◌, ◌++◌, length, Option}
 use Rattle.std.specs.List.{AllByRecursion}
 use Rattle.std.specs.Borrow.{RattleType, u8}
@@ -7,7 +7,7 @@ use Rattle.std.specs.contracts.impls.GlobalAllocator.TheImpl.{ghosts}
 use Rattle.std.specs.contracts.vec.Vec as vec
 use Rattle.std.specs.Io.KnownBytes.{IsAtEnd}
 use Rattle.b3tree.specs.declared.mode.Mode.{Mode}
-use Rattle.bao_text.specs.Nodes.{Node}
+use Rattle.bao_text.specs.Nodes.{TreeNode}
 use Rattle.bao_check.specs.declared.fault.CheckFault.{CheckFault}
 use Rattle.bao_check.specs.declared.fault.CheckFault.TheVariants.{Short, Mismatch, Trailing, Memory, Reader}
 use Rattle.bao_check.specs.Accepted.{IsAccepted, IsGood, end_of, places_of, slice_nodes}
@@ -17,7 +17,7 @@ use Rattle.bao_check.specs.Faults.{IsFirstBad, IsMismatchAt, IsShortAt}
 abbrev pub bytes_row : RattleType
 bytes_row = vec.the_row u8 global.the_row ghosts
 
--- the bytes begin with a text that is accepted as the slice (start, len)
+-- the bytes begin with an encoding that is accepted as the slice (start, len)
 pub record BeginsAccepted (mode : Mode) (root : List ℕ) (start len : ℕ) (all : List ℕ) : Type 0 where
   pub text : List ℕ
   pub rest : List ℕ
@@ -25,7 +25,7 @@ pub record BeginsAccepted (mode : Mode) (root : List ℕ) (start len : ℕ) (all
   pub accepted : IsAccepted mode root text (slice_nodes text start len)
 
 -- The first fault of all that a reader has left, by the nodes of the slice (start, len) in it: `Short` and
--- `Mismatch` as of a whole text, and never `Trailing`. Want of memory and a failed read are no faults of it.
+-- `Mismatch` as of a whole encoding, and never `Trailing`. Running out of memory and a failed read are no faults of it.
 abbrev pub IsStreamFault : Mode → List ℕ → ℕ → ℕ → List ℕ → CheckFault → Type 0
 IsStreamFault mode root start len all (Short at) = IsShortAt mode root all (slice_nodes all start len) at
 IsStreamFault mode root start len all (Mismatch at) = IsMismatchAt mode root all (slice_nodes all start len) at
@@ -33,7 +33,7 @@ IsStreamFault mode root start len all (Trailing at) = ⊥
 IsStreamFault mode root start len all Memory = Unit {0}
 IsStreamFault mode root start len all Reader = Unit {0}
 
--- the fault is the bytes' own, and neither want of memory nor a failed read
+-- the fault is the bytes' own, and neither out of memory nor a failed read
 abbrev pub IsOfBytes : CheckFault → Type 0
 IsOfBytes (Short at) = Unit {0}
 IsOfBytes (Mismatch at) = Unit {0}
@@ -42,22 +42,22 @@ IsOfBytes Memory = ⊥
 IsOfBytes Reader = ⊥
 
 -- the bytes read end no later than the node at a place, and all nodes before it are good
-pub record ReachesNode (mode : Mode) (root read : List ℕ) (places : List (ℕ × Node)) (place : ℕ × Node) : Type 0 where
-  pub earlier : List (ℕ × Node)
-  pub later : List (ℕ × Node)
+pub record ReachesNode (mode : Mode) (root read : List ℕ) (places : List (ℕ × TreeNode)) (place : ℕ × TreeNode) : Type 0 where
+  pub earlier : List (ℕ × TreeNode)
+  pub later : List (ℕ × TreeNode)
   pub split : places ≡ earlier ++ place ∷ later
   pub good : AllByRecursion (IsGood mode root read places) earlier
   pub within : length read ≤ end_of place
 
--- they end no later than the length that a text begins with, or than such a node
-abbrev pub EndsWithin : Mode → List ℕ → List ℕ → List Node → Type 0
+-- they end no later than the length that an encoding begins with, or than such a node
+abbrev pub EndsWithin : Mode → List ℕ → List ℕ → List TreeNode → Type 0
 EndsWithin mode root read nodes =
-    (length read ≤ 8) ⊎ ((8 ≤ length read) × ((place : ℕ × Node) × ReachesNode mode root read (places_of nodes) place))
+    (length read ≤ 8) ⊎ ((8 ≤ length read) × ((place : ℕ × TreeNode) × ReachesNode mode root read (places_of nodes) place))
 
 -- The bytes read end with the first node that isn't good, which is at `at`.
-abbrev pub EndsMismatched : Mode → List ℕ → List ℕ → List Node → ℕ → Type 0
+abbrev pub EndsMismatched : Mode → List ℕ → List ℕ → List TreeNode → ℕ → Type 0
 EndsMismatched mode root read nodes at =
-    (8 ≤ length read) × ((place : ℕ × Node) × IsFirstBad mode root read (places_of nodes) place × (at ≡ place.0) × (length read ≡ end_of place))
+    (8 ≤ length read) × ((place : ℕ × TreeNode) × IsFirstBad mode root read (places_of nodes) place × (at ≡ place.0) × (length read ≡ end_of place))
 
 -- What was read when a check ended with a fault, and what the reader has then: nothing where the bytes are
 -- too few, and never a byte after the node at which it ended.

@@ -1,9 +1,9 @@
--- What the check of a subtree of a text comes to, and how the checks of its two parts make it up.
+-- What the check of a subtree of an encoding comes to, and how the checks of its two parts make it up.
 use Rattle.std.specs.Prelude.{◌≡◌, ℕ, ◌+◌, ◌-◌, ◌*◌, ◌<◌, ◌≤◌, List, length, take, drop, min, Some, true}
 use Rattle.b3tree.specs.declared.mode.Mode.{Mode}
 use Rattle.bao_text.specs.declared.choice.Choice.{Choice}
 use Rattle.bao_text.specs.Choice.{chunk_count, wants}
-use Rattle.bao_text.specs.Nodes.{Node, Side, subtree_nodes}
+use Rattle.bao_text.specs.Nodes.{TreeNode, Side, subtree_nodes}
 use Rattle.bao_check.specs.declared.asked.Asked.{Asked}
 use Rattle.bao_check.specs.declared.fault.CheckFault.{CheckFault}
 use Rattle.bao_check.specs.declared.fault.CheckFault.TheVariants.{Trailing}
@@ -13,7 +13,7 @@ use Rattle.bao_check.specs.Faults.{IsFirstFault}
 use Rattle.bao_check.specs.Walk.{Passes, Stops}
 
 -- The walk through the wanted nodes of the subtree over n bytes from chunk `number` on, which begin at the
--- text's place `at`, ends well, at the place `end`.
+-- encoding's place `at`, ends well, at the place `end`.
 pub record PassesIn (asked : Asked) (mode : Mode) (choice : Choice) (number n : ℕ) (text : List ℕ) (at end : ℕ) : Type 0 where
   pub from : at ≤ end
   pub within : end ≤ length text
@@ -27,11 +27,11 @@ pub record StopsIn (asked : Asked) (mode : Mode) (choice : Choice) (number n : �
   pub stops : (sides : List Side) (source : ℕ)
       → Stops (λ _. ⊥) asked sides mode (take end text) (Some (drop end text)) at (subtree_nodes choice number n sides source) fault
 
--- it begins in the text
+-- it begins in the encoding
 abbrev pub BeginsIn : List ℕ → Subtree → Type 0
 BeginsIn text it = it.at ≤ length text
 
--- all nodes of the subtree are good, and the last of them ends at this place of the text
+-- all nodes of the subtree are good, and the last of them ends at this place of the encoding
 abbrev pub PassesTo : Subtree → List ℕ → ℕ → Type 0
 PassesTo it text end = PassesIn it.asked it.mode it.choice it.number it.len text it.at end
 
@@ -64,9 +64,9 @@ pub record IsSplit (whole left right : Subtree) (text : List ℕ) : Type 0 where
   pub left_stops : (fault : CheckFault) → StopsWith left text fault → StopsWith whole text fault
   pub right_stops : (middle : ℕ) (fault : CheckFault) → PassesTo left text middle → StopsWith right text fault → StopsWith whole text fault
 
--- A subtree that is all of a text but its length: its check tells whether the text is accepted, and else its
+-- A subtree that is all of an encoding but its length: its check tells whether the encoding is accepted, and else its
 -- first fault.
-pub record IsTopOf (top : Subtree) (mode : Mode) (root text : List ℕ) (nodes : List Node) : Type 0 where
+pub record IsTopOf (top : Subtree) (mode : Mode) (root text : List ℕ) (nodes : List TreeNode) : Type 0 where
   pub begins : BeginsIn text top
   pub accepted : (end : ℕ) → PassesTo top text end → length text ≤ end → IsAccepted mode root text nodes
   pub trailing : (end : ℕ) → PassesTo top text end → end < length text → IsFirstFault mode root text nodes (Trailing end)

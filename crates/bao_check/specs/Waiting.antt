@@ -1,4 +1,4 @@
--- What is still to come of a text that is checked in pieces: the wanted nodes of subtrees.
+-- What is still to come of an encoding that is checked in pieces: the wanted nodes of subtrees.
 use Rattle.std.specs.Prelude.{◌≡◌, ◌⊎◌, ℕ, ◌-◌, ◌<◌, ◌≤◌, false, List, [], ◌∷◌, ◌++◌, length, map, slice_get, nat_le, Option, if◌then◌else◌}
 use Rattle.std.specs.Option.{option_map}
 use Rattle.b3tree.specs.declared.mode.Mode.{Mode}
@@ -22,6 +22,7 @@ shape part = record { number = part.number; len = part.len }
 abbrev pub AreParts : Choice → List Part → Type 0
 AreParts choice parts = AreWaiting choice 54 (map shape parts)
 
+-- at most one proof, as a ghost field that says it has to have
 pub AreParts-prop : (choice : Choice) (parts : List Part) → IsProp (AreParts choice parts)
 AreParts-prop choice parts = AreWaiting-prop choice 54 (map shape parts)
 
@@ -41,7 +42,7 @@ next_size parts = option_map part_size (last_part parts)
 abbrev pub below_parent : Cv → Asked
 below_parent value = record { top = false; value = value }
 
--- All nodes of the parts, which begin at the text's place `at`, are good, and the last of them ends at `end`.
+-- All nodes of the parts, which begin at the encoding's place `at`, are good, and the last of them ends at `end`.
 abbrev pub AllPass : Mode → Choice → List Part → List ℕ → ℕ → ℕ → Type 0
 AllPass mode choice [] text at end = at ≡ end
 AllPass mode choice (part ∷ later) text at end =
@@ -71,26 +72,26 @@ pub record IsBefore (choice : Choice) (asked : Asked) (number n : ℕ) (before a
   pub stops : (mode : Mode) (text : List ℕ) (at : ℕ) (fault : CheckFault) → at ≤ length text → AllStop mode choice after text at fault
       → FirstStop asked number n mode choice before text at fault
 
--- A node was taken: what the parts come to after it, in a text that has it there, those before it come to.
+-- A node was taken: what the parts come to after it, in an encoding that has it there, those before it come to.
 pub record HasTaken (mode : Mode) (choice : Choice) (before after : List Part) (node : List ℕ) : Type 0 where
   pub passes : (taken more : List ℕ) (end : ℕ) → AllPass mode choice after ((taken ++ node) ++ more) (length (taken ++ node)) end
       → AllPass mode choice before ((taken ++ node) ++ more) (length taken) end
   pub stops : (taken more : List ℕ) (fault : CheckFault) → AllStop mode choice after ((taken ++ node) ++ more) (length (taken ++ node)) fault
       → AllStop mode choice before ((taken ++ node) ++ more) (length taken) fault
 
--- It hasn't the value that its place asks for: that is the first fault in every text that has it there.
+-- It hasn't the value that its place asks for: that is the first fault in every encoding that has it there.
 pub record HasRefused (mode : Mode) (choice : Choice) (parts : List Part) (at : ℕ) (node : List ℕ) (fault : CheckFault) : Type 0 where
   pub is : fault ≡ Mismatch at
   pub stops : (taken more : List ℕ) → at ≡ length taken → AllStop mode choice parts ((taken ++ node) ++ more) (length taken) fault
 
--- what a text is checked as: the slice (start, len) of the blob with the hash `root`
+-- what an encoding is checked as: the slice (start, len) of the blob with the hash `root`
 pub record Task : Type 0 where
   pub mode : Mode
   pub root : List ℕ
   pub start : ℕ
   pub len : ℕ
 
--- the text is accepted as that
+-- the encoding is accepted as that
 abbrev pub IsAcceptedAs : Task → List ℕ → Type 0
 IsAcceptedAs task text = IsAccepted task.mode task.root text (slice_nodes text task.start task.len)
 
@@ -98,7 +99,7 @@ IsAcceptedAs task text = IsAccepted task.mode task.root text (slice_nodes text t
 abbrev pub IsFaultAs : Task → List ℕ → CheckFault → Type 0
 IsFaultAs task text fault = IsFirstFault task.mode task.root text (slice_nodes text task.start task.len) fault
 
--- What the parts, from the text's place `at` on, come to, tells whether the text is accepted, and else its first fault.
+-- What the parts, from the encoding's place `at` on, come to, tells whether the encoding is accepted, and else its first fault.
 pub record WaitsIn (task : Task) (choice : Choice) (parts : List Part) (text : List ℕ) (at : ℕ) : Type 0 where
   pub accepted : (end : ℕ) → AllPass task.mode choice parts text at end → length text ≤ end → IsAcceptedAs task text
   pub trailing : (end : ℕ) → AllPass task.mode choice parts text at end → end < length text → IsFaultAs task text (Trailing end)

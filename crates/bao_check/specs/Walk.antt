@@ -1,4 +1,4 @@
--- What is known while a text is walked through, node by node.
+-- What is known while an encoding is walked through, node by node.
 use Rattle.std.specs.Prelude.{◌≡◌, ◌⊎◌, ℕ, ◌+◌, ◌<◌, ◌≤◌, List, [], ◌∷◌, ◌++◌, length, drop, sum_by, Option, Bool, true, false, Contains}
 use Rattle.std.specs.List.{AllByRecursion}
 use Rattle.std.specs.Io.KnownBytes.{Consumes, IsAtEnd}
@@ -8,7 +8,7 @@ use Rattle.b3tree.specs.declared.mode.Mode.{Mode}
 use Rattle.b3tree.specs.Bytes.{words_of}
 use Rattle.b3tree.specs.Chunk.{last_chunk_input}
 use Rattle.b3tree.specs.Tree.{parent_input}
-use Rattle.bao_text.specs.Nodes.{Node, Side, left, placed, right, size}
+use Rattle.bao_text.specs.Nodes.{TreeNode, Side, left, placed, right, size}
 use Rattle.bao_check.specs.declared.asked.Asked.{Asked}
 use Rattle.bao_check.specs.declared.fault.CheckFault.{CheckFault}
 use Rattle.bao_check.specs.declared.fault.CheckFault.TheVariants.{Short, Mismatch, Trailing, Memory, Reader}
@@ -71,35 +71,35 @@ chunk_taken mode number old new = last_chunk_input mode number (drop (length old
 
 -- The node at a place of a subtree has the value that its place asks for: `asked` at the subtree's top,
 -- which has these sides, and below a parent the half of it that the node's last side names.
-abbrev pub IsAskedIn : Asked → List Side → Mode → List ℕ → List (ℕ × Node) → ℕ × Node → Type 0
+abbrev pub IsAskedIn : Asked → List Side → Mode → List ℕ → List (ℕ × TreeNode) → ℕ × TreeNode → Type 0
 IsAskedIn asked sides mode text places place =
     (place.1.sides ≡ sides → Meets asked (input_at mode text place))
-    × ((above : ℕ × Node) (side : Side) → Contains places above → place.1.sides ≡ above.1.sides ++ side ∷ []
+    × ((above : ℕ × TreeNode) (side : Side) → Contains places above → place.1.sides ≡ above.1.sides ++ side ∷ []
     → cv (input_at mode text place) ≡ part_value side (bytes_at text above))
 
 -- the node is there, and has its value
-abbrev pub IsGoodIn : Asked → List Side → Mode → List ℕ → List (ℕ × Node) → ℕ × Node → Type 0
+abbrev pub IsGoodIn : Asked → List Side → Mode → List ℕ → List (ℕ × TreeNode) → ℕ × TreeNode → Type 0
 IsGoodIn asked sides mode text places place = (end_of place ≤ length text) × IsAskedIn asked sides mode text places place
 
 -- a subtree's places, from `at` on, are all good
-abbrev pub AreGood : Asked → List Side → Mode → List ℕ → ℕ → List Node → Type 0
+abbrev pub AreGood : Asked → List Side → Mode → List ℕ → ℕ → List TreeNode → Type 0
 AreGood asked sides mode text at nodes = AllByRecursion (IsGoodIn asked sides mode text (placed at nodes)) (placed at nodes)
 
 -- those before a place are
-pub record AreGoodUpTo (asked : Asked) (sides : List Side) (mode : Mode) (text : List ℕ) (places : List (ℕ × Node)) (place : ℕ × Node) : Type 0 where
-  pub earlier : List (ℕ × Node)
-  pub later : List (ℕ × Node)
+pub record AreGoodUpTo (asked : Asked) (sides : List Side) (mode : Mode) (text : List ℕ) (places : List (ℕ × TreeNode)) (place : ℕ × TreeNode) : Type 0 where
+  pub earlier : List (ℕ × TreeNode)
+  pub later : List (ℕ × TreeNode)
   pub split : places ≡ earlier ++ place ∷ later
   pub good : AllByRecursion (IsGoodIn asked sides mode text places) earlier
 
 -- The walk through a subtree's nodes, whose first place is `at`, ended well: these bytes and no others
 -- were taken, and all nodes are good, whatever follows.
-pub record Passes (asked : Asked) (sides : List Side) (mode : Mode) (new : List ℕ) (at : ℕ) (nodes : List Node) : Type 0 where
+pub record Passes (asked : Asked) (sides : List Side) (mode : Mode) (new : List ℕ) (at : ℕ) (nodes : List TreeNode) : Type 0 where
   pub ends : length new ≡ at + sum_by size nodes
   pub good : (rest : List ℕ) → AreGood asked sides mode (new ++ rest) at nodes
 
 -- It ended at a place, where the bytes taken end. Before it all is good, and the fault is the one found.
-abbrev pub StopsAt : (CheckFault → Type 0) → Asked → List Side → Mode → List ℕ → Option (List ℕ) → List (ℕ × Node) → CheckFault → ℕ × Node → Type 0
+abbrev pub StopsAt : (CheckFault → Type 0) → Asked → List Side → Mode → List ℕ → Option (List ℕ) → List (ℕ × TreeNode) → CheckFault → ℕ × TreeNode → Type 0
 StopsAt fails asked sides mode new after places (Short at) place =
     (at ≡ place.0) × (length new < end_of place) × IsAtEnd after × AreGoodUpTo asked sides mode new places place
 StopsAt fails asked sides mode new after places (Mismatch at) place =
@@ -111,19 +111,19 @@ StopsAt fails asked sides mode new after places Memory place =
 StopsAt fails asked sides mode new after places Reader place =
     fails Reader × (length new ≤ end_of place) × AreGoodUpTo asked sides mode new places place
 
-abbrev pub Stops : (CheckFault → Type 0) → Asked → List Side → Mode → List ℕ → Option (List ℕ) → ℕ → List Node → CheckFault → Type 0
-Stops fails asked sides mode new after at nodes fault = (place : ℕ × Node) × StopsAt fails asked sides mode new after (placed at nodes) fault place
+abbrev pub Stops : (CheckFault → Type 0) → Asked → List Side → Mode → List ℕ → Option (List ℕ) → ℕ → List TreeNode → CheckFault → Type 0
+Stops fails asked sides mode new after at nodes fault = (place : ℕ × TreeNode) × StopsAt fails asked sides mode new after (placed at nodes) fault place
 
--- what the top of a whole text asks for: the words of the root
+-- what the top of a whole encoding asks for: the words of the root
 abbrev pub asked_root : List ℕ → Asked
 asked_root root = record { top = true; value = record { 0 = words_of 8 root } }
 
 -- The bytes taken are the length and all nodes, which are good, whatever follows.
-pub record PassesText (mode : Mode) (root new : List ℕ) (nodes : List Node) : Type 0 where
+pub record PassesText (mode : Mode) (root new : List ℕ) (nodes : List TreeNode) : Type 0 where
   pub long : 8 ≤ length new
   pub passes : Passes (asked_root root) [] mode new 8 nodes
 
 -- The check ended within the length, or at a node.
-abbrev pub StopsText : (CheckFault → Type 0) → Mode → List ℕ → List ℕ → Option (List ℕ) → List Node → CheckFault → Type 0
+abbrev pub StopsText : (CheckFault → Type 0) → Mode → List ℕ → List ℕ → Option (List ℕ) → List TreeNode → CheckFault → Type 0
 StopsText fails mode root new after nodes fault =
     IsCutShort fails 8 [] new after fault ⊎ ((8 ≤ length new) × Stops fails (asked_root root) [] mode new after 8 nodes fault)

@@ -1,4 +1,4 @@
--- The way down to a chunk of a text, a parent at a time.
+-- The way down to a chunk of an encoding, a parent at a time.
 use Rattle.std.specs.Prelude.{◌≡◌, ℕ, ◌+◌, ◌<◌, List, Bool, Option, Some, Contains}
 use Rattle.b3word.specs.declared.input.Input.{Input}
 use Rattle.b3tree.specs.declared.mode.Mode.{Mode}
@@ -16,7 +16,7 @@ abbrev pub asked_of : Bool → List ℕ → Asked
 asked_of top value = record { top = top; value = record { 0 = value } }
 
 -- The parents lead down to chunk `number`, which is `bytes`, in the subtree over n bytes from chunk `from`
--- on, at whose top `value` is asked for: they are those of a text whose nodes there are good, with that chunk,
+-- on, at whose top `value` is asked for: they are those of an encoding whose nodes there are good, with that chunk,
 -- and whose inputs are among `inputs`.
 pub record LeadsTo (parents : ℕ → Option (List ℕ)) (inputs : List Input) (mode : Mode) (top : Bool) (value : List ℕ) (from n number : ℕ) (bytes : List ℕ) : Type 0 where
   pub text : List ℕ

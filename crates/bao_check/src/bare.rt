@@ -29,7 +29,7 @@ pub(crate) struct Eight {
     values: [Cv; 8],
 }
 
-/// The chunks from chunk `first` on, up to and without chunk `after`, beside the text of an outline.
+/// The chunks from chunk `first` on, up to and without chunk `after`, beside the encoding of an outline.
 #[derive(Drop)]
 pub(crate) struct Bare<'a> {
     pub(crate) mode: Mode,

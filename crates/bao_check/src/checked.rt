@@ -22,7 +22,7 @@ use bao_text::{Choice, Nodes, chunk_count};
 /// What a slice is read from.
 #[derive(Clone, Copy, Debug)]
 pub(crate) enum Body<'a> {
-    /// Its text, whole.
+    /// Its encoding, whole.
     Text(&'a [u8]),
     /// An outline, and the chunks beside it.
     Beside {
@@ -31,7 +31,7 @@ pub(crate) enum Body<'a> {
     },
 }
 
-/// A text that was accepted as a slice under a root: it carries that it was, so whoever holds one needs
+/// An encoding that was accepted as a slice under a root: it carries that it was, so whoever holds one needs
 /// no premise. It was given whole, or as chunks beside an outline, which make it together. All calls on it take
 /// no memory, and cost at most the height of the tree.
 #[derive(Clone, Copy, Debug)]
@@ -53,7 +53,7 @@ impl<'a> Checked<'a> {
     ghost use Rattle.bao_text.specs.NodeNames.{name};
     ghost use Rattle.bao_text.specs.Rest.{rest_of};
 
-    /// The piece that an accepted text is.
+    /// The piece that an accepted encoding is.
     pub fn new(mode: &Mode, root: &Hash, start: u64, len: u64, text: &'a [u8]) -> Checked<'a>
         requires { IsAccepted mode.now root.now.0 text.now (slice_nodes text.now start len) }
         ensures { IsPiece result mode.now root.now.0 start len text.now }
@@ -89,7 +89,7 @@ impl<'a> Checked<'a> {
         }
     }
 
-    /// The root under which the text was accepted.
+    /// The root under which the encoding was accepted.
     pub fn root(&self) -> Hash
         ensures { result.0 ≡ piece_root self.now }
     {
@@ -103,7 +103,7 @@ impl<'a> Checked<'a> {
         self.mode
     }
 
-    /// The length in bytes that the text claims for the blob. It is certified only by the last chunk: see
+    /// The length in bytes that the encoding claims for the blob. It is certified only by the last chunk: see
     /// `tail`.
     pub fn claimed(&self) -> u64
         ensures { result ≡ piece_claimed self.now }
@@ -114,14 +114,14 @@ impl<'a> Checked<'a> {
         }
     }
 
-    /// How many bytes the accepted text has: its length's 8, and those of its nodes.
+    /// How many bytes the accepted encoding has: its length's 8, and those of its nodes.
     pub fn text_len(&self) -> u128
         ensures { result ≡ length (piece_text self.now) }
     {
         LENGTH_LEN + nodes_size(&self.choice(), 0, self.claimed())
     }
 
-    // The elements of its text are bytes.
+    // The elements of its encoding are bytes.
     fn is_of_bytes(&self)
         ensures { AreBytes (piece_text self.now) }
     {
@@ -134,7 +134,7 @@ impl<'a> Checked<'a> {
         }
     }
 
-    /// What a piece carries: its text is of bytes, and accepted under its root in its mode. A law, for proofs over
+    /// What a piece carries: its encoding is of bytes, and accepted under its root in its mode. A law, for proofs over
     /// pieces. Nothing runs.
     pub fn is_accepted(&self)
         ensures bytes { AreBytes (piece_text self.now) }
@@ -143,7 +143,7 @@ impl<'a> Checked<'a> {
         self.is_of_bytes();
     }
 
-    // The part of the blob that the text is of.
+    // The part of the blob that the encoding is of.
     pub(crate) fn choice(&self) -> Choice
         ensures { result ≡ of_slice (piece_claimed self.now) (piece_start self.now) (piece_len self.now) }
     {
@@ -161,7 +161,7 @@ impl<'a> Checked<'a> {
         (choice.start() / chunk_len, choice.end().div_ceil(chunk_len))
     }
 
-    /// The nodes of its text by name, in their order: its chunks by their numbers, and its parents by the chunk with
+    /// The nodes of its encoding by name, in their order: its chunks by their numbers, and its parents by the chunk with
     /// which the right part begins.
     pub fn nodes(&self) -> Nodes
         ensures { rest_of result ≡ map name (piece_nodes self.now) }
@@ -169,7 +169,7 @@ impl<'a> Checked<'a> {
         bao_text::nodes(self.claimed(), self.start, self.len)
     }
 
-    // Where the text has chunk `i`.
+    // Where the encoding has chunk `i`.
     fn span(&self, i: u64) -> Option<Span>
         ensures value { result ≡ chunk_place (piece_places self.now) i }
         ensures within { IfSome result (λ span. span.at + span.len ≤ length (piece_text self.now)) }
@@ -195,14 +195,15 @@ impl<'a> Checked<'a> {
     /// The bytes of chunk `i`, where they stand: there exactly where the piece holds that chunk.
     ///
     /// The root, the parents on the way and these bytes are its certificate. So for each blob with the
-    /// root they are the blob's chunk `i`, or two different inputs with one chaining value are named,
-    /// one of the blob's and one of the text's.
+    /// root they are the blob's chunk `i`, or a collision is exhibited, one
+    /// input of the blob's and one of the encoding's.
     pub fn chunk(&self, i: u64) -> Option<&'a [u8]>
         ensures value { option_copied result ≡ chunk_in (piece_text self.now) (piece_places self.now) i }
         ensures certificate { IfSome result (λ bytes. Certificate (piece_mode self.now) (piece_root self.now) i bytes.now) }
         ensures binds { (blob : List ℕ) → AreBytes blob → hash (piece_mode self.now) blob ≡ piece_root self.now
             → IfSome result (λ bytes. Binds (piece_mode self.now) (piece_text self.now) (piece_start self.now) (piece_len self.now) blob i bytes.now) }
     {
+        // Laws, so that the proof has what they say: nothing runs.
         self.mode.is_keyed();
         self.is_of_bytes();
         self.bytes(i)
@@ -218,6 +219,7 @@ impl<'a> Checked<'a> {
         let last = chunk_count(self.claimed()) - 1;
         let (first, after) = self.chunks();
         if first <= last && last < after {
+            // A law, so that the proof has what it says: nothing runs.
             self.is_of_bytes();
             Some(Tail { piece: *self })
         } else {

@@ -11,7 +11,7 @@ use arrayvec::ArrayVec;
 use b3tree::{Cv, Hash, Mode, top_input};
 use bao_text::{Choice, LENGTH_LEN};
 
-// Verifies a text's length, and answers what the text is of and the parts that come after the length. An empty
+// Verifies an encoding's length, and answers what the encoding is of and the parts that come after the length. An empty
 // chunk has no bytes of its own, so it is verified with it.
 fn begin(
     mode: &Mode,
@@ -47,15 +47,15 @@ fn begin(
     Ok((choice, waiting))
 }
 
-/// A text that is checked as a slice while its bytes come, a node at a time: `check_slice` and `read_checked` for a
-/// caller that has no whole text and no reader. It takes no memory, and keeps none of the bytes.
+/// An encoding that is checked as a slice while its bytes come, a node at a time: `check_slice` and `read_checked` for a
+/// caller that has no whole encoding and no reader. It takes no memory, and keeps none of the bytes.
 #[derive(Drop)]
 pub struct Checking {
     mode: Mode,
     root: Hash,
     start: u64,
     len: u64,
-    // What the text is of, once its length is there.
+    // What the encoding is of, once its length is there.
     choice: Choice,
     waiting: Waiting,
     // How many bytes were taken.
@@ -67,7 +67,7 @@ pub struct Checking {
 impl Checking {
     ghost use Rattle.bao_check.specs.Checking.{HasTakenAs, IsNodeFault, wanted};
 
-    /// A check of a text as the slice of `len` bytes from byte `start` on of the blob with the hash `root` in `mode`. It
+    /// A check of an encoding as the slice of `len` bytes from byte `start` on of the blob with the hash `root` in `mode`. It
     /// has taken nothing.
     pub fn of_slice(mode: &Mode, root: &Hash, start: u64, len: u64) -> Checking
         ensures { HasTakenAs result (record { mode = mode.now; root = root.now.0; start = start; len = len }) [] }
@@ -83,7 +83,7 @@ impl Checking {
         }
     }
 
-    /// A check of a text as the combined encoding of the blob: as `of_slice` from byte 0 on with the length 2^64 - 1.
+    /// A check of an encoding as the combined encoding of the blob: as `of_slice` from byte 0 on with the length 2^64 - 1.
     pub fn of_combined(mode: &Mode, root: &Hash) -> Checking
         ensures { HasTakenAs result (record { mode = mode.now; root = root.now.0; start = 0; len = 2 ^ 64 - 1 }) [] }
     {
@@ -91,7 +91,7 @@ impl Checking {
     }
 
     /// How many bytes `take` takes next: 8 for the length, 64 for a parent and 1 to 1,024 for a chunk. `None` exactly
-    /// where what was taken is an accepted text. A text that ends before so many more is short (501) at this place.
+    /// where what was taken is an accepted encoding. An encoding that ends before so many more is short (501) at this place.
     pub fn wants(&self) -> Option<usize>
         ensures value { result ≡ wanted self.now }
         ensures size { IfSome result (λ size. (1 ≤ size) × (size ≤ 1024)) }
@@ -105,7 +105,7 @@ impl Checking {
         node_size(&self.waiting)
     }
 
-    /// Whether what was taken is an accepted text.
+    /// Whether what was taken is an accepted encoding.
     pub fn is_done(&self) -> bool
         ensures { (task : Task) (taken : List ℕ) → HasTakenAs self.now task taken → IsTrue result ↔ IsAcceptedAs task taken }
     {
@@ -114,7 +114,7 @@ impl Checking {
 
     /// Takes the node that comes next, exactly as many bytes as `wants` says, and verifies it.
     ///
-    /// Refused: 502 `Mismatch` where it hasn't the value that its place asks for, which is the first fault of every text
+    /// Refused: 502 `Mismatch` where it hasn't the value that its place asks for, which is the first fault of every encoding
     /// that begins with what was taken and these bytes, as `check_slice` answers it: at the place of the node, and at 8
     /// for the chunk of a blob of no bytes, which is verified with the length. 504 `Memory` where 2^64 bytes or more
     /// would have been taken. The check is unchanged then, and can take other bytes in their place.
@@ -142,7 +142,7 @@ impl Checking {
         Ok(())
     }
 
-    /// What the check of the whole text says, where the text is what was taken and then `rest`, which is less than the
+    /// What the check of the whole encoding says, where the encoding is what was taken and then `rest`, which is less than the
     /// next node.
     ///
     /// Refused, its first fault: 501 `Short` at the place of that node, where there is one, and 503 `Trailing` at the

@@ -19,7 +19,7 @@ use b3tree::{CHUNK_LEN, Cv, Hash, Mode};
 use bao_text::{LENGTH_LEN, chunk_count};
 use std::alloc::Global;
 
-// Checks a text of the form that is there as a whole.
+// Checks an encoding of the form that is there as a whole.
 fn check_bytes(mode: &Mode, root: &Hash, form: &Form, text: &[u8]) -> Result<(), CheckFault>
     ensures { MatchResult result (λ _. IsAccepted mode.now root.now.0 text.now (form_nodes form.now text.now))
         (λ fault. IsFirstFault mode.now root.now.0 text.now (form_nodes form.now text.now) fault) }
@@ -163,6 +163,7 @@ pub fn check_bare<'a>(
         (beside_text (outline_text outline.now) (1024 * first) (bare_part count) chunks.now)) }
     ensures fault { IfErr result (λ fault. IsBareFault (outline_mode outline.now) (outline_root outline.now) (outline_text outline.now) first count chunks.now fault) }
 {
+    // A law, so that the proof has what it says: nothing runs.
     outline.is_of_bytes();
     check_chunks(outline, first, count, chunks)?;
     let chunk_len = CHUNK_LEN as u64;

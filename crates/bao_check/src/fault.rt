@@ -2,10 +2,10 @@ ghost use Rattle.std.specs.Prelude.{◌≡◌};
 
 use thiserror::Error;
 
-/// Why a text was not accepted: its first fault, in the order of the text. `at` is a number of bytes.
+/// Why an encoding was not accepted: its first fault, in the order of the encoding. `at` is a number of bytes.
 #[derive(Clone, Copy, Debug, PartialEq, Eq, Error)]
 pub enum CheckFault {
-    /// The text ends within the node that begins at `at`, or at 0 within its length. Number 501.
+    /// The encoding ends within the node that begins at `at`, or at 0 within its length. Number 501.
     #[error("501 short at {at}")]
     Short { at: u64 },
     /// The node that begins at `at` hasn't the value that its place asks for. Number 502.
@@ -14,7 +14,7 @@ pub enum CheckFault {
     /// All nodes are good, and something follows the last, which ends at `at`. Number 503.
     #[error("503 trailing at {at}")]
     Trailing { at: u64 },
-    /// There was no memory for a text that is read. Number 504.
+    /// Out of memory for an encoding that is read. Number 504.
     #[error("504 memory")]
     Memory,
     /// A read answered a fault. Number 505.

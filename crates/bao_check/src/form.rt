@@ -2,7 +2,7 @@ ghost use Rattle.std.specs.Prelude.{◌≡◌};
 
 use bao_text::Choice;
 
-/// Which text is checked.
+/// Which encoding is checked.
 #[derive(Clone, Copy)]
 pub(crate) enum Form {
     /// The slice of `len` bytes from byte `start` on.
@@ -14,7 +14,7 @@ pub(crate) enum Form {
 impl Form {
     ghost use Rattle.bao_check.specs.Forms.{choice_of};
 
-    // What a text of this form is of, over a blob of `total` bytes.
+    // What an encoding of this form is of, over a blob of `total` bytes.
     pub(crate) fn choice(&self, total: u64) -> Choice
         ensures { result ≡ choice_of self.now total }
     {

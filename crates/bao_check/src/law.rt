@@ -2,16 +2,16 @@ ghost use Rattle.bao_check.specs.Laws.{AcceptedBinds, BareAccepted, CertificateB
 
 /// For each certificate under a root (that bytes are a certain chunk: the parents on the way down, 64 bytes each with
 /// the side on which the way goes on, and the chunk), and each blob with that root: the bytes are the blob's chunk of
-/// that number, and the blob ends with them where the way goes to the right at each parent; or a pair of inputs is
-/// named, one of the blob's and one of the certificate's, that differ and have one chaining value. A law: nothing runs.
+/// that number, and the blob ends with them where the way goes to the right at each parent; or a collision is exhibited,
+/// one input of the blob's and one of the certificate's. A law: nothing runs.
 pub fn certificate_binds()
     ensures { CertificateBinds }
 {}
 
-/// For each text that is accepted as a slice under a root, and each blob with that root: each chunk that
-/// the text has is the blob's chunk of that number, and where it is the last of the length that the text
-/// claims, that length is the blob's; or a pair of inputs is named, one of the blob's and one of the
-/// text's, that differ and have one chaining value. A law: nothing runs.
+/// For each encoding that is accepted as a slice under a root, and each blob with that root: each chunk that
+/// the encoding has is the blob's chunk of that number, and where it is the last of the length that the encoding
+/// claims, that length is the blob's; or a collision is exhibited, one input of the blob's and one of the
+/// encoding's. A law: nothing runs.
 pub fn accepted_binds()
     ensures { AcceptedBinds }
 {}
@@ -28,14 +28,14 @@ pub fn bare_accepted()
     ensures { BareAccepted }
 {}
 
-/// For each text that is accepted as a slice under a root, and each blob with that root and of the length that the
-/// text claims: each parent that the text has is the blob's parent at that boundary; or a pair of inputs is named,
-/// one of the blob's and one of the text's, that differ and have one chaining value. A law: nothing runs.
+/// For each encoding that is accepted as a slice under a root, and each blob with that root and of the length that the
+/// encoding claims: each parent that the encoding has is the blob's parent at that boundary; or a collision is exhibited, one
+/// input of the blob's and one of the encoding's. A law: nothing runs.
 pub fn parent_binds()
     ensures { ParentBinds }
 {}
 
-/// The length of a blob, and then of each node of a slice the blob's bytes there, are the slice's text. A law:
+/// The length of a blob, and then of each node of a slice the blob's bytes there, are the slice's encoding. A law:
 /// nothing runs.
 pub fn nodes_make_slice()
     ensures { NodesMakeSlice }

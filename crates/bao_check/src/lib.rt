@@ -1,4 +1,6 @@
 //! Bao encodings checked: combined, outboard and slices, from bytes and from a reader (Bao specification).
+//! An accepted slice is a piece (`Checked`), one with the last chunk of the length that it claims a tail (`Tail`), and an
+//! accepted outboard encoding an outline (`Outline`).
 #![tactic(auto)]
 
 pub use checked::Checked;

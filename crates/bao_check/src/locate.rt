@@ -12,14 +12,14 @@ pub(crate) const LENGTH_LEN: u128 = bao_text::LENGTH_LEN as u128;
 // Bytes of a parent, for places.
 pub(crate) const PARENT_LEN: u128 = bao_text::PARENT_LEN as u128;
 
-/// Where a text has a chunk: the offset of its first byte, and how many bytes it has.
+/// Where an encoding has a chunk: the offset of its first byte, and how many bytes it has.
 #[derive(Clone, Copy)]
 pub(crate) struct Span {
     pub(crate) at: u128,
     pub(crate) len: u64,
 }
 
-// The `len` bytes of the text from place `at` on.
+// The `len` bytes of the encoding from place `at` on.
 pub(crate) fn bytes_from(text: &[u8], at: u128, len: u64) -> &[u8]
     requires { at + len ≤ length text.now }
     ensures bytes { result.now ≡ take len (drop at text.now) }
@@ -29,7 +29,7 @@ pub(crate) fn bytes_from(text: &[u8], at: u128, len: u64) -> &[u8]
     &text[at..at + len as usize]
 }
 
-// How many bytes of a text the wanted nodes of the subtree over `n` bytes from chunk `number` on are. It
+// How many bytes of an encoding the wanted nodes of the subtree over `n` bytes from chunk `number` on are. It
 // goes down only where a subtree is wanted in part, so along the two edges of the wanted positions.
 pub(crate) fn nodes_size(choice: &Choice, number: u64, n: u64) -> u128
     requires { 1024 * number + n ≤ 2 ^ 64 - 1 }
@@ -73,7 +73,7 @@ fn parents_before(last: u64, first: u64, k: u64) -> u64
     k - first + u64::from(first.count_ones()) + u64::from(digits) - u64::from(low.count_ones())
 }
 
-/// What stands in a text before the place of a chunk, which may be one that isn't wanted.
+/// What stands in an encoding before the place of a chunk, which may be one that isn't wanted.
 #[derive(Clone, Copy)]
 pub(crate) struct Before {
     /// How many bytes of chunks.
@@ -101,7 +101,7 @@ impl Before {
     }
 }
 
-// Where chunk `i` is in a text, of which the wanted nodes of the subtree over `n` bytes from chunk `number`
+// Where chunk `i` is in an encoding, of which the wanted nodes of the subtree over `n` bytes from chunk `number`
 // on begin at `at`.
 pub(crate) fn find_chunk(choice: &Choice, number: u64, n: u64, at: u128, i: u64) -> Option<Span>
     requires range { 1024 * number + n ≤ 2 ^ 64 - 1 }

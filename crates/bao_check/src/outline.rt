@@ -10,7 +10,7 @@ use crate::walk::claimed;
 use b3tree::{CHUNK_LEN, Cv, Hash, Mode, bytes_are};
 use bao_text::LENGTH_LEN;
 
-/// A text that was accepted as an outboard encoding under a root: it carries that it was, so whoever holds
+/// An encoding that was accepted as an outboard encoding under a root: it carries that it was, so whoever holds
 /// one needs no premise. All calls on it take no memory, and cost at most the height of the tree.
 #[derive(Clone, Copy, Debug)]
 pub struct Outline<'a> {
@@ -23,7 +23,7 @@ pub struct Outline<'a> {
 impl<'a> Outline<'a> {
     ghost use Rattle.bao_check.specs.Outline.{IsOutline, outline_claimed, outline_mode, outline_root, outline_text};
 
-    // The outline that an accepted text is.
+    // The outline that an accepted encoding is.
     pub(crate) fn new(mode: &Mode, root: &Hash, text: &'a [u8]) -> Outline<'a>
         requires { IsAccepted mode.now root.now.0 text.now (outboard_nodes text.now) }
         ensures { IsOutline result mode.now root.now.0 text.now }
@@ -35,14 +35,14 @@ impl<'a> Outline<'a> {
         }
     }
 
-    // The elements of its text are bytes.
+    // The elements of its encoding are bytes.
     pub(crate) fn is_of_bytes(&self)
         ensures { AreBytes (outline_text self.now) }
     {
         bytes_are(self.text);
     }
 
-    /// The root under which the text was accepted.
+    /// The root under which the encoding was accepted.
     pub fn root(&self) -> Hash
         ensures { result.0 ≡ outline_root self.now }
     {
@@ -56,7 +56,7 @@ impl<'a> Outline<'a> {
         self.mode
     }
 
-    /// The length in bytes that the text claims for the blob. No outboard encoding certifies it: that takes
+    /// The length in bytes that the encoding claims for the blob. No outboard encoding certifies it: that takes
     /// the last chunk.
     pub fn claimed(&self) -> u64
         ensures { result ≡ outline_claimed self.now }
@@ -64,7 +64,7 @@ impl<'a> Outline<'a> {
         claimed(self.text)
     }
 
-    /// The chaining value that the text has for chunk `i`: the half of a parent that stands for it.
+    /// The chaining value that the encoding has for chunk `i`: the half of a parent that stands for it.
     ///
     /// There is one exactly where the claimed length is of more than one chunk and `i` is below their
     /// number: a single chunk has no parent, and no value but the root.
@@ -72,7 +72,7 @@ impl<'a> Outline<'a> {
         ensures there { IsSome result ↔ ((1 < chunk_count (outline_claimed self.now)) × (i < chunk_count (outline_claimed self.now))) }
         ensures value { IfSome result (λ v. IsLeafValue (outline_text self.now) (places_of (outboard_nodes (outline_text self.now))) i v.0) }
 
-        // It is the only one that the text has for that chunk.
+        // It is the only one that the encoding has for that chunk.
         ensures only { IfSome result (λ v. (w : List ℕ) → IsLeafValue (outline_text self.now) (places_of (outboard_nodes (outline_text self.now))) i w → w ≡ v.0) }
     {
         let total = self.claimed();

@@ -44,7 +44,7 @@ fn wants_parent(choice: &Choice, number: u64, n: u64, m: u64) -> bool
     )
 }
 
-// Where the parent whose right part begins at chunk `m` is in a text, of which the wanted nodes of the
+// Where the parent whose right part begins at chunk `m` is in an encoding, of which the wanted nodes of the
 // subtree over `n` bytes from chunk `number` on begin at `at`.
 fn find_parent(choice: &Choice, number: u64, n: u64, at: u128, m: u64) -> Option<u128>
     requires range { 1024 * number + n ≤ 2 ^ 64 - 1 }
@@ -100,7 +100,7 @@ fn parents_in(choice: &Choice, n: u64, group: u64) -> u64
 impl<'a> Checked<'a> {
     ghost use Rattle.bao_check.specs.Checked.{piece_places, piece_text};
 
-    // Where the text has the parent whose right part begins at chunk `m`.
+    // Where the encoding has the parent whose right part begins at chunk `m`.
     fn parent_at(&self, m: u64) -> Option<u128>
         ensures value { result ≡ parent_place (piece_places self.now) m }
         ensures within { IfSome result (λ at. at + 64 ≤ length (piece_text self.now)) }
@@ -144,7 +144,7 @@ impl<'a> Outline<'a> {
     ghost use Rattle.bao_check.specs.Outline.{outline_text};
     ghost use Rattle.bao_check.specs.Accepted.{outboard_nodes, places_of};
 
-    // Where the text has the parent whose right part begins at chunk `m`.
+    // Where the encoding has the parent whose right part begins at chunk `m`.
     fn parent_at(&self, m: u64) -> Option<u128>
         ensures value { result ≡ parent_place (places_of (outboard_nodes (outline_text self.now))) m }
         ensures within { IfSome result (λ at. at + 64 ≤ length (outline_text self.now)) }
@@ -158,7 +158,7 @@ impl<'a> Outline<'a> {
         )
     }
 
-    // The 64 bytes of the parent whose right part begins at chunk `m`, in the text itself.
+    // The 64 bytes of the parent whose right part begins at chunk `m`, in the encoding itself.
     pub(crate) fn parent(&self, m: u64) -> Option<&'a [u8]>
         ensures value { option_copied result ≡ parent_in (outline_text self.now) (places_of (outboard_nodes (outline_text self.now))) m }
         ensures len { IfSome result (λ bytes. length bytes.now ≡ 64) }

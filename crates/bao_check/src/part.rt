@@ -3,7 +3,7 @@ ghost use Rattle.std.specs.Prelude.{◌<◌};
 use crate::asked::Asked;
 use b3tree::Cv;
 
-/// A part of a text that is still to come: the wanted nodes of a subtree that has bytes, and what its top asks for.
+/// A part of an encoding that is still to come: the wanted nodes of a subtree that has bytes, and what its top asks for.
 #[derive(Clone, Copy)]
 pub(crate) struct Part {
     pub(crate) asked: Asked,

@@ -15,13 +15,13 @@ use b3tree::{Hash, Mode};
 use std::alloc::Global;
 use std::io::Read;
 
-/// Reads a text into `text`, which is empty, and checks it as the slice of `len` bytes from byte `start` on
+/// Reads an encoding into `text`, which is empty, and checks it as the slice of `len` bytes from byte `start` on
 /// of the blob with the hash `root` in `mode`, as `check_slice` does.
 ///
 /// A node's bytes are read to the vector's end and verified before the next is read, and no byte after the
-/// text is read. It is accepted exactly where what the reader has left begins with an accepted text: the
-/// vector then holds that text, and the reader has the rest. Otherwise the first fault of what the reader
-/// had is answered, but that what follows a text is none, so 503 never comes: 501 `Short`, where a read
+/// encoding is read. It is accepted exactly where what the reader has left begins with an accepted encoding: the
+/// vector then holds that encoding, and the reader has the rest. Otherwise the first fault of what the reader
+/// had is answered, but that what follows an encoding is none, so 503 never comes: 501 `Short`, where a read
 /// gave no byte before a node's end, or 502 `Mismatch`. 504 `Memory` comes where there is no room for a
 /// node, and 505 `Reader` where a read answers a fault, of the kind `Interrupted` too. After each fault
 /// the vector holds what was read, at most up to the end of the node at which the check ended. No room is
@@ -46,8 +46,8 @@ pub fn read_checked<R: Read>(
     check_text(&mut source, mode, root, &Form::Slice { start, len })
 }
 
-/// Reads and checks as `read_checked` does, and answers the accepted text as a piece, which borrows the
-/// vector. Once nothing borrows it the vector holds that text, or after a fault what was read. Memory is taken
+/// Reads and checks as `read_checked` does, and answers the accepted encoding as a piece, which borrows the
+/// vector. Once nothing borrows it the vector holds that encoding, or after a fault what was read. Memory is taken
 /// by the vector's own allocator.
 pub fn read_piece<'a, R: Read>(
     text: &'a mut Vec<u8>,

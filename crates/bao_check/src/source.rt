@@ -5,7 +5,7 @@ ghost use Rattle.bao_check.specs.Walk.{IsSourceFault, TakenWhole, Takes};
 
 use crate::fault::CheckFault;
 
-/// Where a check takes a text's bytes from.
+/// Where a check takes an encoding's bytes from.
 pub(crate) trait Source {
     // The bytes taken so far, and those that are ahead, where they are known.
     ghost taken: { Self → List ℕ };
@@ -46,7 +46,7 @@ pub(crate) trait Source {
         ensures consumed { Consumes (ahead self.old) (ahead self.new) (take count (at_hand self.old)) };
 }
 
-/// The bytes of a text that is there as a whole: nothing is copied, and nothing fails.
+/// The bytes of an encoding that is there as a whole: nothing is copied, and nothing fails.
 #[derive(Drop)]
 pub(crate) struct Bytes<'a> {
     text: &'a [u8],
@@ -57,7 +57,7 @@ pub(crate) struct Bytes<'a> {
 impl<'a> Bytes<'a> {
     ghost use Rattle.bao_check.specs.Sources.{bytes_ahead, bytes_taken};
 
-    // None of the text's bytes are taken.
+    // None of the encoding's bytes are taken.
     pub(crate) fn new(text: &'a [u8]) -> Bytes<'a>
         ensures taken { bytes_taken result ≡ [] }
         ensures ahead { bytes_ahead result ≡ text.now }

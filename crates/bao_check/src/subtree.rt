@@ -11,8 +11,8 @@ use crate::walk::{check_parent, check_subtree, claimed};
 use b3tree::{CHUNK_LEN, Cv, Hash, Mode, left_len};
 use bao_text::{Choice, LENGTH_LEN};
 
-/// A part of the check of a text: the wanted nodes of a subtree, the place at which they begin in the text, and
-/// the value that its top must have. The parts of a text can be checked in any order, and at once. None of the
+/// A part of the check of an encoding: the wanted nodes of a subtree, the place at which they begin in the encoding, and
+/// the value that its top must have. The parts of an encoding can be checked in any order, and at once. None of the
 /// calls takes memory, and no byte is copied.
 #[derive(Clone, Copy)]
 pub struct Subtree {
@@ -32,9 +32,9 @@ impl Subtree {
     /// All nodes of `text`, as the slice of `len` bytes from byte `start` on of the blob with the hash `root` in
     /// `mode`.
     ///
-    /// The text is accepted where this subtree passes up to the text's end. Where it passes up to a place before
-    /// that, something is trailing there (503), and else its first fault is the text's. Refused: 501 `Short` at 0
-    /// where the text ends within its length.
+    /// The encoding is accepted where this subtree passes up to the encoding's end. Where it passes up to a place before
+    /// that, something is trailing there (503), and else its first fault is the encoding's. Refused: 501 `Short` at 0
+    /// where the encoding ends within its length.
     pub fn of_slice(
         mode: &Mode,
         root: &Hash,
@@ -45,7 +45,7 @@ impl Subtree {
         ensures top { IfOk result (λ top. IsTopOf top mode.now root.now.0 text.now (slice_nodes text.now start len)) }
         ensures short { IfErr result (λ fault. IsFirstFault mode.now root.now.0 text.now (slice_nodes text.now start len) fault) }
 
-        // Whatever the result: a text with a fault isn't accepted.
+        // Whatever the result: an encoding with a fault isn't accepted.
         ensures either { (fault : CheckFault) → IsFirstFault mode.now root.now.0 text.now (slice_nodes text.now start len) fault
             → ¬ IsAccepted mode.now root.now.0 text.now (slice_nodes text.now start len) }
     {
@@ -85,7 +85,7 @@ impl Subtree {
 
     /// Verifies the parent at its top, and answers its left and its right part, which are checked apart.
     ///
-    /// Refused: 501 `Short` where the text ends within the parent, 502 `Mismatch` where it hasn't the value that is
+    /// Refused: 501 `Short` where the encoding ends within the parent, 502 `Mismatch` where it hasn't the value that is
     /// asked for; both are the subtree's first fault.
     pub fn split(&self, text: &[u8]) -> Result<(Subtree, Subtree), CheckFault>
         requires begins { BeginsIn text.now self.now }
@@ -97,7 +97,7 @@ impl Subtree {
         let left_at = source.taken().len();
         let left_len = left_len(self.len);
         let left_size = nodes_size(&self.choice, self.number, left_len);
-        // Where the text ends before the right part begins, the left one has a fault.
+        // Where the encoding ends before the right part begins, the left one has a fault.
         let right_at = (left_at as u128 + left_size).min(text.len() as u128);
         let left = Subtree {
             mode: self.mode,
@@ -124,9 +124,9 @@ impl Subtree {
         Ok((left, right))
     }
 
-    /// Checks all of it on one thread, and answers the place of the text at which its last node ends.
+    /// Checks all of it on one thread, and answers the place of the encoding at which its last node ends.
     ///
-    /// Refused: 501 `Short` and 502 `Mismatch`, its first fault in the order of the text.
+    /// Refused: 501 `Short` and 502 `Mismatch`, its first fault in the order of the encoding.
     pub fn check(&self, text: &[u8]) -> Result<usize, CheckFault>
         requires { BeginsIn text.now self.now }
         ensures { MatchResult result (PassesTo self.now text.now) (StopsWith self.now text.now) }

@@ -12,7 +12,7 @@ use b3tree::{Hash, Mode};
 use bao_text::chunk_count;
 
 /// A piece that holds the last chunk of the length that it claims, so that the length is certified. It
-/// keeps the piece's text by reference.
+/// keeps the piece's encoding by reference.
 #[derive(Clone, Copy, Debug)]
 pub struct Tail<'a> {
     pub(crate) piece: Checked<'a>,
@@ -22,7 +22,7 @@ pub struct Tail<'a> {
 impl<'a> Tail<'a> {
     ghost use Rattle.bao_check.specs.Tail.{tail_piece};
 
-    /// What a tail carries: its piece's text is of bytes, accepted under its root in its mode, and has the last chunk
+    /// What a tail carries: its piece's encoding is of bytes, accepted under its root in its mode, and has the last chunk
     /// of the length that it claims. A law, for proofs over tails. Nothing runs.
     pub fn is_last(&self)
         ensures bytes { AreBytes (piece_text (tail_piece self.now)) }
@@ -50,8 +50,8 @@ impl<'a> Tail<'a> {
     /// on the way to that chunk and its bytes are a certificate that is last: the way goes to the right at each
     /// parent.
     ///
-    /// For each blob with the root it is the blob's length, or two different inputs with one chaining
-    /// value are named, one of the blob's and one of the text's.
+    /// For each blob with the root it is the blob's length, or a collision is
+    /// exhibited, one input of the blob's and one of the encoding's.
     pub fn length(&self) -> u64
         ensures value { result ≡ piece_claimed (tail_piece self.now) }
         ensures ends { (bytes : List ℕ) → chunk_in (piece_text (tail_piece self.now)) (piece_places (tail_piece self.now)) (chunk_count result - 1) ≡ Some bytes
@@ -60,8 +60,10 @@ impl<'a> Tail<'a> {
         ensures binds { (blob : List ℕ) → AreBytes blob → hash (piece_mode (tail_piece self.now)) blob ≡ piece_root (tail_piece self.now)
             → (result ≡ length blob) ⊎ NamesPair (piece_mode (tail_piece self.now)) blob (piece_text (tail_piece self.now)) (piece_places (tail_piece self.now)) }
     {
+        // A law, so that the proof has what it says: nothing runs.
         self.is_last();
         let length = self.piece.claimed();
+        // So that the proof has the certificate of the last chunk.
         let _last = self.piece.chunk(chunk_count(length) - 1);
         length
     }

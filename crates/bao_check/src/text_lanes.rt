@@ -1,4 +1,4 @@
-// Whole subtrees of a text in eight lanes: each lane hashes its own, and compares the parents that the text
+// Whole subtrees of an encoding in eight lanes: each lane hashes its own, and compares the parents that the encoding
 // has with the values that it found.
 
 ghost use Rattle.std.specs.Prelude.{◌≡◌, ℕ, ◌+◌, ◌-◌, ◌*◌, ◌^◌, ◌<◌, ◌≤◌, length, slice_index, bit_or, bit_xor, true, false, IsTrue};
@@ -10,8 +10,8 @@ ghost use Rattle.b3tree.specs.Pieces.{lane_place, piece};
 ghost use Rattle.b3tree.specs.Tree.{parent_input};
 ghost use Rattle.bao_check.specs.Whole.{IsWholeOf, whole_len};
 
-use b3tree::{CHUNK_LEN, Mode, parent_lanes, spaced_chunks, spaced_words};
-use bao_text::PARENT_LEN;
+use b3tree::{CHUNK_LEN, Mode, parent_lanes, spaced_chunks, spaced_values};
+use bao_text::{CV_LEN, PARENT_LEN};
 use std::simd::u32x8;
 
 #[inline(always)]
@@ -58,31 +58,15 @@ fn says(text: &[u8], at: usize, step: usize, left: &[u32x8; 8], right: &[u32x8; 
         → (words_of 8 (piece text.now (lane_place at step j) 32) ≡ lane8 j left.now)
         × (words_of 8 (piece text.now (lane_place at step j + 32) 32) ≡ lane8 j right.now) }
 {
-    let [
-        m0,
-        m1,
-        m2,
-        m3,
-        m4,
-        m5,
-        m6,
-        m7,
-        m8,
-        m9,
-        m10,
-        m11,
-        m12,
-        m13,
-        m14,
-        m15,
-    ] = spaced_words(text, at, step);
-    let near = differences(&[m0, m1, m2, m3, m4, m5, m6, m7], left);
-    let far = differences(&[m8, m9, m10, m11, m12, m13, m14, m15], right);
+    let told_left = spaced_values(text, at, step);
+    let told_right = spaced_values(text, at + CV_LEN, step);
+    let near = differences(&told_left, left);
+    let far = differences(&told_right, right);
     is_zero(or(near, far))
 }
 
-// The value of a whole subtree of `chunks` chunks in each lane, `apart` chunks from lane to lane, whose text
-// begins in lane 0 at place `at`. Where a parent of the text has other values, `same` becomes false.
+// The value of a whole subtree of `chunks` chunks in each lane, `apart` chunks from lane to lane, whose encoding
+// begins in lane 0 at place `at`. Where a parent of the encoding has other values, `same` becomes false.
 pub(crate) fn text_lanes(
     mode: &Mode,
     first: u64,
@@ -123,36 +107,18 @@ pub(crate) fn text_lanes(
     parent_lanes(mode, &left, &right)
 }
 
-// The value of the parent of two parts in each lane, of which the text tells the values.
+// The value of the parent of two parts in each lane, of which the encoding tells the values.
 fn told_lanes(mode: &Mode, text: &[u8], at: usize, step: usize) -> [u32x8; 8]
     requires { at + step * 7 + 320 ≤ length text.now }
     ensures { (j : ℕ) → j < 8 → lane8 j result ≡ cv (parent_input mode.now
         (words_of 8 (piece text.now (lane_place at step j) 32)) (words_of 8 (piece text.now (lane_place at step j + 32) 32))) }
 {
-    let [
-        m0,
-        m1,
-        m2,
-        m3,
-        m4,
-        m5,
-        m6,
-        m7,
-        m8,
-        m9,
-        m10,
-        m11,
-        m12,
-        m13,
-        m14,
-        m15,
-    ] = spaced_words(text, at, step);
-    let left = [m0, m1, m2, m3, m4, m5, m6, m7];
-    let right = [m8, m9, m10, m11, m12, m13, m14, m15];
+    let left = spaced_values(text, at, step);
+    let right = spaced_values(text, at + CV_LEN, step);
     parent_lanes(mode, &left, &right)
 }
 
-// As `text_lanes`, of a text without chunks, and of whole subtrees of `pairs` pairs of chunks.
+// As `text_lanes`, of an encoding without chunks, and of whole subtrees of `pairs` pairs of chunks.
 pub(crate) fn outline_lanes(
     mode: &Mode,
     text: &[u8],

@@ -9,12 +9,9 @@ use crate::part::Part;
 use crate::walk::part_values;
 use arrayvec::ArrayVec;
 use b3tree::{CHUNK_LEN, Cv, Mode, left_len, parent_input, top_input};
-use bao_text::{Choice, PARENT_LEN};
+use bao_text::{Choice, PARENT_LEN, WAITING_LEN};
 
-// A tree has at most 54 levels of parents. On each the right part waits, and at last a chunk.
-const WAITING_LEN: usize = 55;
-
-/// The parts of a text that are still to come. The last of them comes first.
+/// The parts of an encoding that are still to come. The last of them comes first.
 pub(crate) type Waiting = ArrayVec<Part, WAITING_LEN>;
 
 // The part that comes first.
@@ -97,7 +94,7 @@ fn push_halves(choice: &Choice, waiting: &mut Waiting, parent: &Part, left: Cv, 
     push_wanted(choice, waiting, &left_asked, parent.number, left_len);
 }
 
-// Verifies the node that comes next, at place `at` of the text, and goes on to what comes after it.
+// Verifies the node that comes next, at place `at` of the encoding, and goes on to what comes after it.
 pub(crate) fn take_node(
     choice: &Choice,
     waiting: &mut Waiting,
@@ -120,6 +117,7 @@ pub(crate) fn take_node(
         if !meets(&part.asked, &top_input(mode, part.number, node)) {
             return Err(CheckFault::Mismatch { at });
         }
+        // What is popped is `part`, here and below: it waits until its node is verified.
         let _taken = waiting.pop();
         return Ok(());
     }

@@ -10,8 +10,8 @@ use crate::asked::{Asked, meets};
 use crate::fault::CheckFault;
 use crate::form::Form;
 use crate::source::Source;
-use crate::whole::{chunks_a_lane, is_whole_outline, is_whole_text};
-use b3tree::{CHUNK_LEN, Cv, Hash, Mode, left_len, parent_input, top_input};
+use crate::whole::{is_whole_outline, is_whole_text};
+use b3tree::{CHUNK_LEN, Cv, Hash, Mode, chunks_a_lane, left_len, parent_input, top_input};
 use bao_text::{CV_LEN, Choice, EIGHT_LEN, LENGTH_LEN, PARENT_LEN};
 
 // Takes the `size` bytes of the node that comes next.
@@ -93,8 +93,8 @@ pub(crate) fn check_parent<S: Source>(
     }
 }
 
-// How many bytes the text of the subtree over `n` bytes from chunk `number` on has, where it is a whole
-// subtree that is wanted whole, and its text is at hand and all good.
+// How many bytes the encoding of the subtree over `n` bytes from chunk `number` on has, where it is a whole
+// subtree that is wanted whole, and its encoding is at hand and all good.
 fn whole_at_hand<S: Source>(
     source: &S,
     choice: &Choice,
@@ -182,7 +182,7 @@ pub(crate) fn check_subtree<S: Source>(
     )
 }
 
-// The length that the first 8 bytes of a text claim.
+// The length that the first 8 bytes of an encoding claim.
 pub(crate) fn claimed(text: &[u8]) -> u64
     requires { 8 ≤ length text.now }
     ensures { result ≡ claimed text.now }
@@ -192,7 +192,7 @@ pub(crate) fn claimed(text: &[u8]) -> u64
     ])
 }
 
-// Takes a text of the form from its start, and verifies each node before the next is taken.
+// Takes an encoding of the form from its start, and verifies each node before the next is taken.
 pub(crate) fn check_text<S: Source>(
     source: &mut S,
     mode: &Mode,

@@ -1,48 +1,29 @@
-// The text of a whole subtree of 8 to 512 chunks, verified at once by lanes: each lane has its own eighth.
+// The encoding of a whole subtree of 8 to 512 chunks, verified at once by lanes: each lane has its own eighth.
 
-ghost use Rattle.std.specs.Prelude.{◌≡◌, ℕ, ◌+◌, ◌-◌, ◌*◌, ◌^◌, ◌<◌, ◌≤◌, length, true, false, IfSome, IsTrue};
+ghost use Rattle.std.specs.Prelude.{◌≡◌, ℕ, ◌+◌, ◌-◌, ◌*◌, ◌^◌, ◌<◌, ◌≤◌, length, true, false, IsTrue};
 ghost use Rattle.std.specs.Int.{IsPowerOfTwo};
 ghost use Rattle.b3word.specs.Lanes.{lane8};
 ghost use Rattle.b3tree.specs.Parents.{lane_parents};
 ghost use Rattle.bao_check.specs.Walk.{Meets};
-ghost use Rattle.bao_check.specs.Whole.{HasEight, HasFour, HasParts, IsWholeAsked, lane_top};
+ghost use Rattle.bao_check.specs.Whole.{HasEight, HasFour, HasParentAt, IsWholeAsked, lane_top};
 
 use crate::asked::{Asked, meets};
 use crate::text_lanes::{outline_lanes, text_lanes};
 use crate::walk::part_values;
 use b3tree::{CHUNK_LEN, EightParents, FourParents, Mode, Parts, lane_parents, parent_input};
-use bao_text::{EIGHT_LEN, PARENT_LEN};
+use bao_text::PARENT_LEN;
 use std::simd::u32x8;
 
-// The most chunks of a lane.
-const MOST_A_LANE: u64 = 64;
-
-// How many chunks each lane has, where `n` bytes are a whole subtree of at least eight chunks, and of not
-// too many.
-pub(crate) fn chunks_a_lane(n: u64) -> Option<usize>
-    ensures { IfSome result (λ chunks. IsPowerOfTwo chunks × (n ≡ 8192 * chunks) × (chunks ≤ 64)) }
-{
-    let count = n / EIGHT_LEN as u64;
-    if count == 0 || count > MOST_A_LANE {
-        return None;
-    }
-    let chunks = 1u64 << count.ilog2();
-    if EIGHT_LEN as u64 * chunks == n {
-        return Some(chunks as usize);
-    }
-    None
-}
-
-// Whether the text has the parent at place `at`.
+// Whether the encoding has the parent at place `at`.
 fn has_parts(text: &[u8], at: usize, parent: &Parts) -> bool
     requires { at + 64 ≤ length text.now }
-    ensures { IsTrue result → HasParts text.now at parent.now }
+    ensures { IsTrue result → HasParentAt text.now at parent.now }
 {
     let (left, right) = part_values(&text[at..at + PARENT_LEN]);
     left == parent.left && right == parent.right
 }
 
-// Whether the text from place `at` on has these upper parents, of four parts of `step` bytes.
+// Whether the encoding from place `at` on has these upper parents, of four parts of `step` bytes.
 fn has_four(text: &[u8], at: usize, step: usize, parents: &FourParents) -> bool
     requires { at + 192 + step * 2 ≤ length text.now }
     ensures { IsTrue result → HasFour text.now at step parents.now }
@@ -52,7 +33,7 @@ fn has_four(text: &[u8], at: usize, step: usize, parents: &FourParents) -> bool
         && has_parts(text, at + 2 * PARENT_LEN + step * 2, &parents.right)
 }
 
-// The same of a whole text, of eight parts.
+// The same of a whole encoding, of eight parts.
 fn has_eight(text: &[u8], step: usize, parents: &EightParents) -> bool
     requires { 448 + step * 6 ≤ length text.now }
     ensures { IsTrue result → HasEight text.now step parents.now }
@@ -63,7 +44,7 @@ fn has_eight(text: &[u8], step: usize, parents: &EightParents) -> bool
     has_four(text, 4 * PARENT_LEN + step * 4, step, &parents.right)
 }
 
-// Whether the upper parents of a whole text are those of the values in the lanes, and the top one has the
+// Whether the upper parents of a whole encoding are those of the values in the lanes, and the top one has the
 // value asked for.
 fn has_top(mode: &Mode, asked: &Asked, text: &[u8], step: usize, values: &[u32x8; 8]) -> bool
     requires { 448 + step * 6 ≤ length text.now }
@@ -78,7 +59,7 @@ fn has_top(mode: &Mode, asked: &Asked, text: &[u8], step: usize, values: &[u32x8
     meets(asked, &top)
 }
 
-// Whether the bytes are the text of a whole subtree of `8 * chunks` chunks from chunk `number` on, with the
+// Whether the bytes are the encoding of a whole subtree of `8 * chunks` chunks from chunk `number` on, with the
 // value asked for.
 pub(crate) fn is_whole_text(
     mode: &Mode,
@@ -107,7 +88,7 @@ pub(crate) fn is_whole_text(
     same && has_top(mode, asked, text, step, &values)
 }
 
-// The same of a text without chunks, whose lanes have `pairs` pairs of chunks each.
+// The same of an encoding without chunks, whose lanes have `pairs` pairs of chunks each.
 pub(crate) fn is_whole_outline(mode: &Mode, asked: &Asked, text: &[u8], pairs: usize) -> bool
     requires some { 0 < pairs }
     requires len { length text.now ≡ 1024 * pairs - 64 }

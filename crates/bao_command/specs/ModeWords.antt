@@ -1,4 +1,4 @@
--- what the words --key and --context say
+-- what the arguments --key and --context say
 use Rattle.std.specs.Prelude.{◌≡◌, ◌⊎◌, ℕ, List, Option, Some, None, Result, Ok, MatchResult}
 use Rattle.hex.specs.Hex.{decode_of}
 use Rattle.bao_files.specs.Printed.{IsDigits}

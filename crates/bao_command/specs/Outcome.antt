@@ -1,4 +1,4 @@
--- what standard output holds when the program ends, by the words
+-- what standard output holds when the program ends, by the arguments
 use Rattle.std.specs.Prelude.{◌≡◌, ◌≢◌, ◌⊎◌, ℕ, List, Option, Result, Ok, Err}
 use Rattle.std.specs.IoError.{error_kind}
 use Rattle.std.specs.declared.io.Error.{Error}
@@ -9,7 +9,7 @@ use Rattle.bao_request.specs.declared.tasks.Request.{Request}
 use Rattle.bao_request.specs.CommandLine.{AsksFor, AsksForHelp}
 use Rattle.bao_command.specs.Tasks.{PrintsBeginning, PrintsLine}
 
--- at status 0: the line of what the words ask for, or they ask for help or the version
+-- at status 0: the line of what the arguments ask for, or they ask for help or the version
 abbrev pub Done : List Text → Option (List ℕ) → Option (List ℕ) → Type 0
 Done words old new = AsksForHelp words ⊎ ((request : Request) × AsksFor words request × PrintsLine request old new)
 

@@ -1,4 +1,4 @@
--- the exit status of each fault: 1 for a text or a blob that is refused, 2 for usage, 3 for a file, 4 for want of memory
+-- the exit status of each fault: 1 for a text or a blob that is refused, 2 for usage, 3 for a file, 4 out of memory
 use Rattle.std.specs.Prelude.{ℕ}
 use Rattle.bao_command.specs.declared.fault.Fault.{Fault}
 use Rattle.bao_command.specs.declared.fault.Fault.TheVariants.{Word, Root, Key, KeyAndContext, OutputRange, TooManyFiles, OutIsOutput, File, Decode, Gather, Replay}

@@ -76,7 +76,7 @@ HasManyFiles (DecodeCopy root outboard copy out) = ⊥
 HasManyFiles (Gather root workers capacity outboard salvage encode verbose files out) = 64 < length files.items
 HasManyFiles (Replay root capacity script files) = 64 < length files.items
 
--- The words are refused only with reason: for the root, for where the output ends, for how many files there are, and for where OUT is.
+-- The arguments are refused only with reason: for the root, for where the output ends, for how many files there are, and for where OUT is.
 abbrev pub IsDue : Type 0 → Type 0 → Type 0 → Type 0 → Fault → Type 0
 IsDue root past many mixed fault = (fault ≡ Root → root) × (fault ≡ OutputRange → past) × (fault ≡ TooManyFiles → many) × (fault ≡ OutIsOutput → mixed)
 
@@ -101,7 +101,7 @@ abbrev pub IsBeside : Mode → List ℕ → Option (Bor (List ℕ)) → Type 0
 IsBeside mode root None = Unit {0}
 IsBeside mode root (Some outboard) = (key : List ℕ) × ((decode_of root ≡ Ok key) × HasOutline mode key)
 
--- what the bytes have to be: a text that is decoded is accepted under the root that the words give, or a plain copy is beside an
+-- what the bytes have to be: a text that is decoded is accepted under the root that the arguments give, or a plain copy is beside an
 -- outboard encoding that is; a blob that is gathered, from at most 64 files, has that root and no more chunks than the capacity,
 -- and an outboard encoding that it is gathered beside was accepted under that root; and a schedule's replies are those of its run
 abbrev pub IsRight : Mode → Task → List ℕ → Type 0

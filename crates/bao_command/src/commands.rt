@@ -37,11 +37,11 @@ use std::thread::Threads;
 const MOST_FILES: usize = 64;
 
 /// Runs the program on `words`, its name first, with `out` and `err` as its standard output and error,
-/// and answers the exit status: 0 done, 1 a text or a blob that is refused, 2 wrong words, 3 a file fault, 4 want of
+/// and answers the exit status: 0 done, 1 a text or a blob that is refused, 2 wrong arguments, 3 a file fault, 4 out of
 /// memory. How far the file of `hash`, `encode`, `outboard` or `slice` has been read, where it is said to have at least 4 MiB,
 /// is told to `progress`, which is told that the work is over before anything is printed.
 ///
-/// At status 0 `out` has the line of the request that the words make, on the file's bytes or the gathered blob, or
+/// At status 0 `out` has the line of the request that the arguments make, on the file's bytes or the gathered blob, or
 /// where they ask for it help or the version, or a beginning of that where its reader closed the pipe. At 3 it has a
 /// beginning at most, and after other faults nothing.
 pub fn command<

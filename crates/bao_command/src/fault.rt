@@ -17,7 +17,7 @@ use thiserror::Error;
 /// line end.
 #[derive(Clone, Copy, Debug, Error)]
 pub enum Fault<'a> {
-    /// A word is not UTF-8. Status 2.
+    /// An argument is not UTF-8. Status 2.
     #[error("usage: a word is not UTF-8")]
     Word,
     /// ROOT is no text of 64 hexadecimal digits. Status 2.
@@ -38,16 +38,16 @@ pub enum Fault<'a> {
     /// OUT is a name of standard output, where the line with the hash or with `ok` goes. Status 2.
     #[error("usage: OUT is standard output")]
     OutIsOutput,
-    /// A file or standard output was not read or written. Status 3, and 4 for want of memory.
+    /// A file or standard output was not read or written. Status 3, and 4 out of memory.
     #[error("{0}")]
     File(FileFault<'a>),
-    /// A text was not decoded. Status 1, 3 for a file, and 4 for want of memory.
+    /// A text was not decoded. Status 1, 3 for a file, and 4 out of memory.
     #[error("{0}")]
     Decode(DecodeFault<'a>),
-    /// A blob was not gathered. Status 1, 3 for a file, and 4 for want of memory.
+    /// A blob was not gathered. Status 1, 3 for a file, and 4 out of memory.
     #[error("{0}")]
     Gather(GatheredFault<'a>),
-    /// A schedule was not run to its end. Status 1, 2 for a line without a form, 3 for a file, and 4 for want of memory.
+    /// A schedule was not run to its end. Status 1, 2 for a line without a form, 3 for a file, and 4 out of memory.
     #[error("{0}")]
     Replay(RerunFault<'a>),
 }

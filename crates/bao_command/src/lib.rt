@@ -1,4 +1,4 @@
-//! The program `bao_gather` as a function of its words, its files and its standard output and error.
+//! The program `bao_gather` as a function of its arguments, its files and its standard output and error.
 #![tactic(auto)]
 
 pub use commands::command;

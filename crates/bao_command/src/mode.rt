@@ -8,7 +8,7 @@ use bao_files::bytes_of_digits;
 /// The mode that `--key` and `--context` ask for: hash mode where neither is there.
 ///
 /// A key that is no text of 64 hexadecimal digits is `Key`, and that comes before `KeyAndContext`, which
-/// answers both words.
+/// answers both arguments.
 pub fn mode_of<'a>(key: Option<&str>, context: Option<&str>) -> Result<Mode, Fault<'a>>
     ensures { GivesMode (option_copied key.entry) (option_copied context.entry) result }
 {

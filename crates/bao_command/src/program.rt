@@ -12,11 +12,11 @@ use std::process::ExitCode;
 use std::rt::{Env, Files};
 use std::thread::Threads;
 
-/// Runs the program on the words that the process was given, with `out` and `err` as its standard output
-/// and error, and answers the exit status: 0 done, 1 a text that is refused, 2 wrong words, 3 a file
-/// fault, 4 want of memory. `progress` is told how far a long read has come, as by `command`.
+/// Runs the program on the arguments that the process was given, with `out` and `err` as its standard output
+/// and error, and answers the exit status: 0 done, 1 a text that is refused, 2 wrong arguments, 3 a file
+/// fault, 4 out of memory. `progress` is told how far a long read has come, as by `command`.
 ///
-/// At status 0 `out` has the line of the request that the words make, on the file's bytes, or where they ask
+/// At status 0 `out` has the line of the request that the arguments make, on the file's bytes, or where they ask
 /// for it help or the version, or a beginning of that where its reader closed the pipe. At 3 it has a beginning at most, and
 /// after other faults nothing.
 pub fn run<

@@ -7,7 +7,7 @@ use std::env;
 use std::io::ErrorKind;
 use std::rt::Env;
 
-/// The words that the process was given, its name first.
+/// The arguments that the process was given, its name first.
 ///
 /// One that is not UTF-8 is `Word`, and `File` with `Memory` comes only where a growth was refused.
 pub fn own_words<R: Env + AllocGlobal>(rt: &R) -> Result<Vec<String>, Fault<'static>>

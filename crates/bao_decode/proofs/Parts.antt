@@ -29,7 +29,7 @@ accepted_of piece mode root start len is =
     let fromStart = subst (λ s. IsAccepted mode root text (slice_nodes text s piece.len)) is.start_is underRoot in
     subst (λ n. IsAccepted mode root text (slice_nodes text start n)) is.len_is fromStart
 
--- a byte after an accepted text
+-- a byte after an accepted encoding
 pub trails : (before after : Option (List ℕ)) (mode : Mode) (root : List ℕ) (start len : ℕ) (text : List ℕ) (fault : CheckFault)
     → IsAccepted mode root text (slice_nodes text start len) → Consumes before after text → IfSome after (λ left. 0 < length left) → fault ≡ Trailing (length text)
     → IfSome before (λ all. IsFileFault mode root start len all fault)

@@ -14,7 +14,7 @@ use Rattle.bao_files.specs.declared.fault.FileFault.TheVariants.{Write}
 use Rattle.bao_decode.specs.declared.fault.DecodeFault.{DecodeFault}
 use Rattle.bao_decode.specs.declared.fault.DecodeFault.TheVariants.{Check, File}
 
--- a text is accepted as an outboard encoding under the root, and the bytes are, beside it, all chunks of the length that it claims
+-- an encoding is accepted as an outboard encoding under the root, and the bytes are, beside it, all chunks of the length that it claims
 abbrev pub IsCopy : Mode → List ℕ → List ℕ → Type 0
 IsCopy mode root bytes =
     (outline : List ℕ) × IsAccepted mode root outline (outboard_nodes outline) × AreBare mode root outline 0 (chunk_count (claimed outline)) bytes

@@ -1,4 +1,4 @@
--- what is written of an accepted text
+-- what is written of an accepted encoding
 use Rattle.std.specs.Prelude.{◌≡◌, ◌↔◌, ℕ, ◌+◌, ◌-◌, ◌*◌, ◌^◌, ◌≤◌, ◌<◌, ◌++◌, List, length, take, drop, min, unwrap_or, [], IsSome}
 use Rattle.std.specs.List.{flat_map, range_with_len}
 use Rattle.b3tree.specs.declared.mode.Mode.{Mode}
@@ -32,11 +32,11 @@ abbrev pub last_written : Part → ℕ → ℕ
 last_written Whole total = total
 last_written (Slice start len) total = min (start + len) total
 
--- how many positions these are, in the length that a text claims
+-- how many positions these are, in the length that an encoding claims
 abbrev pub written_count : Part → List ℕ → ℕ
 written_count part text = last_written part (claimed text) - first_written part (claimed text)
 
--- the text is accepted as that of the part of the blob with this root
+-- the encoding is accepted as that of the part of the blob with this root
 abbrev pub IsPartText : Mode → List ℕ → Part → List ℕ → Type 0
 IsPartText mode root part text = IsAccepted mode root text (slice_nodes text (part_start part) (part_len part))
 
@@ -65,7 +65,7 @@ IsFileFault mode root start len all (check.Trailing at) =
 IsFileFault mode root start len all check.Memory = Unit {0}
 IsFileFault mode root start len all check.Reader = Unit {0}
 
--- The fault of a file that was read whole: its bytes' first one, or want of memory or a failed read, which are no
+-- The fault of a file that was read whole: its bytes' first one, or running out of memory or a failed read, which are no
 -- faults of its bytes.
 abbrev pub IsWholeFault : Mode → List ℕ → ℕ → ℕ → List ℕ → CheckFault → Type 0
 IsWholeFault mode root start len all (check.Short at) = IsFirstFault mode root all (slice_nodes all start len) (check.Short at)

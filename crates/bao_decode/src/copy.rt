@@ -76,7 +76,7 @@ pub fn write_copy<'a, W: Write>(
     }
 }
 
-/// Checks the text in the file `outboard` as the outboard encoding of the blob with this root, verifies the plain copy beside
+/// Checks the encoding in the file `outboard` as the outboard encoding of the blob with this root, verifies the plain copy beside
 /// it, writes that to the file at `path`, made anew once all was accepted, and answers how many bytes it has.
 ///
 /// Refuses files that can't be opened or read (`File` with `Read`), the outboard encoding before the copy is opened, and the

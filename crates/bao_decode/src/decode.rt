@@ -61,7 +61,7 @@ fn has_more<R: Read>(reader: &mut R) -> Result<bool, CheckFault>
     }
 }
 
-// The accepted piece, unless a byte comes after its text.
+// The accepted piece, unless a byte comes after its encoding.
 fn ended<'a>(piece: Checked<'a>, has_more: bool) -> Result<Checked<'a>, CheckFault>
     requires { length (piece_text piece) < 2 ^ 64 }
     ensures ok { IfOk result (λ whole. (whole ≡ piece.entry) × (has_more ≡ false)) }
@@ -77,10 +77,10 @@ fn ended<'a>(piece: Checked<'a>, has_more: bool) -> Result<Checked<'a>, CheckFau
 /// Reads all that `reader` has into `text`, which is empty, and checks it as the slice of `len` bytes from
 /// byte `start` on.
 ///
-/// Refuses a text by its first fault: 501 `Short`, 502 `Mismatch`, each with the offset of its node. Where the
-/// text is accepted one more byte is asked for, and one that comes is 503 `Trailing` at the text's end. 504
+/// Refuses an encoding by its first fault: 501 `Short`, 502 `Mismatch`, each with the offset of its node. Where the
+/// encoding is accepted one more byte is asked for, and one that comes is 503 `Trailing` at the encoding's end. 504
 /// `Memory` comes where there is no room for a node, and 505 `Reader` where a read answers a fault. After
-/// each the vector has what was read of the text.
+/// each the vector has what was read of the encoding.
 pub fn read_text<'a, R: Read>(
     alloc: Global,
     mode: &Mode,
@@ -204,7 +204,7 @@ fn write_file<'a, R: Files>(
     }
 }
 
-// A text that was read from the file at `path`, with the fault in the words of the program.
+// An encoding that was read from the file at `path`, with the fault as a fault of the program.
 fn named<'t, 'a>(
     read: Result<Checked<'t>, CheckFault>,
     path: &'a str,
@@ -220,7 +220,7 @@ fn named<'t, 'a>(
     }
 }
 
-// Reads the text in `input`, the file at `path`, into `text`, which is empty, and checks it as the slice of `len`
+// Reads the encoding in `input`, the file at `path`, into `text`, which is empty, and checks it as the slice of `len`
 // bytes from byte `start` on. A regular file is read whole. Any other, as a pipe, is read node by node, since it may
 // go on after a fault.
 fn read_input_text<'t, 'a, R: AllocGlobal + Threads + Sync>(
@@ -255,10 +255,10 @@ fn read_input_text<'t, 'a, R: AllocGlobal + Threads + Sync>(
     )
 }
 
-/// Checks the text in the file as that of the part of the blob with this root, writes what it certifies to the file at
-/// `path`, made anew once the text is accepted, and answers how many bytes that is.
+/// Checks the encoding in the file as that of the part of the blob with this root, writes what it certifies to the file at
+/// `path`, made anew once the encoding is accepted, and answers how many bytes that is.
 ///
-/// Refuses a file that can't be opened or read (`File` with `Read`), a text that is not accepted (`Check`), and an output
+/// Refuses a file that can't be opened or read (`File` with `Read`), an encoding that is not accepted (`Check`), and an output
 /// that can't be made or written (`File` with `Write`).
 pub fn decode_file<'a, R: Files<File = File> + AllocGlobal + Threads + Sync>(
     rt: &R,

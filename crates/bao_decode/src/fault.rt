@@ -8,7 +8,7 @@ pub enum DecodeFault<'a> {
     /// A file was not read or written.
     #[error("{0}")]
     File(FileFault<'a>),
-    /// The text was not accepted: its first fault.
+    /// The encoding was not accepted: its first fault.
     #[error("{0}")]
     Check(CheckFault),
 }

@@ -14,7 +14,7 @@ use std::fs::OpenFile;
 use std::io::Read;
 use std::thread::Threads;
 
-// A long text is parted into about so many parts, which keeps several processors busy, also where other programs use
+// A long encoding is parted into about so many parts, which keeps several processors busy, also where other programs use
 // them.
 const PARTS: usize = 16;
 
@@ -24,7 +24,7 @@ const LEAST_GRAIN: u64 = 1024;
 // So many bytes of a longer file are looked at before it is read.
 const FIRST_LEN: usize = 1 << 16;
 
-// The most chunks of a text of `len` bytes that one thread checks by itself.
+// The most chunks of an encoding of `len` bytes that one thread checks by itself.
 fn grain_of(len: usize) -> u64
     ensures { 1 ≤ result }
 {
@@ -32,7 +32,7 @@ fn grain_of(len: usize) -> u64
     (part as u64).max(LEAST_GRAIN)
 }
 
-// A fault of reading, as that of a text.
+// A fault of reading, as that of an encoding.
 fn text_fault(fault: ReadFault) -> CheckFault
     ensures { (result ≡ CheckFault.Memory) ⊎ (result ≡ CheckFault.Reader) }
 {
@@ -45,8 +45,8 @@ fn text_fault(fault: ReadFault) -> CheckFault
 /// Reads all that `reader`, which is said to have `size` bytes, has into `text`, which is empty, and checks it where it
 /// lies as the slice of `len` bytes from byte `start` on: on several threads where it is long.
 ///
-/// Room is made for `size` bytes first, and never for the length that the text claims. Refuses a text by its first
-/// fault: 501 `Short`, 502 `Mismatch`, each with the offset of its node, 503 `Trailing` with the text's end. 504
+/// Room is made for `size` bytes first, and never for the length that the encoding claims. Refuses an encoding by its first
+/// fault: 501 `Short`, 502 `Mismatch`, each with the offset of its node, 503 `Trailing` with the encoding's end. 504
 /// `Memory` comes where there is no room for the bytes, and 505 `Reader` where a read answers a fault.
 pub fn read_whole_text<'a, R: Threads + Sync, I: Read>(
     rt: &R,
@@ -72,7 +72,7 @@ pub fn read_whole_text<'a, R: Threads + Sync, I: Read>(
     }
 }
 
-// Whether a text of `size` bytes is refused for what the source begins with: then no more of it needs to be read.
+// Whether an encoding of `size` bytes is refused for what the source begins with: then no more of it needs to be read.
 fn is_refused_early<S: Source>(
     alloc: Global,
     mode: &Mode,
@@ -98,7 +98,7 @@ fn is_refused_early<S: Source>(
     }
 }
 
-// How many bytes a file says it has, where it is to be read whole: it is regular, and its text isn't refused early.
+// How many bytes a file says it has, where it is to be read whole: it is regular, and its encoding isn't refused early.
 pub(crate) fn whole_len<F: OpenFile + Source>(
     alloc: Global,
     mode: &Mode,

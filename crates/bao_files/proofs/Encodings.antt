@@ -15,7 +15,7 @@ use Rattle.bao_files.specs.declared.fault.FileFault.{FileFault}
 use Rattle.bao_files.specs.Encoded.{Encodes, answer_at_path, encoding_text}
 use Rattle.bao_files.proofs.Results.{with_right}
 
--- what writing an encoding says, in the words of the program
+-- what writing an encoding says, as a fault of the program
 pub encodes : (mode : Mode) (kind : Encoding) (bytes : List ℕ) (file path : Bor (List ℕ)) (old new : Option (List ℕ))
     (written : Result Hash WriteFault) (answer : Result Hash FileFault) → answer ≡ answer_at_path path written
     → IfOk written (λ h. h.0 ≡ hash mode bytes) → OnOk written (Appends old new (encoding_text mode kind bytes))

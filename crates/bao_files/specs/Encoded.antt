@@ -13,7 +13,7 @@ use Rattle.bao_files.specs.declared.fault.FileFault.{FileFault}
 use Rattle.bao_files.specs.declared.fault.FileFault.TheVariants.{Encoding, Memory, Read, Write}
 use Rattle.bao_text.specs.Texts.{combined_text, outboard_text, slice_text}
 
--- the text that is written
+-- the encoding that is written
 abbrev pub encoding_text : Mode → Kind → List ℕ → List ℕ
 encoding_text mode Combined bytes = combined_text mode bytes
 encoding_text mode Outboard bytes = outboard_text mode bytes
@@ -25,11 +25,11 @@ answer_at_path path (Ok answer) = Ok answer
 answer_at_path path (Err text.Memory) = Err Encoding
 answer_at_path path (Err (text.Writer written)) = Err (Write path)
 
--- a beginning of the text was written, and not all
+-- a beginning of the encoding was written, and not all
 abbrev pub AppendsPart : Option (List ℕ) → Option (List ℕ) → List ℕ → Type 0
 AppendsPart old new text = (n : ℕ) × (n < length text) × Appends old new (take n text)
 
--- the encoding of the bytes was written, and the answer is their hash; or nothing was written, for want of memory or
+-- the encoding of the bytes was written, and the answer is their hash; or nothing was written, out of memory or
 -- as the one path can't be read; or a beginning, as the other can't be written
 abbrev pub Encodes : Mode → Kind → List ℕ → Bor (List ℕ) → Bor (List ℕ) → Option (List ℕ) → Option (List ℕ) → Result Hash FileFault → Type 0
 Encodes mode kind bytes file path old new (Ok answer) = (answer.0 ≡ hash mode bytes) × Appends old new (encoding_text mode kind bytes)

@@ -20,7 +20,7 @@ digits_line bytes = encode_lower bytes ++ 10 ∷ []
 abbrev pub ok_line : ℕ → List ℕ
 ok_line n = codes "ok " ++ decimal n ++ 10 ∷ []
 
--- a beginning of the text was written, if anything
+-- a beginning of the encoding was written, if anything
 abbrev pub AppendsBeginning : Option (List ℕ) → Option (List ℕ) → List ℕ → Type 0
 AppendsBeginning old new text = (n : ℕ) × Appends old new (take n text)
 

@@ -13,10 +13,10 @@ pub enum FileFault<'a> {
     /// Standard output can't be written.
     #[error("cannot write output")]
     Output,
-    /// There was no memory for an encoding.
+    /// Out of memory for an encoding.
     #[error("401 memory")]
     Encoding,
-    /// There was no memory for something else.
+    /// Out of memory for something else.
     #[error("memory")]
     Memory,
 }

@@ -1,6 +1,6 @@
 ghost use Rattle.std.specs.Prelude.{◌≡◌, ℕ, List, [], ◌++◌, ◌≤◌, ◌⊎◌, length, IfErr, IfOk, IfSome, None, OnErr, OnOk};
 ghost use Rattle.std.specs.Io.KnownBytes.{Consumes, IsAtEnd, Keeps};
-ghost use Rattle.bao_files.specs.Reading.{Gains};
+ghost use Rattle.bao_files.specs.Reading.{AppendsTaken};
 
 use crate::fault::FileFault;
 use std::alloc::Global;
@@ -12,7 +12,7 @@ use std::rt::Files;
 // The most bytes that one read asks for.
 const READ_LEN: usize = 1 << 18;
 
-// A file of fewer bytes is worth neither threads nor reads at places.
+// A file of fewer bytes is worth neither threads nor positional reads.
 pub(crate) const LEAST_SHARED_LEN: u64 = 4 << 20;
 
 /// Why a reader was not read to its end.
@@ -37,9 +37,9 @@ impl ReadFault {
 // leaves the bytes as they were.
 fn read_some<R: Read>(reader: &mut R, bytes: &mut Vec<u8>) -> Result<usize, ReadFault>
     ensures ok { IfOk result (λ count. (taken : List ℕ) × (length taken ≡ count)
-        × Gains (R.remaining reader.old) (R.remaining reader.new) bytes.old.items bytes.new.items taken) }
+        × AppendsTaken (R.remaining reader.old) (R.remaining reader.new) bytes.old.items bytes.new.items taken) }
     ensures end { IfOk result (λ count. count ≡ 0 → IsAtEnd (R.remaining reader.new)) }
-    ensures err { OnErr result (Gains (R.remaining reader.old) (R.remaining reader.new) bytes.old.items bytes.new.items []) }
+    ensures err { OnErr result (AppendsTaken (R.remaining reader.old) (R.remaining reader.new) bytes.old.items bytes.new.items []) }
 {
     let start = bytes.len();
     if bytes.resize(start.saturating_add(READ_LEN), 0).is_err() {
@@ -64,7 +64,7 @@ fn read_some<R: Read>(reader: &mut R, bytes: &mut Vec<u8>) -> Result<usize, Read
 pub fn read_whole<R: Read>(reader: &mut R, bytes: &mut Vec<u8>) -> Result<(), ReadFault>
     ensures all { OnOk result (IfSome (R.remaining reader.old) (λ left. bytes.new.items ≡ bytes.old.items ++ left)) }
     ensures end { OnOk result (IsAtEnd (R.remaining reader.new)) }
-    ensures read { (taken : List ℕ) × Gains (R.remaining reader.old) (R.remaining reader.new) bytes.old.items bytes.new.items taken }
+    ensures read { (taken : List ℕ) × AppendsTaken (R.remaining reader.old) (R.remaining reader.new) bytes.old.items bytes.new.items taken }
 {
     'reads: loop {
         if read_some(reader, bytes)? == 0 {
@@ -78,7 +78,7 @@ pub fn read_whole<R: Read>(reader: &mut R, bytes: &mut Vec<u8>) -> Result<(), Re
 pub fn read_sized<R: Read>(reader: &mut R, size: u64, bytes: &mut Vec<u8>) -> Result<(), ReadFault>
     ensures all { OnOk result (IfSome (R.remaining reader.old) (λ left. bytes.new.items ≡ bytes.old.items ++ left)) }
     ensures end { OnOk result (IsAtEnd (R.remaining reader.new)) }
-    ensures read { (taken : List ℕ) × Gains (R.remaining reader.old) (R.remaining reader.new) bytes.old.items bytes.new.items taken }
+    ensures read { (taken : List ℕ) × AppendsTaken (R.remaining reader.old) (R.remaining reader.new) bytes.old.items bytes.new.items taken }
 {
     let room = usize::try_from(size)
         .unwrap_or(usize::MAX)

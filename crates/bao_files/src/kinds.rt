@@ -1,4 +1,4 @@
-/// Which part of a blob a text that is checked is of.
+/// Which part of a blob an encoding that is checked is of.
 #[derive(Clone, Copy, Debug)]
 pub enum Part {
     /// All of it: a combined encoding.
@@ -7,7 +7,7 @@ pub enum Part {
     Slice { start: u64, len: u64 },
 }
 
-/// Which text of a blob is written.
+/// Which encoding of a blob is written.
 #[derive(Clone, Copy, Debug)]
 pub enum Encoding {
     /// The combined encoding.

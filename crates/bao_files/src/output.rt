@@ -75,7 +75,7 @@ impl<R: Files> Write for LateFile<'_, R> {
     }
 }
 
-// Writes a text that was made, and answers the hash that was made with it.
+// Writes an encoding that was made, and answers the hash that was made with it.
 fn send<W: Write>(made: (Hash, Vec<u8>), out: &mut W) -> Result<Hash, WriteFault>
     ensures hash { IfOk result (λ h. h ≡ made.0) }
     ensures text { OnOk result (Appends (W.contents out.old) (W.contents out.new) made.1.items) }
@@ -86,7 +86,7 @@ fn send<W: Write>(made: (Hash, Vec<u8>), out: &mut W) -> Result<Hash, WriteFault
     Ok(hash)
 }
 
-// The same of a text that was made in parts.
+// The same of an encoding that was made in parts.
 fn send_all<W: Write>(made: (Hash, Vec<Vec<u8>>), out: &mut W) -> Result<Hash, WriteFault>
     ensures hash { IfOk result (λ h. h ≡ made.0) }
     ensures text { OnOk result (Appends (W.contents out.old) (W.contents out.new) (joined made.1.items)) }
@@ -100,7 +100,7 @@ fn send_all<W: Write>(made: (Hash, Vec<Vec<u8>>), out: &mut W) -> Result<Hash, W
 /// Writes this encoding of `bytes` in `mode` to `out`, and answers their hash.
 ///
 /// Answers `Memory` (401) where a growth was refused, with nothing written, and `Writer` (402) only where a
-/// write answered a fault or took no byte: then exactly the first `written` bytes of the text went out.
+/// write answered a fault or took no byte: then exactly the first `written` bytes of the encoding went out.
 pub fn write_encoding<W: Write>(
     alloc: Global,
     mode: &Mode,
@@ -120,7 +120,7 @@ pub fn write_encoding<W: Write>(
 }
 
 // The outboard encoding of the bytes of an input that is said to have `size` of them, and their hash. Where they are
-// few or not so many, and where a read or memory fails, there is none. The input is read at places, so that it is left
+// few or not so many, and where a read or memory fails, there is none. The input is read by position, so that it is left
 // where it stood.
 fn outboard_at_places<I: Source>(
     alloc: Global,
@@ -154,7 +154,7 @@ fn combined_at_places<R: Threads + Sync, I: Source + Sync>(
     combined_source(rt, alloc, mode, input, size, RANGES).ok()
 }
 
-// The answer of writing an encoding to the file at `path`, in the words of the program.
+// The answer of writing an encoding to the file at `path`, as a fault of the program.
 fn answer_at<'a>(written: Result<Hash, WriteFault>, path: &'a str) -> Result<Hash, FileFault<'a>>
     ensures { result ≡ answer_at_path path.entry written }
 {
@@ -169,13 +169,13 @@ fn answer_at<'a>(written: Result<Hash, WriteFault>, path: &'a str) -> Result<Has
 /// answers the hash.
 ///
 /// Where the input is said to have a `size` of at least 4 MiB and its combined or its outboard encoding is asked for,
-/// it is read at places and in pieces, so that the memory that this takes is the encoding's: 17/16 of the bytes, and a
+/// it is read by position and in pieces, so that the memory that this takes is the encoding's: 17/16 of the bytes, and a
 /// sixteenth. The combined one is made by several threads. If that gives no encoding, and for a slice, the input is read
 /// whole from where it stands, and what that meets is answered.
 ///
-/// Nothing was written after `Read` with the input's path, where a read answered a fault, nor for want of memory, which
-/// is `Memory` for the input's bytes and `Encoding` for the text. After `Write` with the other path exactly a beginning
-/// of the text was written, and not all.
+/// Nothing was written after `Read` with the input's path, where a read answered a fault, nor out of memory, which
+/// is `Memory` for the input's bytes and `Encoding` for the encoding. After `Write` with the other path exactly a beginning
+/// of the encoding was written, and not all.
 pub fn encode_input<'a, R: Threads + Sync + AllocGlobal, I: Read + Source + Sync, W: Write>(
     rt: &R,
     mode: &Mode,
@@ -209,7 +209,7 @@ pub fn encode_input<'a, R: Threads + Sync + AllocGlobal, I: Read + Source + Sync
 /// Writes this encoding in `mode` of the file at `file` to the file at `path`, made anew, and answers the hash. How far a
 /// file that is said to have at least 4 MiB has been read is told to `progress`, which has no part in the answer.
 ///
-/// After `Read`, where the file can't be opened or read, and after `Memory` and `Encoding`, for want of memory, the
+/// After `Read`, where the file can't be opened or read, and after `Memory` and `Encoding`, out of memory, the
 /// path is as it was. After `Write` a beginning of the encoding may stand there.
 pub fn encode_file<'a, R: Files<File = File> + AllocGlobal + Threads + Sync, P: Progress + Sync>(
     rt: &R,

@@ -98,7 +98,7 @@ pub fn print_reader<'a, R: Read, W: Write>(
 }
 
 // The hash of the bytes of an input that is said to have `len` of them, on several threads. Where it hasn't, and
-// where a read or memory fails, there is none. The input is read at places, so that it is left where it stood.
+// where a read or memory fails, there is none. The input is read by position, so that it is left where it stood.
 fn shared_hash<R: AllocGlobal + Threads + Sync, I: Source + Sync>(
     rt: &R,
     mode: &Mode,
@@ -111,7 +111,7 @@ fn shared_hash<R: AllocGlobal + Threads + Sync, I: Source + Sync>(
     hash_source(rt, rt.alloc(), mode, input, len?, RANGES).ok()
 }
 
-/// As `print_reader`, of an input that can also be read at places. Where it is said to have `len_hint` bytes and its
+/// As `print_reader`, of an input that can also be read by position. Where it is said to have `len_hint` bytes and its
 /// hash is asked for, it is read on several threads first, each in pieces of its own. If that gives no hash, it is
 /// read from where it stands on one thread, and what that meets is answered.
 pub fn print_input<'a, R: AllocGlobal + Threads + Sync, I: Read + Source + Sync, W: Write>(

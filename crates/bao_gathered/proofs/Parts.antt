@@ -21,7 +21,7 @@ part_is blob rest new at n within is =
     let size : length (take n (drop at blob)) ≡ n = length-take-le n (drop at blob) (omega (arith, length-drop at blob, within)) in
     ap (λ (xs : List ℕ). take n xs) is ∙ take_at (take n (drop at blob)) rest n size
 
--- more of the text was written
+-- more of it was written
 pub more_written : (old mid out : Option (List ℕ)) (blob rest new : List ℕ) (at n : ℕ) → n ≤ length blob - at → new ≡ take n (drop at blob) ++ rest
     → Appends old mid (take at blob) → Appends mid out (take n new) → Appends old out (take (at + n) blob)
 more_written old mid out blob rest new at n within is before now =
@@ -46,7 +46,7 @@ part_written old mid out blob rest new at n (Writer w) within is before wrote =
 pub all_begin : (old out : Option (List ℕ)) (text : List ℕ) → Appends old out text → AppendsBeginning old out text
 all_begin old out text is = (length text, subst (λ (xs : List ℕ). Appends old out xs) (sym (take_all (length text) text (omega arith))) is)
 
--- What was found was written, or couldn't be: so this blob was written out, unless a pair is named.
+-- What was found was written, or couldn't be: so this blob was written out, unless a collision is exhibited.
 pub written_out : (handed : Piece → Type 0) (fixed : Fixed) (how : Gathering) (path : Bor (List ℕ)) (blob found : List ℕ) (old new : Option (List ℕ))
     (result : Result ℕ GatheredFault) → (found ≡ blob) ⊎ HasPair handed fixed blob → IfOk result (λ count. count ≡ length found)
     → OnOk result (Appends old new (gathered_text how.encode fixed.mode found))

@@ -22,7 +22,7 @@ use Rattle.bao_gathered.specs.declared.fault.GatheredFault.TheVariants.{File, Ga
 use Rattle.bao_gathered.specs.declared.gathering.Gathering.{Gathering}
 use Rattle.bao_files.specs.Printed.{AppendsBeginning}
 
--- the text that is written of a gathered blob: its combined encoding, or its bytes
+-- what is written of a gathered blob: its combined encoding, or its bytes
 abbrev pub gathered_text : Bool → Mode → List ℕ → List ℕ
 gathered_text encode mode blob = if encode then combined_text mode blob else blob
 
@@ -30,11 +30,11 @@ gathered_text encode mode blob = if encode then combined_text mode blob else blo
 abbrev pub IsGathered : Gathering → Mode → List ℕ → List ℕ → Type 0
 IsGathered how mode root blob = (hash mode blob ≡ root) × (length blob ≤ 1024 * how.capacity)
 
--- there was no memory for the text, and nothing was written, or writing to this path failed, and a beginning of it was
+-- there was no memory for the encoding, and nothing was written, or writing to this path failed, and a beginning of it was
 abbrev pub IsUnwritten : Bor (List ℕ) → List ℕ → Option (List ℕ) → Option (List ℕ) → FileFault → Type 0
 IsUnwritten path text old new fault = ((fault ≡ Encoding) × Keeps old new) ⊎ ((fault ≡ Write path) × AppendsBeginning old new text)
 
--- there was no memory to read the blob from its store, or for its text, and nothing was written; or writing to this path failed, and
+-- there was no memory to read the blob from its store, or for its encoding, and nothing was written; or writing to this path failed, and
 -- a beginning of it was
 abbrev pub IsUnwrittenWhole : Bor (List ℕ) → List ℕ → Option (List ℕ) → Option (List ℕ) → GatheredFault → Type 0
 IsUnwrittenWhole path text old new fault =
@@ -63,13 +63,13 @@ IsExcused (File fault) = Unit {0}
 IsExcused (Outboard fault) = ⊥
 IsExcused (Gather fault) = IsExcusedOfCrews fault
 
--- this blob's text was written, or the fault isn't one of what was gathered from, or a pair is named from the blob and a piece
+-- this blob's text was written, or the fault isn't one of what was gathered from, or a collision is exhibited from the blob and a piece
 -- that was handed over
 abbrev pub IsWrittenOut : (Piece → Type 0) → Fixed → Gathering → List ℕ → Option (List ℕ) → Option (List ℕ) → Result ℕ GatheredFault → Type 0
 IsWrittenOut handed fixed how blob old new result =
     MatchResult result (λ count. (count ≡ length blob) × Appends old new (gathered_text how.encode fixed.mode blob)) IsExcused ⊎ HasPair handed fixed blob
 
--- a text was accepted as the outboard encoding of a blob with this root
+-- an encoding was accepted as the outboard encoding of a blob with this root
 abbrev pub HasOutline : Mode → List ℕ → Type 0
 HasOutline mode root = (text : List ℕ) × IsAccepted mode root text (outboard_nodes text)
 

@@ -18,7 +18,7 @@ groups_within capacity n = (chunk_count (min n (1024 * capacity)) + 63) / 64
 abbrev pub groups_of : ℕ → List ℕ → ℕ
 groups_of capacity text = if nat_lt (length text) 8 then 1 else groups_within capacity (claimed text)
 
--- the slice of a group, as it is cut out of a text
+-- the slice of a group, as it is cut out of an encoding
 abbrev pub group_cut : List ℕ → ℕ → List ℕ
 group_cut text g = cut_text text (65536 * g) 65536
 

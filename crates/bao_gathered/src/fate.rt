@@ -9,7 +9,7 @@ pub enum Fate {
     Taken(Option<Worth>),
     /// It can't be opened or read.
     Unread,
-    /// There was no memory for it.
+    /// Out of memory for it.
     Starved,
     /// The work ended before it was opened: it isn't a regular file, and the regular ones ended the work, or the outboard
     /// encoding did.

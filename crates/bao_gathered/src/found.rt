@@ -14,7 +14,7 @@ use gather::GatherFault;
 use std::alloc::Global;
 use std::io::Write;
 
-// There was no memory to read a blob from its store.
+// Out of memory for reading a blob from its store.
 const NO_MEMORY: CrewsFault = CrewsFault::Gather(GatherFault::Memory);
 
 // Writes the bytes of a blob from its store, as many at a time as the part has room for.

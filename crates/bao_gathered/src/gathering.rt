@@ -187,16 +187,16 @@ pub(crate) fn write_whole<'a, W: Write>(
     Ok(blob.len() as u64)
 }
 
-/// Gathers the blob with this root out of the texts, each a combined encoding from a holder that nobody trusts,
+/// Gathers the blob with this root out of the encodings, each a combined encoding from a holder that nobody trusts,
 /// writes it, or its combined encoding, to `out`, which is flushed, and answers how many bytes the blob has.
 ///
 /// Nothing is written before the blob was verified. After `Gather`, where no blob with this root and at most
 /// `capacity` chunks came together, and after `File` with `Encoding`, where there was no memory for the encoding, nothing was
-/// written; after `File` with `Write` and the path a beginning of the text may stand.
+/// written; after `File` with `Write` and the path a beginning of the encoding may stand.
 ///
-/// Where one of the texts is the combined encoding of a blob with the root, of at most `capacity` chunks, that blob is
-/// written, or there was no memory, or writing failed, or two different inputs with one chaining value are named, one of
-/// the blob's and one of a slice's that is cut out of one of the texts. Nor need any text be whole, as `crews::gather_texts`
+/// Where one of the encodings is the combined encoding of a blob with the root, of at most `capacity` chunks, that blob is
+/// written, or there was no memory, or writing failed, or a collision is exhibited, one input of
+/// the blob's and one of a slice's that is cut out of one of the encodings. Nor need any encoding be whole, as `crews::gather_texts`
 /// says.
 pub fn write_gathered<'a, R: AllocGlobal + Threads + Sync, W: Write>(
     rt: &R,
@@ -293,7 +293,7 @@ fn write_texts<'a, R: AllocGlobal + Threads + Sync, W: Write>(
     }
 }
 
-// Whether another holder's text might make the blob whole.
+// Whether another holder's encoding might make the blob whole.
 fn is_unfinished(fault: CrewsFault) -> bool {
     match fault {
         CrewsFault::Store | CrewsFault::Seat => false,
@@ -304,7 +304,7 @@ fn is_unfinished(fault: CrewsFault) -> bool {
     }
 }
 
-// The fault after which another holder's text might make the blob whole, if the work ended with such a one.
+// The fault after which another holder's encoding might make the blob whole, if the work ended with such a one.
 pub(crate) fn unfinished_by(ended: &Result<u64, GatheredFault<'_>>) -> Option<CrewsFault> {
     match ended {
         Err(GatheredFault::Gather(fault)) if is_unfinished(*fault) => Some(*fault),

@@ -32,11 +32,11 @@ fn most_chunks(len: u64) -> u32 {
     u32::try_from(len / LEAST_LEN + 1).unwrap_or(u32::MAX)
 }
 
-/// As `write_gathered`, out of sources that are read at places, as files are: what they have takes no memory but for the
+/// As `write_gathered`, out of sources that are read by position, as files are: what they have takes no memory but for the
 /// slices that workers ask for. The store has room for `room` chunks at first, and for `capacity` where those are too few.
 /// The blob is written from that store, a part of 256 KiB at a time; with `encode` it is taken out first, into memory of its
 /// own. `Gather` with 903 is answered where there was none for the one or the other too, and nothing was written then. What is
-/// said of true texts is said of sources that never fail, where their bytes are known.
+/// said of true encodings is said of sources that never fail, where their bytes are known.
 pub fn write_sources<'a, R: AllocGlobal + Threads + Sync, S: Source + Sync, W: Write>(
     rt: &R,
     mode: &Mode,
@@ -75,7 +75,7 @@ pub fn write_sources<'a, R: AllocGlobal + Threads + Sync, S: Source + Sync, W: W
     write_found(alloc, mode, how.encode, blob, path, out)
 }
 
-/// As `write_beside`, out of plain copies that are read at places, as files are: what they have takes no memory but for the
+/// As `write_beside`, out of plain copies that are read by position, as files are: what they have takes no memory but for the
 /// parts that workers ask for. The blob is written from its store, as by `write_sources`.
 pub fn write_copies<'a, R: AllocGlobal + Threads + Sync, S: Source + Sync, W: Write>(
     rt: &R,

@@ -48,7 +48,7 @@ fn one_if(refused: bool) -> u32
     if refused { 1 } else { 0 }
 }
 
-// Whether the slice of a group, cut out of the text, is refused.
+// Whether the slice of a group, cut out of the encoding, is refused.
 fn refuses_cut(
     alloc: Global,
     mode: &Mode,
@@ -69,9 +69,9 @@ fn refuses_cut(
 /// What `text` is worth as a combined encoding of the blob with this root, in this mode: for each group the slice
 /// (65,536 * g, 65,536) is cut out of it, as a holder cuts it, and checked.
 ///
-/// The groups are those of the length that the text claims, and of no more chunks than `capacity`; a text of fewer than 8 bytes
+/// The groups are those of the length that the encoding claims, and of no more chunks than `capacity`; an encoding of fewer than 8 bytes
 /// claims none, and is asked for one group, which is refused. It takes memory for one slice at a time, and answers `Memory` (401) where
-/// there is none: no text is refused for want of it.
+/// there is none: no encoding is refused for want of it.
 pub fn worth_of_encoding(
     alloc: Global,
     mode: &Mode,

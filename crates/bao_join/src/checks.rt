@@ -12,7 +12,7 @@ use std::thread::Threads;
 ///
 /// A subtree with more than `grain` chunks of the slice is parted once its parent is verified, and its two parts
 /// are checked at once. So a fault is answered only after what was being checked beside it, and it is the first one in
-/// the order of the text all the same: 501 `Short`, 502 `Mismatch`, 503 `Trailing`. 504 and 505 never come.
+/// the order of the encoding all the same: 501 `Short`, 502 `Mismatch`, 503 `Trailing`. 504 and 505 never come.
 ///
 /// The grain is at least 1. The work of a thread that can't be started is done by another thread of the call. The
 /// call waits for the threads that it starts. It takes no memory of its own, and no byte is copied.

@@ -35,7 +35,7 @@ fn read_all<'a, R: Files + AllocGlobal>(
 /// empty store with room for `capacity` chunks of the blob with this root: the replies, and how many chunks are held then.
 ///
 /// Refuses the first line that has no form (`Script` with its number), a piece that isn't accepted and a step that isn't legal
-/// (`Replay`), and answers `File` with `Memory` for want of memory.
+/// (`Replay`), and answers `File` with `Memory` out of memory.
 pub fn replay_text<'a>(
     alloc: Global,
     mode: &Mode,
@@ -62,7 +62,7 @@ pub fn replay_text<'a>(
 
 /// Runs the schedule in the file `script` over pieces of the files, as `replay_text` says.
 ///
-/// Refuses, in the order of the words, a file that can't be read (`File` with `Read`), before all else.
+/// Refuses, in the order of the arguments, a file that can't be read (`File` with `Read`), before all else.
 pub fn replay_files<'a, R: Files + AllocGlobal>(
     rt: &R,
     mode: &Mode,

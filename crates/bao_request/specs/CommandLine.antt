@@ -150,7 +150,7 @@ pub record IsApp (app : App) (command : Command) : Type 0 where
   pub app_is : app_of command ≡ app
   pub globals : (out-Command command).has_globals ≡ false
 
--- the words, the program's name first, ask for this request
+-- the arguments, the program's name first, ask for this request
 abbrev pub AsksFor : List Text → Request → Type 0
 AsksFor words request = GivesRequest (subcommand_of program_app words) request
 
@@ -158,6 +158,6 @@ AsksFor words request = GivesRequest (subcommand_of program_app words) request
 abbrev pub IsHelp : ErrorKind → Type 0
 IsHelp kind = (kind ≡ DisplayHelp) ⊎ (kind ≡ DisplayVersion)
 
--- the words ask for help or the version
+-- the arguments ask for help or the version
 abbrev pub AsksForHelp : List Text → Type 0
 AsksForHelp words = (kind : ErrorKind) × IsHelp kind × IsAmong kind (fault_of program_app words)

@@ -1,4 +1,4 @@
--- what the words ask for: a request, from the rows that clap has of a subcommand's words (an
+-- what the arguments ask for: a request, from the rows that clap has of a subcommand's arguments (an
 -- option's or a place's name, with its text)
 use Rattle.std.specs.Prelude.{◌≡◌, ◌↔◌, ℕ, Bool, true, List, Option, Some, None, codes, map}
 use Rattle.std.specs.Option.{option_copied}

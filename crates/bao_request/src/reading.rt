@@ -11,7 +11,7 @@ use clap::error::ErrorKind;
 use clap::{ArgMatches, Error};
 use std::alloc::{AllocError, Global};
 
-// The text of the word `id`.
+// The text of the argument `id`.
 fn text<'a>(words: &ArgMatches<'a>, id: &str) -> Option<&'a str>
     ensures value { option_copied result ≡ first_of id.now (rows_of (found_of words.now)) }
     ensures some { IfSome result (λ text. GivesText (rows_of (found_of words.now)) id.now text.now) }
@@ -19,21 +19,21 @@ fn text<'a>(words: &ArgMatches<'a>, id: &str) -> Option<&'a str>
     words.get_str(id)
 }
 
-// The number of the word `id`.
+// The number of the argument `id`.
 fn number(words: &ArgMatches<'_>, id: &str) -> Option<u64>
     ensures { IfSome result (GivesNumber (rows_of (found_of words.now)) id.now) }
 {
     words.get_one(id)
 }
 
-// The number of the word `id`, where it has 32 bits.
+// The number of the argument `id`, where it has 32 bits.
 fn count(words: &ArgMatches<'_>, id: &str) -> Option<u32>
     ensures { IfSome result (GivesNumber (rows_of (found_of words.now)) id.now) }
 {
     u32::try_from(number(words, id)?).ok()
 }
 
-// The range that the words START and LEN give.
+// The range that the arguments START and LEN give.
 fn range(words: &ArgMatches<'_>) -> Option<(u64, u64)>
     ensures { IfSome result (λ range. GivesRange (rows_of (found_of words.now)) range.0 range.1) }
 {
@@ -101,14 +101,14 @@ fn flag(words: &ArgMatches<'_>, id: &str) -> bool
     matches!(text(words, id), Some("true"))
 }
 
-// The texts of the word `id`, all of them.
+// The texts of the argument `id`, all of them.
 fn texts<'m, 'a>(words: &'m ArgMatches<'a>, id: &str) -> Option<&'m [&'a str]>
     ensures { IfSome result (λ texts. GivesTexts (rows_of (found_of words.now)) id.now texts.now) }
 {
     words.get_strs(id)
 }
 
-// The task of gathering, where its words are all there.
+// The task of gathering, where its arguments are all there.
 fn gather_of<'a>(alloc: Global, words: &ArgMatches<'a>) -> Result<Option<Task<'a>>, AllocError>
     ensures { IfOk result (λ task. IfSome task (GivesTask (codes "gather") (rows_of (found_of words.now)))) }
 {
@@ -134,7 +134,7 @@ fn gather_of<'a>(alloc: Global, words: &ArgMatches<'a>) -> Result<Option<Task<'a
     }))
 }
 
-// The task of running a schedule, where its words are all there.
+// The task of running a schedule, where its arguments are all there.
 fn replay_of<'a>(alloc: Global, words: &ArgMatches<'a>) -> Result<Option<Task<'a>>, AllocError>
     ensures { IfOk result (λ task. IfSome task (GivesTask (codes "replay") (rows_of (found_of words.now)))) }
 {
@@ -156,7 +156,7 @@ fn replay_of<'a>(alloc: Global, words: &ArgMatches<'a>) -> Result<Option<Task<'a
     }))
 }
 
-// The task of a subcommand's words on one file, where they are all there.
+// The task of a subcommand's arguments on one file, where they are all there.
 fn file_task_of<'a>(name: &str, words: &ArgMatches<'a>) -> Option<Task<'a>>
     ensures { IfSome result (GivesTask name.now (rows_of (found_of words.now))) }
 {
@@ -177,7 +177,7 @@ fn file_task_of<'a>(name: &str, words: &ArgMatches<'a>) -> Option<Task<'a>>
     }
 }
 
-// The task of a subcommand's words, where they are all there.
+// The task of a subcommand's arguments, where they are all there.
 fn task_of<'a>(
     alloc: Global,
     name: &str,
@@ -192,7 +192,7 @@ fn task_of<'a>(
     }
 }
 
-// What the words of a subcommand ask for, where they are all there.
+// What the arguments of a subcommand ask for, where they are all there.
 fn request_of<'a>(
     alloc: Global,
     matches: &ArgMatches<'a>,
@@ -212,7 +212,7 @@ fn request_of<'a>(
     }))
 }
 
-// What `clap` finds in the words.
+// What `clap` finds in the arguments.
 fn matches_of<'a>(alloc: Global, words: &'a [String]) -> Result<ArgMatches<'a>, Error>
     ensures rows { IfOk result (λ matches. subcommand_rows_of matches ≡ subcommand_of program_app (map string_bytes words.entry.now)) }
     ensures help { IfErr result (λ error. IsHelp (kind_of error) → AsksForHelp (map string_bytes words.entry.now)) }
@@ -221,14 +221,14 @@ fn matches_of<'a>(alloc: Global, words: &'a [String]) -> Result<ArgMatches<'a>, 
     program.try_get_matches_from(words)
 }
 
-// The answer to words that are not all there, which `clap` lets through none of.
+// The answer to arguments that are not all there, which `clap` lets through none of.
 fn incomplete(alloc: Global) -> Result<Error, AllocError>
     ensures { IfOk result (λ error. kind_of error ≡ ErrorKind.MissingSubcommand) }
 {
     program(alloc)?.error(ErrorKind::MissingSubcommand, "a command is missing")
 }
 
-/// Reads the words, the program's name first. What `clap` refuses comes back as its error, as do
+/// Reads the arguments, the program's name first. What `clap` refuses comes back as its error, as do
 /// asked-for help and version.
 pub fn parse<'a>(alloc: Global, words: &'a [String]) -> Result<Request<'a>, Error>
     ensures request { IfOk result (AsksFor (map string_bytes words.entry.now)) }

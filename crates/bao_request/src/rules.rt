@@ -109,7 +109,7 @@ fn hash_command<'a>(alloc: Global) -> Result<Command<'a>, AllocError>
     with_mode(alloc, command)
 }
 
-// The command with the words FILE and OUT, and those of the mode.
+// The command with the arguments FILE and OUT, and those of the mode.
 fn with_files<'a>(alloc: Global, command: Command<'a>) -> Result<Command<'a>, AllocError>
     requires { (out-Command command).has_globals ≡ false }
     ensures { IfOk result (IsApp (with_file_rules (app_of command.entry))) }
@@ -147,7 +147,7 @@ fn slice_command<'a>(alloc: Global) -> Result<Command<'a>, AllocError>
     with_files(alloc, command)
 }
 
-// The command with the words ROOT, ENC and OUT, and those of the mode.
+// The command with the arguments ROOT, ENC and OUT, and those of the mode.
 fn with_encoding<'a>(alloc: Global, command: Command<'a>) -> Result<Command<'a>, AllocError>
     requires { (out-Command command).has_globals ≡ false }
     ensures { IfOk result (IsApp (with_encoding_rules (app_of command.entry))) }
@@ -174,7 +174,7 @@ fn decode_command<'a>(alloc: Global) -> Result<Command<'a>, AllocError>
     with_encoding(alloc, command)
 }
 
-// The command with the words ROOT, START and LEN.
+// The command with the arguments ROOT, START and LEN.
 fn with_range<'a>(alloc: Global, command: Command<'a>) -> Result<Command<'a>, AllocError>
     requires { (out-Command command).has_globals ≡ false }
     ensures { IfOk result (IsApp (with_range_rules (app_of command.entry))) }
@@ -185,7 +185,7 @@ fn with_range<'a>(alloc: Global, command: Command<'a>) -> Result<Command<'a>, Al
     command.arg(root)?.arg(start)?.arg(len)
 }
 
-// The command with the words SLICE and OUT, and those of the mode.
+// The command with the arguments SLICE and OUT, and those of the mode.
 fn with_slice<'a>(alloc: Global, command: Command<'a>) -> Result<Command<'a>, AllocError>
     requires { (out-Command command).has_globals ≡ false }
     ensures { IfOk result (IsApp (with_slice_rules (app_of command.entry))) }
@@ -265,7 +265,7 @@ fn files_place<'a>(alloc: Global, help: &'a str) -> Arg<'a>
     place(alloc, "FILE", help).num_args(1..)
 }
 
-// The command with the words ROOT, OUT and FILE.., and those of the mode.
+// The command with the arguments ROOT, OUT and FILE.., and those of the mode.
 fn with_holders<'a>(alloc: Global, command: Command<'a>) -> Result<Command<'a>, AllocError>
     requires { (out-Command command).has_globals ≡ false }
     ensures { IfOk result (IsApp (with_holders_rules (app_of command.entry))) }
@@ -305,7 +305,7 @@ fn gather_command<'a>(alloc: Global) -> Result<Command<'a>, AllocError>
     with_holders(alloc, command)
 }
 
-// The command with the words ROOT, SCRIPT and FILE.., and those of the mode.
+// The command with the arguments ROOT, SCRIPT and FILE.., and those of the mode.
 fn with_script<'a>(alloc: Global, command: Command<'a>) -> Result<Command<'a>, AllocError>
     requires { (out-Command command).has_globals ≡ false }
     ensures { IfOk result (IsApp (with_script_rules (app_of command.entry))) }

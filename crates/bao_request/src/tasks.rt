@@ -1,6 +1,6 @@
 use bao_files::{Encoding, Part};
 
-/// What the words ask for.
+/// What the arguments ask for.
 #[derive(Debug, Drop)]
 pub struct Request<'a> {
     /// The text of `--key`.
@@ -10,7 +10,7 @@ pub struct Request<'a> {
     pub task: Task<'a>,
 }
 
-/// A command with its words.
+/// A command with its arguments.
 #[derive(Debug, Drop)]
 pub enum Task<'a> {
     /// `length` bytes, 1 to 65,536, of a file's extended output, from byte `at` on.

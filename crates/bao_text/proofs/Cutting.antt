@@ -3,30 +3,30 @@ use Rattle.std.proofs.Common.{◌≡◌, ℕ, List, [], ◌∷◌, ◌++◌, tak
 use Rattle.std.proofs.lemmas.Bool.{cases_Bool}
 use Rattle.std.proofs.lemmas.List.{append-nil, append_assoc}
 use Rattle.bao_text.specs.Cut.{cut_nodes, has, has_all}
-use Rattle.bao_text.specs.Nodes.{Node, size}
+use Rattle.bao_text.specs.Nodes.{TreeNode, size}
 
-has_all-cons : (text : List ℕ) (node : Node) (rest : List Node) → has text node ≡ true → has_all text (node ∷ rest) ≡ has_all text rest
+has_all-cons : (text : List ℕ) (node : TreeNode) (rest : List TreeNode) → has text node ≡ true → has_all text (node ∷ rest) ≡ has_all text rest
 has_all-cons text node rest there = rw there refl
 
-has_all-missing : (text : List ℕ) (node : Node) (rest : List Node) → has text node ≡ false → has_all text (node ∷ rest) ≡ false
+has_all-missing : (text : List ℕ) (node : TreeNode) (rest : List TreeNode) → has text node ≡ false → has_all text (node ∷ rest) ≡ false
 has_all-missing text node rest gone = rw gone refl
 
-cut_nodes-cons : (text : List ℕ) (node : Node) (rest : List Node) → has text node ≡ true
+cut_nodes-cons : (text : List ℕ) (node : TreeNode) (rest : List TreeNode) → has text node ≡ true
     → cut_nodes text (node ∷ rest) ≡ take (size node) (drop node.source text) ++ cut_nodes text rest
 cut_nodes-cons text node rest there = rw there refl
 
-cut_nodes-missing : (text : List ℕ) (node : Node) (rest : List Node) → has text node ≡ false → cut_nodes text (node ∷ rest) ≡ drop node.source text
+cut_nodes-missing : (text : List ℕ) (node : TreeNode) (rest : List TreeNode) → has text node ≡ false → cut_nodes text (node ∷ rest) ≡ drop node.source text
 cut_nodes-missing text node rest gone = rw gone refl
 
 -- where the first nodes are all there, the others follow
-pub has_all-append : (text : List ℕ) (xs ys : List Node) → has_all text xs ≡ true → has_all text (xs ++ ys) ≡ has_all text ys
+pub has_all-append : (text : List ℕ) (xs ys : List TreeNode) → has_all text xs ≡ true → has_all text (xs ++ ys) ≡ has_all text ys
 has_all-append text [] ys all = refl
 has_all-append text (x ∷ xs) ys all = elim (cases_Bool (has text x)) [
   | inl there ↦ has_all-cons text x (xs ++ ys) there ∙ has_all-append text xs ys (sym (has_all-cons text x xs there) ∙ all)
   | inr gone ↦ let bad : false ≡ true = sym (has_all-missing text x xs gone) ∙ all in cc
 ]
 
-pub cut_nodes-append : (text : List ℕ) (xs ys : List Node) → has_all text xs ≡ true → cut_nodes text (xs ++ ys) ≡ cut_nodes text xs ++ cut_nodes text ys
+pub cut_nodes-append : (text : List ℕ) (xs ys : List TreeNode) → has_all text xs ≡ true → cut_nodes text (xs ++ ys) ≡ cut_nodes text xs ++ cut_nodes text ys
 cut_nodes-append text [] ys all = refl
 cut_nodes-append text (x ∷ xs) ys all = elim (cases_Bool (has text x)) [
   | inl there ↦
@@ -39,14 +39,14 @@ cut_nodes-append text (x ∷ xs) ys all = elim (cases_Bool (has text x)) [
 ]
 
 -- and where they aren't, the others count for nothing
-pub has_all-append_short : (text : List ℕ) (xs ys : List Node) → has_all text xs ≡ false → has_all text (xs ++ ys) ≡ false
+pub has_all-append_short : (text : List ℕ) (xs ys : List TreeNode) → has_all text xs ≡ false → has_all text (xs ++ ys) ≡ false
 has_all-append_short text [] ys short = let bad : true ≡ false = short in cc
 has_all-append_short text (x ∷ xs) ys short = elim (cases_Bool (has text x)) [
   | inl there ↦ has_all-cons text x (xs ++ ys) there ∙ has_all-append_short text xs ys (sym (has_all-cons text x xs there) ∙ short)
   | inr gone ↦ has_all-missing text x (xs ++ ys) gone
 ]
 
-pub cut_nodes-append_short : (text : List ℕ) (xs ys : List Node) → has_all text xs ≡ false → cut_nodes text (xs ++ ys) ≡ cut_nodes text xs
+pub cut_nodes-append_short : (text : List ℕ) (xs ys : List TreeNode) → has_all text xs ≡ false → cut_nodes text (xs ++ ys) ≡ cut_nodes text xs
 cut_nodes-append_short text [] ys short = let bad : true ≡ false = short in cc
 cut_nodes-append_short text (x ∷ xs) ys short = elim (cases_Bool (has text x)) [
   | inl there ↦
@@ -57,39 +57,39 @@ cut_nodes-append_short text (x ∷ xs) ys short = elim (cases_Bool (has text x))
 ]
 
 -- one node
-pub has_all-one : (text : List ℕ) (x : Node) → has_all text (x ∷ []) ≡ has text x
+pub has_all-one : (text : List ℕ) (x : TreeNode) → has_all text (x ∷ []) ≡ has text x
 has_all-one text x = elim (cases_Bool (has text x)) [
   | inl there ↦ has_all-cons text x [] there ∙ sym there
   | inr gone ↦ has_all-missing text x [] gone ∙ sym gone
 ]
 
-pub cut_nodes-one : (text : List ℕ) (x : Node) → cut_nodes text (x ∷ []) ≡ (if has text x then take (size x) (drop x.source text) else drop x.source text)
+pub cut_nodes-one : (text : List ℕ) (x : TreeNode) → cut_nodes text (x ∷ []) ≡ (if has text x then take (size x) (drop x.source text) else drop x.source text)
 cut_nodes-one text x = elim (cases_Bool (has text x)) [
   | inl there ↦ cut_nodes-cons text x [] there ∙ append-nil (take (size x) (drop x.source text)) ∙ rw there refl
   | inr gone ↦ cut_nodes-missing text x [] gone ∙ rw gone refl
 ]
 
 -- a parent x and the nodes of its parts: the parent isn't wholly there
-pub none_whole : (text : List ℕ) (x : Node) (xs ys : List Node) → has text x ≡ false → has_all text (x ∷ (xs ++ ys)) ≡ false
+pub none_whole : (text : List ℕ) (x : TreeNode) (xs ys : List TreeNode) → has text x ≡ false → has_all text (x ∷ (xs ++ ys)) ≡ false
 none_whole text x xs ys gone = has_all-missing text x (xs ++ ys) gone
 
-pub none_cut : (text : List ℕ) (x : Node) (xs ys : List Node) → has text x ≡ false → cut_nodes text (x ∷ (xs ++ ys)) ≡ drop x.source text
+pub none_cut : (text : List ℕ) (x : TreeNode) (xs ys : List TreeNode) → has text x ≡ false → cut_nodes text (x ∷ (xs ++ ys)) ≡ drop x.source text
 none_cut text x xs ys gone = cut_nodes-missing text x (xs ++ ys) gone
 
 -- the left part isn't
-pub left_whole : (text : List ℕ) (x : Node) (xs ys : List Node) → has text x ≡ true → has_all text xs ≡ false → has_all text (x ∷ (xs ++ ys)) ≡ false
+pub left_whole : (text : List ℕ) (x : TreeNode) (xs ys : List TreeNode) → has text x ≡ true → has_all text xs ≡ false → has_all text (x ∷ (xs ++ ys)) ≡ false
 left_whole text x xs ys there short = has_all-cons text x (xs ++ ys) there ∙ has_all-append_short text xs ys short
 
-pub left_cut : (text : List ℕ) (x : Node) (xs ys : List Node) → has text x ≡ true → has_all text xs ≡ false
+pub left_cut : (text : List ℕ) (x : TreeNode) (xs ys : List TreeNode) → has text x ≡ true → has_all text xs ≡ false
     → cut_nodes text (x ∷ (xs ++ ys)) ≡ take (size x) (drop x.source text) ++ cut_nodes text xs
 left_cut text x xs ys there short =
     cut_nodes-cons text x (xs ++ ys) there ∙ ap (λ (b : List ℕ). take (size x) (drop x.source text) ++ b) (cut_nodes-append_short text xs ys short)
 
 -- both are there
-pub both_whole : (text : List ℕ) (x : Node) (xs ys : List Node) → has text x ≡ true → has_all text xs ≡ true → has_all text (x ∷ (xs ++ ys)) ≡ has_all text ys
+pub both_whole : (text : List ℕ) (x : TreeNode) (xs ys : List TreeNode) → has text x ≡ true → has_all text xs ≡ true → has_all text (x ∷ (xs ++ ys)) ≡ has_all text ys
 both_whole text x xs ys there all = has_all-cons text x (xs ++ ys) there ∙ has_all-append text xs ys all
 
-pub both_cut : (text : List ℕ) (x : Node) (xs ys : List Node) → has text x ≡ true → has_all text xs ≡ true
+pub both_cut : (text : List ℕ) (x : TreeNode) (xs ys : List TreeNode) → has text x ≡ true → has_all text xs ≡ true
     → cut_nodes text (x ∷ (xs ++ ys)) ≡ take (size x) (drop x.source text) ++ (cut_nodes text xs ++ cut_nodes text ys)
 both_cut text x xs ys there all =
     cut_nodes-cons text x (xs ++ ys) there ∙ ap (λ (b : List ℕ). take (size x) (drop x.source text) ++ b) (cut_nodes-append text xs ys all)

@@ -1,4 +1,4 @@
--- The text of eight whole chunks is what their parents give.
+-- The encoding of eight whole chunks is what their parents give.
 use Rattle.std.proofs.Common.{◌≡◌, ℕ, ◌+◌, ◌*◌, ◌/◌, ◌^◌, ◌<◌, ◌≤◌, max, List, ◌++◌, length, take, drop, true, refl, sym, ap, subst, ◌∙◌, arith, inl, inr, pow_pos, length-drop}
 use Rattle.std.specs.Int.{IsPowerOfTwo}
 use Rattle.std.proofs.lemmas.Bool.{and_from, cases_Bool, lt-ltb}
@@ -44,7 +44,7 @@ piece-right s a n =
     ∙ drop-take (1024 * n) (1024 * n) (drop (1024 * a) s)
     ∙ ap (take (1024 * n)) (drop-drop (1024 * n) (1024 * a) s ∙ ap (λ (k : ℕ). drop k s) at)
 
--- the text of the n chunks that begin a chunks on
+-- the encoding of the n chunks that begin a chunks on
 abbrev text_at : Choice → Mode → ℕ → List ℕ → ℕ → ℕ → List ℕ
 text_at choice mode first s n a = subtree_text choice mode (first + a) (piece s (1024 * a) (1024 * n))
 
@@ -100,7 +100,7 @@ text-four choice mode first s a at place fits all =
     ++ (text-pair choice mode first s a at place (omega arith) all i
     ++ text-pair choice mode first s (a + 2) (at + 2048) (omega arith) (omega arith) all i))
 
--- the text of all eight
+-- the encoding of all eight
 pub text-eight : (choice : Choice) (mode : Mode) (first : ℕ) (s : List ℕ) → length s ≡ 8192 → Covers choice (1024 * first) (length s)
     → eight_text choice (eight_parents mode first s) s ≡ subtree_text choice mode first s
 text-eight choice mode first s size all =

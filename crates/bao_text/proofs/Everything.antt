@@ -1,4 +1,4 @@
--- A choice of everything: the sizes of its texts, and where a combined text has the bytes of each node.
+-- A choice of everything: the sizes of its encodings, and where a combined encoding has the bytes of each node.
 use Rattle.std.proofs.Common.{◌≡◌, ℕ, zero, suc, ◌+◌, ◌-◌, ◌*◌, ◌/◌, ◌<◌, ◌≤◌, max, List, [], ◌∷◌, ◌++◌, length, take, drop, true, if◌then◌else◌, refl, sym, ap, subst, ◌∙◌, arith, inl, inr, length-append, length-drop}
 use Rattle.std.specs.List.{flat_map}
 use Rattle.std.proofs.lemmas.Bool.{and_from, cases_Bool, cases_lt, le-leb, lt-ltb}
@@ -12,7 +12,7 @@ use Rattle.b3tree.proofs.HashOutput.{length-bytes_of, length-out}
 use Rattle.bao_text.specs.declared.choice.Choice.{Choice}
 use Rattle.bao_text.specs.Choice.{chunk_count, wants}
 use Rattle.bao_text.specs.Cut.{cut_nodes, has}
-use Rattle.bao_text.specs.Nodes.{Node, Side, left, right, size, subtree_nodes, subtree_size}
+use Rattle.bao_text.specs.Nodes.{TreeNode, Side, left, right, size, subtree_nodes, subtree_size}
 use Rattle.bao_text.specs.Texts.{chunk_text, node_text, parent_text, subtree_text}
 use Rattle.bao_text.proofs.SubtreeNodes.{subtree_nodes-leaf, subtree_nodes-parent, subtree_nodes-unwanted}
 use Rattle.bao_text.proofs.SubtreeText.{Parts, left_len-Parts, subtree_text-leaf, subtree_text-parent}
@@ -21,7 +21,7 @@ use Rattle.bao_text.proofs.TextNodes.{length-span, span, span-left, span-right, 
 length-cv : (x : Input) → length (cv x) ≡ 8
 length-cv x = length-take-le 8 (out x) (omega (arith, length-out x))
 
--- a parent's text has 64 bytes
+-- a parent's encoding has 64 bytes
 pub length-parent_text : (mode : Mode) (first : ℕ) (s : List ℕ) → length (parent_text mode first s) ≡ 64
 length-parent_text mode first s =
     let l : ℕ = left_len (length s) in
@@ -38,7 +38,7 @@ pub wants_all : (choice : Choice) (at n : ℕ) → choice.start ≡ 0 → at < c
 wants_all choice at n start below =
     and_from _ _ (lt-ltb at choice.end below) (lt-ltb choice.start (at + max n 1) (omega arith))
 
--- the bytes of n that a choice's text has as chunks
+-- the bytes of n that a choice's encoding has as chunks
 abbrev pub chunk_part : Choice → ℕ → ℕ
 chunk_part choice n = if choice.chunks then n else 0
 
@@ -92,12 +92,12 @@ length-subtree_text (suc levels) choice mode first s hs start below fits = elim 
       ∙ all ∙ (let sum : 64 + (length a + length b) ≡ chunk_part choice n + 64 * (chunk_count n - 1) = omega (arith, parts.some) in sum)
 ]
 
--- how long the text of a whole blob is, for a choice of all positions
+-- how long the encoding of a whole blob is, for a choice of all positions
 pub length-everything : (choice : Choice) (mode : Mode) (blob : List ℕ) → choice.start ≡ 0 → choice.end ≡ max (length blob) 1
     → length (subtree_text choice mode 0 blob) ≡ chunk_part choice (length blob) + 64 * (chunk_count (length blob) - 1)
 length-everything choice mode blob start end = length-subtree_text (length blob) choice mode 0 blob (omega arith) start (omega arith) (omega arith)
 
--- the text has the bytes x from place `at` on
+-- the encoding has the bytes x from place `at` on
 pub record At (text : List ℕ) (at : ℕ) (x : List ℕ) : Type 0 where
   pub before : List ℕ
   pub after : List ℕ
@@ -121,34 +121,34 @@ At_rest text at n x y size h = record {
 }
 
 -- what is at a node's place is cut out whole
-At_has : (text : List ℕ) (node : Node) (x : List ℕ) → length x ≡ size node → At text node.source x → has text node ≡ true
+At_has : (text : List ℕ) (node : TreeNode) (x : List ℕ) → length x ≡ size node → At text node.source x → has text node ≡ true
 At_has text node x len h =
     let all : length text ≡ length h.before + (length x + length h.after) =
     ap length h.whole ∙ length-append h.before (x ++ h.after) ∙ ap (λ (n : ℕ). length h.before + n) (length-append x h.after) in
     le-leb (node.source + size node) (length text) (omega (arith, h.place))
 
-At_taken : (text : List ℕ) (node : Node) (x : List ℕ) → length x ≡ size node → At text node.source x → take (size node) (drop node.source text) ≡ x
+At_taken : (text : List ℕ) (node : TreeNode) (x : List ℕ) → length x ≡ size node → At text node.source x → take (size node) (drop node.source text) ≡ x
 At_taken text node x len h =
     (λ i. take (size node) (drop node.source (h.whole i)))
     ∙ ap (take (size node)) (drop_at h.before (x ++ h.after) node.source h.place)
     ∙ take_at x h.after (size node) len
 
--- the text has each node's bytes of the blob at the node's place
-abbrev pub AtAll : List ℕ → Mode → List ℕ → List Node → Type 0
+-- the encoding has each node's bytes of the blob at the node's place
+abbrev pub AtAll : List ℕ → Mode → List ℕ → List TreeNode → Type 0
 AtAll text mode blob [] = Unit {0}
 AtAll text mode blob (node ∷ rest) = (length (node_text mode blob node) ≡ size node) × At text node.source (node_text mode blob node) × AtAll text mode blob rest
 
-AtAll-append : (text : List ℕ) (mode : Mode) (blob : List ℕ) (xs ys : List Node) → AtAll text mode blob xs → AtAll text mode blob ys → AtAll text mode blob (xs ++ ys)
+AtAll-append : (text : List ℕ) (mode : Mode) (blob : List ℕ) (xs ys : List TreeNode) → AtAll text mode blob xs → AtAll text mode blob ys → AtAll text mode blob (xs ++ ys)
 AtAll-append text mode blob [] ys h k = k
 AtAll-append text mode blob (x ∷ xs) ys h k = (h.0, h.1, AtAll-append text mode blob xs ys h.2 k)
 
-pub cut_nodes-AtAll : (text : List ℕ) (mode : Mode) (blob : List ℕ) (xs : List Node) → AtAll text mode blob xs → cut_nodes text xs ≡ flat_map (node_text mode blob) xs
+pub cut_nodes-AtAll : (text : List ℕ) (mode : Mode) (blob : List ℕ) (xs : List TreeNode) → AtAll text mode blob xs → cut_nodes text xs ≡ flat_map (node_text mode blob) xs
 cut_nodes-AtAll text mode blob [] h = refl
 cut_nodes-AtAll text mode blob (x ∷ xs) h =
     let there : has text x ≡ true = At_has text x (node_text mode blob x) h.0 h.1 in
     rw there (λ i. At_taken text x (node_text mode blob x) h.0 h.1 i ++ cut_nodes-AtAll text mode blob xs h.2 i)
 
--- the text of a subtree with everything, by its size
+-- the encoding of a subtree with everything, by its size
 sized : (all : Choice) (mode : Mode) (first : ℕ) (s : List ℕ) → all.start ≡ 0 → all.chunks ≡ true → 1024 * first < all.end → 1024 * first + length s ≤ all.end
     → length (subtree_text all mode first s) ≡ subtree_size (length s)
 sized all mode first s start chunks below fits =
@@ -159,7 +159,7 @@ AtAll-small : (all choice : Choice) (mode : Mode) (blob text : List ℕ) (number
     → all.start ≡ 0 → all.chunks ≡ true → 1024 * number < all.end → At text source (subtree_text all mode number (span blob number n))
     → AtAll text mode blob (subtree_nodes choice number n sides source)
 AtAll-small all choice mode blob text number n sides source one fits start chunks below h =
-    let P : List Node → Type 0 = AtAll text mode blob in
+    let P : List TreeNode → Type 0 = AtAll text mode blob in
     let s : List ℕ = span blob number n in
     let e : length s ≡ n = length-span blob number n fits in
     elim (cases_Bool (wants choice (1024 * number) n)) [
@@ -181,7 +181,7 @@ AtAll-levels zero all choice mode blob text number n sides source hn fits start 
 AtAll-levels (suc levels) all choice mode blob text number n sides source hn fits start chunks below end h = elim (cases_lt 1024 n) [
   | inr one ↦ AtAll-small all choice mode blob text number n sides source one fits start chunks below h
   | inl more ↦
-      let P : List Node → Type 0 = AtAll text mode blob in
+      let P : List TreeNode → Type 0 = AtAll text mode blob in
       elim (cases_Bool (wants choice (1024 * number) n)) [
         | inr skipped ↦ subst P (sym (subtree_nodes-unwanted choice number n sides source skipped)) tt
         | inl wanted ↦
@@ -219,12 +219,12 @@ AtAll-levels (suc levels) all choice mode blob text number n sides source hn fit
       ]
 ]
 
--- what is cut out of a text with everything is the text of what was chosen
+-- what is cut out of an encoding with everything is the encoding of what was chosen
 pub cut_nodes-everything : (all choice : Choice) (mode : Mode) (blob before : List ℕ) → all.start ≡ 0 → all.chunks ≡ true → all.end ≡ max (length blob) 1
     → cut_nodes (before ++ subtree_text all mode 0 blob) (subtree_nodes choice 0 (length blob) [] (length before)) ≡ subtree_text choice mode 0 blob
 cut_nodes-everything all choice mode blob before start chunks end =
     let text : List ℕ = before ++ subtree_text all mode 0 blob in
-    let nodes : List Node = subtree_nodes choice 0 (length blob) [] (length before) in
+    let nodes : List TreeNode = subtree_nodes choice 0 (length blob) [] (length before) in
     let whole : span blob 0 (length blob) ≡ blob = take_all (length blob) blob (omega arith) in
     let here : At text (length before) (subtree_text all mode 0 (span blob 0 (length blob))) = record {
       before = before;

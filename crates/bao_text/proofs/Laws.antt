@@ -1,4 +1,4 @@
--- The laws between the texts of a blob.
+-- The laws between the encodings of a blob.
 use Rattle.std.proofs.Common.{◌≡◌, ℕ, ◌+◌, ◌-◌, ◌*◌, ◌^◌, ◌<◌, ◌≤◌, max, List, ◌++◌, length, take, true, refl, ap, ◌∙◌, arith, length-append}
 use Rattle.std.specs.List.{flat_map}
 use Rattle.std.specs.Int.{w64, from_le_bytes}
@@ -14,7 +14,7 @@ use Rattle.bao_text.specs.Texts.{chosen_text, combined_text, length_text, node_t
 use Rattle.bao_text.proofs.Everything.{cut_nodes-everything, length-everything}
 use Rattle.bao_text.proofs.TextNodes.{subtree_text-nodes}
 
--- a length's text has 8 bytes
+-- a length's encoding has 8 bytes
 length-length_text : (n : ℕ) → length (length_text n) ≡ 8
 length-length_text n = refl
 
@@ -30,12 +30,12 @@ length-outboard_text mode blob =
     length-everything (of_outboard (length blob)) mode blob refl refl in
     length-append (length_text (length blob)) (subtree_text (of_outboard (length blob)) mode 0 blob) ∙ omega arith
 
--- a text is the length and the bytes of its nodes
+-- an encoding is the length and the bytes of its nodes
 pub chosen_text-nodes : (choice : Choice) (mode : Mode) (blob : List ℕ)
     → chosen_text choice mode blob ≡ length_text (length blob) ++ flat_map (node_text mode blob) (chosen_nodes choice (length blob))
 chosen_text-nodes choice mode blob = ap (λ (xs : List ℕ). length_text (length blob) ++ xs) (subtree_text-nodes choice mode blob _ 8)
 
--- a slice of everything is the combined text
+-- a slice of everything is the combined encoding
 pub slice_text-everything : (mode : Mode) (blob : List ℕ) (start len : ℕ) → start ≡ 0 → length blob ≤ len → slice_text mode blob start len ≡ combined_text mode blob
 slice_text-everything mode blob start len zero all =
     let first : slice_start (length blob) start ≡ 0 = omega arith in
@@ -53,7 +53,7 @@ slice_text-late mode blob start len late =
     let last : slice_end (length blob) start len ≡ slice_end (length blob) (max (length blob) 1 - 1) 1 = omega arith in
     (λ i. chosen_text (record { start = first i; end = last i; chunks = true }) mode blob)
 
--- what is cut out of a combined text is the slice
+-- what is cut out of a combined encoding is the slice
 pub cut_text-combined : (mode : Mode) (blob : List ℕ) (start len : ℕ) → length blob < 2 ^ 64 → cut_text (combined_text mode blob) start len ≡ slice_text mode blob start len
 cut_text-combined mode blob start len fits =
     let all : Choice = of_combined (length blob) in

@@ -5,18 +5,18 @@ use Rattle.std.proofs.lemmas.Bool.{cases_Bool, cases_lt}
 use Rattle.std.proofs.lemmas.List.{append-nil, append_assoc}
 use Rattle.b3tree.specs.Tree.{IsLeftLen, left_len}
 use Rattle.bao_text.specs.declared.choice.Choice.{Choice}
-use Rattle.bao_text.specs.declared.walk.Node.{Node as Named}
+use Rattle.bao_text.specs.declared.walk.Node.{Node}
 use Rattle.bao_text.specs.declared.walk.Node.TheVariants.{Chunk, Parent}
 use Rattle.bao_text.specs.declared.walk.Subtree.{Subtree}
 use Rattle.bao_text.specs.Choice.{wants}
 use Rattle.bao_text.specs.NodeNames.{AreWaiting, IsWaiting, name, names_of, waiting_names}
-use Rattle.bao_text.specs.Nodes.{Node, Side, chunk_nodes, left, right, subtree_nodes, subtree_size}
+use Rattle.bao_text.specs.Nodes.{TreeNode, Side, chunk_nodes, left, right, subtree_nodes, subtree_size}
 use Rattle.bao_text.proofs.SubtreeNodes.{subtree_nodes-leaf, subtree_nodes-parent, subtree_nodes-unwanted}
 use Rattle.bao_text.proofs.SubtreeText.{Parts, left_len-Parts}
 
-names-append : (xs ys : List Node) → map name (xs ++ ys) ≡ map name xs ++ map name ys
+names-append : (xs ys : List TreeNode) → map name (xs ++ ys) ≡ map name xs ++ map name ys
 names-append [] ys = refl
-names-append (x ∷ xs) ys = ap (λ (zs : List Named). name x ∷ zs) (names-append xs ys)
+names-append (x ∷ xs) ys = ap (λ (zs : List Node). name x ∷ zs) (names-append xs ys)
 
 -- a chunk alone, and no chunk
 names-one : (choice : Choice) (number n : ℕ) (sides : List Side) (source : ℕ) → wants choice (1024 * number) n ≡ true → n ≤ 1024 → choice.chunks ≡ true
@@ -54,16 +54,16 @@ names-levels (suc levels) choice number n sides others source other hn = elim (c
             let l : ℕ = left_len n in
             let middle : ℕ = number + l / 1024 in
             let parts : Parts n l = left_len-Parts n more in
-            let near : List Node = subtree_nodes choice number l (sides ++ left ∷ []) (source + 64) in
-            let far : List Node = subtree_nodes choice middle (n - l) (sides ++ right ∷ []) (source + 64 + subtree_size l) in
-            let near2 : List Node = subtree_nodes choice number l (others ++ left ∷ []) (other + 64) in
-            let far2 : List Node = subtree_nodes choice middle (n - l) (others ++ right ∷ []) (other + 64 + subtree_size l) in
+            let near : List TreeNode = subtree_nodes choice number l (sides ++ left ∷ []) (source + 64) in
+            let far : List TreeNode = subtree_nodes choice middle (n - l) (sides ++ right ∷ []) (source + 64 + subtree_size l) in
+            let near2 : List TreeNode = subtree_nodes choice number l (others ++ left ∷ []) (other + 64) in
+            let far2 : List TreeNode = subtree_nodes choice middle (n - l) (others ++ right ∷ []) (other + 64 + subtree_size l) in
             let near_same : map name near ≡ map name near2 =
             names-levels levels choice number l (sides ++ left ∷ []) (others ++ left ∷ []) (source + 64) (other + 64) (omega (arith, parts.whole, parts.below)) in
             let far_same : map name far ≡ map name far2 =
             names-levels levels choice middle (n - l) (sides ++ right ∷ []) (others ++ right ∷ []) (source + 64 + subtree_size l) (other + 64 + subtree_size l) (omega (arith, parts.some)) in
             ap (map name) (subtree_nodes-parent choice number n sides source wanted more)
-            ∙ ap (λ (xs : List Named). Parent middle ∷ xs) (names-append near far ∙ (λ i. near_same i ++ far_same i) ∙ sym (names-append near2 far2))
+            ∙ ap (λ (xs : List Node). Parent middle ∷ xs) (names-append near far ∙ (λ i. near_same i ++ far_same i) ∙ sym (names-append near2 far2))
             ∙ sym (ap (map name) (subtree_nodes-parent choice number n others other wanted more))
       ]
 ]
@@ -82,10 +82,10 @@ pub names-parent : (choice : Choice) (number n : ℕ) → wants choice (1024 * n
 names-parent choice number n wanted more =
     let l : ℕ = left_len n in
     let middle : ℕ = number + l / 1024 in
-    let near : List Node = subtree_nodes choice number l (left ∷ []) 64 in
-    let far : List Node = subtree_nodes choice middle (n - l) (right ∷ []) (64 + subtree_size l) in
+    let near : List TreeNode = subtree_nodes choice number l (left ∷ []) 64 in
+    let far : List TreeNode = subtree_nodes choice middle (n - l) (right ∷ []) (64 + subtree_size l) in
     ap (map name) (subtree_nodes-parent choice number n [] 0 wanted more)
-    ∙ ap (λ (xs : List Named). Parent middle ∷ xs)
+    ∙ ap (λ (xs : List Node). Parent middle ∷ xs)
     (names-append near far
     ∙ (λ i. names-anywhere choice number l (left ∷ []) 64 i ++ names-anywhere choice middle (n - l) (right ∷ []) (64 + subtree_size l) i))
 
@@ -93,7 +93,7 @@ names-parent choice number n wanted more =
 pub waiting_names-last : (choice : Choice) (xs : List Subtree) (x : Subtree) → waiting_names choice (xs ++ x ∷ []) ≡ names_of choice x.number x.len ++ waiting_names choice xs
 waiting_names-last choice [] x = sym (append-nil (names_of choice x.number x.len))
 waiting_names-last choice (y ∷ ys) x =
-    ap (λ (zs : List Named). zs ++ names_of choice y.number y.len) (waiting_names-last choice ys x)
+    ap (λ (zs : List Node). zs ++ names_of choice y.number y.len) (waiting_names-last choice ys x)
     ∙ append_assoc (names_of choice x.number x.len) (waiting_names choice ys) (names_of choice y.number y.len)
 
 pub AreWaiting-last : (choice : Choice) (levels : ℕ) (xs : List Subtree) (x : Subtree) → AreWaiting choice levels xs → IsWaiting choice (levels - length xs) x

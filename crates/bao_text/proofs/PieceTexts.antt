@@ -1,4 +1,4 @@
--- A subtree beside its parents' text: where it parts, and what its combined text is.
+-- A subtree beside its parents' encoding: where it parts, and what its combined encoding is.
 use Rattle.std.proofs.Common.{◌≡◌, ℕ, zero, suc, ◌+◌, ◌-◌, ◌*◌, ◌/◌, ◌^◌, ◌<◌, ◌≤◌, max, List, ◌++◌, length, take, drop, refl, sym, ap, ◌∙◌, arith, inl, inr, length-drop}
 use Rattle.std.proofs.Math.Pow.{pow_mono}
 use Rattle.std.proofs.lemmas.Bool.{cases_lt}
@@ -13,7 +13,7 @@ use Rattle.bao_text.specs.Texts.{parent_text, subtree_text}
 use Rattle.bao_text.proofs.Everything.{length-parent_text, length-subtree_text, wants_all}
 use Rattle.bao_text.proofs.SubtreeText.{Parts, left_len-Parts, subtree_text-leaf, subtree_text-parent}
 
--- one chunk's text is its bytes
+-- one chunk's encoding is its bytes
 pub whole_text-chunk : (total : ℕ) (mode : Mode) (first : ℕ) (parents s : List ℕ) → HasParents total mode first parents s → length s ≤ 1024
     → whole_text total mode first s ≡ s
 whole_text-chunk total mode first parents s h one =

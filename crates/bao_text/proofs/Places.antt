@@ -1,8 +1,8 @@
--- A parent that is put before the text of its parts.
+-- A parent that is put before the encoding of its parts.
 use Rattle.std.proofs.Common.{◌≡◌, ℕ, ◌+◌, List, ◌++◌, length, take, drop, ◌∙◌, refl, ap, length-append}
 use Rattle.std.proofs.lemmas.List.{append_assoc, drop_at, take_at}
 
--- the place kept free for a parent p, once the text of its parts stands behind it
+-- the place kept free for a parent p, once the encoding of its parts stands behind it
 pub parent_put : (t zs a b p : List ℕ) → length zs ≡ 64 → take (length t) (((t ++ zs) ++ a) ++ b) ++ (p ++ drop (length t + 64) (((t ++ zs) ++ a) ++ b)) ≡ t ++ (p ++ (a ++ b))
 parent_put t zs a b p size =
     let whole : ((t ++ zs) ++ a) ++ b ≡ t ++ (zs ++ (a ++ b)) = append_assoc (t ++ zs) a b ∙ append_assoc t zs (a ++ b) in

@@ -4,11 +4,11 @@ use Rattle.std.proofs.lemmas.Bool.{cases_Bool, cases_lt, le-leb, lt-leb}
 use Rattle.b3tree.specs.Tree.{left_len}
 use Rattle.bao_text.specs.declared.choice.Choice.{Choice}
 use Rattle.bao_text.specs.Choice.{wants}
-use Rattle.bao_text.specs.Nodes.{Node, Side, chunk_nodes, left, nodes_within, right, subtree_nodes, subtree_size}
+use Rattle.bao_text.specs.Nodes.{TreeNode, Side, chunk_nodes, left, nodes_within, right, subtree_nodes, subtree_size}
 use Rattle.bao_text.proofs.SubtreeText.{Parts, left_len-Parts}
 
 -- the node of a parent
-abbrev pub parent_node : ℕ → ℕ → List Side → ℕ → Node
+abbrev pub parent_node : ℕ → ℕ → List Side → ℕ → TreeNode
 parent_node number n sides source = record { is_chunk = false; number = number; len = n; sides = sides; source = source }
 
 nodes_within-unwanted : (levels : ℕ) (choice : Choice) (number n : ℕ) (sides : List Side) (source : ℕ) → wants choice (1024 * number) n ≡ false

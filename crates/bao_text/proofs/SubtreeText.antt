@@ -1,4 +1,4 @@
--- The text of a subtree is the recursive definition: the levels that `text_within` is given do not matter.
+-- The encoding of a subtree is the recursive definition: the levels that `text_within` is given do not matter.
 use Rattle.std.proofs.Common.{◌≡◌, ℕ, zero, suc, ◌+◌, ◌-◌, ◌*◌, ◌/◌, ◌<◌, ◌≤◌, List, [], ◌++◌, length, take, drop, true, false, refl, sym, ◌∙◌, arith, inl, inr, length-drop}
 use Rattle.std.proofs.lemmas.Bool.{cases_Bool, cases_lt, le-leb, lt-leb}
 use Rattle.std.proofs.lemmas.List.{length-take-le}

@@ -1,4 +1,4 @@
--- The texts are the bytes of their nodes, and a combined text has them all at their places.
+-- The encodings are the bytes of their nodes, and a combined encoding has them all at their places.
 use Rattle.std.proofs.Common.{◌≡◌, ℕ, zero, suc, ◌+◌, ◌-◌, ◌*◌, ◌/◌, ◌≤◌, List, [], ◌∷◌, ◌++◌, length, take, drop, refl, sym, ap, ◌∙◌, arith, inl, inr, length-drop}
 use Rattle.std.specs.List.{flat_map}
 use Rattle.std.proofs.lemmas.Bool.{cases_Bool, cases_lt}
@@ -8,7 +8,7 @@ use Rattle.b3tree.specs.declared.mode.Mode.{Mode}
 use Rattle.b3tree.specs.Tree.{left_len}
 use Rattle.bao_text.specs.declared.choice.Choice.{Choice}
 use Rattle.bao_text.specs.Choice.{wants}
-use Rattle.bao_text.specs.Nodes.{Node, Side, chunk_nodes, left, right, subtree_nodes, subtree_size}
+use Rattle.bao_text.specs.Nodes.{TreeNode, Side, chunk_nodes, left, right, subtree_nodes, subtree_size}
 use Rattle.bao_text.specs.Texts.{chunk_text, node_text, parent_text, subtree_text}
 use Rattle.bao_text.proofs.SubtreeNodes.{subtree_nodes-leaf, subtree_nodes-parent, subtree_nodes-unwanted}
 use Rattle.bao_text.proofs.SubtreeText.{Parts, left_len-Parts, subtree_text-leaf, subtree_text-parent, subtree_text-unwanted}
@@ -33,7 +33,7 @@ span-right blob number n l le whole =
     ∙ drop-take l (n - l) (drop (1024 * number) blob)
     ∙ ap (take (n - l)) (drop-drop l (1024 * number) blob ∙ ap (λ (k : ℕ). drop k blob) at)
 
--- a chunk's text is its node's, where it has one
+-- a chunk's encoding is its node's, where it has one
 chunk_text-nodes : (choice : Choice) (mode : Mode) (blob : List ℕ) (number n : ℕ) (sides : List Side) (source : ℕ)
     → chunk_text choice (span blob number n) ≡ flat_map (node_text mode blob) (chunk_nodes choice number n sides source)
 chunk_text-nodes choice mode blob number n sides source = elim (cases_Bool choice.chunks) [
@@ -56,7 +56,7 @@ text-nodes-small choice mode blob number n sides source one fits =
           ∙ ap (flat_map (node_text mode blob)) (sym (subtree_nodes-unwanted choice number n sides source skipped))
     ]
 
--- by the number of levels, the text of a subtree is its nodes' bytes
+-- by the number of levels, the encoding of a subtree is its nodes' bytes
 text-nodes-levels : (levels : ℕ) (choice : Choice) (mode : Mode) (blob : List ℕ) (number n : ℕ) (sides : List Side) (source : ℕ)
     → n ≤ 1024 * levels + 1024 → 1024 * number + n ≤ length blob
     → subtree_text choice mode number (span blob number n) ≡ flat_map (node_text mode blob) (subtree_nodes choice number n sides source)
@@ -75,8 +75,8 @@ text-nodes-levels (suc levels) choice mode blob number n sides source hn fits = 
             let parts : Parts n l = left_len-Parts n more in
             let below : l ≤ n = omega (arith, parts.below) in
             let f = flat_map (node_text mode blob) in
-            let near : List Node = subtree_nodes choice number l (sides ++ left ∷ []) (source + 64) in
-            let far : List Node = subtree_nodes choice (number + l / 1024) (n - l) (sides ++ right ∷ []) (source + 64 + subtree_size l) in
+            let near : List TreeNode = subtree_nodes choice number l (sides ++ left ∷ []) (source + 64) in
+            let far : List TreeNode = subtree_nodes choice (number + l / 1024) (n - l) (sides ++ right ∷ []) (source + 64 + subtree_size l) in
             let near_text : subtree_text choice mode number (take l s) ≡ f near =
             ap (subtree_text choice mode number) (span-left blob number n l below)
             ∙ text-nodes-levels levels choice mode blob number l (sides ++ left ∷ []) (source + 64) (omega (arith, parts.whole, parts.below)) (omega (arith, parts.below)) in

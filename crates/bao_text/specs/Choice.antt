@@ -1,4 +1,4 @@
--- Which parts of a blob a text is of (Bao specification, on encodings and slices).
+-- Which parts of a blob an encoding is of (Bao specification, on encodings and slices).
 use Rattle.std.specs.Prelude.{ℕ, ◌+◌, ◌-◌, ◌/◌, max, min, nat_lt, Bool, true, false, ◌&&◌}
 use Rattle.bao_text.specs.declared.choice.Choice.{Choice}
 

@@ -1,20 +1,20 @@
--- A slice's text cut out of the bytes of a combined encoding, unchecked.
+-- A slice's encoding cut out of the bytes of a combined encoding, unchecked.
 use Rattle.std.specs.Prelude.{ℕ, ◌+◌, List, [], ◌∷◌, ◌++◌, length, take, drop, nat_le, nat_lt, if◌then◌else◌, Bool, true, ◌&&◌}
 use Rattle.std.specs.Int.{w64, from_le_bytes}
-use Rattle.bao_text.specs.Nodes.{Node, nodes, size}
+use Rattle.bao_text.specs.Nodes.{TreeNode, nodes, size}
 
--- whether the text has all bytes of the node
-abbrev pub has : List ℕ → Node → Bool
+-- whether the encoding has all bytes of the node
+abbrev pub has : List ℕ → TreeNode → Bool
 has text node = nat_le (node.source + size node) (length text)
 
 -- the bytes of the nodes one after another, up to the first that isn't wholly there and with what is there of it
-abbrev pub cut_nodes : List ℕ → List Node → List ℕ
+abbrev pub cut_nodes : List ℕ → List TreeNode → List ℕ
 cut_nodes text [] = []
 cut_nodes text (node ∷ rest) =
     if has text node then take (size node) (drop node.source text) ++ cut_nodes text rest else drop node.source text
 
 -- whether all nodes are wholly there
-abbrev pub has_all : List ℕ → List Node → Bool
+abbrev pub has_all : List ℕ → List TreeNode → Bool
 has_all text [] = true
 has_all text (node ∷ rest) = has text node && has_all text rest
 
@@ -22,7 +22,7 @@ has_all text (node ∷ rest) = has text node && has_all text rest
 abbrev pub claimed : List ℕ → ℕ
 claimed text = from_le_bytes w64 (take 8 text)
 
--- the cut text; fewer than 8 bytes stay as they are
+-- the cut encoding; fewer than 8 bytes stay as they are
 abbrev pub cut_text : List ℕ → ℕ → ℕ → List ℕ
 cut_text text start len =
     if nat_lt (length text) 8 then text else take 8 text ++ cut_nodes text (nodes (claimed text) start len)

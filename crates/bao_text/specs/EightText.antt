@@ -1,4 +1,4 @@
--- The text of eight whole chunks, by their parents.
+-- The encoding of eight whole chunks, by their parents.
 use Rattle.std.specs.Prelude.{ℕ, ◌+◌, List, ◌++◌}
 use Rattle.b3tree.specs.declared.eight.EightParents.{EightParents}
 use Rattle.b3tree.specs.declared.eight.FourParents.{FourParents}
@@ -12,7 +12,7 @@ use Rattle.bao_text.specs.Texts.{chunk_text}
 abbrev pub parts_text : Parts → List ℕ
 parts_text parent = bytes_of parent.left.0 ++ bytes_of parent.right.0
 
--- the text of the two chunks of s from place `at` on
+-- the encoding of the two chunks of s from place `at` on
 abbrev pub pair_text : Choice → Parts → List ℕ → ℕ → List ℕ
 pair_text choice parent s at = parts_text parent ++ chunk_text choice (piece s at 2048)
 

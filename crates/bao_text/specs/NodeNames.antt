@@ -1,33 +1,33 @@
 -- The nodes of a slice by name, and the subtrees whose nodes are still to come.
-use Rattle.std.specs.Prelude.{◌≡◌, ℕ, ◌+◌, ◌-◌, ◌*◌, ◌/◌, ◌^◌, ◌≤◌, List, [], ◌∷◌, ◌++◌, map, Bool, true, if◌then◌else◌}
+use Rattle.std.specs.Prelude.{◌≡◌, ℕ, ◌+◌, ◌-◌, ◌*◌, ◌/◌, ◌^◌, ◌≤◌, List, [], ◌∷◌, ◌++◌, map, true, if◌then◌else◌}
 use Rattle.std.proofs.Math.Bool.{Bool-set}
 use Rattle.std.specs.Coded.{×_prop, Unit-prop, le_prop}
 use Rattle.b3tree.specs.Tree.{left_len}
 use Rattle.bao_text.specs.declared.choice.Choice.{Choice}
-use Rattle.bao_text.specs.declared.walk.Node.{Node as Named}
+use Rattle.bao_text.specs.declared.walk.Node.{Node}
 use Rattle.bao_text.specs.declared.walk.Node.TheVariants.{Chunk, Parent}
 use Rattle.bao_text.specs.declared.walk.Subtree.{Subtree}
 use Rattle.bao_text.specs.Choice.{wants}
-use Rattle.bao_text.specs.Nodes.{Node, nodes, subtree_nodes}
+use Rattle.bao_text.specs.Nodes.{TreeNode, nodes, subtree_nodes}
 
 -- the chunk with which a parent's right part begins: no other parent of the tree has that one
-abbrev pub boundary : Node → ℕ
+abbrev pub boundary : TreeNode → ℕ
 boundary node = node.number + left_len node.len / 1024
 
 -- a chunk by its number, a parent by its boundary
-abbrev pub name : Node → Named
+abbrev pub name : TreeNode → Node
 name node = if node.is_chunk then Chunk node.number else Parent (boundary node)
 
--- the wanted nodes of a subtree by name: neither the way to it nor its place in a text matters
-abbrev pub names_of : Choice → ℕ → ℕ → List Named
+-- the wanted nodes of a subtree by name: neither the way to it nor its place in an encoding matters
+abbrev pub names_of : Choice → ℕ → ℕ → List Node
 names_of choice number n = map name (subtree_nodes choice number n [] 0)
 
 -- those of the slice (start, len) of a blob of `total` bytes
-abbrev pub slice_names : ℕ → ℕ → ℕ → List Named
+abbrev pub slice_names : ℕ → ℕ → ℕ → List Node
 slice_names total start len = map name (nodes total start len)
 
 -- those of subtrees that wait, the last of them first
-abbrev pub waiting_names : Choice → List Subtree → List Named
+abbrev pub waiting_names : Choice → List Subtree → List Node
 waiting_names choice [] = []
 waiting_names choice (subtree ∷ rest) = waiting_names choice rest ++ names_of choice subtree.number subtree.len
 

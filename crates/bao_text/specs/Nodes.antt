@@ -1,4 +1,4 @@
--- The nodes of a text, from numbers alone: the parents and chunks of a tree that a choice wants, in
+-- The nodes of an encoding, from numbers alone: the parents and chunks of a tree that a choice wants, in
 -- pre-order (Bao specification, on encodings and slices).
 use Rattle.std.specs.Prelude.{ℕ, zero, suc, ◌+◌, ◌-◌, ◌*◌, ◌/◌, List, [], ◌∷◌, ◌++◌, nat_le, Bool, true, false, if◌then◌else◌}
 use Rattle.b3tree.specs.Tree.{left_len}
@@ -11,7 +11,7 @@ pub data Side : Type 0 where
   right : Side
 
 -- a node: a chunk, or a parent with the subtree below it
-pub record Node : Type 0 where
+pub record TreeNode : Type 0 where
   pub is_chunk : Bool
   -- the number of the subtree's first chunk
   pub number : ℕ
@@ -19,25 +19,25 @@ pub record Node : Type 0 where
   pub len : ℕ
   -- the way from the root
   pub sides : List Side
-  -- where the node begins in the combined text
+  -- where the node begins in the combined encoding
   pub source : ℕ
 
--- how many bytes of a text the node is
-abbrev pub size : Node → ℕ
+-- how many bytes of an encoding the node is
+abbrev pub size : TreeNode → ℕ
 size node = if node.is_chunk then node.len else 64
 
--- how many bytes of the combined text the subtree of n bytes is
+-- how many bytes of the combined encoding the subtree of n bytes is
 abbrev pub subtree_size : ℕ → ℕ
 subtree_size n = n + 64 * (chunk_count n - 1)
 
 -- the node of the chunk, where the choice has chunks
-abbrev pub chunk_nodes : Choice → ℕ → ℕ → List Side → ℕ → List Node
+abbrev pub chunk_nodes : Choice → ℕ → ℕ → List Side → ℕ → List TreeNode
 chunk_nodes choice number n sides source =
     if choice.chunks then record { is_chunk = true; number = number; len = n; sides = sides; source = source } ∷ [] else []
 
 -- the nodes of the subtree of n bytes from chunk `number` on, which begins at `source` in the
--- combined text, in a tree of at most so many levels of parents
-unfoldable pub nodes_within : ℕ → Choice → ℕ → ℕ → List Side → ℕ → List Node
+-- combined encoding, in a tree of at most so many levels of parents
+unfoldable pub nodes_within : ℕ → Choice → ℕ → ℕ → List Side → ℕ → List TreeNode
 nodes_within zero choice number n sides source =
     if wants choice (1024 * number) n then chunk_nodes choice number n sides source else []
 nodes_within (suc levels) choice number n sides source =
@@ -49,18 +49,18 @@ nodes_within (suc levels) choice number n sides source =
     ++ nodes_within levels choice (number + l / 1024) (n - l) (sides ++ right ∷ []) (source + 64 + subtree_size l)))
     else []
 
-unfoldable pub subtree_nodes : Choice → ℕ → ℕ → List Side → ℕ → List Node
+unfoldable pub subtree_nodes : Choice → ℕ → ℕ → List Side → ℕ → List TreeNode
 subtree_nodes choice number n sides source = nodes_within (n / 1024) choice number n sides source
 
--- the nodes of a blob of `total` bytes that the choice wants; the first 8 bytes of a text are the length
-abbrev pub chosen_nodes : Choice → ℕ → List Node
+-- the nodes of a blob of `total` bytes that the choice wants; the first 8 bytes of an encoding are the length
+abbrev pub chosen_nodes : Choice → ℕ → List TreeNode
 chosen_nodes choice total = subtree_nodes choice 0 total [] 8
 
 -- the nodes of the slice (start, len) of a blob of `total` bytes
-abbrev pub nodes : ℕ → ℕ → ℕ → List Node
+abbrev pub nodes : ℕ → ℕ → ℕ → List TreeNode
 nodes total start len = chosen_nodes (of_slice total start len) total
 
--- the nodes with their offsets in a text in which the first is at `at`
-abbrev pub placed : ℕ → List Node → List (ℕ × Node)
+-- the nodes with their offsets in an encoding in which the first is at `at`
+abbrev pub placed : ℕ → List TreeNode → List (ℕ × TreeNode)
 placed at [] = []
 placed at (node ∷ rest) = (at, node) ∷ placed (at + size node) rest

@@ -1,4 +1,4 @@
--- A subtree of a blob beside the text of its parents, which together make the combined text.
+-- A subtree of a blob beside the encoding of its parents, which together make the combined encoding.
 use Rattle.std.specs.Prelude.{◌≡◌, ℕ, ◌+◌, ◌*◌, ◌<◌, ◌≤◌, max, List, ◌++◌, length}
 use Rattle.b3tree.specs.declared.mode.Mode.{Mode}
 use Rattle.bao_text.specs.Choice.{chunk_count, of_combined, of_outboard}
@@ -8,19 +8,19 @@ use Rattle.bao_text.specs.Texts.{subtree_text}
 abbrev pub HasSize : List ℕ → List ℕ → Type 0
 HasSize parents s = length parents + 64 ≡ 64 * chunk_count (length s)
 
--- the combined text of the subtree over s from chunk `first` on, of a blob of `total` bytes
+-- the combined encoding of the subtree over s from chunk `first` on, of a blob of `total` bytes
 abbrev pub whole_text : ℕ → Mode → ℕ → List ℕ → List ℕ
 whole_text total mode first s = subtree_text (of_combined total) mode first s
 
 -- the subtree over s from chunk `first` on lies in a blob of `total` bytes, and `parents` is the
--- outboard text of it
+-- outboard encoding of it
 pub record HasParents (total : ℕ) (mode : Mode) (first : ℕ) (parents s : List ℕ) : Type 0 where
   pub start : 1024 * first < max total 1
   pub end : 1024 * first + length s ≤ total
   pub text : parents ≡ subtree_text (of_outboard total) mode first s
 
 -- the subtree over s has as its parts the subtrees over `left` and `right`, each with its parents, and
--- its own parent's text is `parent`
+-- its own parent's encoding is `parent`
 pub record HasParts (total : ℕ) (mode : Mode) (first : ℕ) (s parent left_parents left right_parents right : List ℕ) : Type 0 where
   pub right_first : ℕ
   pub near : HasParents total mode first left_parents left

@@ -1,9 +1,9 @@
 -- What a walk over a slice's nodes has still to give.
 use Rattle.std.specs.Prelude.{List}
-use Rattle.bao_text.specs.declared.walk.Node.{Node as Named}
+use Rattle.bao_text.specs.declared.walk.Node.{Node}
 use Rattle.bao_text.specs.declared.walk.Nodes.{Nodes}
 use Rattle.bao_text.specs.NodeNames.{waiting_names}
 
 -- the nodes that are still to come
-abbrev pub rest_of : Nodes → List Named
+abbrev pub rest_of : Nodes → List Node
 rest_of walk = waiting_names walk.choice walk.waiting.items

@@ -1,6 +1,6 @@
 ghost use Rattle.std.specs.Prelude.{◌≡◌, ◌+◌, ◌≤◌, ◌↔◌, max, IsTrue};
 
-/// The positions of a blob that a text is of, and whether it has the chunks.
+/// The positions of a blob that an encoding is of, and whether it has the chunks.
 #[derive(Clone, Copy, Debug)]
 pub struct Choice {
     pub(crate) start: u64,
@@ -87,7 +87,7 @@ impl Choice {
         self.end
     }
 
-    /// Whether the text has the chunks.
+    /// Whether the encoding has the chunks.
     pub fn has_chunks(&self) -> bool
         ensures { result ≡ self.now.chunks }
     {

@@ -29,7 +29,7 @@ fn copy_node(text: &[u8], source: u128, size: u64, out: &mut Vec<u8>) -> Result<
     Ok(false)
 }
 
-// The length that the first 8 bytes of a text claim.
+// The length that the first 8 bytes of an encoding claim.
 fn claimed(text: &[u8]) -> u64
     requires { 8 ≤ length text.now }
     ensures { result ≡ claimed text.now }
@@ -84,10 +84,10 @@ fn cut_subtree(
     )
 }
 
-/// Cuts the text of the slice (`start`, `len`) out of the combined encoding `text`, and checks nothing.
+/// Cuts the encoding of the slice (`start`, `len`) out of the combined encoding `text`, and checks nothing.
 ///
 /// Fewer than 8 bytes come back as they are. Otherwise the length is read from the first 8 bytes, and
-/// the slice's nodes are copied in order; the first that isn't wholly there ends the text, with the
+/// the slice's nodes are copied in order; the first that isn't wholly there ends the encoding, with the
 /// bytes of it that are there. No growth is sized by the claimed length. Of the combined encoding of a
 /// blob it is the blob's slice. Answers `Memory` (401) where a growth was refused.
 pub fn cut_slice(alloc: Global, text: &[u8], start: u64, len: u64) -> Result<Vec<u8>, Memory>

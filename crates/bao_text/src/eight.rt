@@ -18,7 +18,7 @@ fn append_parent(parent: &Parts, text: &mut Vec<u8>) -> Result<(), Memory>
     extend(text, &parent_bytes(&parent.left, &parent.right))
 }
 
-// Appends the text of two whole chunks, which are the bytes from place `at` on, with their parent.
+// Appends the encoding of two whole chunks, which are the bytes from place `at` on, with their parent.
 fn append_pair(
     choice: &Choice,
     parent: &Parts,

@@ -2,7 +2,7 @@ ghost use Rattle.std.specs.Prelude.{◌≡◌};
 
 use thiserror::Error;
 
-/// There was no memory for a text. Number 401.
+/// Out of memory for an encoding. Number 401.
 #[derive(Clone, Copy, Debug, PartialEq, Eq, Error)]
 #[error("401 memory")]
 pub struct Memory;
@@ -19,10 +19,10 @@ impl Memory {
 /// Why an encoding was not written whole.
 #[derive(Clone, Copy, Debug, PartialEq, Eq, Error)]
 pub enum WriteFault {
-    /// There was no memory for the text; nothing was written. Number 401.
+    /// Out of memory for the encoding; nothing was written. Number 401.
     #[error("401 memory")]
     Memory,
-    /// A write answered a fault, or took no byte; the first `written` bytes of the text went out. Number 402.
+    /// A write answered a fault, or took no byte; the first `written` bytes of the encoding went out. Number 402.
     #[error("402 writer failed after {written} bytes")]
     Writer { written: u128 },
 }

@@ -9,7 +9,7 @@ pub use sizes::{
 };
 pub use slices::nodes;
 pub use texts::{append_subtree, combined, outboard, put_parent, slice};
-pub use walk::{Node, Nodes};
+pub use walk::{Node, Nodes, WAITING_LEN};
 pub use writer::{write_combined, write_text, write_texts};
 
 mod choice;

@@ -10,7 +10,7 @@ use crate::writer::write_after;
 use b3tree::{CHUNK_LEN, left_len};
 use std::io::Write;
 
-// The largest subtree whose text goes out at once, in bytes of the blob.
+// The largest subtree whose encoding goes out at once, in bytes of the blob.
 const PIECE_LEN: usize = 64 * CHUNK_LEN;
 
 /// How many levels of larger subtrees a blob has at most: 2^64 bytes are 2^48 pieces.
@@ -22,14 +22,14 @@ pub(crate) const ROOM_LEN: usize = LENGTH_LEN
     + PIECE_LEN
     + PARENT_LEN * 63;
 
-/// A subtree's bytes, beside the text of its parents in pre-order.
+/// A subtree's bytes, beside the encoding of its parents in pre-order.
 #[derive(Clone, Copy)]
 pub(crate) struct Subtree<'a> {
     pub(crate) parents: &'a [u8],
     pub(crate) bytes: &'a [u8],
 }
 
-// The text of the subtree's own parent, and its left and right part.
+// The encoding of the subtree's own parent, and its left and right part.
 fn parts<'a>(subtree: Subtree<'a>) -> (&'a [u8], Subtree<'a>, Subtree<'a>)
     requires more { 1024 < length subtree.bytes.now }
     requires size { HasSize subtree.parents.now subtree.bytes.now }
@@ -60,7 +60,7 @@ fn parts<'a>(subtree: Subtree<'a>) -> (&'a [u8], Subtree<'a>, Subtree<'a>)
     (parent, left, right)
 }
 
-// Puts the subtree's combined text into the room, from place `at` on.
+// Puts the subtree's combined encoding into the room, from place `at` on.
 fn fill(subtree: Subtree<'_>, room: &mut [u8], at: usize)
     requires size { HasSize subtree.parents.now subtree.bytes.now }
     requires room { at + subtree_size (length subtree.bytes.now) ≤ length room.old }
@@ -79,7 +79,7 @@ fn fill(subtree: Subtree<'_>, room: &mut [u8], at: usize)
     fill(right, room, left_at + left.parents.len() + left.bytes.len());
 }
 
-// Writes the first `lead` bytes of the room, and the subtree's combined text after them. A larger subtree's
+// Writes the first `lead` bytes of the room, and the subtree's combined encoding after them. A larger subtree's
 // parent goes out with its left part.
 pub(crate) fn write_subtree<W: Write>(
     subtree: Subtree<'_>,

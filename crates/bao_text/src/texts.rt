@@ -17,7 +17,7 @@ use b3tree::{
 };
 use std::alloc::Global;
 
-// Appends `bytes`; where the growth is refused the text is unchanged.
+// Appends `bytes`; where the growth is refused the encoding is unchanged.
 pub(crate) fn extend(text: &mut Vec<u8>, bytes: &[u8]) -> Result<(), Memory>
     ensures ok { OnOk result (text.new.items ≡ text.old.items ++ bytes.now) }
     ensures err { OnErr result (text.new.items ≡ text.old.items) }
@@ -45,11 +45,11 @@ pub fn put_parent(text: &mut Vec<u8>, at: usize, left: &Cv, right: &Cv)
     text.as_mut_slice()[at..at + PARENT_LEN].copy_from_slice(&parent_bytes(left, right));
 }
 
-/// Appends the text of the subtree over `bytes`, whose first chunk has the number `first`, to `text`: what the
-/// choice wants of it, as it stands in the text of the blob in which the subtree lies. Answers the subtree's last
+/// Appends the encoding of the subtree over `bytes`, whose first chunk has the number `first`, to `text`: what the
+/// choice wants of it, as it stands in the encoding of the blob in which the subtree lies. Answers the subtree's last
 /// compression, as `top_input` does.
 ///
-/// Answers `Memory` (401) where a growth was refused. What the text has then is not said.
+/// Answers `Memory` (401) where a growth was refused. What the encoding has then is not said.
 pub fn append_subtree(
     choice: &Choice,
     mode: &Mode,
@@ -88,7 +88,7 @@ pub fn append_subtree(
     Ok(parent_input(mode, &left, &right))
 }
 
-// The text of `bytes` for a choice, with room for `room` bytes from the start, and the hash.
+// The encoding of `bytes` for a choice, with room for `room` bytes from the start, and the hash.
 #[tactic(auto, unfolding(b3tree::specs::Hashing::hash))]
 fn chosen(
     alloc: Global,

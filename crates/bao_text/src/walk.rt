@@ -21,8 +21,9 @@ struct Subtree {
     len: u64,
 }
 
-// A tree has at most 54 levels of parents. On each the right part waits, and at last a chunk.
-const WAITING_LEN: usize = 55;
+/// The most parts of a tree that wait at once in pre-order: it has at most 54 levels of parents, on each the
+/// right part waits, and at last a chunk.
+pub const WAITING_LEN: usize = 55;
 
 type Waiting = ArrayVec<Subtree, WAITING_LEN>;
 

@@ -14,7 +14,7 @@ use b3tree::{Hash, Mode};
 use std::alloc::Global;
 use std::io::Write;
 
-// Writes all of `text`, after `before` bytes of a larger text, by as many writes as it takes. The first
+// Writes all of `text`, after `before` bytes of a larger encoding, by as many writes as it takes. The first
 // that answers a fault, of whatever kind, or takes no byte is the last.
 pub(crate) fn write_after<W: Write>(
     before: u128,
@@ -41,7 +41,7 @@ pub(crate) fn write_after<W: Write>(
 /// Writes all of `text` to `out`, by as many writes as it takes.
 ///
 /// Answers `Writer` (402) only where a write answered a fault, one of the kind `Interrupted` too, or took
-/// no byte: then exactly the first `written` bytes of the text went out, and not all. The writer is not
+/// no byte: then exactly the first `written` bytes of the encoding went out, and not all. The writer is not
 /// flushed. `Memory` is never answered.
 pub fn write_text<W: Write>(text: &[u8], out: &mut W) -> Result<(), WriteFault>
     ensures text { OnOk result (Appends (W.contents out.old) (W.contents out.new) text.now) }
@@ -51,7 +51,7 @@ pub fn write_text<W: Write>(text: &[u8], out: &mut W) -> Result<(), WriteFault>
     write_after(0, text, out)
 }
 
-/// Writes all of `texts` to `out`, one after another, as `write_text` writes one: its faults are of the text that
+/// Writes all of `texts` to `out`, one after another, as `write_text` writes one: its faults are of the encoding that
 /// they make together.
 pub fn write_texts<W: Write>(texts: &[Vec<u8>], out: &mut W) -> Result<(), WriteFault>
     ensures text { OnOk result (Appends (W.contents out.old) (W.contents out.new) (joined texts.now)) }
@@ -92,7 +92,7 @@ fn write_beside<W: Write>(
 ///
 /// Answers `Memory` (401) where a growth was refused, with nothing written, and `Writer` (402) only where
 /// a write answered a fault, one of the kind `Interrupted` too, or took no byte: then exactly the first
-/// `written` bytes of the text went out. The writer is not flushed.
+/// `written` bytes of the encoding went out. The writer is not flushed.
 pub fn write_combined<W: Write>(
     alloc: Global,
     mode: &Mode,

@@ -19,7 +19,7 @@ told_done (Some size) P sized none = (λ zero. absurd (omega (arith, sized.0, ze
     never : true ≡ false → ⊥
     never e = cc
 
--- what is so of each text that ends before it
+-- what is so of each encoding that ends before it
 pub told_short : (wanted : Option ℕ) (P : List ℕ → Type 0) → IfSome wanted (λ size. (more : List ℕ) → length more < size → P more) → (more : List ℕ) → length more < unwrap_or wanted 0 → P more
 told_short None P short more less = absurd (omega (arith, less))
 told_short (Some size) P short more less = short more less

@@ -1,4 +1,4 @@
--- What a worker's round over one text comes to.
+-- What a worker's round over one encoding comes to.
 use Rattle.std.proofs.Common.{◌≡◌, ◌⊎◌, ℕ, List, [], ◌∷◌, ◌∙◌, IsTrue, map, arith, inl, inr, refl, sym, subst}
 use Rattle.std.specs.List.{sum_by}
 use Rattle.b3tree.specs.Valid.{IsKeyed}

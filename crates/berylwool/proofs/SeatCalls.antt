@@ -1,4 +1,4 @@
--- Calls of a seat with texts that C hands in or is handed.
+-- Calls of a seat with encodings that C hands in or is handed.
 use Rattle.std.proofs.Common.{◌≡◌, ◌∙◌, ◌++◌, ℕ, List, length, subst, sym, take}
 use Rattle.std.proofs.lemmas.List.{take_at}
 use Rattle.b3tree.specs.declared.mode.Mode.{Mode}
@@ -9,7 +9,7 @@ use Rattle.store_core.specs.declared.history.Piece.{Piece}
 use Rattle.store_core.specs.declared.history.Serving.TheVariants.{Text}
 use Rattle.store_core.specs.Pieces.{piece_of}
 use Rattle.store_core.specs.Stores.{ChunksBind}
-use Rattle.store_calls.specs.Serving.{SliceBinds}
+use Rattle.store_calls.specs.Serving.{SeatSliceBinds}
 use Rattle.store_shared.specs.declared.assembly.Assembly.{Assembly}
 use Rattle.store_shared.specs.Seats.{Gripped, fixed_of}
 use Rattle.store_core.specs.Knowledge.{Called}
@@ -22,9 +22,9 @@ pub commits : (store : Assembly) (group : ℕ) (piece : Checked) (mode : Mode) (
 commits store group piece mode root start len text mask old new of called binds =
     subst (λ (p : Piece). Commits store group p mask old new) (piece_is piece mode root start len text of) (record { called = called; binds = binds })
 
--- the start of the buffer is the text
+-- the start of the buffer is the encoding
 pub serves : (start len : ℕ) (text there rest out : List ℕ) (n : ℕ) (old new : Gripped) → there ≡ text → n ≡ length there → out ≡ there ++ rest
-    → Called (Serve start len (Text text)) old.view new.view → SliceBinds new.view start len text → Serves start len (take n out) old new
+    → Called (Serve start len (Text text)) old.view new.view → SeatSliceBinds new.view start len text → Serves start len (take n out) old new
 serves start len text there rest out n old new is_there is_n is_out called binds =
     let starts : take n out ≡ text = (λ i. take n (is_out i)) ∙ take_at there rest n (sym is_n) ∙ is_there in
     subst (λ (t : List ℕ). Serves start len t old new) (sym starts) (record { called = called; binds = binds })

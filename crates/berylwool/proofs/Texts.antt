@@ -10,7 +10,7 @@ use Rattle.bao_check.specs.declared.checked.Checked.{Checked}
 use Rattle.bao_check.specs.declared.fault.CheckFault.{CheckFault}
 use Rattle.bao_check.specs.Checked.{IsPiece}
 use Rattle.bao_check.specs.Faults.{IsFirstFault}
-use Rattle.bao_text.specs.Nodes.{Node}
+use Rattle.bao_text.specs.Nodes.{TreeNode}
 use Rattle.store_core.specs.declared.fixed.Fixed.{Fixed}
 use Rattle.store_core.specs.Pieces.{piece_of}
 use Rattle.berylwool.specs.Calls.{slice_piece}
@@ -18,12 +18,12 @@ use Rattle.berylwool.specs.Pairs.{IsAudit}
 use Rattle.berylwool.specs.Status.{IsRefused, IsStatusOf}
 
 -- the first fault in the mode that C named
-pub refused : (of mode : Mode) (root text : List ℕ) (nodes : List Node) (fault : CheckFault) (status at : ℕ)
+pub refused : (of mode : Mode) (root text : List ℕ) (nodes : List TreeNode) (fault : CheckFault) (status at : ℕ)
     → of ≡ mode → IsStatusOf fault status at → IsFirstFault of root text nodes fault → IsRefused mode root text nodes status at
 refused of mode root text nodes fault status at is told first = subst (λ (m : Mode). IsRefused m root text nodes status at) is (fault, told, first)
 
 -- and in a store's, under its root
-pub refused_there : (fixed : Fixed) (mode : Mode) (root : Hash) (text : List ℕ) (nodes : List Node) (fault : CheckFault) (status at : ℕ)
+pub refused_there : (fixed : Fixed) (mode : Mode) (root : Hash) (text : List ℕ) (nodes : List TreeNode) (fault : CheckFault) (status at : ℕ)
     → mode ≡ fixed.mode → root ≡ fixed.root → IsStatusOf fault status at → IsFirstFault mode root.0 text nodes fault → IsRefused fixed.mode fixed.root.0 text nodes status at
 refused_there fixed mode root text nodes fault status at is_mode is_root told first =
     subst (λ (r : Hash). IsRefused fixed.mode r.0 text nodes status at) is_root (refused mode fixed.mode root.0 text nodes fault status at is_mode told first)
@@ -38,6 +38,6 @@ audited of mode root start len text blob piece told verdict is is_told of_piece 
 pub collided : (first second ours theirs : Input) → ours ≡ first → theirs ≡ second → Collision first second ≡ Collision ours theirs
 collided first second ours theirs is_first is_second = λ i. Collision (sym is_first i) (sym is_second i)
 
--- the piece that an accepted text is, by what C named
+-- the piece that an accepted encoding is, by what C named
 pub piece_is : (piece : Checked) (mode : Mode) (root : List ℕ) (start len : ℕ) (text : List ℕ) → IsPiece piece mode root start len text → piece_of piece ≡ slice_piece text start len
 piece_is piece mode root start len text of = λ i. record { start = of.start_is i; len = of.len_is i; text = of.text_is i }

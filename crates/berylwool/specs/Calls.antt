@@ -2,7 +2,7 @@
 use Rattle.std.specs.Prelude.{◌≡◌, ◌⊎◌, ℕ, List, length, Option}
 use Rattle.b3tree.specs.Hashing.{hash}
 use Rattle.bao_check.specs.Accepted.{IsAccepted, slice_nodes}
-use Rattle.store_calls.specs.Parents.{ParentsBind}
+use Rattle.store_calls.specs.Parents.{SeatParentsBind}
 use Rattle.store_core.specs.declared.fixed.Fixed.{Fixed}
 use Rattle.store_core.specs.declared.history.Call.TheVariants.{Commit, Parents, Serve, Settle}
 use Rattle.store_core.specs.declared.history.Piece.{Piece}
@@ -11,18 +11,18 @@ use Rattle.store_core.specs.declared.history.Settling.TheVariants.{Known, Settle
 use Rattle.store_core.specs.declared.history.Storing.TheVariants.{Stored}
 use Rattle.store_core.specs.declared.view.SeatView.{SeatView}
 use Rattle.store_core.specs.Stores.{ChunksBind, filled_count}
-use Rattle.store_calls.specs.Reading.{DidRead, ReadBinds}
-use Rattle.store_calls.specs.Serving.{SliceBinds}
+use Rattle.store_calls.specs.Reading.{SeatDidRead, SeatReadBinds}
+use Rattle.store_calls.specs.Serving.{SeatSliceBinds}
 use Rattle.store_shared.specs.declared.assembly.Assembly.{Assembly}
 use Rattle.store_shared.specs.Seats.{Gripped, fixed_of}
 use Rattle.store_core.specs.Knowledge.{AreMet, Called, KeepsClaims, NoneIsClaimedByBoth}
 use Rattle.berylwool.specs.Status.{IsRefused}
 
--- the piece that a text is as the slice of `len` bytes from byte `start` on
+-- the piece that an encoding is as the slice of `len` bytes from byte `start` on
 abbrev pub slice_piece : List ℕ → ℕ → ℕ → Piece
 slice_piece text start len = record { start = start; len = len; text = text }
 
--- the text is accepted as this slice, under the store's root
+-- the encoding is accepted as this slice, under the store's root
 abbrev pub IsSliceOf : Assembly → List ℕ → ℕ → ℕ → Type 0
 IsSliceOf store text start len = IsAccepted (fixed_of store).mode (fixed_of store).root.0 text (slice_nodes text start len)
 
@@ -30,30 +30,30 @@ IsSliceOf store text start len = IsAccepted (fixed_of store).mode (fixed_of stor
 abbrev pub IsNoSliceOf : Assembly → List ℕ → ℕ → ℕ → ℕ → ℕ → Type 0
 IsNoSliceOf store text start len status at = IsRefused (fixed_of store).mode (fixed_of store).root.0 text (slice_nodes text start len) status at
 
--- Chunks of the piece are stored: an event of the store, and for each blob with its root they are the blob's or a pair is named.
+-- Chunks of the piece are stored: an event of the store, and for each blob with its root they are the blob's or a collision is exhibited.
 pub record Commits (store : Assembly) (group : ℕ) (piece : Piece) (committed : ℕ) (old new : Gripped) : Type 0 where
   pub called : Called (Commit group piece committed) old.view new.view
   pub binds : ChunksBind (fixed_of store) piece group committed
 
 -- Parents of the piece are stored: an event of the store, and for each blob with its root those that the seat has seen held are the blob's
--- or a pair is named.
+-- or a collision is exhibited.
 pub record StoresParents (group : ℕ) (piece : Piece) (stored : ℕ) (old new : Gripped) : Type 0 where
   pub called : Called (Parents group piece (Stored stored)) old.view new.view
-  pub binds : ParentsBind new.view
+  pub binds : SeatParentsBind new.view
 
 -- the piece's length is recorded: now, or as it was
 abbrev pub HasSettled : Piece → SeatView → SeatView → Type 0
 HasSettled piece old new = Called (Settle piece Settled) old new ⊎ Called (Settle piece Known) old new
 
--- A read fills a buffer: an event of the store, and for each blob with its root the bytes are the blob's or a pair is named.
+-- A read fills a buffer: an event of the store, and for each blob with its root the bytes are the blob's or a collision is exhibited.
 pub record Reads (at : ℕ) (before after : List ℕ) (missing : Option ℕ) (old new : Gripped) : Type 0 where
-  pub did : DidRead old.view new.view at before after missing
-  pub binds : ReadBinds new.view at after (filled_count at (length before) missing)
+  pub did : SeatDidRead old.view new.view at before after missing
+  pub binds : SeatReadBinds new.view at after (filled_count at (length before) missing)
 
--- A slice is served: an event of the store, and for each blob with its root the text is the blob's slice or a pair is named.
+-- A slice is served: an event of the store, and for each blob with its root the encoding is the blob's slice or a collision is exhibited.
 pub record Serves (start len : ℕ) (text : List ℕ) (old new : Gripped) : Type 0 where
   pub called : Called (Serve start len (Text text)) old.view new.view
-  pub binds : SliceBinds new.view start len text
+  pub binds : SeatSliceBinds new.view start len text
 
 -- the bytes have the root of the store
 abbrev pub HasRoot : Fixed → List ℕ → Type 0

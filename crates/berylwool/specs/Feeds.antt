@@ -9,11 +9,11 @@ use Rattle.berylwool.specs.declared.held.Held.{Held}
 use Rattle.berylwool.specs.Handles.{HasFeed}
 use Rattle.berylwool.specs.Status.{IsRefused, IsStatusOf}
 
--- the handle checks a text as that, and has taken these bytes of it, all of them good
+-- the handle checks an encoding as that, and has taken these bytes of it, all of them good
 abbrev pub HasFed : Option Held → Task → List ℕ → Type 0
 HasFed held task taken = HasFeed (λ check. HasTakenAs check task taken) held
 
--- this is so of whatever it checks a text as, and has taken of it
+-- this is so of whatever it checks an encoding as, and has taken of it
 abbrev pub OfTaken : (Task → List ℕ → Type 0) → Checking → Type 0
 OfTaken so check = (task : Task) (taken : List ℕ) → HasTakenAs check task taken → so task taken
 
@@ -30,10 +30,10 @@ IsNextNode node check = wanted check ≡ Some (length node)
 abbrev pub IsBelowNode : List ℕ → Checking → Type 0
 IsBelowNode rest check = IfSome (wanted check) (λ size. length rest < size)
 
--- the status and the place are those of why the text's last node isn't taken
+-- the status and the place are those of why the encoding's last node isn't taken
 abbrev pub IsNodeRefused : Task → List ℕ → ℕ → ℕ → Type 0
 IsNodeRefused task text status at = (fault : CheckFault) × IsStatusOf fault status at × IsNodeFault task text fault
 
--- the status and the place are those of the text's first fault
+-- the status and the place are those of the encoding's first fault
 abbrev pub IsTextRefused : Task → List ℕ → ℕ → ℕ → Type 0
 IsTextRefused task text status at = IsRefused task.mode task.root text (slice_nodes text task.start task.len) status at

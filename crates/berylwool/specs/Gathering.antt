@@ -1,4 +1,4 @@
--- What one worker's round does to a seat, with a text that C hands in.
+-- What one worker's round does to a seat, with an encoding that C hands in.
 use Rattle.std.specs.Prelude.{◌≡◌, ◌⊎◌, ℕ, List, [], ◌∷◌, IsTrue, not, nat_eq}
 use Rattle.bao_text.specs.Cut.{cut_text}
 use Rattle.bao_text.specs.Texts.{slice_text}
@@ -26,17 +26,17 @@ report_of shown = record {
   too_large = not (nat_eq shown.too_large 0);
 }
 
--- the piece is a slice that is cut out of the text
+-- the piece is a slice that is cut out of the encoding
 abbrev pub IsOutOf : List ℕ → Piece → Type 0
 IsOutOf text = IsCutOf (text ∷ [])
 
--- all slices of the blob can be cut out of the text
+-- all slices of the blob can be cut out of the encoding
 abbrev pub HasSlices : List ℕ → Gripped → List ℕ → Type 0
 HasSlices text seat blob = (start len : ℕ) → cut_text text start len ≡ slice_text (fixed_of seat).mode blob start len
 
--- A worker's round over one text: what the report gained is that of the seat's own calls, of slices that are cut out of the text; it claims
+-- A worker's round over one encoding: what the report gained is that of the seat's own calls, of slices that are cut out of the encoding; it claims
 -- nothing more; what it has seen held binds to each blob with the root; the blob is called too large only where such a slice certifies that
--- it is; and where all slices of such a blob are in the text, a length is recorded, or memory was refused, or it is too large.
+-- it is; and where all slices of such a blob are in the encoding, a length is recorded, or memory was refused, or it is too large.
 pub record Gathers (text : List ℕ) (report report' : Report) (old new : Gripped) : Type 0 where
   pub reports : Reports fixed_of GoneOn old new (IsOutOf text) (IsOutOf text) 0 0 report report'
   pub claimed : Among (claims_of old) (claims_of new)

@@ -4,5 +4,5 @@ pub mod Gathering
 pub mod Handles
 pub mod Modes
 pub mod Pairs
-pub mod Served
+pub mod CNodes
 pub mod Status

@@ -12,6 +12,6 @@ use Rattle.berylwool.specs.declared.auditing.BwInput.{BwInput}
 abbrev pub input_of : BwInput → Input
 input_of shown = record { h = shown.h; m = shown.m; t = shown.t; b = shown.b; d = shown.d }
 
--- the text is accepted as this slice, and this is so of the blob and the piece that it is
+-- the encoding is accepted as this slice, and this is so of the blob and the piece that it is
 abbrev pub IsAudit : Mode → List ℕ → ℕ → ℕ → List ℕ → List ℕ → Verdict → Type 0
 IsAudit mode root start len text blob verdict = (piece : Checked) × IsPiece piece mode root start len text × Says blob piece verdict

@@ -1,7 +1,7 @@
 -- Faults as C has them: a number and a place.
 use Rattle.std.specs.Prelude.{◌≡◌, ℕ, List}
 use Rattle.b3tree.specs.declared.mode.Mode.{Mode}
-use Rattle.bao_text.specs.Nodes.{Node}
+use Rattle.bao_text.specs.Nodes.{TreeNode}
 use Rattle.bao_check.specs.declared.fault.CheckFault.{CheckFault}
 use Rattle.bao_check.specs.declared.fault.CheckFault.TheVariants.{Short, Mismatch, Trailing, Memory, Reader}
 use Rattle.bao_check.specs.Bare.{IsBareFault}
@@ -19,11 +19,11 @@ place_of Reader = 0
 abbrev pub IsStatusOf : CheckFault → ℕ → ℕ → Type 0
 IsStatusOf fault status at = (status ≡ number_of fault) × (at ≡ place_of fault)
 
--- the status and the place are those of the text's first fault, by these nodes
-abbrev pub IsRefused : Mode → List ℕ → List ℕ → List Node → ℕ → ℕ → Type 0
+-- the status and the place are those of the encoding's first fault, by these nodes
+abbrev pub IsRefused : Mode → List ℕ → List ℕ → List TreeNode → ℕ → ℕ → Type 0
 IsRefused mode root text nodes status at = (fault : CheckFault) × IsStatusOf fault status at × IsFirstFault mode root text nodes fault
 
--- or of the chunks beside an outboard text
+-- or of the chunks beside an outboard encoding
 abbrev pub IsBareRefused : Mode → List ℕ → List ℕ → ℕ → ℕ → List ℕ → ℕ → ℕ → Type 0
 IsBareRefused mode root outboard first count chunks status at =
     (fault : CheckFault) × IsStatusOf fault status at × IsBareFault mode root outboard first count chunks fault

@@ -42,9 +42,9 @@ fn shown(input: &Input) -> BwInput
 
 /// Audits `text`, the slice of `len` bytes from byte `start` on of the blob with the hash `root`, against `blob`.
 ///
-/// 0 where the text is accepted and each chunk of it is the blob's, and the length that it certifies, if it does, is the blob's. 501 to
-/// 503 as `bw_check_slice`. 601 exactly where it is accepted and the hash of `blob` isn't `root`. 602 where two different inputs with one
-/// chaining value are named: `ours` is one of those that hashing the blob compresses, and `theirs` one of those that checking the text
+/// 0 where the encoding is accepted and each chunk of it is the blob's, and the length that it certifies, if it does, is the blob's. 501 to
+/// 503 as `bw_check_slice`. 601 exactly where it is accepted and the hash of `blob` isn't `root`. 602 where a collision
+/// is exhibited: `ours` is one of those that hashing the blob compresses, and `theirs` one of those that checking the encoding
 /// compresses.
 #[unsafe(no_mangle)]
 pub extern "C" fn bw_audit(

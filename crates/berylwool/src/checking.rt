@@ -27,7 +27,7 @@ pub(crate) fn told(fault: &CheckFault, at: &mut u64) -> u32
 
 /// Checks `text` as the slice of `len` bytes from byte `start` on of the blob with the hash `root`.
 ///
-/// 0 exactly where it is accepted. Else its first fault, 501 short, 502 mismatch or 503 trailing, and at which byte of the text, in `at`.
+/// 0 exactly where it is accepted. Else its first fault, 501 short, 502 mismatch or 503 trailing, and at which byte of the encoding, in `at`.
 #[unsafe(no_mangle)]
 pub extern "C" fn bw_check_slice(
     alloc: Global,

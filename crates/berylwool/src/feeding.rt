@@ -15,10 +15,10 @@ use b3tree::Hash;
 use bao_check::Checking;
 use std::alloc::Global;
 
-/// Makes a check in pieces of a text as the slice of `len` bytes from byte `start` on of the blob with the hash `root`. It has taken nothing.
+/// Makes a check in pieces of an encoding as the slice of `len` bytes from byte `start` on of the blob with the hash `root`. It has taken nothing.
 /// What the handle owned is freed.
 ///
-/// 1203 where there is no memory: the handle is empty then.
+/// 1203 when out of memory: the handle is empty then.
 #[unsafe(no_mangle)]
 pub extern "C" fn bw_feed_slice(
     alloc: Global,
@@ -43,7 +43,7 @@ pub extern "C" fn bw_feed_slice(
     }
 }
 
-/// Makes a check in pieces of a text as the combined encoding of the blob with the hash `root`, as `bw_feed_slice` does.
+/// Makes a check in pieces of an encoding as the combined encoding of the blob with the hash `root`, as `bw_feed_slice` does.
 #[unsafe(no_mangle)]
 pub extern "C" fn bw_feed_combined(
     alloc: Global,
@@ -69,7 +69,7 @@ fn size_wanted(check: &Checking) -> usize
 }
 
 /// How many bytes `bw_feed_take` takes next, in `size`: 8 for the length, 64 for a parent and 1 to 1,024 for a chunk. 0 exactly where what
-/// was taken is an accepted text. A text that ends before so many more is short (501) at this place.
+/// was taken is an accepted encoding. An encoding that ends before so many more is short (501) at this place.
 ///
 /// 1202 exactly where the handle has no check in pieces: `size` is as it was then.
 #[unsafe(no_mangle)]
@@ -115,7 +115,7 @@ fn taken(check: &mut Checking, node: &[u8], at: &mut u64) -> u32
 
 /// Takes the node that comes next, as many bytes as `bw_feed_wants` says, and verifies it.
 ///
-/// 502 where it hasn't the value that its place asks for, with the place in `at`: that is the first fault of every text that begins with what
+/// 502 where it hasn't the value that its place asks for, with the place in `at`: that is the first fault of every encoding that begins with what
 /// was taken and this node. 504 where 2^64 bytes or more would have been taken. 1212 exactly where `node` has another length, or nothing is
 /// wanted, and 1202 exactly where the handle has no check in pieces. The check is as it was then, and can take other bytes in their place.
 #[unsafe(no_mangle)]
@@ -140,7 +140,7 @@ pub extern "C" fn bw_feed_take(alloc: Global, feed: &mut BwHandle, node: &[u8], 
     status
 }
 
-// Ends a text, as `bw_feed_finish` does.
+// Ends an encoding, as `bw_feed_finish` does.
 fn finished(check: &Checking, rest: &[u8], at: &mut u64) -> u32
     ensures accepted { result ≡ 0 → OfTaken (λ task taken. IsAcceptedAs task (taken ++ rest.now)) check.now }
     ensures fault { result ≢ 0 → result < 506 → OfTaken (λ task taken. IsTextRefused task (taken ++ rest.now) result at.new) check.now }
@@ -156,11 +156,11 @@ fn finished(check: &Checking, rest: &[u8], at: &mut u64) -> u32
     }
 }
 
-/// What `bw_check_slice` or `bw_check_combined` says of the whole text, where the text is what was taken and then `rest`, which is less than
+/// What `bw_check_slice` or `bw_check_combined` says of the whole encoding, where the encoding is what was taken and then `rest`, which is less than
 /// the node that comes next. The check is as it was, and can go on.
 ///
-/// 0 exactly where the text is accepted. Else its first fault, 501 short, or 503 trailing where nothing is wanted and `rest` follows, and at
-/// which byte of the text, in `at`. 1212 exactly where `rest` has all bytes of the node that comes next, and 1202 exactly where the handle has
+/// 0 exactly where the encoding is accepted. Else its first fault, 501 short, or 503 trailing where nothing is wanted and `rest` follows, and at
+/// which byte of the encoding, in `at`. 1212 exactly where `rest` has all bytes of the node that comes next, and 1202 exactly where the handle has
 /// no check in pieces.
 #[unsafe(no_mangle)]
 pub extern "C" fn bw_feed_finish(

@@ -75,18 +75,19 @@ fn gathered(
     };
     let mut all = counts(report);
     let mut holders = [Encoded::new(alloc, text)];
+    // A law, so that the proof has what it says: nothing runs.
     store.mode().is_keyed();
     work(alloc, &Shared(store), seat, &mut holders, place, &mut all);
     shown(&all)
 }
 
-/// One worker's round with one text, which may be the blob's combined encoding, or any bytes: N threads with a seat each are N workers.
+/// One worker's round with one encoding, which may be the blob's combined encoding, or any bytes: N threads with a seat each are N workers.
 ///
-/// If no length is recorded, the slice of the last byte is cut out of the text and checked, and the length that it certifies is settled; the
+/// If no length is recorded, the slice of the last byte is cut out of the encoding and checked, and the length that it certifies is settled; the
 /// round ends where there is none, or where it is above what the store has room for. With K groups the worker begins at group
 /// `number` % `workers` * K / `workers`, where 0 workers count as 1, and goes once round all groups: it claims a group's chunks that are
-/// neither held nor claimed, cuts their slice out of the text, checks it and commits from it, and gives back what is left. It stores the
-/// parents of each accepted slice too. No claim is left that it took. A further text is handed in by a further call.
+/// neither held nor claimed, cuts their slice out of the encoding, checks it and commits from it, and gives back what is left. It stores the
+/// parents of each accepted slice too. No claim is left that it took. A further encoding is handed in by a further call.
 ///
 /// `report` goes on from what it was: what was done is added to it.
 ///

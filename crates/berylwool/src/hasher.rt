@@ -13,7 +13,7 @@ use std::alloc::Global;
 
 /// Makes a hasher that has taken in nothing. What the handle owned is freed.
 ///
-/// 1203 where there is no memory: the handle is empty then.
+/// 1203 when out of memory: the handle is empty then.
 #[unsafe(no_mangle)]
 pub extern "C" fn bw_hasher_new(alloc: Global, mode: &BwMode, hasher: &mut BwHandle) -> u32
     ensures made { result ≡ 0 → HoldsIn hasher.new.held (mode_of mode.now) [] }

@@ -2,7 +2,7 @@ ghost use Rattle.std.specs.Prelude.{◌≡◌, ◌≢◌, ◌↔◌, ◌<◌, �
 ghost use Rattle.store_core.specs.declared.history.Call.TheVariants.{Give, Length, Settle, Take};
 ghost use Rattle.store_core.specs.declared.history.Settling.TheVariants.{Differs};
 ghost use Rattle.store_core.specs.Pieces.{EndsBlob, length_of};
-ghost use Rattle.store_shared.specs.Seats.{HasGroup, IsSeatOf, fixed_of};
+ghost use Rattle.store_shared.specs.Seats.{IsGroupOf, IsSeatOf, fixed_of};
 ghost use Rattle.store_core.specs.Knowledge.{ArePartsOf, Called, opening_view};
 ghost use Rattle.berylwool.specs.Handles.{HasSeat, SeatDid, SeatParts};
 ghost use Rattle.berylwool.specs.Modes.{mode_of};
@@ -26,7 +26,7 @@ use store_shared::{Assembly, Seat};
 /// Makes a store of a blob's chunks, which the seats that are split off share, and its first seat, which has seen nothing. `capacity` is
 /// a number of chunks. What the handle owned is freed.
 ///
-/// 802 unless the capacity is 1 to 65,536 chunks, asked before all else, and 801 or 1203 where there is no memory: the handle is empty then.
+/// 802 unless the capacity is 1 to 65,536 chunks, asked before all else, and 801 or 1203 when out of memory: the handle is empty then.
 #[unsafe(no_mangle)]
 pub extern "C" fn bw_store_new(
     alloc: Global,
@@ -61,7 +61,7 @@ pub extern "C" fn bw_store_new(
 
 /// Splits a seat in two: `seat` keeps its claims and its calls, and `other` has seen the same and has neither. What `other` owned is freed.
 ///
-/// 806 or 1203 where there is no memory, and 1202 where `seat` has no seat: then what `seat` has is as it was, and `other` is empty.
+/// 806 or 1203 when out of memory, and 1202 where `seat` has no seat: then what `seat` has is as it was, and `other` is empty.
 #[unsafe(no_mangle)]
 pub extern "C" fn bw_seat_split(alloc: Global, seat: &mut BwHandle, other: &mut BwHandle) -> u32
     ensures parts { result ≡ 0 → SeatParts (λ old first second. ArePartsOf old.view first.view second.view) seat.old.held seat.new.held other.new.held }
@@ -128,7 +128,7 @@ pub extern "C" fn bw_seat_take(
     granted: &mut u64,
 ) -> u32
     ensures called { result ≡ 0 → SeatDid (λ _ old new. Called (Take group want granted.new) old.view new.view) seat.old.held seat.new.held }
-    ensures group { result ≡ 0 ↔ HasSeat (λ store _. HasGroup store group) seat.old.held }
+    ensures group { result ≡ 0 ↔ HasSeat (λ store _. IsGroupOf store group) seat.old.held }
     ensures no_seat { result ≡ 1202 ↔ (¬ HasSeat (λ _ _. Unit) seat.old.held) }
     ensures status { result ≢ 0 → result ≢ 1202 → result ≡ 803 }
     ensures same { result ≢ 0 → seat.new.held ≡ seat.old.held }
@@ -180,7 +180,7 @@ pub extern "C" fn bw_seat_give(
     status
 }
 
-// Commits a text to the seat's claims, as `bw_seat_commit` does.
+// Commits an encoding to the seat's claims, as `bw_seat_commit` does.
 fn committed(
     alloc: Global,
     store: &Assembly,
@@ -255,7 +255,7 @@ pub extern "C" fn bw_seat_commit(
     status
 }
 
-// Settles the length by a text, as `bw_seat_settle` does.
+// Settles the length by an encoding, as `bw_seat_settle` does.
 fn settled(alloc: Global, store: &Assembly, seat: &mut Seat, text: &[u8], at: &mut u64) -> u32
     requires { IsSeatOf store.now seat.old }
     ensures of { IsSeatOf store.now seat.new }
@@ -288,7 +288,7 @@ fn settled(alloc: Global, store: &Assembly, seat: &mut Seat, text: &[u8], at: &m
 /// Checks `text` as the slice (2^64 - 1, 1), which has the last chunk, under the store's root, and records the length that it certifies, if
 /// none is recorded. 0 where that length is recorded now, by this call or before.
 ///
-/// 501 to 503 as `bw_check_slice`, with the place in `at`. 805 where the length is above what the store has room for, 1205 where the text
+/// 501 to 503 as `bw_check_slice`, with the place in `at`. 805 where the length is above what the store has room for, 1205 where the encoding
 /// doesn't have the last chunk of its length, and 1202 where the handle has no seat. Nothing is asked then. 1206 where another length is
 /// recorded, which stays.
 #[unsafe(no_mangle)]

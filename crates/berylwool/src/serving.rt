@@ -6,7 +6,7 @@ ghost use Rattle.store_shared.specs.Seats.{IsSeatOf};
 ghost use Rattle.store_core.specs.Knowledge.{Called, Sees};
 ghost use Rattle.berylwool.specs.Calls.{IsNoSliceOf, IsSliceOf, Serves, StoresParents, slice_piece};
 ghost use Rattle.berylwool.specs.Handles.{HasSeat, SeatDid};
-ghost use Rattle.berylwool.specs.Served.{node_of};
+ghost use Rattle.berylwool.specs.CNodes.{node_of};
 
 use crate::checking::told;
 use crate::handle::{BwHandle, put, take};
@@ -18,7 +18,7 @@ use bao_text::Node;
 use std::alloc::Global;
 use store_shared::{Assembly, ParentsFault, Seat, ServeFault};
 
-// Stores the parents of a text, as `bw_seat_commit_parents` does.
+// Stores the parents of an encoding, as `bw_seat_commit_parents` does.
 fn stored(
     alloc: Global,
     store: &Assembly,
@@ -55,10 +55,10 @@ fn stored(
 
 /// Checks `text` as the slice of `len` bytes from byte `start` on under the store's root, stores parents of it at boundaries of a group,
 /// and answers their mask in `stored`: bit j stands for the parent whose right part begins at chunk 64 * group + j. They are parents that
-/// the text has, and that nobody holds or is storing yet: 0 for a group that isn't there.
+/// the encoding has, and that nobody holds or is storing yet: 0 for a group that isn't there.
 ///
 /// 501 to 503 as `bw_check_slice`, with the place in `at`, and 1202 where the handle has no seat: nothing is asked then. 807 where the length
-/// that the text claims isn't the recorded one, or there is none.
+/// that the encoding claims isn't the recorded one, or there is none.
 #[unsafe(no_mangle)]
 pub extern "C" fn bw_seat_commit_parents(
     alloc: Global,
@@ -154,10 +154,10 @@ fn served(
     }
 }
 
-/// Puts the text of the slice (`start`, `len`) of the blob to the start of `out`, and how long it is to `used`: the recorded length, and the
+/// Puts the encoding of the slice (`start`, `len`) of the blob to the start of `out`, and how long it is to `used`: the recorded length, and the
 /// bytes of the slice's nodes. `bw_encoded_len` of the recorded length is always enough room.
 ///
-/// 808 where no length is recorded, 809 where a node isn't held, with the first such in the text's order in `lacking`, 810 where there is no
+/// 808 where no length is recorded, 809 where a node isn't held, with the first such in the encoding's order in `lacking`, 810 where there is no
 /// memory, 1201 where `out` has no room, and 1202 where the handle has no seat: then `out` is unchanged.
 #[unsafe(no_mangle)]
 pub extern "C" fn bw_seat_serve_slice(

@@ -1,6 +1,6 @@
 // The statuses that no fault of the libraries has. 0 is success everywhere.
 
-/// Two inputs with one chaining value are named. Number 602.
+/// A collision is exhibited. Number 602.
 pub(crate) const COLLISION: u32 = 602;
 
 /// The length is above what the store has room for. Number 805.
@@ -18,7 +18,7 @@ pub(crate) const ROOM: u32 = 1201;
 /// A handle is empty, or is of another kind than the call asks for. Number 1202.
 pub(crate) const NO_HANDLE: u32 = 1202;
 
-/// There was no memory for what a handle owns. Number 1203.
+/// Out of memory for what a handle owns. Number 1203.
 pub(crate) const NO_MEMORY: u32 = 1203;
 
 /// A byte of the range isn't held. Number 1204.

@@ -33,7 +33,7 @@ pub extern "C" fn bw_outboard_len(len: u64) -> u64
 
 /// Writes the combined encoding of `bytes` to the start of `out`, how long it is to `used`, and the hash of `bytes` to `root`.
 ///
-/// 401 where there is no memory, and 1201 where `out` has no room: then `out` is unchanged.
+/// 401 when out of memory, and 1201 where `out` has no room: then `out` is unchanged.
 #[unsafe(no_mangle)]
 pub extern "C" fn bw_encode(
     alloc: Global,
@@ -66,7 +66,7 @@ pub extern "C" fn bw_encode(
 
 /// Writes the outboard encoding of `bytes`, as `bw_encode` writes the combined one.
 ///
-/// 401 where there is no memory, and 1201 where `out` has no room: then `out` is unchanged.
+/// 401 when out of memory, and 1201 where `out` has no room: then `out` is unchanged.
 #[unsafe(no_mangle)]
 pub extern "C" fn bw_outboard(
     alloc: Global,
@@ -99,7 +99,7 @@ pub extern "C" fn bw_outboard(
 
 /// Writes the slice of `len` bytes from byte `start` on of `bytes` to the start of `out`, how long it is to `used`, and the hash of `bytes` to `root`.
 ///
-/// 401 where there is no memory, and 1201 where `out` has no room: then `out` is unchanged.
+/// 401 when out of memory, and 1201 where `out` has no room: then `out` is unchanged.
 #[unsafe(no_mangle)]
 pub extern "C" fn bw_slice(
     alloc: Global,
@@ -135,7 +135,7 @@ pub extern "C" fn bw_slice(
 /// Cuts the slice of `len` bytes from byte `start` on out of the combined encoding `text`, and checks nothing: what isn't there is left
 /// out. It is written to the start of `out`, and how long it is to `used`.
 ///
-/// 401 where there is no memory, and 1201 where `out` has no room: then `out` is unchanged.
+/// 401 when out of memory, and 1201 where `out` has no room: then `out` is unchanged.
 #[unsafe(no_mangle)]
 pub extern "C" fn bw_cut_slice(
     alloc: Global,

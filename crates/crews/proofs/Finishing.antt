@@ -21,7 +21,7 @@ use Rattle.store_core.specs.Views.{names_of}
 use Rattle.store_core.proofs.Lasting.{record_lasts, run-append}
 use Rattle.store_core.proofs.Origins.{record_is_settled}
 use Rattle.store_core.proofs.ReadLaws.{read_means}
-use Rattle.store_calls.specs.Reading.{DidRead}
+use Rattle.store_calls.specs.Reading.{SeatDidRead}
 use Rattle.store_core.specs.Knowledge.{Called, event_of}
 use Rattle.store_shared.proofs.Asking.{right_there}
 
@@ -55,7 +55,7 @@ filled_whole bytes old new filled all =
     filled ∙ ap (λ (rest : List ℕ). bytes ++ rest) (drop_all (length bytes) old (omega (arith, all))) ∙ append-nil bytes
 
 pub read_whole : (old then new : SeatView) (before after : List ℕ) (l : ℕ) → length before ≡ l → Called (Length (Some l)) old then
-    → DidRead then new 0 before after None → IsWhole (state_after new.seen) after
+    → SeatDidRead then new 0 before after None → IsWhole (state_after new.seen) after
 read_whole old then new before after l long asked read =
     let is : after ≡ read.bytes = filled_whole read.bytes before after read.filled read.answer in
     let len : length before ≡ length after = sym read.answer ∙ ap length (sym is) in
@@ -65,7 +65,7 @@ read_whole old then new before after l long asked read =
     }
 
 pub read_lacks : (old then new : SeatView) (before after : List ℕ) (p l : ℕ) → length before ≡ l → Called (Length (Some l)) old then
-    → DidRead then new 0 before after (Some p) → LacksByte (state_after new.seen)
+    → SeatDidRead then new 0 before after (Some p) → LacksByte (state_after new.seen)
 read_lacks old then new before after p l long asked read =
     let is : IsRead (state_after new.seen) 0 (length before) read.bytes =
     (read_means (state_after new.seen) 0 (length before) read.bytes).0 (read_there then new 0 (length before) read.bytes read.called) in
@@ -78,7 +78,7 @@ read_lacks old then new before after p l long asked read =
     }
 
 pub asks_both : (old then new : SeatView) (before after : List ℕ) (l : ℕ) (missing : Option ℕ) → length before ≡ l → Called (Length (Some l)) old then
-    → DidRead then new 0 before after missing → Asks old new
+    → SeatDidRead then new 0 before after missing → Asks old new
 asks_both old then new before after l missing long asked read =
     inr (record { len = l; then = then; length = asked; bytes = read.bytes; read = subst (λ (k : ℕ). Called (Read 0 k read.bytes) then new) long read.called })
 

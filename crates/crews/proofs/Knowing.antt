@@ -22,7 +22,7 @@ use Rattle.store_core.specs.States.{State, empty}
 use Rattle.store_core.proofs.Lasting.{legal-append, record_lasts, run-append}
 use Rattle.store_shared.specs.declared.fault.NoGroup.{NoGroup}
 use Rattle.store_shared.specs.declared.fault.OtherRoot.{OtherRoot as OtherRootFault}
-use Rattle.store_shared.specs.Calls.{Settles}
+use Rattle.store_shared.specs.Calls.{SeatSettles}
 use Rattle.store_shared.proofs.Asking.{right_there}
 use Rattle.store_shared.specs.Seats.{Gripped}
 use Rattle.store_core.specs.Knowledge.{Called, event_of}
@@ -91,7 +91,7 @@ settled_there old new piece answer called =
     ∙ ap (λ (s : State). s.recorded) (run-append empty (old.view.seen ++ called.between) (event_of old.view (Settle piece answer) ∷ [])) in
     (met.0, recorded_on new met.0 (then ∙ met.1))
 
-pub settle_records : (fixed : Fixed) (old new : Gripped) (piece : Checked) (answer : Settling) → Settles fixed old new piece answer → answer ≢ TooLarge → answer ≢ OtherRoot
+pub settle_records : (fixed : Fixed) (old new : Gripped) (piece : Checked) (answer : Settling) → SeatSettles fixed old new piece answer → answer ≢ TooLarge → answer ≢ OtherRoot
     → (l : ℕ) × Records new l
 settle_records fixed old new piece Settled settles small same = settled_there old new (piece_of piece) Settled settles.1
 settle_records fixed old new piece Known settles small same = settled_there old new (piece_of piece) Known settles.1

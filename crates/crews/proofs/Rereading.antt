@@ -15,7 +15,7 @@ use Rattle.crews.proofs.Uniting.{merge_has, merged_calls, names_same, split_all}
 use Rattle.gather.specs.declared.fault.FinishFault.{FinishFault}
 use Rattle.gather.specs.declared.fault.FinishFault.TheVariants.{Unfinished}
 use Rattle.gather.specs.Finished.{IsWhole}
-use Rattle.store_calls.specs.Reading.{DidRead}
+use Rattle.store_calls.specs.Reading.{SeatDidRead}
 use Rattle.store_core.specs.declared.fixed.Fixed.{Fixed}
 use Rattle.store_core.specs.declared.history.Call.{Call}
 use Rattle.store_core.specs.declared.history.Call.TheVariants.{Length, Read}
@@ -231,13 +231,13 @@ full_lasts fixed seen later more len is legal full =
     )
 
 -- a read that was filled
-pub part_there : (old new : SeatView) (at : ℕ) (before after : List ℕ) → DidRead old new at before after None
+pub part_there : (old new : SeatView) (at : ℕ) (before after : List ℕ) → SeatDidRead old new at before after None
     → after ≡ read_bytes (state_after new.seen) at (length before)
 part_there old new at before after read =
     filled_whole read.bytes before after read.filled read.answer ∙ read_there old new at (length before) read.bytes read.called
 
 -- and one that wasn't
-pub part_lacks : (old new : SeatView) (at p : ℕ) (before after : List ℕ) → DidRead old new at before after (Some p) → LackedByte old new at (length before)
+pub part_lacks : (old new : SeatView) (at p : ℕ) (before after : List ℕ) → SeatDidRead old new at before after (Some p) → LackedByte old new at (length before)
 part_lacks old new at p before after read =
     let called = read.called in
     let is : IsRead (state_after (old.seen ++ called.between)) at (length before) read.bytes =

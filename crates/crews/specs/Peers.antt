@@ -4,7 +4,7 @@ use Rattle.bao_text.specs.declared.walk.Node.{Node}
 use Rattle.store_core.specs.declared.history.Call.TheVariants.{Serve}
 use Rattle.store_core.specs.declared.history.Serving.TheVariants.{Lacking, NoLength, Text}
 use Rattle.store_core.specs.declared.view.SeatView.{SeatView}
-use Rattle.store_calls.specs.Serving.{SliceBinds}
+use Rattle.store_calls.specs.Serving.{SeatSliceBinds}
 use Rattle.store_shared.specs.declared.assembly.Assembly.{Assembly}
 use Rattle.store_shared.specs.Seats.{Gripped}
 use Rattle.store_core.specs.Knowledge.{Called, Sees}
@@ -25,7 +25,7 @@ pub record Fetches (start len : ℕ) (before after : List ℕ) (old new : SeatVi
   pub text : List ℕ
   pub is : after ≡ before ++ text
   pub served : IsServed start len text old new
-  pub binds : (text ≡ []) ⊎ SliceBinds new start len text
+  pub binds : (text ≡ []) ⊎ SeatSliceBinds new start len text
 
 -- there was no memory for the slice, or for what it is appended to
 abbrev pub Starves : ℕ → ℕ → SeatView → SeatView → Type 0

@@ -5,7 +5,7 @@ use Rattle.std.proofs.lemmas.Bool.{le-ltb, leb-true}
 use Rattle.std.proofs.lemmas.List.{append-nil, append_assoc, drop_at, take-take}
 use Rattle.std.proofs.lemmas.List.Sums.{sum_by-append}
 use Rattle.bao_text.specs.Cut.{claimed, cut_nodes, cut_text, has_all}
-use Rattle.bao_text.specs.Nodes.{Node, nodes, size}
+use Rattle.bao_text.specs.Nodes.{TreeNode, nodes, size}
 use Rattle.bao_text.proofs.Cutting.{cut_nodes-append, cut_nodes-append_short, has_all-append, has_all-append_short}
 use Rattle.gather.specs.Places.{OfBytes, slice_len}
 use Rattle.gather.specs.Plains.{part_of}
@@ -13,16 +13,16 @@ use Rattle.gather.specs.Reads.{Cuts}
 use Rattle.gather.proofs.Runs.{IsRun}
 
 -- nothing is wanted
-pub Cuts-none : (contents : Option (List ℕ)) (old : List ℕ) (nodes : List Node) (n : ℕ) → nodes ≡ [] → Cuts contents old old nodes n true
+pub Cuts-none : (contents : Option (List ℕ)) (old : List ℕ) (nodes : List TreeNode) (n : ℕ) → nodes ≡ [] → Cuts contents old old nodes n true
 Cuts-none None old nodes n none = record { cut = tt; all = tt; few = omega arith }
 Cuts-none (Some s) old nodes n none = record {
-  cut = λ _. sym (append-nil old) ∙ ap (λ (xs : List Node). old ++ cut_nodes s xs) (sym none);
+  cut = λ _. sym (append-nil old) ∙ ap (λ (xs : List TreeNode). old ++ cut_nodes s xs) (sym none);
   all = λ _ _. ap (has_all s) (sym none);
   few = omega arith;
 }
 
 -- one part
-pub Cuts-run : (contents : Option (List ℕ)) (old new : List ℕ) (at k n : ℕ) (nodes : List Node) (whole : Bool) → IsRun at k nodes → n ≤ k
+pub Cuts-run : (contents : Option (List ℕ)) (old new : List ℕ) (at k n : ℕ) (nodes : List TreeNode) (whole : Bool) → IsRun at k nodes → n ≤ k
     → OfBytes contents (λ s. new ≡ old ++ part_of s at k) → OfBytes contents (λ s. 0 < k → whole ≡ nat_le (at + k) (length s)) → length new ≤ length old + k
     → Cuts contents old new nodes n whole
 Cuts-run None old new at k n nodes whole run some part all few = record { cut = tt; all = tt; few = omega (arith, run.len) }
@@ -33,7 +33,7 @@ Cuts-run (Some s) old new at k n nodes whole run some part all few = record {
 }
 
 -- the nodes after those that aren't all there count for nothing
-pub Cuts-short : (contents : Option (List ℕ)) (old new : List ℕ) (xs ys : List Node) (k n : ℕ) → 0 < k → Cuts contents old new xs k false → Cuts contents old new (xs ++ ys) n false
+pub Cuts-short : (contents : Option (List ℕ)) (old new : List ℕ) (xs ys : List TreeNode) (k n : ℕ) → 0 < k → Cuts contents old new xs k false → Cuts contents old new (xs ++ ys) n false
 Cuts-short None old new xs ys k n some h = record { cut = tt; all = tt; few = omega (arith, h.few, sum_by-append size xs ys) }
 Cuts-short (Some s) old new xs ys k n some h = record {
   cut = λ fits. h.cut fits ∙ ap (λ (bytes : List ℕ). old ++ bytes) (sym (cut_nodes-append_short s xs ys (sym (h.all fits some))));
@@ -42,7 +42,7 @@ Cuts-short (Some s) old new xs ys k n some h = record {
 }
 
 -- those after nodes that are all there follow
-pub Cuts-then : (contents : Option (List ℕ)) (old mid new : List ℕ) (xs ys : List Node) (k m n : ℕ) (whole : Bool) → 0 < k → 0 < m
+pub Cuts-then : (contents : Option (List ℕ)) (old mid new : List ℕ) (xs ys : List TreeNode) (k m n : ℕ) (whole : Bool) → 0 < k → 0 < m
     → Cuts contents old mid xs k true → Cuts contents mid new ys m whole → Cuts contents old new (xs ++ ys) n whole
 Cuts-then None old mid new xs ys k m n whole some more a b = record { cut = tt; all = tt; few = omega (arith, a.few, b.few, sum_by-append size xs ys) }
 Cuts-then (Some s) old mid new xs ys k m n whole some more a b = record {

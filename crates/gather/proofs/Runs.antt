@@ -8,13 +8,13 @@ use Rattle.b3tree.proofs.Pieces.{piece-append}
 use Rattle.bao_text.specs.declared.choice.Choice.{Choice}
 use Rattle.bao_text.specs.Choice.{wants}
 use Rattle.bao_text.specs.Cut.{cut_nodes, has, has_all}
-use Rattle.bao_text.specs.Nodes.{Node, Side, left, right, size, subtree_nodes, subtree_size}
+use Rattle.bao_text.specs.Nodes.{TreeNode, Side, left, right, size, subtree_nodes, subtree_size}
 use Rattle.bao_text.proofs.Cutting.{cut_nodes-append, cut_nodes-append_short, cut_nodes-one, has_all-append, has_all-append_short, has_all-one}
 use Rattle.bao_text.proofs.SubtreeNodes.{parent_node, subtree_nodes-leaf, subtree_nodes-parent, subtree_size-parts}
 use Rattle.bao_text.proofs.SubtreeText.{Parts, left_len-Parts}
 
 -- the k bytes from a place on
-pub record IsRun (at k : ℕ) (nodes : List Node) : Type 0 where
+pub record IsRun (at k : ℕ) (nodes : List TreeNode) : Type 0 where
   pub len : sum_by size nodes ≡ k
   pub cut : (s : List ℕ) → cut_nodes s nodes ≡ take k (drop at s)
   pub all : (s : List ℕ) → 0 < k → has_all s nodes ≡ nat_le (at + k) (length s)
@@ -23,20 +23,20 @@ pub record IsRun (at k : ℕ) (nodes : List Node) : Type 0 where
 ended : (s : List ℕ) (at k : ℕ) → length s ≤ at + k → take k (drop at s) ≡ drop at s
 ended s at k short = take_all k (drop at s) (omega (arith, length-drop at s))
 
-run-one_cut : (x : Node) (s : List ℕ) → cut_nodes s (x ∷ []) ≡ take (size x) (drop x.source s)
+run-one_cut : (x : TreeNode) (s : List ℕ) → cut_nodes s (x ∷ []) ≡ take (size x) (drop x.source s)
 run-one_cut x s = elim (cases_Bool (has s x)) [
   | inl there ↦ cut_nodes-one s x ∙ rw there refl
   | inr gone ↦ cut_nodes-one s x ∙ rw gone (sym (ended s x.source (size x) (let short : length s < x.source + size x = leb-false (x.source + size x) (length s) gone in omega arith)))
 ]
 
-pub run-one : (x : Node) → IsRun x.source (size x) (x ∷ [])
+pub run-one : (x : TreeNode) → IsRun x.source (size x) (x ∷ [])
 run-one x = record {
   len = omega arith;
   cut = run-one_cut x;
   all = λ s some. has_all-one s x;
 }
 
-run-append_cut : (at j k : ℕ) (xs ys : List Node) (s : List ℕ) → 0 < j → IsRun at j xs → IsRun (at + j) k ys → cut_nodes s (xs ++ ys) ≡ take (j + k) (drop at s)
+run-append_cut : (at j k : ℕ) (xs ys : List TreeNode) (s : List ℕ) → 0 < j → IsRun at j xs → IsRun (at + j) k ys → cut_nodes s (xs ++ ys) ≡ take (j + k) (drop at s)
 run-append_cut at j k xs ys s some a b = elim (cases_Bool (has_all s xs)) [
   | inl there ↦ cut_nodes-append s xs ys there ∙ (λ i. a.cut s i ++ b.cut s i) ∙ sym (piece-append s at j k)
   | inr gone ↦
@@ -44,7 +44,7 @@ run-append_cut at j k xs ys s some a b = elim (cases_Bool (has_all s xs)) [
       cut_nodes-append_short s xs ys gone ∙ a.cut s ∙ ended s at j (omega arith) ∙ sym (ended s at (j + k) (omega arith))
 ]
 
-run-append_all : (at j k : ℕ) (xs ys : List Node) (s : List ℕ) → 0 < j → 0 < k → IsRun at j xs → IsRun (at + j) k ys → has_all s (xs ++ ys) ≡ nat_le (at + (j + k)) (length s)
+run-append_all : (at j k : ℕ) (xs ys : List TreeNode) (s : List ℕ) → 0 < j → 0 < k → IsRun at j xs → IsRun (at + j) k ys → has_all s (xs ++ ys) ≡ nat_le (at + (j + k)) (length s)
 run-append_all at j k xs ys s some more a b = elim (cases_Bool (has_all s xs)) [
   | inl there ↦
       let place : at + j + k ≡ at + (j + k) = omega arith in
@@ -55,7 +55,7 @@ run-append_all at j k xs ys s some more a b = elim (cases_Bool (has_all s xs)) [
 ]
 
 -- and those that follow
-pub run-append : (at j k : ℕ) (xs ys : List Node) → 0 < j → 0 < k → IsRun at j xs → IsRun (at + j) k ys → IsRun at (j + k) (xs ++ ys)
+pub run-append : (at j k : ℕ) (xs ys : List TreeNode) → 0 < j → 0 < k → IsRun at j xs → IsRun (at + j) k ys → IsRun at (j + k) (xs ++ ys)
 run-append at j k xs ys some more a b = record {
   len = sum_by-append size xs ys ∙ (λ i. a.len i + b.len i);
   cut = λ s. run-append_cut at j k xs ys s some a b;
@@ -66,10 +66,10 @@ run-append at j k xs ys some more a b = record {
 pub run-chunk : (choice : Choice) (number n : ℕ) (sides : List Side) (at : ℕ) → n ≤ 1024 → choice.chunks ≡ true → wants choice (1024 * number) n ≡ true
     → IsRun at (subtree_size n) (subtree_nodes choice number n sides at)
 run-chunk choice number n sides at one chunks wanted =
-    let node : Node = record { is_chunk = true; number = number; len = n; sides = sides; source = at } in
+    let node : TreeNode = record { is_chunk = true; number = number; len = n; sides = sides; source = at } in
     let leaf : subtree_nodes choice number n sides at ≡ node ∷ [] = subtree_nodes-leaf choice number n sides at wanted one ∙ rw chunks refl in
     let len : n ≡ subtree_size n = omega arith in
-    subst (λ (nodes : List Node). IsRun at (subtree_size n) nodes) (sym leaf) (subst (λ (k : ℕ). IsRun at k (node ∷ [])) len (run-one node))
+    subst (λ (nodes : List TreeNode). IsRun at (subtree_size n) nodes) (sym leaf) (subst (λ (k : ℕ). IsRun at k (node ∷ [])) len (run-one node))
 
 wants_all : (choice : Choice) (at n : ℕ) → choice.start ≤ at → at + max n 1 ≤ choice.end → wants choice at n ≡ true
 wants_all choice at n start end = and_from _ _ (lt-ltb at choice.end (omega arith)) (lt-ltb choice.start (at + max n 1) (omega arith))
@@ -82,9 +82,9 @@ run-levels (suc levels) choice number n sides at hn chunks start end = elim (cas
   | inl more ↦
       let l : ℕ = left_len n in
       let parts : Parts n l = left_len-Parts n more in
-      let node : Node = parent_node number n sides at in
-      let near : List Node = subtree_nodes choice number l (sides ++ left ∷ []) (at + 64) in
-      let far : List Node = subtree_nodes choice (number + l / 1024) (n - l) (sides ++ right ∷ []) (at + 64 + subtree_size l) in
+      let node : TreeNode = parent_node number n sides at in
+      let near : List TreeNode = subtree_nodes choice number l (sides ++ left ∷ []) (at + 64) in
+      let far : List TreeNode = subtree_nodes choice (number + l / 1024) (n - l) (sides ++ right ∷ []) (at + 64 + subtree_size l) in
       let tree : subtree_nodes choice number n sides at ≡ node ∷ (near ++ far) = subtree_nodes-parent choice number n sides at (wants_all choice (1024 * number) n start end) more in
       let a : IsRun (at + 64) (subtree_size l) near =
       run-levels levels choice number l (sides ++ left ∷ []) (at + 64) (omega (arith, parts.whole, parts.below)) chunks start (omega (arith, parts.some, parts.below)) in
@@ -95,7 +95,7 @@ run-levels (suc levels) choice number n sides at hn chunks start end = elim (cas
       let whole : IsRun at (64 + (subtree_size l + subtree_size (n - l))) (node ∷ (near ++ far)) =
       run-append at 64 (subtree_size l + subtree_size (n - l)) (node ∷ []) (near ++ far) (omega arith) (omega (arith, parts.some)) (run-one node) both in
       let len : 64 + (subtree_size l + subtree_size (n - l)) ≡ subtree_size n = omega (arith, subtree_size-parts n more) in
-      subst (λ (nodes : List Node). IsRun at (subtree_size n) nodes) (sym tree) (subst (λ (k : ℕ). IsRun at k (node ∷ (near ++ far))) len whole)
+      subst (λ (nodes : List TreeNode). IsRun at (subtree_size n) nodes) (sym tree) (subst (λ (k : ℕ). IsRun at k (node ∷ (near ++ far))) len whole)
 ]
 
 -- a subtree of which everything is wanted

@@ -10,7 +10,7 @@ use Rattle.bao_check.specs.Accepted.{IsGood, end_of}
 use Rattle.bao_check.specs.Parents.{parent_place}
 use Rattle.bao_check.proofs.Lists.{All-from_members, All-member}
 use Rattle.bao_check.proofs.Parenting.{parent_in-place, parent_place-within}
-use Rattle.bao_text.specs.Nodes.{Node}
+use Rattle.bao_text.specs.Nodes.{TreeNode}
 use Rattle.store_core.specs.declared.fixed.Fixed.{Fixed}
 use Rattle.store_core.specs.declared.history.Event.{Event}
 use Rattle.store_core.specs.declared.history.Piece.{Piece}
@@ -21,7 +21,7 @@ use Rattle.store_core.specs.Pieces.{IsAcceptedPiece, parent_bytes, places_in}
 use Rattle.store_core.specs.States.{State, byte_at, is_held}
 use Rattle.store_core.proofs.CellWords.{cell_get, cell_is}
 use Rattle.store_core.proofs.ParentOrigins.{parent_is_stored}
-use Rattle.store_calls.specs.Filled.{IsFilled, Stops}
+use Rattle.store_calls.specs.Filled.{IsBufferFilled, StopsFilling}
 use Rattle.store_calls.proofs.Filling.{filled_then, put_filled}
 use Rattle.store_calls.proofs.Holding.{held_valid, some_there}
 use Rattle.store_steps.specs.Layout.{parent_word}
@@ -39,7 +39,7 @@ parent_taken text bytes (Some at) valid within is =
 piece_parent : (fixed : Fixed) (piece : Piece) (m : ℕ) (bytes : List ℕ) → IsAcceptedPiece fixed piece → parent_bytes piece m ≡ Some bytes
     → AreBytes bytes × (length bytes ≡ 64)
 piece_parent fixed piece m bytes accepted has =
-    let places : List (ℕ × Node) = places_in piece in
+    let places : List (ℕ × TreeNode) = places_in piece in
     let good = IsGood fixed.mode fixed.root.0 piece.text places in
     parent_taken piece.text bytes (parent_place places m) accepted.bytes
     (parent_place-within (length piece.text) places m
@@ -74,8 +74,8 @@ word_at bytes i word valid size below is =
 -- one word more
 pub parent_more : (fixed : Fixed) (history : List Event) (m w word : ℕ) (first old new part : List ℕ) → IsLegal fixed history → is_some ((state_after history).parents m) ≡ true
     → w < 8 → ((bytes : List ℕ) → (state_after history).parents m ≡ Some bytes → word ≡ parent_word bytes w) → part ≡ to_le_bytes w64 word → length first ≡ 64
-    → IsFilled (beside (state_after history) m) 0 0 (8 * w) first old → new ≡ take (8 * w) old ++ (part ++ drop (8 * w + length part) old)
-    → IsFilled (beside (state_after history) m) 0 0 (8 * (w + 1)) first new
+    → IsBufferFilled (beside (state_after history) m) 0 0 (8 * w) first old → new ≡ take (8 * w) old ++ (part ++ drop (8 * w + length part) old)
+    → IsBufferFilled (beside (state_after history) m) 0 0 (8 * (w + 1)) first new
 parent_more fixed history m w word first old new part legal held less found part_is size filled put =
     let s : State = beside (state_after history) m in
     let there = some_there ((state_after history).parents m) held in
@@ -84,7 +84,7 @@ parent_more fixed history m w word first old new part legal held less found part
     let eight : length part ≡ 8 = ap (λ (xs : List ℕ). length xs) part_is in
     let next : 8 * w + length part ≡ 8 * (w + 1) = omega (arith, eight) in
     filled_then s 0 0 (8 * w) (8 * (w + 1)) first old new filled
-    (subst (λ (n : ℕ). IsFilled s 0 (8 * w) n old new) next
+    (subst (λ (n : ℕ). IsBufferFilled s 0 (8 * w) n old new) next
     (put_filled s 0 (8 * w) old new part (omega (arith, eight, less, size, filled.size)) put
     (λ k h.
     let below : 8 * w + k < 64 = omega (arith, less, h, eight) in
@@ -115,7 +115,7 @@ all_taken bytes out done room past at =
 
 -- all words of a parent
 pub parent_whole : (fixed : Fixed) (history : List Event) (m : ℕ) (first out : List ℕ) → IsLegal fixed history → is_some ((state_after history).parents m) ≡ true
-    → length first ≡ 64 → IsFilled (beside (state_after history) m) 0 0 64 first out → (state_after history).parents m ≡ Some (take 64 out)
+    → length first ≡ 64 → IsBufferFilled (beside (state_after history) m) 0 0 64 first out → (state_after history).parents m ≡ Some (take 64 out)
 parent_whole fixed history m first out legal held size filled =
     let there = some_there ((state_after history).parents m) held in
     let bytes : List ℕ = there.0 in
@@ -128,8 +128,8 @@ parent_whole fixed history m first out legal held size filled =
 
 -- all that a chunk has
 pub chunk_whole : (fixed : Fixed) (history : List Event) (c done : ℕ) (old out : List ℕ) → IsLegal fixed history → is_held (state_after history) c ≡ true
-    → length old ≡ 1024 → IsFilled (state_after history) (1024 * c) 0 done old out
-    → Stops (state_after history) (1024 * c + done) (1024 * ((1024 * c + 0) / 1024 + 1)) done (length old) → (state_after history).held c ≡ Some (take done out)
+    → length old ≡ 1024 → IsBufferFilled (state_after history) (1024 * c) 0 done old out
+    → StopsFilling (state_after history) (1024 * c + done) (1024 * ((1024 * c + 0) / 1024 + 1)) done (length old) → (state_after history).held c ≡ Some (take done out)
 chunk_whole fixed history c done old out legal held size filled stops =
     let s : State = state_after history in
     let there = some_there (s.held c) held in

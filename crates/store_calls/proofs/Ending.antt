@@ -25,8 +25,8 @@ use Rattle.store_steps.specs.Reads.{group_end, is_last, read_end, read_events}
 use Rattle.store_core.specs.Knowledge.{Called, GoesOn, Looked, event_of}
 use Rattle.store_core.proofs.Going.{goes_on_then}
 use Rattle.store_steps.proofs.LastLoad.{is_last-false, is_last-true}
-use Rattle.store_calls.specs.Filled.{IsFilled, Stops}
-use Rattle.store_calls.specs.Reading.{DidRead, ReadBinds}
+use Rattle.store_calls.specs.Filled.{IsBufferFilled, StopsFilling}
+use Rattle.store_calls.specs.Reading.{SeatDidRead, SeatReadBinds}
 use Rattle.store_calls.proofs.Filling.{filled_then}
 
 -- The seat has seen more, of others alone, and claims what it claimed.
@@ -68,7 +68,7 @@ module _ (view new : SeatView) (between own : List Event) (on : GoesOn view new 
 
 -- what was filled in is so in what is seen later
 pub filled_later : (view new : SeatView) (events : State → List Event) (at done : ℕ) (old out : List ℕ) → Looked events view new
-    → IsFilled (state_after view.seen) at 0 done old out → IsFilled (state_after new.seen) at 0 done old out
+    → IsBufferFilled (state_after view.seen) at 0 done old out → IsBufferFilled (state_after new.seen) at 0 done old out
 filled_later view new events at done old out looked filled = record {
   forward = filled.forward;
   within = filled.within;
@@ -139,7 +139,7 @@ module _ (first view new : SeatView) (group at len : ℕ) (going : IsGoing first
 length_taken : (out : List ℕ) (n : ℕ) → n ≤ length out → length (take n out) ≡ n
 length_taken out n h = omega (arith, length-take n out, h)
 
-pub bytes_read : (s : State) (at done : ℕ) (old out : List ℕ) → IsFilled s at 0 done old out → (done < length old → byte_at s (at + done) ≡ None)
+pub bytes_read : (s : State) (at done : ℕ) (old out : List ℕ) → IsBufferFilled s at 0 done old out → (done < length old → byte_at s (at + done) ≡ None)
     → take done out ≡ read_bytes s at (length old)
 bytes_read s at done old out filled ends =
     let taken : length (take done out) ≡ done = length_taken out done (omega (arith, filled.within, filled.size)) in
@@ -151,15 +151,15 @@ bytes_read s at done old out filled ends =
     })
 
 -- the rest of the buffer is as it was
-rest_is : (s : State) (at done : ℕ) (old out : List ℕ) → IsFilled s at 0 done old out → drop done out ≡ drop done old
+rest_is : (s : State) (at done : ℕ) (old out : List ℕ) → IsBufferFilled s at 0 done old out → drop done out ≡ drop done old
 rest_is s at done old out filled =
     ext_get_or 0 (drop done out) (drop done old) (length-drop done out ∙ ap (λ (n : ℕ). n - done) filled.size ∙ sym (length-drop done old)) (λ i h.
     get_or-drop done out i 0 ∙ filled.others (done + i) (inr (omega arith)) ∙ sym (get_or-drop done old i 0))
 
 pub did_read : (first new : SeatView) (at done : ℕ) (old out : List ℕ) (missing : Option ℕ)
     → Called (Read at (length old) (read_bytes (state_after new.seen) at (length old))) first new
-    → IsFilled (state_after new.seen) at 0 done old out → (done < length old → byte_at (state_after new.seen) (at + done) ≡ None)
-    → (length (take done out) ≡ done → Answers at (length old) (take done out) missing) → DidRead first new at old out missing
+    → IsBufferFilled (state_after new.seen) at 0 done old out → (done < length old → byte_at (state_after new.seen) (at + done) ≡ None)
+    → (length (take done out) ≡ done → Answers at (length old) (take done out) missing) → SeatDidRead first new at old out missing
 did_read first new at done old out missing called filled ends answers =
     let taken : length (take done out) ≡ done = length_taken out done (omega (arith, filled.within, filled.size)) in
     let bytes : take done out ≡ read_bytes (state_after new.seen) at (length old) = bytes_read (state_after new.seen) at done old out filled ends in
@@ -175,7 +175,7 @@ did_read first new at done old out missing called filled ends answers =
 -- a read of no bytes
 pub read_nothing : (first new : SeatView) (at : ℕ) (old : List ℕ) (missing : Option ℕ)
     → IsLegal first.fixed first.seen → Looked (read_events first 0 at (length old)) first new
-    → (length old ≡ 0) ⊎ (1024 * first.fixed.capacity ≤ at) → Answers at (length old) [] missing → DidRead first new at old old missing
+    → (length old ≡ 0) ⊎ (1024 * first.fixed.capacity ≤ at) → Answers at (length old) [] missing → SeatDidRead first new at old old missing
 read_nothing first new at old missing legal looked none answer =
     let going : IsGoing first first = going_none first legal in
     let s : State = state_after new.seen in
@@ -193,20 +193,20 @@ read_nothing first new at old missing legal looked none answer =
 
 -- A read over groups: one load of it, and what is then copied of the group.
 module _ (fixed : Fixed) (first view new : SeatView) (group at from done len : ℕ) (old mid out : List ℕ) (fixed_is : view.fixed ≡ fixed) (going : IsGoing first view)
-    (before : IsFilled (state_after view.seen) at 0 from old mid) (len_is : len ≡ length mid)
-    (looked : Looked (read_events view group at len) view new) (more : IsFilled (state_after new.seen) at from done mid out)
-    (ends : Stops (state_after new.seen) (at + done) (group_end group) done (length mid)) where
+    (before : IsBufferFilled (state_after view.seen) at 0 from old mid) (len_is : len ≡ length mid)
+    (looked : Looked (read_events view group at len) view new) (more : IsBufferFilled (state_after new.seen) at from done mid out)
+    (ends : StopsFilling (state_after new.seen) (at + done) (group_end group) done (length mid)) where
   abbrev seen_state : State
   seen_state = state_after new.seen
 
   asked : len ≡ length old
   asked = len_is ∙ before.size
 
-  pub filled_now : IsFilled seen_state at 0 done old out
+  pub filled_now : IsBufferFilled seen_state at 0 done old out
   filled_now = filled_then seen_state at 0 from done old mid out (filled_later view new (read_events view group at len) at from old mid looked before) more
 
-  stops : Stops seen_state (at + done) (group_end group) done (length old)
-  stops = subst (λ (n : ℕ). Stops seen_state (at + done) (group_end group) done n) before.size ends
+  stops : StopsFilling seen_state (at + done) (group_end group) done (length old)
+  stops = subst (λ (n : ℕ). StopsFilling seen_state (at + done) (group_end group) done n) before.size ends
 
   looks : Looked (read_events view group at (length old)) view new
   looks = subst (λ (n : ℕ). Looked (read_events view group at n) view new) asked looked
@@ -220,25 +220,25 @@ module _ (fixed : Fixed) (first view new : SeatView) (group at from done len : �
   ended : (missing : Option ℕ)
       → (read_end view.fixed at (length old) ≤ at) ⊎ ((read_end view.fixed at (length old) ≤ group_end group) ⊎ (at + length (read_bytes seen_state at (length old)) < group_end group))
       → (done < length old → byte_at seen_state (at + done) ≡ None)
-      → (length (take done out) ≡ done → Answers at (length old) (take done out) missing) → DidRead first new at old out missing
+      → (length (take done out) ≡ done → Answers at (length old) (take done out) missing) → SeatDidRead first new at old out missing
   ended missing why gap answers =
       did_read first new at done old out missing
       (was_last first view new group at (length old) going looks (is_last-true view.fixed group at (length old) seen_state why)) filled_now gap answers
 
   -- the buffer is full
-  pub read_whole : done ≡ length old → DidRead first new at old out None
+  pub read_whole : done ≡ length old → SeatDidRead first new at old out None
   read_whole whole =
       ended None (inr (inl (omega (arith, whole, stops.within)))) (λ some. absurd (omega (arith, some, whole))) (λ taken. taken ∙ whole)
 
   -- there is no room for more
-  read_limit : done < length old → 1024 * fixed.capacity ≤ at + done → DidRead first new at old out (Some (at + done))
+  read_limit : done < length old → 1024 * fixed.capacity ≤ at + done → SeatDidRead first new at old out (Some (at + done))
   read_limit less past =
       ended (Some (at + done)) (inr (inl (omega (arith, past, stops.within, limit_is))))
       (λ some. past_none new.fixed seen_state (at + done) (legal_is_sound new.fixed new.seen looked.goes_on.legal) (omega (arith, past, limit_new)))
       (λ taken. (omega (arith, taken, less), omega (arith, taken)))
 
   -- a position of the group isn't held
-  read_gap : done < length old → at + done < group_end group → DidRead first new at old out (Some (at + done))
+  read_gap : done < length old → at + done < group_end group → SeatDidRead first new at old out (Some (at + done))
   read_gap less inside =
       let gap : byte_at seen_state (at + done) ≡ None = elim stops.why [
         | inl full ↦ absurd (omega (arith, full, less))
@@ -249,7 +249,7 @@ module _ (fixed : Fixed) (first view new : SeatView) (group at from done len : �
       ap (λ (xs : List ℕ). length xs) (sym bytes) ∙ length_taken out done (omega (arith, filled_now.within, filled_now.size)) in
       ended (Some (at + done)) (inr (inr (omega (arith, count, inside)))) (λ some. gap) (λ taken. (omega (arith, taken, less), omega (arith, taken)))
 
-  pub read_less : done < length old → (at + done < group_end group) ⊎ (1024 * fixed.capacity ≤ at + done) → DidRead first new at old out (Some (at + done))
+  pub read_less : done < length old → (at + done < group_end group) ⊎ (1024 * fixed.capacity ≤ at + done) → SeatDidRead first new at old out (Some (at + done))
   read_less less why = elim why [ inl inside ↦ read_gap less inside | inr past ↦ read_limit less past ]
 
   -- all is held up to the group's end, and the read goes on
@@ -267,13 +267,13 @@ module _ (fixed : Fixed) (first view new : SeatView) (group at from done len : �
       was_not first view new group at (length old) going looks
       (is_last-false view.fixed group at (length old) seen_state (omega (arith, less, below, limit_is)) (omega (arith, less, end, below, stops.within, limit_is)) (omega (arith, held, end)))
 
--- What a read filled in is the blob's, or a pair is named.
+-- What a read filled in is the blob's, or a collision is exhibited.
 answer_count : (at len : ℕ) (bytes : List ℕ) (missing : Option ℕ) → Answers at len bytes missing → filled_count at len missing ≡ length bytes
 answer_count at len bytes None answer = sym answer
 answer_count at len bytes (Some p) answer = omega (arith, answer.1)
 
-pub binds : (first new : SeatView) (at : ℕ) (old out : List ℕ) (missing : Option ℕ) → IsKeyed new.fixed.mode → DidRead first new at old out missing
-    → ReadBinds new at out (filled_count at (length old) missing)
+pub binds : (first new : SeatView) (at : ℕ) (old out : List ℕ) (missing : Option ℕ) → IsKeyed new.fixed.mode → SeatDidRead first new at old out missing
+    → SeatReadBinds new at out (filled_count at (length old) missing)
 binds first new at old out missing keyed did blob is i below =
     let call : Call = Read at (length old) did.bytes in
     let on : GoesOn first new did.called.between (event_of first call ∷ []) = did.called.goes_on in

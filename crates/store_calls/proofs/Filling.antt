@@ -4,10 +4,10 @@ use Rattle.std.proofs.lemmas.Bool.{cases_lt}
 use Rattle.std.proofs.lemmas.List.{get_or_append_left, get_or-append_right, take-append-le}
 use Rattle.std.proofs.Math.Seq.{take-append-add}
 use Rattle.store_core.specs.States.{State, byte_at}
-use Rattle.store_calls.specs.Filled.{IsFilled}
+use Rattle.store_calls.specs.Filled.{IsBufferFilled}
 
 -- one part and then another
-pub filled_then : (s : State) (at a b c : ℕ) (x y z : List ℕ) → IsFilled s at a b x y → IsFilled s at b c y z → IsFilled s at a c x z
+pub filled_then : (s : State) (at a b c : ℕ) (x y z : List ℕ) → IsBufferFilled s at a b x y → IsBufferFilled s at b c y z → IsBufferFilled s at a c x z
 filled_then s at a b c x y z one two = record {
   forward = omega (arith, one.forward, two.forward);
   within = omega (arith, two.within, one.size);
@@ -26,7 +26,7 @@ filled_then s at a b c x y z one two = record {
 pub put_filled : (s : State) (at from : ℕ) (old new part : List ℕ) → from + length part ≤ length old
     → new ≡ take from old ++ (part ++ drop (from + length part) old)
     → ((k : ℕ) → k < length part → byte_at s (at + from + k) ≡ Some (slice_index part k))
-    → IsFilled s at from (from + length part) old new
+    → IsBufferFilled s at from (from + length part) old new
 put_filled s at from old new part room is part_got =
     let end : ℕ = from + length part in
     let taken : length (take from old) ≡ from = omega (arith, length-take from old, room) in

@@ -16,7 +16,7 @@ use Rattle.store_core.proofs.CellWords.{cell_get, cell_is}
 use Rattle.store_core.proofs.Lasting.{legal_is_sound}
 use Rattle.store_core.proofs.Origins.{held_is_committed}
 use Rattle.store_core.proofs.Served.{chunk_fits, chunk_valid}
-use Rattle.store_calls.specs.Filled.{IsFilled, Stops, held_size}
+use Rattle.store_calls.specs.Filled.{IsBufferFilled, StopsFilling, held_size}
 use Rattle.store_calls.proofs.Filling.{filled_then, put_filled}
 
 -- a chunk with bytes is held
@@ -99,10 +99,10 @@ pub part_filled : (fixed : Fixed) (history : List Event) (at from count skip chu
     → ((bytes : List ℕ) → (state_after history).held chunk ≡ Some bytes → word ≡ cell_word bytes number)
     → length part ≡ count → ((k : ℕ) → k < count → slice_index part k ≡ slice_index (to_le_bytes w64 word) (skip + k))
     → from + count ≤ length old → new ≡ take from old ++ (part ++ drop (from + length part) old)
-    → IsFilled (state_after history) at from (from + count) old new
+    → IsBufferFilled (state_after history) at from (from + count) old new
 part_filled fixed history at from count skip chunk number word old new part legal held inside skips chunk_is number_is found size bytes room is =
     let fits : held_size (state_after history) ((at + from) / 1024) ≤ 1024 = size_fits fixed history ((at + from) / 1024) legal in
-    subst (λ (n : ℕ). IsFilled (state_after history) at from (from + n) old new) size
+    subst (λ (n : ℕ). IsBufferFilled (state_after history) at from (from + n) old new) size
     (put_filled (state_after history) at from old new part (omega (arith, size, room)) is (λ k h.
     let below : k < count = omega (arith, h, size) in
     let same : (at + from) / 1024 ≡ (at + from + k) / 1024 = omega (arith, held, fits, below) in
@@ -119,7 +119,7 @@ part_filled fixed history at from count skip chunk number word old new part lega
 -- where a chunk's copy stops: the buffer is full, or the chunk ends, or it has no more bytes
 pub chunk_stops : (fixed : Fixed) (history : List Event) (at from size count len : ℕ) → IsLegal fixed history
     → size ≡ held_size (state_after history) ((at + from) / 1024) → (at + from) % 1024 < size → count ≡ min (size - (at + from) % 1024) (len - from) → from ≤ len
-    → Stops (state_after history) (at + (from + count)) (1024 * ((at + from) / 1024 + 1)) (from + count) len
+    → StopsFilling (state_after history) (at + (from + count)) (1024 * ((at + from) / 1024 + 1)) (from + count) len
 chunk_stops fixed history at from size count len legal is within least room =
     let s : State = state_after history in
     let c : ℕ = (at + from) / 1024 in
@@ -139,7 +139,7 @@ chunk_stops fixed history at from size count len legal is within least room =
 
 -- a chunk with no bytes from the position on
 pub chunk_ends : (s : State) (at from size len : ℕ) → size ≡ held_size s ((at + from) / 1024) → size ≤ (at + from) % 1024
-    → Stops s (at + from) (1024 * ((at + from) / 1024 + 1)) from len
+    → StopsFilling s (at + from) (1024 * ((at + from) / 1024 + 1)) from len
 chunk_ends s at from size len is past = record {
   within = omega arith;
   why = inr (inr (unheld_past s (at + from) (omega (arith, is, past))));
@@ -161,9 +161,9 @@ pub words_more : (fixed : Fixed) (history : List Event) (at from i count chunk n
     → (at + from) % 1024 + 8 * count ≤ held_size (state_after history) ((at + from) / 1024) → (0 < count → (at + from) % 8 ≡ 0) → i < count
     → chunk ≡ (at + from) / 1024 → number ≡ (at + from) % 1024 / 8 + 1 + i
     → ((bs : List ℕ) → (state_after history).held chunk ≡ Some bs → word ≡ cell_word bs number)
-    → bytes ≡ to_le_bytes w64 word → from + 8 * count ≤ length first → IsFilled (state_after history) at from (from + 8 * i) first old
+    → bytes ≡ to_le_bytes w64 word → from + 8 * count ≤ length first → IsBufferFilled (state_after history) at from (from + 8 * i) first old
     → new ≡ take (from + 8 * i) old ++ (bytes ++ drop (from + 8 * i + length bytes) old)
-    → IsFilled (state_after history) at from (from + 8 * (i + 1)) first new
+    → IsBufferFilled (state_after history) at from (from + 8 * (i + 1)) first new
 words_more fixed history at from i count chunk number word first old new bytes legal held aligned less chunk_is number_is found is room filled put =
     let s : State = state_after history in
     let fits : held_size s ((at + from) / 1024) ≤ 1024 = size_fits fixed history ((at + from) / 1024) legal in
@@ -176,7 +176,7 @@ words_more fixed history at from i count chunk number word first old new bytes l
     let next : from + 8 * i + 8 ≡ from + 8 * (i + 1) = omega arith in
     let size : length bytes ≡ 8 = ap (λ (xs : List ℕ). length xs) is in
     filled_then s at from (from + 8 * i) (from + 8 * (i + 1)) first old new filled
-    (subst (λ (n : ℕ). IsFilled s at (from + 8 * i) n old new) next
+    (subst (λ (n : ℕ). IsBufferFilled s at (from + 8 * i) n old new) next
     (part_filled fixed history at (from + 8 * i) 8 0 chunk number word old new bytes legal within (omega (arith, starts)) starts (chunk_is ∙ same) at_word found size
     (λ k below. let place : k ≡ 0 + k = omega arith in ap (λ (xs : List ℕ). get_or xs k 0) is ∙ ap (λ (j : ℕ). get_or (to_le_bytes w64 word) j 0) place)
     (omega (arith, room, less, filled.size)) put))

@@ -21,13 +21,13 @@ use Rattle.store_steps.specs.Grips.{Gripped}
 use Rattle.store_steps.specs.Slices.{is_recorded, unstored_events}
 use Rattle.store_steps.specs.Tells.{IsStoringNow}
 use Rattle.store_core.specs.Knowledge.{Called, EndsStoring, Looked, Sees, event_of}
-use Rattle.store_steps.specs.Words.{IsOf, fixed_of}
+use Rattle.store_steps.specs.Words.{IsGripOf, fixed_of}
 use Rattle.store_steps.specs.declared.words.Words.{Words}
 use Rattle.store_core.proofs.Going.{called_then, sees_none, sees_then, stored_then}
-use Rattle.store_calls.specs.Parents.{AreParentsOf, HasParents, ParentsBind}
+use Rattle.store_calls.specs.Parents.{AreParentsOf, HaveParentWords, SeatParentsBind}
 
 -- what the seat has seen held is the blob's
-pub parents_bind : (words : Words) (grip : Gripped) → IsKeyed (fixed_of words).mode → IsOf words grip → ParentsBind grip.view
+pub parents_bind : (words : Words) (grip : Gripped) → IsKeyed (fixed_of words).mode → IsGripOf words grip → SeatParentsBind grip.view
 parents_bind words grip keyed of blob is m bytes held =
     parent_held_binds grip.view.fixed grip.view.seen blob m bytes (subst (λ (f : Fixed). IsKeyed f.mode) (sym of.knows.fixed_is) keyed) is of.knows.legal held
 
@@ -41,7 +41,7 @@ other_is None l b is differs = refl
 other_is (Some known) l b is differs = from_not (known == l) (sym is ∙ differs)
 
 -- A seat claims boundaries, and stores the words of their parents.
-module _ (group mask : ℕ) (piece : Piece) (view claimed words : SeatView) (storing : IsStoringNow group mask view claimed) (has : HasParents group mask piece 64 claimed words) where
+module _ (group mask : ℕ) (piece : Piece) (view claimed words : SeatView) (storing : IsStoringNow group mask view claimed) (has : HaveParentWords group mask piece 64 claimed words) where
   words_are : words ≡ record view { storing = record { group = group; mask = mask } ∷ []; parent_words = words.parent_words }
   words_are = has.rest ∙ ap (λ (v : SeatView). record v { parent_words = words.parent_words }) storing
 
@@ -98,7 +98,7 @@ module _ (group : ℕ) (piece : Piece) (old new : SeatView) (legal : IsLegal old
 
   -- parents are stored, of the boundaries that were claimed
   pub parents_stored : (mask : ℕ) (claimed words last : SeatView) → (state_after new.seen).recorded ≡ Some (length_of piece)
-      → nat_lt group (groups old.fixed) ≡ true → old.storing ≡ [] → IsStoringNow group mask new claimed → HasParents group mask piece 64 claimed words
+      → nat_lt group (groups old.fixed) ≡ true → old.storing ≡ [] → IsStoringNow group mask new claimed → HaveParentWords group mask piece 64 claimed words
       → EndsStoring (Parents group piece (Stored mask)) words last → Called (Parents group piece (Stored mask)) old last
   parents_stored mask claimed words last is within none storing has ends =
       let call : Call = Parents group piece (Stored mask) in

@@ -13,12 +13,12 @@ use Rattle.store_core.proofs.Putting.{in_mask_at}
 use Rattle.store_core.proofs.Bits.{and_small, has_bit-and}
 use Rattle.store_steps.specs.Layout.{parent_word}
 use Rattle.store_steps.specs.Plays.{StoresParent}
-use Rattle.store_calls.specs.Parents.{AreParentsOf, HasParent, HasParents}
+use Rattle.store_calls.specs.Parents.{AreParentsOf, HasParentWords, HaveParentWords}
 use Rattle.store_calls.proofs.Storing.{group_of, stored-other, stored-same}
 
 -- the next word
-pub parent_more : (m : ℕ) (bytes : List ℕ) (w value : ℕ) (old new later : SeatView) → HasParent m bytes w old new → w < 8
-    → value ≡ parent_word bytes w → StoresParent m w value new later → HasParent m bytes (w + 1) old later
+pub parent_more : (m : ℕ) (bytes : List ℕ) (w value : ℕ) (old new later : SeatView) → HasParentWords m bytes w old new → w < 8
+    → value ≡ parent_word bytes w → StoresParent m w value new later → HasParentWords m bytes (w + 1) old later
 parent_more m bytes w value old new later k below is stores =
     let top : StoredWord = record { number = 8 * m + w; value = value } in
     let put : later.parent_words ≡ top ∷ new.parent_words = ap (λ (v : SeatView). v.parent_words) stores in
@@ -41,9 +41,9 @@ parent_more m bytes w value old new later k below is stores =
     }
 
 -- the parent at one boundary more
-pub parents_more : (group mask : ℕ) (piece : Piece) (j boundary : ℕ) (bytes : List ℕ) (old new later : SeatView) → HasParents group mask piece j old new
-    → boundary ≡ 64 * group + j → j < 64 → parent_bytes piece boundary ≡ Some bytes → HasParent boundary bytes 8 new later
-    → HasParents group mask piece (j + 1) old later
+pub parents_more : (group mask : ℕ) (piece : Piece) (j boundary : ℕ) (bytes : List ℕ) (old new later : SeatView) → HaveParentWords group mask piece j old new
+    → boundary ≡ 64 * group + j → j < 64 → parent_bytes piece boundary ≡ Some bytes → HasParentWords boundary bytes 8 new later
+    → HaveParentWords group mask piece (j + 1) old later
 parents_more group mask piece j boundary bytes old new later k at below there parent = record {
   rest = parent.rest ∙ ap (λ (v : SeatView). record v { parent_words = later.parent_words }) k.rest;
   words = λ m w bs hit low has h. elim (cases_eq m boundary) [
@@ -59,8 +59,8 @@ parents_more group mask piece j boundary bytes old new later k at below there pa
 }
 
 -- a boundary whose bit isn't set
-pub parents_same : (group mask : ℕ) (piece : Piece) (j : ℕ) (old new : SeatView) → HasParents group mask piece j old new → has_bit mask j ≡ false
-    → HasParents group mask piece (j + 1) old new
+pub parents_same : (group mask : ℕ) (piece : Piece) (j : ℕ) (old new : SeatView) → HaveParentWords group mask piece j old new → has_bit mask j ≡ false
+    → HaveParentWords group mask piece (j + 1) old new
 parents_same group mask piece j old new k none = record {
   rest = k.rest;
   words = λ m w bytes hit low has h. elim (cases_eq (m % 64) j) [

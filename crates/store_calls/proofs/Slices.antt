@@ -9,7 +9,7 @@ use Rattle.bao_text.specs.declared.walk.Node.{Node}
 use Rattle.bao_text.specs.declared.walk.Node.TheVariants.{Chunk, Parent}
 use Rattle.bao_text.specs.Choice.{chunk_count, of_slice, wants}
 use Rattle.bao_text.specs.NodeNames.{boundary, name, names_of, slice_names}
-use Rattle.bao_text.specs.Nodes.{Node as Place, nodes}
+use Rattle.bao_text.specs.Nodes.{TreeNode, nodes}
 use Rattle.bao_text.specs.Texts.{length_text}
 use Rattle.bao_text.proofs.NodeNaming.{names-anywhere, names-chunk, names-parent}
 use Rattle.bao_check.proofs.Lists.{All-from_members, All-member}
@@ -36,7 +36,7 @@ use Rattle.store_core.proofs.ServingLaws.{served_binds}
 use Rattle.store_steps.specs.Slices.{node_events, number_of, unserved_events}
 use Rattle.store_core.specs.Knowledge.{Called, GoesOn, Looked, Sees, event_of}
 use Rattle.store_core.proofs.Going.{LeavesClaims, called_then, looked_state, sees_none, sees_then}
-use Rattle.store_calls.specs.Serving.{SliceBinds}
+use Rattle.store_calls.specs.Serving.{SeatSliceBinds}
 
 -- what the one state holds of nodes the other holds too, and it has the same length recorded
 pub record Keeps (s t : State) : Type 0 where
@@ -70,7 +70,7 @@ keeps_seen view new between own on =
 
 -- A slice of which the bytes so far are `out`: `next` and then `rest` are the nodes that are left. Between two nodes the seat
 -- has seen more, and in each state that keeps what it has seen the bytes and the nodes left make up the slice. After the
--- last node the text is served.
+-- last node the encoding is served.
 abbrev pub IsServing : SeatView → SeatView → ℕ → ℕ → Option Node → List Node → List ℕ → Type 0
 IsServing first view start len None rest out = Called (Serve start len (Text out)) first view
 IsServing first view start len (Some node) rest out =
@@ -249,7 +249,7 @@ serves_first first new start len l (Some node) old rest out sees some names step
 )
 
 -- the nodes of a slice of a recorded length are below the capacity
-All-map : (P : Node → Type 0) (places : List Place) → AllByRecursion (λ place. P (name place)) places → AllByRecursion P (map name places)
+All-map : (P : Node → Type 0) (places : List TreeNode) → AllByRecursion (λ place. P (name place)) places → AllByRecursion P (map name places)
 All-map P [] all = tt
 All-map P (place ∷ places) all = (all.0, All-map P places all.1)
 
@@ -258,7 +258,7 @@ pub names_below : (fixed : Fixed) (history : List Event) (l start len : ℕ) →
 names_below fixed history l start len legal some capacity =
     let k : IsSettled fixed history l = record_is_settled fixed history l legal some in
     let choice : Choice = of_slice l start len in
-    let all : List Place = nodes l start len in
+    let all : List TreeNode = nodes l start len in
     let fits : chunk_count l ≤ fixed.capacity = omega (arith, k.fits, k.is, capacity) in
     All-map (λ node. number_of node < fixed.capacity) all
     (All-from_members (λ place. number_of (name place) < fixed.capacity) all (λ x h. elim (cases_Bool x.is_chunk) [
@@ -272,8 +272,8 @@ names_below fixed history l start len legal some capacity =
           rw parent (omega (arith, high, fits))
     ]))
 
--- What was served is a blob's slice, or a pair is named.
-pub serve_binds : (first new : SeatView) (start len : ℕ) (text : List ℕ) → IsKeyed new.fixed.mode → Called (Serve start len (Text text)) first new → SliceBinds new start len text
+-- What was served is a blob's slice, or a collision is exhibited.
+pub serve_binds : (first new : SeatView) (start len : ℕ) (text : List ℕ) → IsKeyed new.fixed.mode → Called (Serve start len (Text text)) first new → SeatSliceBinds new start len text
 serve_binds first new start len text keyed called blob is =
     let call : Call = Serve start len (Text text) in
     let on : GoesOn first new called.between (event_of first call ∷ []) = called.goes_on in

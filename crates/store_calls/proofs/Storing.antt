@@ -9,7 +9,7 @@ use Rattle.store_core.specs.Masks.{has_bit, in_mask}
 use Rattle.store_core.specs.Pieces.{chunk_bytes}
 use Rattle.store_core.specs.Views.{stored}
 use Rattle.store_steps.specs.Tells.{Stores}
-use Rattle.store_calls.specs.Stored.{HasCell, HasCells}
+use Rattle.store_calls.specs.StoredCells.{HasCell, HasCells}
 
 -- the newest word of a number counts, and words of other numbers don't hide one
 pub stored-same : (words : List StoredWord) (number value : ℕ) → stored (record { number = number; value = value } ∷ words) number ≡ Some value

@@ -9,7 +9,7 @@ held_size s c = length (unwrap_or (s.held c) [])
 
 -- From index `from` up to `done` a buffer, whose first byte is for position `at`, has the bytes that are held there, and
 -- elsewhere what it had before.
-pub record IsFilled (s : State) (at from done : ℕ) (old new : List ℕ) : Type 0 where
+pub record IsBufferFilled (s : State) (at from done : ℕ) (old new : List ℕ) : Type 0 where
   pub forward : from ≤ done
   pub within : done ≤ length old
   pub size : length new ≡ length old
@@ -17,6 +17,6 @@ pub record IsFilled (s : State) (at from done : ℕ) (old new : List ℕ) : Type
   pub others : (i : ℕ) → (i < from) ⊎ (done ≤ i) → slice_index new i ≡ slice_index old i
 
 -- Why a buffer of `len` bytes isn't filled past `done`, at position p: it is full, or p is the end, or p isn't held.
-pub record Stops (s : State) (p end done len : ℕ) : Type 0 where
+pub record StopsFilling (s : State) (p end done len : ℕ) : Type 0 where
   pub within : p ≤ end
   pub why : (done ≡ len) ⊎ ((p ≡ end) ⊎ (byte_at s p ≡ None))

@@ -1,5 +1,5 @@
 pub mod Filled
 pub mod Reading
 pub mod Serving
-pub mod Stored
+pub mod StoredCells
 pub mod Parents

@@ -18,19 +18,19 @@ pub record AreParentsOf (fixed : Fixed) (group mask : ℕ) (piece : Piece) : Typ
   pub held : (m : ℕ) → in_mask group mask m ≡ true → holds_parent piece m ≡ true
 
 -- the parent's words below `end` are stored with these bytes, and the words of other boundaries are as they were
-pub record HasParent (boundary : ℕ) (bytes : List ℕ) (end : ℕ) (old new : SeatView) : Type 0 where
+pub record HasParentWords (boundary : ℕ) (bytes : List ℕ) (end : ℕ) (old new : SeatView) : Type 0 where
   pub rest : new ≡ record old { parent_words = new.parent_words }
   pub words : (w : ℕ) → w < end → stored new.parent_words (8 * boundary + w) ≡ Some (parent_word bytes w)
   pub others : (number : ℕ) → number / 8 ≢ boundary → stored new.parent_words number ≡ stored old.parent_words number
 
 -- of each of the mask's boundaries whose bit is below `end` all 8 words are stored with the bytes of the piece's parent
-pub record HasParents (group mask : ℕ) (piece : Piece) (end : ℕ) (old new : SeatView) : Type 0 where
+pub record HaveParentWords (group mask : ℕ) (piece : Piece) (end : ℕ) (old new : SeatView) : Type 0 where
   pub rest : new ≡ record old { parent_words = new.parent_words }
   pub words : (m w : ℕ) (bytes : List ℕ) → in_mask group mask m ≡ true → m % 64 < end → parent_bytes piece m ≡ Some bytes → w < 8
       → stored new.parent_words (8 * m + w) ≡ Some (parent_word bytes w)
 
--- For each blob with the store's root: each parent that the seat has seen held is the blob's at that boundary, or a pair is
--- named from the blob and a piece of what it has seen.
-abbrev pub ParentsBind : SeatView → Type 0
-ParentsBind view = (blob : List ℕ) → IsBlob view.fixed blob → (m : ℕ) (bytes : List ℕ) → (state_after view.seen).parents m ≡ Some bytes
+-- For each blob with the store's root: each parent that the seat has seen held is the blob's at that boundary, or a collision
+-- is exhibited from the blob and a piece of what it has seen.
+abbrev pub SeatParentsBind : SeatView → Type 0
+SeatParentsBind view = (blob : List ℕ) → IsBlob view.fixed blob → (m : ℕ) (bytes : List ℕ) → (state_after view.seen).parents m ≡ Some bytes
     → (parent_of view.fixed.mode blob m ≡ Some bytes) ⊎ PairFrom view.fixed view.seen blob

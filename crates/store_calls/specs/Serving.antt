@@ -18,13 +18,13 @@ room_of (Parent m) = 64
 
 -- What a refused slice says: with no length recorded, or with a node that isn't held, it is an event of the store. For want
 -- of memory it is none.
-abbrev pub IsRefused : ℕ → ℕ → ServeFault → SeatView → SeatView → Type 0
-IsRefused start len refused.NoLength old new = Called (Serve start len NoLength) old new
-IsRefused start len (refused.Lacking node) old new = Called (Serve start len (Lacking node)) old new
-IsRefused start len refused.Memory old new = Sees old new
+abbrev pub SeatIsRefused : ℕ → ℕ → ServeFault → SeatView → SeatView → Type 0
+SeatIsRefused start len refused.NoLength old new = Called (Serve start len NoLength) old new
+SeatIsRefused start len (refused.Lacking node) old new = Called (Serve start len (Lacking node)) old new
+SeatIsRefused start len refused.Memory old new = Sees old new
 
--- For each blob with the store's root a text that is served is the blob's slice, or a pair is named from the blob and a piece
+-- For each blob with the store's root an encoding that is served is the blob's slice, or a collision is exhibited from the blob and a piece
 -- that a call, in what the seat has seen, committed, settled or stored parents of.
-abbrev pub SliceBinds : SeatView → ℕ → ℕ → List ℕ → Type 0
-SliceBinds view start len text =
+abbrev pub SeatSliceBinds : SeatView → ℕ → ℕ → List ℕ → Type 0
+SeatSliceBinds view start len text =
     (blob : List ℕ) → IsBlob view.fixed blob → (text ≡ slice_text view.fixed.mode blob start len) ⊎ PairFrom view.fixed view.seen blob

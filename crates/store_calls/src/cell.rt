@@ -2,8 +2,8 @@ ghost use Rattle.std.specs.Prelude.{◌≡◌, ◌+◌, ◌<◌, ◌≤◌, leng
 ghost use Rattle.std.specs.Int.{w64, from_le_bytes};
 ghost use Rattle.store_core.specs.Cells.{cell_word};
 ghost use Rattle.store_core.specs.Views.{seat_claims};
-ghost use Rattle.store_calls.specs.Stored.{HasCell};
-ghost use Rattle.store_steps.specs.Words.{IsOf};
+ghost use Rattle.store_calls.specs.StoredCells.{HasCell};
+ghost use Rattle.store_steps.specs.Words.{IsGripOf};
 
 use store_core::CELL_WORDS;
 use store_steps::{Grip, Words};
@@ -56,9 +56,9 @@ fn cell_word(bytes: &[u8], word: u8) -> u64
 
 // Stores the cell of a chunk that the grip claims, with these bytes.
 pub(crate) fn store_cell(words: &Words, grip: &mut Grip, chunk: u32, bytes: &[u8])
-    requires of { IsOf words.now grip.old }
+    requires of { IsGripOf words.now grip.old }
     requires claimed { seat_claims grip.old.view chunk ≡ true }
-    ensures of { IsOf words.now grip.new }
+    ensures of { IsGripOf words.now grip.new }
     ensures stored { HasCell chunk bytes.now 129 grip.old.view grip.new.view }
 {
     for word in 0..CELL_WORDS {

@@ -1,8 +1,8 @@
 ghost use Rattle.std.specs.Prelude.{◌≡◌, ◌+◌, ◌*◌, ◌/◌, ◌%◌, ◌^◌, ◌<◌, ◌≤◌, ◌++◌, length, take, drop, true};
 ghost use Rattle.store_core.specs.Histories.{state_after};
 ghost use Rattle.store_core.specs.States.{is_held};
-ghost use Rattle.store_calls.specs.Filled.{IsFilled, Stops, held_size};
-ghost use Rattle.store_steps.specs.Words.{IsOf};
+ghost use Rattle.store_calls.specs.Filled.{IsBufferFilled, StopsFilling, held_size};
+ghost use Rattle.store_steps.specs.Words.{IsGripOf};
 
 use crate::cell::WORD_LEN;
 use b3tree::CHUNK_LEN;
@@ -19,13 +19,13 @@ pub(crate) fn put(out: &mut [u8], from: usize, bytes: &[u8])
 
 // Copies `count` bytes of one word of a held chunk, or none: from the position of the buffer's index `from` on.
 fn copy_part(words: &Words, grip: &mut Grip, at: u64, out: &mut [u8], from: usize, count: usize)
-    requires of { IsOf words.now grip.old }
+    requires of { IsGripOf words.now grip.old }
     requires place { at + from ≤ 2 ^ 26 }
     requires word { (at + from) % 8 + count ≤ 8 }
     requires held { (at + from) % 1024 + count ≤ held_size (state_after grip.old.view.seen) ((at + from) / 1024) }
     requires room { from + count ≤ length out.old }
     ensures same { grip.new ≡ grip.old }
-    ensures filled { IsFilled (state_after grip.old.view.seen) at from (from + count) out.old out.new }
+    ensures filled { IsBufferFilled (state_after grip.old.view.seen) at from (from + count) out.old out.new }
 {
     if count == 0 {
         return;
@@ -40,13 +40,13 @@ fn copy_part(words: &Words, grip: &mut Grip, at: u64, out: &mut [u8], from: usiz
 
 // Copies `count` whole words of a held chunk: from the position of the buffer's index `from` on.
 fn copy_words(words: &Words, grip: &mut Grip, at: u64, out: &mut [u8], from: usize, count: usize)
-    requires of { IsOf words.now grip.old }
+    requires of { IsGripOf words.now grip.old }
     requires place { at + from ≤ 2 ^ 26 }
     requires word { 0 < count → (at + from) % 8 ≡ 0 }
     requires held { (at + from) % 1024 + 8 * count ≤ held_size (state_after grip.old.view.seen) ((at + from) / 1024) }
     requires room { from + 8 * count ≤ length out.old }
     ensures same { grip.new ≡ grip.old }
-    ensures filled { IsFilled (state_after grip.old.view.seen) at from (from + 8 * count) out.old out.new }
+    ensures filled { IsBufferFilled (state_after grip.old.view.seen) at from (from + 8 * count) out.old out.new }
 {
     let position = at as usize + from;
     let chunk = (position / CHUNK_LEN) as u32;
@@ -66,13 +66,13 @@ pub(crate) fn copy_chunk(
     out: &mut [u8],
     from: usize,
 ) -> usize
-    requires of { IsOf words.now grip.old }
+    requires of { IsGripOf words.now grip.old }
     requires place { at + from < 2 ^ 26 }
     requires held { is_held (state_after grip.old.view.seen) ((at + from) / 1024) ≡ true }
     requires room { from ≤ length out.old }
     ensures same { grip.new ≡ grip.old }
-    ensures filled { IsFilled (state_after grip.old.view.seen) at from result out.old out.new }
-    ensures stops { Stops (state_after grip.old.view.seen) (at + result) (1024 * ((at + from) / 1024 + 1)) result (length out.old) }
+    ensures filled { IsBufferFilled (state_after grip.old.view.seen) at from result out.old out.new }
+    ensures stops { StopsFilling (state_after grip.old.view.seen) (at + result) (1024 * ((at + from) / 1024 + 1)) result (length out.old) }
 {
     let position = at as usize + from;
     let chunk = (position / CHUNK_LEN) as u32;

@@ -1,12 +1,12 @@
 ghost use Rattle.store_core.specs.declared.history.Call.TheVariants.{Commit};
 ghost use Rattle.store_core.specs.Masks.{IsMaskOf};
 ghost use Rattle.store_core.specs.Pieces.{holds_chunk, piece_of};
-ghost use Rattle.store_core.specs.Stores.{ChunksBind, IsOf as IsOfStore};
+ghost use Rattle.store_core.specs.Stores.{ChunksBind, IsOf};
 ghost use Rattle.store_core.specs.Views.{seat_claims};
-ghost use Rattle.store_calls.specs.Stored.{HasCells};
+ghost use Rattle.store_calls.specs.StoredCells.{HasCells};
 ghost use Rattle.store_steps.specs.Asks.{AreHeldClaims};
 ghost use Rattle.store_core.specs.Knowledge.{Called};
-ghost use Rattle.store_steps.specs.Words.{HasGroup, IsOf, fixed_of};
+ghost use Rattle.store_steps.specs.Words.{HasGroup, IsGripOf, fixed_of};
 
 use crate::cell::store_cell;
 use bao_check::Checked;
@@ -25,10 +25,10 @@ fn held_in(piece: &Checked<'_>, group: u32) -> u64
 
 // Stores the cells of the group's chunks of the mask, which the grip claims and the piece holds.
 fn store_cells(words: &Words, grip: &mut Grip, group: u32, piece: &Checked<'_>, mask: u64)
-    requires of { IsOf words.now grip.old }
+    requires of { IsGripOf words.now grip.old }
     requires group { HasGroup words.now group }
     requires mask { AreHeldClaims grip.old.view group (piece_of piece.now) mask }
-    ensures of { IsOf words.now grip.new }
+    ensures of { IsGripOf words.now grip.new }
     ensures stored { HasCells group mask (piece_of piece.now) 64 grip.old.view grip.new.view }
 {
     let start = GROUP_LEN as u64 * u64::from(group);
@@ -47,17 +47,18 @@ fn store_cells(words: &Words, grip: &mut Grip, group: u32, piece: &Checked<'_>, 
 /// It is one event of the store, also where the mask is 0: of each chunk 129 words are stored, and then one `fetch_or`
 /// on the held word shows them all. So no reader sees a part of a chunk. It takes no memory.
 ///
-/// For each blob with the store's root, each chunk stored is the blob's chunk of that number; or two different
-/// inputs with one chaining value are named, one of the blob's and one of the piece's.
+/// For each blob with the store's root, each chunk stored is the blob's chunk of that number; or a
+/// collision is exhibited, one input of the blob's and one of the piece's.
 pub fn commit(words: &Words, grip: &mut Grip, group: u32, piece: &Checked<'_>, claimed: u64) -> u64
-    requires of { IsOf words.now grip.old }
+    requires of { IsGripOf words.now grip.old }
     requires group { HasGroup words.now group }
-    requires piece { IsOfStore (fixed_of words.now) piece.now }
+    requires piece { IsOf (fixed_of words.now) piece.now }
     requires claimed { IsMaskOf group claimed (λ c. seat_claims grip.old.view c) }
-    ensures of { IsOf words.now grip.new }
+    ensures of { IsGripOf words.now grip.new }
     ensures called { Called (Commit group (piece_of piece.now) result) grip.old.view grip.new.view }
     ensures binds { ChunksBind (fixed_of words.now) (piece_of piece.now) group result }
 {
+    // Laws, so that the proof has what they say: nothing runs.
     words.fixed().mode.is_keyed();
     piece.is_accepted();
     let mask = claimed & held_in(piece, group);

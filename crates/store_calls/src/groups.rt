@@ -1,9 +1,9 @@
 ghost use Rattle.std.specs.Prelude.{◌≡◌, ◌+◌, ◌*◌, ◌<◌, ◌≤◌, length};
 ghost use Rattle.store_core.specs.Histories.{state_after};
-ghost use Rattle.store_calls.specs.Filled.{IsFilled, Stops};
+ghost use Rattle.store_calls.specs.Filled.{IsBufferFilled, StopsFilling};
 ghost use Rattle.store_steps.specs.Reads.{group_end};
 ghost use Rattle.store_steps.specs.Tells.{FindsHeld};
-ghost use Rattle.store_steps.specs.Words.{IsOf};
+ghost use Rattle.store_steps.specs.Words.{IsGripOf};
 
 use crate::chunks::copy_chunk;
 use b3tree::CHUNK_LEN;
@@ -29,14 +29,14 @@ pub(crate) fn copy_group(
     out: &mut [u8],
     from: usize,
 ) -> usize
-    requires of { IsOf words.now grip.old }
+    requires of { IsGripOf words.now grip.old }
     requires held { FindsHeld group held grip.old.view }
     requires group { group < 1024 }
     requires place { (65536 * group ≤ at + from) × (at + from ≤ group_end group) }
     requires room { from ≤ length out.old }
     ensures same { grip.new ≡ grip.old }
-    ensures filled { IsFilled (state_after grip.old.view.seen) at from result out.old out.new }
-    ensures stops { Stops (state_after grip.old.view.seen) (at + result) (group_end group) result (length out.old) }
+    ensures filled { IsBufferFilled (state_after grip.old.view.seen) at from result out.old out.new }
+    ensures stops { StopsFilling (state_after grip.old.view.seen) (at + result) (group_end group) result (length out.old) }
 {
     let end = end_of(group);
     let mut done = from;

@@ -5,7 +5,7 @@ ghost use Rattle.store_core.specs.Stores.{GainsNode};
 ghost use Rattle.store_calls.specs.Serving.{room_of};
 ghost use Rattle.store_steps.specs.Slices.{node_events, number_of};
 ghost use Rattle.store_core.specs.Knowledge.{Looked};
-ghost use Rattle.store_steps.specs.Words.{IsOf, fixed_of};
+ghost use Rattle.store_steps.specs.Words.{IsGripOf, fixed_of};
 
 use crate::cell::WORD_LEN;
 use crate::chunks::{copy_chunk, put};
@@ -27,7 +27,7 @@ fn room_of(node: &Node) -> usize
 
 // Copies the bytes of a held parent.
 fn copy_parent(words: &Words, grip: &mut Grip, boundary: u32, out: &mut [u8])
-    requires of { IsOf words.now grip.old }
+    requires of { IsGripOf words.now grip.old }
     requires boundary { boundary < (fixed_of words.now).capacity }
     requires held { is_some ((state_after grip.old.view.seen).parents boundary) ≡ true }
     requires room { length out.old ≡ 64 }
@@ -43,7 +43,7 @@ fn copy_parent(words: &Words, grip: &mut Grip, boundary: u32, out: &mut [u8])
 
 // Copies the bytes of a held node to the beginning of the buffer, and answers how many they are.
 fn copy_node(words: &Words, grip: &mut Grip, node: &Node, out: &mut [u8]) -> usize
-    requires of { IsOf words.now grip.old }
+    requires of { IsGripOf words.now grip.old }
     requires node { number_of node.now < (fixed_of words.now).capacity }
     requires held { is_some (node_held (state_after grip.old.view.seen) node.now) ≡ true }
     requires room { length out.old ≡ room_of node.now }
@@ -71,9 +71,9 @@ pub(crate) fn append_node(
     len: u64,
     out: &mut Vec<u8>,
 ) -> Result<bool, AllocError>
-    requires of { IsOf words.now grip.old }
+    requires of { IsGripOf words.now grip.old }
     requires node { number_of node.now < (fixed_of words.now).capacity }
-    ensures of { IsOf words.now grip.new }
+    ensures of { IsGripOf words.now grip.new }
     ensures looked { IfOk result (λ there. Looked (node_events grip.old.view node.now last start len) grip.old.view grip.new.view) }
     ensures appended { IfOk result (λ there. GainsNode (node_held (state_after grip.new.view.seen) node.now) out.old.items out.new.items there) }
     ensures memory { IfErr result (λ fault. grip.new ≡ grip.old) }

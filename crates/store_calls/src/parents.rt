@@ -3,11 +3,11 @@ ghost use Rattle.store_core.specs.declared.history.Call.TheVariants.{Parents};
 ghost use Rattle.store_core.specs.declared.history.Storing.TheVariants.{OtherLength, Stored};
 ghost use Rattle.store_core.specs.Masks.{IsMaskOf};
 ghost use Rattle.store_core.specs.Pieces.{holds_parent, piece_of};
-ghost use Rattle.store_core.specs.Stores.{IsOf as IsOfStore};
+ghost use Rattle.store_core.specs.Stores.{IsOf};
 ghost use Rattle.store_core.specs.Views.{is_storing};
-ghost use Rattle.store_calls.specs.Parents.{AreParentsOf, HasParent, HasParents, ParentsBind};
+ghost use Rattle.store_calls.specs.Parents.{AreParentsOf, HasParentWords, HaveParentWords, SeatParentsBind};
 ghost use Rattle.store_core.specs.Knowledge.{Called};
-ghost use Rattle.store_steps.specs.Words.{HasGroup, IsOf, fixed_of};
+ghost use Rattle.store_steps.specs.Words.{HasGroup, IsGripOf, fixed_of};
 
 use crate::cell::{WORD_LEN, whole_word};
 use bao_check::Checked;
@@ -23,12 +23,12 @@ fn parents_in(piece: &Checked<'_>, group: u32, capacity: u32) -> u64
 
 // Stores the parent at a boundary that the grip is storing, with these bytes.
 fn store_parent(words: &Words, grip: &mut Grip, boundary: u32, bytes: &[u8])
-    requires of { IsOf words.now grip.old }
+    requires of { IsGripOf words.now grip.old }
     requires storing { is_storing grip.old.view boundary ≡ true }
     requires boundary { boundary < (fixed_of words.now).capacity }
     requires bytes { length bytes.now ≡ 64 }
-    ensures of { IsOf words.now grip.new }
-    ensures stored { HasParent boundary bytes.now 8 grip.old.view grip.new.view }
+    ensures of { IsGripOf words.now grip.new }
+    ensures stored { HasParentWords boundary bytes.now 8 grip.old.view grip.new.view }
 {
     for word in 0..PARENT_WORDS {
         let value = whole_word(bytes, WORD_LEN * usize::from(word));
@@ -38,12 +38,12 @@ fn store_parent(words: &Words, grip: &mut Grip, boundary: u32, bytes: &[u8])
 
 // Stores the parents at the group's boundaries of the mask, which the grip is storing.
 fn store_parents(words: &Words, grip: &mut Grip, group: u32, piece: &Checked<'_>, mask: u64)
-    requires of { IsOf words.now grip.old }
+    requires of { IsGripOf words.now grip.old }
     requires group { HasGroup words.now group }
     requires storing { grip.old.view.storing ≡ record { group = group; mask = mask } ∷ [] }
     requires mask { AreParentsOf (fixed_of words.now) group mask (piece_of piece.now) }
-    ensures of { IsOf words.now grip.new }
-    ensures stored { HasParents group mask (piece_of piece.now) 64 grip.old.view grip.new.view }
+    ensures of { IsGripOf words.now grip.new }
+    ensures stored { HaveParentWords group mask (piece_of piece.now) 64 grip.old.view grip.new.view }
 {
     let start = GROUP_LEN as u64 * u64::from(group);
     for j in 0..GROUP_LEN {
@@ -65,19 +65,20 @@ fn store_parents(words: &Words, grip: &mut Grip, group: u32, piece: &Checked<'_>
 /// group isn't there, the load of the length is the event. The grip is storing no parents before the call, and none after
 /// it. It takes no memory.
 ///
-/// For each blob with the store's root, each parent that the grip has seen held is the blob's at that boundary; or two
-/// different inputs with one chaining value are named, one of the blob's and one of a piece's that the grip has seen
+/// For each blob with the store's root, each parent that the grip has seen held is the blob's at that boundary; or
+/// a collision is exhibited, one input of the blob's and one of a piece's that the grip has seen
 /// committed or settled or whose parents it has seen stored.
 pub fn commit_parents(words: &Words, grip: &mut Grip, group: u32, piece: &Checked<'_>) -> Storing
-    requires of { IsOf words.now grip.old }
-    requires piece { IsOfStore (fixed_of words.now) piece.now }
+    requires of { IsGripOf words.now grip.old }
+    requires piece { IsOf (fixed_of words.now) piece.now }
     requires none { grip.old.view.storing ≡ [] }
-    ensures of { IsOf words.now grip.new }
+    ensures of { IsGripOf words.now grip.new }
     ensures called { Called (Parents group (piece_of piece.now) result) grip.old.view grip.new.view }
     ensures absent { ¬ HasGroup words.now group → (result ≡ OtherLength) ⊎ (result ≡ Stored 0) }
-    ensures binds { ParentsBind grip.new.view }
+    ensures binds { SeatParentsBind grip.new.view }
 {
     let fixed = words.fixed();
+    // A law, so that the proof has what it says: nothing runs.
     fixed.mode.is_keyed();
     let length = words.length_to_store(grip, group, piece);
     if length != Some(piece.claimed()) {

@@ -1,7 +1,7 @@
 ghost use Rattle.std.specs.Prelude.{◌≡◌, ◌+◌, ◌*◌, ◌<◌, ◌≤◌, length};
 ghost use Rattle.store_core.specs.Stores.{filled_count, missing_in};
-ghost use Rattle.store_calls.specs.Reading.{DidRead, ReadBinds};
-ghost use Rattle.store_steps.specs.Words.{IsOf, fixed_of};
+ghost use Rattle.store_calls.specs.Reading.{SeatDidRead, SeatReadBinds};
+ghost use Rattle.store_steps.specs.Words.{IsGripOf, fixed_of};
 
 use crate::groups::{copy_group, end_of};
 use b3tree::CHUNK_LEN;
@@ -17,11 +17,11 @@ fn limit_of(fixed: &Fixed) -> u64
 
 // A read of at least one byte, from a position on that the store has room for.
 fn read_groups(words: &Words, grip: &mut Grip, at: u64, out: &mut [u8]) -> Result<(), Missing>
-    requires of { IsOf words.now grip.old }
+    requires of { IsGripOf words.now grip.old }
     requires at { at < 1024 * (fixed_of words.now).capacity }
     requires some { 0 < length out.old }
-    ensures of { IsOf words.now grip.new }
-    ensures read { DidRead grip.old.view grip.new.view at out.old out.new (missing_in result) }
+    ensures of { IsGripOf words.now grip.new }
+    ensures read { SeatDidRead grip.old.view grip.new.view at out.old out.new (missing_in result) }
 {
     let limit = limit_of(&words.fixed());
     let mut group = (at / GROUP_BYTES) as u32;
@@ -43,9 +43,9 @@ fn read_groups(words: &Words, grip: &mut Grip, at: u64, out: &mut [u8]) -> Resul
 
 // A read from any position on.
 fn read_event(words: &Words, grip: &mut Grip, at: u64, out: &mut [u8]) -> Result<(), Missing>
-    requires of { IsOf words.now grip.old }
-    ensures of { IsOf words.now grip.new }
-    ensures read { DidRead grip.old.view grip.new.view at out.old out.new (missing_in result) }
+    requires of { IsGripOf words.now grip.old }
+    ensures of { IsGripOf words.now grip.new }
+    ensures read { SeatDidRead grip.old.view grip.new.view at out.old out.new (missing_in result) }
 {
     if out.is_empty() {
         words.load(grip, 0, at, out.len() as u64);
@@ -67,14 +67,15 @@ fn read_event(words: &Words, grip: &mut Grip, at: u64, out: &mut [u8]) -> Result
 /// The read is an event of the store at its last load of a held word, and right there: what was copied before is held
 /// there too, with the same bytes. The grip claims what it claimed before, and all that it had seen it still has.
 ///
-/// For each blob with the store's root, each byte filled in is the blob's byte there; or two different inputs with one
-/// chaining value are named, one of the blob's and one of a piece's that was committed.
+/// For each blob with the store's root, each byte filled in is the blob's byte there; or a collision is
+/// exhibited, one input of the blob's and one of a piece's that was committed.
 pub fn read(words: &Words, grip: &mut Grip, at: u64, out: &mut [u8]) -> Result<(), Missing>
-    requires of { IsOf words.now grip.old }
-    ensures of { IsOf words.now grip.new }
-    ensures read { DidRead grip.old.view grip.new.view at out.old out.new (missing_in result) }
-    ensures binds { ReadBinds grip.new.view at out.new (filled_count at (length out.old) (missing_in result)) }
+    requires of { IsGripOf words.now grip.old }
+    ensures of { IsGripOf words.now grip.new }
+    ensures read { SeatDidRead grip.old.view grip.new.view at out.old out.new (missing_in result) }
+    ensures binds { SeatReadBinds grip.new.view at out.new (filled_count at (length out.old) (missing_in result)) }
 {
+    // A law, so that the proof has what it says: nothing runs.
     words.fixed().mode.is_keyed();
     read_event(words, grip, at, out)
 }

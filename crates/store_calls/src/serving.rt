@@ -1,9 +1,9 @@
 ghost use Rattle.std.specs.Prelude.{◌≡◌, IfErr, IfOk};
 ghost use Rattle.store_core.specs.declared.history.Call.TheVariants.{Serve};
 ghost use Rattle.store_core.specs.declared.history.Serving.TheVariants.{Text};
-ghost use Rattle.store_calls.specs.Serving.{IsRefused, SliceBinds};
+ghost use Rattle.store_calls.specs.Serving.{SeatIsRefused, SeatSliceBinds};
 ghost use Rattle.store_core.specs.Knowledge.{Called};
-ghost use Rattle.store_steps.specs.Words.{IsOf};
+ghost use Rattle.store_steps.specs.Words.{IsGripOf};
 
 use crate::nodes::append_node;
 use bao_text::nodes;
@@ -11,18 +11,18 @@ use std::alloc::Global;
 use store_core::ServeFault;
 use store_steps::{Grip, Words};
 
-/// The text of the slice (`start`, `len`) of the blob: the recorded length, and the bytes of the slice's nodes. It waits
+/// The encoding of the slice (`start`, `len`) of the blob: the recorded length, and the bytes of the slice's nodes. It waits
 /// for nobody.
 ///
-/// 808 `NoLength` where no length is recorded, 809 `Lacking` with the first node in the text's order that isn't held,
+/// 808 `NoLength` where no length is recorded, 809 `Lacking` with the first node in the encoding's order that isn't held,
 /// and 810 `Memory`.
 ///
-/// The text is an event of the store at its load for the last node, and right there: what was copied before is held there
+/// The encoding is an event of the store at its load for the last node, and right there: what was copied before is held there
 /// too, with the same bytes. `NoLength` and `Lacking` are one at the load that found nothing. `Memory` is none: the grip has
 /// only seen more. The grip claims what it claimed before, and all that it had seen it still has.
 ///
-/// For each blob with the store's root it is the blob's slice; or two different inputs with one chaining value are named,
-/// one of the blob's and one of a piece's that was committed, settled or stored parents of.
+/// For each blob with the store's root it is the blob's slice; or a collision is exhibited, one input
+/// of the blob's and one of a piece's that was committed, settled or stored parents of.
 pub fn serve_slice(
     alloc: Global,
     words: &Words,
@@ -30,13 +30,14 @@ pub fn serve_slice(
     start: u64,
     len: u64,
 ) -> Result<Vec<u8>, ServeFault>
-    requires of { IsOf words.now grip.old }
-    ensures of { IsOf words.now grip.new }
+    requires of { IsGripOf words.now grip.old }
+    ensures of { IsGripOf words.now grip.new }
     ensures served { IfOk result (λ text. Called (Serve start len (Text text.items)) grip.old.view grip.new.view) }
-    ensures refused { IfErr result (λ fault. IsRefused start len fault grip.old.view grip.new.view) }
+    ensures refused { IfErr result (λ fault. SeatIsRefused start len fault grip.old.view grip.new.view) }
     ensures storing { grip.new.view.storing ≡ grip.old.view.storing }
-    ensures binds { IfOk result (λ text. SliceBinds grip.new.view start len text.items) }
+    ensures binds { IfOk result (λ text. SeatSliceBinds grip.new.view start len text.items) }
 {
+    // A law, so that the proof has what it says: nothing runs.
     words.fixed().mode.is_keyed();
     let Some(length) = words.length_to_serve(grip, start, len) else {
         return Err(ServeFault::NoLength);

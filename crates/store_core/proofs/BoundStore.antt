@@ -1,4 +1,4 @@
--- What a store reads is the blob's, or a pair is named: its invariant has the history that this needs.
+-- What a store reads is the blob's, or a collision is exhibited: its invariant has the history that this needs.
 use Rattle.std.proofs.Common.{◌≡◌, ◌⊎◌, ℕ, ◌*◌, ◌/◌, ◌≤◌, List, length, Option, None, Some, IfSome, slice_get, refl, sym, subst, inl, inr}
 use Rattle.std.proofs.Math.Bridge.{le_prop}
 use Rattle.std.proofs.Math.Logic.{∥∥₁_elim}
@@ -50,7 +50,7 @@ pub if_some : (o : Option ℕ) (P : ℕ → Type 0) → ((l : ℕ) → o ≡ Som
 if_some None P each = tt
 if_some (Some l) P each = each l refl
 
--- a chunk of an accepted piece is the blob's, or a pair is named
+-- a chunk of an accepted piece is the blob's, or a collision is exhibited
 pub piece_binds : (fixed : Fixed) (piece : Piece) (group mask : ℕ) → IsKeyed fixed.mode → IsAcceptedPiece fixed piece → ChunksBind fixed piece group mask
 piece_binds fixed piece group mask keyed accepted blob is c bytes hit has = elim (
     accepted_binds fixed.mode fixed.root.0 piece.text blob piece.start piece.len c bytes keyed is.bytes accepted.bytes is.root accepted.accepted has

@@ -3,7 +3,7 @@ use Rattle.std.proofs.Common.{◌≡◌, ℕ, ◌+◌, ◌/◌, ◌%◌, ◌≤�
 use Rattle.std.proofs.lemmas.Bool.{both_ways, cases_Bool, false_from_ne_true}
 use Rattle.b3tree.specs.Valid.{AreBytes}
 use Rattle.b3tree.proofs.BlockWords.{AreBytes-drop, AreBytes-take}
-use Rattle.bao_text.specs.Nodes.{Node, size}
+use Rattle.bao_text.specs.Nodes.{TreeNode, size}
 use Rattle.bao_check.specs.Accepted.{bytes_at}
 use Rattle.bao_check.specs.Pieces.{chunk_in}
 use Rattle.bao_check.proofs.Certified.{certified}
@@ -29,7 +29,7 @@ pub record IsStep (fixed : Fixed) (m next : Machine) (events : List Event) : Typ
   pub state : run (store_of m) events ≡ store_of next
 
 -- a chunk of an accepted piece is of bytes, at most 1,024
-pub chunk_valid : (text : List ℕ) (places : List (ℕ × Node)) (c : ℕ) (bytes : List ℕ) → AreBytes text → chunk_in text places c ≡ Some bytes → AreBytes bytes
+pub chunk_valid : (text : List ℕ) (places : List (ℕ × TreeNode)) (c : ℕ) (bytes : List ℕ) → AreBytes text → chunk_in text places c ≡ Some bytes → AreBytes bytes
 chunk_valid text [] c bytes valid there = let none : None ≡ Some bytes = there in cc
 chunk_valid text (place ∷ places) c bytes valid there = elim (cases_Bool (place.1.is_chunk && (place.1.number == c))) [
   | inl hit ↦

@@ -1,4 +1,4 @@
--- A parent that a store holds is the blob's, and a text that it serves is the blob's slice, or a pair is named.
+-- A parent that a store holds is the blob's, and an encoding that it serves is the blob's slice, or a collision is exhibited.
 use Rattle.std.proofs.Common.{◌≡◌, ◌⊎◌, ℕ, List, [], ◌∷◌, ◌++◌, length, map, Option, None, Some, refl, sym, subst, ◌∙◌, inl, inr}
 use Rattle.std.specs.Prelude.{Contains}
 use Rattle.std.specs.List.{flat_map}
@@ -6,7 +6,7 @@ use Rattle.std.proofs.lemmas.Bool.{cases_Bool}
 use Rattle.b3tree.specs.Valid.{IsKeyed}
 use Rattle.bao_text.specs.Choice.{of_slice}
 use Rattle.bao_text.specs.NodeNames.{boundary, name, slice_names}
-use Rattle.bao_text.specs.Nodes.{Node, nodes}
+use Rattle.bao_text.specs.Nodes.{TreeNode, nodes}
 use Rattle.bao_text.specs.Texts.{length_text, node_text, slice_text}
 use Rattle.bao_text.proofs.Laws.{chosen_text-nodes}
 use Rattle.bao_check.specs.Parents.{parent_of}
@@ -39,7 +39,7 @@ parent_held_binds fixed history blob m bytes keyed is legal h =
           ]
     ]
 
--- what a text is put together of
+-- what an encoding is put together of
 after_text : (bytes text : List ℕ) (rest : Serving) → after_bytes bytes rest ≡ Text text → (more : List ℕ) × ((rest ≡ Text more) × (text ≡ bytes ++ more))
 after_text bytes text NoLength h = cc
 after_text bytes text (Lacking node) h = cc
@@ -51,7 +51,7 @@ module _ (fixed : Fixed) (history : List Event) (blob : List ℕ) (keyed : IsKey
   s = state_after history
 
   -- what is held of a node is the blob's
-  node_binds : (start len : ℕ) (node : Node) (bytes : List ℕ) → Contains (nodes (length blob) start len) node → node_held s (name node) ≡ Some bytes
+  node_binds : (start len : ℕ) (node : TreeNode) (bytes : List ℕ) → Contains (nodes (length blob) start len) node → node_held s (name node) ≡ Some bytes
       → (bytes ≡ node_text fixed.mode blob node) ⊎ PairFrom fixed history blob
   node_binds start len node bytes there h = elim (cases_Bool node.is_chunk) [
     | inl chunk ↦
@@ -72,7 +72,7 @@ module _ (fixed : Fixed) (history : List Event) (blob : List ℕ) (keyed : IsKey
   ]
 
   -- and so are the bytes of several
-  one_binds : (start len : ℕ) (node : Node) (rest : List Node) (text : List ℕ) (o : Option (List ℕ)) → Contains (nodes (length blob) start len) node
+  one_binds : (start len : ℕ) (node : TreeNode) (rest : List TreeNode) (text : List ℕ) (o : Option (List ℕ)) → Contains (nodes (length blob) start len) node
       → ((more : List ℕ) → served s (map name rest) ≡ Text more → (more ≡ flat_map (node_text fixed.mode blob) rest) ⊎ PairFrom fixed history blob)
       → node_held s (name node) ≡ o → node_and (name node) o (served s (map name rest)) ≡ Text text
       → (text ≡ flat_map (node_text fixed.mode blob) (node ∷ rest)) ⊎ PairFrom fixed history blob
@@ -88,7 +88,7 @@ module _ (fixed : Fixed) (history : List Event) (blob : List ℕ) (keyed : IsKey
             ]
       ]
 
-  nodes_bind : (start len : ℕ) (some : List Node) (text : List ℕ) → ((node : Node) → Contains some node → Contains (nodes (length blob) start len) node)
+  nodes_bind : (start len : ℕ) (some : List TreeNode) (text : List ℕ) → ((node : TreeNode) → Contains some node → Contains (nodes (length blob) start len) node)
       → served s (map name some) ≡ Text text → (text ≡ flat_map (node_text fixed.mode blob) some) ⊎ PairFrom fixed history blob
   nodes_bind start len [] text among h = inl (cc)
   nodes_bind start len (node ∷ rest) text among h =

@@ -91,7 +91,7 @@ same_length (Some k) l h = ap (λ (n : ℕ). Some n) (eqb-true k l (not_not (eqb
 pub recorded_is : (o : Option ℕ) (l : ℕ) (b : Bool) → b ≡ not (option_eq eqb o (Some l)) → b ≡ false → o ≡ Some l
 recorded_is o l b is not_other = same_length o l (sym is ∙ not_other)
 
--- want of memory leaves what the store stands for
+-- running out of memory leaves what the store stands for
 pub unstored_memory : (old new : Store) (group : ℕ) (piece : Checked) (r : Result ℕ StoreFault) → IsErrAnd r (λ fault. fault ≡ Memory) → IsSame old new → IfErr r (λ fault. IsUnstored old new group piece fault)
 unstored_memory old new group piece (Ok mask) h same = tt
 unstored_memory old new group piece (Err fault) h same = subst (λ (f : StoreFault). IsUnstored old new group piece f) (sym h) same

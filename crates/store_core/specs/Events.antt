@@ -40,7 +40,7 @@ IsStoring s group piece (Stored mask) = (s.recorded ≡ Some (length_of piece))
 --  Read: the bytes of the range up to the first that isn't held, which is then the position missing.
 --  Length: the recorded length or none.
 --  Parents, of an accepted piece: that its length isn't the recorded one, or boundaries whose parents become held.
---  Serve: that there is no length, the first node that isn't held, or the text.
+--  Serve: that there is no length, the first node that isn't held, or the encoding.
 abbrev pub IsRight : Fixed → State → List Name → Call → Type 0
 IsRight fixed s who (Take group want granted) = IsMaskOf group granted (λ c. has_bit want (c % 64) && is_free fixed s c)
 IsRight fixed s who (Give group mask given) = IsMaskOf group given (λ c. has_bit mask (c % 64) && claims who s c)

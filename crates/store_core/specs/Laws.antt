@@ -172,31 +172,31 @@ pub record IsBlob (fixed : Fixed) (blob : List ℕ) : Type 0 where
   pub bytes : AreBytes blob
   pub root : hash fixed.mode blob ≡ fixed.root.0
 
--- two inputs are named with one chaining value, one of the blob's and one of the piece's
+-- a collision is exhibited, one input of the blob's and one of the piece's
 abbrev pub PairNamed : Fixed → List ℕ → Piece → Type 0
 PairNamed fixed blob piece = NamesPair fixed.mode blob piece.text (places_in piece)
 
 -- For each blob with the root: a chunk that is held is the blob's chunk of that number, a byte that is held is the
--- blob's byte there, and a recorded length is the blob's; or a pair is named from that blob and from the committed
+-- blob's byte there, and a recorded length is the blob's; or a collision is exhibited from that blob and from the committed
 -- or settled piece that it comes from.
 abbrev pub HeldBinds : Type 0
 HeldBinds = (fixed : Fixed) (history : List Event) (blob : List ℕ) (c : ℕ) (bytes : List ℕ) → IsKeyed fixed.mode → IsBlob fixed blob
     → IsLegal fixed history → (state_after history).held c ≡ Some bytes
     → (chunk_of blob c ≡ Some bytes) ⊎ ((from : IsCommitted fixed history c bytes) × PairNamed fixed blob from.piece)
 
--- A pair is named from the blob and a piece that a history committed, settled a length by, or stored parents of.
+-- A collision is exhibited from the blob and a piece that a history committed, settled a length by, or stored parents of.
 pub data PairFrom (fixed : Fixed) (history : List Event) (blob : List ℕ) : Type 0 where
   of_chunk : (c : ℕ) (bytes : List ℕ) (from : IsCommitted fixed history c bytes) → PairNamed fixed blob from.piece → PairFrom fixed history blob
   of_length : (l : ℕ) (from : IsSettled fixed history l) → PairNamed fixed blob from.piece → PairFrom fixed history blob
   of_parent : (m : ℕ) (bytes : List ℕ) (from : IsStored fixed history m bytes) → PairNamed fixed blob from.piece → PairFrom fixed history blob
 
--- For each blob with the root: a parent that is held is the blob's at that boundary, or a pair is named.
+-- For each blob with the root: a parent that is held is the blob's at that boundary, or a collision is exhibited.
 abbrev pub ParentHeldBinds : Type 0
 ParentHeldBinds = (fixed : Fixed) (history : List Event) (blob : List ℕ) (m : ℕ) (bytes : List ℕ) → IsKeyed fixed.mode → IsBlob fixed blob
     → IsLegal fixed history → (state_after history).parents m ≡ Some bytes
     → (parent_of fixed.mode blob m ≡ Some bytes) ⊎ PairFrom fixed history blob
 
--- For each blob with the root: a text that is served is the blob's slice, or a pair is named.
+-- For each blob with the root: an encoding that is served is the blob's slice, or a collision is exhibited.
 abbrev pub ServedBinds : Type 0
 ServedBinds = (fixed : Fixed) (history : List Event) (blob : List ℕ) (start len : ℕ) (text : List ℕ) → IsKeyed fixed.mode → IsBlob fixed blob
     → IsLegal fixed history → serving (state_after history) start len ≡ Text text
@@ -240,7 +240,7 @@ JoinKeeps = (first second joined : SeatView) → IsJoined first second joined
     × (events_of (names_of first) joined.seen ≡ mine first) × (events_of (names_of second) joined.seen ≡ mine second)
     × (IsLegal joined.fixed joined.seen → (c : ℕ) → seat_claims joined c ≡ (seat_claims first c || seat_claims second c))
 
--- A run of the machine of schedules, with pieces whose texts are of bytes, is a legal history of the store, and the
+-- A run of the machine of schedules, with pieces whose encodings are of bytes, is a legal history of the store, and the
 -- words stand for the state after it.
 abbrev pub RunsAreLegal : Type 0
 RunsAreLegal = (fixed : Fixed) (pieces : List Checked) (steps : List MicroStep) (replies : List Reply) (history : List Event) (last : Machine)

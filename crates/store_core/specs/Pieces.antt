@@ -1,9 +1,9 @@
--- Pieces: accepted texts, what chunks they hold, and the length that the last of them certifies.
+-- Pieces: accepted encodings, what chunks they hold, and the length that the last of them certifies.
 use Rattle.std.specs.Prelude.{◌≡◌, ℕ, ◌-◌, List, Bool, true, Option, is_some}
 use Rattle.b3tree.specs.Valid.{AreBytes}
 use Rattle.bao_text.specs.Choice.{chunk_count}
 use Rattle.bao_text.specs.Cut.{claimed}
-use Rattle.bao_text.specs.Nodes.{Node}
+use Rattle.bao_text.specs.Nodes.{TreeNode}
 use Rattle.bao_check.specs.declared.checked.Checked.{Checked}
 use Rattle.bao_check.specs.Checked.{piece_len, piece_start, piece_text}
 use Rattle.bao_check.specs.Accepted.{IsAccepted, places_of, slice_nodes}
@@ -12,15 +12,15 @@ use Rattle.bao_check.specs.Pieces.{chunk_in}
 use Rattle.store_core.specs.declared.fixed.Fixed.{Fixed}
 use Rattle.store_core.specs.declared.history.Piece.{Piece}
 
--- the nodes of a piece's text, by the slice that was asked for and the length that it claims
-abbrev pub nodes_of : Piece → List Node
+-- the nodes of a piece's encoding, by the slice that was asked for and the length that it claims
+abbrev pub nodes_of : Piece → List TreeNode
 nodes_of piece = slice_nodes piece.text piece.start piece.len
 
 -- with their offsets
-abbrev pub places_in : Piece → List (ℕ × Node)
+abbrev pub places_in : Piece → List (ℕ × TreeNode)
 places_in piece = places_of (nodes_of piece)
 
--- The text of a piece is one of bytes, accepted under the store's root and in its mode: nothing is taken on
+-- The encoding of a piece is one of bytes, accepted under the store's root and in its mode: nothing is taken on
 -- anybody's word.
 pub record IsAcceptedPiece (fixed : Fixed) (piece : Piece) : Type 0 where
   pub bytes : AreBytes piece.text
@@ -49,6 +49,6 @@ length_of piece = claimed piece.text
 abbrev pub EndsBlob : Piece → Type 0
 EndsBlob piece = holds_chunk piece (chunk_count (length_of piece) - 1) ≡ true
 
--- the piece that a checked text is
+-- the piece that a checked encoding is
 abbrev pub piece_of : Checked → Piece
 piece_of checked = record { start = piece_start checked; len = piece_len checked; text = piece_text checked }

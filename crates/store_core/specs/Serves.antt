@@ -1,4 +1,4 @@
--- The text of a slice, put together from what a store holds.
+-- The encoding of a slice, put together from what a store holds.
 use Rattle.std.specs.Prelude.{ℕ, List, [], ◌∷◌, ◌++◌, Option, None, Some}
 use Rattle.bao_text.specs.declared.walk.Node.{Node}
 use Rattle.bao_text.specs.declared.walk.Node.TheVariants.{Chunk, Parent}
@@ -13,7 +13,7 @@ abbrev pub node_held : State → Node → Option (List ℕ)
 node_held s (Chunk c) = s.held c
 node_held s (Parent m) = s.parents m
 
--- bytes before a text, or what is missing
+-- bytes before an encoding, or what is missing
 abbrev pub after_bytes : List ℕ → Serving → Serving
 after_bytes bytes NoLength = NoLength
 after_bytes bytes (Lacking node) = Lacking node
@@ -29,7 +29,7 @@ abbrev pub served : State → List Node → Serving
 served s [] = Text []
 served s (node ∷ nodes) = node_and node (node_held s node) (served s nodes)
 
--- the text of the slice (start, len) of a blob of this length
+-- the encoding of the slice (start, len) of a blob of this length
 abbrev pub serving_of : Option ℕ → State → ℕ → ℕ → Serving
 serving_of None s start len = NoLength
 serving_of (Some l) s start len = after_bytes (length_text l) (served s (slice_names l start len))

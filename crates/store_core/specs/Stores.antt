@@ -96,7 +96,7 @@ pub record DidRead (store : Store) (at : ℕ) (old new : List ℕ) (missing : Op
   pub filled : new ≡ bytes ++ drop (length bytes) old
   pub answer : Answers at (length old) bytes missing
 
--- A pair is named from a blob and from the piece of which a history committed chunk c.
+-- A collision is exhibited from a blob and from the piece of which a history committed chunk c.
 pub record PairCommitted (fixed : Fixed) (history : List Event) (blob : List ℕ) (c : ℕ) : Type 0 where
   pub bytes : List ℕ
   pub committed : IsCommitted fixed history c bytes
@@ -113,23 +113,23 @@ filled_count at len None = len
 filled_count at len (Some p) = p - at
 
 -- For each blob with the store's root and every legal history that leads to the store: each byte filled in is the blob's
--- byte there, or a pair is named from the blob and the piece of which this history committed the byte's chunk.
+-- byte there, or a collision is exhibited from the blob and the piece of which this history committed the byte's chunk.
 abbrev pub ReadBinds : Store → ℕ → List ℕ → ℕ → Type 0
 ReadBinds store at bytes count = (blob : List ℕ) → IsBlob (fixed_of store) blob → (by : IsReached (fixed_of store) (state_of store)) → (i : ℕ) → i < count
     → (slice_get blob (at + i) ≡ Some (slice_index bytes i)) ⊎ PairCommitted (fixed_of store) by.history blob ((at + i) / 1024)
 
--- and a recorded length is the length of each, or a pair is named from the blob and the piece by which it settled it
+-- and a recorded length is the length of each, or a collision is exhibited from the blob and the piece by which it settled it
 abbrev pub LengthBinds : Store → ℕ → Type 0
 LengthBinds store l = (blob : List ℕ) → IsBlob (fixed_of store) blob → (by : IsReached (fixed_of store) (state_of store))
     → (l ≡ length blob) ⊎ PairSettled (fixed_of store) by.history blob l
 
 -- For each blob with the store's root, each chunk of the group's mask that the piece has is the blob's chunk of that
--- number, or a pair is named from the blob and the piece.
+-- number, or a collision is exhibited from the blob and the piece.
 abbrev pub ChunksBind : Fixed → Piece → ℕ → ℕ → Type 0
 ChunksBind fixed piece group mask = (blob : List ℕ) → IsBlob fixed blob → (c : ℕ) (bytes : List ℕ) → in_mask group mask c ≡ true
     → chunk_bytes piece c ≡ Some bytes → (chunk_of blob c ≡ Some bytes) ⊎ PairNamed fixed blob piece
 
--- For each blob with the store's root, the length that the piece claims is the blob's, or a pair is named from the blob and
+-- For each blob with the store's root, the length that the piece claims is the blob's, or a collision is exhibited from the blob and
 -- the piece.
 abbrev pub ClaimBinds : Fixed → Piece → Type 0
 ClaimBinds fixed piece = (blob : List ℕ) → IsBlob fixed blob → (length_of piece ≡ length blob) ⊎ PairNamed fixed blob piece
@@ -138,7 +138,7 @@ ClaimBinds fixed piece = (blob : List ℕ) → IsBlob fixed blob → (length_of 
 abbrev pub DidServe : Store → ℕ → ℕ → Serving → Type 0
 DidServe store start len answer = (who : List Name) → IsEvent store store who (Serve start len answer)
 
--- what a refused slice says: want of memory alone is no event
+-- what a refused slice says: running out of memory alone is no event
 abbrev pub IsRefused : Store → ℕ → ℕ → ServeFault → Type 0
 IsRefused store start len refused.NoLength = DidServe store start len NoLength
 IsRefused store start len (refused.Lacking node) = DidServe store start len (Lacking node)
@@ -149,13 +149,13 @@ abbrev pub GainsNode : Option (List ℕ) → List ℕ → List ℕ → Bool → 
 GainsNode None old new there = there ≡ false
 GainsNode (Some bytes) old new there = (there ≡ true) × (new ≡ old ++ bytes)
 
--- For each blob with the root and every legal history that leads to the store: a text that is served is the blob's slice,
--- or a pair is named from the blob and a piece of this history.
+-- For each blob with the root and every legal history that leads to the store: an encoding that is served is the blob's slice,
+-- or a collision is exhibited from the blob and a piece of this history.
 abbrev pub SliceBinds : Store → ℕ → ℕ → List ℕ → Type 0
 SliceBinds store start len text = (blob : List ℕ) → IsBlob (fixed_of store) blob → (by : IsReached (fixed_of store) (state_of store))
     → (text ≡ slice_text (fixed_of store).mode blob start len) ⊎ PairFrom (fixed_of store) by.history blob
 
--- Each parent that is held is the blob's at that boundary, or such a pair is named.
+-- Each parent that is held is the blob's at that boundary, or such a collision is exhibited.
 abbrev pub ParentsBind : Store → Type 0
 ParentsBind store = (blob : List ℕ) → IsBlob (fixed_of store) blob → (by : IsReached (fixed_of store) (state_of store))
     → (m : ℕ) (bytes : List ℕ) → (state_of store).parents m ≡ Some bytes

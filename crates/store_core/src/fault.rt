@@ -21,7 +21,7 @@ impl BadCapacity {
 /// Why a store did not take or commit chunks, or parents. It is unchanged.
 #[derive(Clone, Copy, Debug, PartialEq, Eq, Error)]
 pub enum StoreFault {
-    /// There was no memory. Number 701.
+    /// Out of memory. Number 701.
     #[error("701 memory")]
     Memory,
     /// The store has no such group. Number 803.
@@ -70,7 +70,7 @@ pub enum ServeFault {
     /// This node is the first of the slice's that isn't held. Number 809.
     #[error("809 lacking")]
     Lacking(Node),
-    /// There was no memory. Number 810.
+    /// Out of memory. Number 810.
     #[error("810 memory")]
     Memory,
 }
@@ -107,7 +107,7 @@ pub struct Missing(pub u64);
 /// Why a schedule was refused. No store is handed out.
 #[derive(Clone, Copy, Debug, PartialEq, Eq, Error)]
 pub enum ReplayFault {
-    /// There was no memory. Number 701.
+    /// Out of memory. Number 701.
     #[error("701 memory")]
     Memory,
     /// The step with this index, from 0, is the least that isn't legal. Number 702.

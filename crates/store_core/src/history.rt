@@ -3,7 +3,7 @@ use std::collections::LinkedList;
 
 // The types of histories. Contracts and views speak of their values; no program makes one.
 
-/// A text and the slice (start, len) as which it is accepted, under the root and in the mode of a store.
+/// An encoding and the slice (start, len) as which it is accepted, under the root and in the mode of a store.
 #[derive(Drop)]
 pub struct Piece {
     pub start: u64,
@@ -42,7 +42,7 @@ pub enum Serving {
     NoLength,
     /// This node, the first of the slice's, isn't held.
     Lacking(Node),
-    /// The slice's text.
+    /// The slice's encoding.
     Text(LinkedList<u8>),
 }
 
@@ -89,7 +89,7 @@ pub enum Call {
         piece: Piece,
         answer: Storing,
     },
-    /// The text of the slice (start, len) is put together from the length and from what is held.
+    /// The encoding of the slice (start, len) is put together from the length and from what is held.
     Serve {
         start: u64,
         len: u64,

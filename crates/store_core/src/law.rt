@@ -37,9 +37,9 @@ pub fn read_means()
 {}
 
 /// For each blob with the root of a store: a chunk that the store holds is the blob's chunk of that number, a
-/// byte that it holds is the blob's byte there, and a recorded length is the blob's; or a pair of inputs is
-/// named, one of the blob's and one of the piece's that was committed or settled, that differ and have one
-/// chaining value. A law: nothing runs.
+/// byte that it holds is the blob's byte there, and a recorded length is the blob's; or a collision is exhibited,
+/// one input of the blob's and one of the piece's that was committed or settled.
+/// A law: nothing runs.
 pub fn held_binds()
     ensures chunk { HeldBinds }
     ensures byte { ByteBinds }
@@ -78,9 +78,9 @@ pub fn parents_last()
     ensures stored { ParentIsStored }
 {}
 
-/// For each blob with the root of a store: a parent that the store holds is the blob's parent at that boundary, and a
-/// text that it serves is the blob's slice; or a pair of inputs is named, one of the blob's and one of a piece's that was
-/// committed or settled or whose parents were stored, that differ and have one chaining value. A law: nothing runs.
+/// For each blob with the root of a store: a parent that the store holds is the blob's parent at that boundary, and an
+/// encoding that it serves is the blob's slice; or a collision is exhibited, one input of the blob's and one of a piece's that was
+/// committed or settled or whose parents were stored. A law: nothing runs.
 pub fn served_binds()
     ensures parent { ParentHeldBinds }
     ensures text { ServedBinds }

@@ -20,7 +20,7 @@ use std::alloc::{AllocError, Global};
 pub const MAX_CAPACITY: u32 = 65_536;
 
 /// A store of one blob's chunks, for one thread: which are held, which seat claims which, and the blob's length
-/// once it is known. Nothing is taken on anybody's word: what it holds comes from texts accepted under its root.
+/// once it is known. Nothing is taken on anybody's word: what it holds comes from encodings accepted under its root.
 #[derive(Drop)]
 pub struct Store {
     fixed: Fixed,
@@ -150,12 +150,13 @@ impl Store {
     /// 804 `OtherRoot`, asked before all else, where the piece is of another root or mode, and 805 `TooLarge` where the
     /// length is above 1,024 times the capacity. The store is then unchanged.
     ///
-    /// For each blob with the store's root, the length of a piece that isn't `OtherRoot` is the blob's; or two different
-    /// inputs with one chaining value are named, one of the blob's and one of this piece's.
+    /// For each blob with the store's root, the length of a piece that isn't `OtherRoot` is the blob's; or a
+    /// collision is exhibited, one input of the blob's and one of this piece's.
     pub fn settle(&mut self, tail: &Tail<'_>) -> Settling
         ensures event { Settles self.old self.new (tail_piece tail.now) result }
         ensures binds { result ≢ RootIsOther → ClaimBinds (fixed_of self.old) (piece_of (tail_piece tail.now)) }
     {
+        // Laws, so that the proof has what they say: nothing runs.
         self.fixed.mode.is_keyed();
         tail.is_last();
         if !self.fixed.is_of(&tail.root(), &tail.mode()) {
@@ -182,14 +183,15 @@ impl Store {
 
     /// The recorded length in bytes, if there is one. It takes no memory.
     ///
-    /// For each blob with the store's root it is the blob's length; or, whatever legal history led to the store, two
-    /// different inputs with one chaining value are named, one of the blob's and one of the piece's by which that history
+    /// For each blob with the store's root it is the blob's length; or, whatever legal history led to the store, a
+    /// collision is exhibited, one input of the blob's and one of the piece's by which that history
     /// settled it.
     pub fn length(&self) -> Option<u64>
         ensures event { (who : List Name) → IsEvent self.now self.now who (Length result) }
         ensures binds { IfSome result (λ l. LengthBinds self.now l) }
         ensures fits { IfSome result (λ l. l ≤ 1024 * (fixed_of self.now).capacity) }
     {
+        // A law, so that the proof has what it says: nothing runs.
         self.fixed.mode.is_keyed();
         self.recorded
     }
@@ -218,8 +220,8 @@ impl Store {
     /// 804 `OtherRoot`, asked before all else, where the piece is of another root or mode, and 701 `Memory`. The store
     /// is then unchanged.
     ///
-    /// For each blob with the store's root, each chunk stored is the blob's chunk of that number; or two different
-    /// inputs with one chaining value are named, one of the blob's and one of the piece's.
+    /// For each blob with the store's root, each chunk stored is the blob's chunk of that number; or a
+    /// collision is exhibited, one input of the blob's and one of the piece's.
     pub fn commit(&mut self, seat: u32, group: u32, piece: &Checked<'_>) -> Result<u64, StoreFault>
         ensures ok { IfOk result (λ committed. IsEvent self.old self.new (caller seat) (Commit group (piece_of piece.now) committed)) }
         ensures err { OnErr result (IsSame self.old self.new) }
@@ -229,6 +231,7 @@ impl Store {
         ensures never_length { result ≢ Err OtherLength }
         ensures binds { IfOk result (λ committed. ChunksBind (fixed_of self.old) (piece_of piece.now) group committed) }
     {
+        // Laws, so that the proof has what they say: nothing runs.
         self.fixed.mode.is_keyed();
         piece.is_accepted();
         if !self.fixed.is_of(&piece.root(), &piece.mode()) {
@@ -256,12 +259,13 @@ impl Store {
     /// none at or above 1,024 times the capacity is. An empty buffer is Ok.
     ///
     /// For each blob with the store's root, each byte filled in is the blob's byte there; or, whatever legal history led
-    /// to the store, two different inputs with one chaining value are named, one of the blob's and one of the piece's of
+    /// to the store, a collision is exhibited, one input of the blob's and one of the piece's of
     /// which that history committed the byte's chunk.
     pub fn read(&self, at: u64, out: &mut [u8]) -> Result<(), Missing>
         ensures event { DidRead self.now at out.old out.new (missing_in result) }
         ensures binds { ReadBinds self.now at out.new (filled_count at (length out.old) (missing_in result)) }
     {
+        // A law, so that the proof has what it says: nothing runs.
         self.fixed.mode.is_keyed();
         let mut done = 0;
         while done < out.len() {
@@ -284,7 +288,7 @@ impl Store {
     /// that it claims isn't the recorded one, or there is none, and 701 `Memory`. The store then stands for the same.
     ///
     /// For each blob with the store's root, each parent that is then held is the blob's parent there; or, whatever legal
-    /// history led to the store, two different inputs with one chaining value are named, one of the blob's and one of a
+    /// history led to the store, a collision is exhibited, one input of the blob's and one of a
     /// piece's that this history committed, settled or stored parents of.
     pub fn commit_parents(&mut self, group: u32, piece: &Checked<'_>) -> Result<u64, StoreFault>
         ensures ok { IfOk result (λ mask. DidStore self.old self.new group piece.now (Stored mask)) }
@@ -295,6 +299,7 @@ impl Store {
         ensures never { result ≢ Err NoGroup }
         ensures binds { IfOk result (λ _. ParentsBind self.new) }
     {
+        // Laws, so that the proof has what they say: nothing runs.
         self.fixed.mode.is_keyed();
         piece.is_accepted();
         if !self.is_of(piece) {
@@ -329,13 +334,13 @@ impl Store {
         }
     }
 
-    /// The text of the slice (`start`, `len`) of the blob: the recorded length, and the bytes of the slice's nodes.
+    /// The encoding of the slice (`start`, `len`) of the blob: the recorded length, and the bytes of the slice's nodes.
     ///
-    /// 808 `NoLength` where no length is recorded, 809 `Lacking` with the first node in the text's order that isn't held,
+    /// 808 `NoLength` where no length is recorded, 809 `Lacking` with the first node in the encoding's order that isn't held,
     /// and 810 `Memory`.
     ///
-    /// For each blob with the store's root it is the blob's slice; or, whatever legal history led to the store, two
-    /// different inputs with one chaining value are named, one of the blob's and one of a piece's that this history
+    /// For each blob with the store's root it is the blob's slice; or, whatever legal history led to the store, a
+    /// collision is exhibited, one input of the blob's and one of a piece's that this history
     /// committed, settled or stored parents of.
     pub fn serve_slice(&self, start: u64, len: u64) -> Result<Vec<u8>, ServeFault>
         ensures served { IfOk result (λ text. DidServe self.now start len (Text text.items)) }
@@ -343,6 +348,7 @@ impl Store {
         ensures no_length { IsErrOf result NoLength ↔ ((state_of self.now).recorded ≡ None) }
         ensures binds { IfOk result (λ text. SliceBinds self.now start len text.items) }
     {
+        // A law, so that the proof has what it says: nothing runs.
         self.fixed.mode.is_keyed();
         let Some(length) = self.recorded else {
             return Err(ServeFault::NoLength);

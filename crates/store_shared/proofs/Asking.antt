@@ -17,7 +17,7 @@ use Rattle.store_core.specs.Views.{names_of}
 use Rattle.store_core.proofs.Lasting.{legal-append}
 use Rattle.store_shared.specs.Seats.{Gripped}
 use Rattle.store_core.specs.Knowledge.{Called, Did, event_of}
-use Rattle.store_shared.specs.Calls.{MaySettle, Settles}
+use Rattle.store_shared.specs.Calls.{MaySettle, SeatSettles}
 
 pub called : (call : Call) (old new : SeatView) → Did call old new → Called call old new
 called call old new did = record { between = did.between; goes_on = did.goes_on; claims_are = did.claims_are; storing_is = did.storing_is }
@@ -43,7 +43,7 @@ never_large (Some m) l e = elim (cases_Bool (m == l)) [
 ]
 
 pub settled : (fixed : Fixed) (old new : Gripped) (piece : Checked) (answer : Settling) → MaySettle fixed piece
-    → Called (Settle (piece_of piece) answer) old.view new.view → Settles fixed old new piece answer
+    → Called (Settle (piece_of piece) answer) old.view new.view → SeatSettles fixed old new piece answer
 settled fixed old new piece Settled may did = (may, did)
 settled fixed old new piece Known may did = (may, did)
 settled fixed old new piece Differs may did = (may, did)

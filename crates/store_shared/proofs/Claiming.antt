@@ -21,7 +21,7 @@ use Rattle.store_core.proofs.Tells.{claims_apart}
 use Rattle.store_steps.specs.Asks.{AreClaimed}
 use Rattle.store_core.specs.Knowledge.{AreMet, ArePartsOf, Did, IsMerged, KeepsClaims, NoneIsClaimedByBoth, opening_view}
 use Rattle.store_core.proofs.Bits.{and_small, has_bit-and, has_bit-not, has_bit-or, has_bit-zero}
-use Rattle.store_steps.proofs.Standing.{left, put}
+use Rattle.store_steps.proofs.WrittenWords.{left, put}
 use Rattle.store_shared.specs.Seats.{AreClaims}
 
 -- words of zeros, for a seat that claims nothing

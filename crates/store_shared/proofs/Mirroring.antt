@@ -28,7 +28,7 @@ use Rattle.store_core.proofs.Determined.{state_determines}
 use Rattle.store_core.proofs.Lasting.{sound_call, sound_empty}
 use Rattle.store_core.proofs.Stored.{mask_same, same_state}
 use Rattle.store_core.proofs.Bits.{has_bit-ones}
-use Rattle.store_shared.specs.Partner.{Answers, AskTheSame, Asked, IsSeat, Numbering, RepliesAreTheStores, calls, calls_in, moved, moves}
+use Rattle.store_shared.specs.Partner.{AnswersInTurn, AskTheSame, Asked, IsSeat, Numbering, RepliesAreTheStores, calls, calls_in, moved, moves}
 
 -- the one-thread store's name for the seat of a name
 abbrev alone : (Name → ℕ) → Name → Name
@@ -200,7 +200,7 @@ module _ (fixed : Fixed) (number : Numbering) (s : State) (group from to given t
 
 -- a store that mirrors the state gives the replies of what follows
 same_replies : (fixed : Fixed) (number : Numbering) (s : State) (history : List Event) (store : Store) (asked : List Asked) → IsSound fixed s → AreLegalFrom fixed s history
-    → fixed_of store ≡ fixed → state_of store ≡ mirrored number s → AskTheSame number s history asked → Answers store asked
+    → fixed_of store ≡ fixed → state_of store ≡ mirrored number s → AskTheSame number s history asked → AnswersInTurn store asked
     → calls_in asked ≡ map (λ e. e.call) history
 same_replies fixed number s history store [] sound legal fixed_is state_is asks answers = ap (λ (h : List Event). map (λ e. e.call) h) (sym asks)
 same_replies fixed number s history store (moves group from to ∷ rest) sound legal fixed_is state_is asks answers =

@@ -19,12 +19,12 @@ pub record MaySettle (fixed : Fixed) (piece : Checked) : Type 0 where
   pub fits : length_of (piece_of piece) ≤ 1024 * fixed.capacity
 
 -- What a settled length meets. Where the piece is of another root or mode, or the length is too large, nothing is asked.
-abbrev pub Settles : Fixed → Gripped → Gripped → Checked → Settling → Type 0
-Settles fixed old new piece OtherRoot = (¬ IsOf fixed piece) × (new ≡ old)
-Settles fixed old new piece TooLarge = IsOf fixed piece × (1024 * fixed.capacity < length_of (piece_of piece)) × (new ≡ old)
-Settles fixed old new piece Settled = MaySettle fixed piece × Called (Settle (piece_of piece) Settled) old.view new.view
-Settles fixed old new piece Known = MaySettle fixed piece × Called (Settle (piece_of piece) Known) old.view new.view
-Settles fixed old new piece Differs = MaySettle fixed piece × Called (Settle (piece_of piece) Differs) old.view new.view
+abbrev pub SeatSettles : Fixed → Gripped → Gripped → Checked → Settling → Type 0
+SeatSettles fixed old new piece OtherRoot = (¬ IsOf fixed piece) × (new ≡ old)
+SeatSettles fixed old new piece TooLarge = IsOf fixed piece × (1024 * fixed.capacity < length_of (piece_of piece)) × (new ≡ old)
+SeatSettles fixed old new piece Settled = MaySettle fixed piece × Called (Settle (piece_of piece) Settled) old.view new.view
+SeatSettles fixed old new piece Known = MaySettle fixed piece × Called (Settle (piece_of piece) Known) old.view new.view
+SeatSettles fixed old new piece Differs = MaySettle fixed piece × Called (Settle (piece_of piece) Differs) old.view new.view
 
 abbrev pub number_of : ParentsFault → ℕ
 number_of unstored.OtherRoot = 804
@@ -32,6 +32,6 @@ number_of unstored.OtherLength = 807
 
 -- What refused parents say. Where the piece is of another root or mode nothing is asked; that its length is another is an
 -- event.
-abbrev pub IsUnstored : ℕ → Checked → ParentsFault → Gripped → Gripped → Type 0
-IsUnstored group piece unstored.OtherRoot old new = new ≡ old
-IsUnstored group piece unstored.OtherLength old new = Called (Parents group (piece_of piece) storing.OtherLength) old.view new.view
+abbrev pub SeatIsUnstored : ℕ → Checked → ParentsFault → Gripped → Gripped → Type 0
+SeatIsUnstored group piece unstored.OtherRoot old new = new ≡ old
+SeatIsUnstored group piece unstored.OtherLength old new = Called (Parents group (piece_of piece) storing.OtherLength) old.view new.view

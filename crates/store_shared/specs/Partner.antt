@@ -22,13 +22,13 @@ pub data Asked : Type 0 where
 
 -- The store answers, one after another. Claims move by two calls: the one seat gives all that it has of the group, and
 -- the other takes it.
-abbrev pub Answers : Store → List Asked → Type 0
-Answers store [] = Unit {0}
-Answers store (calls seat call ∷ rest) = (next : Store) × IsEvent store next (caller seat) call × Answers next rest
-Answers store (moves group from to ∷ rest) =
+abbrev pub AnswersInTurn : Store → List Asked → Type 0
+AnswersInTurn store [] = Unit {0}
+AnswersInTurn store (calls seat call ∷ rest) = (next : Store) × IsEvent store next (caller seat) call × AnswersInTurn next rest
+AnswersInTurn store (moves group from to ∷ rest) =
     (given : ℕ) × (taken : ℕ) × (middle : Store) × (next : Store)
     × IsEvent store middle (caller from) (Give group (2 ^ 64 - 1) given) × IsEvent middle next (caller to) (Take group given taken)
-    × Answers next rest
+    × AnswersInTurn next rest
 
 -- A numbering says which seat of the one-thread store a name stands for, at a chunk: that may differ while claims move.
 abbrev pub Numbering : Type 0
@@ -63,7 +63,7 @@ calls_in (moves group from to ∷ rest) = calls_in rest
 -- Served with the calls of a legal history in its order, a new one-thread store gives the history's replies.
 abbrev pub RepliesAreTheStores : Type 0
 RepliesAreTheStores = (fixed : Fixed) (history : List Event) (number : Name → ℕ) (store : Store) (asked : List Asked) → IsLegal fixed history
-    → IsNew store fixed.root fixed.mode fixed.capacity → AskTheSame (λ c. number) empty history asked → Answers store asked
+    → IsNew store fixed.root fixed.mode fixed.capacity → AskTheSame (λ c. number) empty history asked → AnswersInTurn store asked
     → calls_in asked ≡ map (λ e. e.call) history
 
 -- the numbering after the claims of all groups below n moved

@@ -11,7 +11,7 @@ use store_core::{GROUP_LEN, MAX_CAPACITY, Missing, ServeFault, Settling, Storing
 use store_steps::{NewFault, Words};
 
 /// A store of one blob's chunks, shared by reference: which are held, which seat claims which, and the blob's length once
-/// it is known. Nothing is taken on anybody's word: what it holds comes from texts accepted under its root.
+/// it is known. Nothing is taken on anybody's word: what it holds comes from encodings accepted under its root.
 ///
 /// A seat that is handed to a call is one of this store's. A mask is of the chunks of a group: bit j stands for chunk
 /// 64 * group + j.
@@ -29,14 +29,14 @@ impl Assembly {
     ghost use Rattle.store_core.specs.declared.history.Call.TheVariants.{Commit, Give, Length, Parents, Serve, Take};
     ghost use Rattle.store_core.specs.declared.history.Serving.TheVariants.{Text};
     ghost use Rattle.store_core.specs.declared.history.Storing.TheVariants.{Stored};
-    ghost use Rattle.store_calls.specs.Parents.{ParentsBind};
-    ghost use Rattle.store_calls.specs.Serving.{IsRefused, SliceBinds};
+    ghost use Rattle.store_calls.specs.Parents.{SeatParentsBind};
+    ghost use Rattle.store_calls.specs.Serving.{SeatIsRefused, SeatSliceBinds};
     ghost use Rattle.store_core.specs.Machine.{groups};
     ghost use Rattle.store_core.specs.Pieces.{piece_of};
     ghost use Rattle.store_core.specs.Stores.{ChunksBind, IsOf, filled_count, missing_in};
-    ghost use Rattle.store_calls.specs.Reading.{DidRead, ReadBinds};
-    ghost use Rattle.store_shared.specs.Calls.{IsUnstored, Settles};
-    ghost use Rattle.store_shared.specs.Seats.{HasGroup, IsSeatOf, fixed_of};
+    ghost use Rattle.store_calls.specs.Reading.{SeatDidRead, SeatReadBinds};
+    ghost use Rattle.store_shared.specs.Calls.{SeatIsUnstored, SeatSettles};
+    ghost use Rattle.store_shared.specs.Seats.{IsGroupOf, IsSeatOf, fixed_of};
     ghost use Rattle.store_core.specs.Knowledge.{AreMet, ArePartsOf, Called, IsMerged, KeepsClaims, LooksRound, NoneIsClaimedByBoth, opening_view};
 
     /// A store that holds, claims and records nothing, and its first seat, which has seen nothing. `capacity` is a number
@@ -92,7 +92,7 @@ impl Assembly {
 
     /// Splits a seat in two. The first keeps its claims and its calls. The second has seen the same and has neither.
     ///
-    /// 806 where there is no memory: the seat comes back as it was.
+    /// 806 when out of memory: the seat comes back as it was.
     pub fn split(&self, seat: Seat) -> Result<(Seat, Seat), SplitFault>
         requires of { IsSeatOf self.now seat }
         ensures of { IfOk result (λ parts. IsSeatOf self.now parts.0 × IsSeatOf self.now parts.1) }
@@ -170,7 +170,7 @@ impl Assembly {
     pub fn take(&self, seat: &mut Seat, group: u32, want: u64) -> Result<u64, NoGroup>
         requires of { IsSeatOf self.now seat.old }
         ensures of { IsSeatOf self.now seat.new }
-        ensures group { IsOk result ↔ HasGroup self.now group }
+        ensures group { IsOk result ↔ IsGroupOf self.now group }
         ensures called { IfOk result (λ granted. Called (Take group want granted) seat.old.view seat.new.view) }
         ensures same { OnErr result (seat.new ≡ seat.old) }
     {
@@ -204,8 +204,8 @@ impl Assembly {
     ///
     /// 804 `OtherRoot`, asked before all else, where the piece is of another root or mode. Nothing is then asked.
     ///
-    /// For each blob with the store's root, each chunk stored is the blob's chunk of that number; or two different
-    /// inputs with one chaining value are named, one of the blob's and one of the piece's.
+    /// For each blob with the store's root, each chunk stored is the blob's chunk of that number; or a
+    /// collision is exhibited, one input of the blob's and one of the piece's.
     pub fn commit(&self, seat: &mut Seat, group: u32, piece: &Checked<'_>) -> Result<u64, OtherRoot>
         requires of { IsSeatOf self.now seat.old }
         ensures of { IsSeatOf self.now seat.new }
@@ -235,7 +235,7 @@ impl Assembly {
     pub fn settle(&self, seat: &mut Seat, tail: &Tail<'_>) -> Settling
         requires of { IsSeatOf self.now seat.old }
         ensures of { IsSeatOf self.now seat.new }
-        ensures settles { Settles (fixed_of self.now) seat.old seat.new (tail_piece tail.now) result }
+        ensures settles { SeatSettles (fixed_of self.now) seat.old seat.new (tail_piece tail.now) result }
     {
         let fixed = self.words.fixed();
         if !fixed.is_of(&tail.root(), &tail.mode()) {
@@ -254,8 +254,8 @@ impl Assembly {
     /// 804 `OtherRoot`, asked before all else, where the piece is of another root or mode: nothing is then asked. 807
     /// `OtherLength` where the length that it claims isn't the recorded one, or there is none.
     ///
-    /// For each blob with the store's root, each parent that is then seen held is the blob's parent there; or two
-    /// different inputs with one chaining value are named, one of the blob's and one of a piece's that was committed, by
+    /// For each blob with the store's root, each parent that is then seen held is the blob's parent there; or
+    /// a collision is exhibited, one input of the blob's and one of a piece's that was committed, by
     /// which the length was settled, or whose parents were stored.
     pub fn commit_parents(
         &self,
@@ -267,9 +267,9 @@ impl Assembly {
         ensures of { IsSeatOf self.now seat.new }
         ensures root { IsErrOf result ParentsFault.OtherRoot ↔ (¬ IsOf (fixed_of self.now) piece.now) }
         ensures called { IfOk result (λ stored. Called (Parents group (piece_of piece.now) (Stored stored)) seat.old.view seat.new.view) }
-        ensures refused { IfErr result (λ fault. IsUnstored group piece.now fault seat.old seat.new) }
-        ensures absent { (¬ HasGroup self.now group) → IfOk result (λ stored. stored ≡ 0) }
-        ensures binds { IfOk result (λ _. ParentsBind seat.new.view) }
+        ensures refused { IfErr result (λ fault. SeatIsUnstored group piece.now fault seat.old seat.new) }
+        ensures absent { (¬ IsGroupOf self.now group) → IfOk result (λ stored. stored ≡ 0) }
+        ensures binds { IfOk result (λ _. SeatParentsBind seat.new.view) }
     {
         let fixed = self.words.fixed();
         if !fixed.is_of(&piece.root(), &piece.mode()) {
@@ -281,20 +281,20 @@ impl Assembly {
         }
     }
 
-    /// The text of the slice (`start`, `len`) of the blob: the recorded length, and the bytes of the slice's nodes.
+    /// The encoding of the slice (`start`, `len`) of the blob: the recorded length, and the bytes of the slice's nodes.
     ///
-    /// 808 `NoLength` where no length is recorded, 809 `Lacking` with the first node in the text's order that isn't held,
+    /// 808 `NoLength` where no length is recorded, 809 `Lacking` with the first node in the encoding's order that isn't held,
     /// and 810 `Memory`, where the seat has seen more and made no call.
     ///
-    /// For each blob with the store's root it is the blob's slice; or two different inputs with one chaining value are
-    /// named, one of the blob's and one of a piece's that was committed, by which the length was settled, or whose parents
+    /// For each blob with the store's root it is the blob's slice; or a collision is exhibited, one
+    /// input of the blob's and one of a piece's that was committed, by which the length was settled, or whose parents
     /// were stored.
     pub fn serve_slice(&self, seat: &mut Seat, start: u64, len: u64) -> Result<Vec<u8>, ServeFault>
         requires of { IsSeatOf self.now seat.old }
         ensures of { IsSeatOf self.now seat.new }
         ensures served { IfOk result (λ text. Called (Serve start len (Text text.items)) seat.old.view seat.new.view) }
-        ensures refused { IfErr result (λ fault. IsRefused start len fault seat.old.view seat.new.view) }
-        ensures binds { IfOk result (λ text. SliceBinds seat.new.view start len text.items) }
+        ensures refused { IfErr result (λ fault. SeatIsRefused start len fault seat.old.view seat.new.view) }
+        ensures binds { IfOk result (λ text. SeatSliceBinds seat.new.view start len text.items) }
     {
         serve_slice(self.alloc, &self.words, &mut seat.grip, start, len)
     }
@@ -314,13 +314,13 @@ impl Assembly {
     /// rest of `out` is unchanged. A position is held if its chunk is and has more bytes than come before it there;
     /// none at or above 1,024 times the capacity is. An empty buffer is Ok.
     ///
-    /// For each blob with the store's root, each byte filled in is the blob's byte there; or two different inputs
-    /// with one chaining value are named, one of the blob's and one of a piece's that was committed.
+    /// For each blob with the store's root, each byte filled in is the blob's byte there; or a collision
+    /// is exhibited, one input of the blob's and one of a piece's that was committed.
     pub fn read(&self, seat: &mut Seat, at: u64, out: &mut [u8]) -> Result<(), Missing>
         requires of { IsSeatOf self.now seat.old }
         ensures of { IsSeatOf self.now seat.new }
-        ensures event { DidRead seat.old.view seat.new.view at out.old out.new (missing_in result) }
-        ensures binds { ReadBinds seat.new.view at out.new (filled_count at (length out.old) (missing_in result)) }
+        ensures event { SeatDidRead seat.old.view seat.new.view at out.old out.new (missing_in result) }
+        ensures binds { SeatReadBinds seat.new.view at out.new (filled_count at (length out.old) (missing_in result)) }
     {
         read(&self.words, &mut seat.grip, at, out)
     }

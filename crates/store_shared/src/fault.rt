@@ -56,7 +56,7 @@ impl ParentsFault {
     }
 }
 
-/// There was no memory to split a seat, which is given back as it was. Number 806.
+/// Out of memory: the seat is given back as it was. Number 806.
 #[derive(Drop)]
 pub struct SplitFault {
     pub seat: Seat,

@@ -1,4 +1,5 @@
-//! A store of one blob's chunks that many threads share, each with a seat of its own.
+//! A store of one blob's chunks that many threads share, each with a seat of its own: what a caller has of the store, with
+//! its claims and all that it has seen.
 #![tactic(auto)]
 
 pub use assembly::Assembly;

@@ -21,12 +21,12 @@ use Rattle.store_core.proofs.Lasting.{legal_is_sound}
 use Rattle.store_core.proofs.Tells.{claims-claimed}
 use Rattle.store_steps.specs.Layout.{length_code}
 use Rattle.store_steps.specs.Plays.{Gives, Publishes}
-use Rattle.store_steps.specs.Rule.{IsKept, StandFor}
+use Rattle.store_steps.specs.Rule.{RuleHolds, StandFor}
 use Rattle.store_core.proofs.Bits.{has_bit-zero}
 use Rattle.store_steps.proofs.Giving.{cells_beside, ended_written}
-use Rattle.store_steps.proofs.Stepping.{Steps, did_step}
+use Rattle.store_steps.proofs.StepViews.{Steps, did_step}
 
-module _ (fixed : Fixed) (s : Table Unit (List SeatView)) (k : IsKept fixed s) (id : ℕ) (view : SeatView) (seat : get_elem? s.views id ≡ some (view ∷ []))
+module _ (fixed : Fixed) (s : Table Unit (List SeatView)) (k : RuleHolds fixed s) (id : ℕ) (view : SeatView) (seat : get_elem? s.views id ≡ some (view ∷ []))
     (any : 0 < fixed.capacity) (group : ℕ) (none : group < groups fixed → ⊥) where
   abbrev found : ℕ
   found = slice_index s.words 0

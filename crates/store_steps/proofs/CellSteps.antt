@@ -27,20 +27,20 @@ use Rattle.store_core.proofs.Running.{one_step}
 use Rattle.store_core.proofs.Served.{seat_claim}
 use Rattle.store_core.proofs.Stepping.{shown_or}
 use Rattle.store_core.proofs.Tells.{masked}
-use Rattle.store_steps.specs.Asks.{AreWritten}
+use Rattle.store_steps.specs.Asks.{AreWordsStored}
 use Rattle.store_steps.specs.Layout.{cell_at, cell_place, claim_place, held_word, length_place}
-use Rattle.store_steps.specs.Rule.{Fits, IsKept}
+use Rattle.store_steps.specs.Rule.{ViewFits, RuleHolds}
 use Rattle.store_steps.specs.Simulates.{PublishIsPublish, StoreIsWrite}
 use Rattle.store_steps.proofs.ClaimSteps.{claims_less}
 use Rattle.store_steps.proofs.Simulating.{low, others_not, read_on, seat_is, stands_after, stays_stored, still_read, stored_is}
-use Rattle.store_steps.proofs.Standing.{left, put}
-use Rattle.store_steps.proofs.Stepping.{fitting}
+use Rattle.store_steps.proofs.WrittenWords.{left, put}
+use Rattle.store_steps.proofs.StepViews.{fitting}
 
 -- what a seat has seen is legal
-pub seen_legal : (fixed : Fixed) (s : Table Unit (List SeatView)) (k : IsKept fixed s) (id : ℕ) (view : SeatView) → get_elem? s.views id ≡ some (view ∷ [])
+pub seen_legal : (fixed : Fixed) (s : Table Unit (List SeatView)) (k : RuleHolds fixed s) (id : ℕ) (view : SeatView) → get_elem? s.views id ≡ some (view ∷ [])
     → IsLegal view.fixed view.seen
 seen_legal fixed s k id view seat =
-    let fits : Fits fixed k.history s.words view = fitting fixed s k id view seat in
+    let fits : ViewFits fixed k.history s.words view = fitting fixed s k id view seat in
     subst (λ (f : Fixed). IsLegal f view.seen) (sym fits.fixed_is)
     (legal-append fixed empty view.seen fits.continues.between (subst (λ (h : List Event). IsLegal fixed h) fits.continues.is k.legal)).0
 
@@ -133,7 +133,7 @@ publish_is_publish fixed pieces s m id group mask piece view new here there curr
     let both : (c : ℕ) → in_mask group mask c ≡ true → (seat_has m id c ≡ true) × (current_holds (m.seat id).piece c ≡ true) = λ c hit.
     let parts = and_parts (seat_has m id c) (current_holds (m.seat id).piece c) (masked group mask (λ c. seat_has m id c && current_holds (m.seat id).piece c) c right.2 hit) in
     (parts.0, parts.1) in
-    let all_written : AreWritten view.written group mask piece = λ c w bytes hit has below.
+    let all_written : AreWordsStored view.written group mask piece = λ c w bytes hit has below.
     let its = both c hit in
     let of : c / 64 ≡ group = eqb-true (c / 64) group (and_parts (c / 64 == group) (has_bit mask (c % 64)) hit).0 in
     let wrote : (m.seat id).written c w ≡ true = wrote_all c w of its.0 its.1 below in

@@ -19,7 +19,7 @@ use Rattle.store_steps.specs.Layout.{cell_place, claim_place, claim_word, length
 use Rattle.store_steps.specs.Simulates.{GiveIsGiveBack, TakeIsClaim}
 use Rattle.store_core.proofs.Bits.{and_small, has_bit-and, has_bit-not, has_bit-or}
 use Rattle.store_steps.proofs.Simulating.{hidden, others_not, read_on, seat_is, stands_after, stays_stored, stored_is}
-use Rattle.store_steps.proofs.Standing.{left, put}
+use Rattle.store_steps.proofs.WrittenWords.{left, put}
 
 -- a mask's chunks, and those of other groups
 here_is : (group mask c : ℕ) → c / 64 ≡ group → in_mask group mask c ≡ has_bit mask (c % 64)

@@ -22,10 +22,10 @@ use Rattle.store_core.proofs.Tells.{claims-claimed, masked}
 use Rattle.store_steps.specs.Asks.{AreClaimed}
 use Rattle.store_steps.specs.Layout.{cell_at, cell_place, claim_place, claim_word}
 use Rattle.store_steps.specs.Plays.{Gives}
-use Rattle.store_steps.specs.Rule.{IsKept, StandFor}
+use Rattle.store_steps.specs.Rule.{RuleHolds, StandFor}
 use Rattle.store_core.proofs.Bits.{has_bit-and, has_bit-not}
-use Rattle.store_steps.proofs.Standing.{claims_stand, left}
-use Rattle.store_steps.proofs.Stepping.{Steps, did_step, fitting, claims_now}
+use Rattle.store_steps.proofs.WrittenWords.{claims_stand, left}
+use Rattle.store_steps.proofs.StepViews.{Steps, did_step, fitting, claims_now}
 
 -- a word that still counts as stored did so before, and is of none of the mask's chunks
 pub still_stored : (group mask : ℕ) (words : List StoredWord) (number value : ℕ) → stored (without_chunks group mask words) number ≡ Some value
@@ -55,7 +55,7 @@ give_bit false true false old is free = is
 give_bit false false true old is free = refl
 give_bit false false false old is free = is
 
-module _ (fixed : Fixed) (s : Table Unit (List SeatView)) (k : IsKept fixed s) (id : ℕ) (view : SeatView) (seat : get_elem? s.views id ≡ some (view ∷ [])) where
+module _ (fixed : Fixed) (s : Table Unit (List SeatView)) (k : RuleHolds fixed s) (id : ℕ) (view : SeatView) (seat : get_elem? s.views id ≡ some (view ∷ [])) where
   -- what it claims isn't held
   pub not_held : (c : ℕ) → claims (names_of view) (state_after k.history) c ≡ true → is_held (state_after k.history) c ≡ false
   not_held c ours = false_from_ne_true _ (λ shown.

@@ -17,7 +17,7 @@ use Rattle.store_core.proofs.Joining.{claims_continued, join_keeps}
 use Rattle.store_core.proofs.Tells.{claims_apart}
 use Rattle.store_steps.specs.Machines.{HasRead, StandsForMachine}
 use Rattle.store_steps.specs.Renames.{EnterStays, JoinRenames, LeaveRenames, MeetStays, MergeStays, joined_claim, left_claim}
-use Rattle.store_steps.specs.Rule.{HasView, IsKept}
+use Rattle.store_steps.specs.Rule.{HasView, RuleHolds}
 use Rattle.store_steps.proofs.Lists.{one_part}
 use Rattle.store_steps.proofs.Meeting as meeting
 use Rattle.store_steps.proofs.Regrouping.{Regroups, at_other, entered_regroups, join_to, joined_regroups, leave_to, left_regroups, two_parts}
@@ -117,7 +117,7 @@ module _ (m : Machine) (seat : ℕ) (view : SeatView) where
   leaving_read n = elim (cases_Bool (n == seat)) [ inl hit ↦ rw hit refl | inr miss ↦ rw miss refl ]
 
 -- no chunk is claimed by both views of a seat
-apart_claims : (fixed : Fixed) (s : Table Unit (List SeatView)) (k : IsKept fixed s) (seat : ℕ) (one two : SeatView) → get_elem? s.views seat ≡ some (one ∷ two ∷ [])
+apart_claims : (fixed : Fixed) (s : Table Unit (List SeatView)) (k : RuleHolds fixed s) (seat : ℕ) (one two : SeatView) → get_elem? s.views seat ≡ some (one ∷ two ∷ [])
     → (c : ℕ) → seat_claims one c ≡ true → seat_claims two c ≡ false
 apart_claims fixed s k seat one two at c ours = false_from_ne_true _ (λ theirs.
     let first : HasView s.views seat 0 one = record { parts = one ∷ two ∷ []; is_seat = at; is_part = refl } in
@@ -208,7 +208,7 @@ option_cases : (o : Option ℕ) → (o ≡ None) ⊎ ((n : ℕ) × (o ≡ Some n
 option_cases None = inl refl
 option_cases (Some n) = inr (n, refl)
 
-module _ (fixed : Fixed) (s : Table Unit (List SeatView)) (m : Machine) (seat place : ℕ) (one two : SeatView) (k : IsKept fixed s)
+module _ (fixed : Fixed) (s : Table Unit (List SeatView)) (m : Machine) (seat place : ℕ) (one two : SeatView) (k : RuleHolds fixed s)
     (stands : StandsForMachine fixed s m) (at : get_elem? s.views seat ≡ some (one ∷ two ∷ [])) where
   abbrev first : HasView s.views seat 0 one
   first = record { parts = one ∷ two ∷ []; is_seat = at; is_part = refl }

@@ -19,7 +19,7 @@ use Rattle.store_core.proofs.Joining.{plain}
 use Rattle.store_core.proofs.Lasting.{claims_from, legal-append, run-append}
 use Rattle.store_core.proofs.Tells.{claims-claimed, claims_apart, same_name-true}
 use Rattle.store_steps.specs.Layout.{cell_at}
-use Rattle.store_steps.specs.Rule.{AreApart, AreParentsKept, Fits, FitsParents, HasView, IsKept, IsLater, IsNamed, StandFor, StandForParents}
+use Rattle.store_steps.specs.Rule.{AreApart, AreParentsKept, ViewFits, FitsParents, HasView, RuleHolds, IsLater, IsNamed, StandFor, StandForParents}
 use Rattle.store_steps.proofs.ParentsStanding.{LeavesParents, fits_left, fits_same, parents_left}
 use Rattle.store_steps.proofs.Storers.{stores_on}
 use Rattle.store_steps.proofs.Callers.{callers-append, callers_by}
@@ -78,9 +78,9 @@ apart_still views later history own apart before id at view has by = record {
 
 -- a view goes on to fit where others call and its chunks' cells are left
 fits_on : (fixed : Fixed) (history own : List Event) (words later : List ℕ) (view : SeatView) → IsLegal fixed (history ++ own)
-    → Fits fixed history words view → AreOfOthers (names_of view) own
+    → ViewFits fixed history words view → AreOfOthers (names_of view) own
     → ((number : ℕ) → claims (names_of view) (state_after history) (number / 129) ≡ true → cell_at fixed later number ≡ cell_at fixed words number)
-    → Fits fixed (history ++ own) later view
+    → ViewFits fixed (history ++ own) later view
 fits_on fixed history own words later view legal fits others same = record {
   fixed_is = fits.fixed_is;
   continues = record {
@@ -96,7 +96,7 @@ fits_on fixed history own words later view legal fits others same = record {
       );
 }
 
-module _ (fixed : Fixed) (s : Table Unit (List SeatView)) (k : IsKept fixed s) (id : ℕ) (view new : SeatView)
+module _ (fixed : Fixed) (s : Table Unit (List SeatView)) (k : RuleHolds fixed s) (id : ℕ) (view new : SeatView)
     (seat : get_elem? s.views id ≡ some (view ∷ [])) (same : new.names ≡ view.names) where
   -- the stepping seat's view
   abbrev pub its : HasView s.views id 0 view
@@ -127,11 +127,11 @@ module _ (fixed : Fixed) (s : Table Unit (List SeatView)) (k : IsKept fixed s) (
       let place : (i, j) ≡ (id, 0) = sym (k.names.owned i j v h name their) ∙ k.names.owned id 0 view its name our in
       other (ap (λ (p : ℕ × ℕ). p.0) place))
 
-  fits_from : (own : List Event) (later : List ℕ) → AreBy (names_of view) own → IsLegal fixed (k.history ++ own) → Fits fixed (k.history ++ own) later new
+  fits_from : (own : List Event) (later : List ℕ) → AreBy (names_of view) own → IsLegal fixed (k.history ++ own) → ViewFits fixed (k.history ++ own) later new
       → ((number : ℕ) → is_claimed (state_after k.history) (number / 129) ≡ true → claims (names_of view) (state_after k.history) (number / 129) ≡ false
       → cell_at fixed later number ≡ cell_at fixed s.words number)
-      → (i j : ℕ) (v : SeatView) → Found i j v → Fits fixed (k.history ++ own) later v
-  fits_from own later by legal fits cells i j v (inl here) = subst (λ (u : SeatView). Fits fixed (k.history ++ own) later u) (sym here.2) fits
+      → (i j : ℕ) (v : SeatView) → Found i j v → ViewFits fixed (k.history ++ own) later v
+  fits_from own later by legal fits cells i j v (inl here) = subst (λ (u : SeatView). ViewFits fixed (k.history ++ own) later u) (sym here.2) fits
   fits_from own later by legal fits cells i j v (inr other) =
       let apart : share_name (names_of v) (names_of view) ≡ false = strangers i j v other.0 other.1 in
       let turned : share_name (names_of view) (names_of v) ≡ false = apart_from (names_of view) (names_of v) (λ name our their.
@@ -167,11 +167,11 @@ module _ (fixed : Fixed) (s : Table Unit (List SeatView)) (k : IsKept fixed s) (
 
   -- The rule after a step of the seat's that makes word i the number n, with its own events and its new view.
   pub kept_step : (own : List Event) (i n : ℕ) → AreBy (names_of view) own → IsLegal fixed (k.history ++ own)
-      → StandFor fixed (set s.words i n) (state_after (k.history ++ own)) → Fits fixed (k.history ++ own) (set s.words i n) new
+      → StandFor fixed (set s.words i n) (state_after (k.history ++ own)) → ViewFits fixed (k.history ++ own) (set s.words i n) new
       → ((number : ℕ) → is_claimed (state_after k.history) (number / 129) ≡ true → claims (names_of view) (state_after k.history) (number / 129) ≡ false
       → cell_at fixed (set s.words i n) number ≡ cell_at fixed s.words number)
       → AreParentsKept fixed (set s.words i n) (set s.views id (new ∷ [])) (state_after (k.history ++ own)).parents
-      → IsKept fixed (stepped s i n id [] (new ∷ []) keeps)
+      → RuleHolds fixed (stepped s i n id [] (new ∷ []) keeps)
   kept_step own i n by legal words fits cells parents = record {
     history = k.history ++ own;
     legal = legal;

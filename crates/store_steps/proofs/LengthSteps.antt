@@ -24,7 +24,7 @@ use Rattle.store_steps.specs.Simulates.{LengthIsLength, LookIsTooLarge, SettleIs
 use Rattle.store_steps.proofs.Looking.{length_back}
 use Rattle.store_steps.proofs.Settling.{word_then}
 use Rattle.store_steps.proofs.Simulating.{read_on, seat_is, stands_after, stays_after, stored_is}
-use Rattle.store_steps.proofs.Standing.{left, put}
+use Rattle.store_steps.proofs.WrittenWords.{left, put}
 
 pub settle_is_settle : SettleIsSettle
 settle_is_settle fixed pieces s m id piece view new here current ends fits did =

@@ -1,10 +1,10 @@
-pub mod Standing
+pub mod WrittenWords
 pub mod Lists
 pub mod Callers
 pub mod Calls
 pub mod Keeping
 pub mod Opening
-pub mod Stepping
+pub mod StepViews
 pub mod Taking
 pub mod Giving
 pub mod Storing

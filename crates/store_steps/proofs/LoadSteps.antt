@@ -33,13 +33,13 @@ use Rattle.store_steps.specs.Layout.{cell_at, claim_word, held_word, length_word
 use Rattle.store_steps.specs.Machines.{IsAtMachine, IsUnderWay}
 use Rattle.store_steps.specs.Plays.{Loads}
 use Rattle.store_steps.specs.Reads.{group_end, is_last, read_events}
-use Rattle.store_steps.specs.Rule.{Fits, HasView, IsKept}
+use Rattle.store_steps.specs.Rule.{ViewFits, HasView, RuleHolds}
 use Rattle.store_steps.specs.Simulates.{LoadIsLoad, load_events, load_reply}
 use Rattle.store_core.specs.Knowledge.{event_of}
 use Rattle.store_steps.proofs.LastLoad.{is_last-false, is_last-true}
 use Rattle.store_steps.proofs.Looking.{reads_quiet}
 use Rattle.store_steps.proofs.Simulating.{read_is_of, read_on, seat_is, set_at, stands_after, stored_is}
-use Rattle.store_steps.proofs.Stepping.{fitting}
+use Rattle.store_steps.proofs.StepViews.{fitting}
 
 -- what is held, by a bit that shows it
 held_by_bit : (o : Option (List ℕ)) (shown : Bool) (bytes : List ℕ) → shown ≡ is_some o → ((b : List ℕ) → o ≡ Some b → bytes ≡ b) → o ≡ (if shown then Some bytes else None)
@@ -73,7 +73,7 @@ stops_at s at len n none = elim (cases_lt n (length (read_bytes s at len))) [
 module _ (fixed : Fixed) (pieces : List Checked) (s : Table Unit (List SeatView)) (m : Machine) (id group at len : ℕ) (view new : SeatView)
     (here : IsAtMachine fixed pieces s m id view) (there : group < groups fixed) (legal : IsLegalStep fixed pieces m (Load id at len))
     (group_is : group ≡ loaded_group fixed (read_before m id at len)) (loads : Loads group at len (held_word s.words group) view new)
-    (after : IsKept fixed (stepped s group (held_word s.words group) id [] (new ∷ []) keeps)) where
+    (after : RuleHolds fixed (stepped s group (held_word s.words group) id [] (new ∷ []) keeps)) where
   abbrev seen : State
   seen = state_after new.seen
 
@@ -87,10 +87,10 @@ module _ (fixed : Fixed) (pieces : List Checked) (s : Table Unit (List SeatView)
   limit = 1024 * fixed.capacity
 
   fixed_is : new.fixed ≡ fixed
-  fixed_is = let fits : Fits fixed here.kept.history s.words view = fitting fixed s here.kept id view here.is_seat in loads.looked.goes_on.fixed_is ∙ fits.fixed_is
+  fixed_is = let fits : ViewFits fixed here.kept.history s.words view = fitting fixed s here.kept id view here.is_seat in loads.looked.goes_on.fixed_is ∙ fits.fixed_is
 
   view_fixed : view.fixed ≡ fixed
-  view_fixed = let fits : Fits fixed here.kept.history s.words view = fitting fixed s here.kept id view here.is_seat in fits.fixed_is
+  view_fixed = let fits : ViewFits fixed here.kept.history s.words view = fitting fixed s here.kept id view here.is_seat in fits.fixed_is
 
   legal_seen : IsLegal fixed new.seen
   legal_seen = subst (λ (f : Fixed). IsLegal f new.seen) fixed_is loads.looked.goes_on.legal

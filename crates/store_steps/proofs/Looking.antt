@@ -15,12 +15,12 @@ use Rattle.store_core.specs.States.{State, is_held}
 use Rattle.store_core.specs.Views.{names_of}
 use Rattle.store_core.proofs.Lasting.{held_lasts}
 use Rattle.store_steps.specs.Layout.{cell_place, held_word, length_code, length_place}
-use Rattle.store_steps.specs.Plays.{Answers, Copies, Loads, length_in}
+use Rattle.store_steps.specs.Plays.{LoadsLength, Copies, Loads, length_in}
 use Rattle.store_steps.specs.Reads.{is_last, read_events}
-use Rattle.store_steps.specs.Rule.{IsKept}
+use Rattle.store_steps.specs.Rule.{RuleHolds}
 use Rattle.store_core.specs.Knowledge.{event_of}
 use Rattle.store_steps.proofs.Lists.{AreBy}
-use Rattle.store_steps.proofs.Stepping.{Steps, fitting, look_step, still_step}
+use Rattle.store_steps.proofs.StepViews.{Steps, fitting, look_step, still_step}
 
 -- a load's events are right, leave the state, and are the seat's
 reads_right : (fixed : Fixed) (view : SeatView) (group at len : ℕ) (s : State) → AreLegalFrom fixed s (read_events view group at len s)
@@ -40,7 +40,7 @@ length_back (Some l) =
     let back : l + 1 - 1 ≡ l = omega arith in
     rw some (ap (λ (n : ℕ). Some n) back)
 
-module _ (fixed : Fixed) (s : Table Unit (List SeatView)) (k : IsKept fixed s) (id : ℕ) (view : SeatView) (seat : get_elem? s.views id ≡ some (view ∷ [])) where
+module _ (fixed : Fixed) (s : Table Unit (List SeatView)) (k : RuleHolds fixed s) (id : ℕ) (view : SeatView) (seat : get_elem? s.views id ≡ some (view ∷ [])) where
   abbrev state : State
   state = state_after k.history
 
@@ -60,7 +60,7 @@ module _ (fixed : Fixed) (s : Table Unit (List SeatView)) (k : IsKept fixed s) (
         };
       }
 
-  pub length_steps : Steps fixed s id (length_place fixed) (slice_index s.words (length_place fixed)) (λ new. Answers (slice_index s.words (length_place fixed)) view new)
+  pub length_steps : Steps fixed s id (length_place fixed) (slice_index s.words (length_place fixed)) (λ new. LoadsLength (slice_index s.words (length_place fixed)) view new)
   length_steps =
       let answer : length_in (slice_index s.words (length_place fixed)) ≡ state.recorded =
       ap (λ (n : ℕ). length_in n) k.words.recorded ∙ length_back state.recorded in

@@ -21,8 +21,8 @@ use Rattle.store_core.specs.Views.{is_boundary, is_storing, merge_names, names_o
 use Rattle.store_core.proofs.Joining.{merge-has}
 use Rattle.store_core.proofs.Ordering.{merge_order}
 use Rattle.store_steps.specs.Grips.{first_of}
-use Rattle.store_steps.specs.Plays.{Meets, Merges, OfTwo, rest_of}
-use Rattle.store_steps.specs.Rule.{AreApart, Fits, FitsParents, HasView, IsKept, IsNamed, StoresAt}
+use Rattle.store_steps.specs.Plays.{MeetsSeat, Merges, OfTwo, rest_of}
+use Rattle.store_steps.specs.Rule.{AreApart, ViewFits, FitsParents, HasView, RuleHolds, IsNamed, StoresAt}
 use Rattle.store_steps.proofs.Keeping.{Before, apart_still}
 use Rattle.store_steps.proofs.Lists.{apart_from, one_part}
 use Rattle.store_steps.proofs.Naming.{merge-cases, merge-some}
@@ -33,16 +33,16 @@ use Rattle.store_steps.proofs.Storers.{gets, had, moved_from, stays}
 -- what a load by a seat with two views comes to
 pub record Turns (fixed : Fixed) (s : Table Unit (List SeatView)) (id : ℕ) (Told : List SeatView → Type 0) : Type 0 where
   pub later : List SeatView
-  pub kept : IsKept fixed (stepped s 0 (slice_index s.words 0) id [] later keeps)
+  pub kept : RuleHolds fixed (stepped s 0 (slice_index s.words 0) id [] later keeps)
   pub told : Told later
 
 -- that is what the table asks of it, at the code's view and key
 pub at_two : (fixed key : Fixed) → key ≡ fixed → (slots id : ℕ) (me : Me Unit (List SeatView)) (one two : SeatView) → me.0 ≡ one ∷ two ∷ []
     → (Told : SeatView → SeatView → List SeatView → Type 0)
-    → ((s : Table Unit (List SeatView)) → IsKept fixed s → get_elem? s.views id ≡ some (one ∷ two ∷ []) → Turns fixed s id (λ later. Told one two later))
-    → Allows (IsKept key) slots id me 0 (λ n. n) (λ n later. OfTwo Told me later)
+    → ((s : Table Unit (List SeatView)) → RuleHolds fixed s → get_elem? s.views id ≡ some (one ∷ two ∷ []) → Turns fixed s id (λ later. Told one two later))
+    → Allows (RuleHolds key) slots id me 0 (λ n. n) (λ n later. OfTwo Told me later)
 at_two fixed key key_is slots id me one two is Told turns =
-    subst (λ (k : Fixed). Allows (IsKept k) slots id me 0 (λ n. n) (λ n later. OfTwo Told me later)) (sym key_is) (λ s kept homes seat small.
+    subst (λ (k : Fixed). Allows (RuleHolds k) slots id me 0 (λ n. n) (λ n later. OfTwo Told me later)) (sym key_is) (λ s kept homes seat small.
     let t = turns s kept (seat ∙ ap (λ (vs : List SeatView). some vs) is) in (
       t.later,
       keeps,
@@ -78,17 +78,17 @@ among_more : (ours all : List Name) → ((name : Name) → has_name ours name �
 among_more ours all more None h = h
 among_more ours all more (Some name) h = more name h
 
-module _ (fixed : Fixed) (s : Table Unit (List SeatView)) (k : IsKept fixed s) (id : ℕ) (one two : SeatView) (at : get_elem? s.views id ≡ some (one ∷ two ∷ [])) where
+module _ (fixed : Fixed) (s : Table Unit (List SeatView)) (k : RuleHolds fixed s) (id : ℕ) (one two : SeatView) (at : get_elem? s.views id ≡ some (one ∷ two ∷ [])) where
   abbrev part_one : HasView s.views id 0 one
   part_one = record { parts = one ∷ two ∷ []; is_seat = at; is_part = refl }
 
   abbrev part_two : HasView s.views id 1 two
   part_two = record { parts = one ∷ two ∷ []; is_seat = at; is_part = refl }
 
-  abbrev fits_one : Fits fixed k.history s.words one
+  abbrev fits_one : ViewFits fixed k.history s.words one
   fits_one = k.views id 0 one part_one
 
-  abbrev fits_two : Fits fixed k.history s.words two
+  abbrev fits_two : ViewFits fixed k.history s.words two
   fits_two = k.views id 1 two part_two
 
   -- no name is of both
@@ -120,7 +120,7 @@ module _ (fixed : Fixed) (s : Table Unit (List SeatView)) (k : IsKept fixed s) (
   claims_two : (c : ℕ) → claims (names_of two) (state_after k.history) c ≡ true → claims (names_of merged) (state_after k.history) c ≡ true
   claims_two c = among_more (names_of two) (names_of merged) (λ name h. merged_has name ∙ or_right _ _ h) ((state_after k.history).claim c)
 
-  merged_fits : Fits fixed k.history s.words merged
+  merged_fits : ViewFits fixed k.history s.words merged
   merged_fits = record {
     fixed_is = fits_one.fixed_is;
     continues = record { between = []; is = sym (append-nil k.history); others = refl };
@@ -177,8 +177,8 @@ module _ (fixed : Fixed) (s : Table Unit (List SeatView)) (k : IsKept fixed s) (
       false_from_ne_true _ (λ b. never_both name a b)))
   merge_ordered i j v (inr other) = k.names.ordered i j v other.1
 
-  merge_fits : (i j : ℕ) (v : SeatView) → MergeFound i j v → Fits fixed k.history s.words v
-  merge_fits i j v (inl here) = subst (λ (u : SeatView). Fits fixed k.history s.words u) (sym here.2) merged_fits
+  merge_fits : (i j : ℕ) (v : SeatView) → MergeFound i j v → ViewFits fixed k.history s.words v
+  merge_fits i j v (inl here) = subst (λ (u : SeatView). ViewFits fixed k.history s.words u) (sym here.2) merged_fits
   merge_fits i j v (inr other) = k.views i j v other.1
 
   abbrev storer_then : ℕ → Option (ℕ × ℕ)
@@ -304,16 +304,16 @@ module _ (fixed : Fixed) (s : Table Unit (List SeatView)) (k : IsKept fixed s) (
   ]
 
   -- a view that has seen the history fits it
-  met_fits : (view : SeatView) → Fits fixed k.history s.words view → Fits fixed k.history s.words (record view { seen = k.history })
+  met_fits : (view : SeatView) → ViewFits fixed k.history s.words view → ViewFits fixed k.history s.words (record view { seen = k.history })
   met_fits view fits = record {
     fixed_is = fits.fixed_is;
     continues = record { between = []; is = sym (append-nil k.history); others = refl };
     written = fits.written;
   }
 
-  meet_fits : (i j : ℕ) (v : SeatView) → MeetFound i j v → Fits fixed k.history s.words v
-  meet_fits i j v (inl here) = subst (λ (u : SeatView). Fits fixed k.history s.words u) (sym here.2) (met_fits one fits_one)
-  meet_fits i j v (inr (inl here)) = subst (λ (u : SeatView). Fits fixed k.history s.words u) (sym here.2) (met_fits two fits_two)
+  meet_fits : (i j : ℕ) (v : SeatView) → MeetFound i j v → ViewFits fixed k.history s.words v
+  meet_fits i j v (inl here) = subst (λ (u : SeatView). ViewFits fixed k.history s.words u) (sym here.2) (met_fits one fits_one)
+  meet_fits i j v (inr (inl here)) = subst (λ (u : SeatView). ViewFits fixed k.history s.words u) (sym here.2) (met_fits two fits_two)
   meet_fits i j v (inr (inr other)) = k.views i j v other.1
 
   met_before : (i j : ℕ) (v : SeatView) → MeetFound i j v → Before s.views i j v
@@ -360,7 +360,7 @@ module _ (fixed : Fixed) (s : Table Unit (List SeatView)) (k : IsKept fixed s) (
         | inr other ↦ record { view = at_old.view; has = stays s.views id (met_one ∷ met_two ∷ []) i j at_old.view other at_old.has; storing = at_old.storing }
       ]
 
-  pub meet_turns : Turns fixed s id (λ later. Meets one two later)
+  pub meet_turns : Turns fixed s id (λ later. MeetsSeat one two later)
   meet_turns = record {
     later = met_one ∷ met_two ∷ [];
     kept = rekept fixed s (stepped s 0 word id [] (met_one ∷ met_two ∷ []) keeps) left k (λ i j v h. meet_fits i j v (meet_found i j v h))

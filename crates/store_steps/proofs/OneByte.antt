@@ -9,7 +9,7 @@ use Rattle.store_core.specs.Cells.{cell_word}
 use Rattle.store_core.specs.Masks.{has_bit, in_mask}
 use Rattle.store_core.specs.Pieces.{chunk_bytes, holds_chunk}
 use Rattle.store_core.specs.Views.{seat_claims, stored}
-use Rattle.store_steps.specs.Asks.{AreHeldClaims, AreWritten}
+use Rattle.store_steps.specs.Asks.{AreHeldClaims, AreWordsStored}
 use Rattle.store_core.specs.Knowledge.{Did}
 use Rattle.store_core.proofs.Bits.{has_bit-ones}
 
@@ -52,7 +52,7 @@ one_element (x ∷ []) size = refl
 one_element (x ∷ y ∷ xs) size = absurd (omega (arith, size))
 
 pub first_written : (written : List StoredWord) (piece : Piece) (chunk : List ℕ) → chunk_bytes piece 0 ≡ Some chunk → length chunk ≡ 1
-    → ((w : ℕ) → w < 129 → stored written w ≡ Some (cell_word (get_or chunk 0 0 ∷ []) w)) → AreWritten written 0 1 piece
+    → ((w : ℕ) → w < 129 → stored written w ≡ Some (cell_word (get_or chunk 0 0 ∷ []) w)) → AreWordsStored written 0 1 piece
 first_written written piece chunk is size all c w bytes hit has below =
     let at : c ≡ 0 = only_chunk c hit in
     let number : w ≡ 129 * c + w = omega (arith, at) in

@@ -14,7 +14,7 @@ use Rattle.store_core.specs.States.{empty}
 use Rattle.store_core.specs.Views.{names_of}
 use Rattle.store_core.specs.Knowledge.{opening_view}
 use Rattle.store_steps.specs.Layout.{claim_place, length_place, parent_claim_place, parent_held_place, word_count}
-use Rattle.store_steps.specs.Rule.{Fits, FitsParents, HasView, IsKept, IsNamed, StandFor}
+use Rattle.store_steps.specs.Rule.{ViewFits, FitsParents, HasView, RuleHolds, IsNamed, StandFor}
 use Rattle.store_core.proofs.Bits.{has_bit-zero}
 use Rattle.store_steps.proofs.Lists.{one_part}
 
@@ -48,14 +48,14 @@ the_name fixed named k =
     let among = subst (λ (v : SeatView). Contains v.names named) view k.among in
     elim (Contains-cons_cases [] (record { name = []; splits = 0 }) named among) [ inl first ↦ first | inr never ↦ absurd (omega (arith, never.1)) ]
 
-pub opens : (fixed : Fixed) → IsKept fixed (opening (replicate (word_count fixed) 0) [] (opening_view fixed ∷ []))
+pub opens : (fixed : Fixed) → RuleHolds fixed (opening (replicate (word_count fixed) 0) [] (opening_view fixed ∷ []))
 opens fixed = record {
   history = [];
   legal = tt;
   words = zeros_stand fixed;
   views = λ seat part view h.
       let is = (the_view fixed seat part view h).2 in
-      subst (λ (v : SeatView). Fits fixed [] (replicate (word_count fixed) 0) v) (sym is) (record {
+      subst (λ (v : SeatView). ViewFits fixed [] (replicate (word_count fixed) 0) v) (sym is) (record {
         fixed_is = refl;
         continues = record { between = []; is = refl; others = refl };
         written = λ number value w. cc;

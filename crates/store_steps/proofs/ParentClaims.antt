@@ -15,12 +15,12 @@ use Rattle.store_core.specs.Masks.{has_bit, in_mask}
 use Rattle.store_core.specs.Views.{is_boundary, is_storing}
 use Rattle.store_steps.specs.Layout.{parent_claim_place, parent_claim_word, parent_held_place, parent_place}
 use Rattle.store_steps.specs.Plays.{ClaimsParents}
-use Rattle.store_steps.specs.Rule.{FitsParents, IsKept, StandForParents, StoresAt}
+use Rattle.store_steps.specs.Rule.{FitsParents, RuleHolds, StandForParents, StoresAt}
 use Rattle.store_core.proofs.Bits.{has_bit-and, has_bit-not, has_bit-or}
 use Rattle.store_steps.proofs.Keeping.{Found, found, its}
 use Rattle.store_steps.proofs.ParentsAside.{aside_step}
-use Rattle.store_steps.proofs.Standing.{left, put}
-use Rattle.store_steps.proofs.Stepping.{Steps}
+use Rattle.store_steps.proofs.WrittenWords.{left, put}
+use Rattle.store_steps.proofs.StepViews.{Steps}
 use Rattle.store_steps.proofs.Storers.{stores_new, stores_on}
 
 -- the bit of a boundary: held, being stored, or claimed now
@@ -44,7 +44,7 @@ none_is : (o : Option (List ℕ)) → is_some o ≡ false → o ≡ None
 none_is None h = refl
 none_is (Some bytes) h = cc
 
-module _ (fixed : Fixed) (s : Table Unit (List SeatView)) (k : IsKept fixed s) (id : ℕ) (view : SeatView) (seat : get_elem? s.views id ≡ some (view ∷ []))
+module _ (fixed : Fixed) (s : Table Unit (List SeatView)) (k : RuleHolds fixed s) (id : ℕ) (view : SeatView) (seat : get_elem? s.views id ≡ some (view ∷ []))
     (group asked : ℕ) (there : group < groups fixed) (asks : (m : ℕ) → m / 64 ≡ group → has_bit asked (m % 64) ≡ true → m < fixed.capacity)
     (none : view.storing ≡ []) (small : slice_index s.words (parent_claim_place fixed group) < 2 ^ 64) where
   abbrev place : ℕ

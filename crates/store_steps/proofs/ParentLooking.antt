@@ -25,12 +25,12 @@ use Rattle.store_core.proofs.Bits.{has_bit-zero}
 use Rattle.store_core.proofs.ParentOrigins.{parent_lasts}
 use Rattle.store_steps.specs.Layout.{length_place, parent_place}
 use Rattle.store_steps.specs.Plays.{CopiesParent, LoadsNode, LoadsToServe, LoadsToStore, length_in}
-use Rattle.store_steps.specs.Rule.{IsKept}
+use Rattle.store_steps.specs.Rule.{RuleHolds}
 use Rattle.store_steps.specs.Slices.{is_recorded, node_events, node_place, number_of, unserved_events, unstored_events}
 use Rattle.store_core.specs.Knowledge.{event_of}
 use Rattle.store_steps.proofs.Lists.{AreBy}
 use Rattle.store_steps.proofs.Looking.{length_back}
-use Rattle.store_steps.proofs.Stepping.{Steps, fitting, look_step, still_step}
+use Rattle.store_steps.proofs.StepViews.{Steps, fitting, look_step, still_step}
 
 -- a choice between a list and another by a bit
 either_legal : (fixed : Fixed) (s : State) (b : Bool) (mine others : List Event) → (b ≡ true → AreLegalFrom fixed s mine) → (b ≡ false → AreLegalFrom fixed s others)
@@ -67,7 +67,7 @@ none_after group piece s names =
     ap (λ (b : Bool). if b then parent_bytes piece m else s.parents m) (no_boundary group m) in
     λ i. record s { parents = λ m. each m i }
 
-module _ (fixed : Fixed) (s : Table Unit (List SeatView)) (k : IsKept fixed s) (id : ℕ) (view : SeatView) (seat : get_elem? s.views id ≡ some (view ∷ [])) where
+module _ (fixed : Fixed) (s : Table Unit (List SeatView)) (k : RuleHolds fixed s) (id : ℕ) (view : SeatView) (seat : get_elem? s.views id ≡ some (view ∷ [])) where
   abbrev state : State
   state = state_after k.history
 

@@ -22,14 +22,14 @@ use Rattle.store_core.proofs.Lasting.{record_lasts}
 use Rattle.store_steps.specs.Asks.{AreParentsWritten}
 use Rattle.store_steps.specs.Layout.{parent_at, parent_claim_place, parent_held_place, parent_held_word, parent_place, parent_word}
 use Rattle.store_steps.specs.Plays.{PublishesParents}
-use Rattle.store_steps.specs.Rule.{FitsParents, IsKept, StandForParents, StoresAt}
+use Rattle.store_steps.specs.Rule.{FitsParents, RuleHolds, StandForParents, StoresAt}
 use Rattle.store_core.specs.Knowledge.{event_of}
 use Rattle.store_core.proofs.Bits.{has_bit-or}
 use Rattle.store_steps.proofs.Keeping.{Found, found, its}
 use Rattle.store_steps.proofs.ParentsAside.{parents_step}
 use Rattle.store_steps.proofs.ParentsStanding.{same_seat}
-use Rattle.store_steps.proofs.Standing.{left, put}
-use Rattle.store_steps.proofs.Stepping.{Steps, fitting}
+use Rattle.store_steps.proofs.WrittenWords.{left, put}
+use Rattle.store_steps.proofs.StepViews.{Steps, fitting}
 use Rattle.store_steps.proofs.Storers.{stores_on}
 
 -- the bit of a boundary, whether its parent is held afterwards, and whether it is held or being stored
@@ -49,7 +49,7 @@ claimed_bit true new old storer has stored =
     ap (λ (b : Bool). is_some old || b) (stored refl) ∙ or_true (is_some old) ∙ sym (ap (λ (b : Bool). b || false) (has refl))
 claimed_bit false new old storer has stored = refl
 
-module _ (fixed : Fixed) (s : Table Unit (List SeatView)) (k : IsKept fixed s) (id : ℕ) (view : SeatView) (seat : get_elem? s.views id ≡ some (view ∷ []))
+module _ (fixed : Fixed) (s : Table Unit (List SeatView)) (k : RuleHolds fixed s) (id : ℕ) (view : SeatView) (seat : get_elem? s.views id ≡ some (view ∷ []))
     (group mask : ℕ) (piece : Piece) (there : group < groups fixed) (accepted : IsAcceptedPiece fixed piece)
     (known : (state_after view.seen).recorded ≡ Some (length_of piece)) (written : AreParentsWritten view group mask piece) where
   abbrev place : ℕ

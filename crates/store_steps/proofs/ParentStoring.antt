@@ -12,15 +12,15 @@ use Rattle.store_core.specs.Masks.{has_bit}
 use Rattle.store_core.specs.Views.{is_storing}
 use Rattle.store_steps.specs.Layout.{parent_at, parent_claim_place, parent_held_place, parent_place}
 use Rattle.store_steps.specs.Plays.{StoresParent}
-use Rattle.store_steps.specs.Rule.{FitsParents, IsKept, StandForParents}
+use Rattle.store_steps.specs.Rule.{FitsParents, RuleHolds, StandForParents}
 use Rattle.store_steps.proofs.Keeping.{Found, found, its}
 use Rattle.store_steps.proofs.ParentsAside.{aside_step}
 use Rattle.store_steps.proofs.ParentsStanding.{same_seat}
-use Rattle.store_steps.proofs.Standing.{left, put}
-use Rattle.store_steps.proofs.Stepping.{Steps}
+use Rattle.store_steps.proofs.WrittenWords.{left, put}
+use Rattle.store_steps.proofs.StepViews.{Steps}
 use Rattle.store_steps.proofs.Storers.{stores_on}
 
-module _ (fixed : Fixed) (s : Table Unit (List SeatView)) (k : IsKept fixed s) (id : ℕ) (view : SeatView) (seat : get_elem? s.views id ≡ some (view ∷ []))
+module _ (fixed : Fixed) (s : Table Unit (List SeatView)) (k : RuleHolds fixed s) (id : ℕ) (view : SeatView) (seat : get_elem? s.views id ≡ some (view ∷ []))
     (m w value : ℕ) (cell : w < 8) (ours : is_storing view m ≡ true) where
   abbrev number : ℕ
   number = 8 * m + w

@@ -22,11 +22,11 @@ use Rattle.store_core.specs.Views.{names_of}
 use Rattle.store_core.proofs.Lasting.{legal-join, legal_is_sound, run-append}
 use Rattle.store_core.proofs.Tells.{claims-claimed}
 use Rattle.store_steps.specs.Layout.{cell_at, cell_place, claim_place, length_place, parents_place}
-use Rattle.store_steps.specs.Rule.{AreParentsKept, Fits, IsKept, StandFor}
+use Rattle.store_steps.specs.Rule.{AreParentsKept, ViewFits, RuleHolds, StandFor}
 use Rattle.store_core.specs.Knowledge.{EndsStoring, GoesOn, event_of}
 use Rattle.store_steps.proofs.Keeping.{kept_step}
-use Rattle.store_steps.proofs.Standing.{left}
-use Rattle.store_steps.proofs.Stepping.{Steps, after_own, claims_now, fitting, goes_on}
+use Rattle.store_steps.proofs.WrittenWords.{left}
+use Rattle.store_steps.proofs.StepViews.{Steps, after_own, claims_now, fitting, goes_on}
 
 -- the words stand for the same chunks, claims and length
 pub aside_stands : (fixed : Fixed) (words : List ℕ) (s : State) (parents : ℕ → Option (List ℕ)) (i n : ℕ) → IsSound fixed s → parents_place fixed ≤ i → StandFor fixed words s
@@ -41,7 +41,7 @@ aside_stands fixed words s parents i n sound high h = record {
   recorded = left words i n (length_place fixed) (λ e. omega (arith, e, high)) ∙ h.recorded;
 }
 
-module _ (fixed : Fixed) (s : Table Unit (List SeatView)) (k : IsKept fixed s) (id : ℕ) (view : SeatView) (seat : get_elem? s.views id ≡ some (view ∷ []))
+module _ (fixed : Fixed) (s : Table Unit (List SeatView)) (k : RuleHolds fixed s) (id : ℕ) (view : SeatView) (seat : get_elem? s.views id ≡ some (view ∷ []))
     (i n : ℕ) (high : parents_place fixed ≤ i) where
   abbrev now : State
   now = state_after k.history
@@ -57,14 +57,14 @@ module _ (fixed : Fixed) (s : Table Unit (List SeatView)) (k : IsKept fixed s) (
   -- a step with no event, after which the seat is storing these
   pub aside_step : (storing : List Boundaries) (parent_words : List StoredWord)
       → AreParentsKept fixed (set s.words i n) (set s.views id (record view { storing = storing; parent_words = parent_words } ∷ [])) now.parents
-      → IsKept fixed (stepped s i n id [] (record view { storing = storing; parent_words = parent_words } ∷ []) keeps)
+      → RuleHolds fixed (stepped s i n id [] (record view { storing = storing; parent_words = parent_words } ∷ []) keeps)
   aside_step storing parent_words parents =
       let new : SeatView = record view { storing = storing; parent_words = parent_words } in
       let whole : k.history ++ [] ≡ k.history = append-nil k.history in
-      let fits : Fits fixed k.history s.words view = fitting fixed s k id view seat in
+      let fits : ViewFits fixed k.history s.words view = fitting fixed s k id view seat in
       kept_step fixed s k id view new seat refl [] i n tt (subst (λ (h : List Event). IsLegal fixed h) (sym whole) k.legal)
       (subst (λ (h : List Event). StandFor fixed (set s.words i n) (state_after h)) (sym whole) (aside_stands fixed s.words now now.parents i n sound high k.words))
-      (subst (λ (h : List Event). Fits fixed h (set s.words i n) new) (sym whole) (record {
+      (subst (λ (h : List Event). ViewFits fixed h (set s.words i n) new) (sym whole) (record {
         fixed_is = fits.fixed_is;
         continues = record { between = fits.continues.between; is = fits.continues.is; others = fits.continues.others };
         written = λ number value is.
@@ -85,7 +85,7 @@ module _ (fixed : Fixed) (s : Table Unit (List SeatView)) (k : IsKept fixed s) (
       let own : List Event = event_of view call ∷ [] in
       let then : state_after (k.history ++ own) ≡ after_call (names_of view) call now = run-append empty k.history own in
       let new : SeatView = record view { seen = k.history ++ own; storing = []; parent_words = [] } in
-      let fits : Fits fixed k.history s.words view = fitting fixed s k id view seat in
+      let fits : ViewFits fixed k.history s.words view = fitting fixed s k id view seat in
       let on : GoesOn view (after_own fixed s k id view seat own) fits.continues.between own = goes_on fixed s k id view seat own (right, tt) (refl, tt) in
       record {
         new = new;

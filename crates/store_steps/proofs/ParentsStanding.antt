@@ -9,7 +9,7 @@ use Rattle.store_core.specs.Masks.{has_bit}
 use Rattle.store_core.specs.Views.{is_boundary, is_storing, stored}
 use Rattle.store_steps.specs.Layout.{parents_place, parent_claim_place, parent_held_place, parent_place}
 use Rattle.store_steps.specs.Rule.{FitsParents, StandForParents}
-use Rattle.store_steps.proofs.Standing.{left}
+use Rattle.store_steps.proofs.WrittenWords.{left}
 
 -- the words of parents are as they were
 abbrev pub LeavesParents : Fixed → List ℕ → List ℕ → Type 0

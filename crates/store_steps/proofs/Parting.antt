@@ -21,10 +21,10 @@ use Rattle.store_core.proofs.Ordering.{split_keeps_order}
 use Rattle.store_core.proofs.Tells.{same_name-true, same_name-refl}
 use Rattle.store_steps.specs.Layout.{cell_at}
 use Rattle.store_core.specs.Knowledge.{ArePartsOf}
-use Rattle.store_steps.specs.Rule.{Fits, FitsParents, HasView, IsKept, IsLater, IsNamed}
+use Rattle.store_steps.specs.Rule.{ViewFits, FitsParents, HasView, RuleHolds, IsLater, IsNamed}
 use Rattle.store_steps.specs.Grips.{first_of}
 use Rattle.store_steps.specs.Plays.{Parts}
-use Rattle.store_steps.proofs.Stepping.{Steps, still_step}
+use Rattle.store_steps.proofs.StepViews.{Steps, still_step}
 use Rattle.store_steps.proofs.Keeping.{its, single}
 use Rattle.store_steps.proofs.Lists.{entry_of, one_part}
 use Rattle.store_steps.proofs.Naming.{child, child_later, first_entry, first_there, later_cases, later_child, later_raised, name_there, new_names-are, raise-length, raised, raised_cases, same_rest}
@@ -37,7 +37,7 @@ none_first : (xs ys : List Event) → xs ++ ys ≡ [] → (xs ≡ []) × (ys ≡
 none_first [] ys h = (refl, h)
 none_first (x ∷ xs) ys h = cc
 
-module _ (fixed : Fixed) (s : Table Unit (List SeatView)) (k : IsKept fixed s) (id : ℕ) (view : SeatView) (at : get_elem? s.views id ≡ some (view ∷ [])) where
+module _ (fixed : Fixed) (s : Table Unit (List SeatView)) (k : RuleHolds fixed s) (id : ℕ) (view : SeatView) (at : get_elem? s.views id ≡ some (view ∷ [])) where
   abbrev entry : Named
   entry = first_entry view.names
 
@@ -57,7 +57,7 @@ module _ (fixed : Fixed) (s : Table Unit (List SeatView)) (k : IsKept fixed s) (
   no_call : AreOfOthers ((child entry).name ∷ []) k.history
   no_call = k.names.new_to_calls entry there (child entry).name (child_later entry)
 
-  abbrev fits : Fits fixed k.history s.words view
+  abbrev fits : ViewFits fixed k.history s.words view
   fits = k.views id 0 view here
 
   -- nobody has called by that name, neither in what was seen nor since
@@ -203,7 +203,7 @@ module _ (fixed : Fixed) (s : Table Unit (List SeatView)) (k : IsKept fixed s) (
   ordered_in i j v (is_second _ _ _ p q is) = subst (λ (u : SeatView). AreInOrder (names_of u)) (sym is) both_ordered.1
   ordered_in i j v (is_other _ _ _ differ h) = k.names.ordered i j v h
 
-  first_fits : Fits fixed k.history s.words (split_first view)
+  first_fits : ViewFits fixed k.history s.words (split_first view)
   first_fits = record {
     fixed_is = fits.fixed_is;
     continues = record {
@@ -216,16 +216,16 @@ module _ (fixed : Fixed) (s : Table Unit (List SeatView)) (k : IsKept fixed s) (
         (fits.written number value is);
   }
 
-  second_fits : Fits fixed k.history s.words (split_second view)
+  second_fits : ViewFits fixed k.history s.words (split_second view)
   second_fits = record {
     fixed_is = fits.fixed_is;
     continues = record { between = fits.continues.between; is = fits.continues.is; others = both_none.1 };
     written = λ number value is. cc;
   }
 
-  fits_in : (i j : ℕ) (v : SeatView) → Found i j v → Fits fixed k.history s.words v
-  fits_in i j v (is_first _ _ _ p q is) = subst (λ (u : SeatView). Fits fixed k.history s.words u) (sym is) first_fits
-  fits_in i j v (is_second _ _ _ p q is) = subst (λ (u : SeatView). Fits fixed k.history s.words u) (sym is) second_fits
+  fits_in : (i j : ℕ) (v : SeatView) → Found i j v → ViewFits fixed k.history s.words v
+  fits_in i j v (is_first _ _ _ p q is) = subst (λ (u : SeatView). ViewFits fixed k.history s.words u) (sym is) first_fits
+  fits_in i j v (is_second _ _ _ p q is) = subst (λ (u : SeatView). ViewFits fixed k.history s.words u) (sym is) second_fits
   fits_in i j v (is_other _ _ _ differ h) = k.views i j v h
 
   parents_in : (i j : ℕ) (v : SeatView) → Found i j v → FitsParents fixed s.words k.parents.storer i j v
@@ -242,7 +242,7 @@ module _ (fixed : Fixed) (s : Table Unit (List SeatView)) (k : IsKept fixed s) (
       })
   parents_in i j v (is_other _ _ _ differ h) = k.parents.fit i j v h
 
-  pub parted_kept : IsKept fixed (record { words = s.words; homes = s.homes; views = set s.views id (split_first view ∷ []) ++ (split_second view ∷ []) ∷ [] })
+  pub parted_kept : RuleHolds fixed (record { words = s.words; homes = s.homes; views = set s.views id (split_first view ∷ []) ++ (split_second view ∷ []) ∷ [] })
   parted_kept = rekept fixed s (record { words = s.words; homes = s.homes; views = later }) refl k (λ i j v h. fits_in i j v (found i j v h)) (record {
     owner = owner;
     owned = λ i j v h. owned_in i j v (found i j v h);
@@ -266,7 +266,7 @@ module _ (fixed : Fixed) (s : Table Unit (List SeatView)) (k : IsKept fixed s) (
 
 -- that is what the table asks where a seat's only view parts
 pub part_asks : (fixed key : Fixed) → key ≡ fixed → (id : ℕ) (views : List SeatView) → views ≡ first_of views ∷ []
-    → Splits (IsKept key) id views (split_first (first_of views) ∷ []) (split_second (first_of views) ∷ [])
+    → Splits (RuleHolds key) id views (split_first (first_of views) ∷ []) (split_second (first_of views) ∷ [])
 part_asks fixed key key_is id views one =
-    subst (λ (f : Fixed). Splits (IsKept f) id views (split_first (first_of views) ∷ []) (split_second (first_of views) ∷ [])) (sym key_is)
+    subst (λ (f : Fixed). Splits (RuleHolds f) id views (split_first (first_of views) ∷ []) (split_second (first_of views) ∷ [])) (sym key_is)
     (λ s k at. parted_kept fixed s k id (first_of views) (at ∙ ap (λ (vs : List SeatView). some vs) one))

@@ -19,14 +19,14 @@ use Rattle.store_core.specs.Pieces.{IsAcceptedPiece, chunk_bytes, holds_chunk}
 use Rattle.store_core.specs.States.{State, claims, is_held}
 use Rattle.store_core.specs.Views.{names_of}
 use Rattle.store_core.proofs.Tells.{claims-claimed, masked}
-use Rattle.store_steps.specs.Asks.{AreHeldClaims, AreWritten}
+use Rattle.store_steps.specs.Asks.{AreHeldClaims, AreWordsStored}
 use Rattle.store_steps.specs.Layout.{cell_at, held_word}
 use Rattle.store_steps.specs.Plays.{Publishes}
-use Rattle.store_steps.specs.Rule.{IsKept, StandFor}
+use Rattle.store_steps.specs.Rule.{RuleHolds, StandFor}
 use Rattle.store_core.proofs.Bits.{has_bit-or}
 use Rattle.store_steps.proofs.Giving.{cells_beside, ended_written}
-use Rattle.store_steps.proofs.Standing.{held_stand}
-use Rattle.store_steps.proofs.Stepping.{Steps, did_step, fitting, claims_now}
+use Rattle.store_steps.proofs.WrittenWords.{held_stand}
+use Rattle.store_steps.proofs.StepViews.{Steps, did_step, fitting, claims_now}
 
 -- the bit of a chunk, whether it is held afterwards, and whether it is held or claimed
 held_bit : (hit held : Bool) (new old : Option (List ℕ)) → held ≡ is_some old → (hit ≡ true → is_some new ≡ true)
@@ -46,9 +46,9 @@ either_bit true new old claim has claimed =
     ap (λ (b : Bool). b || false) (has refl) ∙ sym (ap (λ (b : Bool). is_some old || b) (claimed refl) ∙ or_true (is_some old))
 either_bit false new old claim has claimed = refl
 
-module _ (fixed : Fixed) (s : Table Unit (List SeatView)) (k : IsKept fixed s) (id : ℕ) (view : SeatView) (seat : get_elem? s.views id ≡ some (view ∷ []))
+module _ (fixed : Fixed) (s : Table Unit (List SeatView)) (k : RuleHolds fixed s) (id : ℕ) (view : SeatView) (seat : get_elem? s.views id ≡ some (view ∷ []))
     (group mask : ℕ) (piece : Piece) (there : group < groups fixed) (accepted : IsAcceptedPiece fixed piece) (ours : AreHeldClaims view group piece mask)
-    (written : AreWritten view.written group mask piece) where
+    (written : AreWordsStored view.written group mask piece) where
   abbrev found : ℕ
   found = slice_index s.words group
 

@@ -10,7 +10,7 @@ use Rattle.store_core.specs.declared.fixed.Fixed.{Fixed}
 use Rattle.store_core.specs.declared.view.Named.{Named}
 use Rattle.store_core.specs.declared.view.SeatView.{SeatView}
 use Rattle.store_core.specs.Histories.{state_after}
-use Rattle.store_steps.specs.Rule.{AreApart, AreParentsKept, Fits, HasView, IsKept, IsNamed, StandFor, StandForParents, StoresAt}
+use Rattle.store_steps.specs.Rule.{AreApart, AreParentsKept, ViewFits, HasView, RuleHolds, IsNamed, StandFor, StandForParents, StoresAt}
 use Rattle.atomic_table.specs.Table.{Enters, Joins, Splits}
 use Rattle.store_steps.specs.Grips.{first_of}
 use Rattle.store_steps.specs.Plays.{rest_of}
@@ -18,14 +18,14 @@ use Rattle.store_steps.proofs.Lists.{one_part}
 use Rattle.store_steps.proofs.Storers.{gets, had, longer, moved_from, stays}
 
 -- the rule of another table with the same words, whose views fit and whose names are apart
-pub rekept : (fixed : Fixed) (s t : Table Unit (List SeatView)) → t.words ≡ s.words → (k : IsKept fixed s)
-    → ((seat part : ℕ) (view : SeatView) → HasView t.views seat part view → Fits fixed k.history s.words view)
-    → AreApart t.views k.history → AreParentsKept fixed s.words t.views (state_after k.history).parents → IsKept fixed t
+pub rekept : (fixed : Fixed) (s t : Table Unit (List SeatView)) → t.words ≡ s.words → (k : RuleHolds fixed s)
+    → ((seat part : ℕ) (view : SeatView) → HasView t.views seat part view → ViewFits fixed k.history s.words view)
+    → AreApart t.views k.history → AreParentsKept fixed s.words t.views (state_after k.history).parents → RuleHolds fixed t
 rekept fixed s t same k fits names parents = record {
   history = k.history;
   legal = k.legal;
   words = subst (λ (words : List ℕ). StandFor fixed words (state_after k.history)) (sym same) k.words;
-  views = λ seat part view h. subst (λ (words : List ℕ). Fits fixed k.history words view) (sym same) (fits seat part view h);
+  views = λ seat part view h. subst (λ (words : List ℕ). ViewFits fixed k.history words view) (sym same) (fits seat part view h);
   names = names;
   parents = subst (λ (words : List ℕ). AreParentsKept fixed words t.views (state_after k.history).parents) (sym same) parents;
 }
@@ -87,8 +87,8 @@ parents_moved fixed words views later parents k to moved goes = record {
       (record { view = at_old.view; has = goes from.0.0 from.0.1 at_old.view at_old.has; storing = at_old.storing });
 }
 
-pub regroup : (fixed : Fixed) (s t : Table Unit (List SeatView)) → t.words ≡ s.words → IsKept fixed s → (to : ℕ × ℕ → ℕ × ℕ)
-    → ((seat part : ℕ) (view : SeatView) → HasView t.views seat part view → Moved s.views to seat part view) → Goes s.views t.views to → IsKept fixed t
+pub regroup : (fixed : Fixed) (s t : Table Unit (List SeatView)) → t.words ≡ s.words → RuleHolds fixed s → (to : ℕ × ℕ → ℕ × ℕ)
+    → ((seat part : ℕ) (view : SeatView) → HasView t.views seat part view → Moved s.views to seat part view) → Goes s.views t.views to → RuleHolds fixed t
 regroup fixed s t same k to moved goes = rekept fixed s t same k
     (λ seat part view h. let m = moved seat part view h in k.views m.old_seat m.old_part view m.has)
     (record {
@@ -190,9 +190,9 @@ joined_regroups views id other one two at differ two_seat =
       ]);
     }
 
-pub joined_kept : (fixed : Fixed) (s : Table Unit (List SeatView)) → IsKept fixed s → (id other : ℕ) (one two : SeatView)
+pub joined_kept : (fixed : Fixed) (s : Table Unit (List SeatView)) → RuleHolds fixed s → (id other : ℕ) (one two : SeatView)
     → get_elem? s.views id ≡ some (one ∷ []) → other ≢ id → get_elem? (set s.views id (one ∷ two ∷ [])) other ≡ some (two ∷ [])
-    → IsKept fixed (record { words = s.words; homes = s.homes; views = set (set s.views id (one ∷ two ∷ [])) other [] })
+    → RuleHolds fixed (record { words = s.words; homes = s.homes; views = set (set s.views id (one ∷ two ∷ [])) other [] })
 joined_kept fixed s k id other one two at differ at_two =
     let r = joined_regroups s.views id other one two at differ (sym (set_else s.views id other (one ∷ two ∷ []) differ) ∙ at_two) in
     regroup fixed s (record { words = s.words; homes = s.homes; views = set (set s.views id (one ∷ two ∷ [])) other [] }) refl k (join_to id other) r.moved r.goes
@@ -207,8 +207,8 @@ entered_regroups views = record {
   goes = λ i j v h. longer views ([] ∷ []) i j v h;
 }
 
-pub entered_kept : (fixed : Fixed) (s : Table Unit (List SeatView)) → IsKept fixed s
-    → IsKept fixed (record { words = s.words; homes = s.homes; views = s.views ++ [] ∷ [] })
+pub entered_kept : (fixed : Fixed) (s : Table Unit (List SeatView)) → RuleHolds fixed s
+    → RuleHolds fixed (record { words = s.words; homes = s.homes; views = s.views ++ [] ∷ [] })
 entered_kept fixed s k =
     let r = entered_regroups s.views in
     regroup fixed s (record { words = s.words; homes = s.homes; views = s.views ++ [] ∷ [] }) refl k (λ p. p) r.moved r.goes
@@ -266,29 +266,29 @@ left_regroups views id one two at =
       ]);
     }
 
-pub left_kept : (fixed : Fixed) (s : Table Unit (List SeatView)) → IsKept fixed s → (id : ℕ) (one two : SeatView)
+pub left_kept : (fixed : Fixed) (s : Table Unit (List SeatView)) → RuleHolds fixed s → (id : ℕ) (one two : SeatView)
     → get_elem? s.views id ≡ some (one ∷ two ∷ [])
-    → IsKept fixed (record { words = s.words; homes = s.homes; views = set s.views id (one ∷ []) ++ (two ∷ []) ∷ [] })
+    → RuleHolds fixed (record { words = s.words; homes = s.homes; views = set s.views id (one ∷ []) ++ (two ∷ []) ∷ [] })
 left_kept fixed s k id one two at =
     let r = left_regroups s.views id one two at in
     regroup fixed s (record { words = s.words; homes = s.homes; views = set s.views id (one ∷ []) ++ (two ∷ []) ∷ [] }) refl k (leave_to id (length (set s.views id (one ∷ [])))) r.moved r.goes
 
 -- What the table asks of these.
 pub join_asks : (fixed key : Fixed) → key ≡ fixed → (id other : ℕ) (ours theirs : List SeatView) → ours ≡ first_of ours ∷ [] → theirs ≡ first_of theirs ∷ []
-    → Joins (IsKept key) id ours other theirs (ours ++ theirs) []
+    → Joins (RuleHolds key) id ours other theirs (ours ++ theirs) []
 join_asks fixed key key_is id other ours theirs one two =
-    subst (λ (f : Fixed). Joins (IsKept f) id ours other theirs (ours ++ theirs) []) (sym key_is)
-    (subst (λ (xs : List SeatView). Joins (IsKept fixed) id xs other theirs (xs ++ theirs) []) (sym one)
-    (subst (λ (ys : List SeatView). Joins (IsKept fixed) id (first_of ours ∷ []) other ys ((first_of ours ∷ []) ++ ys) []) (sym two)
+    subst (λ (f : Fixed). Joins (RuleHolds f) id ours other theirs (ours ++ theirs) []) (sym key_is)
+    (subst (λ (xs : List SeatView). Joins (RuleHolds fixed) id xs other theirs (xs ++ theirs) []) (sym one)
+    (subst (λ (ys : List SeatView). Joins (RuleHolds fixed) id (first_of ours ∷ []) other ys ((first_of ours ∷ []) ++ ys) []) (sym two)
     (λ s k at differ at_other. joined_kept fixed s k id other (first_of ours) (first_of theirs) at differ at_other)))
 
-pub enter_asks : (fixed key : Fixed) → key ≡ fixed → (slots i : ℕ) → Enters (IsKept key) slots i (λ n views. views ≡ [])
+pub enter_asks : (fixed key : Fixed) → key ≡ fixed → (slots i : ℕ) → Enters (RuleHolds key) slots i (λ n views. views ≡ [])
 enter_asks fixed key key_is slots i =
-    subst (λ (f : Fixed). Enters (IsKept f) slots i (λ n views. views ≡ [])) (sym key_is) (λ s k homes small. ([], entered_kept fixed s k, refl))
+    subst (λ (f : Fixed). Enters (RuleHolds f) slots i (λ n views. views ≡ [])) (sym key_is) (λ s k homes small. ([], entered_kept fixed s k, refl))
 
 pub leave_asks : (fixed key : Fixed) → key ≡ fixed → (id : ℕ) (views : List SeatView) (one two : SeatView) → views ≡ one ∷ two ∷ []
-    → Splits (IsKept key) id views (first_of views ∷ []) (rest_of views)
+    → Splits (RuleHolds key) id views (first_of views ∷ []) (rest_of views)
 leave_asks fixed key key_is id views one two both =
-    subst (λ (f : Fixed). Splits (IsKept f) id views (first_of views ∷ []) (rest_of views)) (sym key_is)
-    (subst (λ (vs : List SeatView). Splits (IsKept fixed) id vs (first_of vs ∷ []) (rest_of vs)) (sym both)
+    subst (λ (f : Fixed). Splits (RuleHolds f) id views (first_of views ∷ []) (rest_of views)) (sym key_is)
+    (subst (λ (vs : List SeatView). Splits (RuleHolds fixed) id vs (first_of vs ∷ []) (rest_of vs)) (sym both)
     (λ s k at. left_kept fixed s k id one two at))

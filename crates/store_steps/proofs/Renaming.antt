@@ -16,7 +16,7 @@ use Rattle.store_core.proofs.Joining.{claims_continued}
 use Rattle.store_core.proofs.Served.{claim_seat, seat_claim}
 use Rattle.store_steps.specs.Layout.{cell_at, claim_word, held_word, length_word}
 use Rattle.store_steps.specs.Machines.{HasClaim, HasRead, HasStored, IsUnderWay, StandsForMachine}
-use Rattle.store_steps.specs.Rule.{HasView, IsKept}
+use Rattle.store_steps.specs.Rule.{HasView, RuleHolds}
 
 some_of : (o : Option ℕ) → is_some o ≡ true → (n : ℕ) × (o ≡ Some n)
 some_of None h = let never : false ≡ true = h in cc
@@ -97,11 +97,11 @@ same_stands fixed later seat part view h = record {
 }
 
 -- what a view claims it claims after the whole history
-pub claims_now : (fixed : Fixed) (s : Table Unit (List SeatView)) (k : IsKept fixed s) (i j : ℕ) (v : SeatView) → HasView s.views i j v → (c : ℕ)
+pub claims_now : (fixed : Fixed) (s : Table Unit (List SeatView)) (k : RuleHolds fixed s) (i j : ℕ) (v : SeatView) → HasView s.views i j v → (c : ℕ)
     → claims (names_of v) (state_after k.history) c ≡ seat_claims v c
 claims_now fixed s k i j v h c = claims_continued fixed v k.history (k.views i j v h).continues k.legal c
 
-module _ (fixed : Fixed) (s t : Table Unit (List SeatView)) (m : Machine) (to : ℕ × ℕ → ℕ) (words : t.words ≡ s.words) (k : IsKept fixed s)
+module _ (fixed : Fixed) (s t : Table Unit (List SeatView)) (m : Machine) (to : ℕ × ℕ → ℕ) (words : t.words ≡ s.words) (k : RuleHolds fixed s)
     (stands : StandsForMachine fixed s m) (forth : (i j : ℕ) (v : SeatView) → HasView s.views i j v → Stands fixed t.views (to (i, j)) v)
     (back : (i j : ℕ) (v : SeatView) → HasView t.views i j v → (c : ℕ) → seat_claims v c ≡ true → Stood s.views to i c)
     (f : ℕ → Option ℕ) (g : ℕ → Seat) (same : (c : ℕ) → is_some (f c) ≡ is_some (m.claim c))
@@ -153,7 +153,7 @@ module _ (fixed : Fixed) (s t : Table Unit (List SeatView)) (m : Machine) (to : 
   }
 
 -- Where views alone change, and each stays at its seat, the machine is the same.
-module _ (fixed : Fixed) (s t : Table Unit (List SeatView)) (m : Machine) (words : t.words ≡ s.words) (k : IsKept fixed s) (stands : StandsForMachine fixed s m)
+module _ (fixed : Fixed) (s t : Table Unit (List SeatView)) (m : Machine) (words : t.words ≡ s.words) (k : RuleHolds fixed s) (stands : StandsForMachine fixed s m)
     (forth : (i j : ℕ) (v : SeatView) → HasView s.views i j v → Stands fixed t.views i v)
     (back : (i j : ℕ) (v : SeatView) → HasView t.views i j v → (c : ℕ) → seat_claims v c ≡ true → Stood s.views (λ p. p.0) i c) where
   pub stays_stands : StandsForMachine fixed t m

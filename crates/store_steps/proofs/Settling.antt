@@ -19,11 +19,11 @@ use Rattle.store_core.specs.Views.{names_of}
 use Rattle.store_core.proofs.Lasting.{legal_is_sound}
 use Rattle.store_core.proofs.Tells.{claims-claimed}
 use Rattle.store_steps.specs.Layout.{cell_at, cell_place, length_code, length_place}
-use Rattle.store_steps.specs.Plays.{Settles, length_in}
-use Rattle.store_steps.specs.Rule.{IsKept}
+use Rattle.store_steps.specs.Plays.{SettlesLength, length_in}
+use Rattle.store_steps.specs.Rule.{RuleHolds}
 use Rattle.store_steps.proofs.Looking.{length_back}
-use Rattle.store_steps.proofs.Standing.{left, length_stands}
-use Rattle.store_steps.proofs.Stepping.{Steps, did_step, fitting}
+use Rattle.store_steps.proofs.WrittenWords.{left, length_stands}
+use Rattle.store_steps.proofs.StepViews.{Steps, did_step, fitting}
 
 -- the word after the exchange is that of the length recorded then
 pub word_then : (o : Option ℕ) (l : ℕ) → either (length_code o == 0) (l + 1) (length_code o) ≡ length_code (recorded_after (settling o l) l o)
@@ -32,7 +32,7 @@ word_then (Some m) l =
     let some : (m + 1 == 0) ≡ false = ne_eqb (m + 1) 0 (λ e. omega (arith, e)) in
     elim (cases_Bool (m == l)) [ inl same ↦ rw (some, same) refl | inr other ↦ rw (some, other) refl ]
 
-module _ (fixed : Fixed) (s : Table Unit (List SeatView)) (k : IsKept fixed s) (id : ℕ) (view : SeatView) (seat : get_elem? s.views id ≡ some (view ∷ []))
+module _ (fixed : Fixed) (s : Table Unit (List SeatView)) (k : RuleHolds fixed s) (id : ℕ) (view : SeatView) (seat : get_elem? s.views id ≡ some (view ∷ []))
     (piece : Piece) (accepted : IsAcceptedPiece fixed piece) (ends : EndsBlob piece) (fits : length_of piece ≤ 1024 * fixed.capacity) where
   abbrev state : State
   state = state_after k.history
@@ -59,7 +59,7 @@ module _ (fixed : Fixed) (s : Table Unit (List SeatView)) (k : IsKept fixed s) (
       let below = sound.claimed_below (number / 129) c in
       left s.words (length_place fixed) exchanged (cell_place fixed number) (λ e. omega (arith, e, below))
 
-  pub settle_steps : Steps fixed s id (length_place fixed) exchanged (λ new. Settles piece found view new)
+  pub settle_steps : Steps fixed s id (length_place fixed) exchanged (λ new. SettlesLength piece found view new)
   settle_steps = did_step fixed s k id view seat (Settle piece (settling (length_in found) (length_of piece))) (length_place fixed) exchanged (omega arith) refl
       (accepted, ends, fits, answer)
       (length_stands fixed s.words state k.words sound (recorded_after (settling (length_in found) (length_of piece)) (length_of piece) state.recorded) exchanged word_is)

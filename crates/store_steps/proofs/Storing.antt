@@ -14,13 +14,13 @@ use Rattle.store_core.proofs.Lasting.{legal_is_sound}
 use Rattle.store_core.proofs.Tells.{claims-claimed}
 use Rattle.store_steps.specs.Tells.{Stores}
 use Rattle.store_steps.specs.Layout.{cell_at, cell_place}
-use Rattle.store_steps.specs.Rule.{IsKept}
+use Rattle.store_steps.specs.Rule.{RuleHolds}
 use Rattle.store_steps.proofs.Giving.{not_held}
 use Rattle.store_steps.proofs.ParentsStanding.{leaves_low}
-use Rattle.store_steps.proofs.Standing.{cells_stand, left, put}
-use Rattle.store_steps.proofs.Stepping.{Steps, fitting, silent_step, claims_now}
+use Rattle.store_steps.proofs.WrittenWords.{cells_stand, left, put}
+use Rattle.store_steps.proofs.StepViews.{Steps, fitting, silent_step, claims_now}
 
-module _ (fixed : Fixed) (s : Table Unit (List SeatView)) (k : IsKept fixed s) (id : ℕ) (view : SeatView) (seat : get_elem? s.views id ≡ some (view ∷ []))
+module _ (fixed : Fixed) (s : Table Unit (List SeatView)) (k : RuleHolds fixed s) (id : ℕ) (view : SeatView) (seat : get_elem? s.views id ≡ some (view ∷ []))
     (chunk w value : ℕ) (cell : w < 129) (claims_it : seat_claims view chunk ≡ true) where
   abbrev number : ℕ
   number = 129 * chunk + w

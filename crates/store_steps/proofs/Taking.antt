@@ -19,12 +19,12 @@ use Rattle.store_core.specs.States.{State, claims, is_among, is_claimed, is_held
 use Rattle.store_core.specs.Views.{names_of}
 use Rattle.store_core.proofs.Joining.{plain}
 use Rattle.store_steps.specs.Layout.{cell_at, cell_place, claim_place, claim_word}
-use Rattle.store_steps.specs.Plays.{Takes}
-use Rattle.store_steps.specs.Rule.{IsKept, StandFor}
+use Rattle.store_steps.specs.Plays.{TakesChunks}
+use Rattle.store_steps.specs.Rule.{RuleHolds, StandFor}
 use Rattle.store_core.proofs.Bits.{and_small, has_bit-and, has_bit-not, has_bit-or}
 use Rattle.store_steps.proofs.Calls.{least_among}
-use Rattle.store_steps.proofs.Standing.{claims_stand, left}
-use Rattle.store_steps.proofs.Stepping.{Steps, did_step, fitting, some_names}
+use Rattle.store_steps.proofs.WrittenWords.{claims_stand, left}
+use Rattle.store_steps.proofs.StepViews.{Steps, did_step, fitting, some_names}
 
 -- one with names has a least
 is_some-least : (names : List Named) → 0 < length names → is_some (least_name (plain names)) ≡ true
@@ -45,7 +45,7 @@ claim_bit false true claimed least old has is = refl
 claim_bit false false true least old has is = is
 claim_bit false false false least old has is = is
 
-module _ (fixed : Fixed) (s : Table Unit (List SeatView)) (k : IsKept fixed s) (id : ℕ) (view : SeatView) (seat : get_elem? s.views id ≡ some (view ∷ []))
+module _ (fixed : Fixed) (s : Table Unit (List SeatView)) (k : RuleHolds fixed s) (id : ℕ) (view : SeatView) (seat : get_elem? s.views id ≡ some (view ∷ []))
     (group want asked : ℕ) (there : group < groups fixed) (small_asked : asked < 2 ^ 64)
     (asks : (c : ℕ) → c / 64 ≡ group → has_bit asked (c % 64) ≡ (has_bit want (c % 64) && nat_lt c fixed.capacity))
     (small : slice_index s.words (claim_place fixed group) < 2 ^ 64) where
@@ -107,7 +107,7 @@ module _ (fixed : Fixed) (s : Table Unit (List SeatView)) (k : IsKept fixed s) (
     | inr miss ↦ rw miss ours
   ]
 
-  pub take_steps : Steps fixed s id (claim_place fixed group) (bit_or found asked) (λ new. Takes group want asked found view new)
+  pub take_steps : Steps fixed s id (claim_place fixed group) (bit_or found asked) (λ new. TakesChunks group want asked found view new)
   take_steps = did_step fixed s k id view seat (Take group want granted) (claim_place fixed group) (bit_or found asked) (omega (arith, there)) refl right words
       (λ number value is.
       let w = (fitting fixed s k id view seat).written number value is in

@@ -14,10 +14,10 @@ use Rattle.store_core.specs.Views.{mine}
 use Rattle.store_core.proofs.Joining.{plain}
 use Rattle.store_core.proofs.Tells.{same_name-refl}
 use Rattle.store_core.specs.Knowledge.{AreAllNames, LooksRound}
-use Rattle.store_steps.specs.Rule.{HasView, HaveCallers, IsKept, IsLater}
+use Rattle.store_steps.specs.Rule.{HasView, HaveCallers, RuleHolds, IsLater}
 use Rattle.store_steps.proofs.Storers.{gets}
 use Rattle.store_steps.proofs.Lists.{entry_of}
-use Rattle.store_steps.proofs.Stepping.{Steps, look_step}
+use Rattle.store_steps.proofs.StepViews.{Steps, look_step}
 
 -- a name is one of these, or one that a later split gives, or one that comes of it
 abbrev pub Covers : List Named → Name → Type 0
@@ -94,7 +94,7 @@ callers_before [] second h = tt
 callers_before (e ∷ first) second h = (h.0, callers_before first second h.1)
 
 -- a view with all names has made all calls that it has seen
-pub alone : (fixed : Fixed) (s : Table Unit (List SeatView)) → IsKept fixed s → (seat part : ℕ) (view : SeatView) → HasView s.views seat part view
+pub alone : (fixed : Fixed) (s : Table Unit (List SeatView)) → RuleHolds fixed s → (seat part : ℕ) (view : SeatView) → HasView s.views seat part view
     → AreAllNames view.names → mine view ≡ view.seen
 alone fixed s k seat part view here all =
     let on = (k.views seat part view here).continues in
@@ -103,7 +103,7 @@ alone fixed s k seat part view here all =
     (k.names.new_to_calls named (record { seat = seat; part = part; view = view; has = here; among = among }) name later)))
 
 -- the load of a seat with one view
-pub round_steps : (fixed : Fixed) (s : Table Unit (List SeatView)) → IsKept fixed s → (id : ℕ) (view : SeatView) → get_elem? s.views id ≡ some (view ∷ [])
+pub round_steps : (fixed : Fixed) (s : Table Unit (List SeatView)) → RuleHolds fixed s → (id : ℕ) (view : SeatView) → get_elem? s.views id ≡ some (view ∷ [])
     → Steps fixed s id 0 (slice_index s.words 0) (λ new. LooksRound view new)
 round_steps fixed s k id view at =
     let t = look_step fixed s k id view at (λ t. []) 0 tt refl tt in

@@ -25,6 +25,6 @@ pub record AreParentsWritten (view : SeatView) (group mask : ℕ) (piece : Piece
       → stored view.parent_words (8 * m + w) ≡ Some (parent_word bytes w)
 
 -- of each chunk of the mask all 129 words were stored
-abbrev pub AreWritten : List StoredWord → ℕ → ℕ → Piece → Type 0
-AreWritten written group mask piece = (c w : ℕ) (bytes : List ℕ) → in_mask group mask c ≡ true → chunk_bytes piece c ≡ Some bytes → w < 129
+abbrev pub AreWordsStored : List StoredWord → ℕ → ℕ → Piece → Type 0
+AreWordsStored written group mask piece = (c w : ℕ) (bytes : List ℕ) → in_mask group mask c ≡ true → chunk_bytes piece c ≡ Some bytes → w < 129
     → stored written (129 * c + w) ≡ Some (cell_word bytes w)

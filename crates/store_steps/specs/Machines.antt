@@ -15,7 +15,7 @@ use Rattle.store_core.specs.Schedules.{AreTexts, IsLegalStep, IsReply, after_ste
 use Rattle.store_core.specs.Served.{IsPart, IsServed}
 use Rattle.store_core.specs.Views.{seat_claims, stored}
 use Rattle.store_steps.specs.Layout.{cell_at, claim_word, held_word, length_code, length_word}
-use Rattle.store_steps.specs.Rule.{HasView, IsKept}
+use Rattle.store_steps.specs.Rule.{HasView, RuleHolds}
 
 -- a view of the seat claims the chunk
 pub record HasClaim (views : List (List SeatView)) (seat c : ℕ) : Type 0 where
@@ -68,6 +68,6 @@ pub record IsMachineStep (fixed : Fixed) (pieces : List Checked) (table : Table 
 -- a seat with one view, in a table that keeps the rule and stands for a machine
 pub record IsAtMachine (fixed : Fixed) (pieces : List Checked) (table : Table Unit (List SeatView)) (m : Machine) (seat : ℕ) (view : SeatView) : Type 0 where
   pub texts : AreTexts pieces
-  pub kept : IsKept fixed table
+  pub kept : RuleHolds fixed table
   pub stands : StandsForMachine fixed table m
   pub is_seat : get_elem? table.views seat ≡ some (view ∷ [])

@@ -28,8 +28,8 @@ abbrev pub no_piece : Piece
 no_piece = record { start = 0; len = 0; text = [] }
 
 -- `asked` are the wanted chunks below the capacity, of which those are granted whose bit wasn't set
-abbrev pub Takes : ℕ → ℕ → ℕ → ℕ → SeatView → SeatView → Type 0
-Takes group want asked found old new = Did (Take group want (bit_and asked (bit_not w64 found))) old new
+abbrev pub TakesChunks : ℕ → ℕ → ℕ → ℕ → SeatView → SeatView → Type 0
+TakesChunks group want asked found old new = Did (Take group want (bit_and asked (bit_not w64 found))) old new
 
 abbrev pub Gives : ℕ → ℕ → ℕ → SeatView → SeatView → Type 0
 Gives group mask given old new = Did (Give group mask given) old new
@@ -71,8 +71,8 @@ pub record PublishesParents (group : ℕ) (piece : Piece) (mask : ℕ) (old new 
 abbrev pub length_in : ℕ → Option ℕ
 length_in word = if word == 0 then None else Some (word - 1)
 
-abbrev pub Settles : Piece → ℕ → SeatView → SeatView → Type 0
-Settles piece found old new = Did (Settle piece (settling (length_in found) (length_of piece))) old new
+abbrev pub SettlesLength : Piece → ℕ → SeatView → SeatView → Type 0
+SettlesLength piece found old new = Did (Settle piece (settling (length_in found) (length_of piece))) old new
 
 pub record LoadsToServe (start len found : ℕ) (old new : SeatView) : Type 0 where
   pub looked : Looked (unserved_events old start len) old new
@@ -82,8 +82,8 @@ pub record LoadsToStore (group : ℕ) (piece : Piece) (found : ℕ) (old new : S
   pub looked : Looked (unstored_events old group piece) old new
   pub finds : length_in found ≡ (state_after new.seen).recorded
 
-abbrev pub Answers : ℕ → SeatView → SeatView → Type 0
-Answers found old new = Did (Length (length_in found)) old new
+abbrev pub LoadsLength : ℕ → SeatView → SeatView → Type 0
+LoadsLength found old new = Did (Length (length_in found)) old new
 
 -- the loads of a split, a join and a meeting
 pub record Parts (old new : SeatView) : Type 0 where
@@ -99,7 +99,7 @@ pub record Merges (first second : SeatView) (later : List SeatView) : Type 0 whe
   pub is : later ≡ view ∷ []
   pub merged : IsMerged first second view
 
-pub record Meets (first second : SeatView) (later : List SeatView) : Type 0 where
+pub record MeetsSeat (first second : SeatView) (later : List SeatView) : Type 0 where
   pub new_first : SeatView
   pub new_second : SeatView
   pub is : later ≡ new_first ∷ new_second ∷ []

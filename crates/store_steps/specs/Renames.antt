@@ -9,12 +9,12 @@ use Rattle.store_core.specs.Machine.{Machine, Reading, is_number, no_seat}
 use Rattle.store_core.specs.Views.{seat_claims}
 use Rattle.store_steps.specs.Machines.{IsUnderWay, StandsForMachine}
 use Rattle.store_core.specs.Knowledge.{AreMet, IsMerged}
-use Rattle.store_steps.specs.Rule.{IsKept}
+use Rattle.store_steps.specs.Rule.{RuleHolds}
 use Rattle.store_steps.specs.Simulates.{after_load}
 
 -- A new seat with no view leaves the machine.
 abbrev pub EnterStays : Type 0
-EnterStays = (fixed : Fixed) (table : Table Unit (List SeatView)) (m : Machine) → IsKept fixed table → StandsForMachine fixed table m
+EnterStays = (fixed : Fixed) (table : Table Unit (List SeatView)) (m : Machine) → RuleHolds fixed table → StandsForMachine fixed table m
     → StandsForMachine fixed (record { words = table.words; homes = table.homes; views = table.views ++ [] ∷ [] }) m
 
 -- The machine where seat `other` counts as seat `seat`: its claims are that seat's, and it has done nothing. What it wrote
@@ -30,7 +30,7 @@ joined m seat other = record m {
 
 -- A seat that takes in another's view: the table stands for that machine.
 abbrev pub JoinRenames : Type 0
-JoinRenames = (fixed : Fixed) (table : Table Unit (List SeatView)) (m : Machine) (seat other : ℕ) (one two : SeatView) → IsKept fixed table
+JoinRenames = (fixed : Fixed) (table : Table Unit (List SeatView)) (m : Machine) (seat other : ℕ) (one two : SeatView) → RuleHolds fixed table
     → StandsForMachine fixed table m → get_elem? table.views seat ≡ some (one ∷ []) → get_elem? table.views other ≡ some (two ∷ []) → other ≢ seat
     → StandsForMachine fixed (record {
       words = table.words;
@@ -40,13 +40,13 @@ JoinRenames = (fixed : Fixed) (table : Table Unit (List SeatView)) (m : Machine)
 
 -- A load by which the two views of a seat become one leaves the machine: the joined seat is one already.
 abbrev pub MergeStays : Type 0
-MergeStays = (fixed : Fixed) (table : Table Unit (List SeatView)) (m : Machine) (seat place : ℕ) (one two merged : SeatView) → IsKept fixed table
+MergeStays = (fixed : Fixed) (table : Table Unit (List SeatView)) (m : Machine) (seat place : ℕ) (one two merged : SeatView) → RuleHolds fixed table
     → StandsForMachine fixed table m → get_elem? table.views seat ≡ some (one ∷ two ∷ []) → IsMerged one two merged
     → StandsForMachine fixed (after_load table place seat merged) m
 
 -- So does a load by which both views see one history.
 abbrev pub MeetStays : Type 0
-MeetStays = (fixed : Fixed) (table : Table Unit (List SeatView)) (m : Machine) (seat place : ℕ) (one two new_one new_two : SeatView) → IsKept fixed table
+MeetStays = (fixed : Fixed) (table : Table Unit (List SeatView)) (m : Machine) (seat place : ℕ) (one two new_one new_two : SeatView) → RuleHolds fixed table
     → StandsForMachine fixed table m → get_elem? table.views seat ≡ some (one ∷ two ∷ []) → AreMet one two new_one new_two
     → StandsForMachine fixed (stepped table place (slice_index table.words place) seat [] (new_one ∷ new_two ∷ []) keeps) m
 
@@ -63,7 +63,7 @@ left m seat new view = record m {
 -- A seat with two views that leaves the second to a new seat, where a read under way is of the first: the table stands for
 -- that machine.
 abbrev pub LeaveRenames : Type 0
-LeaveRenames = (fixed : Fixed) (table : Table Unit (List SeatView)) (m : Machine) (seat : ℕ) (one two : SeatView) → IsKept fixed table
+LeaveRenames = (fixed : Fixed) (table : Table Unit (List SeatView)) (m : Machine) (seat : ℕ) (one two : SeatView) → RuleHolds fixed table
     → StandsForMachine fixed table m → get_elem? table.views seat ≡ some (one ∷ two ∷ [])
     → ((r : Reading) → (m.seat seat).reading ≡ Some r → IsUnderWay fixed one r)
     → StandsForMachine fixed (record {

@@ -45,7 +45,7 @@ pub record HasView (views : List (List SeatView)) (seat part : ℕ) (view : Seat
 -- A view fits the history: it is of this store, what it has seen begins the history, and all that follows are others'
 -- calls. So its calls in the history are those that it has seen, and the state after the history gives it the claims
 -- that it knows of. The words that it stored stand in the cells of chunks that it claims.
-pub record Fits (fixed : Fixed) (history : List Event) (words : List ℕ) (view : SeatView) : Type 0 where
+pub record ViewFits (fixed : Fixed) (history : List Event) (words : List ℕ) (view : SeatView) : Type 0 where
   pub fixed_is : view.fixed ≡ fixed
   pub continues : Continues view history
   pub written : (number value : ℕ) → stored view.written number ≡ Some value
@@ -104,10 +104,10 @@ pub record AreApart (views : List (List SeatView)) (history : List Event) : Type
   pub callers : HaveCallers history
 
 -- There is one legal history. The words stand for the state after it, each view fits it, and the views' names are apart.
-pub record IsKept (fixed : Fixed) (table : Table Unit (List SeatView)) : Type 0 where
+pub record RuleHolds (fixed : Fixed) (table : Table Unit (List SeatView)) : Type 0 where
   pub history : List Event
   pub legal : IsLegal fixed history
   pub words : StandFor fixed table.words (state_after history)
-  pub views : (seat part : ℕ) (view : SeatView) → HasView table.views seat part view → Fits fixed history table.words view
+  pub views : (seat part : ℕ) (view : SeatView) → HasView table.views seat part view → ViewFits fixed history table.words view
   pub names : AreApart table.views history
   pub parents : AreParentsKept fixed table.words table.views (state_after history).parents

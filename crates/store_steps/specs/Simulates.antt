@@ -22,20 +22,20 @@ use Rattle.store_core.specs.Pieces.{EndsBlob, length_of}
 use Rattle.store_core.specs.Schedules.{AreTexts, IsLegalStep, IsWritten, after_step, end_reply, is_last_load, read_after, read_before}
 use Rattle.store_core.specs.States.{State}
 use Rattle.store_core.specs.Views.{seat_claims, split_first, split_second}
-use Rattle.store_steps.specs.Asks.{AreClaimed, AreHeldClaims, AreWritten}
+use Rattle.store_steps.specs.Asks.{AreClaimed, AreHeldClaims, AreWordsStored}
 use Rattle.store_core.specs.Knowledge.{Looked, event_of, opening_view}
 use Rattle.store_steps.specs.Layout.{cell_at, cell_place, claim_place, claim_word, held_word, length_place, length_word, word_count}
 use Rattle.store_steps.specs.Machines.{IsAtMachine, IsMachineStep, StandsForMachine}
-use Rattle.store_steps.specs.Plays.{Answers, Copies, Gives, Loads, Parts, Publishes, Settles, Takes, length_in}
+use Rattle.store_steps.specs.Plays.{LoadsLength, Copies, Gives, Loads, Parts, Publishes, SettlesLength, TakesChunks, length_in}
 use Rattle.store_steps.specs.Reads.{read_events}
-use Rattle.store_steps.specs.Rule.{IsKept}
+use Rattle.store_steps.specs.Rule.{RuleHolds}
 use Rattle.store_steps.specs.Tells.{Stores}
 
 -- Take is Claim: an or on the claim word with the wanted chunks below the capacity.
 abbrev pub TakeIsClaim : Type 0
 TakeIsClaim = (fixed : Fixed) (pieces : List Checked) (table : Table Unit (List SeatView)) (m : Machine) (seat group want asked : ℕ) (view new : SeatView)
     → IsAtMachine fixed pieces table m seat view → group < groups fixed → IsMaskOf group asked (λ c. has_bit want (c % 64) && nat_lt c fixed.capacity)
-    → claim_word fixed table.words group < 2 ^ 64 → Takes group want asked (claim_word fixed table.words group) view new
+    → claim_word fixed table.words group < 2 ^ 64 → TakesChunks group want asked (claim_word fixed table.words group) view new
     → IsMachineStep fixed pieces table (claim_place fixed group) (bit_or (claim_word fixed table.words group) asked) seat new m
     (Claim seat group want) (Some (Granted (bit_and asked (bit_not w64 (claim_word fixed table.words group)))))
 
@@ -59,14 +59,14 @@ abbrev pub PublishIsPublish : Type 0
 PublishIsPublish = (fixed : Fixed) (pieces : List Checked) (table : Table Unit (List SeatView)) (m : Machine) (seat group mask : ℕ) (piece : Piece) (view new : SeatView)
     → IsAtMachine fixed pieces table m seat view → group < groups fixed → (m.seat seat).piece ≡ Some piece → IsWritten m seat group
     → AreHeldClaims view group piece mask → Publishes group piece mask view new
-    → AreWritten view.written group mask piece
+    → AreWordsStored view.written group mask piece
     × IsMachineStep fixed pieces table group (bit_or (held_word table.words group) mask) seat new m (Publish seat group) (Some (Committed mask))
 
 -- Settle, by the seat's current piece, whose length the store has room for: an exchange of the length word where it is 0.
 abbrev pub SettleIsSettle : Type 0
 SettleIsSettle = (fixed : Fixed) (pieces : List Checked) (table : Table Unit (List SeatView)) (m : Machine) (seat : ℕ) (piece : Piece) (view new : SeatView)
     → IsAtMachine fixed pieces table m seat view → (m.seat seat).piece ≡ Some piece → EndsBlob piece → length_of piece ≤ 1024 * fixed.capacity
-    → Settles piece (length_word fixed table.words) view new
+    → SettlesLength piece (length_word fixed table.words) view new
     → IsMachineStep fixed pieces table (length_place fixed)
     (either (length_word fixed table.words == 0) (length_of piece + 1) (length_word fixed table.words)) seat new m
     (Settle seat) (Some (Settling (settling (length_in (length_word fixed table.words)) (length_of piece))))
@@ -74,7 +74,7 @@ SettleIsSettle = (fixed : Fixed) (pieces : List Checked) (table : Table Unit (Li
 -- Length is Length: a load of the length word.
 abbrev pub LengthIsLength : Type 0
 LengthIsLength = (fixed : Fixed) (pieces : List Checked) (table : Table Unit (List SeatView)) (m : Machine) (seat : ℕ) (view new : SeatView)
-    → IsAtMachine fixed pieces table m seat view → Answers (length_word fixed table.words) view new
+    → IsAtMachine fixed pieces table m seat view → LoadsLength (length_word fixed table.words) view new
     → IsMachineStep fixed pieces table (length_place fixed) (length_word fixed table.words) seat new m
     (Length seat) (Some (LengthIs (length_in (length_word fixed table.words))))
 
@@ -90,7 +90,7 @@ abbrev pub LoadIsLoad : Type 0
 LoadIsLoad = (fixed : Fixed) (pieces : List Checked) (table : Table Unit (List SeatView)) (m : Machine) (seat group at len : ℕ) (view new : SeatView)
     → IsAtMachine fixed pieces table m seat view → group < groups fixed → IsLegalStep fixed pieces m (Load seat at len)
     → group ≡ loaded_group fixed (read_before m seat at len) → (loads : Loads group at len (held_word table.words group) view new)
-    → IsKept fixed (stepped table group (held_word table.words group) seat [] (new ∷ []) keeps)
+    → RuleHolds fixed (stepped table group (held_word table.words group) seat [] (new ∷ []) keeps)
     → IsMachineStep fixed pieces table group (held_word table.words group) seat new m (Load seat at len) (load_reply fixed m seat at len)
     × (read_events view group at len (state_after (view.seen ++ loads.looked.between)) ≡ load_events fixed m seat at len view)
 

@@ -12,7 +12,7 @@ fixed_of words = words.fixed
 
 -- The grip is a seat of these words: it sees their store, and what it has seen is a legal history of it. Its names stand in
 -- dictionary order, each once.
-pub record IsOf (words : Words) (grip : Gripped) : Type 0 where
+pub record IsGripOf (words : Words) (grip : Gripped) : Type 0 where
   pub table_is : grip.table_id ≡ words.table.shared.table_id
   pub knows : IsViewOf words.fixed grip.view
 

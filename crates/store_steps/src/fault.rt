@@ -6,7 +6,7 @@ use thiserror::Error;
 /// Why no shared store was made.
 #[derive(Clone, Copy, Debug, PartialEq, Eq, Error)]
 pub enum NewFault {
-    /// There was no memory. Number 801.
+    /// Out of memory. Number 801.
     #[error("801 memory")]
     Memory,
     /// A store has room for 1 to 65,536 chunks, and another capacity was asked for. Number 802.

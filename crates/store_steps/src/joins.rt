@@ -67,9 +67,9 @@ impl Play<(), LinkedList<SeatView>> for Entering {
 pub(crate) struct Meeting;
 
 impl Play<(), LinkedList<SeatView>> for Meeting {
-    ghost use Rattle.store_steps.specs.Plays.{Meets, OfTwo};
+    ghost use Rattle.store_steps.specs.Plays.{MeetsSeat, OfTwo};
 
-    ghost then = { λ step me found later. OfTwo Meets me later };
+    ghost then = { λ step me found later. OfTwo MeetsSeat me later };
 }
 
 // A seat leaves all but its first view to a new one.

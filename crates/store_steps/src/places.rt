@@ -28,6 +28,7 @@ pub(crate) fn held_place(fixed: &Fixed, group: u32) -> usize
     ensures place { result ≡ group }
     ensures within { result < word_count fixed.now }
 {
+    // So that the contract can speak of it.
     let _ = fixed;
     group as usize
 }

@@ -67,9 +67,9 @@ pub(crate) struct Taking<A> {
 }
 
 impl<A: Asked> Play<(), LinkedList<SeatView>> for Taking<A> {
-    ghost use Rattle.store_steps.specs.Plays.{OfOne, Takes};
+    ghost use Rattle.store_steps.specs.Plays.{OfOne, TakesChunks};
 
-    ghost then = { λ step me found later. OfOne (Takes A.group A.first step.first found) me later };
+    ghost then = { λ step me found later. OfOne (TakesChunks A.group A.first step.first found) me later };
 }
 
 // `group`, `first` for the mask and `second` for that of the chunks given.
@@ -177,9 +177,9 @@ pub(crate) struct Settling<A> {
 }
 
 impl<A: Asked> Play<(), LinkedList<SeatView>> for Settling<A> {
-    ghost use Rattle.store_steps.specs.Plays.{OfOne, Settles};
+    ghost use Rattle.store_steps.specs.Plays.{OfOne, SettlesLength};
 
-    ghost then = { λ step me found later. OfOne (Settles A.piece found) me later };
+    ghost then = { λ step me found later. OfOne (SettlesLength A.piece found) me later };
 }
 
 // `group`.
@@ -218,7 +218,7 @@ impl<A: Asked> Play<(), LinkedList<SeatView>> for PublishingParents<A> {
 pub(crate) struct Answering;
 
 impl Play<(), LinkedList<SeatView>> for Answering {
-    ghost use Rattle.store_steps.specs.Plays.{Answers, OfOne};
+    ghost use Rattle.store_steps.specs.Plays.{LoadsLength, OfOne};
 
-    ghost then = { λ step me found later. OfOne (Answers found) me later };
+    ghost then = { λ step me found later. OfOne (LoadsLength found) me later };
 }

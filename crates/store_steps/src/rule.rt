@@ -8,9 +8,9 @@ pub(crate) struct Law;
 impl TableRule<(), LinkedList<SeatView>, Fixed> for Law {
     ghost use Rattle.std.specs.Prelude.{[], ◌∷◌};
     ghost use Rattle.store_core.specs.Knowledge.{opening_view};
-    ghost use Rattle.store_steps.specs.Rule.{IsKept};
+    ghost use Rattle.store_steps.specs.Rule.{RuleHolds};
 
-    ghost holds = { IsKept };
+    ghost holds = { RuleHolds };
 
     ghost first = { λ fixed. opening_view fixed ∷ [] };
 }

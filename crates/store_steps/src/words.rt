@@ -46,11 +46,11 @@ impl Words {
     ghost use Rattle.bao_check.specs.Tail.{tail_piece};
     ghost use Rattle.store_core.specs.declared.history.Call.TheVariants.{Commit, Give, Length, Parents, Settle, Take};
     ghost use Rattle.store_core.specs.Pieces.{length_of, piece_of};
-    ghost use Rattle.store_core.specs.Stores.{IsOf as IsOfStore};
+    ghost use Rattle.store_core.specs.Stores.{IsOf};
     ghost use Rattle.store_core.specs.Views.{is_storing, seat_claims};
     ghost use Rattle.store_core.specs.declared.history.Storing.TheVariants.{Stored};
     ghost use Rattle.store_core.specs.Histories.{state_after};
-    ghost use Rattle.store_steps.specs.Asks.{AreClaimed, AreHeldClaims, AreParentsWritten, AreWritten};
+    ghost use Rattle.store_steps.specs.Asks.{AreClaimed, AreHeldClaims, AreParentsWritten, AreWordsStored};
     ghost use Rattle.store_core.specs.Knowledge.{AreMet, ArePartsOf, Did, EndsStoring, IsMerged, Looked, LooksRound, opening_view};
     ghost use Rattle.store_steps.specs.Reads.{read_events};
     ghost use Rattle.store_core.specs.Serves.{node_held};
@@ -58,7 +58,7 @@ impl Words {
     ghost use Rattle.store_core.specs.Masks.{has_bit};
     ghost use Rattle.store_steps.specs.Plays.{StoresParent};
     ghost use Rattle.store_steps.specs.Tells.{FindsHeld, FindsParentWord, FindsWord, IsStoringNow, Stores};
-    ghost use Rattle.store_steps.specs.Words.{HasGroup, IsOf, fixed_of};
+    ghost use Rattle.store_steps.specs.Words.{HasGroup, IsGripOf, fixed_of};
 
     /// Words of which none is held, claimed or recorded, and their first grip, which has seen nothing. `capacity` is a
     /// number of chunks.
@@ -71,7 +71,7 @@ impl Words {
         capacity: u32,
     ) -> Result<(Words, Grip), NewFault>
         requires { (0 < capacity) × (capacity ≤ 65536) }
-        ensures of { IfOk result (λ made. IsOf made.0 made.1) }
+        ensures of { IfOk result (λ made. IsGripOf made.0 made.1) }
         ensures fixed { IfOk result (λ made. fixed_of made.0 ≡ record { root = root; mode = mode; capacity = capacity }) }
         ensures view { IfOk result (λ made. made.1.view ≡ opening_view (fixed_of made.0)) }
         ensures memory { OnErr result (IsErrOf result NewFault.Memory) }
@@ -94,22 +94,26 @@ impl Words {
         *fixed
     }
 
+    // Each step stands twice. What it is asked for beside its operands, as the piece of a commit, reaches what it tells by
+    // a type alone (`Asked`), that each call picks anew: so `take` picks one, and `take_asked` makes the step for any.
+    // docs/DECISIONS.md says why.
+
     /// Claims the wanted chunks of a group that are below the capacity and neither held nor claimed, and answers their
     /// mask. A chunk that the grip claims already isn't granted again. One `fetch_or` on the claim word.
     pub fn take(&self, grip: &mut Grip, group: u32, want: u64) -> u64
-        requires of { IsOf self.now grip.old }
+        requires of { IsGripOf self.now grip.old }
         requires group { HasGroup self.now group }
-        ensures of { IsOf self.now grip.new }
+        ensures of { IsGripOf self.now grip.new }
         ensures did { Did (Take group want result) grip.old.view grip.new.view }
     {
         self.take_asked::<Brand>(grip, group, want)
     }
 
     fn take_asked<A: Asked>(&self, grip: &mut Grip, group: u32, want: u64) -> u64
-        requires of { IsOf self.now grip.old }
+        requires of { IsGripOf self.now grip.old }
         requires group { HasGroup self.now group }
         requires asked { (A.group ≡ group) × (A.first ≡ want) }
-        ensures of { IsOf self.now grip.new }
+        ensures of { IsGripOf self.now grip.new }
         ensures did { Did (Take group want result) grip.old.view grip.new.view }
     {
         let mask = want & mask_below(group, u64::from(self.fixed.capacity));
@@ -124,21 +128,21 @@ impl Words {
     /// Ends claims: of the mask's chunks those that the grip claims, which are `given`. One `fetch_and` on the claim
     /// word.
     pub fn give(&self, grip: &mut Grip, group: u32, mask: u64, given: u64)
-        requires of { IsOf self.now grip.old }
+        requires of { IsGripOf self.now grip.old }
         requires group { HasGroup self.now group }
         requires given { AreClaimed grip.old.view group mask given }
-        ensures of { IsOf self.now grip.new }
+        ensures of { IsGripOf self.now grip.new }
         ensures did { Did (Give group mask given) grip.old.view grip.new.view }
     {
         self.give_asked::<Brand>(grip, group, mask, given);
     }
 
     fn give_asked<A: Asked>(&self, grip: &mut Grip, group: u32, mask: u64, given: u64)
-        requires of { IsOf self.now grip.old }
+        requires of { IsGripOf self.now grip.old }
         requires group { HasGroup self.now group }
         requires given { AreClaimed grip.old.view group mask given }
         requires asked { (A.group ≡ group) × (A.first ≡ mask) × (A.second ≡ given) }
-        ensures of { IsOf self.now grip.new }
+        ensures of { IsGripOf self.now grip.new }
         ensures did { Did (Give group mask given) grip.old.view grip.new.view }
     {
         let place = claim_place(&self.fixed, group);
@@ -149,19 +153,19 @@ impl Words {
 
     /// A give of a group that isn't there: no claim ends. One load, which changes nothing.
     pub fn give_none(&self, grip: &mut Grip, group: u32, mask: u64)
-        requires of { IsOf self.now grip.old }
+        requires of { IsGripOf self.now grip.old }
         requires group { ¬ HasGroup self.now group }
-        ensures of { IsOf self.now grip.new }
+        ensures of { IsGripOf self.now grip.new }
         ensures did { Did (Give group mask 0) grip.old.view grip.new.view }
     {
         self.give_none_asked::<Brand>(grip, group, mask);
     }
 
     fn give_none_asked<A: Asked>(&self, grip: &mut Grip, group: u32, mask: u64)
-        requires of { IsOf self.now grip.old }
+        requires of { IsGripOf self.now grip.old }
         requires group { ¬ HasGroup self.now group }
         requires asked { (A.group ≡ group) × (A.first ≡ mask) × (A.second ≡ 0) }
-        ensures of { IsOf self.now grip.new }
+        ensures of { IsGripOf self.now grip.new }
         ensures did { Did (Give group mask 0) grip.old.view grip.new.view }
     {
         self.table.shared.load::<Giving<A>>(&mut grip.seat, 0);
@@ -170,21 +174,21 @@ impl Words {
     /// Stores a word of the cell of a chunk that the grip claims: word 0 is the chunk's size in bytes, words 1 to 128
     /// its data. One store, of which no reader learns before the chunk is published.
     pub fn store(&self, grip: &mut Grip, chunk: u32, word: u8, value: u64)
-        requires of { IsOf self.now grip.old }
+        requires of { IsGripOf self.now grip.old }
         requires claimed { seat_claims grip.old.view chunk ≡ true }
         requires word { word < 129 }
-        ensures of { IsOf self.now grip.new }
+        ensures of { IsGripOf self.now grip.new }
         ensures stored { Stores chunk word value grip.old.view grip.new.view }
     {
         self.store_asked::<Brand>(grip, chunk, word, value);
     }
 
     fn store_asked<A: Asked>(&self, grip: &mut Grip, chunk: u32, word: u8, value: u64)
-        requires of { IsOf self.now grip.old }
+        requires of { IsGripOf self.now grip.old }
         requires claimed { seat_claims grip.old.view chunk ≡ true }
         requires word { word < 129 }
         requires asked { (A.first ≡ chunk) × (A.second ≡ word) }
-        ensures of { IsOf self.now grip.new }
+        ensures of { IsGripOf self.now grip.new }
         ensures stored { Stores chunk word value grip.old.view grip.new.view }
     {
         let place = cell_place(&self.fixed, chunk, word);
@@ -197,27 +201,28 @@ impl Words {
     /// their claims end. `mask` is of the chunks that the grip claims and the piece holds. One `fetch_or` on the held
     /// word, also where the mask is 0.
     pub fn publish(&self, grip: &mut Grip, group: u32, piece: &Checked<'_>, mask: u64)
-        requires of { IsOf self.now grip.old }
+        requires of { IsGripOf self.now grip.old }
         requires group { HasGroup self.now group }
-        requires piece { IsOfStore (fixed_of self.now) piece.now }
+        requires piece { IsOf (fixed_of self.now) piece.now }
         requires mask { AreHeldClaims grip.old.view group (piece_of piece.now) mask }
-        requires written { AreWritten grip.old.view.written group mask (piece_of piece.now) }
-        ensures of { IsOf self.now grip.new }
+        requires written { AreWordsStored grip.old.view.written group mask (piece_of piece.now) }
+        ensures of { IsGripOf self.now grip.new }
         ensures did { Did (Commit group (piece_of piece.now) mask) grip.old.view grip.new.view }
     {
         self.publish_asked::<Brand>(grip, group, piece, mask);
     }
 
     fn publish_asked<A: Asked>(&self, grip: &mut Grip, group: u32, piece: &Checked<'_>, mask: u64)
-        requires of { IsOf self.now grip.old }
+        requires of { IsGripOf self.now grip.old }
         requires group { HasGroup self.now group }
-        requires piece { IsOfStore (fixed_of self.now) piece.now }
+        requires piece { IsOf (fixed_of self.now) piece.now }
         requires mask { AreHeldClaims grip.old.view group (piece_of piece.now) mask }
-        requires written { AreWritten grip.old.view.written group mask (piece_of piece.now) }
+        requires written { AreWordsStored grip.old.view.written group mask (piece_of piece.now) }
         requires asked { (A.group ≡ group) × (A.piece ≡ piece_of piece.now) }
-        ensures of { IsOf self.now grip.new }
+        ensures of { IsGripOf self.now grip.new }
         ensures did { Did (Commit group (piece_of piece.now) mask) grip.old.view grip.new.view }
     {
+        // A law, so that the proof has what it says: nothing runs.
         piece.is_accepted();
         let place = held_place(&self.fixed, group);
         self.table
@@ -227,23 +232,24 @@ impl Words {
 
     /// A commit to a group that isn't there: nothing is published, and no claim ends. One load, which changes nothing.
     pub fn publish_none(&self, grip: &mut Grip, group: u32, piece: &Checked<'_>)
-        requires of { IsOf self.now grip.old }
+        requires of { IsGripOf self.now grip.old }
         requires group { ¬ HasGroup self.now group }
-        requires piece { IsOfStore (fixed_of self.now) piece.now }
-        ensures of { IsOf self.now grip.new }
+        requires piece { IsOf (fixed_of self.now) piece.now }
+        ensures of { IsGripOf self.now grip.new }
         ensures did { Did (Commit group (piece_of piece.now) 0) grip.old.view grip.new.view }
     {
         self.publish_none_asked::<Brand>(grip, group, piece);
     }
 
     fn publish_none_asked<A: Asked>(&self, grip: &mut Grip, group: u32, piece: &Checked<'_>)
-        requires of { IsOf self.now grip.old }
+        requires of { IsGripOf self.now grip.old }
         requires group { ¬ HasGroup self.now group }
-        requires piece { IsOfStore (fixed_of self.now) piece.now }
+        requires piece { IsOf (fixed_of self.now) piece.now }
         requires asked { (A.group ≡ group) × (A.piece ≡ piece_of piece.now) }
-        ensures of { IsOf self.now grip.new }
+        ensures of { IsGripOf self.now grip.new }
         ensures did { Did (Commit group (piece_of piece.now) 0) grip.old.view grip.new.view }
     {
+        // A law, so that the proof has what it says: nothing runs.
         piece.is_accepted();
         self.table.shared.load::<Publishing<A>>(&mut grip.seat, 0);
     }
@@ -251,9 +257,9 @@ impl Words {
     /// The held word of a group: bit j is set exactly where chunk 64 * group + j is held. It is a load of a read of
     /// `len` bytes from position `at` on, and the read's event where it is its last.
     pub fn load(&self, grip: &mut Grip, group: u32, at: u64, len: u64) -> u64
-        requires of { IsOf self.now grip.old }
+        requires of { IsGripOf self.now grip.old }
         requires group { HasGroup self.now group }
-        ensures of { IsOf self.now grip.new }
+        ensures of { IsGripOf self.now grip.new }
         ensures looked { Looked (read_events grip.old.view group at len) grip.old.view grip.new.view }
         ensures held { FindsHeld group result grip.new.view }
     {
@@ -261,10 +267,10 @@ impl Words {
     }
 
     fn load_asked<A: Asked>(&self, grip: &mut Grip, group: u32, at: u64, len: u64) -> u64
-        requires of { IsOf self.now grip.old }
+        requires of { IsGripOf self.now grip.old }
         requires group { HasGroup self.now group }
         requires asked { (A.group ≡ group) × (A.first ≡ at) × (A.second ≡ len) }
-        ensures of { IsOf self.now grip.new }
+        ensures of { IsGripOf self.now grip.new }
         ensures looked { Looked (read_events grip.old.view group at len) grip.old.view grip.new.view }
         ensures held { FindsHeld group result grip.new.view }
     {
@@ -275,7 +281,7 @@ impl Words {
     /// A word of a chunk's cell. Where the grip has seen the chunk held it is the word of the chunk's bytes, as at
     /// `store`. One load, which changes nothing.
     pub fn copy(&self, grip: &mut Grip, chunk: u32, word: u8) -> u64
-        requires of { IsOf self.now grip.old }
+        requires of { IsGripOf self.now grip.old }
         requires chunk { chunk < (fixed_of self.now).capacity }
         requires word { word < 129 }
         ensures same { grip.new ≡ grip.old }
@@ -285,7 +291,7 @@ impl Words {
     }
 
     fn copy_asked<A: Asked>(&self, grip: &mut Grip, chunk: u32, word: u8) -> u64
-        requires of { IsOf self.now grip.old }
+        requires of { IsGripOf self.now grip.old }
         requires chunk { chunk < (fixed_of self.now).capacity }
         requires word { word < 129 }
         requires asked { (A.first ≡ chunk) × (A.second ≡ word) }
@@ -300,23 +306,24 @@ impl Words {
     /// `Settled`. Else it says whether the same is, `Known`, or another, `Differs`. The length is one that the store has
     /// room for. One `compare_exchange` on the length word.
     pub fn settle(&self, grip: &mut Grip, tail: &Tail<'_>) -> Settling
-        requires of { IsOf self.now grip.old }
-        requires piece { IsOfStore (fixed_of self.now) (tail_piece tail.now) }
+        requires of { IsGripOf self.now grip.old }
+        requires piece { IsOf (fixed_of self.now) (tail_piece tail.now) }
         requires fits { piece_claimed (tail_piece tail.now) ≤ 1024 * (fixed_of self.now).capacity }
-        ensures of { IsOf self.now grip.new }
+        ensures of { IsGripOf self.now grip.new }
         ensures did { Did (Settle (piece_of (tail_piece tail.now)) result) grip.old.view grip.new.view }
     {
         self.settle_asked::<Brand>(grip, tail)
     }
 
     fn settle_asked<A: Asked>(&self, grip: &mut Grip, tail: &Tail<'_>) -> Settling
-        requires of { IsOf self.now grip.old }
-        requires piece { IsOfStore (fixed_of self.now) (tail_piece tail.now) }
+        requires of { IsGripOf self.now grip.old }
+        requires piece { IsOf (fixed_of self.now) (tail_piece tail.now) }
         requires fits { piece_claimed (tail_piece tail.now) ≤ 1024 * (fixed_of self.now).capacity }
         requires asked { A.piece ≡ piece_of (tail_piece tail.now) }
-        ensures of { IsOf self.now grip.new }
+        ensures of { IsGripOf self.now grip.new }
         ensures did { Did (Settle (piece_of (tail_piece tail.now)) result) grip.old.view grip.new.view }
     {
+        // A law, so that the proof has what it says: nothing runs.
         tail.is_last();
         let length = tail.length();
         let place = length_place(&self.fixed);
@@ -329,8 +336,8 @@ impl Words {
 
     /// The recorded length in bytes, if there is one. One load of the length word.
     pub fn length(&self, grip: &mut Grip) -> Option<u64>
-        requires of { IsOf self.now grip.old }
-        ensures of { IsOf self.now grip.new }
+        requires of { IsGripOf self.now grip.old }
+        ensures of { IsGripOf self.now grip.new }
         ensures did { Did (Length result) grip.old.view grip.new.view }
     {
         let place = length_place(&self.fixed);
@@ -341,9 +348,9 @@ impl Words {
     /// Whether a node of the slice (`start`, `len`) is held. It is a load for that slice: its Serve where the node isn't held,
     /// or where it is the slice's last, which `last` says. One load of a held word.
     pub fn load_node(&self, grip: &mut Grip, node: &Node, last: bool, start: u64, len: u64) -> bool
-        requires of { IsOf self.now grip.old }
+        requires of { IsGripOf self.now grip.old }
         requires node { number_of node.now < (fixed_of self.now).capacity }
-        ensures of { IsOf self.now grip.new }
+        ensures of { IsGripOf self.now grip.new }
         ensures looked { Looked (node_events grip.old.view node.now last start len) grip.old.view grip.new.view }
         ensures held { result ≡ is_some (node_held (state_after grip.new.view.seen) node.now) }
     {
@@ -358,10 +365,10 @@ impl Words {
         start: u64,
         len: u64,
     ) -> bool
-        requires of { IsOf self.now grip.old }
+        requires of { IsGripOf self.now grip.old }
         requires node { number_of node.now < (fixed_of self.now).capacity }
         requires asked { (A.node ≡ node.now) × (A.last ≡ last) × (A.start ≡ start) × (A.len ≡ len) }
-        ensures of { IsOf self.now grip.new }
+        ensures of { IsGripOf self.now grip.new }
         ensures looked { Looked (node_events grip.old.view node.now last start len) grip.old.view grip.new.view }
         ensures held { result ≡ is_some (node_held (state_after grip.new.view.seen) node.now) }
     {
@@ -376,7 +383,7 @@ impl Words {
     /// A word of a boundary's parent, as at `store_parent`, where the grip has seen the parent held. One load, which changes
     /// nothing.
     pub fn copy_parent(&self, grip: &mut Grip, boundary: u32, word: u8) -> u64
-        requires of { IsOf self.now grip.old }
+        requires of { IsGripOf self.now grip.old }
         requires boundary { boundary < (fixed_of self.now).capacity }
         requires word { word < 8 }
         ensures same { grip.new ≡ grip.old }
@@ -386,7 +393,7 @@ impl Words {
     }
 
     fn copy_parent_asked<A: Asked>(&self, grip: &mut Grip, boundary: u32, word: u8) -> u64
-        requires of { IsOf self.now grip.old }
+        requires of { IsGripOf self.now grip.old }
         requires boundary { boundary < (fixed_of self.now).capacity }
         requires word { word < 8 }
         requires asked { (A.first ≡ boundary) × (A.second ≡ word) }
@@ -402,8 +409,8 @@ impl Words {
     /// The recorded length in bytes, if there is one, for the slice (`start`, `len`): where there is none this is its Serve.
     /// One load of the length word.
     pub fn length_to_serve(&self, grip: &mut Grip, start: u64, len: u64) -> Option<u64>
-        requires of { IsOf self.now grip.old }
-        ensures of { IsOf self.now grip.new }
+        requires of { IsGripOf self.now grip.old }
+        ensures of { IsGripOf self.now grip.new }
         ensures looked { Looked (unserved_events grip.old.view start len) grip.old.view grip.new.view }
         ensures recorded { result ≡ (state_after grip.new.view.seen).recorded }
     {
@@ -411,9 +418,9 @@ impl Words {
     }
 
     fn length_to_serve_asked<A: Asked>(&self, grip: &mut Grip, start: u64, len: u64) -> Option<u64>
-        requires of { IsOf self.now grip.old }
+        requires of { IsGripOf self.now grip.old }
         requires asked { (A.first ≡ start) × (A.second ≡ len) }
-        ensures of { IsOf self.now grip.new }
+        ensures of { IsGripOf self.now grip.new }
         ensures looked { Looked (unserved_events grip.old.view start len) grip.old.view grip.new.view }
         ensures recorded { result ≡ (state_after grip.new.view.seen).recorded }
     {
@@ -428,9 +435,9 @@ impl Words {
     /// The recorded length in bytes, if there is one, for parents of a piece of this store's root and mode: where it isn't the
     /// length that the piece claims, or there is no such group, this is their Parents. One load of the length word.
     pub fn length_to_store(&self, grip: &mut Grip, group: u32, piece: &Checked<'_>) -> Option<u64>
-        requires of { IsOf self.now grip.old }
-        requires piece { IsOfStore (fixed_of self.now) piece.now }
-        ensures of { IsOf self.now grip.new }
+        requires of { IsGripOf self.now grip.old }
+        requires piece { IsOf (fixed_of self.now) piece.now }
+        ensures of { IsGripOf self.now grip.new }
         ensures looked { Looked (unstored_events grip.old.view group (piece_of piece.now)) grip.old.view grip.new.view }
         ensures recorded { result ≡ (state_after grip.new.view.seen).recorded }
     {
@@ -443,13 +450,14 @@ impl Words {
         group: u32,
         piece: &Checked<'_>,
     ) -> Option<u64>
-        requires of { IsOf self.now grip.old }
-        requires piece { IsOfStore (fixed_of self.now) piece.now }
+        requires of { IsGripOf self.now grip.old }
+        requires piece { IsOf (fixed_of self.now) piece.now }
         requires asked { (A.group ≡ group) × (A.piece ≡ piece_of piece.now) }
-        ensures of { IsOf self.now grip.new }
+        ensures of { IsGripOf self.now grip.new }
         ensures looked { Looked (unstored_events grip.old.view group (piece_of piece.now)) grip.old.view grip.new.view }
         ensures recorded { result ≡ (state_after grip.new.view.seen).recorded }
     {
+        // A law, so that the proof has what it says: nothing runs.
         piece.is_accepted();
         let place = length_place(&self.fixed);
         let found = self
@@ -463,10 +471,10 @@ impl Words {
     /// stored, and answers their mask: the grip, which stores no parents, is storing these. One `fetch_or` on the claim
     /// word of boundaries.
     pub fn claim_parents(&self, grip: &mut Grip, group: u32, want: u64) -> u64
-        requires of { IsOf self.now grip.old }
+        requires of { IsGripOf self.now grip.old }
         requires group { HasGroup self.now group }
         requires none { grip.old.view.storing ≡ [] }
-        ensures of { IsOf self.now grip.new }
+        ensures of { IsGripOf self.now grip.new }
         ensures claimed { IsStoringNow group result grip.old.view grip.new.view }
         ensures among { (j : ℕ) → has_bit result j ≡ true → has_bit want j ≡ true }
     {
@@ -474,11 +482,11 @@ impl Words {
     }
 
     fn claim_parents_asked<A: Asked>(&self, grip: &mut Grip, group: u32, want: u64) -> u64
-        requires of { IsOf self.now grip.old }
+        requires of { IsGripOf self.now grip.old }
         requires group { HasGroup self.now group }
         requires none { grip.old.view.storing ≡ [] }
         requires asked { A.group ≡ group }
-        ensures of { IsOf self.now grip.new }
+        ensures of { IsGripOf self.now grip.new }
         ensures claimed { IsStoringNow group result grip.old.view grip.new.view }
         ensures among { (j : ℕ) → has_bit result j ≡ true → has_bit want j ≡ true }
     {
@@ -493,23 +501,23 @@ impl Words {
 
     /// Stores a word of the parent at a boundary that the grip is storing: words 0 to 7 are its 64 bytes. One store.
     pub fn store_parent(&self, grip: &mut Grip, boundary: u32, word: u8, value: u64)
-        requires of { IsOf self.now grip.old }
+        requires of { IsGripOf self.now grip.old }
         requires storing { is_storing grip.old.view boundary ≡ true }
         requires boundary { boundary < (fixed_of self.now).capacity }
         requires word { word < 8 }
-        ensures of { IsOf self.now grip.new }
+        ensures of { IsGripOf self.now grip.new }
         ensures stored { StoresParent boundary word value grip.old.view grip.new.view }
     {
         self.store_parent_asked::<Brand>(grip, boundary, word, value);
     }
 
     fn store_parent_asked<A: Asked>(&self, grip: &mut Grip, boundary: u32, word: u8, value: u64)
-        requires of { IsOf self.now grip.old }
+        requires of { IsGripOf self.now grip.old }
         requires storing { is_storing grip.old.view boundary ≡ true }
         requires boundary { boundary < (fixed_of self.now).capacity }
         requires word { word < 8 }
         requires asked { (A.first ≡ boundary) × (A.second ≡ word) }
-        ensures of { IsOf self.now grip.new }
+        ensures of { IsGripOf self.now grip.new }
         ensures stored { StoresParent boundary word value grip.old.view grip.new.view }
     {
         let place = parent_place(&self.fixed, boundary, word);
@@ -522,12 +530,12 @@ impl Words {
     /// recorded: they are held, and the grip is storing none. `mask` is of the boundaries that it is storing, all of
     /// whose words it stored. One `fetch_or` on the held word of boundaries, also where the mask is 0.
     pub fn publish_parents(&self, grip: &mut Grip, group: u32, piece: &Checked<'_>, mask: u64)
-        requires of { IsOf self.now grip.old }
+        requires of { IsGripOf self.now grip.old }
         requires group { HasGroup self.now group }
-        requires piece { IsOfStore (fixed_of self.now) piece.now }
+        requires piece { IsOf (fixed_of self.now) piece.now }
         requires length { (state_after grip.old.view.seen).recorded ≡ Some (length_of (piece_of piece.now)) }
         requires written { AreParentsWritten grip.old.view group mask (piece_of piece.now) }
-        ensures of { IsOf self.now grip.new }
+        ensures of { IsGripOf self.now grip.new }
         ensures called { EndsStoring (Parents group (piece_of piece.now) (Stored mask)) grip.old.view grip.new.view }
         ensures written { grip.new.view.written ≡ grip.old.view.written }
     {
@@ -541,16 +549,17 @@ impl Words {
         piece: &Checked<'_>,
         mask: u64,
     )
-        requires of { IsOf self.now grip.old }
+        requires of { IsGripOf self.now grip.old }
         requires group { HasGroup self.now group }
-        requires piece { IsOfStore (fixed_of self.now) piece.now }
+        requires piece { IsOf (fixed_of self.now) piece.now }
         requires length { (state_after grip.old.view.seen).recorded ≡ Some (length_of (piece_of piece.now)) }
         requires written { AreParentsWritten grip.old.view group mask (piece_of piece.now) }
         requires asked { (A.group ≡ group) × (A.piece ≡ piece_of piece.now) }
-        ensures of { IsOf self.now grip.new }
+        ensures of { IsGripOf self.now grip.new }
         ensures called { EndsStoring (Parents group (piece_of piece.now) (Stored mask)) grip.old.view grip.new.view }
         ensures written { grip.new.view.written ≡ grip.old.view.written }
     {
+        // A law, so that the proof has what it says: nothing runs.
         piece.is_accepted();
         let place = parent_held_place(&self.fixed, group);
         self.table
@@ -563,9 +572,9 @@ impl Words {
     ///
     /// It needs no memory today, so that it always answers `Ok`. An `Err` would give the grip back as it was.
     pub fn part(&self, grip: Grip) -> Result<(Grip, Grip), Grip>
-        requires of { IsOf self.now grip }
+        requires of { IsGripOf self.now grip }
         ensures ok { IsOk result }
-        ensures of { IfOk result (λ parts. IsOf self.now parts.0 × IsOf self.now parts.1) }
+        ensures of { IfOk result (λ parts. IsGripOf self.now parts.0 × IsGripOf self.now parts.1) }
         ensures parts { IfOk result (λ parts. ArePartsOf grip.view parts.0.view parts.1.view) }
         ensures back { IfErr result (λ back. back ≡ grip) }
     {
@@ -578,8 +587,8 @@ impl Words {
     /// Sees all that was called so far. Where the grip has all names that there are, no other call was made than its own.
     /// One load, which changes nothing.
     pub fn look_round(&self, grip: &mut Grip)
-        requires of { IsOf self.now grip.old }
-        ensures of { IsOf self.now grip.new }
+        requires of { IsGripOf self.now grip.old }
+        ensures of { IsGripOf self.now grip.new }
         ensures looked { LooksRound grip.old.view grip.new.view }
     {
         self.table.shared.load::<LookingRound>(&mut grip.seat, 0);
@@ -588,9 +597,9 @@ impl Words {
     /// Merges two grips to one, with the calls, the claims and the stored words of both. What it has seen begins with
     /// what each had seen.
     pub fn merge(&self, first: Grip, second: Grip) -> Grip
-        requires first { IsOf self.now first }
-        requires second { IsOf self.now second }
-        ensures of { IsOf self.now result }
+        requires first { IsGripOf self.now first }
+        requires second { IsGripOf self.now second }
+        ensures of { IsGripOf self.now result }
         ensures merged { IsMerged first.view second.view result.view }
     {
         let Grip { mut seat } = first;
@@ -603,10 +612,10 @@ impl Words {
     /// Lets two grips meet: afterwards both have seen one history, which begins with what each had seen. Their calls,
     /// claims and stored words stay as they are.
     pub fn meet(&self, first: &mut Grip, second: &mut Grip)
-        requires first { IsOf self.now first.old }
-        requires second { IsOf self.now second.old }
-        ensures first { IsOf self.now first.new }
-        ensures second { IsOf self.now second.new }
+        requires first { IsGripOf self.now first.old }
+        requires second { IsGripOf self.now second.old }
+        ensures first { IsGripOf self.now first.new }
+        ensures second { IsGripOf self.now second.new }
         ensures met { AreMet first.old.view second.old.view first.new.view second.new.view }
     {
         let (_, spare) = self.table.shared.load_new_seat::<Entering>(0);

@@ -8,5 +8,5 @@ returns c = λ j h.
     let s : List ℕ = c.args.text.now in
     let at : ℕ = lane_place c.args.at c.args.step j in
     let far : lane_place (c.args.at + 32) c.args.step j ≡ at + 32 = omega arith in
-    (λ i. c.spaced_half_blocks.ensures j h i ++ c.spaced_half_blocks-2.ensures j h i)
+    (λ i. c.spaced_values.ensures j h i ++ c.spaced_values-2.ensures j h i)
     ∙ (λ i. words_of 8 (piece s at 32) ++ words_of 8 (piece s (far i) 32))

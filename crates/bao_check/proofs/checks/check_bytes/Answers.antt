@@ -8,7 +8,7 @@ use Rattle.std.specs.Prelude.{[], Some}
 use Rattle.bao_check.proofs.WholeText.{accepted_from_walk, first_fault_from_walk, trailing_from_walk}
 use Rattle.bao_check.proofs.checks.check_bytes.Goals as goal
 
--- the text is what was taken and what is left
+-- the encoding is what was taken and what is left
 whole : (text old new ahead rest : List ℕ) → old ≡ [] → ahead ≡ text → Grows old new (Some ahead) (Some rest) → text ≡ new ++ rest
 whole text old new ahead rest none all h = sym all ∙ h.consumed ∙ ap (λ (s : List ℕ). s ++ rest) (sym (h.grown ∙ ap (λ (s : List ℕ). s ++ h.bytes) none))
 

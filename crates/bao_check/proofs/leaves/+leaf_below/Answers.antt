@@ -3,9 +3,9 @@ use Rattle.b3tree.specs.Tree.{left_len}
 use Rattle.bao_text.specs.Nodes.{left, placed, right, subtree_nodes, subtree_size}
 use Rattle.bao_text.proofs.SubtreeText.{Parts, left_len-Parts}
 use Rattle.bao_check.specs.Accepted.{part_value}
-use Rattle.bao_check.specs.Leaves.{HasParents}
+use Rattle.bao_check.specs.Leaves.{WantsParents}
 use Rattle.bao_check.specs.Pieces.{IsLeafValue}
-use Rattle.bao_check.proofs.Outlines.{far-HasParents, leaf-far, leaf-near, leaf-top, near-HasParents}
+use Rattle.bao_check.proofs.Outlines.{far-WantsParents, leaf-far, leaf-near, leaf-top, near-WantsParents}
 use Rattle.bao_check.proofs.leaves.+leaf_below.Goals as goal
 
 -- a parent's bytes
@@ -27,7 +27,7 @@ returns-else-left_chunks-eq1 t c = λ choice sides source all.
     leaf-near c.args.text.now c.args.i c.leaf_below.result.0 choice c.args.number n sides source c.args.at c.requires.parent all
     (subst (λ (l : ℕ). IsLeafValue c.args.text.now (placed (c.args.at + 64) (subtree_nodes choice c.args.number l (sides ++ left ∷ []) (source + 64))) c.args.i c.leaf_below.result.0) l_is
     (c.leaf_below.ensures choice (sides ++ left ∷ []) (source + 64)
-    (subst (HasParents choice c.args.number) (sym l_is) (near-HasParents choice c.args.number n c.requires.parent all))))
+    (subst (WantsParents choice c.args.number) (sym l_is) (near-WantsParents choice c.args.number n c.requires.parent all))))
 
 pub returns-then-n-left_len : goal.returns-then-n-left_len
 returns-then-n-left_len t c = λ choice sides source all.
@@ -47,4 +47,4 @@ returns-else-n-left_len t c = λ choice sides source all.
     (placed (c.args.at + 64 * (l / 1024)) (subtree_nodes choice (c.args.number + l / 1024) (n - l) (sides ++ right ∷ []) (source + 64 + subtree_size (left_len n)))) c.args.i
     c.leaf_below-else-n-left_len.result.0) l_is
     (c.leaf_below-else-n-left_len.ensures choice (sides ++ right ∷ []) (source + 64 + subtree_size (left_len n))
-    (subst (λ (l : ℕ). HasParents choice (c.args.number + l / 1024) (n - l)) (sym l_is) (far-HasParents choice c.args.number n c.requires.parent all))))
+    (subst (λ (l : ℕ). WantsParents choice (c.args.number + l / 1024) (n - l)) (sym l_is) (far-WantsParents choice c.args.number n c.requires.parent all))))

@@ -1,6 +1,6 @@
 use Rattle.std.proofs.Common.{◌≡◌, ℕ, ◌+◌, ◌-◌, ◌/◌, List, [], ◌∷◌, ◌++◌, refl, sym, ap, ◌∙◌, arith}
 use Rattle.b3tree.specs.Tree.{left_len}
-use Rattle.bao_text.specs.Nodes.{Node, left, right, subtree_nodes, subtree_size}
+use Rattle.bao_text.specs.Nodes.{TreeNode, left, right, subtree_nodes, subtree_size}
 use Rattle.bao_text.proofs.SubtreeNodes.{subtree_nodes-parent, subtree_nodes-unwanted}
 use Rattle.bao_check.proofs.Lists.{nodes_size, nodes_size-cons}
 use Rattle.bao_check.proofs.Sizes.{nodes_size-parent, nodes_size-with_chunks, nodes_size-without_chunks}
@@ -37,8 +37,8 @@ pub returns-clause-value : goal.returns-clause-value
 returns-clause-value t c = λ sides from.
     let parted : c.left_len-left_len.result ≡ left_len c.args.n = c.left_len-left_len.ensures.value in
     let from_far : ℕ = from + 64 + subtree_size (left_len c.args.n) in
-    let near : List Node = subtree_nodes c.args.choice.now c.args.number (left_len c.args.n) (sides ++ left ∷ []) (from + 64) in
-    let far : List Node = subtree_nodes c.args.choice.now (c.args.number + left_len c.args.n / 1024) (c.args.n - left_len c.args.n) (sides ++ right ∷ []) from_far in
+    let near : List TreeNode = subtree_nodes c.args.choice.now c.args.number (left_len c.args.n) (sides ++ left ∷ []) (from + 64) in
+    let far : List TreeNode = subtree_nodes c.args.choice.now (c.args.number + left_len c.args.n / 1024) (c.args.n - left_len c.args.n) (sides ++ right ∷ []) from_far in
     let near_size : c.nodes_size-left.result ≡ nodes_size near =
     c.nodes_size-left.ensures.value (sides ++ left ∷ []) (from + 64) ∙ ap (λ (l : ℕ). nodes_size (subtree_nodes c.args.choice.now c.args.number l (sides ++ left ∷ []) (from + 64))) parted in
     let far_size : c.nodes_size-right.result ≡ nodes_size far =

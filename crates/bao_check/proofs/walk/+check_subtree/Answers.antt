@@ -5,7 +5,7 @@ use Rattle.std.specs.declared.result.Result.{Result}
 use Rattle.b3tree.specs.declared.mode.Mode.{Mode}
 use Rattle.b3tree.specs.Tree.{left_len}
 use Rattle.bao_text.specs.declared.choice.Choice.{Choice}
-use Rattle.bao_text.specs.Nodes.{Node, left, right, subtree_nodes, subtree_size}
+use Rattle.bao_text.specs.Nodes.{TreeNode, left, right, subtree_nodes, subtree_size}
 use Rattle.bao_text.proofs.SubtreeNodes.{subtree_nodes-unwanted}
 use Rattle.bao_check.specs.declared.asked.Asked.{Asked}
 use Rattle.bao_check.specs.Walk.{Meets, Passes, Stops, chunk_taken}
@@ -32,7 +32,7 @@ returns-then-has_chunks-clause-ok g t c = λ sides from.
     IfOk-both c.check_chunk.result (length new ≡ length old + c.args.n) (Meets asked (chunk_taken c.args.mode.now c.args.number old new))
     (Passes asked sides c.args.mode.now new (length old) (subtree_nodes c.args.choice.now c.args.number c.args.n sides from))
     (λ len meets.
-    subst (λ (xs : List Node). Passes asked sides c.args.mode.now new (length old) xs) (sym nodes)
+    subst (λ (xs : List TreeNode). Passes asked sides c.args.mode.now new (length old) xs) (sym nodes)
     (chunk_passes asked sides c.args.mode.now old new c.check_chunk.ensures.takes.bytes c.args.number c.args.n from c.check_chunk.ensures.takes.grown len meets))
     c.check_chunk.ensures.ok c.check_chunk.ensures.meets
 
@@ -41,7 +41,7 @@ returns-then-has_chunks-clause-err g t c = λ sides from.
     let nodes = leaf_nodes c.args.choice.now c.args.number c.args.n sides from (sym c.wants.ensures ∙ c.if-not-wants.false) c.if-n.true (sym c.has_chunks.ensures ∙ c.if-has_chunks.true) in
     IfErr-weaker c.check_chunk.result _ _
     (λ fault h.
-    subst (λ (xs : List Node). Stops g.S.Source.fails c.args.asked.now sides c.args.mode.now (g.S.Source.taken c.check_chunk.new.source) (g.S.Source.ahead c.check_chunk.new.source)
+    subst (λ (xs : List TreeNode). Stops g.S.Source.fails c.args.asked.now sides c.args.mode.now (g.S.Source.taken c.check_chunk.new.source) (g.S.Source.ahead c.check_chunk.new.source)
     (length (g.S.Source.taken c.args.source.now)) xs fault) (sym nodes)
     (chunk_stops g.S.Source.fails c.args.asked.now sides c.args.mode.now (g.S.Source.taken c.args.source.now) (g.S.Source.taken c.check_chunk.new.source)
     c.check_chunk.ensures.takes.bytes (g.S.Source.ahead c.check_chunk.new.source) c.args.number c.args.n from c.check_chunk.ensures.takes.grown fault h))

@@ -6,7 +6,7 @@ use Rattle.bao_command.specs.Printed.{Prints, told_of}
 use Rattle.bao_command.specs.Tasks.{IsDue, IsRightPart, part_line}
 use Rattle.bao_command.proofs.commands.decode.Goals as goal
 
--- a line that was printed, in the words of the program
+-- a line that was printed, as a fault of the program
 told_prints : (line : List ℕ) (old new : Option (List ℕ)) (printed : Result Unit FileFault) → file.Prints line old new printed → Prints line old new (told_of printed)
 told_prints line old new (Ok done) prints = prints
 told_prints line old new (Err fault) prints = prints
@@ -15,7 +15,7 @@ on_ok : {P : Type 0} (result : Result Unit Fault) → P → OnOk result P
 on_ok (Ok done) p = p
 on_ok (Err fault) p = tt
 
--- printing refuses no words
+-- printing refuses no arguments
 due_of_none : (root past many mixed : Type 0) (result : Result Unit Fault) → IfErr result (IsDue ⊥ ⊥ ⊥ ⊥) → IfErr result (IsDue root past many mixed)
 due_of_none root past many mixed (Ok done) due = tt
 due_of_none root past many mixed (Err fault) due = (λ is. absurd (due.0 is), λ is. absurd (due.1 is), λ is. absurd (due.2 is), λ is. absurd (due.3 is))

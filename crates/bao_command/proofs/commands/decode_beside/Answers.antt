@@ -7,7 +7,7 @@ use Rattle.bao_command.specs.Printed.{Prints, told_of}
 use Rattle.bao_command.specs.Tasks.{IsRightCopy}
 use Rattle.bao_command.proofs.commands.decode_beside.Goals as goal
 
--- a line that was printed, in the words of the program
+-- a line that was printed, as a fault of the program
 told_prints : (line : List ℕ) (old new : Option (List ℕ)) (printed : Result Unit FileFault) → file.Prints line old new printed → Prints line old new (told_of printed)
 told_prints line old new (Ok done) prints = prints
 told_prints line old new (Err fault) prints = prints

@@ -8,7 +8,7 @@ use Rattle.bao_command.specs.Status.{status_of}
 use Rattle.std.proofs.KnownBytes.{Keeps-refl}
 use Rattle.bao_command.proofs.program.run.Goals as goal
 
--- words that could not be fetched: nothing is printed, and the status is neither of the two that say what is
+-- arguments that could not be fetched: nothing is printed, and the status is neither of the two that say what is
 ends : (old : Option (List ℕ)) (status n : ℕ) → status ≡ n → n ≢ 0 → n ≢ 3 → Ends [] old old status
 ends old status n is some other = record {
   done = λ none. absurd (some (sym is ∙ none));

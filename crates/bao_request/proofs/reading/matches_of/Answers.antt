@@ -17,7 +17,7 @@ program_free : is_simple_and_free program_app ≡ true
 unfolding clap_on_literals
 program_free = refl
 
--- a kind that is not want of memory is among those that the words may have
+-- a kind that is not out of memory is among those that the arguments may have
 help_of : (kinds : Kinds) (result : Result ArgMatches Error) → FailsBy kinds result → IfErr result (λ error. IsHelp (kind_of error) → (kind : ErrorKind) × IsHelp kind × IsAmong kind kinds)
 help_of kinds (Ok matches) fails = tt
 help_of kinds (Err error) (inr among) = λ help. (kind_of error, help, among)

@@ -3,7 +3,7 @@ use Rattle.std.proofs.lemmas.List.{append-nil, append_assoc}
 use Rattle.std.proofs.lemmas.Result.{IfOk-weaker, on_ok_weaker}
 use Rattle.b3tree.specs.Tree.{left_len}
 use Rattle.bao_text.specs.Cut.{cut_nodes, has, has_all}
-use Rattle.bao_text.specs.Nodes.{Node, left, right, subtree_nodes, subtree_size}
+use Rattle.bao_text.specs.Nodes.{TreeNode, left, right, subtree_nodes, subtree_size}
 use Rattle.bao_text.proofs.Cutting.{both_cut, both_whole, cut_nodes-one, has_all-one, left_cut, left_whole, none_cut, none_whole}
 use Rattle.bao_text.proofs.SubtreeNodes.{parent_node, subtree_nodes-leaf, subtree_nodes-parent, subtree_nodes-unwanted}
 use Rattle.bao_text.proofs.cut.+cut_subtree.Goals as goal
@@ -15,19 +15,19 @@ returns-then-not-wants-clause-whole t c = λ sides.
 pub returns-then-not-wants-clause-copied : goal.returns-then-not-wants-clause-copied
 returns-then-not-wants-clause-copied t c = λ sides.
     sym (append-nil c.args.out.now.items)
-    ∙ ap (λ (xs : List Node). c.args.out.now.items ++ cut_nodes c.args.text.now xs)
+    ∙ ap (λ (xs : List TreeNode). c.args.out.now.items ++ cut_nodes c.args.text.now xs)
     (sym (subtree_nodes-unwanted c.args.choice.now c.args.number c.args.n sides c.args.source (sym c.wants.ensures ∙ c.if-not-wants.true)))
 
 pub returns-then-choice-clause-whole : goal.returns-then-choice-clause-whole
 returns-then-choice-clause-whole t c = λ sides.
-    let node : Node = record { is_chunk = true; number = c.args.number; len = c.args.n; sides = sides; source = c.args.source } in
+    let node : TreeNode = record { is_chunk = true; number = c.args.number; len = c.args.n; sides = sides; source = c.args.source } in
     let leaf : subtree_nodes c.args.choice.now c.args.number c.args.n sides c.args.source ≡ node ∷ [] =
     subtree_nodes-leaf c.args.choice.now c.args.number c.args.n sides c.args.source (sym c.wants.ensures ∙ c.if-not-wants.false) c.if-n.true ∙ rw c.if-choice.true refl in
     IfOk-weaker c.copy_node.result _ _ (λ w h. h ∙ sym (has_all-one c.args.text.now node) ∙ ap (has_all c.args.text.now) (sym leaf)) c.copy_node.ensures.whole
 
 pub returns-then-choice-clause-copied : goal.returns-then-choice-clause-copied
 returns-then-choice-clause-copied t c = λ sides.
-    let node : Node = record { is_chunk = true; number = c.args.number; len = c.args.n; sides = sides; source = c.args.source } in
+    let node : TreeNode = record { is_chunk = true; number = c.args.number; len = c.args.n; sides = sides; source = c.args.source } in
     let leaf : subtree_nodes c.args.choice.now c.args.number c.args.n sides c.args.source ≡ node ∷ [] =
     subtree_nodes-leaf c.args.choice.now c.args.number c.args.n sides c.args.source (sym c.wants.ensures ∙ c.if-not-wants.false) c.if-n.true ∙ rw c.if-choice.true refl in
     on_ok_weaker c.copy_node.result
@@ -44,16 +44,16 @@ pub returns-else-choice-clause-copied : goal.returns-else-choice-clause-copied
 returns-else-choice-clause-copied t c = λ sides.
     let leaf : subtree_nodes c.args.choice.now c.args.number c.args.n sides c.args.source ≡ [] =
     subtree_nodes-leaf c.args.choice.now c.args.number c.args.n sides c.args.source (sym c.wants.ensures ∙ c.if-not-wants.false) c.if-n.true ∙ rw c.if-choice.false refl in
-    sym (append-nil c.args.out.now.items) ∙ ap (λ (xs : List Node). c.args.out.now.items ++ cut_nodes c.args.text.now xs) (sym leaf)
+    sym (append-nil c.args.out.now.items) ∙ ap (λ (xs : List TreeNode). c.args.out.now.items ++ cut_nodes c.args.text.now xs) (sym leaf)
 
 pub returns-then-not-branch-clause-whole : goal.returns-then-not-branch-clause-whole
 returns-then-not-branch-clause-whole t c = λ sides.
     let text : List ℕ = c.args.text.now in
     let choice = c.args.choice.now in
     let l : ℕ = left_len c.args.n in
-    let node : Node = parent_node c.args.number c.args.n sides c.args.source in
-    let near : List Node = subtree_nodes choice c.args.number l (sides ++ left ∷ []) (c.args.source + 64) in
-    let far : List Node = subtree_nodes choice (c.args.number + l / 1024) (c.args.n - l) (sides ++ right ∷ []) (c.args.source + 64 + subtree_size l) in
+    let node : TreeNode = parent_node c.args.number c.args.n sides c.args.source in
+    let near : List TreeNode = subtree_nodes choice c.args.number l (sides ++ left ∷ []) (c.args.source + 64) in
+    let far : List TreeNode = subtree_nodes choice (c.args.number + l / 1024) (c.args.n - l) (sides ++ right ∷ []) (c.args.source + 64 + subtree_size l) in
     let tree : subtree_nodes choice c.args.number c.args.n sides c.args.source ≡ node ∷ (near ++ far) =
     subtree_nodes-parent choice c.args.number c.args.n sides c.args.source (sym c.wants.ensures ∙ c.if-not-wants.false) (omega arith) in
     let gone : has text node ≡ false = sym c.in_ok-copy_node.ensures.whole ∙ c.if-not-branch.true in
@@ -64,9 +64,9 @@ returns-then-not-branch-clause-copied t c = λ sides.
     let text : List ℕ = c.args.text.now in
     let choice = c.args.choice.now in
     let l : ℕ = left_len c.args.n in
-    let node : Node = parent_node c.args.number c.args.n sides c.args.source in
-    let near : List Node = subtree_nodes choice c.args.number l (sides ++ left ∷ []) (c.args.source + 64) in
-    let far : List Node = subtree_nodes choice (c.args.number + l / 1024) (c.args.n - l) (sides ++ right ∷ []) (c.args.source + 64 + subtree_size l) in
+    let node : TreeNode = parent_node c.args.number c.args.n sides c.args.source in
+    let near : List TreeNode = subtree_nodes choice c.args.number l (sides ++ left ∷ []) (c.args.source + 64) in
+    let far : List TreeNode = subtree_nodes choice (c.args.number + l / 1024) (c.args.n - l) (sides ++ right ∷ []) (c.args.source + 64 + subtree_size l) in
     let tree : subtree_nodes choice c.args.number c.args.n sides c.args.source ≡ node ∷ (near ++ far) =
     subtree_nodes-parent choice c.args.number c.args.n sides c.args.source (sym c.wants.ensures ∙ c.if-not-wants.false) (omega arith) in
     let gone : has text node ≡ false = sym c.in_ok-copy_node.ensures.whole ∙ c.if-not-branch.true in
@@ -79,9 +79,9 @@ returns-then-not-branch-2-clause-whole t c = λ sides.
     let text : List ℕ = c.args.text.now in
     let choice = c.args.choice.now in
     let l : ℕ = left_len c.args.n in
-    let node : Node = parent_node c.args.number c.args.n sides c.args.source in
-    let near : List Node = subtree_nodes choice c.args.number l (sides ++ left ∷ []) (c.args.source + 64) in
-    let far : List Node = subtree_nodes choice (c.args.number + l / 1024) (c.args.n - l) (sides ++ right ∷ []) (c.args.source + 64 + subtree_size l) in
+    let node : TreeNode = parent_node c.args.number c.args.n sides c.args.source in
+    let near : List TreeNode = subtree_nodes choice c.args.number l (sides ++ left ∷ []) (c.args.source + 64) in
+    let far : List TreeNode = subtree_nodes choice (c.args.number + l / 1024) (c.args.n - l) (sides ++ right ∷ []) (c.args.source + 64 + subtree_size l) in
     let tree : subtree_nodes choice c.args.number c.args.n sides c.args.source ≡ node ∷ (near ++ far) =
     subtree_nodes-parent choice c.args.number c.args.n sides c.args.source (sym c.wants.ensures ∙ c.if-not-wants.false) (omega arith) in
     let there : has text node ≡ true = sym c.in_ok-copy_node.ensures.whole ∙ c.if-not-branch.false in
@@ -95,9 +95,9 @@ returns-then-not-branch-2-clause-copied t c = λ sides.
     let text : List ℕ = c.args.text.now in
     let choice = c.args.choice.now in
     let l : ℕ = left_len c.args.n in
-    let node : Node = parent_node c.args.number c.args.n sides c.args.source in
-    let near : List Node = subtree_nodes choice c.args.number l (sides ++ left ∷ []) (c.args.source + 64) in
-    let far : List Node = subtree_nodes choice (c.args.number + l / 1024) (c.args.n - l) (sides ++ right ∷ []) (c.args.source + 64 + subtree_size l) in
+    let node : TreeNode = parent_node c.args.number c.args.n sides c.args.source in
+    let near : List TreeNode = subtree_nodes choice c.args.number l (sides ++ left ∷ []) (c.args.source + 64) in
+    let far : List TreeNode = subtree_nodes choice (c.args.number + l / 1024) (c.args.n - l) (sides ++ right ∷ []) (c.args.source + 64 + subtree_size l) in
     let tree : subtree_nodes choice c.args.number c.args.n sides c.args.source ≡ node ∷ (near ++ far) =
     subtree_nodes-parent choice c.args.number c.args.n sides c.args.source (sym c.wants.ensures ∙ c.if-not-wants.false) (omega arith) in
     let there : has text node ≡ true = sym c.in_ok-copy_node.ensures.whole ∙ c.if-not-branch.false in
@@ -118,9 +118,9 @@ returns-clause-whole t c = λ sides.
     let text : List ℕ = c.args.text.now in
     let choice = c.args.choice.now in
     let l : ℕ = left_len c.args.n in
-    let node : Node = parent_node c.args.number c.args.n sides c.args.source in
-    let near : List Node = subtree_nodes choice c.args.number l (sides ++ left ∷ []) (c.args.source + 64) in
-    let far : List Node = subtree_nodes choice (c.args.number + l / 1024) (c.args.n - l) (sides ++ right ∷ []) (c.args.source + 64 + subtree_size l) in
+    let node : TreeNode = parent_node c.args.number c.args.n sides c.args.source in
+    let near : List TreeNode = subtree_nodes choice c.args.number l (sides ++ left ∷ []) (c.args.source + 64) in
+    let far : List TreeNode = subtree_nodes choice (c.args.number + l / 1024) (c.args.n - l) (sides ++ right ∷ []) (c.args.source + 64 + subtree_size l) in
     let tree : subtree_nodes choice c.args.number c.args.n sides c.args.source ≡ node ∷ (near ++ far) =
     subtree_nodes-parent choice c.args.number c.args.n sides c.args.source (sym c.wants.ensures ∙ c.if-not-wants.false) (omega arith) in
     let there : has text node ≡ true = sym c.in_ok-copy_node.ensures.whole ∙ c.if-not-branch.false in
@@ -138,9 +138,9 @@ returns-clause-copied t c = λ sides.
     let text : List ℕ = c.args.text.now in
     let choice = c.args.choice.now in
     let l : ℕ = left_len c.args.n in
-    let node : Node = parent_node c.args.number c.args.n sides c.args.source in
-    let near : List Node = subtree_nodes choice c.args.number l (sides ++ left ∷ []) (c.args.source + 64) in
-    let far : List Node = subtree_nodes choice (c.args.number + l / 1024) (c.args.n - l) (sides ++ right ∷ []) (c.args.source + 64 + subtree_size l) in
+    let node : TreeNode = parent_node c.args.number c.args.n sides c.args.source in
+    let near : List TreeNode = subtree_nodes choice c.args.number l (sides ++ left ∷ []) (c.args.source + 64) in
+    let far : List TreeNode = subtree_nodes choice (c.args.number + l / 1024) (c.args.n - l) (sides ++ right ∷ []) (c.args.source + 64 + subtree_size l) in
     let tree : subtree_nodes choice c.args.number c.args.n sides c.args.source ≡ node ∷ (near ++ far) =
     subtree_nodes-parent choice c.args.number c.args.n sides c.args.source (sym c.wants.ensures ∙ c.if-not-wants.false) (omega arith) in
     let there : has text node ≡ true = sym c.in_ok-copy_node.ensures.whole ∙ c.if-not-branch.false in

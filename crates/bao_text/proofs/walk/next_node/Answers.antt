@@ -1,11 +1,11 @@
-use Rattle.std.proofs.Common.{◌≡◌, ◌<◌, ◌++◌, [], ◌∷◌, ◌+◌, ◌-◌, ◌*◌, ◌/◌, ◌≤◌, ℕ, List, Option, length, sym, ap, ◌∙◌, arith, rules, append_assoc}
+use Rattle.std.proofs.Common.{◌≡◌, ◌<◌, ◌++◌, ◌∷◌, ◌+◌, ◌-◌, ◌/◌, ℕ, List, Option, length, sym, ap, ◌∙◌, arith, append_assoc}
 use Rattle.std.specs.Option.{option_to_list}
-use Rattle.b3tree.specs.Tree.{IsLeftLen, left_len}
-use Rattle.bao_text.specs.declared.walk.Node.{Node as Named}
-use Rattle.bao_text.specs.declared.walk.Node.TheVariants.{Chunk, Parent}
+use Rattle.b3tree.specs.Tree.{left_len}
+use Rattle.bao_text.specs.declared.walk.Node.{Node}
+use Rattle.bao_text.specs.declared.walk.Node.TheVariants.{Parent}
 use Rattle.bao_text.specs.declared.walk.Subtree.{Subtree}
-use Rattle.bao_text.specs.NodeNames.{AreWaiting, names_of, waiting_names}
-use Rattle.bao_text.proofs.NodeNaming.{Parted, Taken, names-chunk, names-parent, parted, taken_last}
+use Rattle.bao_text.specs.NodeNames.{names_of, waiting_names}
+use Rattle.bao_text.proofs.NodeNaming.{names-chunk, names-parent, parted, taken_last}
 use Rattle.bao_text.proofs.walk.next_node.Goals as goal
 
 pub returns-then-len-clause-subtrees : goal.returns-then-len-clause-subtrees
@@ -19,7 +19,7 @@ returns-then-len-clause-first c =
     let taken = taken_last c.args.choice.now c.args.waiting.now.items c.pop.new.self.items x c.requires.subtrees
     (c.pop.ensures.items ∙ ap (λ (o : Option Subtree). c.pop.new.self.items ++ option_to_list o) c.in_ok-number.was) in
     let chunk = names-chunk c.args.choice.now x.number x.len taken.wanted c.requires.chunks c.if-len.true in
-    taken.names ∙ ap (λ (names : List Named). names ++ waiting_names c.args.choice.now c.pop.new.self.items) chunk
+    taken.names ∙ ap (λ (names : List Node). names ++ waiting_names c.args.choice.now c.pop.new.self.items) chunk
 
 pub overflow_add-middle : goal.overflow_add-middle
 overflow_add-middle c =
@@ -94,12 +94,12 @@ returns-clause-first c =
     let middle : ℕ = x.number + l / 1024 in
     let more : 1024 < x.len = c.if-len.false in
     let parts = names-parent choice x.number x.len taken.wanted more in
-    let near : List Named = names_of choice x.number l in
-    let far : List Named = names_of choice middle (x.len - l) in
-    let rest : List Named = waiting_names choice c.pop.new.self.items in
+    let near : List Node = names_of choice x.number l in
+    let far : List Node = names_of choice middle (x.len - l) in
+    let rest : List Node = waiting_names choice c.pop.new.self.items in
     let same : l ≡ left_len x.len = c.left_len-left_len.ensures.value in
     taken.names
-    ∙ ap (λ (names : List Named). names ++ rest) parts
+    ∙ ap (λ (names : List Node). names ++ rest) parts
     ∙ (λ i. Parent (x.number + sym same i / 1024) ∷ ((names_of choice x.number (sym same i) ++ names_of choice (x.number + sym same i / 1024) (x.len - sym same i)) ++ rest))
-    ∙ ap (λ (names : List Named). Parent middle ∷ names)
-    (append_assoc near far rest ∙ ap (λ (names : List Named). near ++ names) (sym c.push_wanted.ensures.names) ∙ sym c.push_wanted-2.ensures.names)
+    ∙ ap (λ (names : List Node). Parent middle ∷ names)
+    (append_assoc near far rest ∙ ap (λ (names : List Node). near ++ names) (sym c.push_wanted.ensures.names) ∙ sym c.push_wanted-2.ensures.names)

@@ -1,5 +1,5 @@
-use Rattle.std.proofs.Common.{◌≡◌, ◌++◌, List, [], ◌∷◌, sym, ap, subst, ◌∙◌}
-use Rattle.bao_text.specs.NodeNames.{AreWaiting, names_of, waiting_names}
+use Rattle.std.proofs.Common.{◌++◌, sym, ap, subst, ◌∙◌}
+use Rattle.bao_text.specs.NodeNames.{AreWaiting, waiting_names}
 use Rattle.bao_text.proofs.NodeNaming.{AreWaiting-last, names-unwanted, waiting_names-last}
 use Rattle.bao_text.proofs.walk.push_wanted.Goals as goal
 

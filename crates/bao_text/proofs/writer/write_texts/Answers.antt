@@ -7,7 +7,7 @@ use Rattle.bao_text.specs.Texts.{joined}
 use Rattle.bao_text.proofs.Writing.{Writes-first, Writes-rest, WroteOnly-Writes}
 use Rattle.bao_text.proofs.writer.write_texts.Goals as goal
 
--- the texts before the i-th, that one, and those after it
+-- the encodings before the i-th, that one, and those after it
 joined_at : (texts : List (Vec ℕ Global)) (i : ℕ) (text : Vec ℕ Global) → i < length texts → text ≡ get_or texts i text
     → joined texts ≡ joined (take i texts) ++ (text.items ++ joined (drop (i + 1) texts))
 joined_at texts i text within is =

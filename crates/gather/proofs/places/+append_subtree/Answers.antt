@@ -1,7 +1,7 @@
 use Rattle.std.proofs.Common.{◌≡◌, ℕ, ◌+◌, ◌-◌, ◌*◌, ◌/◌, ◌≤◌, List, [], ◌∷◌, ◌++◌, Bool, true, false, Result, Ok, Err, IfOk, OnOk, sym, ap, subst, ◌∙◌, arith, max}
 use Rattle.std.proofs.lemmas.Result.{IfOk-weaker}
 use Rattle.b3tree.specs.Tree.{left_len}
-use Rattle.bao_text.specs.Nodes.{Node, left, right, subtree_nodes, subtree_size}
+use Rattle.bao_text.specs.Nodes.{TreeNode, left, right, subtree_nodes, subtree_size}
 use Rattle.bao_text.proofs.SubtreeNodes.{parent_node, subtree_nodes-parent, subtree_nodes-unwanted}
 use Rattle.bao_text.proofs.SubtreeText.{Parts, left_len-Parts}
 use Rattle.gather.specs.Reads.{Cuts}
@@ -28,7 +28,7 @@ returns-then-n-le-CHUNK_LEN-clause-cuts g t c = λ sides.
     let choice = c.args.choice.now in
     let at : ℕ = c.args.at in
     let n : ℕ = c.args.n in
-    let nodes : List Node = subtree_nodes choice c.args.number n sides at in
+    let nodes : List TreeNode = subtree_nodes choice c.args.number n sides at in
     let run : IsRun at (subtree_size n) nodes =
     elim c.then-n-le-CHUNK_LEN.branch [
       | then-n-le-CHUNK_LEN-via-then-n-le-CHUNK_LEN w ↦
@@ -51,15 +51,15 @@ returns-then-not-branch-clause-cuts g t c = λ sides.
     let old : List ℕ = c.args.into.now.items in
     let new : List ℕ = c.append_part-2.new.into.items in
     let l : ℕ = left_len c.args.n in
-    let node : Node = parent_node c.args.number c.args.n sides at in
-    let near : List Node = subtree_nodes choice c.args.number l (sides ++ left ∷ []) (at + 64) in
-    let far : List Node = subtree_nodes choice (c.args.number + l / 1024) (c.args.n - l) (sides ++ right ∷ []) (at + 64 + subtree_size l) in
+    let node : TreeNode = parent_node c.args.number c.args.n sides at in
+    let near : List TreeNode = subtree_nodes choice c.args.number l (sides ++ left ∷ []) (at + 64) in
+    let far : List TreeNode = subtree_nodes choice (c.args.number + l / 1024) (c.args.n - l) (sides ++ right ∷ []) (at + 64 + subtree_size l) in
     let tree : subtree_nodes choice c.args.number c.args.n sides at ≡ node ∷ (near ++ far) =
     subtree_nodes-parent choice c.args.number c.args.n sides at (sym c.wants.ensures ∙ c.if-not-wants.false) c.if-n-le-CHUNK_LEN.false in
     let told : Cuts contents old new (node ∷ []) 64 c.in_ok-append_part.field-0 =
     Cuts-run contents old new at 64 64 (node ∷ []) c.in_ok-append_part.field-0 (run-one node) (omega arith) c.in_ok-append_part.ensures.part c.in_ok-append_part.ensures.whole c.in_ok-append_part.ensures.few in
     let first : Cuts contents old new (node ∷ []) 64 false = subst (λ (whole : Bool). Cuts contents old new (node ∷ []) 64 whole) c.if-not-branch.true told in
-    subst (λ (nodes : List Node). Cuts contents old new nodes c.args.n false) (sym tree)
+    subst (λ (nodes : List TreeNode). Cuts contents old new nodes c.args.n false) (sym tree)
     (Cuts-short contents old new (node ∷ []) (near ++ far) 64 c.args.n (omega arith) first)
 
 -- and its left part
@@ -73,9 +73,9 @@ returns-then-not-branch-2-clause-cuts g t c = λ sides.
     let new : List ℕ = c.append_subtree.new.into.items in
     let l : ℕ = left_len c.args.n in
     let parts : Parts c.args.n l = left_len-Parts c.args.n c.if-n-le-CHUNK_LEN.false in
-    let node : Node = parent_node c.args.number c.args.n sides at in
-    let near : List Node = subtree_nodes choice c.args.number l (sides ++ left ∷ []) (at + 64) in
-    let far : List Node = subtree_nodes choice (c.args.number + l / 1024) (c.args.n - l) (sides ++ right ∷ []) (at + 64 + subtree_size l) in
+    let node : TreeNode = parent_node c.args.number c.args.n sides at in
+    let near : List TreeNode = subtree_nodes choice c.args.number l (sides ++ left ∷ []) (at + 64) in
+    let far : List TreeNode = subtree_nodes choice (c.args.number + l / 1024) (c.args.n - l) (sides ++ right ∷ []) (at + 64 + subtree_size l) in
     let tree : subtree_nodes choice c.args.number c.args.n sides at ≡ node ∷ (near ++ far) =
     subtree_nodes-parent choice c.args.number c.args.n sides at (sym c.wants.ensures ∙ c.if-not-wants.false) c.if-n-le-CHUNK_LEN.false in
     let told : Cuts contents old mid (node ∷ []) 64 c.in_ok-append_part.field-0 =
@@ -88,7 +88,7 @@ returns-then-not-branch-2-clause-cuts g t c = λ sides.
     (c.in_ok-append_subtree.ensures.cuts (sides ++ left ∷ []))) in
     let both : Cuts contents old new (node ∷ near) c.args.n false =
     Cuts-then contents old mid new (node ∷ []) near 64 l c.args.n false (omega arith) (omega (arith, parts.some)) first second in
-    subst (λ (nodes : List Node). Cuts contents old new nodes c.args.n false) (sym tree)
+    subst (λ (nodes : List TreeNode). Cuts contents old new nodes c.args.n false) (sym tree)
     (Cuts-short contents old new (node ∷ near) far c.args.n c.args.n (omega arith) both)
 
 pub returns-clause-cuts : goal.returns-clause-cuts
@@ -104,9 +104,9 @@ returns-clause-cuts g t c = λ sides.
     let new : List ℕ = c.append_subtree-2.new.into.items in
     let l : ℕ = left_len n in
     let parts : Parts n l = left_len-Parts n c.if-n-le-CHUNK_LEN.false in
-    let node : Node = parent_node number n sides at in
-    let near : List Node = subtree_nodes choice number l (sides ++ left ∷ []) (at + 64) in
-    let far : List Node = subtree_nodes choice (number + l / 1024) (n - l) (sides ++ right ∷ []) (at + 64 + subtree_size l) in
+    let node : TreeNode = parent_node number n sides at in
+    let near : List TreeNode = subtree_nodes choice number l (sides ++ left ∷ []) (at + 64) in
+    let far : List TreeNode = subtree_nodes choice (number + l / 1024) (n - l) (sides ++ right ∷ []) (at + 64 + subtree_size l) in
     let tree : subtree_nodes choice number n sides at ≡ node ∷ (near ++ far) =
     subtree_nodes-parent choice number n sides at (sym c.wants.ensures ∙ c.if-not-wants.false) c.if-n-le-CHUNK_LEN.false in
     let told : Cuts contents old mid (node ∷ []) 64 c.in_ok-append_part.field-0 =
@@ -125,6 +125,6 @@ returns-clause-cuts g t c = λ sides.
     let last : Cuts contents more new far (n - l) whole =
     subst (λ (place : ℕ). Cuts contents more new (subtree_nodes choice (number + l / 1024) (n - l) (sides ++ right ∷ []) place) (n - l) whole) far_at
     (subst (λ (k : ℕ). Cuts contents more new (subtree_nodes choice (number + k / 1024) (n - k) (sides ++ right ∷ []) (at + 64 + c.subtree_len-2.result)) (n - k) whole) parted third) in
-    subst (λ (nodes : List Node). Cuts contents old new nodes n whole) (sym tree)
+    subst (λ (nodes : List TreeNode). Cuts contents old new nodes n whole) (sym tree)
     (Cuts-then contents old more new (node ∷ near) far n (n - l) n whole (omega arith) (omega (arith, parts.below)) both last))
     (c.append_subtree-2.ensures.cuts (sides ++ right ∷ []))

@@ -3,7 +3,7 @@ use Rattle.store_core.specs.declared.fixed.Fixed.{Fixed}
 use Rattle.store_calls.proofs.Holding.{size_fits, sized_below, words_more}
 use Rattle.store_steps.specs.Grips.{Gripped}
 use Rattle.store_steps.specs.Tells.{FindsWord}
-use Rattle.store_steps.specs.Words.{IsOf}
+use Rattle.store_steps.specs.Words.{IsGripOf}
 use Rattle.store_calls.proofs.chunks.copy_words.Goals as goal
 
 pub overflow_cast-first : goal.overflow_cast-first
@@ -24,7 +24,7 @@ pub words-preserved : goal.words-preserved
 words-preserved c =
     let grip = c.args.grip.now in (
       c.copy.ensures.same ∙ c.words.invariant.0,
-      subst (λ (g : Gripped). IsOf c.args.words.now g) (sym c.copy.ensures.same) c.words.invariant.1,
+      subst (λ (g : Gripped). IsGripOf c.args.words.now g) (sym c.copy.ensures.same) c.words.invariant.1,
       words_more grip.view.fixed grip.view.seen c.args.at c.args.from c.words.i c.args.count _ _ c.copy.result c.args.out.now c.words.out c.put.new.out c.to_le_bytes-bytes.result
           c.requires.of.knows.legal c.requires.held c.requires.word c.words-test.true refl refl
           (subst (λ (g : Gripped). FindsWord ((c.args.at + c.args.from) / 1024) ((c.args.at + c.args.from) % 1024 / 8 + 1 + c.words.i) c.copy.result g.view) c.words.invariant.0 c.copy.ensures.word)

@@ -1,10 +1,10 @@
 use Rattle.std.proofs.Common.{◌≡◌, ℕ, ◌+◌, ◌*◌, ◌++◌, length, take, drop, sym, subst, ◌∙◌, arith}
 use Rattle.store_core.specs.Histories.{state_after}
-use Rattle.store_calls.specs.Filled.{IsFilled}
+use Rattle.store_calls.specs.Filled.{IsBufferFilled}
 use Rattle.store_calls.proofs.CopiedParents.{beside, parent_more, parent_whole}
 use Rattle.store_steps.specs.Grips.{Gripped}
 use Rattle.store_steps.specs.Tells.{FindsParentWord}
-use Rattle.store_steps.specs.Words.{IsOf}
+use Rattle.store_steps.specs.Words.{IsGripOf}
 use Rattle.store_calls.proofs.nodes.copy_parent.Goals as goal
 
 pub words-preserved : goal.words-preserved
@@ -12,7 +12,7 @@ words-preserved c =
     let grip = c.args.grip.now in
     let part = c.to_le_bytes-bytes.result in (
       c.copy_parent.ensures.same ∙ c.words.invariant.0,
-      subst (λ (g : Gripped). IsOf c.args.words.now g) (sym c.copy_parent.ensures.same) c.words.invariant.1,
+      subst (λ (g : Gripped). IsGripOf c.args.words.now g) (sym c.copy_parent.ensures.same) c.words.invariant.1,
       parent_more grip.view.fixed grip.view.seen c.args.boundary c.words.word c.copy_parent.result c.args.out.now c.words.out c.put.new.out part
           c.requires.of.knows.legal c.requires.held c.words-test.true
           (subst (λ (g : Gripped). FindsParentWord c.args.boundary c.words.word c.copy_parent.result g.view) c.words.invariant.0 c.copy_parent.ensures.word)
@@ -25,4 +25,4 @@ returns-clause-copied c =
     let grip = c.args.grip.now in
     let all : 8 * c.words.word ≡ 64 = omega (arith, c.words-test.false, c.words.auto.word-end) in
     parent_whole grip.view.fixed grip.view.seen c.args.boundary c.args.out.now c.words.out c.requires.of.knows.legal c.requires.held c.requires.room
-    (subst (λ (n : ℕ). IsFilled (beside (state_after grip.view.seen) c.args.boundary) 0 0 n c.args.out.now c.words.out) all c.words.invariant.2)
+    (subst (λ (n : ℕ). IsBufferFilled (beside (state_after grip.view.seen) c.args.boundary) 0 0 n c.args.out.now c.words.out) all c.words.invariant.2)

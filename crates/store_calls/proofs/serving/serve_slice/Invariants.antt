@@ -1,10 +1,10 @@
 use Rattle.bao_text.specs.Rest.{rest_of}
 use Rattle.store_calls.proofs.Slices.{AreBelow, IsServing, left_count}
-use Rattle.store_steps.specs.Words.{IsOf}
+use Rattle.store_steps.specs.Words.{IsGripOf}
 use Rattle.store_calls.proofs.serving.serve_slice.Given as goal
 
 abbrev pub invariant-nodes : goal.invariant-nodes
-invariant-nodes l = IsOf l.words l.grip
+invariant-nodes l = IsGripOf l.words l.grip
     × IsServing l.fn.grip.view l.grip.view l.start l.len l.next (rest_of l.rest) l.out.items
     × AreBelow l.words.fixed.capacity l.next (rest_of l.rest)
 

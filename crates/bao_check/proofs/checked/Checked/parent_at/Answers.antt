@@ -1,5 +1,5 @@
 use Rattle.std.proofs.Common.{◌≡◌, ℕ, ◌≤◌, ◌+◌, List, [], length, Option, IfSome, sym, subst, ◌∙◌}
-use Rattle.bao_text.specs.Nodes.{Node, placed, subtree_nodes}
+use Rattle.bao_text.specs.Nodes.{TreeNode, placed, subtree_nodes}
 use Rattle.bao_check.specs.Accepted.{IsGood, end_of}
 use Rattle.bao_check.specs.Checked.{piece_mode, piece_places, piece_root, piece_text}
 use Rattle.bao_check.specs.Parents.{parent_place}
@@ -9,7 +9,7 @@ use Rattle.bao_check.proofs.checked.Checked.parent_at.Goals as goal
 
 pub returns-clause-within : goal.returns-clause-within
 returns-clause-within c =
-    let places : List (ℕ × Node) = piece_places c.args.self.now in
+    let places : List (ℕ × TreeNode) = piece_places c.args.self.now in
     let text : List ℕ = piece_text c.args.self.now in
     let good = IsGood (piece_mode c.args.self.now) (piece_root c.args.self.now) text places in
     let value : c.find_parent.result ≡ parent_place places c.args.m =

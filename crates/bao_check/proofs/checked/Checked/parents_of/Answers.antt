@@ -1,5 +1,5 @@
 use Rattle.std.proofs.Common.{◌≡◌, ℕ, List, subst}
-use Rattle.bao_text.specs.Nodes.{Node, chosen_nodes}
+use Rattle.bao_text.specs.Nodes.{TreeNode, chosen_nodes}
 use Rattle.bao_check.specs.Accepted.{places_of}
 use Rattle.bao_check.specs.Checked.{piece_places, piece_text}
 use Rattle.bao_check.specs.Parents.{IsParentMask}
@@ -10,4 +10,4 @@ returns c =
     let text : List ℕ = piece_text c.args.self.now in
     let places : places_of (chosen_nodes c.choice.result c.claimed.result) ≡ piece_places c.args.self.now =
     λ i. places_of (chosen_nodes (c.choice.ensures i) (c.claimed.ensures i)) in
-    subst (λ (all : List (ℕ × Node)). IsParentMask text all c.args.group c.parents_in.result) places (c.parents_in.ensures text)
+    subst (λ (all : List (ℕ × TreeNode)). IsParentMask text all c.args.group c.parents_in.result) places (c.parents_in.ensures text)

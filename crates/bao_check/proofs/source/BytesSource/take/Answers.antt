@@ -4,7 +4,7 @@ use Rattle.std.proofs.Math.Seq.{take-add}
 use Rattle.bao_check.specs.Walk.{Takes}
 use Rattle.bao_check.proofs.source.BytesSource.take.Goals as goal
 
--- the next n bytes of a text
+-- the next n bytes of an encoding
 takes_next : (size at n : ℕ) (text : List ℕ) → n ≤ size → at + n ≤ length text → Takes size (take at text) (take (at + n) text) (Some (drop at text)) (Some (drop (at + n) text))
 takes_next size at n text le fits = record {
   bytes = take n (drop at text);

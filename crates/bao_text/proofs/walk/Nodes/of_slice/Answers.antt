@@ -1,7 +1,7 @@
-use Rattle.std.proofs.Common.{◌≡◌, [], ◌++◌, List, sym, ap, ◌∙◌}
+use Rattle.std.proofs.Common.{[], ◌++◌, List, sym, ap, ◌∙◌}
 use Rattle.std.proofs.lemmas.List.{append-nil}
 use Rattle.bao_text.specs.declared.choice.Choice.{Choice}
-use Rattle.bao_text.specs.declared.walk.Node.{Node as Named}
+use Rattle.bao_text.specs.declared.walk.Node.{Node}
 use Rattle.bao_text.specs.declared.walk.Subtree.{Subtree}
 use Rattle.bao_text.specs.Choice.{of_slice}
 use Rattle.bao_text.specs.NodeNames.{names_of, waiting_names}
@@ -11,7 +11,7 @@ use Rattle.bao_text.proofs.walk.Nodes.of_slice.Goals as goal
 pub returns : goal.returns
 returns c =
     let choice : Choice = c.of_slice-choice.result in
-    let names : List Named = names_of choice 0 c.args.length in
+    let names : List Node = names_of choice 0 c.args.length in
     c.push_wanted.ensures.names
     ∙ ap (λ (waiting : List Subtree). names ++ waiting_names choice waiting) c.new-waiting.ensures
     ∙ append-nil names

@@ -2,14 +2,14 @@ use Rattle.std.proofs.Common.{ℕ, List, [], ◌++◌, ◌∙◌, ap, append-nil
 use Rattle.store_core.specs.declared.fault.ServeFault.{ServeFault}
 use Rattle.store_core.specs.declared.history.Call.TheVariants.{Serve}
 use Rattle.store_core.specs.declared.history.Serving.TheVariants.{Lacking, NoLength, Text}
-use Rattle.store_calls.specs.Serving.{IsRefused}
+use Rattle.store_calls.specs.Serving.{SeatIsRefused}
 use Rattle.store_core.specs.Knowledge.{Called}
 use Rattle.crews.specs.Peers.{Peered}
 use Rattle.crews.proofs.peer.PeerHolder.fetch.Goals as goal
 
 pub returns-in-Err-NoLength-clause-fetches : goal.returns-in-Err-NoLength-clause-fetches
 returns-in-Err-NoLength-clause-fetches c =
-    let refused = subst (λ (f : ServeFault). IsRefused c.args.start c.args.len f c.self.inside.seat.view c.serve_slice.new.seat.view) c.in-Err-NoLength.field-0-is
+    let refused = subst (λ (f : ServeFault). SeatIsRefused c.args.start c.args.len f c.self.inside.seat.view c.serve_slice.new.seat.view) c.in-Err-NoLength.field-0-is
     c.in-Err-NoLength.ensures.refused in
     let called : Called (Serve c.args.start c.args.len NoLength) c.args.self.now.seat.view c.serve_slice.new.seat.view =
     subst (λ (p : Peered). Called (Serve c.args.start c.args.len NoLength) p.seat.view c.serve_slice.new.seat.view) c.self.view_is refused in
@@ -18,7 +18,7 @@ returns-in-Err-NoLength-clause-fetches c =
 pub returns-in-Err-Lacking-clause-fetches : goal.returns-in-Err-Lacking-clause-fetches
 returns-in-Err-Lacking-clause-fetches c =
     let node = c.in-Err-Lacking.field-0-0 in
-    let refused = subst (λ (f : ServeFault). IsRefused c.args.start c.args.len f c.self.inside.seat.view c.serve_slice.new.seat.view) c.in-Err-Lacking.field-0-is
+    let refused = subst (λ (f : ServeFault). SeatIsRefused c.args.start c.args.len f c.self.inside.seat.view c.serve_slice.new.seat.view) c.in-Err-Lacking.field-0-is
     c.in-Err-Lacking.ensures.refused in
     let called : Called (Serve c.args.start c.args.len (Lacking node)) c.args.self.now.seat.view c.serve_slice.new.seat.view =
     subst (λ (p : Peered). Called (Serve c.args.start c.args.len (Lacking node)) p.seat.view c.serve_slice.new.seat.view) c.self.view_is refused in

@@ -4,7 +4,7 @@ use Rattle.bao_check.specs.Tail.{tail_piece}
 use Rattle.store_core.specs.declared.fixed.Fixed.{Fixed}
 use Rattle.store_core.proofs.Stored.{is_of_piece}
 use Rattle.store_shared.specs.Seats.{Gripped}
-use Rattle.store_shared.specs.Calls.{MaySettle, Settles}
+use Rattle.store_shared.specs.Calls.{MaySettle, SeatSettles}
 use Rattle.store_shared.proofs.Asking.{called, settled}
 use Rattle.store_shared.proofs.assembly.Assembly.settle.Goals as goal
 
@@ -17,7 +17,7 @@ returns-clause-settles c =
       of = is_of_piece fixed piece c.root.result c.mode.result c.root.ensures c.mode.ensures is.0 is.1;
       fits = subst (λ (n : ℕ). n ≤ 1024 * fixed.capacity) c.length.ensures.value (omega (arith, c.if-length-from.false, c.from.ensures));
     } in
-    subst (λ (old : Gripped). Settles c.args.self.now.words.fixed old c.settle.new.grip piece c.settle.result) c.seat.view_is
+    subst (λ (old : Gripped). SeatSettles c.args.self.now.words.fixed old c.settle.new.grip piece c.settle.result) c.seat.view_is
     (settled c.args.self.now.words.fixed c.seat.inside.grip c.settle.new.grip piece c.settle.result
     (subst (λ (f : Fixed). MaySettle f piece) c.fixed-fixed.ensures may)
     (called _ c.seat.inside.grip.view c.settle.new.grip.view c.settle.ensures.did))

@@ -10,7 +10,7 @@ use Rattle.store_steps.specs.Layout.{parent_claim_place}
 use Rattle.store_steps.specs.Plays.{ClaimsParents}
 use Rattle.store_core.proofs.Bits.{has_bit-and}
 use Rattle.store_steps.proofs.ParentClaims.{claim_parents_steps}
-use Rattle.store_steps.proofs.Stepping.{at_code}
+use Rattle.store_steps.proofs.StepViews.{at_code}
 use Rattle.store_steps.proofs.words.Words.claim_parents_asked.Goals as goal
 
 pub fetch_or-before-requires : goal.fetch_or-before-requires

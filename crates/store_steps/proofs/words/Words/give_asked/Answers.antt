@@ -10,7 +10,7 @@ use Rattle.store_steps.specs.Grips.{Gripped, first_of}
 use Rattle.store_steps.specs.Layout.{claim_place}
 use Rattle.store_steps.specs.Plays.{Gives}
 use Rattle.store_core.specs.Knowledge.{Did}
-use Rattle.store_steps.proofs.Stepping.{at_code, told_by}
+use Rattle.store_steps.proofs.StepViews.{at_code, told_by}
 use Rattle.store_steps.proofs.Giving.{give_steps}
 use Rattle.store_steps.proofs.words.Words.give_asked.Goals as goal
 

@@ -6,7 +6,7 @@ use Rattle.store_core.specs.declared.view.SeatView.{SeatView}
 use Rattle.store_steps.specs.Grips.{Gripped, first_of}
 use Rattle.store_steps.specs.Plays.{Gives}
 use Rattle.store_core.specs.Knowledge.{Did}
-use Rattle.store_steps.proofs.Stepping.{at_code, told_by}
+use Rattle.store_steps.proofs.StepViews.{at_code, told_by}
 use Rattle.store_steps.proofs.Absent.{give_none_steps}
 use Rattle.store_steps.proofs.words.Words.give_none_asked.Goals as goal
 

@@ -3,8 +3,8 @@ use Rattle.store_core.specs.declared.fixed.Fixed.{Fixed}
 use Rattle.store_core.specs.declared.view.SeatView.{SeatView}
 use Rattle.store_steps.specs.Grips.{Gripped, first_of}
 use Rattle.store_steps.specs.Layout.{length_place}
-use Rattle.store_steps.specs.Plays.{Answers}
-use Rattle.store_steps.proofs.Stepping.{at_code}
+use Rattle.store_steps.specs.Plays.{LoadsLength}
+use Rattle.store_steps.proofs.StepViews.{at_code}
 use Rattle.store_steps.proofs.Looking.{length_steps}
 use Rattle.store_steps.proofs.words.Words.length.Goals as goal
 
@@ -19,5 +19,5 @@ load-found-requires c =
       omega (arith, c.length_place-place.ensures.within, words.count),
       at_code fixed words.table.shared.key words.key_is words.table.shared.table_id.slots seat.id seat.me c.grip.invariant.0
           (length_place fixed) c.length_place-place.result c.length_place-place.ensures.place
-          (λ n. n) (λ n. Answers n) (λ s kept at small. length_steps fixed s kept seat.id view at),
+          (λ n. n) (λ n. LoadsLength n) (λ s kept at small. length_steps fixed s kept seat.id view at),
     )

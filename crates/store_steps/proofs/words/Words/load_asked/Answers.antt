@@ -3,7 +3,7 @@ use Rattle.store_core.specs.declared.fixed.Fixed.{Fixed}
 use Rattle.store_core.specs.declared.view.SeatView.{SeatView}
 use Rattle.store_steps.specs.Grips.{Gripped, first_of}
 use Rattle.store_steps.specs.Plays.{Loads}
-use Rattle.store_steps.proofs.Stepping.{at_code, told_by}
+use Rattle.store_steps.proofs.StepViews.{at_code, told_by}
 use Rattle.store_steps.proofs.Looking.{load_steps}
 use Rattle.store_steps.proofs.words.Words.load_asked.Goals as goal
 

@@ -1,7 +1,7 @@
 use Rattle.std.proofs.Common.{ap, refl, ◌∙◌, arith}
 use Rattle.store_steps.specs.Grips.{Gripped, first_of}
 use Rattle.store_core.specs.Knowledge.{LooksRound}
-use Rattle.store_steps.proofs.Stepping.{at_code}
+use Rattle.store_steps.proofs.StepViews.{at_code}
 use Rattle.store_steps.proofs.Wholes.{round_steps}
 use Rattle.store_steps.proofs.words.Words.look_round.Goals as goal
 

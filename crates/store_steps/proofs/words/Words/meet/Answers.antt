@@ -7,7 +7,7 @@ use Rattle.store_core.specs.Orders.{AreInOrder}
 use Rattle.store_core.specs.Views.{names_of}
 use Rattle.store_steps.specs.Grips.{Gripped, first_of}
 use Rattle.store_core.specs.Knowledge.{AreMet}
-use Rattle.store_steps.specs.Plays.{Meets, rest_of}
+use Rattle.store_steps.specs.Plays.{MeetsSeat, rest_of}
 use Rattle.store_steps.proofs.Lists.{only, two_of}
 use Rattle.store_steps.proofs.Meeting.{at_two, meet_turns}
 use Rattle.store_steps.proofs.Regrouping.{enter_asks, join_asks, leave_asks}
@@ -48,7 +48,7 @@ load-requires c =
     ∙ two_of c.first.inside.seat.me.0 c.second.inside.seat.me.0 c.first.invariant.0 c.second.invariant.0 in (
       c.join_seat.ensures.0 ∙ ap (λ (x : Gripped). x.table_id) c.first.view_is ∙ c.requires.first.table_is,
       omega (arith, words.count),
-      at_two words.fixed words.table.shared.key words.key_is words.table.shared.table_id.slots both.id both.me one two is Meets
+      at_two words.fixed words.table.shared.key words.key_is words.table.shared.table_id.slots both.id both.me one two is MeetsSeat
           (λ s kept at. meet_turns words.fixed s kept both.id one two at),
     )
 

@@ -3,7 +3,7 @@ use Rattle.atomic_table.specs.Table.{opening}
 use Rattle.store_core.specs.declared.fixed.Fixed.{Fixed}
 use Rattle.store_core.specs.Knowledge.{opening_view}
 use Rattle.store_steps.specs.Layout.{word_count}
-use Rattle.store_steps.specs.Rule.{IsKept}
+use Rattle.store_steps.specs.Rule.{RuleHolds}
 use Rattle.store_steps.proofs.Opening.{opens}
 use Rattle.store_steps.proofs.words.Words.new.Goals as goal
 
@@ -12,4 +12,4 @@ of_words-requires c =
     let fixed : Fixed = record { root = c.args.root; mode = c.args.mode; capacity = c.args.capacity } in
     let zeros : c.as_slice.result.now ≡ replicate (word_count fixed) 0 =
     c.as_slice.ensures.value ∙ c.in_ok-zeros.ensures.items_if_clones_equal (λ y h. h) ∙ ap (λ (n : ℕ). replicate n 0) c.word_count.ensures in
-    subst (λ (words : List ℕ). IsKept fixed (opening words [] (opening_view fixed ∷ []))) (sym zeros) (opens fixed)
+    subst (λ (words : List ℕ). RuleHolds fixed (opening words [] (opening_view fixed ∷ []))) (sym zeros) (opens fixed)

@@ -3,7 +3,7 @@ use Rattle.store_steps.specs.Grips.{Gripped, first_of}
 use Rattle.store_steps.specs.Plays.{Parts}
 use Rattle.store_steps.proofs.Lists.{only}
 use Rattle.store_steps.proofs.Parting.{part_asks, part_steps}
-use Rattle.store_steps.proofs.Stepping.{at_code}
+use Rattle.store_steps.proofs.StepViews.{at_code}
 use Rattle.store_steps.proofs.words.Words.part.Goals as goal
 
 pub load-requires : goal.load-requires

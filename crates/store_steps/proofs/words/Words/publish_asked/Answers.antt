@@ -7,11 +7,11 @@ use Rattle.store_core.specs.declared.history.Piece.{Piece}
 use Rattle.store_core.specs.declared.view.SeatView.{SeatView}
 use Rattle.store_core.specs.Pieces.{IsAcceptedPiece, piece_of}
 use Rattle.store_core.proofs.Stored.{accepted_piece}
-use Rattle.store_steps.specs.Asks.{AreHeldClaims, AreWritten}
+use Rattle.store_steps.specs.Asks.{AreHeldClaims, AreWordsStored}
 use Rattle.store_steps.specs.Grips.{Gripped, first_of}
 use Rattle.store_steps.specs.Plays.{Publishes}
 use Rattle.store_core.specs.Knowledge.{Did}
-use Rattle.store_steps.proofs.Stepping.{at_code, told_by}
+use Rattle.store_steps.proofs.StepViews.{at_code, told_by}
 use Rattle.store_steps.proofs.Publishing.{publish_steps}
 use Rattle.store_steps.proofs.words.Words.publish_asked.Goals as goal
 
@@ -26,7 +26,7 @@ fetch_or-requires g c =
     let piece : Piece = piece_of c.args.piece.now in
     let accepted : IsAcceptedPiece fixed piece = accepted_piece fixed c.args.piece.now c.is_accepted.ensures.bytes c.is_accepted.ensures.accepted c.requires.piece in
     let ours : AreHeldClaims view group piece c.args.mask = subst (λ (v : SeatView). AreHeldClaims v group piece c.args.mask) (sym its) c.requires.mask in
-    let written : AreWritten view.written group c.args.mask piece = subst (λ (v : SeatView). AreWritten v.written group c.args.mask piece) (sym its) c.requires.written in
+    let written : AreWordsStored view.written group c.args.mask piece = subst (λ (v : SeatView). AreWordsStored v.written group c.args.mask piece) (sym its) c.requires.written in
     let call : Call = Commit g.A.Asked.group g.A.Asked.piece c.args.mask in
     let same : Commit group piece c.args.mask ≡ call = cc in (
       ap (λ (x : Gripped). x.table_id) c.grip.view_is ∙ c.requires.of.table_is,

@@ -9,7 +9,7 @@ use Rattle.store_core.proofs.Stored.{accepted_piece}
 use Rattle.store_steps.specs.Grips.{Gripped, first_of}
 use Rattle.store_steps.specs.Plays.{Publishes}
 use Rattle.store_core.specs.Knowledge.{Did}
-use Rattle.store_steps.proofs.Stepping.{at_code, told_by}
+use Rattle.store_steps.proofs.StepViews.{at_code, told_by}
 use Rattle.store_steps.proofs.Absent.{publish_none_steps}
 use Rattle.store_steps.proofs.words.Words.publish_none_asked.Goals as goal
 

@@ -12,9 +12,9 @@ use Rattle.store_core.specs.Pieces.{IsAcceptedPiece, length_of, piece_of}
 use Rattle.store_core.proofs.Stored.{accepted_piece}
 use Rattle.store_steps.specs.Grips.{Gripped, first_of}
 use Rattle.store_steps.specs.Layout.{length_place}
-use Rattle.store_steps.specs.Plays.{Settles, length_in}
+use Rattle.store_steps.specs.Plays.{SettlesLength, length_in}
 use Rattle.store_core.specs.Knowledge.{Did}
-use Rattle.store_steps.proofs.Stepping.{Steps, at_code, told_by}
+use Rattle.store_steps.proofs.StepViews.{Steps, at_code, told_by}
 use Rattle.store_steps.proofs.Settling.{settle_steps}
 use Rattle.store_steps.proofs.words.Words.settle_asked.Goals as goal
 
@@ -31,12 +31,12 @@ compare_exchange-found-requires g c =
       omega (arith, c.length_place-place.ensures.within, words.count),
       at_code fixed words.table.shared.key words.key_is words.table.shared.table_id.slots seat.id seat.me c.grip.invariant.0
           (length_place fixed) c.length_place-place.result c.length_place-place.ensures.place
-          (λ n. either (n == 0) (c.length-length.result + 1) n) (λ n. Settles g.A.Asked.piece n) (λ s kept at small.
+          (λ n. either (n == 0) (c.length-length.result + 1) n) (λ n. SettlesLength g.A.Asked.piece n) (λ s kept at small.
           let found : ℕ = slice_index s.words (length_place fixed) in
           let t = settle_steps fixed s kept seat.id view at piece accepted c.is_last.ensures.last c.requires.fits in
-          told_by fixed s seat.id (length_place fixed) _ (λ new. Settles piece found view new) (λ new. Settles g.A.Asked.piece found view new)
-          (λ new t. subst (λ (p : Piece). Settles p found view new) (sym c.requires.asked) t)
-          (subst (λ (l : ℕ). Steps fixed s seat.id (length_place fixed) (either (found == 0) (l + 1) found) (λ new. Settles piece found view new)) (sym c.length-length.ensures.value) t)),
+          told_by fixed s seat.id (length_place fixed) _ (λ new. SettlesLength piece found view new) (λ new. SettlesLength g.A.Asked.piece found view new)
+          (λ new t. subst (λ (p : Piece). SettlesLength p found view new) (sym c.requires.asked) t)
+          (subst (λ (l : ℕ). Steps fixed s seat.id (length_place fixed) (either (found == 0) (l + 1) found) (λ new. SettlesLength piece found view new)) (sym c.length-length.ensures.value) t)),
     )
 
 pub returns-clause-did : goal.returns-clause-did

@@ -5,7 +5,7 @@ use Rattle.store_core.specs.Views.{seat_claims}
 use Rattle.store_steps.specs.Tells.{Stores}
 use Rattle.store_steps.specs.Grips.{Gripped, first_of}
 use Rattle.store_steps.specs.Layout.{cell_place}
-use Rattle.store_steps.proofs.Stepping.{at_code, claimed_low}
+use Rattle.store_steps.proofs.StepViews.{at_code, claimed_low}
 use Rattle.store_steps.proofs.Storing.{store_steps}
 use Rattle.store_steps.proofs.words.Words.store_asked.Goals as goal
 

@@ -6,7 +6,7 @@ use Rattle.store_steps.specs.Grips.{Gripped, first_of}
 use Rattle.store_steps.specs.Layout.{parent_place}
 use Rattle.store_steps.specs.Plays.{StoresParent}
 use Rattle.store_steps.proofs.ParentStoring.{store_parent_steps}
-use Rattle.store_steps.proofs.Stepping.{at_code}
+use Rattle.store_steps.proofs.StepViews.{at_code}
 use Rattle.store_steps.proofs.words.Words.store_parent_asked.Goals as goal
 
 pub store-requires : goal.store-requires

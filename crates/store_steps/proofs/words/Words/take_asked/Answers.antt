@@ -5,9 +5,9 @@ use Rattle.store_core.specs.Machine.{groups}
 use Rattle.store_core.specs.Masks.{has_bit}
 use Rattle.store_steps.specs.Grips.{Gripped, first_of}
 use Rattle.store_steps.specs.Layout.{claim_place}
-use Rattle.store_steps.specs.Plays.{Takes}
+use Rattle.store_steps.specs.Plays.{TakesChunks}
 use Rattle.store_core.proofs.Bits.{and_small, has_bit-and}
-use Rattle.store_steps.proofs.Stepping.{at_code}
+use Rattle.store_steps.proofs.StepViews.{at_code}
 use Rattle.store_steps.proofs.Taking.{take_steps}
 use Rattle.store_steps.proofs.words.Words.take_asked.Goals as goal
 
@@ -30,6 +30,6 @@ fetch_or-found-requires g c =
       omega (arith, c.claim_place-place.ensures.within, words.count),
       at_code fixed words.table.shared.key words.key_is words.table.shared.table_id.slots seat.id seat.me c.grip.invariant.0
           (claim_place fixed group) c.claim_place-place.result (c.claim_place-place.ensures.place ∙ ap (λ (k : ℕ). claim_place fixed k) (sym same))
-          (λ n. bit_or n mask) (λ n. Takes group want mask n) (λ s kept at small.
+          (λ n. bit_or n mask) (λ n. TakesChunks group want mask n) (λ s kept at small.
           take_steps fixed s kept seat.id (first_of seat.me.0) at group want mask there (and_small c.args.want c.mask_below.result c.ranges.want.fits) asks small),
     )

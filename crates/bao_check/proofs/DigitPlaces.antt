@@ -1,4 +1,4 @@
--- Where chunks and parents stand in the text of a subtree, by the digits of their numbers.
+-- Where chunks and parents stand in the encoding of a subtree, by the digits of their numbers.
 use Rattle.std.proofs.Common.{◌≡◌, ℕ, zero, suc, ◌+◌, ◌-◌, ◌*◌, ◌/◌, ◌%◌, ◌^◌, ◌<◌, ◌≤◌, max, min, List, [], ◌∷◌, ◌++◌, true, false, None, Some, refl, sym, ap, subst, ◌∙◌, arith, inl, inr, pow_pos, bit_xor}
 use Rattle.std.specs.Int.Count.{ones}
 use Rattle.std.proofs.lemmas.Bool.{cases_Bool, cases_lt}
@@ -6,7 +6,7 @@ use Rattle.std.proofs.lemmas.Nat.{leading_length, ones_le_self, xor_lt}
 use Rattle.b3tree.specs.Tree.{left_len}
 use Rattle.bao_text.specs.declared.choice.Choice.{Choice}
 use Rattle.bao_text.specs.Choice.{chunk_count, wants}
-use Rattle.bao_text.specs.Nodes.{Node, Side, left, placed, right, subtree_nodes, subtree_size}
+use Rattle.bao_text.specs.Nodes.{TreeNode, Side, left, placed, right, subtree_nodes, subtree_size}
 use Rattle.bao_text.proofs.Everything.{chunk_part}
 use Rattle.bao_text.proofs.SubtreeNodes.{subtree_nodes-leaf, subtree_nodes-parent, subtree_nodes-unwanted}
 use Rattle.bao_check.specs.Parents.{parent_place}
@@ -37,7 +37,7 @@ past choice number n some within skipped = elim (cases_lt choice.start (1024 * n
   | inr after ↦ after
 ]
 
--- The text of a subtree of h chunks, none of which is after the wanted positions, and of which chunk d is the first wanted: where none
+-- The encoding of a subtree of h chunks, none of which is after the wanted positions, and of which chunk d is the first wanted: where none
 -- is, d is their number.
 abbrev Sized : Choice → ℕ → ℕ → List Side → ℕ → ℕ → ℕ → Type 0
 Sized choice number n sides source h d =
@@ -114,8 +114,8 @@ size_from (suc levels) choice number n sides source size end = elim (cases_Bool 
       let m : left_len n / 1024 ≡ h = omega arith in
       let more : 1024 < n = omega arith in
       let a : ℕ = first_of choice number in
-      let near : List Node = subtree_nodes choice number (left_len n) (sides ++ left ∷ []) (source + 64) in
-      let far : List Node = subtree_nodes choice (number + left_len n / 1024) (n - left_len n) (sides ++ right ∷ []) (source + 64 + subtree_size (left_len n)) in
+      let near : List TreeNode = subtree_nodes choice number (left_len n) (sides ++ left ∷ []) (source + 64) in
+      let far : List TreeNode = subtree_nodes choice (number + left_len n / 1024) (n - left_len n) (sides ++ right ∷ []) (source + 64 + subtree_size (left_len n)) in
       let in_near = size_from levels choice number (left_len n) (sides ++ left ∷ []) (source + 64) l (omega arith) in
       let in_far = size_from levels choice (number + left_len n / 1024) (n - left_len n) (sides ++ right ∷ []) (source + 64 + subtree_size (left_len n)) (omega (arith, l, twice)) (omega (arith, l, m)) in
       let shifted : first_of choice (number + left_len n / 1024) ≡ a - h = omega (arith, m) in
@@ -131,7 +131,7 @@ size_from (suc levels) choice number n sides source size end = elim (cases_Bool 
       (ap (λ (k : ℕ). k + 64 + 64 * a) all ∙ sum)
 ]
 
--- what stands before chunk k in the text of a subtree of n bytes: so many parents, and fewer than it has chunks
+-- what stands before chunk k in the encoding of a subtree of n bytes: so many parents, and fewer than it has chunks
 abbrev pub Few : ℕ → ℕ → ℕ → ℕ → ℕ → Type 0
 Few n k t d p = Counts k t d p × (p < chunk_count n)
 
@@ -244,7 +244,7 @@ chunk_alone choice number n sides source at k t one there below meets digits =
           ∙ (λ i. Some (record { at = place i; len = len i })),
     )
 
--- where a text with chunks has a chunk of a subtree
+-- where an encoding with chunks has a chunk of a subtree
 pub chunk_stands : (levels : ℕ) (choice : Choice) (number n : ℕ) (sides : List Side) (source at k t : ℕ) → n ≤ 1024 * levels + 1024 → choice.chunks ≡ true
     → k < chunk_count n → Meets choice (1024 * (number + k)) (min 1024 (n - 1024 * k)) → HasDigits (bit_xor (chunk_count n - 1) k) t
     → ChunkStands choice number n sides source at t k
@@ -331,7 +331,7 @@ parent_own choice number n sides source at j s t more wanted own none digits =
       parent_place-here choice number n sides source at (number + (s + 2 ^ j)) wanted more (omega (arith, hs.middle, power, none)) ∙ (λ i. Some (place i)),
     )
 
--- where a text has a parent of a subtree
+-- where an encoding has a parent of a subtree
 pub parent_stands : (levels : ℕ) (choice : Choice) (number n : ℕ) (sides : List Side) (source at j q t : ℕ) → n ≤ 1024 * levels + 1024
     → 2 ^ suc j * q + 2 ^ j < chunk_count n → Meets choice (1024 * (number + 2 ^ suc j * q)) (parent_len n j (2 ^ suc j * q))
     → HasDigits (bit_xor (chunk_count n - 1) (2 ^ suc j * q)) t → ParentStands choice number n sides source at t j (2 ^ suc j * q)
@@ -394,7 +394,7 @@ parent_stands (suc levels) choice number n sides source at j q t bound below mee
       ]
 ]
 
--- a text lacks a parent whose subtree it doesn't want
+-- an encoding lacks a parent whose subtree it doesn't want
 pub parent_lacks : (levels : ℕ) (choice : Choice) (number n : ℕ) (sides : List Side) (source at j q : ℕ) → n ≤ 1024 * levels + 1024
     → 2 ^ suc j * q + 2 ^ j < chunk_count n → wants choice (1024 * (number + 2 ^ suc j * q)) (parent_len n j (2 ^ suc j * q)) ≡ false
     → parent_place (placed at (subtree_nodes choice number n sides source)) (number + (2 ^ suc j * q + 2 ^ j)) ≡ None

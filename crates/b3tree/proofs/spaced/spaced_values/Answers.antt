@@ -2,7 +2,7 @@ use Rattle.std.proofs.Common.{◌≡◌, ℕ, ◌+◌, ◌*◌, List, [], ◌∷
 use Rattle.b3word.proofs.EightLanes.{below_eight}
 use Rattle.b3tree.specs.Bytes.{words_of}
 use Rattle.b3tree.specs.Pieces.{lane_place, piece}
-use Rattle.b3tree.proofs.spaced.spaced_half_blocks.Goals as goal
+use Rattle.b3tree.proofs.spaced.spaced_values.Goals as goal
 
 pub returns : goal.returns
 returns c =

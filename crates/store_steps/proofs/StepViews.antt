@@ -20,7 +20,7 @@ use Rattle.store_core.proofs.Lasting.{legal_is_sound, legal-join, run-append}
 use Rattle.store_steps.specs.Grips.{first_of}
 use Rattle.store_steps.specs.Layout.{cell_at, parents_place}
 use Rattle.store_steps.specs.Plays.{OfOne}
-use Rattle.store_steps.specs.Rule.{Fits, IsKept, StandFor}
+use Rattle.store_steps.specs.Rule.{ViewFits, RuleHolds, StandFor}
 use Rattle.store_core.specs.Knowledge.{Did, GoesOn, Looked, event_of}
 use Rattle.store_steps.proofs.Calls.{claims_after-same, claims_then, least_among, own_all, shares_itself}
 use Rattle.store_steps.proofs.Keeping.{its, kept_step, parents_kept}
@@ -29,18 +29,18 @@ use Rattle.store_steps.proofs.Lists.{AreBy}
 
 pub record Steps (fixed : Fixed) (s : Table Unit (List SeatView)) (id i n : ℕ) (Told : SeatView → Type 0) : Type 0 where
   pub new : SeatView
-  pub kept : IsKept fixed (stepped s i n id [] (new ∷ []) keeps)
+  pub kept : RuleHolds fixed (stepped s i n id [] (new ∷ []) keeps)
   pub told : Told new
 
 -- that is what the table asks of a step, at the code's place, view and key
 pub at_code : (fixed key : Fixed) → key ≡ fixed → (slots id : ℕ) (me : Me Unit (List SeatView)) → me.0 ≡ first_of me.0 ∷ [] → (place i : ℕ) → i ≡ place
     → (f : ℕ → ℕ) (Told : ℕ → SeatView → SeatView → Type 0)
-    → ((s : Table Unit (List SeatView)) → IsKept fixed s → get_elem? s.views id ≡ some (first_of me.0 ∷ []) → slice_index s.words place < 2 ^ 64
+    → ((s : Table Unit (List SeatView)) → RuleHolds fixed s → get_elem? s.views id ≡ some (first_of me.0 ∷ []) → slice_index s.words place < 2 ^ 64
     → Steps fixed s id place (f (slice_index s.words place)) (λ new. Told (slice_index s.words place) (first_of me.0) new))
-    → Allows (IsKept key) slots id me i f (λ n later. OfOne (Told n) me later)
+    → Allows (RuleHolds key) slots id me i f (λ n later. OfOne (Told n) me later)
 at_code fixed key key_is slots id me one place i place_is f Told steps =
-    subst (λ (k : Fixed). Allows (IsKept k) slots id me i f (λ n later. OfOne (Told n) me later)) (sym key_is)
-    (subst (λ (p : ℕ). Allows (IsKept fixed) slots id me p f (λ n later. OfOne (Told n) me later)) (sym place_is) (λ s kept homes seat small.
+    subst (λ (k : Fixed). Allows (RuleHolds k) slots id me i f (λ n later. OfOne (Told n) me later)) (sym key_is)
+    (subst (λ (p : ℕ). Allows (RuleHolds fixed) slots id me p f (λ n later. OfOne (Told n) me later)) (sym place_is) (λ s kept homes seat small.
     let t = steps s kept (seat ∙ ap (λ (vs : List SeatView). some vs) one) small in (
       t.new ∷ [],
       keeps,
@@ -50,12 +50,12 @@ at_code fixed key key_is slots id me one place i place_is f Told steps =
           (t.new, refl, refl, subst (λ (v : SeatView). Told (slice_index s.words place) v t.new) (ap (λ (vs : List SeatView). first_of vs) e) t.told),
     )))
 
-module _ (fixed : Fixed) (s : Table Unit (List SeatView)) (k : IsKept fixed s) (id : ℕ) (view : SeatView) (seat : get_elem? s.views id ≡ some (view ∷ [])) where
+module _ (fixed : Fixed) (s : Table Unit (List SeatView)) (k : RuleHolds fixed s) (id : ℕ) (view : SeatView) (seat : get_elem? s.views id ≡ some (view ∷ [])) where
   -- the state after the history, and how the view fits it
   abbrev pub now : State
   now = state_after k.history
 
-  pub fitting : Fits fixed k.history s.words view
+  pub fitting : ViewFits fixed k.history s.words view
   fitting = k.views id 0 view (its fixed s k id view view seat refl)
 
   -- what the seat has seen and what others called since
@@ -129,12 +129,12 @@ module _ (fixed : Fixed) (s : Table Unit (List SeatView)) (k : IsKept fixed s) (
       → ((number value : ℕ) → stored written number ≡ Some value → (claims (names_of view) now (number / 129) ≡ true) × (cell_at fixed (set s.words i n) number ≡ value))
       → ((number : ℕ) → is_claimed now (number / 129) ≡ true → claims (names_of view) now (number / 129) ≡ false
       → cell_at fixed (set s.words i n) number ≡ cell_at fixed s.words number)
-      → IsKept fixed (stepped s i n id [] (record view { written = written } ∷ []) keeps)
+      → RuleHolds fixed (stepped s i n id [] (record view { written = written } ∷ []) keeps)
   silent_step written i n leaves words stand cells =
       let whole : k.history ++ [] ≡ k.history = append-nil k.history in
       kept_step fixed s k id view (record view { written = written }) seat refl [] i n tt (subst (λ (h : List Event). IsLegal fixed h) (sym whole) k.legal)
       (subst (λ (h : List Event). StandFor fixed (set s.words i n) (state_after h)) (sym whole) words)
-      (subst (λ (h : List Event). Fits fixed h (set s.words i n) (record view { written = written })) (sym whole) (record {
+      (subst (λ (h : List Event). ViewFits fixed h (set s.words i n) (record view { written = written })) (sym whole) (record {
         fixed_is = fitting.fixed_is;
         continues = record { between = fitting.continues.between; is = fitting.continues.is; others = fitting.continues.others };
         written = stand;
@@ -144,7 +144,7 @@ module _ (fixed : Fixed) (s : Table Unit (List SeatView)) (k : IsKept fixed s) (
       (ap (λ (h : List Event). (state_after h).parents) whole) refl refl)
 
   -- a load that changes nothing
-  pub still_step : (i : ℕ) → IsKept fixed (stepped s i (slice_index s.words i) id [] (view ∷ []) keeps)
+  pub still_step : (i : ℕ) → RuleHolds fixed (stepped s i (slice_index s.words i) id [] (view ∷ []) keeps)
   still_step i =
       let same : set s.words i (slice_index s.words i) ≡ s.words = set-get_or s.words i 0 in
       silent_step view.written i (slice_index s.words i) (leaves_same fixed s.words i) (subst (λ (words : List ℕ). StandFor fixed words now) (sym same) k.words)
