@@ -7,7 +7,7 @@ use Rattle.store_core.specs.declared.store.Store.{Store}
 use Rattle.store_core.specs.Laws.{IsRead, ReadMeans}
 use Rattle.store_core.specs.States.{byte_at}
 use Rattle.store_core.specs.Stores.{DidRead, PairCommitted, ReadBinds, fixed_of, state_of}
-use Rattle.gather.specs.Finished.{IsWhole, LacksByte}
+use Rattle.gather.specs.Finished.{LacksByte}
 
 filled_whole : (bytes old new : List ℕ) → new ≡ bytes ++ drop (length bytes) old → length bytes ≡ length old → new ≡ bytes
 filled_whole bytes old new filled all =
@@ -17,12 +17,6 @@ filled_whole bytes old new filled all =
 pub record IsBegun (store : Store) (bytes : List ℕ) : Type 0 where
   pub held : (i : ℕ) → i < length bytes → byte_at (state_of store) (0 + i) ≡ Some (slice_index bytes i)
   pub binds : ReadBinds store 0 bytes (length bytes)
-
-pub begun_none : (store : Store) (bytes : List ℕ) → bytes ≡ [] → IsBegun store bytes
-begun_none store bytes none = record {
-  held = λ i below. absurd (omega (arith, below, ap length none));
-  binds = λ blob is by i below. absurd (omega (arith, below, ap length none));
-}
 
 -- one part more
 pub begun_more : ReadMeans → (store : Store) (bytes old part new : List ℕ) (at : ℕ) → at ≡ length bytes → IsBegun store bytes → DidRead store at old part None
@@ -58,20 +52,6 @@ begun_more means store bytes old part new at here begun read binds is =
                 (subst (λ (q : ℕ). Binds q (slice_index part (i - length bytes))) (position i after)
                 (binds blob is_blob by (i - length bytes) (omega (arith, after, below, parts, count))))
           ];
-    }
-
--- all bytes below the recorded length
-pub begun_whole : ReadMeans → (store : Store) (bytes : List ℕ) (l : ℕ) → (state_of store).recorded ≡ Some l → length bytes ≡ l → IsBegun store bytes
-    → IsWhole (state_of store) bytes
-begun_whole means store bytes l recorded long begun =
-    let is : IsRead (state_of store) 0 (length bytes) bytes = record {
-      within = omega arith;
-      held = begun.held;
-      missing = λ less. absurd (omega (arith, less));
-    } in
-    record {
-      recorded = recorded ∙ ap (λ (k : ℕ). Some k) (sym long);
-      held = sym ((means (state_of store) 0 (length bytes) bytes).1 is);
     }
 
 -- a read that ends early, below the recorded length
