@@ -1,12 +1,7 @@
 -- What finishing a blob found, in the state after all that its seat has seen.
-use Rattle.std.proofs.Common.{bytes_eq, true, false, not, ◌≡◌, ℕ, ◌+◌, ◌*◌, ◌≤◌, List, [], ◌∷◌, ◌++◌, append_assoc, append-nil, length, drop, Option, None, Some, refl, sym, ap, subst, ◌∙◌, arith, inl, inr}
-use Rattle.std.proofs.lemmas.Bool.{cases_Bool}
-use Rattle.std.proofs.lemmas.List.{drop_all}
-use Rattle.std.proofs.lemmas.Slice.Eq.{bytes_eq-Decides}
-use Rattle.b3tree.specs.Hashing.{hash}
-use Rattle.b3tree.specs.Valid.{IsKeyed}
-use Rattle.crews.specs.Finished.{Asks, BindsNone}
-use Rattle.gather.proofs.Handing.{whole_binds}
+use Rattle.std.proofs.Common.{◌≡◌, ℕ, ◌+◌, ◌*◌, ◌≤◌, List, [], ◌∷◌, ◌++◌, append_assoc, length, Option, None, Some, refl, sym, ap, subst, ◌∙◌, arith, inr}
+use Rattle.crews.specs.Finished.{Asks}
+use Rattle.gather.proofs.Finishing.{filled_whole}
 use Rattle.gather.specs.Finished.{IsWhole, LacksByte}
 use Rattle.store_core.specs.declared.fixed.Fixed.{Fixed}
 use Rattle.store_core.specs.declared.history.Call.{Call}
@@ -50,10 +45,6 @@ recorded_then old then new l at len bytes asked read =
     subst (λ (h : List Event). (state_after h).recorded ≡ Some l) (sym is)
     (record_lasts new.fixed then.seen more l legal (length_there old then (Some l) asked))
 
-pub filled_whole : (bytes old new : List ℕ) → new ≡ bytes ++ drop (length bytes) old → length bytes ≡ length old → new ≡ bytes
-filled_whole bytes old new filled all =
-    filled ∙ ap (λ (rest : List ℕ). bytes ++ rest) (drop_all (length bytes) old (omega (arith, all))) ∙ append-nil bytes
-
 pub read_whole : (old then new : SeatView) (before after : List ℕ) (l : ℕ) → length before ≡ l → Called (Length (Some l)) old then
     → SeatDidRead then new 0 before after None → IsWhole (state_after new.seen) after
 read_whole old then new before after l long asked read =
@@ -81,29 +72,6 @@ pub asks_both : (old then new : SeatView) (before after : List ℕ) (l : ℕ) (m
     → SeatDidRead then new 0 before after missing → Asks old new
 asks_both old then new before after l missing long asked read =
     inr (record { len = l; then = then; length = asked; bytes = read.bytes; read = subst (λ (k : ℕ). Called (Read 0 k read.bytes) then new) long read.called })
-
--- bytes that a test tells apart
-pub differs : (xs ys : List ℕ) → true ≡ not (bytes_eq xs ys) → xs ≡ ys → ⊥
-differs xs ys apart same = let alike : bytes_eq xs ys ≡ true = (bytes_eq-Decides xs ys).1 same in let no : true ≡ false = rw alike at apart in cc
-
--- and bytes that it doesn't
-pub alike : (xs ys : List ℕ) → false ≡ not (bytes_eq xs ys) → xs ≡ ys
-alike xs ys same = elim (cases_Bool (bytes_eq xs ys)) [
-  | inl equal ↦ (bytes_eq-Decides xs ys).0 equal
-  | inr other ↦ let no : false ≡ true = rw other at same in cc
-]
-
--- bytes whose hash isn't the root are no blob's with the root, so that a pair is named
-pub binds_none : (fixed : Fixed) (history : List Event) (bytes : List ℕ) → IsKeyed fixed.mode → IsLegal fixed history → IsWhole (state_after history) bytes
-    → (hash fixed.mode bytes ≡ fixed.root.0 → ⊥) → BindsNone fixed history
-binds_none fixed history bytes keyed legal whole other blob is = elim (whole_binds fixed history bytes blob keyed is legal whole) [
-  | inl same ↦ absurd (other (subst (λ (xs : List ℕ). hash fixed.mode xs ≡ fixed.root.0) same is.root))
-  | inr named ↦ named
-]
-
--- a recorded length is one
-pub no_none : (recorded : Option ℕ) (l : ℕ) → recorded ≡ Some l → recorded ≡ None → ⊥
-no_none recorded l is none = let no : Some l ≡ None = sym is ∙ none in cc
 
 -- a recorded length is no longer than what the store has room for
 pub recorded_fits : (fixed : Fixed) (history : List Event) (bytes : List ℕ) → IsLegal fixed history → IsWhole (state_after history) bytes

@@ -1,5 +1,5 @@
 -- What the seat with which all others were joined hands out.
-use Rattle.std.proofs.Common.{◌≡◌, ◌⊎◌, ℕ, ◌/◌, ◌<◌, ◌≤◌, IsTrue, false, true, List, [], ◌∷◌, ◌++◌, append-nil, length, Contains, None, Some, refl, sym, subst, ◌∙◌, arith, inl, inr}
+use Rattle.std.proofs.Common.{◌≡◌, ◌⊎◌, ℕ, ◌≤◌, IsTrue, false, List, [], ◌∷◌, ◌++◌, append-nil, length, Contains, refl, sym, subst, arith, inl, inr}
 use Rattle.std.specs.List.{sum_by}
 use Rattle.std.proofs.lemmas.Bool.{both_ways}
 use Rattle.std.proofs.lemmas.List.Elements.{Contains-append_cases}
@@ -19,14 +19,12 @@ use Rattle.gather.specs.declared.grain.Grain.{Grain}
 use Rattle.gather.specs.Available.{HaveSlices, IsFilled, IsServed}
 use Rattle.gather.specs.Counts.{HasFailed, Reports}
 use Rattle.gather.specs.Faults.{cause_of}
-use Rattle.gather.specs.Finished.{IsNamedIn, IsUnfinished, IsWhole}
 use Rattle.gather.specs.HandedOut.{IsExcused}
 use Rattle.gather.specs.Holders.{IsHanded}
 use Rattle.gather.specs.Large.{HasPair, IsTooLarge}
 use Rattle.gather.specs.Worked.{AreFrom, IsFrom}
-use Rattle.gather.proofs.Binding.{are_longer, pair_of, some_bytes}
-use Rattle.gather.proofs.Finishing.{some_same}
-use Rattle.gather.proofs.Handing.{byte_there, cause_handed, whole_binds}
+use Rattle.gather.proofs.Binding.{are_longer, pair_of}
+use Rattle.gather.proofs.Handing.{cause_handed, unfinished_named}
 use Rattle.gather.proofs.Reporting.{large_wider}
 use Rattle.gather.proofs.Served.{served}
 use Rattle.store_core.specs.declared.fixed.Fixed.{Fixed}
@@ -36,35 +34,13 @@ use Rattle.store_core.specs.declared.history.Event.{Event}
 use Rattle.store_core.specs.declared.history.Piece.{Piece}
 use Rattle.store_core.specs.declared.view.Named.{Named}
 use Rattle.store_core.specs.declared.view.SeatView.{SeatView}
-use Rattle.store_core.specs.Histories.{IsLegal, state_after}
+use Rattle.store_core.specs.Histories.{IsLegal}
 use Rattle.store_core.specs.Laws.{IsBlob}
-use Rattle.store_core.specs.States.{empty, is_held}
+use Rattle.store_core.specs.States.{empty}
 use Rattle.store_core.specs.Views.{mine}
-use Rattle.store_core.proofs.Bound.{held_binds, record_binds}
 use Rattle.store_core.proofs.Lasting.{legal-append}
 use Rattle.store_shared.specs.Seats.{Gripped}
 use Rattle.store_core.specs.Knowledge.{AreAllNames, LooksRound}
-
--- a length is recorded, all chunks of the blob are held if it is the blob's, and the store is unfinished: a pair is named
-unfinished_named : (fixed : Fixed) (history : List Event) (blob : List ℕ) (l : ℕ) → IsKeyed fixed.mode → IsBlob fixed blob → IsLegal fixed history
-    → (state_after history).recorded ≡ Some l → (l ≡ length blob → (c : ℕ) → c < chunk_count (length blob) → is_held (state_after history) c ≡ true)
-    → IsUnfinished (state_after history) → IsNamedIn fixed history blob
-unfinished_named fixed history blob l keyed is legal recorded chunks unfinished =
-    elim (record_binds fixed history blob l keyed is legal recorded) [
-      | inr from ↦ inr (l, record { settled = from.0; pair = from.1 })
-      | inl long ↦ elim unfinished [
-        | inl none ↦ let no : Some l ≡ None = sym recorded ∙ none in cc
-        | inr lacks ↦
-            let p = lacks.position in
-            let len : lacks.len ≡ l = some_same lacks.len l (sym lacks.recorded ∙ recorded) in
-            let below : p < length blob = omega (arith, lacks.below, len, long) in
-            let there = some_bytes ((state_after history).held (p / 1024)) (chunks long (p / 1024) (omega (arith, below))) in
-            elim (held_binds fixed history blob (p / 1024) there.0 keyed is legal there.1) [
-              | inl chunk ↦ absurd (byte_there (state_after history) blob there.0 p below there.1 chunk lacks.missing)
-              | inr from ↦ inl (p / 1024, record { bytes = there.0; committed = from.0; pair = from.1 })
-            ]
-      ]
-    ]
 
 -- a call that reads is of no piece
 from_none : (handed : Piece → Type 0) (call : Call) → OnlyReads call → IsFrom handed call
@@ -121,14 +97,6 @@ unfinished_pair handed fixed start seat finished blob same keyed is legal unclai
       | inl held ↦ held was.before there
       | inr claimed ↦ absurd (both_ways _ (unclaimed c) claimed)
     ]) was.unfinished)
-
--- the bytes that it finds are the blob's, or a pair is named
-pub whole_pair : (handed : Piece → Type 0) (fixed : Fixed) (history : List Event) (blob bytes : List ℕ) → IsKeyed fixed.mode → IsBlob fixed blob → IsLegal fixed history
-    → AreFrom handed history → IsWhole (state_after history) bytes → (bytes ≡ blob) ⊎ HasPair handed fixed blob
-whole_pair handed fixed history blob bytes keyed is legal from whole = elim (whole_binds fixed history bytes blob keyed is legal whole) [
-  | inl same ↦ inl (sym same)
-  | inr named ↦ inr (pair_of handed fixed history blob from named)
-]
 
 -- a piece that certifies too large a length, where there is room for the blob, names a pair
 pub large_pair : (handed : Piece → Type 0) (fixed : Fixed) (blob : List ℕ) → IsKeyed fixed.mode → IsBlob fixed blob → chunk_count (length blob) ≤ fixed.capacity

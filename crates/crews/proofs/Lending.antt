@@ -10,7 +10,7 @@ use Rattle.bao_text.specs.Texts.{combined_text, slice_text}
 use Rattle.bao_text.proofs.Laws.{cut_text-combined, length-combined_text}
 use Rattle.crews.specs.declared.fault.CrewsFault.{CrewsFault}
 use Rattle.crews.specs.declared.fault.CrewsFault.TheVariants.{Gather, Seat, Store}
-use Rattle.crews.specs.Closing.{AreTheBlob, IsExcused, IsKeptWhole, IsHandedOut}
+use Rattle.crews.specs.Closing.{IsExcused, IsKeptWhole, IsHandedOut}
 use Rattle.crews.specs.Lists.{IsCutOfSource, IsLent}
 use Rattle.gather.specs.declared.holder.Encoded.{Encoded}
 use Rattle.gather.specs.declared.texts.GatherFault.TheVariants.{Capacity, Memory, NotTheRoot, Starved, TooLarge, Unfinished}
@@ -18,7 +18,7 @@ use Rattle.gather.specs.declared.grain.Grain.{Grain}
 use Rattle.gather.specs.Available.{HasSlice, HasTrue, HaveSlices}
 use Rattle.gather.specs.Encodings.{IsCut, IsCutOf, encoding}
 use Rattle.gather.specs.Holders.{Appends}
-use Rattle.gather.specs.Large.{IsOfNone, fixed_as}
+use Rattle.gather.specs.Large.{AreTheBlob, IsOfNone, fixed_as}
 use Rattle.gather.specs.Places.{IsCutAt}
 use Rattle.gather.proofs.Binding.{handed_cut, pair_wider}
 use Rattle.gather.proofs.Rooms.{blob_at, pair_at}

@@ -10,11 +10,12 @@ use Rattle.b3tree.specs.Hashing.{hash, root_hash, rooted}
 use Rattle.b3tree.specs.Tree.{parent_input, subtree_cv, top_input}
 use Rattle.bao_check.proofs.Lists.{Contains-cons_cases}
 use Rattle.crews.specs.Wholes.{HasBytes, IsFull, OnlyReads, IsTopRead, LackedByte, ReadOn, WasUnfinished}
-use Rattle.crews.proofs.Finishing.{filled_whole, length_there, read_there}
+use Rattle.crews.proofs.Finishing.{length_there, read_there}
+use Rattle.gather.proofs.Finishing.{filled_whole, judged_at}
 use Rattle.crews.proofs.Uniting.{merge_has, merged_calls, names_same, split_all}
 use Rattle.gather.specs.declared.fault.FinishFault.{FinishFault}
 use Rattle.gather.specs.declared.fault.FinishFault.TheVariants.{Unfinished}
-use Rattle.gather.specs.Finished.{IsWhole}
+use Rattle.gather.specs.Finished.{IsWhole, Judges}
 use Rattle.store_calls.specs.Reading.{SeatDidRead}
 use Rattle.store_core.specs.declared.fixed.Fixed.{Fixed}
 use Rattle.store_core.specs.declared.history.Call.{Call}
@@ -346,6 +347,12 @@ full_whole s len full = record {
 pub top_hash : (mode : Mode) (bytes : List ℕ) (top : Input) → top ≡ top_input mode 0 bytes → root_hash (rooted top) ≡ hash mode bytes
 unfolding hash
 top_hash mode bytes top is = ap (λ (x : Input). root_hash (rooted x)) is
+
+pub top_judged : (fixed own : Fixed) (bytes : List ℕ) (top : Input) (hashed : List ℕ) (result : Result Unit FinishFault) → own ≡ fixed
+    → hashed ≡ root_hash (rooted top) → top ≡ top_input fixed.mode 0 bytes → ((xs : List ℕ) → hashed ≡ hash own.mode xs → Judges own xs result) → Judges fixed bytes result
+top_judged fixed own bytes top hashed result same is whole judges =
+    judged_at fixed own bytes bytes hashed result same refl
+    (is ∙ top_hash fixed.mode bytes top whole ∙ ap (λ (f : Fixed). hash f.mode bytes) (sym same)) judges
 
 -- a recorded length, all of whose bytes were then read
 pub full_from : (old then new : SeatView) (mode : Mode) (l : ℕ) (read : Result Input FinishFault) (top : Input) → Called (Length (Some l)) old then → ReadOn then new

@@ -14,7 +14,8 @@ use Rattle.gather.specs.Counts.{Still}
 use Rattle.gather.specs.Holders.{IsIt, IsNone}
 use Rattle.gather.specs.Large.{EndsTooFar}
 use Rattle.gather.proofs.Reporting.{none_gained}
-use Rattle.gather.specs.Worked.{IsFrom, chunks_of, parents_of}
+use Rattle.gather.specs.Worked.{IsFrom, parents_of}
+use Rattle.store_core.specs.Laws.{chunks_of}
 use Rattle.store_core.specs.declared.fixed.Fixed.{Fixed}
 use Rattle.store_core.specs.declared.history.Call.{Call}
 use Rattle.store_core.specs.declared.history.Call.TheVariants.{Commit, Give, Parents, Settle, Take}

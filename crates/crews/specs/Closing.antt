@@ -11,7 +11,6 @@ use Rattle.store_core.specs.declared.fixed.Fixed.{Fixed}
 use Rattle.store_core.specs.declared.history.Event.{Event}
 use Rattle.store_core.specs.declared.history.Piece.{Piece}
 use Rattle.store_core.specs.declared.view.SeatView.{SeatView}
-use Rattle.store_core.specs.Laws.{IsBlob}
 use Rattle.store_core.specs.Views.{mine, seat_claims}
 
 -- the seat's calls are of pieces that were handed over
@@ -42,7 +41,3 @@ IsHandedOut handed fixed blob result = IsAnswer (λ bytes. bytes.items) handed f
 -- and of one that stays in its store
 abbrev pub IsKeptWhole : (Piece → Type 0) → Fixed → List ℕ → Result (List ℕ) CrewsFault → Type 0
 IsKeptWhole handed fixed blob result = IsAnswer (λ bytes. bytes) handed fixed blob result
-
--- the bytes are each blob's with the root, or a pair is named from it and a piece that was handed over
-abbrev pub AreTheBlob : (Piece → Type 0) → Fixed → List ℕ → Type 0
-AreTheBlob handed fixed bytes = (blob : List ℕ) → IsBlob fixed blob → (bytes ≡ blob) ⊎ HasPair handed fixed blob

@@ -8,9 +8,10 @@ use Rattle.gather.specs.Counts.{Goes}
 use Rattle.gather.specs.Holders.{IsNone}
 use Rattle.gather.specs.Working.{from_append, from_wider}
 use Rattle.store_core.specs.declared.history.Piece.{Piece}
-use Rattle.gather.specs.Worked.{chunks_in, chunks_of, parents_in, parents_of}
+use Rattle.gather.specs.Worked.{chunks_in, parents_in, parents_of}
 use Rattle.store_core.specs.declared.history.Event.{Event}
 use Rattle.store_core.specs.declared.view.Named.{Named}
+use Rattle.store_core.specs.Laws.{chunks_of}
 use Rattle.store_core.specs.Views.{mine, names_of}
 use Rattle.store_shared.specs.Seats.{Gripped}
 

@@ -4,10 +4,10 @@ ghost use Rattle.bao_check.specs.Outline.{outline_mode, outline_root};
 ghost use Rattle.bao_text.specs.Choice.{chunk_count};
 ghost use Rattle.crews.specs.declared.fault.CrewsFault.TheVariants.{Gather};
 ghost use Rattle.gather.specs.declared.texts.GatherFault.TheVariants.{Capacity, NotTheRoot, Starved, TooLarge};
-ghost use Rattle.gather.specs.Large.{AreLonger, IsOfNone, IsTooLarge, fixed_as};
+ghost use Rattle.gather.specs.Large.{AreLonger, AreTheBlob, IsOfNone, IsTooLarge, fixed_as};
 ghost use Rattle.store_core.specs.Laws.{IsBlob};
 ghost use Rattle.store_shared.specs.Seats.{IsSeatOf};
-ghost use Rattle.crews.specs.Closing.{AreTheBlob, IsKeptWhole};
+ghost use Rattle.crews.specs.Closing.{IsKeptWhole};
 ghost use Rattle.crews.specs.Lists.{HaveAll, IsLent};
 
 use crate::crewing::{MOST_WORKERS, crews_with};

@@ -3,10 +3,10 @@ ghost use Rattle.b3tree.specs.Hashing.{hash};
 ghost use Rattle.bao_text.specs.Choice.{chunk_count};
 ghost use Rattle.crews.specs.declared.fault.CrewsFault.TheVariants.{Gather};
 ghost use Rattle.gather.specs.declared.texts.GatherFault.TheVariants.{Capacity, NotTheRoot, TooLarge};
-ghost use Rattle.gather.specs.Large.{AreLonger, IsOfNone, IsTooLarge};
+ghost use Rattle.gather.specs.Large.{AreLonger, AreTheBlob, IsOfNone, IsTooLarge};
 ghost use Rattle.store_core.specs.Laws.{IsBlob};
 ghost use Rattle.store_shared.specs.Seats.{IsSeatOf, fixed_of};
-ghost use Rattle.crews.specs.Closing.{AreTheBlob, IsKeptWhole, IsLeft};
+ghost use Rattle.crews.specs.Closing.{IsKeptWhole, IsLeft};
 ghost use Rattle.crews.specs.Lists.{HaveAll, IsLent};
 
 use crate::closing::closing_rounds;

@@ -2,11 +2,11 @@ ghost use Rattle.std.specs.Prelude.{◌≡◌, ◌↔◌, ◌⊎◌, ◌*◌, �
 ghost use Rattle.b3tree.specs.Hashing.{hash};
 ghost use Rattle.bao_text.specs.Choice.{chunk_count};
 ghost use Rattle.bao_text.specs.Texts.{combined_text};
-ghost use Rattle.gather.specs.Large.{AreLonger, IsOfNone, IsTooLarge, fixed_as};
+ghost use Rattle.gather.specs.Large.{AreLonger, AreTheBlob, IsOfNone, IsTooLarge, fixed_as};
 ghost use Rattle.crews.specs.declared.fault.CrewsFault.TheVariants.{Gather};
 ghost use Rattle.gather.specs.declared.texts.GatherFault.TheVariants.{Capacity, NotTheRoot, TooLarge, Unfinished};
 ghost use Rattle.store_core.specs.Laws.{IsBlob};
-ghost use Rattle.crews.specs.Closing.{AreTheBlob, IsKeptWhole};
+ghost use Rattle.crews.specs.Closing.{IsKeptWhole};
 ghost use Rattle.crews.specs.Lists.{IsCutOfSource, source_gives};
 ghost use Rattle.gather.specs.Available.{HaveSlices};
 

@@ -1,19 +1,19 @@
 ghost use Rattle.std.specs.Prelude.{◌≡◌, ◌≢◌, ◌↔◌, ◌⊎◌, ◌-◌, ◌<◌, ◌++◌, [], Err, IfErr, IfOk, IsErrOf, Ok, IsTrue, drop, length, min, take};
-ghost use Rattle.b3tree.specs.Hashing.{hash};
-ghost use Rattle.gather.specs.declared.fault.FinishFault.TheVariants.{NotTheRoot, Unfinished};
+ghost use Rattle.gather.specs.declared.fault.FinishFault.TheVariants.{Unfinished};
+ghost use Rattle.gather.specs.Finished.{Binds, IsFinished};
 ghost use Rattle.store_core.specs.Histories.{state_after};
 ghost use Rattle.store_core.specs.States.{read_bytes};
 ghost use Rattle.store_shared.specs.Seats.{IsSeatOf, fixed_of};
 ghost use Rattle.crews.specs.declared.fault.CrewsFault.TheVariants.{Gather};
 ghost use Rattle.gather.specs.declared.texts.GatherFault.TheVariants.{Memory};
-ghost use Rattle.crews.specs.Finished.{BindsNone};
 ghost use Rattle.crews.specs.Wholes.{IsFull, IsTopRead, ReadOn, WasUnfinished};
 
 use crate::fault::CrewsFault;
 use crate::reading::{read_part, top_by_seats};
+use crate::shared::Shared;
 use b3read::LEAST_RANGE_LEN;
 use b3tree::{Input, root_hash, rooted};
-use gather::{FinishFault, GatherFault};
+use gather::{FinishFault, GatherFault, Shelf, judge};
 use std::alloc::{AllocError, Global};
 use std::marker::Model;
 use std::thread::Threads;
@@ -25,15 +25,13 @@ fn judged(assembly: &Assembly, seat: &Seat, len: u64, top: &Input) -> Result<u64
     requires full { IsFull (state_after seat.now.view.seen) len }
     requires top { IsTopRead (state_after seat.now.view.seen) (fixed_of assembly.now).mode 0 len top.now }
     ensures len { IfOk result (λ l. l ≡ len) }
-    ensures root { IfOk result (λ l. hash (fixed_of assembly.now).mode (read_bytes (state_after seat.now.view.seen) 0 l) ≡ (fixed_of assembly.now).root.0) }
-    ensures none { IsErrOf result NotTheRoot → BindsNone (fixed_of assembly.now) seat.now.view.seen }
+    ensures finished { IfOk result (λ l. IsFinished (fixed_of assembly.now) (state_after seat.now.view.seen) (read_bytes (state_after seat.now.view.seen) 0 l)) }
+    ensures binds { Binds (λ l. read_bytes (state_after seat.now.view.seen) 0 l) (fixed_of assembly.now) seat.now.view.seen result }
     ensures never { result ≢ Err Unfinished }
 {
-    assembly.mode().is_keyed();
-    let hashed = root_hash(&rooted(top));
-    if hashed != assembly.root() {
-        return Err(FinishFault::NotTheRoot);
-    }
+    let fixed = Shared(assembly).fixed(seat);
+    fixed.mode.is_keyed();
+    judge(&fixed, root_hash(&rooted(top)))?;
     Ok(len)
 }
 
@@ -52,9 +50,9 @@ pub(crate) fn certify<R: Threads + Sync>(
     ensures of { IsSeatOf assembly.now result.1 }
     ensures on { ReadOn seat.view result.1.view }
     ensures full { IfOk result.0 (λ len. IsFull (state_after result.1.view.seen) len) }
-    ensures root { IfOk result.0 (λ len. hash (fixed_of assembly.now).mode (read_bytes (state_after result.1.view.seen) 0 len) ≡ (fixed_of assembly.now).root.0) }
+    ensures finished { IfOk result.0 (λ len. IsFinished (fixed_of assembly.now) (state_after result.1.view.seen) (read_bytes (state_after result.1.view.seen) 0 len)) }
     ensures unfinished { IsErrOf result.0 Unfinished → WasUnfinished seat.view result.1.view }
-    ensures none { IsErrOf result.0 NotTheRoot → BindsNone (fixed_of assembly.now) result.1.view.seen }
+    ensures binds { Binds (λ len. read_bytes (state_after result.1.view.seen) 0 len) (fixed_of assembly.now) result.1.view.seen result.0 }
 {
     let mode = assembly.mode();
     let mut seat = seat;

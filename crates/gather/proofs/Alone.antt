@@ -18,6 +18,7 @@ use Rattle.store_core.specs.declared.history.Storing.{Storing}
 use Rattle.store_core.specs.declared.history.Storing.TheVariants.{Stored}
 use Rattle.store_core.specs.declared.store.Store.{Store}
 use Rattle.store_core.specs.Events.{after_call}
+use Rattle.store_core.specs.Laws.{chunks_of}
 use Rattle.store_core.specs.Masks.{has_bit, in_mask}
 use Rattle.store_core.specs.Pieces.{piece_of}
 use Rattle.store_core.specs.States.{State, claims}
@@ -26,7 +27,7 @@ use Rattle.gather.specs.Claims.{Among, AmongAnd, Without}
 use Rattle.gather.specs.Counts.{Still}
 use Rattle.gather.specs.Holders.{IsIt, IsNone}
 use Rattle.gather.specs.Large.{EndsTooFar}
-use Rattle.gather.specs.Worked.{HasWorked, IsFrom, chunks_of, parents_of, worker, worker_claims}
+use Rattle.gather.specs.Worked.{HasWorked, IsFrom, parents_of, worker, worker_claims}
 
 pub worked_one : (handed : Piece → Type 0) (old new : Store) (call : Call) → IsFrom handed call → IsEvent old new worker call
     → HasWorked handed old new (chunks_of call) (parents_of call)

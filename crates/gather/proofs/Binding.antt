@@ -1,9 +1,8 @@
 -- What comes from accepted texts is the blob's, or a pair is named.
-use Rattle.std.proofs.Common.{Contains, map, option_map, ap, ◌∙◌, ◌≡◌, ◌⊎◌, zero, suc, ℕ, ◌+◌, ◌-◌, ◌/◌, ◌<◌, List, length, Option, None, Some, is_some, true, false, slice_get, slice_index, refl, sym, subst, arith, inl, inr, below_more}
+use Rattle.std.proofs.Common.{Contains, map, option_map, ap, ◌∙◌, ◌≡◌, ◌⊎◌, zero, suc, ℕ, ◌+◌, ◌-◌, ◌<◌, List, length, Option, None, Some, is_some, true, false, slice_get, slice_index, refl, sym, subst, arith, inl, inr, below_more}
 use Rattle.std.proofs.lemmas.List.{ext_get_or}
 use Rattle.bao_check.proofs.Lists.{All-member}
 use Rattle.std.proofs.lemmas.Option.{slice_get-map, get_or_from_slice_get}
-use Rattle.b3tree.specs.Hashing.{hash}
 use Rattle.b3tree.specs.Valid.{IsKeyed}
 use Rattle.bao_check.specs.Laws.{AcceptedBinds}
 use Rattle.bao_check.specs.Pieces.{chunk_of}
@@ -16,12 +15,12 @@ use Rattle.store_core.specs.Pieces.{chunk_bytes, length_of}
 use Rattle.store_core.specs.declared.history.Event.{Event}
 use Rattle.store_core.specs.Histories.{AreLegalFrom, IsLegal, run}
 use Rattle.store_core.specs.Reached.{IsReached}
-use Rattle.store_core.specs.Stores.{LengthBinds, PairCommitted, ReadBinds, fixed_of, state_of}
+use Rattle.store_core.specs.Stores.{fixed_of, state_of}
 use Rattle.gather.specs.declared.holder.Encoded.{Encoded}
 use Rattle.gather.specs.Encodings.{IsCut, IsCutOf, encoding}
 use Rattle.gather.specs.Holders.{IsHanded}
-use Rattle.gather.specs.Finished.{BindsNone, IsNamedIn}
-use Rattle.gather.specs.Large.{AreLonger, HasPair, IsOfNone, IsTooLarge}
+use Rattle.gather.specs.Finished.{BindsNone, BindsTo, IsNamedIn}
+use Rattle.gather.specs.Large.{AreLonger, AreTheBlob, HasPair, IsOfNone, IsTooLarge}
 use Rattle.store_core.specs.States.{State, empty}
 use Rattle.gather.specs.Worked.{AreFrom, HasWorked, IsFrom, AddsBlobs, AddsCertified, IsCertified}
 
@@ -66,30 +65,11 @@ all_same blob bytes P zero each = inl (λ i below. absurd (omega (arith, below))
 all_same blob bytes P (suc n) each =
     both_same blob bytes P n (all_same blob bytes P n (λ i below. each i (omega (arith, below)))) (each n (omega arith))
 
--- what is named, at some chunk
-at_some : (fixed : Fixed) (history : List Event) (blob : List ℕ) (c : ℕ) (A : Type 0) → A ⊎ PairCommitted fixed history blob c → A ⊎ ((k : ℕ) × PairCommitted fixed history blob k)
-at_some fixed history blob c A (inl a) = inl a
-at_some fixed history blob c A (inr named) = inr (c, named)
-
 pub same_bytes : (blob bytes : List ℕ) → length bytes ≡ length blob → ((i : ℕ) → i < length bytes → slice_get blob (0 + i) ≡ Some (slice_index bytes i)) → blob ≡ bytes
 same_bytes blob bytes long each =
     ext_get_or 0 blob bytes (sym long) (λ i below.
     let here : 0 + i ≡ i = omega arith in
     get_or_from_slice_get blob i (slice_index bytes i) 0 (subst (λ (k : ℕ). slice_get blob k ≡ Some (slice_index bytes i)) here (each i (omega (arith, below, long)))))
-
-pub binds_none : (store : Store) (bytes : List ℕ) → LengthBinds store (length bytes) → ReadBinds store 0 bytes (length bytes)
-    → (hash (fixed_of store).mode bytes ≡ (fixed_of store).root.0 → ⊥) → BindsNone store
-binds_none store bytes recorded read other blob is by =
-    let P = (c : ℕ) × PairCommitted (fixed_of store) by.history blob c in
-    let same : ((i : ℕ) → i < length bytes → slice_get blob (0 + i) ≡ Some (slice_index bytes i)) ⊎ P =
-    all_same blob bytes P (length bytes) (λ i below. at_some (fixed_of store) by.history blob ((0 + i) / 1024) _ (read blob is by i below)) in
-    elim (recorded blob is by) [
-      | inr settled ↦ inr (length bytes, settled)
-      | inl len ↦ elim same [
-        | inr committed ↦ inl committed
-        | inl each ↦ absurd (other (subst (λ (xs : List ℕ). hash (fixed_of store).mode xs ≡ (fixed_of store).root.0) (same_bytes blob bytes len each) is.root))
-      ]
-    ]
 
 -- what holders over texts hand over is cut out of the texts
 pub handed_cut : (holders : List Encoded) (texts : List (List ℕ)) → map encoding holders ≡ texts → (piece : Piece) → IsHanded IsCut holders piece → IsCutOf texts piece
@@ -135,8 +115,19 @@ worked_reaches handed old new chunks parents fresh worked = record {
 }
 
 pub of_none : (handed : Piece → Type 0) (old new : Store) (fixed : Fixed) (chunks parents : ℕ) → fixed_of old ≡ fixed → state_of old ≡ empty
-    → HasWorked handed old new chunks parents → BindsNone new → IsOfNone handed fixed
+    → HasWorked handed old new chunks parents → ((by : IsReached (fixed_of new) (state_of new)) → BindsNone (fixed_of new) by.history) → IsOfNone handed fixed
 unfolding worked_reaches
 of_none handed old new fixed chunks parents same fresh worked none =
     subst (λ (f : Fixed). IsOfNone handed f) (worked.fixed ∙ same) (λ blob is.
-    pair_of handed (fixed_of new) worked.events blob worked.from (none blob is (worked_reaches handed old new chunks parents fresh worked)))
+    pair_of handed (fixed_of new) worked.events blob worked.from (none (worked_reaches handed old new chunks parents fresh worked) blob is))
+
+-- bytes that bind by a history of pieces that were handed over
+pub found_by : (handed : Piece → Type 0) (fixed : Fixed) (history : List Event) (bytes : List ℕ) → AreFrom handed history → BindsTo fixed history bytes → AreTheBlob handed fixed bytes
+found_by handed fixed history bytes from binds blob is = elim (binds blob is) [ inl same ↦ inl same | inr named ↦ inr (pair_of handed fixed history blob from named) ]
+
+pub of_blob : (handed : Piece → Type 0) (old new : Store) (fixed : Fixed) (chunks parents : ℕ) (bytes : List ℕ) → fixed_of old ≡ fixed → state_of old ≡ empty
+    → HasWorked handed old new chunks parents → ((by : IsReached (fixed_of new) (state_of new)) → BindsTo (fixed_of new) by.history bytes) → AreTheBlob handed fixed bytes
+unfolding worked_reaches
+of_blob handed old new fixed chunks parents bytes same fresh worked binds =
+    subst (λ (f : Fixed). AreTheBlob handed f bytes) (worked.fixed ∙ same)
+    (found_by handed (fixed_of new) worked.events bytes worked.from (binds (worked_reaches handed old new chunks parents fresh worked)))

@@ -1,5 +1,5 @@
 -- What is made of what holders give, and what of that is known of slices.
-use Rattle.std.proofs.Common.{◌≡◌, ◌∙◌, ◌↔◌, ℕ, ◌-◌, ◌*◌, ◌^◌, ◌<◌, List, IfOk, IsOk, Ok, Err, Result, false, true, ap, sym, subst, arith}
+use Rattle.std.proofs.Common.{◌≡◌, ◌∙◌, ◌↔◌, ℕ, ◌-◌, ◌*◌, ◌^◌, List, IfOk, IsOk, Ok, Err, Result, false, true, ap, sym, subst}
 use Rattle.bao_check.specs.declared.checked.Checked.{Checked}
 use Rattle.bao_check.specs.declared.fault.CheckFault.{CheckFault}
 use Rattle.bao_check.specs.Accepted.{IsAccepted, slice_nodes}
@@ -7,7 +7,6 @@ use Rattle.bao_check.specs.Beside.{bare_len}
 use Rattle.bao_check.specs.Checked.{IsPiece}
 use Rattle.bao_check.specs.Outline.{outline_claimed}
 use Rattle.b3tree.specs.declared.mode.Mode.{Mode}
-use Rattle.bao_text.specs.Choice.{chunk_count}
 use Rattle.bao_text.specs.Texts.{slice_text}
 use Rattle.gather.specs.Available.{GivesSlice, IsServed, slice_of}
 use Rattle.gather.proofs.Serving.{is_of, slice_good, slice_is}
@@ -16,7 +15,7 @@ use Rattle.store_core.specs.Stores.{IsOf}
 use Rattle.gather.specs.declared.form.Form.{Form}
 use Rattle.gather.specs.declared.form.Form.TheVariants.{Slices, Bare}
 use Rattle.gather.specs.declared.form.Part.{Part}
-use Rattle.gather.specs.Forms.{AreSlices, HasChunk, HasGroup, IsChunk, IsEnd, IsGroup, IsLengthOf, IsMade, IsSliceCheck, made_of}
+use Rattle.gather.specs.Forms.{AreSlices, IsChunk, IsEnd, IsGroup, IsMade, IsSliceCheck, made_of}
 use Rattle.gather.specs.Holders.{GivesNoMore, IsGiven}
 use Rattle.store_core.specs.declared.fixed.Fixed.{Fixed}
 use Rattle.store_core.specs.declared.history.Piece.{Piece}
@@ -61,20 +60,6 @@ slice_group (Bare outline) group part are is = absurd are
 pub slice_chunk : (form : Form) (c : ℕ) (part : Part) → AreSlices form → IsChunk form c part → (part.start ≡ 1024 * c) × (part.len ≡ 1024)
 slice_chunk Slices c part are is = is
 slice_chunk (Bare outline) c part are is = absurd are
-
-pub slice_length : (form : Form) (len : ℕ) → AreSlices form → IsLengthOf form len
-slice_length Slices len are = tt
-slice_length (Bare outline) len are = absurd are
-
--- a blob of the form's length has chunks in a group that begins below its last chunk
-pub has_group : (form : Form) (len group : ℕ) → IsLengthOf form len → 64 * group < chunk_count len → HasGroup form group
-has_group Slices len group is below = tt
-has_group (Bare outline) len group is below = omega (arith, is, below)
-
--- a blob of the form's length has its chunks
-pub has_chunk : (form : Form) (len c : ℕ) → IsLengthOf form len → c < chunk_count len → HasChunk form c
-has_chunk Slices len c is below = tt
-has_chunk (Bare outline) len c is below = omega (arith, is, below)
 
 -- the text that such a holder gave is the blob's slice
 pub slice_given : {H : Type 0} (form : Form) (gives : H → ℕ → ℕ → List ℕ → Type 0) (mode : Mode) (blob : List ℕ) (holder : H) (part : Part) (text given : List ℕ) → AreSlices form

@@ -1,5 +1,5 @@
 -- What comes of texts of which one is the combined encoding of a blob with the root.
-use Rattle.std.proofs.Common.{nat_lt, ltb-false, ◌≡◌, ◌⊎◌, ℕ, ◌+◌, ◌*◌, ◌/◌, ◌%◌, ◌^◌, ◌<◌, true, false, List, [], ◌∷◌, zero, suc, refl, length, take, drop, map, get_or, Option, None, Some, option_and_then, slice_get, slice_index, sym, ap, subst, ◌∙◌, arith, inl, inr, length-drop, lt-ltb}
+use Rattle.std.proofs.Common.{nat_lt, ltb-false, ◌≡◌, ◌⊎◌, ℕ, ◌*◌, ◌/◌, ◌%◌, ◌^◌, ◌<◌, true, false, List, [], ◌∷◌, zero, suc, refl, length, take, drop, map, get_or, Option, None, Some, option_and_then, slice_get, sym, ap, subst, ◌∙◌, arith, inl, inr, length-drop, lt-ltb}
 use Rattle.std.specs.List.{sum_by}
 use Rattle.std.proofs.lemmas.Bool.{cases_Bool}
 use Rattle.std.proofs.lemmas.List.{length-take}
@@ -18,41 +18,21 @@ use Rattle.gather.specs.Encodings.{IsCut, encoding}
 use Rattle.gather.specs.declared.report.Report.{Report}
 use Rattle.gather.specs.Faults.{cause_of}
 use Rattle.gather.specs.HandedOut.{IsExcused}
-use Rattle.gather.specs.Finished.{IsNamedIn, IsUnfinished, IsWhole}
+use Rattle.gather.specs.Finished.{IsNamedIn, IsUnfinished}
 use Rattle.gather.specs.Large.{HasPair}
 use Rattle.gather.specs.Lasting.{Holds, IsBusy, Records}
-use Rattle.gather.specs.Worked.{AddsBlobs, HasWorked}
-use Rattle.gather.proofs.Binding.{all_same, pair_of, same_bytes, some_bytes}
+use Rattle.gather.specs.Worked.{HasWorked}
+use Rattle.gather.proofs.Binding.{pair_of, some_bytes}
 use Rattle.gather.proofs.Finishing.{some_same}
 use Rattle.store_core.specs.declared.fixed.Fixed.{Fixed}
 use Rattle.store_core.specs.declared.history.Event.{Event}
 use Rattle.store_core.specs.declared.history.Piece.{Piece}
 use Rattle.store_core.specs.declared.store.Store.{Store}
 use Rattle.store_core.specs.Histories.{AreLegalFrom, IsLegal, run, state_after}
-use Rattle.store_core.specs.Laws.{IsBlob, IsRead}
-use Rattle.store_core.specs.States.{State, byte_at, empty, is_claimed}
-use Rattle.store_core.specs.Stores.{PairCommitted, fixed_of, state_of}
-use Rattle.store_core.proofs.Bound.{byte_binds, record_binds}
-use Rattle.store_core.proofs.ReadLaws.{read_means}
-
--- all bytes that are held after a history are the blob's, or a pair is named
-pub whole_binds : (fixed : Fixed) (history : List Event) (bytes blob : List ℕ) → IsKeyed fixed.mode → IsBlob fixed blob → IsLegal fixed history → IsWhole (state_after history) bytes
-    → (blob ≡ bytes) ⊎ IsNamedIn fixed history blob
-whole_binds fixed history bytes blob keyed is legal whole =
-    let held : IsRead (state_after history) 0 (length bytes) bytes = (read_means (state_after history) 0 (length bytes) bytes).0 (sym whole.held) in
-    let P = (c : ℕ) × PairCommitted fixed history blob c in
-    let each : (i : ℕ) → i < length bytes → (slice_get blob (0 + i) ≡ Some (slice_index bytes i)) ⊎ P = λ i below.
-    elim (byte_binds fixed history blob (0 + i) (slice_index bytes i) keyed is legal (held.held i below)) [
-      | inl same ↦ inl same
-      | inr from ↦ inr ((0 + i) / 1024, record { bytes = from.0.bytes; committed = from.0.chunk; pair = from.1 })
-    ] in
-    elim (record_binds fixed history blob (length bytes) keyed is legal whole.recorded) [
-      | inr settled ↦ inr (inr (length bytes, record { settled = settled.0; pair = settled.1 }))
-      | inl long ↦ elim (all_same blob bytes P (length bytes) each) [
-        | inr pair ↦ inr (inl pair)
-        | inl same ↦ inl (same_bytes blob bytes long same)
-      ]
-    ]
+use Rattle.store_core.specs.Laws.{IsBlob}
+use Rattle.store_core.specs.States.{State, byte_at, empty, is_claimed, is_held}
+use Rattle.store_core.specs.Stores.{fixed_of, state_of}
+use Rattle.store_core.proofs.Bound.{held_binds, record_binds}
 
 -- a byte of a chunk of the blob that is held
 chunk_is : (blob bytes : List ℕ) (n : ℕ) → n < chunk_count (length blob) → chunk_of blob n ≡ Some bytes → take 1024 (drop (1024 * n) blob) ≡ bytes
@@ -68,51 +48,39 @@ byte_there s blob bytes p below held chunk missing =
     let no : Some (get_or bytes (p % 1024) 0) ≡ None = sym (slice_get-get_or bytes (p % 1024) 0 long) ∙ none in
     cc
 
--- a worker's history from a new store
-pub legal_from_new : (handed : Piece → Type 0) (old new : Store) (n q : ℕ) → state_of old ≡ empty → (worked : HasWorked handed old new n q) → IsLegal (fixed_of old) worked.events
-legal_from_new handed old new n q fresh worked = subst (λ (s : State). AreLegalFrom (fixed_of old) s worked.events) fresh worked.legal
-
-pub state_from_new : (handed : Piece → Type 0) (old new : Store) (n q : ℕ) → state_of old ≡ empty → (worked : HasWorked handed old new n q)
-    → state_of new ≡ state_after worked.events
-state_from_new handed old new n q fresh worked = worked.after ∙ ap (λ (s : State). run s worked.events) fresh
-
--- a new store that was filled from the blob isn't unfinished, unless a pair is named
-pub unfinished_pair : (handed : Piece → Type 0) (old new : Store) (n q : ℕ) (blob : List ℕ) → IsKeyed (fixed_of old).mode → IsBlob (fixed_of old) blob → state_of old ≡ empty
-    → HasWorked handed old new n q → AddsBlobs handed old new → IsFilled Records Holds IsBusy old new blob → IsUnfinished (state_of new) → HasPair handed (fixed_of old) blob
-unfinished_pair handed old new n q blob keyed is fresh worked binds filled unfinished =
-    let legal = legal_from_new handed old new n q fresh worked in
-    let recorded : (state_after worked.events).recorded ≡ Some filled.recorded =
-    subst (λ (s : State). s.recorded ≡ Some filled.recorded) (state_from_new handed old new n q fresh worked) filled.is in
-    elim (record_binds (fixed_of old) worked.events blob filled.recorded keyed is legal recorded) [
-      | inr from ↦ pair_of handed (fixed_of old) worked.events blob worked.from (inr (filled.recorded, record { settled = from.0; pair = from.1 }))
+-- a length is recorded, all chunks of the blob are held if it is the blob's, and the store is unfinished: a pair is named
+pub unfinished_named : (fixed : Fixed) (history : List Event) (blob : List ℕ) (l : ℕ) → IsKeyed fixed.mode → IsBlob fixed blob → IsLegal fixed history
+    → (state_after history).recorded ≡ Some l → (l ≡ length blob → (c : ℕ) → c < chunk_count (length blob) → is_held (state_after history) c ≡ true)
+    → IsUnfinished (state_after history) → IsNamedIn fixed history blob
+unfinished_named fixed history blob l keyed is legal recorded chunks unfinished =
+    elim (record_binds fixed history blob l keyed is legal recorded) [
+      | inr from ↦ inr (l, record { settled = from.0; pair = from.1 })
       | inl long ↦ elim unfinished [
-        | inl none ↦ let no : Some filled.recorded ≡ None = sym filled.is ∙ none in cc
+        | inl none ↦ let no : Some l ≡ None = sym recorded ∙ none in cc
         | inr lacks ↦
             let p = lacks.position in
-            let len : lacks.len ≡ filled.recorded = some_same lacks.len filled.recorded (sym lacks.recorded ∙ filled.is) in
+            let len : lacks.len ≡ l = some_same lacks.len l (sym lacks.recorded ∙ recorded) in
             let below : p < length blob = omega (arith, lacks.below, len, long) in
-            elim (filled.chunks long (p / 1024) (omega (arith, below))) [
-              | inr busy ↦ let no : false ≡ true = subst (λ (s : State). is_claimed s (p / 1024) ≡ true) fresh busy in cc
-              | inl held ↦
-                  let there = some_bytes ((state_of new).held (p / 1024)) held in
-                  elim (binds blob is (p / 1024) there.0 there.1) [
-                    | inl before ↦ let no : None ≡ Some there.0 = subst (λ (s : State). s.held (p / 1024) ≡ Some there.0) fresh before in cc
-                    | inr (inl chunk) ↦ absurd (byte_there (state_of new) blob there.0 p below there.1 chunk lacks.missing)
-                    | inr (inr from) ↦ record { piece = from.0.piece; from = from.0.from; accepted = from.0.accepted; pair = from.1 }
-                  ]
+            let there = some_bytes ((state_after history).held (p / 1024)) (chunks long (p / 1024) (omega (arith, below))) in
+            elim (held_binds fixed history blob (p / 1024) there.0 keyed is legal there.1) [
+              | inl chunk ↦ absurd (byte_there (state_after history) blob there.0 p below there.1 chunk lacks.missing)
+              | inr from ↦ inl (p / 1024, record { bytes = there.0; committed = from.0; pair = from.1 })
             ]
       ]
     ]
 
--- the blob of a new store is the one whose chunks it was filled with, or a pair is named
-pub whole_pair : (handed : Piece → Type 0) (old new : Store) (n q : ℕ) (blob bytes : List ℕ) → IsKeyed (fixed_of old).mode → IsBlob (fixed_of old) blob → state_of old ≡ empty
-    → HasWorked handed old new n q → IsWhole (state_of new) bytes → (bytes ≡ blob) ⊎ HasPair handed (fixed_of old) blob
-whole_pair handed old new n q blob bytes keyed is fresh worked whole =
-    let there : IsWhole (state_after worked.events) bytes = subst (λ (s : State). IsWhole s bytes) (state_from_new handed old new n q fresh worked) whole in
-    elim (whole_binds (fixed_of old) worked.events bytes blob keyed is (legal_from_new handed old new n q fresh worked) there) [
-      | inl same ↦ inl (sym same)
-      | inr named ↦ inr (pair_of handed (fixed_of old) worked.events blob worked.from named)
-    ]
+-- a new store that was filled from the blob isn't unfinished, unless a pair is named
+pub unfinished_pair : (handed : Piece → Type 0) (old new : Store) (n q : ℕ) (blob : List ℕ) → IsKeyed (fixed_of old).mode → IsBlob (fixed_of old) blob → state_of old ≡ empty
+    → HasWorked handed old new n q → IsFilled Records Holds IsBusy old new blob → IsUnfinished (state_of new) → HasPair handed (fixed_of old) blob
+unfinished_pair handed old new n q blob keyed is fresh worked filled unfinished =
+    let there : state_of new ≡ state_after worked.events = worked.after ∙ ap (λ (s : State). run s worked.events) fresh in
+    let legal : IsLegal (fixed_of old) worked.events = subst (λ (s : State). AreLegalFrom (fixed_of old) s worked.events) fresh worked.legal in
+    pair_of handed (fixed_of old) worked.events blob worked.from (unfinished_named (fixed_of old) worked.events blob filled.recorded keyed is legal
+    (subst (λ (s : State). s.recorded ≡ Some filled.recorded) there filled.is)
+    (λ long c below. elim (filled.chunks long c below) [
+      | inl held ↦ subst (λ (s : State). is_held s c ≡ true) there held
+      | inr busy ↦ let no : false ≡ true = subst (λ (s : State). is_claimed s c ≡ true) fresh busy in cc
+    ]) (subst IsUnfinished there unfinished))
 
 some_text : (xs ys : List ℕ) → Some xs ≡ Some ys → xs ≡ ys
 some_text xs ys e = cc

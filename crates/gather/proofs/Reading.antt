@@ -3,11 +3,11 @@ use Rattle.std.proofs.Common.{ℕ, ◌+◌, List, ◌++◌, Option, ◌∙◌, a
 use Rattle.std.proofs.lemmas.List.{append_assoc}
 use Rattle.b3read.specs.Given.{GivenAt}
 use Rattle.b3read.proofs.Parts.{GivenAt-append}
-use Rattle.gather.specs.Reads.{Gains}
+use Rattle.gather.specs.Reads.{ReadFrom}
 
-pub Gains-more : (contents : Option (List ℕ)) (at : ℕ) (old mid new : List ℕ) (came count : ℕ) → Gains contents at old mid came → Gains contents (at + came) mid new count
-    → Gains contents at old new (came + count)
-Gains-more contents at old mid new came count first more = record {
+pub read_more : (contents : Option (List ℕ)) (at : ℕ) (old mid new : List ℕ) (came count : ℕ) → ReadFrom contents at old mid came → ReadFrom contents (at + came) mid new count
+    → ReadFrom contents at old new (came + count)
+read_more contents at old mid new came count first more = record {
   bytes = first.bytes ++ more.bytes;
   is = more.is ∙ ap (λ (xs : List ℕ). xs ++ more.bytes) first.is ∙ append_assoc old first.bytes more.bytes;
   size = length-append first.bytes more.bytes ∙ (λ i. first.size i + more.size i);

@@ -3,25 +3,14 @@ use Rattle.std.proofs.Common.{◌≡◌, ◌⊎◌, ℕ, zero, suc, ◌+◌, ◌
 use Rattle.std.proofs.lemmas.Option.{slice_get-get_or}
 use Rattle.std.specs.List.{sum_by}
 use Rattle.std.proofs.lemmas.List.Sums.{sum_by-set}
-use Rattle.b3tree.specs.declared.mode.Mode.{Mode}
-use Rattle.bao_check.specs.declared.checked.Checked.{Checked}
-use Rattle.bao_check.specs.Checked.{IsPiece, piece_text}
 use Rattle.bao_check.specs.declared.fault.CheckFault.{CheckFault}
 use Rattle.bao_check.specs.declared.fault.CheckFault.TheVariants.{Short, Mismatch, Trailing, Memory, Reader}
 use Rattle.store_core.specs.declared.fixed.Fixed.{Fixed}
 use Rattle.store_core.specs.declared.history.Piece.{Piece}
-use Rattle.store_core.specs.Pieces.{piece_of}
 use Rattle.gather.specs.declared.report.Report.{Report}
 use Rattle.gather.specs.Counts.{Fits, Goes, Reports, asked_once, checked_once, failed_once, memory_once, plus}
 use Rattle.gather.specs.Holders.{AreLater, GivesNoMore, IsGiven, IsHanded, IsIt, IsNone}
 use Rattle.gather.specs.Large.{EndsTooFar, IsTooLarge}
-
--- a checked text is a piece that its holder gave
-pub piece_given : {H : Type 0} (gives : H → ℕ → ℕ → List ℕ → Type 0) (holder : H) (it : Checked) (mode : Mode) (root : List ℕ) (start len : ℕ) (text : List ℕ)
-    → IsPiece it mode root start len text → gives holder start len text → IsGiven gives holder (piece_of it)
-piece_given gives holder it mode root start len text is given =
-    subst (λ (k : ℕ). gives holder k it.len (piece_text it)) (sym is.start_is)
-    (subst (λ (k : ℕ). gives holder start k (piece_text it)) (sym is.len_is) (subst (λ (xs : List ℕ). gives holder start len xs) (sym is.text_is) given))
 
 -- what stands in a list of which an element was set
 set_there : {H : Type 0} (xs : List H) (i j : ℕ) (y h : H) → slice_get (set xs i y) j ≡ Some h → (h ≡ y) ⊎ (slice_get xs j ≡ Some h)

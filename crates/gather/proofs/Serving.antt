@@ -59,9 +59,6 @@ pub fetch_failed : (a b : ℕ) (x y : Report) → ((a < b) × (y ≡ failed_once
 fetch_failed a b x y (inl failed) = inr (subst (λ (r : Report). 0 < r.failed) (sym failed.1) (omega arith))
 fetch_failed a b x y (inr starved) = inl (subst (λ (r : Report). 0 < r.memory) (sym starved.1) (omega arith))
 
-pub memory_failed : (x y : Report) → y ≡ memory_once x → HasFailed y
-memory_failed x y is = inl (subst (λ (r : Report). 0 < r.memory) (sym is) (omega arith))
-
 pub fails_on : (x y : Report) → (x.memory ≤ y.memory) × (x.failed ≤ y.failed) → HasFailed x → HasFailed y
 fails_on x y no_less (inl memory) = inl (omega (arith, memory, no_less.0))
 fails_on x y no_less (inr failed) = inr (omega (arith, failed, no_less.1))

@@ -1,12 +1,14 @@
--- When a store's blob is whole.
-use Rattle.std.specs.Prelude.{◌≡◌, ◌≢◌, ◌⊎◌, ℕ, ◌<◌, List, length, None, Some}
+-- What the blob of a store is, why there is none yet, and to whom it binds: of a store's root, mode and capacity, its state, and any
+-- legal history that leads there. The one-thread store's `finish_one` and the shared store's `finish` and `Whole` keep it.
+use Rattle.std.specs.Prelude.{◌≡◌, ◌≢◌, ◌⊎◌, ℕ, ◌*◌, ◌<◌, ◌≤◌, List, length, None, Some, Err, IfErr, IfOk, IsErrOf, OnErr, OnOk, Result}
 use Rattle.b3tree.specs.Hashing.{hash}
+use Rattle.gather.specs.declared.fault.FinishFault.{FinishFault}
+use Rattle.gather.specs.declared.fault.FinishFault.TheVariants.{NotTheRoot, Unfinished}
 use Rattle.store_core.specs.declared.fixed.Fixed.{Fixed}
 use Rattle.store_core.specs.declared.history.Event.{Event}
-use Rattle.store_core.specs.declared.store.Store.{Store}
+use Rattle.store_core.specs.Histories.{IsLegal, state_after}
 use Rattle.store_core.specs.Laws.{IsBlob}
-use Rattle.store_core.specs.Reached.{IsReached}
-use Rattle.store_core.specs.Stores.{PairCommitted, PairSettled, fixed_of, state_of}
+use Rattle.store_core.specs.Stores.{PairCommitted, PairSettled}
 use Rattle.store_core.specs.States.{State, byte_at, read_bytes}
 
 -- these are the bytes below the recorded length, all of them held
@@ -32,11 +34,40 @@ pub record IsOther (fixed : Fixed) (s : State) : Type 0 where
   pub whole : IsWhole s bytes
   pub hashed : hash fixed.mode bytes ≢ fixed.root.0
 
+-- these bytes are all that are held, their hash is the root, and there was room for them
+pub record IsFinished (fixed : Fixed) (s : State) (bytes : List ℕ) : Type 0 where
+  pub whole : IsWhole s bytes
+  pub root : hash fixed.mode bytes ≡ fixed.root.0
+  pub fits : length bytes ≤ 1024 * fixed.capacity
+
+-- The blob of a state is answered, or why there is none: always so where no length is recorded.
+pub record Finishes {T : Type 0} (bytes_of : T → List ℕ) (fixed : Fixed) (s : State) (result : Result T FinishFault) : Type 0 where
+  pub blob : IfOk result (λ blob. IsFinished fixed s (bytes_of blob))
+  pub no_length : s.recorded ≡ None → result ≡ Err Unfinished
+  pub unfinished : IsErrOf result Unfinished → IsUnfinished s
+  pub other : IsErrOf result NotTheRoot → IsOther fixed s
+
 -- Two different inputs with one chaining value are named: one of the blob's, and one of a piece's of which the history
 -- committed a chunk, or by which it settled the length.
 abbrev pub IsNamedIn : Fixed → List Event → List ℕ → Type 0
 IsNamedIn fixed history blob = ((c : ℕ) × PairCommitted fixed history blob c) ⊎ ((l : ℕ) × PairSettled fixed history blob l)
 
--- so it is for each blob with the root and every legal history that leads to the store
-abbrev pub BindsNone : Store → Type 0
-BindsNone store = (blob : List ℕ) → IsBlob (fixed_of store) blob → (by : IsReached (fixed_of store) (state_of store)) → IsNamedIn (fixed_of store) by.history blob
+-- so it is for each blob with the root
+abbrev pub BindsNone : Fixed → List Event → Type 0
+BindsNone fixed history = (blob : List ℕ) → IsBlob fixed blob → IsNamedIn fixed history blob
+
+-- or else the bytes are that blob's
+abbrev pub BindsTo : Fixed → List Event → List ℕ → Type 0
+BindsTo fixed history bytes = (blob : List ℕ) → IsBlob fixed blob → (bytes ≡ blob) ⊎ IsNamedIn fixed history blob
+
+-- What is answered binds each blob with the root, by a history of the state: it is the blob, and none is another's.
+pub record Binds {T : Type 0} (bytes_of : T → List ℕ) (fixed : Fixed) (history : List Event) (result : Result T FinishFault) : Type 0 where
+  pub found : IfOk result (λ blob. BindsTo fixed history (bytes_of blob))
+  pub none : IsErrOf result NotTheRoot → BindsNone fixed history
+
+-- The verdict on bytes is that their hash is the root; or wherever they are whole they are another's.
+pub record Judges (fixed : Fixed) (bytes : List ℕ) (result : Result Unit FinishFault) : Type 0 where
+  pub root : OnOk result (hash fixed.mode bytes ≡ fixed.root.0)
+  pub fault : IfErr result (λ fault. fault ≡ NotTheRoot)
+  pub other : OnErr result ((s : State) → IsWhole s bytes → IsOther fixed s)
+  pub none : OnErr result ((history : List Event) → IsLegal fixed history → IsWhole (state_after history) bytes → BindsNone fixed history)

@@ -33,10 +33,6 @@ pub record IsHanded {H : Type 0} (gives : H → ℕ → ℕ → List ℕ → Typ
 abbrev pub IsIt : Piece → Piece → Type 0
 IsIt it piece = piece ≡ it
 
--- any piece, of which nothing is said
-abbrev pub IsAny : Piece → Type 0
-IsAny piece = Unit {0}
-
 -- no piece
 abbrev pub IsNone : Piece → Type 0
 IsNone piece = ⊥

@@ -1,5 +1,5 @@
 -- Blobs and the pieces that are accepted under their roots.
-use Rattle.std.specs.Prelude.{◌⊎◌, ℕ, ◌*◌, ◌<◌, List, length}
+use Rattle.std.specs.Prelude.{◌≡◌, ◌⊎◌, ℕ, ◌*◌, ◌<◌, List, length}
 use Rattle.b3tree.specs.declared.mode.Mode.{Mode}
 use Rattle.b3tree.specs.declared.values.Hash.{Hash}
 use Rattle.store_core.specs.declared.fixed.Fixed.{Fixed}
@@ -34,6 +34,10 @@ AreLonger handed fixed = (blob : List ℕ) → IsBlob fixed blob → (1024 * fix
 -- there is no blob with the root, or a pair is named
 abbrev pub IsOfNone : (Piece → Type 0) → Fixed → Type 0
 IsOfNone handed fixed = (blob : List ℕ) → IsBlob fixed blob → HasPair handed fixed blob
+
+-- the bytes are each blob's with the root, or a pair is named
+abbrev pub AreTheBlob : (Piece → Type 0) → Fixed → List ℕ → Type 0
+AreTheBlob handed fixed bytes = (blob : List ℕ) → IsBlob fixed blob → (bytes ≡ blob) ⊎ HasPair handed fixed blob
 
 -- a store's root, mode and capacity
 abbrev pub fixed_as : Hash → Mode → ℕ → Fixed

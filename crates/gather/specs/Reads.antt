@@ -6,7 +6,7 @@ use Rattle.bao_text.specs.Nodes.{TreeNode, size}
 use Rattle.gather.specs.Places.{OfBytes}
 
 -- so many bytes of a source from a place on follow
-pub record Gains (contents : Option (List ℕ)) (at : ℕ) (old new : List ℕ) (count : ℕ) : Type 0 where
+pub record ReadFrom (contents : Option (List ℕ)) (at : ℕ) (old new : List ℕ) (count : ℕ) : Type 0 where
   pub bytes : List ℕ
   pub is : new ≡ old ++ bytes
   pub size : length bytes ≡ count

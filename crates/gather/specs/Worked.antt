@@ -8,7 +8,7 @@ use Rattle.store_core.specs.declared.fixed.Fixed.{Fixed}
 use Rattle.store_core.specs.declared.history.Piece.{Piece}
 use Rattle.store_core.specs.declared.history.Storing.TheVariants.{OtherLength, Stored}
 use Rattle.bao_check.specs.Pieces.{chunk_of}
-use Rattle.store_core.specs.Laws.{IsBlob, PairNamed}
+use Rattle.store_core.specs.Laws.{IsBlob, PairNamed, chunks_of}
 use Rattle.store_core.specs.Pieces.{IsAcceptedPiece, chunk_bytes}
 use Rattle.store_core.specs.declared.store.Store.{Store}
 use Rattle.store_core.specs.Histories.{AreLegalFrom, run}
@@ -18,18 +18,7 @@ use Rattle.store_core.specs.States.{claims}
 use Rattle.store_core.specs.Stores.{fixed_of, state_of}
 use Rattle.gather.specs.declared.report.Report.{Report}
 
--- how many chunks a call stores: those of a commit's mask
-abbrev pub chunks_of : Call → ℕ
-chunks_of (Take group want granted) = 0
-chunks_of (Give group mask given) = 0
-chunks_of (Commit group piece committed) = count_ones committed
-chunks_of (Settle piece answer) = 0
-chunks_of (Read at len bytes) = 0
-chunks_of (Length recorded) = 0
-chunks_of (Parents group piece answer) = 0
-chunks_of (Serve start len answer) = 0
-
--- how many parents it stores: those of its mask
+-- how many parents a call stores: those of its mask
 abbrev pub parents_of : Call → ℕ
 parents_of (Take group want granted) = 0
 parents_of (Give group mask given) = 0

@@ -11,11 +11,12 @@ use Rattle.store_core.specs.declared.history.Piece.{Piece}
 use Rattle.store_core.specs.declared.store.Store.{Store}
 use Rattle.store_core.specs.Events.{after}
 use Rattle.store_core.specs.Histories.{AreLegalFrom, run}
+use Rattle.store_core.specs.Laws.{chunks_of}
 use Rattle.store_core.specs.States.{State}
 use Rattle.store_core.specs.Stores.{fixed_of, state_of}
 use Rattle.gather.specs.Counts.{Goes}
 use Rattle.gather.specs.Holders.{IsNone}
-use Rattle.gather.specs.Worked.{AreFrom, HasWorked, IsFrom, IsOwn, chunks_in, chunks_of, parents_in, parents_of}
+use Rattle.gather.specs.Worked.{AreFrom, HasWorked, IsFrom, IsOwn, chunks_in, parents_in, parents_of}
 
 run_append : (s : State) (first second : List Event) → run s (first ++ second) ≡ run (run s first) second
 run_append s [] second = refl

@@ -1,13 +1,14 @@
-ghost use Rattle.std.specs.Prelude.{◌≡◌, ◌≢◌, ℕ, ◌*◌, ◌≤◌, List, Err, IfOk, IsErrOf, None, Some, length};
+ghost use Rattle.std.specs.Prelude.{◌≡◌, ◌≢◌, ℕ, List, Err, IfOk, IsErrOf, Some};
 ghost use Rattle.b3tree.specs.Hashing.{hash};
-ghost use Rattle.store_core.specs.Stores.{ReadBinds, fixed_of, state_of};
+ghost use Rattle.store_core.specs.Reached.{IsReached};
+ghost use Rattle.store_core.specs.Stores.{fixed_of, state_of};
 ghost use Rattle.gather.specs.declared.fault.FinishFault.TheVariants.{NotTheRoot, Unfinished};
-ghost use Rattle.gather.specs.Finished.{BindsNone, IsOther, IsUnfinished, IsWhole, LacksByte};
+ghost use Rattle.gather.specs.Finished.{Binds, Finishes, IsWhole, Judges, LacksByte};
 
 use crate::fault::FinishFault;
-use b3tree::hash;
+use b3tree::{Hash, hash};
 use std::alloc::Global;
-use store_core::{Store, read_means};
+use store_core::{Fixed, Store, read_means};
 
 // How many bytes are read at a time. They are few enough to stay in the processor's cache until they are appended.
 const PART_LEN: usize = 1 << 16;
@@ -16,7 +17,6 @@ const PART_LEN: usize = 1 << 16;
 fn read_all(alloc: Global, store: &Store, end: u64) -> Result<Vec<u8>, FinishFault>
     requires { (state_of store.now).recorded ≡ Some end }
     ensures whole { IfOk result (λ blob. IsWhole (state_of store.now) blob.items) }
-    ensures binds { IfOk result (λ blob. ReadBinds store.now 0 blob.items (length blob.items)) }
     ensures lacks { IsErrOf result Unfinished → LacksByte (state_of store.now) }
     ensures never { result ≢ Err NotTheRoot }
 {
@@ -32,21 +32,32 @@ fn read_all(alloc: Global, store: &Store, end: u64) -> Result<Vec<u8>, FinishFau
     Ok(blob)
 }
 
+/// Whether this is the hash of the blob of a store with this root and mode: 902 `NotTheRoot` unless it is the root.
+///
+/// Where it is the hash of all bytes that a store holds below its recorded length, these are another's then: for each blob
+/// with the root, two different inputs with one chaining value are named, one of the blob's and one of a piece's of which
+/// the store's history committed a chunk, or by which it settled the length.
+pub fn judge(fixed: &Fixed, hashed: Hash) -> Result<(), FinishFault>
+    ensures { (bytes : List ℕ) → hashed.0 ≡ hash fixed.now.mode bytes → Judges fixed.now bytes result }
+{
+    fixed.mode.is_keyed();
+    if hashed != fixed.root {
+        return Err(FinishFault::NotTheRoot);
+    }
+    Ok(())
+}
+
 /// The blob of a store: all bytes below the recorded length, once their hash in the mode is its root.
 ///
 /// In this order: 901 `Unfinished` where no length is recorded; 903 `Memory`; 901 where a byte below the length isn't
-/// held; 902 `NotTheRoot` where the hash of the bytes isn't the root. The store is unchanged. At `NotTheRoot`, for each
-/// blob with the root and whatever legal history led to the store, two different inputs with one chaining value are
-/// named, one of the blob's and one of a piece's of which that history committed a chunk, or by which it settled the
-/// length.
+/// held; 902 `NotTheRoot` where the hash of the bytes isn't the root. The store is unchanged.
+///
+/// For each blob with the root and whatever legal history led to the store, the blob is the one that is answered, and
+/// there is none at `NotTheRoot`; or two different inputs with one chaining value are named, one of the blob's and one of
+/// a piece's of which that history committed a chunk, or by which it settled the length.
 pub fn finish_one(alloc: Global, store: &Store) -> Result<Vec<u8>, FinishFault>
-    ensures root { IfOk result (λ blob. hash (fixed_of store.now).mode blob.items ≡ (fixed_of store.now).root.0) }
-    ensures whole { IfOk result (λ blob. IsWhole (state_of store.now) blob.items) }
-    ensures fits { IfOk result (λ blob. length blob.items ≤ 1024 * (fixed_of store.now).capacity) }
-    ensures no_length { (state_of store.now).recorded ≡ None → result ≡ Err Unfinished }
-    ensures unfinished { IsErrOf result Unfinished → IsUnfinished (state_of store.now) }
-    ensures other { IsErrOf result NotTheRoot → IsOther (fixed_of store.now) (state_of store.now) }
-    ensures none { IsErrOf result NotTheRoot → BindsNone store.now }
+    ensures finishes { Finishes (λ blob. blob.items) (fixed_of store.now) (state_of store.now) result }
+    ensures binds { (by : IsReached (fixed_of store.now) (state_of store.now)) → Binds (λ blob. blob.items) (fixed_of store.now) by.history result }
 {
     let length = match store.length() {
         Some(length) => length,
@@ -54,8 +65,7 @@ pub fn finish_one(alloc: Global, store: &Store) -> Result<Vec<u8>, FinishFault>
     };
     let blob = read_all(alloc, store, length)?;
     let fixed = store.fixed();
-    if hash(&fixed.mode, blob.as_slice()) != fixed.root {
-        return Err(FinishFault::NotTheRoot);
-    }
+    fixed.mode.is_keyed();
+    judge(&fixed, hash(&fixed.mode, blob.as_slice()))?;
     Ok(blob)
 }

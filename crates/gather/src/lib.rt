@@ -3,7 +3,7 @@
 
 pub use encoded_at::EncodedAt;
 pub use fault::FinishFault;
-pub use finish::finish_one;
+pub use finish::{finish_one, judge};
 pub use form::Form;
 pub use grain::Grain;
 pub use holder::{Encoded, Holder, HolderFault};

@@ -4,7 +4,7 @@ ghost use Rattle.bao_text.specs.Nodes.{Side, subtree_nodes, subtree_size};
 ghost use Rattle.gather.specs.declared.holder.HolderFault.TheVariants.{Device};
 ghost use Rattle.gather.specs.Places.{OfBytes, slice_len};
 ghost use Rattle.gather.specs.Plains.{part_of};
-ghost use Rattle.gather.specs.Reads.{Cuts, Gains};
+ghost use Rattle.gather.specs.Reads.{Cuts, ReadFrom};
 
 use crate::form::CHUNK_LEN;
 use crate::holder::HolderFault;
@@ -27,7 +27,7 @@ fn append_some<S: Source>(
     into: &mut Vec<u8>,
 ) -> Result<usize, HolderFault>
     requires { 0 < room }
-    ensures gains { IfOk result (λ count. Gains (S.contents source.now) at into.old.items into.new.items count) }
+    ensures gains { IfOk result (λ count. ReadFrom (S.contents source.now) at into.old.items into.new.items count) }
     ensures most { IfOk result (λ count. count ≤ room) }
     ensures none { IfOk result (λ count. count ≡ 0 → IfSome (S.contents source.now) (λ bytes. length bytes ≤ at)) }
     ensures kept { take (length into.old.items) into.new.items ≡ into.old.items }

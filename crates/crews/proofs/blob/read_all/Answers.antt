@@ -1,7 +1,8 @@
 use Rattle.std.proofs.Common.{◌≡◌, ◌*◌, ◌≤◌, ℕ, List, length, ap, arith, inl, inr, subst, sym}
 use Rattle.std.proofs.lemmas.List.{with_items_is}
-use Rattle.crews.proofs.Finishing.{asks_both, length_there, no_none, read_lacks, read_whole, recorded_fits, recorded_then}
+use Rattle.crews.proofs.Finishing.{asks_both, length_there, read_lacks, read_whole, recorded_fits, recorded_then}
 use Rattle.crews.proofs.blob.read_all.Goals as goal
+use Rattle.gather.proofs.Finishing.{no_none}
 use Rattle.gather.specs.Finished.{IsWhole}
 use Rattle.store_core.specs.declared.fixed.Fixed.{Fixed}
 use Rattle.store_core.specs.Histories.{IsLegal, state_after}

@@ -3,7 +3,7 @@ use Rattle.std.proofs.lemmas.List.{with_items_is}
 use Rattle.std.specs.List.{All}
 use Rattle.bao_text.specs.Choice.{chunk_count}
 use Rattle.crews.specs.declared.crew.Crew.{Crew}
-use Rattle.crews.specs.Closing.{AreTheBlob, IsKeptWhole}
+use Rattle.crews.specs.Closing.{IsKeptWhole}
 use Rattle.crews.specs.Crews.{IsHandedTo}
 use Rattle.crews.specs.Joined.{AreCallsOf, AreClaimsOf, HasAllNamesOf, HaveAllNames}
 use Rattle.crews.specs.Lists.{HaveAll, IsLent}
@@ -12,7 +12,7 @@ use Rattle.crews.proofs.OfNone.{handed_wide, lent_all}
 use Rattle.crews.proofs.Summing.{all_each}
 use Rattle.crews.proofs.Whence.{left_to_one, no_faults, opening_all}
 use Rattle.crews.proofs.gathering.gather_by.Goals as goal
-use Rattle.gather.specs.Large.{AreLonger, IsOfNone, IsTooLarge}
+use Rattle.gather.specs.Large.{AreTheBlob, AreLonger, IsOfNone, IsTooLarge}
 use Rattle.gather.proofs.Reporting.{large_wider}
 use Rattle.store_core.specs.declared.fixed.Fixed.{Fixed}
 use Rattle.store_core.specs.declared.history.Piece.{Piece}

@@ -1,25 +1,24 @@
-use Rattle.std.proofs.Common.{◌≡◌, ◌⊎◌, ◌*◌, ◌≤◌, List, ℕ, IfOk, Result, length, ap, arith, refl, sym, subst, ◌∙◌, inl, inr}
+use Rattle.std.proofs.Common.{◌≡◌, ◌*◌, ◌≤◌, List, ℕ, IfOk, Result, length, ap, arith, refl, sym, subst, ◌∙◌, inl, inr}
 use Rattle.std.specs.Prelude.{IsErrOf}
 use Rattle.b3tree.specs.declared.mode.Mode.{Mode}
 use Rattle.b3tree.specs.Valid.{IsKeyed}
 use Rattle.bao_check.proofs.Laws.{accepted_binds}
 use Rattle.b3tree.specs.Hashing.{hash}
 use Rattle.crews.specs.Lists.{IsLent}
-use Rattle.crews.specs.Wholes.{IsFull}
-use Rattle.crews.proofs.Finishing.{recorded_fits}
-use Rattle.crews.proofs.Rereading.{full_whole, round_full}
-use Rattle.crews.proofs.HandingOut.{cuts, large_cut, unfinished_handed, whole_pair}
+use Rattle.crews.proofs.Rereading.{round_full}
+use Rattle.crews.proofs.HandingOut.{cuts, large_cut, unfinished_handed}
 use Rattle.crews.proofs.OfNone.{is_large}
 use Rattle.crews.proofs.handing.hand_out.Goals as goal
 use Rattle.gather.specs.declared.fault.FinishFault.{FinishFault}
 use Rattle.gather.specs.declared.fault.FinishFault.TheVariants as finishing
-use Rattle.gather.specs.Large.{HasPair}
+use Rattle.gather.specs.Finished.{BindsTo, IsFinished}
+use Rattle.gather.specs.Large.{AreTheBlob}
 use Rattle.gather.specs.declared.texts.GatherFault.{GatherFault}
 use Rattle.gather.specs.declared.texts.GatherFault.TheVariants.{TooLarge}
 use Rattle.gather.specs.Faults.{cause_of}
 use Rattle.gather.specs.HandedOut.{IsExcused}
 use Rattle.gather.specs.Holders.{IsHanded}
-use Rattle.gather.proofs.Binding.{are_longer, pair_of}
+use Rattle.gather.proofs.Binding.{are_longer, found_by, pair_of}
 use Rattle.store_core.specs.declared.fixed.Fixed.{Fixed}
 use Rattle.store_core.specs.declared.history.Piece.{Piece}
 use Rattle.store_core.specs.Histories.{IsLegal, state_after}
@@ -40,7 +39,7 @@ returns-in-Err-NotTheRoot-clause-none g c = λ _ blob is.
     pair_of handed fixed c.certify-ended.result.1.view.seen blob (cuts _ gives g.H.Holder.count handed fixed c.args.seat c.closing_rounds.new.seat c.certify-ended.result.1.view c.look_round.new.seat.view holders
     c.closing_rounds.new.holders c.args.report c.closing_rounds.new.report wide c.requires.of.knows.fixed_is met.of.knows.fixed_is c.requires.left met.reports met.alone
     c.certify-ended.ensures.on c.look_round.ensures.looked)
-    (c.certify-ended.ensures.none told blob is)
+    (c.certify-ended.ensures.binds.none told blob is)
 
 pub returns-in-Err-Unfinished-clause-too_large : goal.returns-in-Err-Unfinished-clause-too_large
 returns-in-Err-Unfinished-clause-too_large g c = λ e.
@@ -98,26 +97,25 @@ new-requires-clause-full g c =
 pub returns-in-Ok-ended-clause-root : goal.returns-in-Ok-ended-clause-root
 returns-in-Ok-ended-clause-root g c =
     let fixed : Fixed = fixed_of c.args.assembly in
-    let finished = c.certify-ended.result.1.view.seen in
-    let full = round_full _ c.certify-ended.result.1.view c.look_round.new.seat.view c.certify-ended.result.0 c.in-Ok-ended.len c.look_round.ensures.looked
-    c.look_round.ensures.of.knows.legal c.certify-ended.ensures.full c.in-Ok-ended.is in
-    let root : hash fixed.mode (read_bytes (state_after finished) 0 c.in-Ok-ended.len) ≡ fixed.root.0 =
-    subst (λ (r : Result ℕ FinishFault). IfOk r (λ (len : ℕ). hash fixed.mode (read_bytes (state_after finished) 0 len) ≡ fixed.root.0)) c.in-Ok-ended.is c.certify-ended.ensures.root in
-    ap (λ (bytes : List ℕ). hash fixed.mode bytes) (c.new.ensures ∙ full.1) ∙ root
+    let s = state_after c.certify-ended.result.1.view.seen in
+    let same = (round_full _ c.certify-ended.result.1.view c.look_round.new.seat.view c.certify-ended.result.0 c.in-Ok-ended.len c.look_round.ensures.looked
+    c.look_round.ensures.of.knows.legal c.certify-ended.ensures.full c.in-Ok-ended.is).1 in
+    let done : IsFinished fixed s (read_bytes s 0 c.in-Ok-ended.len) =
+    subst (λ (r : Result ℕ FinishFault). IfOk r (λ (len : ℕ). IsFinished fixed s (read_bytes s 0 len))) c.in-Ok-ended.is c.certify-ended.ensures.finished in
+    ap (λ (bytes : List ℕ). hash fixed.mode bytes) (c.new.ensures ∙ same) ∙ done.root
 
 pub returns-in-Ok-ended-clause-fits : goal.returns-in-Ok-ended-clause-fits
 returns-in-Ok-ended-clause-fits g c =
     let fixed : Fixed = fixed_of c.args.assembly in
-    let round = c.look_round.new.seat.view in
-    let of = c.look_round.ensures.of in
-    let legal : IsLegal fixed round.seen = subst (λ (f : Fixed). IsLegal f round.seen) of.knows.fixed_is of.knows.legal in
-    let full = round_full _ c.certify-ended.result.1.view round c.certify-ended.result.0 c.in-Ok-ended.len c.look_round.ensures.looked
-    of.knows.legal c.certify-ended.ensures.full c.in-Ok-ended.is in
-    subst (λ (bytes : List ℕ). length bytes ≤ 1024 * fixed.capacity) (sym c.new.ensures)
-    (recorded_fits fixed round.seen (read_bytes (state_after round.seen) 0 c.in-Ok-ended.len) legal (full_whole (state_after round.seen) c.in-Ok-ended.len full.0))
+    let s = state_after c.certify-ended.result.1.view.seen in
+    let same = (round_full _ c.certify-ended.result.1.view c.look_round.new.seat.view c.certify-ended.result.0 c.in-Ok-ended.len c.look_round.ensures.looked
+    c.look_round.ensures.of.knows.legal c.certify-ended.ensures.full c.in-Ok-ended.is).1 in
+    let done : IsFinished fixed s (read_bytes s 0 c.in-Ok-ended.len) =
+    subst (λ (r : Result ℕ FinishFault). IfOk r (λ (len : ℕ). IsFinished fixed s (read_bytes s 0 len))) c.in-Ok-ended.is c.certify-ended.ensures.finished in
+    subst (λ (bytes : List ℕ). length bytes ≤ 1024 * fixed.capacity) (sym (c.new.ensures ∙ same)) done.fits
 
 pub returns-in-Ok-ended-clause-found : goal.returns-in-Ok-ended-clause-found
-returns-in-Ok-ended-clause-found g c = λ blob is.
+returns-in-Ok-ended-clause-found g c =
     let gives = g.H.Holder.gives in
     let handed : Piece → Type 0 = IsLent gives (g.L.Lists.over c.args.lists.now) in
     let fixed : Fixed = fixed_of c.args.assembly in
@@ -126,20 +124,17 @@ returns-in-Ok-ended-clause-found g c = λ blob is.
     subst (λ (all : List g.row.H.Denot). g.L.Lists.over c.args.lists.now all) (sym c.as_mut_slice.ensures.value) c.in-Ok.ensures in
     let wide : (piece : Piece) → IsHanded gives holders piece → handed piece = (λ piece is. record { holders = holders; are = are; handed = is }) in
     let met = c.closing_rounds.ensures in
-    let keyed : IsKeyed fixed.mode = subst (λ (mode : Mode). IsKeyed mode) c.mode.ensures c.is_keyed.ensures in
-    let of = c.certify-ended.ensures.of in
     let finished = c.certify-ended.result.1.view in
-    let legal : IsLegal fixed finished.seen = subst (λ (f : Fixed). IsLegal f finished.seen) of.knows.fixed_is of.knows.legal in
-    let full : IsFull (state_after finished.seen) c.in-Ok-ended.len =
-    subst (λ (r : Result ℕ FinishFault). IfOk r (λ (len : ℕ). IsFull (state_after finished.seen) len)) c.in-Ok-ended.is c.certify-ended.ensures.full in
     let same = (round_full _ finished c.look_round.new.seat.view c.certify-ended.result.0 c.in-Ok-ended.len c.look_round.ensures.looked
     c.look_round.ensures.of.knows.legal c.certify-ended.ensures.full c.in-Ok-ended.is).1 in
     let bytes : List ℕ = read_bytes (state_after finished.seen) 0 c.in-Ok-ended.len in
-    subst (λ (xs : List ℕ). (xs ≡ blob) ⊎ HasPair handed fixed blob) (sym (c.new.ensures ∙ same))
-    (whole_pair handed fixed finished.seen blob bytes keyed is legal
+    let binds : BindsTo fixed finished.seen bytes =
+    subst (λ (r : Result ℕ FinishFault). IfOk r (λ (len : ℕ). BindsTo fixed finished.seen (read_bytes (state_after finished.seen) 0 len))) c.in-Ok-ended.is c.certify-ended.ensures.binds.found in
+    subst (λ (xs : List ℕ). AreTheBlob handed fixed xs) (sym (c.new.ensures ∙ same))
+    (found_by handed fixed finished.seen bytes
     (cuts _ gives g.H.Holder.count handed fixed c.args.seat c.closing_rounds.new.seat finished c.look_round.new.seat.view holders
     c.closing_rounds.new.holders c.args.report c.closing_rounds.new.report wide c.requires.of.knows.fixed_is met.of.knows.fixed_is c.requires.left met.reports met.alone
-    c.certify-ended.ensures.on c.look_round.ensures.looked) (full_whole (state_after finished.seen) c.in-Ok-ended.len full))
+    c.certify-ended.ensures.on c.look_round.ensures.looked) binds)
 
 pub returns-in-Ok-ended-clause-available : goal.returns-in-Ok-ended-clause-available
 returns-in-Ok-ended-clause-available g c = λ blob is room there. returns-in-Ok-ended-clause-found g c blob is

@@ -1,31 +1,61 @@
-use Rattle.std.proofs.Common.{◌≡◌, ℕ, List, ap, subst, sym, ◌∙◌}
-use Rattle.b3tree.specs.declared.mode.Mode.{Mode}
-use Rattle.b3tree.specs.declared.values.Hash.{Hash}
-use Rattle.b3tree.specs.Hashing.{hash}
+use Rattle.std.proofs.Common.{◌≡◌, arith, refl, subst, ◌∙◌}
+use Rattle.std.specs.Prelude.{IsErrOf, OnOk, Result}
+use Rattle.b3tree.specs.Hashing.{hash, root_hash, rooted}
 use Rattle.b3tree.specs.Valid.{IsKeyed}
-use Rattle.crews.proofs.Finishing.{alike, binds_none, differs}
-use Rattle.crews.proofs.Rereading.{full_whole, top_hash}
+use Rattle.crews.proofs.Finishing.{recorded_fits}
+use Rattle.crews.proofs.Rereading.{full_whole, top_judged}
 use Rattle.crews.proofs.whole.judged.Goals as goal
+use Rattle.gather.proofs.Finishing.{binds_found, judged_fault, verdict_binds}
+use Rattle.gather.specs.declared.fault.FinishFault.{FinishFault}
+use Rattle.gather.specs.declared.fault.FinishFault.TheVariants.{NotTheRoot, Unfinished}
+use Rattle.gather.specs.Finished.{Judges}
 use Rattle.store_core.specs.declared.fixed.Fixed.{Fixed}
 use Rattle.store_core.specs.Histories.{IsLegal, state_after}
 use Rattle.store_core.specs.States.{State, read_bytes}
 use Rattle.store_shared.specs.Seats.{fixed_of}
 
-pub returns-then-ne-clause-none : goal.returns-then-ne-clause-none
-returns-then-ne-clause-none c = λ _.
+pub returns-in_err-judge-clause-binds : goal.returns-in_err-judge-clause-binds
+returns-in_err-judge-clause-binds c =
     let fixed : Fixed = fixed_of c.args.assembly.now in
     let s : State = state_after c.args.seat.now.view.seen in
-    let bytes : List ℕ = read_bytes s 0 c.args.len in
-    let keyed : IsKeyed fixed.mode = subst (λ (mode : Mode). IsKeyed mode) c.mode.ensures c.is_keyed.ensures in
-    let legal : IsLegal fixed c.args.seat.now.view.seen = subst (λ (f : Fixed). IsLegal f c.args.seat.now.view.seen) c.requires.of.knows.fixed_is c.requires.of.knows.legal in
-    let hashed : c.root_hash-hashed.result.0 ≡ hash fixed.mode bytes = rw (c.root_hash-hashed.ensures, c.rooted.ensures) (top_hash fixed.mode bytes c.args.top.now c.requires.top.top) in
-    binds_none fixed c.args.seat.now.view.seen bytes keyed legal (full_whole s c.args.len c.requires.full)
-    (λ same. differs c.root_hash-hashed.result.0 c.root.result.0 c.if-ne.ensures (hashed ∙ same ∙ sym (ap (λ (root : Hash). root.0) c.root.ensures)))
+    let hashed : c.root_hash.result.0 ≡ root_hash (rooted c.args.top.now) = rw (c.root_hash.ensures, c.rooted.ensures) refl in
+    let judged : Judges fixed (read_bytes s 0 c.args.len) c.judge.result =
+    top_judged _ _ _ c.args.top.now _ c.judge.result (c.fixed-fixed.ensures ∙ c.requires.of.knows.fixed_is) hashed c.requires.top.top c.judge.ensures in
+    let legal = subst (λ (f : Fixed). IsLegal f c.args.seat.now.view.seen) c.requires.of.knows.fixed_is c.requires.of.knows.legal in
+    verdict_binds _ fixed c.args.seat.now.view.seen _ c.judge.result c.from_residual.result judged legal (full_whole s c.args.len c.requires.full)
+    c.from_residual.ensures.0 (λ fault e. grind arith)
 
-pub returns-clause-root : goal.returns-clause-root
-returns-clause-root c =
+pub returns-in_err-judge-clause-never : goal.returns-in_err-judge-clause-never
+returns-in_err-judge-clause-never c = λ e.
     let fixed : Fixed = fixed_of c.args.assembly.now in
-    let bytes : List ℕ = read_bytes (state_after c.args.seat.now.view.seen) 0 c.args.len in
-    let hashed : c.root_hash-hashed.result.0 ≡ hash fixed.mode bytes = rw (c.root_hash-hashed.ensures, c.rooted.ensures) (top_hash fixed.mode bytes c.args.top.now c.requires.top.top) in
-    let same : c.root_hash-hashed.result.0 ≡ c.root.result.0 = alike c.root_hash-hashed.result.0 c.root.result.0 c.if-ne.ensures in
-    sym hashed ∙ same ∙ ap (λ (root : Hash). root.0) c.root.ensures
+    let s : State = state_after c.args.seat.now.view.seen in
+    let hashed : c.root_hash.result.0 ≡ root_hash (rooted c.args.top.now) = rw (c.root_hash.ensures, c.rooted.ensures) refl in
+    let judged : Judges fixed (read_bytes s 0 c.args.len) c.judge.result =
+    top_judged _ _ _ c.args.top.now _ c.judge.result (c.fixed-fixed.ensures ∙ c.requires.of.knows.fixed_is) hashed c.requires.top.top c.judge.ensures in
+    let told : IsErrOf c.judge.result Unfinished = grind arith in
+    let no : Unfinished ≡ NotTheRoot = (judged_fault _ _ c.judge.result Unfinished judged told).0 in
+    cc
+
+pub returns-clause-finished : goal.returns-clause-finished
+returns-clause-finished c =
+    let fixed : Fixed = fixed_of c.args.assembly.now in
+    let s : State = state_after c.args.seat.now.view.seen in
+    let hashed : c.root_hash.result.0 ≡ root_hash (rooted c.args.top.now) = rw (c.root_hash.ensures, c.rooted.ensures) refl in
+    let judged : Judges fixed (read_bytes s 0 c.args.len) c.judge.result =
+    top_judged _ _ _ c.args.top.now _ c.judge.result (c.fixed-fixed.ensures ∙ c.requires.of.knows.fixed_is) hashed c.requires.top.top c.judge.ensures in
+    let legal : IsLegal fixed c.args.seat.now.view.seen = subst (λ (f : Fixed). IsLegal f c.args.seat.now.view.seen) c.requires.of.knows.fixed_is c.requires.of.knows.legal in
+    let whole = full_whole s c.args.len c.requires.full in
+    record {
+      whole = whole;
+      root = subst (λ (r : Result Unit FinishFault). OnOk r (hash fixed.mode (read_bytes s 0 c.args.len) ≡ fixed.root.0)) c.in_ok-judge.was judged.root;
+      fits = recorded_fits fixed c.args.seat.now.view.seen (read_bytes s 0 c.args.len) legal whole;
+    }
+
+pub returns-clause-binds : goal.returns-clause-binds
+returns-clause-binds c =
+    let fixed : Fixed = fixed_of c.args.assembly.now in
+    let s : State = state_after c.args.seat.now.view.seen in
+    let legal : IsLegal fixed c.args.seat.now.view.seen = subst (λ (f : Fixed). IsLegal f c.args.seat.now.view.seen) c.requires.of.knows.fixed_is c.requires.of.knows.legal in
+    binds_found _ fixed c.args.seat.now.view.seen c.args.len
+    (subst (λ (f : Fixed). IsKeyed f.mode) (c.fixed-fixed.ensures ∙ c.requires.of.knows.fixed_is) c.is_keyed.ensures) legal
+    (full_whole s c.args.len c.requires.full)

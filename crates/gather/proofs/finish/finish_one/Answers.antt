@@ -1,45 +1,58 @@
-use Rattle.std.proofs.Common.{◌≡◌, ◌*◌, ◌≤◌, ℕ, List, [], length, sym, subst, ◌∙◌, inl}
+use Rattle.std.proofs.Common.{◌≡◌, ◌≤◌, ◌*◌, ℕ, [], inl, inr, arith, length, refl, sym, subst, ◌∙◌}
+use Rattle.std.specs.Prelude.{IsErrOf, OnOk, Result}
+use Rattle.b3tree.specs.Valid.{IsKeyed}
 use Rattle.b3tree.specs.Hashing.{hash}
+use Rattle.gather.proofs.Finishing.{binds_found, failed, finished, judged_at, no_none, some_same, verdict_binds, verdict_finishes}
+use Rattle.gather.specs.declared.fault.FinishFault.{FinishFault}
+use Rattle.gather.specs.declared.fault.FinishFault.TheVariants.{NotTheRoot, Unfinished}
+use Rattle.gather.specs.Finished.{IsWhole, Judges}
 use Rattle.store_core.specs.declared.fixed.Fixed.{Fixed}
-use Rattle.store_core.specs.Stores.{LengthBinds, fixed_of, state_of}
-use Rattle.gather.specs.Finished.{IsWhole}
-use Rattle.gather.proofs.Binding.{binds_none}
-use Rattle.gather.proofs.Finishing.{differs, no_none, some_same}
+use Rattle.store_core.specs.States.{State}
+use Rattle.store_core.specs.Stores.{fixed_of, state_of}
 use Rattle.gather.proofs.finish.finish_one.Goals as goal
 
-pub returns-in-None-clause-unfinished : goal.returns-in-None-clause-unfinished
-returns-in-None-clause-unfinished c = λ _. inl (sym (c.in-None.ensures.event []).right)
+pub returns-in-None-clause-finishes : goal.returns-in-None-clause-finishes
+returns-in-None-clause-finishes c = failed _ _ _ Unfinished (λ _. refl) (λ _. inl (sym (c.in-None.ensures.event []).right)) (λ e. cc)
 
 pub read_all-requires : goal.read_all-requires
 read_all-requires c = sym (c.in-Some.ensures.event []).right
 
-pub returns-in_err-blob-clause-no_length : goal.returns-in_err-blob-clause-no_length
-returns-in_err-blob-clause-no_length c = λ none. absurd (no_none _ c.in-Some.length (c.in-Some.ensures.event []).right none)
-
-pub returns-then-ne-clause-no_length : goal.returns-then-ne-clause-no_length
-returns-then-ne-clause-no_length c = λ none. absurd (no_none _ c.in-Some.length (c.in-Some.ensures.event []).right none)
-
-pub returns-then-ne-clause-other : goal.returns-then-ne-clause-other
-returns-then-ne-clause-other c = λ _. record {
-  bytes = c.as_slice.result.now;
-  whole = subst (λ (xs : List ℕ). IsWhole (state_of c.args.store.now) xs) (sym c.as_slice.ensures.value) c.in_ok-blob.ensures.whole;
-  hashed = λ same. differs c.hash.result.0 c.fixed-fixed.result.root.0 c.if-ne.ensures
-      (c.hash.ensures.value ∙ subst (λ (fixed : Fixed). hash fixed.mode c.as_slice.result.now ≡ fixed.root.0) (sym c.fixed-fixed.ensures) same);
+pub returns-in_err-blob-clause-finishes : goal.returns-in_err-blob-clause-finishes
+returns-in_err-blob-clause-finishes c = record {
+  blob = grind arith;
+  no_length = λ none. absurd (no_none _ c.in-Some.length (sym (c.in-Some.ensures.event []).right) none);
+  unfinished = λ e. let told : IsErrOf c.read_all.result Unfinished = grind arith in inr (c.read_all.ensures.lacks told);
+  other = λ e. let told : IsErrOf c.read_all.result NotTheRoot = grind arith in absurd (c.read_all.ensures.never told);
 }
 
-pub returns-clause-no_length : goal.returns-clause-no_length
-returns-clause-no_length c = λ none. absurd (no_none _ c.in-Some.length (c.in-Some.ensures.event []).right none)
+pub returns-in_err-judge-clause-finishes : goal.returns-in_err-judge-clause-finishes
+returns-in_err-judge-clause-finishes c =
+    let judged : Judges (fixed_of c.args.store.now) c.in_ok-blob.blob.items c.judge.result =
+    judged_at _ _ _ _ _ c.judge.result c.fixed-fixed.ensures c.as_slice.ensures.value c.hash.ensures.value c.judge.ensures in
+    verdict_finishes _ _ _ _ c.judge.result c.from_residual-in_err-judge.result judged c.in_ok-blob.ensures.whole c.from_residual-in_err-judge.ensures.0 (λ fault e. grind arith)
 
-pub returns-then-ne-clause-none : goal.returns-then-ne-clause-none
-returns-then-ne-clause-none c = λ _.
+pub returns-in_err-judge-clause-binds : goal.returns-in_err-judge-clause-binds
+returns-in_err-judge-clause-binds c = λ by.
+    let judged : Judges (fixed_of c.args.store.now) c.in_ok-blob.blob.items c.judge.result =
+    judged_at _ _ _ _ _ c.judge.result c.fixed-fixed.ensures c.as_slice.ensures.value c.hash.ensures.value c.judge.ensures in
+    verdict_binds _ _ by.history _ c.judge.result c.from_residual-in_err-judge.result judged by.legal
+    (subst (λ (s : State). IsWhole s c.in_ok-blob.blob.items) (sym by.is) c.in_ok-blob.ensures.whole) c.from_residual-in_err-judge.ensures.0 (λ fault e. grind arith)
+
+pub returns-clause-finishes : goal.returns-clause-finishes
+returns-clause-finishes c =
     let store = c.args.store.now in
-    let long : c.in-Some.length ≡ length c.in_ok-blob.blob.items = some_same _ _ ((c.in-Some.ensures.event []).right ∙ c.in_ok-blob.ensures.whole.recorded) in
-    binds_none store c.in_ok-blob.blob.items (subst (λ (l : ℕ). LengthBinds store l) long c.in-Some.ensures.binds) c.in_ok-blob.ensures.binds
-    (λ same. differs c.hash.result.0 c.fixed-fixed.result.root.0 c.if-ne.ensures (c.hash.ensures.value
-    ∙ subst (λ (fixed : Fixed). hash fixed.mode c.as_slice.result.now ≡ fixed.root.0) (sym c.fixed-fixed.ensures)
-    (subst (λ (xs : List ℕ). hash (fixed_of store).mode xs ≡ (fixed_of store).root.0) (sym c.as_slice.ensures.value) same)))
+    let bytes = c.in_ok-blob.blob.items in
+    let judged : Judges (fixed_of store) bytes c.judge.result =
+    judged_at _ _ _ _ _ c.judge.result c.fixed-fixed.ensures c.as_slice.ensures.value c.hash.ensures.value c.judge.ensures in
+    let long : c.in-Some.length ≡ length bytes = some_same _ _ ((c.in-Some.ensures.event []).right ∙ c.in_ok-blob.ensures.whole.recorded) in
+    finished _ (fixed_of store) (state_of store) c.in_ok-blob.blob (record {
+      whole = c.in_ok-blob.ensures.whole;
+      root = subst (λ (r : Result Unit FinishFault). OnOk r (hash (fixed_of store).mode bytes ≡ (fixed_of store).root.0)) c.in_ok-judge.was judged.root;
+      fits = subst (λ (l : ℕ). l ≤ 1024 * (fixed_of store).capacity) long c.in-Some.ensures.fits;
+    })
 
-pub returns-clause-fits : goal.returns-clause-fits
-returns-clause-fits c =
-    let long : c.in-Some.length ≡ length c.in_ok-blob.blob.items = some_same _ _ ((c.in-Some.ensures.event []).right ∙ c.in_ok-blob.ensures.whole.recorded) in
-    subst (λ (l : ℕ). l ≤ 1024 * (fixed_of c.args.store.now).capacity) long c.in-Some.ensures.fits
+pub returns-clause-binds : goal.returns-clause-binds
+returns-clause-binds c = λ by.
+    binds_found _ (fixed_of c.args.store.now) by.history c.in_ok-blob.blob
+    (subst (λ (fixed : Fixed). IsKeyed fixed.mode) c.fixed-fixed.ensures c.is_keyed.ensures) by.legal
+    (subst (λ (s : State). IsWhole s c.in_ok-blob.blob.items) (sym by.is) c.in_ok-blob.ensures.whole)

@@ -15,6 +15,6 @@ loop-part-preserved c =
     let is : c.extend_from_slice.new.self.items ≡ c.loop-part.blob.items ++ c.read.new.out =
     c.in_ok-extend_from_slice.ensures.items ∙ ap (λ (xs : List ℕ). c.loop-part.blob.items ++ xs) (take_at c.read.new.out _ c.min-count.result long) in (
       begun_more c.read_means.ensures c.args.store.now c.loop-part.blob.items (take c.min-count.result c.loop-part.part) c.read.new.out c.extend_from_slice.new.self.items c.len-in-loop-part-2.result
-          here c.loop-part.invariant.0 c.in_ok-read.ensures.event c.in_ok-read.ensures.binds is,
+          here c.loop-part.invariant.0 c.in_ok-read.ensures.event is,
       omega (arith, ap length is, length-append c.loop-part.blob.items c.read.new.out, long, here, c.min-count.ensures, c.len-in-loop-part.ensures, c.loop-part.invariant.1, c.loop-part.blob.ok.0),
     )

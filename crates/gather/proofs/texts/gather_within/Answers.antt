@@ -1,4 +1,4 @@
-use Rattle.std.proofs.Common.{length, sym, ℕ, ◌⊎◌, ◌≤◌, inl, inr, arith, Err, List, map, ap, subst, refl, Bool, true, false, nat_lt, if◌then◌else◌, ◌∙◌, ◌≡◌}
+use Rattle.std.proofs.Common.{length, sym, ◌⊎◌, ◌≤◌, inl, inr, arith, Err, List, map, ap, subst, refl, Bool, true, false, nat_lt, if◌then◌else◌, ◌∙◌, ◌≡◌}
 use Rattle.gather.specs.declared.texts.GatherFault.TheVariants.{Starved, TooLarge, Unfinished}
 use Rattle.gather.specs.Faults.{cause_of}
 use Rattle.std.specs.Prelude.{vec_items}
@@ -8,7 +8,7 @@ use Rattle.gather.specs.Holders.{IsHanded}
 use Rattle.gather.specs.Large.{AreLonger, IsTooLarge, fixed_as}
 use Rattle.gather.proofs.Reporting.{large_wider}
 use Rattle.store_core.specs.declared.fixed.Fixed.{Fixed}
-use Rattle.gather.proofs.Binding.{handed_cut, longer_wider, none_wider, of_none}
+use Rattle.gather.proofs.Binding.{handed_cut, longer_wider, none_wider, of_blob, of_none}
 use Rattle.b3tree.specs.Valid.{IsKeyed}
 use Rattle.gather.specs.declared.grain.Grain.TheVariants.{Group as ByGroup}
 use Rattle.gather.specs.Available.{HaveSlices}
@@ -18,7 +18,7 @@ use Rattle.bao_check.proofs.Laws.{accepted_binds}
 use Rattle.bao_text.specs.Choice.{chunk_count}
 use Rattle.gather.specs.declared.texts.GatherFault.{GatherFault}
 use Rattle.gather.proofs.Binding.{are_longer, pair_wider}
-use Rattle.gather.proofs.Handing.{cause_handed, encoding_true, never_failed, unfinished_pair, whole_pair}
+use Rattle.gather.proofs.Handing.{cause_handed, encoding_true, never_failed, unfinished_pair}
 use Rattle.store_core.specs.Laws.{IsBlob}
 use Rattle.store_core.specs.Stores.{fixed_of}
 use Rattle.gather.proofs.Serving.{true_slices}
@@ -32,7 +32,7 @@ returns-in-Err-NotTheRoot-clause-none c = λ _.
     let gains = c.run_one-report.ensures.worked in
     none_wider (IsHanded IsCut holders) (IsCutOf texts) (handed_cut holders texts over) (fixed_as c.args.root c.args.mode c.args.capacity)
     (of_none (IsHanded IsCut holders) _ c.run_one-report.new.store (fixed_as c.args.root c.args.mode c.args.capacity) gains.chunks gains.parents
-    c.in_ok-store.ensures.made.fixed c.in_ok-store.ensures.made.state gains.worked (c.in-Err-NotTheRoot.ensures.none (ap (λ fault. Err fault) c.in-Err-NotTheRoot.field-0-is)))
+    c.in_ok-store.ensures.made.fixed c.in_ok-store.ensures.made.state gains.worked (λ by. (c.in-Err-NotTheRoot.ensures.binds by).none (ap (λ fault. Err fault) c.in-Err-NotTheRoot.field-0-is)))
 
 large_of : (starved large : Bool) → TooLarge ≡ (if starved then Starved else (if large then TooLarge else Unfinished)) → large ≡ true
 large_of true large e = cc
@@ -69,9 +69,8 @@ returns-in-Ok-finish_one-clause-available c = λ blob i is room there.
     let F = fixed_as c.args.root c.args.mode c.args.capacity in
     let made = c.in_ok-store.ensures.made in
     let gains = c.run_one-report.ensures.worked in
-    let known = subst (λ (f : Fixed). (b : List ℕ) → IsKeyed f.mode → IsBlob f b → (c.in-Ok-finish_one.blob.items ≡ b) ⊎ HasPair (IsHanded IsCut holders) f b) made.fixed
-    (λ b keyed blob_is. whole_pair (IsHanded IsCut holders) c.in_ok-store.store c.run_one-report.new.store gains.chunks gains.parents b c.in-Ok-finish_one.blob.items keyed blob_is made.state gains.worked c.in-Ok-finish_one.ensures.whole) in
-    elim (known blob c.is_keyed.ensures is) [
+    elim (of_blob (IsHanded IsCut holders) c.in_ok-store.store c.run_one-report.new.store F gains.chunks gains.parents c.in-Ok-finish_one.blob.items
+    made.fixed made.state gains.worked (λ by. (c.in-Ok-finish_one.ensures.binds by).found) blob is) [
       | inl same ↦ inl same
       | inr pair ↦ inr (pair_wider (IsHanded IsCut holders) (IsCutOf texts) (handed_cut holders texts over) F blob pair)
     ]
@@ -98,7 +97,7 @@ returns-in-Err-Unfinished-clause-available c = λ blob i is room there.
       | inl long ↦ absurd (omega (arith, long, room))
       | inr pair ↦ pair
     ] in
-    let unfinished = c.in-Err-Unfinished.ensures.unfinished (ap (λ fault. Err fault) c.in-Err-Unfinished.field-0-is) in
+    let unfinished = c.in-Err-Unfinished.ensures.finishes.unfinished (ap (λ fault. Err fault) c.in-Err-Unfinished.field-0-is) in
     let handed : IsExcused (cause_of report) ⊎ P = cause_handed report P (λ none is_large. longer (met.too_large is_large)) (λ none not_large.
     elim (met.available blob (subst (λ (f : Fixed). IsBlob f blob) (sym made.fixed) is) (subst (λ (f : Fixed). chunk_count (length blob) ≤ f.capacity) (sym made.fixed) room)
     (subst (λ (f : Fixed). HaveSlices ByGroup IsCut f.mode blob holders) (sym made.fixed) has)) [
@@ -108,7 +107,7 @@ returns-in-Err-Unfinished-clause-available c = λ blob i is room there.
       | inr (inr filled) ↦
           subst (λ (f : Fixed). HasPair (IsHanded IsCut holders) f blob) made.fixed
           (unfinished_pair (IsHanded IsCut holders) c.in_ok-store.store c.run_one-report.new.store gains.chunks gains.parents blob
-          (subst (λ (f : Fixed). IsKeyed f.mode) (sym made.fixed) c.is_keyed.ensures) (subst (λ (f : Fixed). IsBlob f blob) (sym made.fixed) is) made.state gains.worked met.binds filled unfinished)
+          (subst (λ (f : Fixed). IsKeyed f.mode) (sym made.fixed) c.is_keyed.ensures) (subst (λ (f : Fixed). IsBlob f blob) (sym made.fixed) is) made.state gains.worked filled unfinished)
     ]) in
     elim handed [
       | inl excused ↦ inl (subst (λ (fault : GatherFault). IsExcused fault) (sym c.cause.ensures) excused)
