@@ -113,8 +113,8 @@ EIGHT_EACH = "hashes of 8 KiB each"
 SIXTY_FOUR_EACH = "hashes of 64 KiB each"
 SMALL_PIECES = "Hasher, pieces of 64 KiB"
 LARGE_PIECES = "Hasher, pieces of 1 MiB"
-FILE_ONE = "hash_source, 1 range"
-FILE_RANGES = "hash_source, 16 ranges"
+FILE_ONE = "hash_source, 1 worker"
+FILE_FOUR = "hash_source, 4 workers"
 CHECK = "check_combined"
 CHECK_JOINED = "check_combined_join"
 CHECK_OUTBOARD = "check_outboard"
@@ -167,17 +167,17 @@ ROWS = [
     (GATHER_TEN, "whole program, four workers, of ten such encodings, each with another tenth damaged"),
     (GATHER_SALVAGE, "whole program, four workers, of three such encodings, each with another byte damaged in one of 16 groups"),
     ("hash", "b3tree::hash in one process, one thread"),
-    ("hash_join", "b3par::hash_join in one process, several threads"),
-    (POOL_ONE, "b3par::hash_pool in one process, one worker"),
-    (POOL_FOUR, "b3par::hash_pool in one process, four workers"),
+    ("hash_join", "bao_read::hash_join in one process, several threads"),
+    (POOL_ONE, "bao_read::hash_pool in one process, one worker"),
+    (POOL_FOUR, "bao_read::hash_pool in one process, four workers"),
     (PIECES_ONE, "b3tree::hash of one piece in one process, one thread, as often as the file has such pieces"),
     (PIECES_FOUR, "as before, by four threads, which share a count of how often, and nothing else"),
     (EIGHT_EACH, "b3tree::hash in one process, one thread, of each 8 KiB of the file by itself"),
     (SIXTY_FOUR_EACH, "as before, of each 64 KiB"),
     (SMALL_PIECES, "b3tree::Hasher in one process, one thread"),
     (LARGE_PIECES, "b3tree::Hasher in one process, one thread"),
-    (FILE_ONE, "b3read::hash_source in one process, one thread, reads the file in pieces"),
-    (FILE_RANGES, "b3read::hash_source in one process, several threads, reads the file in pieces"),
+    (FILE_ONE, "bao_read::hash_source in one process, one thread, reads the file in pieces"),
+    (FILE_FOUR, "bao_read::hash_source in one process, several threads, reads the file in pieces"),
     (SLICE, "bao_text::cut_slice in one process, one thread, from the file's combined encoding"),
     (SLICE_OF_SIXTEENTH, "as before, from a combined encoding a sixteenth as long"),
     (LARGER_SLICE, "as before, from the file's combined encoding"),
@@ -235,14 +235,14 @@ RATIOS = [
     ("several threads", B3SUM_READ_FOUR, HASH, "at least 1.0 on four processors"),
     ("one thread", B3SUM_ONE, HASH_ONE, "at least 0.42"),
     ("one thread", B3SUM_READ_ONE, HASH_ONE, ""),
-    ("several threads", B3SUM_FOUR, FILE_RANGES, ""),
+    ("several threads", B3SUM_FOUR, FILE_FOUR, ""),
     ("one thread", B3SUM_ONE, FILE_ONE, ""),
     ("one thread", B3SUM_ONE, "hash", "at least 0.55"),
     ("several threads", "hash", "hash_join", "at least 2.5 on four processors"),
     ("one thread", "hash", POOL_ONE, ""),
     ("several threads", "hash", POOL_FOUR, "at least 3.0 on four processors"),
     ("several threads", PIECES_ONE, PIECES_FOUR, "4 on four processors of their own: what threads are worth on this machine"),
-    ("several threads", FILE_ONE, FILE_RANGES, ""),
+    ("several threads", FILE_ONE, FILE_FOUR, ""),
     ("one thread", SIXTY_FOUR_EACH, EIGHT_EACH, "at least 0.7: small files"),
     ("one thread", SMALL_PIECES, "hash", "at most 1.3"),
     ("one thread", LARGE_PIECES, "hash", "at most 1.1"),

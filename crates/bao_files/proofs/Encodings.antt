@@ -9,7 +9,7 @@ use Rattle.b3tree.specs.Hashing.{hash}
 use Rattle.bao_text.specs.declared.fault.WriteFault.{WriteFault}
 use Rattle.bao_text.specs.declared.fault.WriteFault.TheVariants.{Memory, Writer}
 use Rattle.bao_text.specs.Faults.{WroteOnly}
-use Rattle.b3read.specs.Given.{IsHashOf}
+use Rattle.bao_read.specs.Given.{IsHashOf}
 use Rattle.bao_files.specs.declared.kinds.Encoding.{Encoding}
 use Rattle.bao_files.specs.declared.fault.FileFault.{FileFault}
 use Rattle.bao_files.specs.Encoded.{Encodes, answer_at_path, encoding_text}

@@ -7,6 +7,7 @@ use Rattle.b3tree.specs.declared.values.Hash.{Hash}
 use Rattle.b3tree.specs.Hashing.{hash}
 use Rattle.bao_text.specs.declared.fault.WriteFault.{WriteFault}
 use Rattle.bao_text.specs.declared.fault.WriteFault.TheVariants as text
+use Rattle.bao_read.specs.Given.{IsHashOf}
 use Rattle.bao_files.specs.declared.kinds.Encoding.{Encoding as Kind}
 use Rattle.bao_files.specs.declared.kinds.Encoding.TheVariants.{Combined, Outboard, Slice}
 use Rattle.bao_files.specs.declared.fault.FileFault.{FileFault}
@@ -18,6 +19,11 @@ abbrev pub encoding_text : Mode → Kind → List ℕ → List ℕ
 encoding_text mode Combined bytes = combined_text mode bytes
 encoding_text mode Outboard bytes = outboard_text mode bytes
 encoding_text mode (Slice start len) bytes = slice_text mode bytes start len
+
+-- this encoding of so many bytes was made, with their hash
+pub record IsMade (mode : Mode) (kind : Kind) (size : ℕ) (bytes answer text : List ℕ) : Type 0 where
+  pub hash_is : IsHashOf mode size bytes answer
+  pub text_is : text ≡ encoding_text mode kind bytes
 
 -- the program's answer where that of writing an encoding to this path is known
 abbrev pub answer_at_path : Bor (List ℕ) → Result Hash WriteFault → Result Hash FileFault

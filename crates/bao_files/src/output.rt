@@ -3,16 +3,14 @@ ghost use Rattle.std.specs.Io.KnownBytes.{Appends};
 ghost use Rattle.b3tree.specs.Hashing.{hash};
 ghost use Rattle.bao_text.specs.Faults.{WroteOnly};
 ghost use Rattle.bao_text.specs.Texts.{joined};
-ghost use Rattle.bao_read.specs.Encodings.{IsCombinedOf, IsOutboardOf};
-ghost use Rattle.bao_files.specs.Encoded.{Encodes, answer_at_path, encoding_text};
+ghost use Rattle.bao_files.specs.Encoded.{Encodes, IsMade, answer_at_path, encoding_text};
 ghost use Rattle.bao_files.specs.Printed.{IsQuiet, NamesPaths};
 
 use crate::fault::FileFault;
 use crate::input::{LEAST_SHARED_LEN, open_file, read_input, size_of};
 use crate::kinds::Encoding;
-use b3read::{RANGES, Source};
 use b3tree::{Hash, Mode};
-use bao_read::{combined_source, outboard_source};
+use bao_read::{Source, WORKERS, combined_source, outboard_source};
 use bao_shown::{Progress, Shown};
 use bao_text::{WriteFault, outboard, slice, write_combined, write_text, write_texts};
 use std::alloc::Global;
@@ -119,39 +117,28 @@ pub fn write_encoding<W: Write>(
     }
 }
 
-// The outboard encoding of the bytes of an input that is said to have `size` of them, and their hash. Where they are
-// few or not so many, and where a read or memory fails, there is none. The input is read by position, so that it is left
-// where it stood.
-fn outboard_at_places<I: Source>(
-    alloc: Global,
-    mode: &Mode,
-    input: &I,
-    size: u64,
-) -> Option<(Hash, Vec<u8>)>
-    ensures all { IfSome result (λ made. IfSome (I.contents input.now) (λ s. IsOutboardOf mode.now size s made.0.0 made.1.items)) }
-    ensures some { IfSome result (λ made. (bytes : List ℕ) × IsOutboardOf mode.now size bytes made.0.0 made.1.items) }
-{
-    if size < LEAST_SHARED_LEN {
-        return None;
-    }
-    outboard_source(alloc, mode, input, size).ok()
-}
-
-// The combined encoding, in the same way, by several threads at once.
-fn combined_at_places<R: Threads + Sync, I: Source + Sync>(
+// The combined or outboard encoding of the bytes of an input that is said to have `size` of them, and their hash, by several
+// threads at once. Where the bytes are few or not so many, and where a read or memory fails, there is none, nor is there a
+// slice. The input is read by position, so that it is left where it stood.
+fn encoding_by_position<R: Threads + Sync, I: Source + Sync>(
     rt: &R,
     alloc: Global,
     mode: &Mode,
+    encoding: Encoding,
     input: &I,
     size: u64,
 ) -> Option<(Hash, Vec<Vec<u8>>)>
-    ensures all { IfSome result (λ made. IfSome (I.contents input.now) (λ s. IsCombinedOf mode.now size s made.0.0 (joined made.1.items))) }
-    ensures some { IfSome result (λ made. (bytes : List ℕ) × IsCombinedOf mode.now size bytes made.0.0 (joined made.1.items)) }
+    ensures all { IfSome result (λ made. IfSome (I.contents input.now) (λ s. IsMade mode.now encoding size s made.0.0 (joined made.1.items))) }
+    ensures some { IfSome result (λ made. (bytes : List ℕ) × IsMade mode.now encoding size bytes made.0.0 (joined made.1.items)) }
 {
     if size < LEAST_SHARED_LEN {
         return None;
     }
-    combined_source(rt, alloc, mode, input, size, RANGES).ok()
+    match encoding {
+        Encoding::Combined => combined_source(rt, alloc, mode, input, size, WORKERS).ok(),
+        Encoding::Outboard => outboard_source(rt, alloc, mode, input, size, WORKERS).ok(),
+        Encoding::Slice { .. } => None,
+    }
 }
 
 // The answer of writing an encoding to the file at `path`, as a fault of the program.
@@ -170,7 +157,7 @@ fn answer_at<'a>(written: Result<Hash, WriteFault>, path: &'a str) -> Result<Has
 ///
 /// Where the input is said to have a `size` of at least 4 MiB and its combined or its outboard encoding is asked for,
 /// it is read by position and in pieces, so that the memory that this takes is the encoding's: 17/16 of the bytes, and a
-/// sixteenth. The combined one is made by several threads. If that gives no encoding, and for a slice, the input is read
+/// sixteenth; several threads make it. If that gives no encoding, and for a slice, the input is read
 /// whole from where it stands, and what that meets is answered.
 ///
 /// Nothing was written after `Read` with the input's path, where a read answered a fault, nor out of memory, which
@@ -191,15 +178,8 @@ pub fn encode_input<'a, R: Threads + Sync + AllocGlobal, I: Read + Source + Sync
     ensures some { (bytes : List ℕ) × Encodes mode.now encoding bytes file.entry path.entry (W.contents out.old) (W.contents out.new) result }
 {
     let alloc = rt.alloc();
-    if let Encoding::Combined = encoding {
-        if let Some(made) = combined_at_places(rt, alloc, mode, input, size) {
-            return answer_at(send_all(made, out), path);
-        }
-    }
-    if let Encoding::Outboard = encoding {
-        if let Some(made) = outboard_at_places(alloc, mode, input, size) {
-            return answer_at(send(made, out), path);
-        }
+    if let Some(made) = encoding_by_position(rt, alloc, mode, encoding, input, size) {
+        return answer_at(send_all(made, out), path);
     }
     let bytes = read_input(alloc, input, size, file)?;
     let written = write_encoding(alloc, mode, encoding, bytes.as_slice(), out);

@@ -8,8 +8,8 @@ ghost use Rattle.bao_files.specs.Printed.{Prints, digits_line};
 use crate::digits::{print_digits, print_output};
 use crate::fault::FileFault;
 use crate::input::ReadFault;
-use b3read::{RANGES, Source, hash_source};
 use b3tree::{Hash, Hasher, Mode};
+use bao_read::{Source, WORKERS, hash_source};
 use std::alloc::Global;
 use std::io::{Read, Write};
 use std::thread::Threads;
@@ -108,7 +108,7 @@ fn shared_hash<R: AllocGlobal + Threads + Sync, I: Source + Sync>(
     ensures all { IfSome result (λ hash. IfSome (I.contents input.now) (λ s. hash.0 ≡ stream mode.now s 0 32)) }
     ensures some { IfSome result (λ hash. (bytes : List ℕ) × (hash.0 ≡ stream mode.now bytes 0 32)) }
 {
-    hash_source(rt, rt.alloc(), mode, input, len?, RANGES).ok()
+    hash_source(rt, rt.alloc(), mode, input, len?, WORKERS).ok()
 }
 
 /// As `print_reader`, of an input that can also be read by position. Where it is said to have `len_hint` bytes and its

@@ -5,7 +5,7 @@ ghost use Rattle.bao_gathered.specs.Gathered.{IsUnwrittenWhole, gathered_text};
 
 use crate::fault::GatheredFault;
 use crate::gathering::write_whole;
-use b3read::PIECE_LEN;
+use bao_read::PIECE_LEN;
 use b3tree::Mode;
 use bao_files::FileFault;
 use bao_text::{WriteFault, write_text};

@@ -13,7 +13,7 @@ use crate::fate::Fate;
 use crate::fault::GatheredFault;
 use crate::found::write_found;
 use crate::gathering::{Gathering, note, room_beside, unfinished_by};
-use b3read::Source;
+use bao_read::Source;
 use b3tree::{Hash, Mode};
 use bao_check::Outline;
 use bao_files::{LateFile, open_file};

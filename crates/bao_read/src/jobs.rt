@@ -8,6 +8,9 @@ use b3tree::CHUNK_LEN;
 /// no thread waits long for the last.
 pub const JOB_CHUNKS: u64 = 64;
 
+/// So many threads keep the processors of a usual machine busy.
+pub const WORKERS: usize = 4;
+
 /// Fewer bytes than these of a source that has to be read aren't worth a thread.
 pub const LEAST_RANGE_LEN: u64 = 1 << 20;
 

@@ -7,7 +7,7 @@ pub use encodings::{combined_source, outboard_source};
 pub use fault::{ParFault, ReadFault};
 pub use gate::{Gate, Open};
 pub use hashes::{Pooled, hash_pool, hash_pooled, hash_source};
-pub use jobs::{JOB_CHUNKS, LEAST_RANGE_LEN};
+pub use jobs::{JOB_CHUNKS, LEAST_RANGE_LEN, WORKERS};
 pub use join::hash_join;
 pub use pieces::{PIECE_LEN, ends_at, fill};
 pub use source::Source;

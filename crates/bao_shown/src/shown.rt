@@ -1,7 +1,7 @@
 ghost use Rattle.std.specs.Prelude.{◌≡◌};
 
 use crate::progress::Progress;
-use b3read::Source;
+use bao_read::Source;
 use std::io;
 use std::io::Read;
 

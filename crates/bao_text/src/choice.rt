@@ -37,9 +37,8 @@ impl Choice {
         ensures { result ≡ of_nothing }
     {
         Choice {
-            start: 0,
             end: 0,
-            chunks: false,
+            ..Choice::of_outboard(0)
         }
     }
 

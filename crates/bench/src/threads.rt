@@ -18,7 +18,7 @@ const ROUNDS: u32 = 5;
 // A piece this short stays in the cache next to a processor.
 const PIECE_LEN: usize = 1 << 14;
 
-// How often a thread hashes it before it looks how much is left: 256 KiB, as much as four jobs of `b3par::hash_pool`.
+// How often a thread hashes it before it looks how much is left: 256 KiB, as much as four jobs of `bao_read::hash_pool`.
 const TURNS: usize = 16;
 
 const THREADS: usize = 4;

@@ -3,8 +3,8 @@ ghost use Rattle.b3tree.specs.Hashing.{hash};
 ghost use Rattle.b3tree.specs.Modes.{plain};
 
 use anyhow::Result;
-use b3par::{Open, hash_join, hash_pool};
 use b3tree::{CHUNK_LEN, Hash, Hasher, Mode, TooLong};
+use bao_read::{Open, hash_join, hash_pool};
 use std::alloc::Global;
 use std::thread::Threads;
 
@@ -19,11 +19,11 @@ const PARTS: u64 = 8;
 pub enum Way {
     /// By `b3tree::hash`, on one thread.
     Whole,
-    /// By `b3par::hash_join`, on several threads.
+    /// By `bao_read::hash_join`, on several threads.
     Joined,
-    /// By `b3par::hash_pool` with one worker.
+    /// By `bao_read::hash_pool` with one worker.
     PooledByOne,
-    /// By `b3par::hash_pool` with four workers.
+    /// By `bao_read::hash_pool` with four workers.
     PooledByFour,
     /// By a `b3tree::Hasher` that is fed with pieces of 64 KiB, on one thread.
     SmallPieces,

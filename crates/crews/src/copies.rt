@@ -9,7 +9,7 @@ use crate::gathering::gather_beside;
 use crate::lists::Copies;
 use crate::places::CopiesAt;
 use crate::whole::{Whole, in_memory};
-use b3read::Source;
+use bao_read::Source;
 use bao_check::Outline;
 use gather::{Grain, Plain, PlainAt};
 use std::alloc::Global;

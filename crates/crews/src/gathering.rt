@@ -18,7 +18,7 @@ use crate::lists::Lists;
 use crate::runs::{run, run_bare};
 use crate::shared::Shared;
 use crate::whole::{Whole, certify};
-use b3par::Open;
+use bao_read::Open;
 use b3tree::{Hash, Mode};
 use bao_check::Outline;
 use gather::{FinishFault, Form, GatherFault, Grain, Holder, Report, cause, salvage};

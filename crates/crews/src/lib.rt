@@ -2,7 +2,7 @@
 //! once its hash is the root.
 #![tactic(auto)]
 
-pub use b3par::{Gate, Open};
+pub use bao_read::{Gate, Open};
 pub use blob::finish;
 pub use copies::{gather_copies, gather_copies_at};
 pub use crew::Crew;

@@ -1,7 +1,7 @@
 ghost use Rattle.std.specs.Prelude.{◌≡◌, IfOk, length, map};
 
 use crate::lists::Lists;
-use b3read::Source;
+use bao_read::Source;
 use gather::{EncodedAt, Holder, HolderFault, PlainAt};
 use std::alloc::{AllocError, Global};
 

@@ -9,7 +9,7 @@ ghost use Rattle.store_core.specs.States.{read_bytes};
 ghost use Rattle.store_shared.specs.Seats.{IsSeatOf};
 ghost use Rattle.crews.specs.Wholes.{IsTopRead, LackedByte, ReadOn};
 
-use b3read::PIECE_LEN;
+use bao_read::PIECE_LEN;
 use b3tree::{CHUNK_LEN, Cv, Input, Mode, cv, left_len, parent_input, top_input};
 use gather::FinishFault;
 use std::alloc::Global;

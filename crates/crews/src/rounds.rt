@@ -5,7 +5,7 @@ ghost use Rattle.crews.specs.Crews.{Each, Worked, WorkedOn, all_of};
 
 use crate::crew::Crew;
 use crate::shared::Shared;
-use b3par::Gate;
+use bao_read::Gate;
 use gather::{Form, Holder, Place, Report, work_as};
 use std::alloc::Global;
 use std::thread::{Threads, for_each_mut};

@@ -9,7 +9,7 @@ ghost use Rattle.crews.specs.Seats.{SeenBinds};
 
 use crate::crew::Crew;
 use crate::rounds::both_rounds;
-use b3par::Gate;
+use bao_read::Gate;
 use bao_check::Outline;
 use gather::{Form, Holder, Report};
 use std::alloc::Global;

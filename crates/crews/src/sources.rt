@@ -14,7 +14,7 @@ use crate::fault::CrewsFault;
 use crate::gathering::gather_by;
 use crate::places::{SourceAt, Sources};
 use crate::whole::Whole;
-use b3read::Source;
+use bao_read::Source;
 use b3tree::{Hash, Mode};
 use gather::{GatherFault, Grain};
 use std::alloc::Global;

@@ -11,7 +11,7 @@ ghost use Rattle.crews.specs.Wholes.{IsFull, IsTopRead, ReadOn, WasUnfinished};
 use crate::fault::CrewsFault;
 use crate::reading::{read_part, top_by_seats};
 use crate::shared::Shared;
-use b3read::LEAST_RANGE_LEN;
+use bao_read::LEAST_RANGE_LEN;
 use b3tree::{Input, root_hash, rooted};
 use gather::{FinishFault, GatherFault, Shelf, judge};
 use std::alloc::{AllocError, Global};

@@ -1,6 +1,6 @@
 -- What reads at places append.
 use Rattle.std.specs.Prelude.{◌≡◌, ℕ, ◌+◌, ◌<◌, ◌≤◌, List, ◌++◌, length, Bool, Option, sum_by}
-use Rattle.b3read.specs.Given.{GivenAt}
+use Rattle.bao_read.specs.Given.{GivenAt}
 use Rattle.bao_text.specs.Cut.{cut_nodes, has_all}
 use Rattle.bao_text.specs.Nodes.{TreeNode, size}
 use Rattle.gather.specs.Places.{OfBytes}

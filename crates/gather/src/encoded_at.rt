@@ -6,7 +6,7 @@ ghost use Rattle.gather.specs.Places.{IsCutAt, OfBytes, slice_len};
 
 use crate::holder::{Holder, HolderFault};
 use crate::places::{append_slice, taken_back};
-use b3read::Source;
+use bao_read::Source;
 
 /// The holder over a combined encoding that is read at places, which nobody has checked. Its memory doesn't grow with the
 /// encoding. It keeps the source by reference.

@@ -8,7 +8,7 @@ ghost use Rattle.gather.specs.Reads.{Cuts, ReadFrom};
 
 use crate::form::CHUNK_LEN;
 use crate::holder::HolderFault;
-use b3read::Source;
+use bao_read::Source;
 use b3tree::left_len;
 use bao_text::{Choice, LENGTH_LEN, PARENT_LEN, encoded_len};
 

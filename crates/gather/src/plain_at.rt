@@ -6,7 +6,7 @@ ghost use Rattle.gather.specs.Plains.{part_of};
 
 use crate::holder::{Holder, HolderFault};
 use crate::places::{append_part, taken_back};
-use b3read::Source;
+use bao_read::Source;
 
 /// The holder over a plain copy of a blob that is read at places, which nobody has checked. Its memory doesn't grow with
 /// the copy. It keeps the source by reference.

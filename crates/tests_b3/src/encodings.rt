@@ -1,6 +1,5 @@
-use b3read::{RANGES, ReadFault, Source};
 use b3tree::{Hash, Mode};
-use bao_read::{combined_source, outboard_source};
+use bao_read::{ReadFault, Source, WORKERS, combined_source, outboard_source};
 use bao_text::write_texts;
 use std::alloc::Global;
 use std::io::ErrorKind;
@@ -146,15 +145,27 @@ fn are_figures(alloc: Global, hash: &Hash, text: &[u8], figures: &Figures) -> Re
     )
 }
 
+// Whether the texts, one after another, and the hash are those of the figures.
+fn have_figures(
+    alloc: Global,
+    made: &(Hash, Vec<Vec<u8>>),
+    figures: &Figures,
+) -> Result<bool, Fail> {
+    let mut text = Vec::new(alloc);
+    write_texts(made.1.as_slice(), &mut text).map_err(|_| "a write")?;
+    are_figures(alloc, &made.0, text.as_slice(), figures)
+}
+
 // Whether the source's outboard encoding in the mode and its hash are those of the figures.
-fn has_figures<S: Source>(
+fn has_figures<R: Threads + Sync, S: Source + Sync>(
+    rt: &R,
     alloc: Global,
     mode: &Mode,
     source: &S,
     figures: &Figures,
 ) -> Result<bool, Fail> {
-    let (hash, text) = outboard_source(alloc, mode, source, figures.len as u64)?;
-    are_figures(alloc, &hash, text.as_slice(), figures)
+    let made = outboard_source(rt, alloc, mode, source, figures.len as u64, WORKERS)?;
+    have_figures(alloc, &made, figures)
 }
 
 // The same of its combined encoding.
@@ -165,10 +176,8 @@ fn has_combined<R: Threads + Sync, S: Source + Sync>(
     source: &S,
     figures: &Figures,
 ) -> Result<bool, Fail> {
-    let (hash, texts) = combined_source(rt, alloc, mode, source, figures.len as u64, RANGES)?;
-    let mut text = Vec::new(alloc);
-    write_texts(texts.as_slice(), &mut text).map_err(|_| "a write")?;
-    are_figures(alloc, &hash, text.as_slice(), figures)
+    let made = combined_source(rt, alloc, mode, source, figures.len as u64, WORKERS)?;
+    have_figures(alloc, &made, figures)
 }
 
 #[test]
@@ -182,12 +191,12 @@ fn encodings_of_bytes_and_of_a_file(rt: HostRuntime) -> Result<(), Fail> {
         fs::write(&rt, path, bytes.as_slice())?;
         let file = fs::open(&rt, path)?;
         assert!(rt;
-            has_figures(rt.alloc(), &mode, &bytes.as_slice(), &figures)?,
+            has_figures(&rt, rt.alloc(), &mode, &bytes.as_slice(), &figures)?,
             "{}",
             figures.len
         );
         assert!(rt;
-            has_figures(rt.alloc(), &mode, &file, &figures)?,
+            has_figures(&rt, rt.alloc(), &mode, &file, &figures)?,
             "{}",
             figures.len
         );
@@ -200,7 +209,7 @@ fn encodings_of_bytes_and_of_a_file(rt: HostRuntime) -> Result<(), Fail> {
 fn encodings_in_each_mode(rt: HostRuntime) -> Result<(), Fail> {
     let bytes = blob(rt.alloc(), 300_000)?;
     for (mode, figures) in [(Mode::keyed(KEY), KEYED), (Mode::derive(CONTEXT), DERIVED)] {
-        assert!(rt; has_figures(rt.alloc(), &mode, &bytes.as_slice(), &figures)?);
+        assert!(rt; has_figures(&rt, rt.alloc(), &mode, &bytes.as_slice(), &figures)?);
     }
     Ok(())
 }
@@ -236,10 +245,10 @@ fn combined_encodings_of_bytes_and_of_a_file(rt: HostRuntime) -> Result<(), Fail
 // Gives the bytes, at most `most` a call, and from the place `fails` on a fault. A byte that comes after those
 // that a call claims is no byte of the source's.
 #[derive(Drop)]
-struct Dealing<'a> {
-    bytes: &'a [u8],
-    most: usize,
-    fails: u64,
+pub(crate) struct Dealing<'a> {
+    pub bytes: &'a [u8],
+    pub most: usize,
+    pub fails: u64,
 }
 
 impl Source for Dealing<'_> {
@@ -267,7 +276,7 @@ fn short_reads_give_the_same(rt: HostRuntime) -> Result<(), Fail> {
             fails: u64::MAX,
         };
         assert!(rt;
-            has_figures(rt.alloc(), &Mode::hash(), &source, &figures)?,
+            has_figures(&rt, rt.alloc(), &Mode::hash(), &source, &figures)?,
             "{most}"
         );
     }
@@ -292,15 +301,15 @@ fn a_fault_of_a_read_is_the_answer(rt: HostRuntime) -> Result<(), Fail> {
             most: 100_000,
             fails,
         };
-        let got = outboard_source(rt.alloc(), &Mode::hash(), &source, 600_000);
+        let got = outboard_source(&rt, rt.alloc(), &Mode::hash(), &source, 600_000, WORKERS);
         assert_eq!(rt; got.err(), Some(ReadFault::Reader), "{fails}");
     }
     Ok(())
 }
 
-// The same in each range.
+// The same in each job.
 #[test]
-fn a_fault_of_a_read_in_a_range_is_the_answer(rt: HostRuntime) -> Result<(), Fail> {
+fn a_fault_of_a_read_in_a_job_is_the_answer(rt: HostRuntime) -> Result<(), Fail> {
     let bytes = blob(rt.alloc(), 2_500_000)?;
     for fails in [0, 1_048_576, 1_310_719, 2_097_152, 2_499_999, 2_500_000] {
         let source = Dealing {
@@ -308,7 +317,7 @@ fn a_fault_of_a_read_in_a_range_is_the_answer(rt: HostRuntime) -> Result<(), Fai
             most: 100_000,
             fails,
         };
-        let got = combined_source(&rt, rt.alloc(), &Mode::hash(), &source, 2_500_000, RANGES);
+        let got = combined_source(&rt, rt.alloc(), &Mode::hash(), &source, 2_500_000, WORKERS);
         assert_eq!(rt; got.err(), Some(ReadFault::Reader), "{fails}");
     }
     Ok(())
@@ -318,7 +327,7 @@ fn a_fault_of_a_read_in_a_range_is_the_answer(rt: HostRuntime) -> Result<(), Fai
 fn another_length_is_refused(rt: HostRuntime) -> Result<(), Fail> {
     let bytes = blob(rt.alloc(), 600_000)?;
     for wrong in [0, 1, 262_144, 524_288, 599_999, 600_001, 1_000_000] {
-        let got = outboard_source(rt.alloc(), &Mode::hash(), &bytes.as_slice(), wrong);
+        let got = outboard_source(&rt, rt.alloc(), &Mode::hash(), &bytes.as_slice(), wrong, 2);
         assert_eq!(rt; got.err(), Some(ReadFault::Reader), "{wrong}");
     }
     let bytes = blob(rt.alloc(), 1_500_000)?;
@@ -332,7 +341,7 @@ fn another_length_is_refused(rt: HostRuntime) -> Result<(), Fail> {
 // No machine has room for the encoding of so many bytes, and none of them is asked for.
 #[test]
 fn want_of_memory_is_the_answer(rt: HostRuntime) -> Result<(), Fail> {
-    let got = outboard_source(rt.alloc(), &Mode::hash(), &[7].as_slice(), u64::MAX);
+    let got = outboard_source(&rt, rt.alloc(), &Mode::hash(), &[7].as_slice(), u64::MAX, 2);
     assert_eq!(rt; got.err(), Some(ReadFault::Memory));
     Ok(())
 }

@@ -1,5 +1,6 @@
-use b3read::{RANGES, ReadFault, Source, hash_source};
+use crate::encodings::Dealing;
 use b3tree::Mode;
+use bao_read::{ReadFault, WORKERS, hash_source};
 use std::alloc::Global;
 use std::io::ErrorKind;
 use std::test::Fail;
@@ -49,56 +50,33 @@ fn digits(alloc: Global, hash: &[u8; 32]) -> Result<String, Fail> {
 #[test]
 fn hashes_of_bytes_and_of_a_file(rt: HostRuntime) -> Result<(), Fail> {
     let id = process::id(rt.process());
-    let path = format!(in rt.alloc(); "/tmp/b3read-{id}")?;
+    let path = format!(in rt.alloc(); "/tmp/bao_read-hash-{id}")?;
     let path = path.as_str();
     let mode = Mode::hash();
     for (len, expected) in HASHES {
         let bytes = blob(rt.alloc(), len)?;
         fs::write(&rt, path, bytes.as_slice())?;
         let file = fs::open(&rt, path)?;
-        for ranges in [1, RANGES] {
+        for workers in [1, WORKERS] {
             let of_bytes = hash_source(
                 &rt,
                 rt.alloc(),
                 &mode,
                 &bytes.as_slice(),
                 len as u64,
-                ranges,
+                workers,
             )?;
-            let of_file = hash_source(&rt, rt.alloc(), &mode, &file, len as u64, ranges)?;
+            let of_file = hash_source(&rt, rt.alloc(), &mode, &file, len as u64, workers)?;
             assert_eq!(rt;
                 digits(rt.alloc(), &of_bytes.0)?.as_str(),
                 expected,
-                "{len} {ranges}"
+                "{len} {workers}"
             );
-            assert_eq!(rt; of_file, of_bytes, "{len} {ranges}");
+            assert_eq!(rt; of_file, of_bytes, "{len} {workers}");
         }
     }
     fs::remove_file(&rt, path)?;
     Ok(())
-}
-
-// Gives the bytes, at most `most` a call, and from the place `fails` on a fault. A byte that comes after those
-// that a call claims is no byte of the source's.
-#[derive(Drop)]
-struct Dealing<'a> {
-    bytes: &'a [u8],
-    most: usize,
-    fails: u64,
-}
-
-impl Source for Dealing<'_> {
-    fn read_at(&self, buf: &mut [u8], at: u64) -> io::Result<usize> {
-        if at >= self.fails {
-            return Err(io::Error::from(ErrorKind::Other));
-        }
-        let room = buf.len().min(self.most);
-        let count = self.bytes.read_at(&mut buf[..room], at)?;
-        if count < buf.len() {
-            buf[count] = 0xff;
-        }
-        Ok(count)
-    }
 }
 
 #[test]
@@ -117,7 +95,7 @@ fn short_reads_give_the_same(rt: HostRuntime) -> Result<(), Fail> {
     Ok(())
 }
 
-// A read of each range fails in turn, at its start and within it, and so does the one past the end.
+// A read of each MiB fails in turn, at its start and within it, and so does the one past the end.
 #[test]
 fn a_fault_of_a_read_is_the_answer(rt: HostRuntime) -> Result<(), Fail> {
     let (len, _) = HASHES[4];

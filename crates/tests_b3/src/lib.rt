@@ -1,4 +1,4 @@
-//! Tests of what hashes and reads by several threads: `b3par`, `b3read` and `bao_read`.
+//! Tests of what hashes and encodes by several threads: `bao_read`.
 #![tactic(auto)]
 
 #[cfg(test)]

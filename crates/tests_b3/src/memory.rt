@@ -1,8 +1,9 @@
+use crate::encodings::Dealing;
 use crate::hashes::blob;
-use b3par::{Open, ParFault, hash_join, hash_pool};
-use b3read::{ReadFault, hash_source};
-use b3tree::Mode;
-use bao_read::{combined_source, outboard_source};
+use b3tree::{Hasher, Mode};
+use bao_read::{
+    Open, ParFault, ReadFault, combined_source, hash_join, hash_pool, hash_source, outboard_source,
+};
 use std::test::Fail;
 
 // The hash of the bytes i mod 251, 102,400 of them: by `b3sum` 1.2.0.
@@ -11,7 +12,7 @@ const HASH: [u8; 32] = [
     0xcf, 0x66, 0x43, 0x90, 0xaf, 0xce, 0x4d, 0x96, 0x61, 0xf7, 0x90, 0x2e, 0x79, 0x43, 0xe0, 0x85,
 ];
 
-// The same of 1,048,577 of them, which are in two ranges.
+// The same of 1,048,577 of them, which are in two parts.
 const LONG: usize = 1_048_577;
 
 const LONG_HASH: [u8; 32] = [
@@ -40,12 +41,21 @@ fn hashes_of_bytes(rt: HostRuntime) -> Result<(), Fail> {
     Ok(())
 }
 
-// The same of what is read at places, by one thread and by two.
+// A source that has to be read, so that a piece is asked for too.
+fn in_pieces(bytes: &[u8]) -> Dealing<'_> {
+    Dealing {
+        bytes,
+        most: usize::MAX,
+        fails: u64::MAX,
+    }
+}
+
+// The same of what is read by position, by two threads.
 #[test]
 fn hash_of_a_source(rt: HostRuntime) -> Result<(), Fail> {
     let mode = Mode::hash();
     let bytes = blob(rt.alloc(), LONG)?;
-    let source = bytes.as_slice();
+    let source = in_pieces(bytes.as_slice());
     let hash = match hash_source(&rt, rt.alloc(), &mode, &source, LONG as u64, 2) {
         Err(ReadFault::Memory) => hash_source(&rt, rt.alloc(), &mode, &source, LONG as u64, 2)?,
         hash => hash?,
@@ -58,13 +68,17 @@ fn hash_of_a_source(rt: HostRuntime) -> Result<(), Fail> {
 fn outboard_of_a_source(rt: HostRuntime) -> Result<(), Fail> {
     let mode = Mode::hash();
     let bytes = blob(rt.alloc(), 102_400)?;
-    let source = bytes.as_slice();
-    let (hash, text) = match outboard_source(rt.alloc(), &mode, &source, 102_400) {
-        Err(ReadFault::Memory) => outboard_source(rt.alloc(), &mode, &source, 102_400)?,
+    let source = in_pieces(bytes.as_slice());
+    let (hash, texts) = match outboard_source(&rt, rt.alloc(), &mode, &source, 102_400, 2) {
+        Err(ReadFault::Memory) => outboard_source(&rt, rt.alloc(), &mode, &source, 102_400, 2)?,
         made => made?,
     };
     assert_eq!(rt; hash.0, HASH);
-    assert_eq!(rt; b3tree::hash(&mode, text.as_slice()).0, OUTBOARD_HASH);
+    let mut hasher = Hasher::new(&mode);
+    for text in texts.as_slice() {
+        hasher.update(text.as_slice())?;
+    }
+    assert_eq!(rt; hasher.finalize().0, OUTBOARD_HASH);
     Ok(())
 }
 
@@ -73,7 +87,7 @@ fn outboard_of_a_source(rt: HostRuntime) -> Result<(), Fail> {
 fn combined_of_a_source(rt: HostRuntime) -> Result<(), Fail> {
     let mode = Mode::hash();
     let bytes = blob(rt.alloc(), LONG)?;
-    let source = bytes.as_slice();
+    let source = in_pieces(bytes.as_slice());
     let (hash, texts) = match combined_source(&rt, rt.alloc(), &mode, &source, LONG as u64, 2) {
         Err(ReadFault::Memory) => {
             combined_source(&rt, rt.alloc(), &mode, &source, LONG as u64, 2)?

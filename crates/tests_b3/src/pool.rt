@@ -1,5 +1,5 @@
-use b3par::{Gate, Open, ParFault, hash_join, hash_pool, hash_pooled};
 use b3tree::{Mode, hash};
+use bao_read::{Gate, Open, ParFault, hash_join, hash_pool, hash_pooled};
 use std::sync::atomic::{AtomicU64, Ordering};
 use std::test::Fail;
 use std::thread;

@@ -1,5 +1,5 @@
 use crate::readers::blob;
-use b3read::Source;
+use bao_read::Source;
 use b3tree::{Hash, Mode};
 use bao_files::{Encoding, FileFault, encode_input};
 use bao_text::{combined, outboard, slice};

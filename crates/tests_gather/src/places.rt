@@ -1,5 +1,5 @@
 use crate::holders::blob;
-use b3read::Source;
+use bao_read::Source;
 use b3tree::Mode;
 use bao_text::{combined, slice};
 use gather::{Encoded, EncodedAt, Holder, HolderFault, Plain, PlainAt};

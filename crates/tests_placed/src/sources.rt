@@ -1,4 +1,4 @@
-use b3read::Source;
+use bao_read::Source;
 use b3tree::Mode;
 use bao_check::check_outboard;
 use bao_text::{combined, outboard};

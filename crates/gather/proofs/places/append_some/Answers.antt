@@ -2,7 +2,7 @@ use Rattle.std.proofs.Common.{◌≡◌, ◌+◌, ◌-◌, ◌≤◌, ℕ, List,
 use Rattle.std.proofs.Math.Seq.{take-append-add}
 use Rattle.std.proofs.lemmas.List.{append_assoc, length-take-le, take-append-le, take-take, take_all, take_at}
 use Rattle.std.specs.Result.{is_ok}
-use Rattle.b3read.specs.Given.{GivenAt, ReadsAt}
+use Rattle.bao_read.specs.Given.{GivenAt, ReadsAt}
 use Rattle.gather.proofs.places.append_some.Goals as goal
 
 -- what one read gave
