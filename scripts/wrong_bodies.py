@@ -166,7 +166,8 @@ class Work:
     def __init__(self, rt, crate, edits, room, jobs, text, known):
         self.rt, self.edits, self.jobs, self.room = rt, edits, jobs, f"{room}/{crate.name}"
         self.lock, self.left, self.is_proved = threading.Lock(), len(edits), None
-        self.changes, self.counts = {}, (rt.REFUSED, rt.AT_LIMIT)
+        # What a refused edit comes to: an older rt says no more than whether it was.
+        self.changes, self.counts = {}, {getattr(rt, "REFUSED", True), getattr(rt, "AT_LIMIT", True)}
         self.had, self.tried_file = f"{crate.folder}/out/incremental", f"{crate.folder}/{OURS}/TRIED"
         self.text, self.sums, self.known = text, sums_of(edits), known
         self.crate = copy.copy(crate)
