@@ -17,7 +17,7 @@ use Rattle.gather.specs.Encodings.{IsCut, encoding}
 use Rattle.gather.specs.Holders.{IsHanded}
 use Rattle.gather.specs.Large.{IsTooLarge}
 use Rattle.gather.proofs.Binding.{are_longer, handed_cut}
-use Rattle.gather.proofs.Handing.{never_failed}
+use Rattle.gather.proofs.Handing.{none_failed}
 use Rattle.gather.proofs.Reporting.{large_wider}
 use Rattle.store_core.specs.declared.fixed.Fixed.{Fixed}
 use Rattle.store_core.proofs.Bound.{held_binds}
@@ -62,7 +62,7 @@ gathers store text holder later report report' old new keyed is of of' reports c
         no_more = λ piece from. from;
         committed = reports.committed;
         stored = reports.stored;
-        failed = omega (arith, reports.failed, never_failed holders, never_failed later);
+        failed = omega (arith, reports.failed, none_failed (λ (holder : Encoded). 0) (λ holder. refl) holders, none_failed (λ (holder : Encoded). 0) (λ holder. refl) later);
         answered = reports.answered;
         no_less = reports.no_less;
         too_large = large;

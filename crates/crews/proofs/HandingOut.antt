@@ -1,11 +1,9 @@
 -- What the seat with which all others were joined hands out.
-use Rattle.std.proofs.Common.{◌≡◌, ◌⊎◌, ℕ, ◌≤◌, IsTrue, false, List, [], ◌∷◌, ◌++◌, append-nil, length, Contains, refl, sym, subst, arith, inl, inr}
+use Rattle.std.proofs.Common.{◌≡◌, ◌⊎◌, ℕ, ◌≤◌, IsTrue, false, List, [], ◌++◌, append-nil, length, Contains, sym, subst, arith, inl, inr}
 use Rattle.std.specs.List.{sum_by}
 use Rattle.std.proofs.lemmas.Bool.{both_ways}
 use Rattle.std.proofs.lemmas.List.Elements.{Contains-append_cases}
-use Rattle.std.proofs.lemmas.List.Sums.{sum_by-cons}
 use Rattle.b3tree.specs.Valid.{IsKeyed}
-use Rattle.bao_check.proofs.Laws.{accepted_binds}
 use Rattle.bao_check.proofs.Lists.{All-first, All-from_members, All-member}
 use Rattle.bao_text.specs.Choice.{chunk_count}
 use Rattle.crews.specs.Closing.{CallsAreFrom, IsLeft}
@@ -23,8 +21,8 @@ use Rattle.gather.specs.HandedOut.{IsExcused}
 use Rattle.gather.specs.Holders.{IsHanded}
 use Rattle.gather.specs.Large.{HasPair, IsTooLarge}
 use Rattle.gather.specs.Worked.{AreFrom, IsFrom}
-use Rattle.gather.proofs.Binding.{are_longer, pair_of}
-use Rattle.gather.proofs.Handing.{cause_handed, unfinished_named}
+use Rattle.gather.proofs.Binding.{pair_of}
+use Rattle.gather.proofs.Handing.{cause_handed, large_pair, none_failed, unfinished_named}
 use Rattle.gather.proofs.Reporting.{large_wider}
 use Rattle.gather.proofs.Served.{served}
 use Rattle.store_core.specs.declared.fixed.Fixed.{Fixed}
@@ -97,19 +95,6 @@ unfinished_pair handed fixed start seat finished blob same keyed is legal unclai
       | inl held ↦ held was.before there
       | inr claimed ↦ absurd (both_ways _ (unclaimed c) claimed)
     ]) was.unfinished)
-
--- a piece that certifies too large a length, where there is room for the blob, names a pair
-pub large_pair : (handed : Piece → Type 0) (fixed : Fixed) (blob : List ℕ) → IsKeyed fixed.mode → IsBlob fixed blob → chunk_count (length blob) ≤ fixed.capacity
-    → IsTooLarge handed fixed → HasPair handed fixed blob
-large_pair handed fixed blob keyed is room large = elim (are_longer accepted_binds handed fixed keyed large blob is) [
-  | inl long ↦ absurd (omega (arith, long, room))
-  | inr pair ↦ pair
-]
-
--- no device of holders that count no fault fails
-pub none_failed : {H : Type 0} (count : H → ℕ) → ((holder : H) → count holder ≡ 0) → (holders : List H) → sum_by count holders ≡ 0
-none_failed count quiet [] = refl
-none_failed count quiet (x ∷ holders) = omega (arith, sum_by-cons count x holders, quiet x, none_failed count quiet holders)
 
 -- The closing rounds over holders of which some give the blob's slices that are asked for, and what their seat finds afterwards:
 -- memory was refused, or a pair is named.

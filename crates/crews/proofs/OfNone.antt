@@ -1,5 +1,5 @@
 -- What several workers leave whose holders hand over no more than is known of them.
-use Rattle.std.proofs.Common.{◌≡◌, ◌<◌, get_or, length, nat_lt, subst, ℕ, List, Bool, true, false, refl, if◌then◌else◌}
+use Rattle.std.proofs.Common.{◌≡◌, ◌<◌, get_or, length, nat_lt, subst, ℕ, List, Bool, true, false, if◌then◌else◌}
 use Rattle.gather.specs.declared.report.Report.{Report}
 use Rattle.gather.specs.declared.texts.GatherFault.TheVariants.{Capacity, Starved, TooLarge, Unfinished}
 use Rattle.gather.specs.Faults.{cause_of}
@@ -28,11 +28,6 @@ pub lent_all : {H : Type 0} (gives : H → ℕ → ℕ → List ℕ → Type 0) 
     → AreLent gives (IsLent gives over) crews
 lent_all gives over crews are k d below piece handed = record { holders = (get_or crews k d).holders.items; are = are k d below; handed = handed }
 
-large_of : (starved large : Bool) → TooLarge ≡ (if starved then Starved else if large then TooLarge else Unfinished) → large ≡ true
-large_of true large e = let bad : TooLarge ≡ Starved = e in cc
-large_of false true e = refl
-large_of false false e = let bad : TooLarge ≡ Unfinished = e in cc
-
 never_capacity : (starved large : Bool) → Capacity ≡ (if starved then Starved else if large then TooLarge else Unfinished) → ⊥
 never_capacity true large e = cc
 never_capacity false true e = cc
@@ -41,7 +36,3 @@ never_capacity false false e = cc
 -- no report is of a capacity
 pub cause_never : (report : Report) → Capacity ≡ cause_of report → ⊥
 cause_never report e = never_capacity (nat_lt 0 report.memory) report.too_large e
-
--- a blob that was left unfinished because it is too large was reported so
-pub is_large : (report : Report) → TooLarge ≡ cause_of report → report.too_large ≡ true
-is_large report e = large_of (nat_lt 0 report.memory) report.too_large e

@@ -9,7 +9,7 @@ use Rattle.crews.specs.Closing.{IsLeft}
 use Rattle.crews.specs.Crews.{Each, Worked, all_faults, faults_of}
 use Rattle.crews.specs.Joined.{AreCallsOf, AreClaimsOf, HasAllNamesOf, HaveAllNames, names_in}
 use Rattle.crews.specs.Seats.{BeginsAfter, KeepsItsOwn}
-use Rattle.crews.proofs.HandingOut.{none_failed}
+use Rattle.gather.proofs.Handing.{none_failed}
 use Rattle.crews.proofs.OfNone.{AreLent}
 use Rattle.gather.specs.Holders.{IsHanded}
 use Rattle.gather.specs.Worked.{IsFrom}

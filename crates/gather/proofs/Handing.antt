@@ -1,5 +1,5 @@
 -- What comes of texts of which one is the combined encoding of a blob with the root.
-use Rattle.std.proofs.Common.{nat_lt, ltb-false, ◌≡◌, ◌⊎◌, ℕ, ◌*◌, ◌/◌, ◌%◌, ◌^◌, ◌<◌, true, false, List, [], ◌∷◌, zero, suc, refl, length, take, drop, map, get_or, Option, None, Some, option_and_then, slice_get, sym, ap, subst, ◌∙◌, arith, inl, inr, length-drop, lt-ltb}
+use Rattle.std.proofs.Common.{nat_lt, ltb-false, ◌≡◌, ◌⊎◌, ℕ, Bool, if◌then◌else◌, ◌≤◌, ◌*◌, ◌/◌, ◌%◌, ◌^◌, ◌<◌, true, false, List, [], ◌∷◌, zero, suc, refl, length, take, drop, map, get_or, Option, None, Some, option_and_then, slice_get, sym, ap, subst, ◌∙◌, arith, inl, inr, length-drop, lt-ltb}
 use Rattle.std.specs.List.{sum_by}
 use Rattle.std.proofs.lemmas.Bool.{cases_Bool}
 use Rattle.std.proofs.lemmas.List.{length-take}
@@ -7,6 +7,7 @@ use Rattle.std.proofs.lemmas.List.Sums.{sum_by-cons}
 use Rattle.std.proofs.lemmas.Option.{slice_get-get_or}
 use Rattle.b3tree.specs.declared.mode.Mode.{Mode}
 use Rattle.b3tree.specs.Valid.{IsKeyed}
+use Rattle.bao_check.proofs.Laws.{accepted_binds}
 use Rattle.bao_check.specs.Pieces.{chunk_of}
 use Rattle.bao_text.specs.Choice.{chunk_count}
 use Rattle.bao_text.specs.Cut.{cut_text}
@@ -16,13 +17,14 @@ use Rattle.gather.specs.Available.{HasTrue, IsFilled}
 use Rattle.gather.specs.declared.holder.Encoded.{Encoded}
 use Rattle.gather.specs.Encodings.{IsCut, encoding}
 use Rattle.gather.specs.declared.report.Report.{Report}
+use Rattle.gather.specs.declared.texts.GatherFault.TheVariants.{Starved, TooLarge, Unfinished}
 use Rattle.gather.specs.Faults.{cause_of}
 use Rattle.gather.specs.HandedOut.{IsExcused}
 use Rattle.gather.specs.Finished.{IsNamedIn, IsUnfinished}
-use Rattle.gather.specs.Large.{HasPair}
+use Rattle.gather.specs.Large.{HasPair, IsTooLarge}
 use Rattle.gather.specs.Lasting.{Holds, IsBusy, Records}
 use Rattle.gather.specs.Worked.{HasWorked}
-use Rattle.gather.proofs.Binding.{pair_of, some_bytes}
+use Rattle.gather.proofs.Binding.{are_longer, pair_of, some_bytes}
 use Rattle.gather.proofs.Finishing.{some_same}
 use Rattle.store_core.specs.declared.fixed.Fixed.{Fixed}
 use Rattle.store_core.specs.declared.history.Event.{Event}
@@ -104,11 +106,6 @@ encoding_true holders texts mode blob i over short is =
       gives_slices = λ start len text cut. cut ∙ ap (λ (xs : List ℕ). cut_text xs start len) there.2 ∙ cut_text-combined mode blob start len short;
     }
 
--- no device of these holders fails
-pub never_failed : (holders : List Encoded) → sum_by (λ (holder : Encoded). 0) holders ≡ 0
-never_failed [] = refl
-never_failed (x ∷ holders) = omega (arith, sum_by-cons (λ (holder : Encoded). 0) x holders, never_failed holders)
-
 -- why a report is called unfinished
 pub cause_handed : (report : Report) (P : Type 0) → ((report.memory ≡ 0) → (report.too_large ≡ true) → P) → ((report.memory ≡ 0) → (report.too_large ≡ false) → P)
     → IsExcused (cause_of report) ⊎ P
@@ -118,3 +115,25 @@ cause_handed report P large small = elim (cases_Bool (nat_lt 0 report.memory)) [
       let none : report.memory ≡ 0 = omega (arith, ltb-false 0 report.memory fed) in
       elim (cases_Bool report.too_large) [ inl is ↦ inr (large none is) | inr not ↦ inr (small none not) ]
 ]
+
+-- no device of holders that count no fault fails
+pub none_failed : {H : Type 0} (count : H → ℕ) → ((holder : H) → count holder ≡ 0) → (holders : List H) → sum_by count holders ≡ 0
+none_failed count quiet [] = refl
+none_failed count quiet (x ∷ holders) = omega (arith, sum_by-cons count x holders, quiet x, none_failed count quiet holders)
+
+-- a piece that certifies too large a length, where there is room for the blob, names a pair
+pub large_pair : (handed : Piece → Type 0) (fixed : Fixed) (blob : List ℕ) → IsKeyed fixed.mode → IsBlob fixed blob → chunk_count (length blob) ≤ fixed.capacity
+    → IsTooLarge handed fixed → HasPair handed fixed blob
+large_pair handed fixed blob keyed is room large = elim (are_longer accepted_binds handed fixed keyed large blob is) [
+  | inl long ↦ absurd (omega (arith, long, room))
+  | inr pair ↦ pair
+]
+
+large_of : (starved large : Bool) → TooLarge ≡ (if starved then Starved else if large then TooLarge else Unfinished) → large ≡ true
+large_of true large e = let bad : TooLarge ≡ Starved = e in cc
+large_of false true e = refl
+large_of false false e = let bad : TooLarge ≡ Unfinished = e in cc
+
+-- a blob that was left unfinished because it is too large was reported so
+pub is_large : (report : Report) → TooLarge ≡ cause_of report → report.too_large ≡ true
+is_large report e = large_of (nat_lt 0 report.memory) report.too_large e

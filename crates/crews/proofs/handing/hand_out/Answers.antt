@@ -7,7 +7,7 @@ use Rattle.b3tree.specs.Hashing.{hash}
 use Rattle.crews.specs.Lists.{IsLent}
 use Rattle.crews.proofs.Rereading.{round_full}
 use Rattle.crews.proofs.HandingOut.{cuts, large_cut, unfinished_handed}
-use Rattle.crews.proofs.OfNone.{is_large}
+use Rattle.gather.proofs.Handing.{is_large}
 use Rattle.crews.proofs.handing.hand_out.Goals as goal
 use Rattle.gather.specs.declared.fault.FinishFault.{FinishFault}
 use Rattle.gather.specs.declared.fault.FinishFault.TheVariants as finishing

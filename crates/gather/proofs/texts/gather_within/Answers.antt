@@ -1,5 +1,5 @@
-use Rattle.std.proofs.Common.{length, sym, ◌⊎◌, ◌≤◌, inl, inr, arith, Err, List, map, ap, subst, refl, Bool, true, false, nat_lt, if◌then◌else◌, ◌∙◌, ◌≡◌}
-use Rattle.gather.specs.declared.texts.GatherFault.TheVariants.{Starved, TooLarge, Unfinished}
+use Rattle.std.proofs.Common.{length, sym, ◌⊎◌, ◌≤◌, inl, inr, arith, Err, List, map, ap, subst, refl, ◌∙◌, ◌≡◌}
+use Rattle.gather.specs.declared.texts.GatherFault.TheVariants.{TooLarge}
 use Rattle.gather.specs.Faults.{cause_of}
 use Rattle.std.specs.Prelude.{vec_items}
 use Rattle.gather.specs.declared.holder.Encoded.{Encoded}
@@ -14,11 +14,10 @@ use Rattle.gather.specs.declared.grain.Grain.TheVariants.{Group as ByGroup}
 use Rattle.gather.specs.Available.{HaveSlices}
 use Rattle.gather.specs.HandedOut.{IsExcused}
 use Rattle.gather.specs.Large.{HasPair}
-use Rattle.bao_check.proofs.Laws.{accepted_binds}
 use Rattle.bao_text.specs.Choice.{chunk_count}
 use Rattle.gather.specs.declared.texts.GatherFault.{GatherFault}
-use Rattle.gather.proofs.Binding.{are_longer, pair_wider}
-use Rattle.gather.proofs.Handing.{cause_handed, encoding_true, never_failed, unfinished_pair}
+use Rattle.gather.proofs.Binding.{pair_wider}
+use Rattle.gather.proofs.Handing.{cause_handed, encoding_true, is_large, large_pair, none_failed, unfinished_pair}
 use Rattle.store_core.specs.Laws.{IsBlob}
 use Rattle.store_core.specs.Stores.{fixed_of}
 use Rattle.gather.proofs.Serving.{true_slices}
@@ -34,11 +33,6 @@ returns-in-Err-NotTheRoot-clause-none c = λ _.
     (of_none (IsHanded IsCut holders) _ c.run_one-report.new.store (fixed_as c.args.root c.args.mode c.args.capacity) gains.chunks gains.parents
     c.in_ok-store.ensures.made.fixed c.in_ok-store.ensures.made.state gains.worked (λ by. (c.in-Err-NotTheRoot.ensures.binds by).none (ap (λ fault. Err fault) c.in-Err-NotTheRoot.field-0-is)))
 
-large_of : (starved large : Bool) → TooLarge ≡ (if starved then Starved else (if large then TooLarge else Unfinished)) → large ≡ true
-large_of true large e = cc
-large_of false true e = refl
-large_of false false e = cc
-
 pub returns-in-Err-Unfinished-clause-too_large : goal.returns-in-Err-Unfinished-clause-too_large
 returns-in-Err-Unfinished-clause-too_large c = λ e.
     let report = c.run_one-report.result in
@@ -48,7 +42,7 @@ returns-in-Err-Unfinished-clause-too_large c = λ e.
     let over : map encoding holders ≡ texts = ap (λ (all : List Encoded). map encoding all) c.as_mut_slice.ensures.value ∙ c.in-Ok.ensures in
     large_wider (IsHanded IsCut holders) (IsCutOf texts) (handed_cut holders texts over) (fixed_as c.args.root c.args.mode c.args.capacity)
     (subst (λ (fixed : Fixed). IsTooLarge (IsHanded IsCut holders) fixed) c.in_ok-store.ensures.made.fixed
-    (c.run_one-report.ensures.too_large (large_of (nat_lt 0 report.memory) report.too_large large)))
+    (c.run_one-report.ensures.too_large (is_large report large)))
 
 pub returns-in-Err-Unfinished-clause-longer : goal.returns-in-Err-Unfinished-clause-longer
 returns-in-Err-Unfinished-clause-longer c = λ e.
@@ -59,7 +53,7 @@ returns-in-Err-Unfinished-clause-longer c = λ e.
     let over : map encoding holders ≡ texts = ap (λ (all : List Encoded). map encoding all) c.as_mut_slice.ensures.value ∙ c.in-Ok.ensures in
     longer_wider (IsHanded IsCut holders) (IsCutOf texts) (handed_cut holders texts over) (fixed_as c.args.root c.args.mode c.args.capacity)
     (subst (λ (fixed : Fixed). AreLonger (IsHanded IsCut holders) fixed) c.in_ok-store.ensures.made.fixed
-    (c.run_one-report.ensures.longer (large_of (nat_lt 0 report.memory) report.too_large large)))
+    (c.run_one-report.ensures.longer (is_large report large)))
 
 pub returns-in-Ok-finish_one-clause-available : goal.returns-in-Ok-finish_one-clause-available
 returns-in-Ok-finish_one-clause-available c = λ blob i is room there.
@@ -93,16 +87,13 @@ returns-in-Err-Unfinished-clause-available c = λ blob i is room there.
     true_slices ByGroup IsCut c.args.mode blob holders (encoding_true holders texts c.args.mode blob i over (omega (arith, room, small)) there) in
     let P = HasPair (IsHanded IsCut holders) F blob in
     let longer : IsTooLarge (IsHanded IsCut holders) (fixed_of c.in_ok-store.store) → P = λ large.
-    elim (are_longer accepted_binds (IsHanded IsCut holders) F c.is_keyed.ensures (subst (λ (f : Fixed). IsTooLarge (IsHanded IsCut holders) f) made.fixed large) blob is) [
-      | inl long ↦ absurd (omega (arith, long, room))
-      | inr pair ↦ pair
-    ] in
+    large_pair (IsHanded IsCut holders) F blob c.is_keyed.ensures is room (subst (λ (f : Fixed). IsTooLarge (IsHanded IsCut holders) f) made.fixed large) in
     let unfinished = c.in-Err-Unfinished.ensures.finishes.unfinished (ap (λ fault. Err fault) c.in-Err-Unfinished.field-0-is) in
-    let handed : IsExcused (cause_of report) ⊎ P = cause_handed report P (λ none is_large. longer (met.too_large is_large)) (λ none not_large.
+    let handed : IsExcused (cause_of report) ⊎ P = cause_handed report P (λ none large. longer (met.too_large large)) (λ none not_large.
     elim (met.available blob (subst (λ (f : Fixed). IsBlob f blob) (sym made.fixed) is) (subst (λ (f : Fixed). chunk_count (length blob) ≤ f.capacity) (sym made.fixed) room)
     (subst (λ (f : Fixed). HaveSlices ByGroup IsCut f.mode blob holders) (sym made.fixed) has)) [
       | inl (inl memory) ↦ absurd (omega (arith, memory, none))
-      | inl (inr failed) ↦ absurd (omega (arith, failed, met.failed, never_failed c.run_one-report.new.holders))
+      | inl (inr failed) ↦ absurd (omega (arith, failed, met.failed, none_failed (λ (holder : Encoded). 0) (λ holder. refl) c.run_one-report.new.holders))
       | inr (inl large) ↦ longer large
       | inr (inr filled) ↦
           subst (λ (f : Fixed). HasPair (IsHanded IsCut holders) f blob) made.fixed
