@@ -2,9 +2,6 @@ pub mod Numbers
 pub mod Written
 pub mod Ascii
 pub mod Reading
-pub mod Places
-pub mod Told
-pub mod Marked
 pub mod Slicing
 pub mod Exits
-pub mod Printing
+pub mod Running

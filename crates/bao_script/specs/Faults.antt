@@ -22,6 +22,15 @@ IsEarly Cutting = Unit {0}
 IsEarly Replaying = ⊥
 IsEarly Memory = Unit {0}
 
+-- or one that comes up while they run
+abbrev pub IsLate : ReplayScriptFault → Type 0
+IsLate (Refused line fault) = ⊥
+IsLate (Illegal line) = Unit {0}
+IsLate Capacity = ⊥
+IsLate Cutting = ⊥
+IsLate Replaying = Unit {0}
+IsLate Memory = Unit {0}
+
 -- the number of the fault, where its text has one
 abbrev pub replay_number_of : ReplayScriptFault → Option ℕ
 replay_number_of (Refused line fault) = Some (check_number_of fault)

@@ -3,7 +3,6 @@ pub mod Forms
 pub mod Scripts
 pub mod Replies
 pub mod Steps
-pub mod Marks
 pub mod ScriptRuns
 pub mod Slices
 pub mod Printouts

@@ -1,13 +1,16 @@
 -- What a script's run is, line by line.
-use Rattle.std.specs.Prelude.{◌≡◌, ℕ, ◌+◌, List, [], ◌∷◌, ◌++◌, Some, map, slice_get, take}
+use Rattle.std.specs.Prelude.{◌≡◌, ℕ, ◌+◌, List, [], ◌∷◌, ◌++◌, map}
 use Rattle.std.specs.List.{flat_map}
 use Rattle.bao_check.specs.declared.checked.Checked.{Checked}
 use Rattle.store_core.specs.declared.fixed.Fixed.{Fixed}
 use Rattle.store_core.specs.declared.history.Event.{Event}
 use Rattle.store_core.specs.declared.micro.MicroStep.{MicroStep}
 use Rattle.store_core.specs.declared.micro.Reply.{Reply}
+use Rattle.store_core.specs.declared.schedule.ScheduleRun.{ScheduleRun}
 use Rattle.store_core.specs.Machine.{Machine}
-use Rattle.store_core.specs.Schedules.{IsLegalStep, Runs}
+use Rattle.store_core.specs.Replays.{IsIllegalFrom}
+use Rattle.store_core.specs.Schedules.{Runs}
+use Rattle.store_core.specs.Stages.{HasRun}
 use Rattle.bao_script.specs.declared.numbered.NumberedLine.{NumberedLine}
 use Rattle.bao_script.specs.Replies.{reply_line}
 use Rattle.bao_script.specs.Steps.{pieces_among, pieces_in, steps_of}
@@ -23,15 +26,8 @@ RunsScript fixed pieces piece m (line ∷ lines) answers last =
     × RunsScript fixed pieces (piece + pieces_in line.line) next lines later last
 
 -- the first of these steps that isn't legal where it stands
-pub record StopsAmong (fixed : Fixed) (pieces : List Checked) (m : Machine) (steps : List MicroStep) : Type 0 where
-  pub index : ℕ
-  pub replies : List Reply
-  pub events : List Event
-  pub last : Machine
-  pub runs : Runs fixed pieces m (take index steps) replies events last
-  pub step : MicroStep
-  pub is : slice_get steps index ≡ Some step
-  pub illegal : ¬ IsLegalStep fixed pieces last step
+abbrev pub StopsAmong : Fixed → List Checked → Machine → List MicroStep → Type 0
+StopsAmong fixed pieces m steps = (index : ℕ) × IsIllegalFrom fixed pieces m steps index
 
 -- the lines before that with this number ran, and among its steps is one that isn't legal
 abbrev pub StopsAt : Fixed → List Checked → ℕ → Machine → List NumberedLine → ℕ → Type 0
@@ -44,3 +40,25 @@ StopsAt fixed pieces piece m script number =
 -- the replies' lines
 abbrev pub answers_text : List (ℕ × Reply) → List ℕ
 answers_text answers = flat_map (λ answer. reply_line answer.0 answer.1) answers
+
+-- whatever the run took before, it stands for this machine
+abbrev pub StandsAt : Fixed → List Checked → Machine → ScheduleRun → Type 0
+StandsAt fixed pieces m run = (steps : List MicroStep) × (replies : List Reply) × (history : List Event) × HasRun fixed pieces steps replies history m run
+
+-- The steps of the line with this number ran from the machine. The run stands for the machine after them, and the text
+-- has gained the lines of their replies.
+pub record RanSteps (fixed : Fixed) (pieces : List Checked) (m : Machine) (steps : List MicroStep) (number : ℕ) (old new : List ℕ) (run : ScheduleRun) : Type 0 where
+  pub replies : List Reply
+  pub events : List Event
+  pub next : Machine
+  pub runs : Runs fixed pieces m steps replies events next
+  pub stands : StandsAt fixed pieces next run
+  pub text : new ≡ old ++ answers_text (map (λ reply. (number, reply)) replies)
+
+-- and so did the lines
+pub record RanLines (fixed : Fixed) (pieces : List Checked) (m : Machine) (lines : List NumberedLine) (old new : List ℕ) (run : ScheduleRun) : Type 0 where
+  pub answers : List (ℕ × Reply)
+  pub last : Machine
+  pub runs : RunsScript fixed pieces 0 m lines answers last
+  pub stands : StandsAt fixed pieces last run
+  pub text : new ≡ old ++ answers_text answers

@@ -1,13 +1,13 @@
 //! The text of a schedule: read, and run over pieces of encodings.
 #![tactic(auto)]
 
-mod answers;
 mod fault;
 mod forms;
 mod line;
 mod numbered;
 mod printed;
 mod replay;
+mod run;
 mod script;
 mod slice;
 mod steps;

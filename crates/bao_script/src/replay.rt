@@ -4,14 +4,14 @@ ghost use Rattle.bao_script.specs.declared.fault.ReplayScriptFault.TheVariants.{
 ghost use Rattle.bao_script.specs.Printouts.{IsPrinted, IsStopped};
 ghost use Rattle.bao_script.specs.Slices.{AreAccepted, IsRefusedSlice, NameFiles, slices_of};
 
-use crate::answers::print_answers;
 use crate::fault::ReplayScriptFault;
+use crate::printed::push_held;
+use crate::run::run_lines;
 use crate::script::Script;
 use crate::slice::{check_slices, cut_slices};
-use crate::steps::{line_of_step, steps_of_script};
 use b3tree::{Hash, Mode};
 use std::alloc::Global;
-use store_core::{ReplayFault, replay};
+use store_core::{BadCapacity, ScheduleRun};
 
 /// Runs a script over pieces of the files, from an empty store with room for `capacity` chunks of the blob with the
 /// hash `root` in `mode`, and answers the text to print: a line for each reply, with the number of its line, and a last
@@ -46,23 +46,12 @@ pub fn replay_script(
     let lines = script.lines();
     let slices = cut_slices(alloc, files, lines)?;
     let pieces = check_slices(alloc, &root, &mode, slices.as_slice())?;
-    let steps = steps_of_script(alloc, lines)?;
-    match replay(
-        alloc,
-        root,
-        mode,
-        capacity,
-        pieces.as_slice(),
-        steps.as_slice(),
-    ) {
-        Ok((replies, store)) => {
-            let text = print_answers(alloc, lines, replies.as_slice(), store.held_count())?;
-            Ok(text.into_bytes())
-        }
-        Err(ReplayFault::Illegal { step }) => Err(ReplayScriptFault::Illegal {
-            line: line_of_step(lines, step),
-        }),
-        Err(ReplayFault::Capacity) => Err(ReplayScriptFault::Capacity),
-        Err(ReplayFault::Memory) => Err(ReplayScriptFault::Replaying),
-    }
+    let mut run = match ScheduleRun::new(alloc, root, mode, capacity) {
+        Ok(run) => run,
+        Err(BadCapacity) => return Err(ReplayScriptFault::Capacity),
+    };
+    let mut text = String::new(alloc);
+    run_lines(alloc, &mut run, pieces.as_slice(), lines, &mut text)?;
+    push_held(&mut text, run.into_store().held_count())?;
+    Ok(text.into_bytes())
 }

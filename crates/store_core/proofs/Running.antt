@@ -1,5 +1,5 @@
 -- Loads of a read, settled lengths, and whole runs of the machine of schedules.
-use Rattle.std.proofs.Common.{◌≡◌, ℕ, zero, suc, ◌+◌, ◌-◌, ◌*◌, ◌/◌, ◌%◌, ◌<◌, ◌≤◌, ◌≢◌, IfSome, option_and_then, nat_le, ◌==◌, Bool, true, false, ◌&&◌, ◌||◌, if◌then◌else◌, List, [], ◌∷◌, ◌++◌, length, get_or, slice_get, slice_index, Option, None, Some, is_none, is_some, refl, sym, ap, subst, ◌∙◌, arith, inl, inr, eqb-true, eq-eqb, length-append, get_or-append-add}
+use Rattle.std.proofs.Common.{◌≡◌, ℕ, zero, suc, ◌+◌, ◌-◌, ◌*◌, ◌/◌, ◌%◌, ◌<◌, ◌≤◌, ◌≢◌, IfSome, option_and_then, nat_le, ◌==◌, Bool, true, false, ◌&&◌, ◌||◌, if◌then◌else◌, List, [], ◌∷◌, ◌++◌, length, get_or, slice_get, slice_index, Option, None, Some, is_none, is_some, refl, sym, ap, subst, ◌∙◌, option_to_list, append-nil, append_assoc, arith, inl, inr, eqb-true, eq-eqb, length-append, get_or-append-add}
 use Rattle.std.proofs.lemmas.Bool.{and_parts, cases_Bool, cases_lt, leb-true, ne_eqb, or_cases}
 use Rattle.std.proofs.lemmas.List.{get_or_append_left}
 use Rattle.bao_check.specs.declared.checked.Checked.{Checked}
@@ -18,7 +18,7 @@ use Rattle.store_core.specs.Histories.{AreLegalFrom, run}
 use Rattle.store_core.specs.Laws.{IsSound, RunsAreLegal}
 use Rattle.store_core.specs.Machine.{Machine, Reading, Seat, copied, current_bytes, current_holds, seat_has, is_over, is_whole, loaded, loaded_group, position, read_of, shown_byte, start, store_of, with_seat}
 use Rattle.store_core.specs.Pieces.{length_of}
-use Rattle.store_core.specs.Schedules.{AreTexts, HasTail, IsLegalStep, IsReply, IsWritten, Runs, after_step, commit_by, current_length, event_by, is_last_load, length_answer, read_after, read_before, settle_by, step_events}
+use Rattle.store_core.specs.Schedules.{AreTexts, HasTail, IsLegalStep, IsReply, IsWritten, Runs, after_step, commit_by, current_length, event_by, is_last_load, length_answer, read_after, read_before, settle_by, step_events, TakesBytes}
 use Rattle.store_core.specs.States.{State, byte_and, byte_at, empty, read_bytes}
 use Rattle.store_core.proofs.Bits.{has_bit-zero}
 use Rattle.store_core.proofs.Lasting.{legal-join, run-append, sound_empty}
@@ -238,7 +238,7 @@ publish_at fixed pieces m n group mask None served is some wrote right = cc
 publish_at fixed pieces m n group mask (Some piece) served is some wrote right = publish_step fixed pieces m n group mask piece served is wrote right
 
 -- each step
-pub one_step : (fixed : Fixed) (pieces : List Checked) (m : Machine) (step : MicroStep) (reply : Option Reply) → AreTexts pieces → IsServed fixed m
+pub one_step : (fixed : Fixed) (pieces : List Checked) (m : Machine) (step : MicroStep) (reply : Option Reply) → TakesBytes pieces step → IsServed fixed m
     → IsLegalStep fixed pieces m step → IsReply fixed m step reply → IsStep fixed m (after_step fixed pieces m step reply) (step_events fixed m step reply)
 one_step fixed pieces m (Claim n group want) reply texts served legal right =
     subst (λ (r : Option Reply). IsStep fixed m (after_step fixed pieces m (Claim n group want) r) (step_events fixed m (Claim n group want) r)) (sym right.1)
@@ -256,6 +256,17 @@ one_step fixed pieces m (Settle n) reply texts served legal right = settle_step 
 one_step fixed pieces m (Length n) reply texts served legal right =
     keeps fixed m m (event_by n (LengthCall m.recorded)) served (refl, tt) refl served.kept (λ k. refl)
 
+-- a step over texts of bytes
+takes_bytes : (pieces : List Checked) (step : MicroStep) → AreTexts pieces → TakesBytes pieces step
+takes_bytes pieces (Claim n group want) texts = tt
+takes_bytes pieces (Hash n i) texts = texts i
+takes_bytes pieces (Write n c w) texts = tt
+takes_bytes pieces (Publish n group) texts = tt
+takes_bytes pieces (GiveBack n group mask) texts = tt
+takes_bytes pieces (Load n at len) texts = tt
+takes_bytes pieces (Settle n) texts = tt
+takes_bytes pieces (Length n) texts = tt
+
 -- whole runs
 pub start_empty : store_of start ≡ empty
 start_empty = same_state (store_of start) empty refl
@@ -272,6 +283,34 @@ start_served fixed = record {
   reads = λ n r is. let none : None ≡ Some r = is in cc;
 }
 
+-- one more step of a run
+pub runs_more : (fixed : Fixed) (pieces : List Checked) (m : Machine) (steps : List MicroStep) (replies : List Reply) (history : List Event) (last : Machine) (step : MicroStep) (reply : Option Reply)
+    → Runs fixed pieces m steps replies history last → IsLegalStep fixed pieces last step → IsReply fixed last step reply
+    → Runs fixed pieces m (steps ++ step ∷ []) (replies ++ option_to_list reply) (history ++ step_events fixed last step reply) (after_step fixed pieces last step reply)
+runs_more fixed pieces m [] replies history last step reply runs =
+    subst (λ (x : Machine). IsLegalStep fixed pieces x step → IsReply fixed x step reply
+    → Runs fixed pieces m (step ∷ []) (replies ++ option_to_list reply) (history ++ step_events fixed x step reply) (after_step fixed pieces x step reply)) (sym runs.2)
+    (λ legal right. (
+      reply,
+      [],
+      [],
+      legal,
+      right,
+      ap (λ (xs : List Reply). xs ++ option_to_list reply) runs.0 ∙ sym (append-nil (option_to_list reply)),
+      ap (λ (xs : List Event). xs ++ step_events fixed m step reply) runs.1 ∙ sym (append-nil (step_events fixed m step reply)),
+      (refl, refl, refl),
+    ))
+runs_more fixed pieces m (first ∷ steps) replies history last step reply runs = λ legal right. (
+  runs.0,
+  runs.1 ++ option_to_list reply,
+  runs.2 ++ step_events fixed last step reply,
+  runs.3,
+  runs.4,
+  ap (λ (xs : List Reply). xs ++ option_to_list reply) runs.5 ∙ append_assoc (option_to_list runs.0) runs.1 (option_to_list reply),
+  ap (λ (xs : List Event). xs ++ step_events fixed last step reply) runs.6 ∙ append_assoc (step_events fixed m first runs.0) runs.2 (step_events fixed last step reply),
+  runs_more fixed pieces (after_step fixed pieces m first runs.0) steps runs.1 runs.2 last step reply runs.7 legal right,
+)
+
 pub record IsRun (fixed : Fixed) (m last : Machine) (history : List Event) : Type 0 where
   pub served : IsServed fixed last
   pub legal : AreLegalFrom fixed (store_of m) history
@@ -284,7 +323,7 @@ whole_run fixed pieces m [] replies history last texts served runs =
     (record { served = served; legal = tt; state = refl }))
 whole_run fixed pieces m (step ∷ steps) replies history last texts served runs =
     let next : Machine = after_step fixed pieces m step runs.0 in
-    let done : IsStep fixed m next (step_events fixed m step runs.0) = one_step fixed pieces m step runs.0 texts served runs.3 runs.4 in
+    let done : IsStep fixed m next (step_events fixed m step runs.0) = one_step fixed pieces m step runs.0 (takes_bytes pieces step texts) served runs.3 runs.4 in
     let rest : IsRun fixed next last runs.2 = whole_run fixed pieces next steps runs.1 runs.2 last texts done.served runs.7 in
     subst (λ (events : List Event). IsRun fixed m last events) (sym runs.6) (record {
       served = rest.served;

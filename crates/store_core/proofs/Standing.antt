@@ -12,19 +12,20 @@ use Rattle.store_core.specs.declared.micro.MicroStep.TheVariants.{Claim, Hash, W
 use Rattle.store_core.specs.declared.micro.Reply.{Reply}
 use Rattle.store_core.specs.declared.micro.Reply.TheVariants.{Granted, Committed, Given}
 use Rattle.store_core.specs.declared.schedule.Player.{Player}
-use Rattle.store_core.specs.declared.schedule.Stage.{Stage}
+use Rattle.store_core.specs.declared.schedule.ScheduleRun.{ScheduleRun}
 use Rattle.store_core.specs.Events.{IsRight, is_free}
-use Rattle.store_core.specs.Histories.{run}
-use Rattle.store_core.specs.Machine.{Machine, Seat, current_holds, is_number, is_shown, seat_has, store_of}
+use Rattle.store_core.specs.Histories.{AreLegalFrom, run}
+use Rattle.store_core.specs.Machine.{Machine, Seat, current_holds, is_number, is_shown, seat_has, start, store_of}
 use Rattle.store_core.specs.Masks.{IsMaskOf, has_bit, in_mask}
 use Rattle.store_core.specs.Pieces.{holds_chunk, piece_of}
-use Rattle.store_core.specs.Schedules.{AreTexts, IsLegalStep, IsReply, IsWritten, after_step, commit_by}
+use Rattle.store_core.specs.Schedules.{IsLegalStep, IsReply, IsWritten, TakesBytes, after_step, commit_by, step_events}
 use Rattle.store_core.specs.Served.{IsServed}
 use Rattle.store_core.specs.Slots.{caller}
-use Rattle.store_core.specs.Stages.{IsCleared, IsPlayer, IsSeatOf, IsStepped, IsTaken, StandsFor, is_marked, player_in, reading_of}
-use Rattle.store_core.specs.States.{State, claims, is_claimed}
+use Rattle.store_core.specs.Stages.{HasRun, IsCleared, IsPlayer, IsSeatOf, IsStepped, IsTaken, StandsFor, is_marked, player_in, reading_of}
+use Rattle.store_core.specs.States.{State, claims, empty, is_claimed}
 use Rattle.store_core.specs.Stores.{IsOf, fixed_of, state_of}
-use Rattle.store_core.proofs.Running.{one_step}
+use Rattle.store_core.proofs.Lasting.{legal-join, run-append}
+use Rattle.store_core.proofs.Running.{one_step, runs_more}
 use Rattle.store_core.proofs.Served.{IsStep, claimed_hidden, claims_seat, free_same, one_seat, seat_claim}
 use Rattle.store_core.proofs.Stepping.{shown_or, write_step}
 use Rattle.store_core.proofs.Stored.{mask_same}
@@ -129,10 +130,10 @@ pub record IsNext (fixed : Fixed) (pieces : List Checked) (t : State) (players :
 
 -- Claim
 pub claim_next : (fixed : Fixed) (pieces : List Checked) (s t : State) (players : List Player) (written : List Bool) (m : Machine) (n group want mask : ℕ)
-    → AreTexts pieces → IsServed fixed m → StandsFor fixed s players written m → group < ((fixed.capacity + 63) / 64) → IsRight fixed s (caller n) (Take group want mask)
+    → IsServed fixed m → StandsFor fixed s players written m → group < ((fixed.capacity + 63) / 64) → IsRight fixed s (caller n) (Take group want mask)
     → t ≡ run s (record { who = caller n; call = Take group want mask } ∷ [])
     → IsNext fixed pieces t players written m (Claim n group want) (Some (Granted mask))
-claim_next fixed pieces s t players written m n group want mask texts served is legal done after =
+claim_next fixed pieces s t players written m n group want mask served is legal done after =
     let test : ℕ → Bool = λ c. has_bit want (c % 64) && (nat_lt c fixed.capacity && not (is_shown m c || is_some (m.claim c))) in
     let chosen : IsMaskOf group mask test =
     mask_same group mask (λ c. has_bit want (c % 64) && is_free fixed (store_of m) c) test
@@ -147,7 +148,7 @@ claim_next fixed pieces s t players written m n group want mask texts served is 
       right = right;
       stands = record {
         state = state_next fixed s t m (after_step fixed pieces m (Claim n group want) (Some (Granted mask))) _ is.state
-            (one_step fixed pieces m (Claim n group want) (Some (Granted mask)) texts served legal right) after;
+            (one_step fixed pieces m (Claim n group want) (Some (Granted mask)) tt served legal right) after;
         seats = is.seats;
         wrote = λ k c w below dark. elim (cases_Bool (in_mask group mask c)) [
           | inl hit ↦
@@ -164,10 +165,10 @@ claim_next fixed pieces s t players written m n group want mask texts served is 
 
 -- GiveBack
 pub give_next : (fixed : Fixed) (pieces : List Checked) (s t : State) (players : List Player) (written cleared : List Bool) (m : Machine) (n group mask given : ℕ)
-    → AreTexts pieces → IsServed fixed m → StandsFor fixed s players written m → group < ((fixed.capacity + 63) / 64) → IsRight fixed s (caller n) (Give group mask given)
+    → IsServed fixed m → StandsFor fixed s players written m → group < ((fixed.capacity + 63) / 64) → IsRight fixed s (caller n) (Give group mask given)
     → t ≡ run s (record { who = caller n; call = Give group mask given } ∷ []) → IsCleared (in_mask group given) written cleared
     → IsNext fixed pieces t players cleared m (GiveBack n group mask) (Some (Given given))
-give_next fixed pieces s t players written cleared m n group mask given texts served is legal done after clear =
+give_next fixed pieces s t players written cleared m n group mask given served is legal done after clear =
     let test : ℕ → Bool = λ c. has_bit mask (c % 64) && seat_has m n c in
     let chosen : IsMaskOf group given test =
     mask_same group given (λ c. has_bit mask (c % 64) && claims (caller n) (store_of m) c) test
@@ -182,7 +183,7 @@ give_next fixed pieces s t players written cleared m n group mask given texts se
       right = right;
       stands = record {
         state = state_next fixed s t m (after_step fixed pieces m (GiveBack n group mask) (Some (Given given))) _ is.state
-            (one_step fixed pieces m (GiveBack n group mask) (Some (Given given)) texts served legal right) after;
+            (one_step fixed pieces m (GiveBack n group mask) (Some (Given given)) tt served legal right) after;
         seats = λ k. with_like fixed (player_in players k) m n k seat refl refl (is.seats k);
         wrote = λ k c w below dark. elim (cases_Bool (in_mask group given c)) [
           | inl hit ↦ elim (cases_Bool (k == n)) [
@@ -207,25 +208,42 @@ give_next fixed pieces s t players written cleared m n group mask given texts se
       };
     }
 
-pub stepped : (fixed : Fixed) (pieces : List Checked) (new : Stage) (m : Machine) (step : MicroStep) (reply : Option Reply) → fixed_of new.store ≡ fixed
-    → IsNext fixed pieces (state_of new.store) new.players.items new.written.items m step reply → IsStepped fixed pieces new m step reply
-stepped fixed pieces new m step reply same next = record {
-  legal = next.legal;
-  right = next.right;
-  fixed_is = same;
-  stands = subst (λ (f : Fixed). StandsFor f (state_of new.store) new.players.items new.written.items (after_step fixed pieces m step reply)) (sym same) next.stands;
-}
+-- the run took a step
+pub stepped : (fixed : Fixed) (pieces : List Checked) (steps : List MicroStep) (replies : List Reply) (history : List Event) (m : Machine) (step : MicroStep) (reply : Option Reply) (old new : ScheduleRun)
+    → HasRun fixed pieces steps replies history m old → fixed_of new.store ≡ fixed_of old.store → TakesBytes pieces step
+    → IsNext (fixed_of old.store) pieces (state_of new.store) new.players.items new.written.items m step reply → IsStepped fixed pieces steps replies history m step reply new
+stepped fixed pieces steps replies history m step reply old new has same bytes next =
+    let was : Fixed = fixed_of old.store in
+    let legal : IsLegalStep fixed pieces m step = subst (λ (f : Fixed). IsLegalStep f pieces m step) has.fixed_is next.legal in
+    let right : IsReply fixed m step reply = subst (λ (f : Fixed). IsReply f m step reply) has.fixed_is next.right in
+    let served : IsServed fixed m = subst (λ (f : Fixed). IsServed f m) has.fixed_is has.served in
+    let done : IsStep fixed m (after_step fixed pieces m step reply) (step_events fixed m step reply) = one_step fixed pieces m step reply bytes served legal right in
+    let now : fixed_of new.store ≡ fixed = same ∙ has.fixed_is in
+    record {
+      legal = legal;
+      right = right;
+      has = record {
+        runs = runs_more fixed pieces start steps replies history m step reply has.runs legal right;
+        legal = legal-join fixed empty history (step_events fixed m step reply) has.legal
+            (subst (λ (s : State). AreLegalFrom fixed s (step_events fixed m step reply)) (sym has.events) done.legal);
+        events = run-append empty history (step_events fixed m step reply) ∙ ap (λ (s : State). run s (step_events fixed m step reply)) has.events ∙ done.state;
+        fixed_is = now;
+        served = subst (λ (f : Fixed). IsServed f (after_step fixed pieces m step reply)) (sym now) done.served;
+        stands = subst (λ (f : Fixed). StandsFor f (state_of new.store) new.players.items new.written.items (after_step fixed pieces m step reply)) (sym now)
+            (subst (λ (f : Fixed). StandsFor f (state_of new.store) new.players.items new.written.items (after_step f pieces m step reply)) has.fixed_is next.stands);
+      };
+    }
 
 -- Publish
 pub publish_next : (fixed : Fixed) (pieces : List Checked) (s t : State) (old mid new : List Player) (written : List Bool) (m : Machine) (n group mask : ℕ) (player : Player) (piece : Checked)
-    → AreTexts pieces → IsServed fixed m → StandsFor fixed s old written m → group < ((fixed.capacity + 63) / 64)
+    → IsServed fixed m → StandsFor fixed s old written m → group < ((fixed.capacity + 63) / 64)
     → IsTaken (player_in old n) player → player.piece ≡ Some piece
     → ((c w : ℕ) → c / 64 ≡ group → claims (caller n) s c ≡ true → holds_chunk (piece_of piece) c ≡ true → w < 129 → is_marked written c w ≡ true)
     → IsRight fixed s (caller n) (Commit group (piece_of piece) mask)
     → t ≡ run s (record { who = caller n; call = Commit group (piece_of piece) mask } ∷ [])
     → ((k : ℕ) → k ≢ n → player_in mid k ≡ player_in old k) → ((k : ℕ) → player_in new k ≡ (if player.number == k then Some player else player_in mid k)) → player.number ≡ n
     → IsNext fixed pieces t new written m (Publish n group) (Some (Committed mask))
-publish_next fixed pieces s t old mid new written m n group mask player piece texts served is there taken has filled done after others put number =
+publish_next fixed pieces s t old mid new written m n group mask player piece served is there taken has filled done after others put number =
     let seat_piece : (m.seat n).piece ≡ Some (piece_of piece) = current fixed (player_in old n) player (m.seat n) piece (is.seats n) taken has in
     let test : ℕ → Bool = λ c. seat_has m n c && current_holds (m.seat n).piece c in
     let chosen : IsMaskOf group mask test =
@@ -244,7 +262,7 @@ publish_next fixed pieces s t old mid new written m n group mask player piece te
       right = right;
       stands = record {
         state = state_next fixed s t m next (commit_by n group (m.seat n).piece mask) is.state
-            (one_step fixed pieces m (Publish n group) (Some (Committed mask)) texts served legal right)
+            (one_step fixed pieces m (Publish n group) (Some (Committed mask)) tt served legal right)
             (after ∙ ap (λ (o : Option Piece). run s (commit_by n group o mask)) (sym seat_piece));
         seats = kept_seats fixed old mid new m n player is.seats taken others put number;
         wrote = λ k c w below dark.

@@ -15,7 +15,7 @@ use Rattle.store_core.specs.Events.{IsRight, is_free}
 use Rattle.store_core.specs.Machine.{Machine, Seat, bytes_or_none, current_bytes, current_holds, is_number, is_shown, seat_has, store_of, with_seat}
 use Rattle.store_core.specs.Masks.{IsMaskOf, has_bit, in_mask}
 use Rattle.store_core.specs.Pieces.{IsAcceptedPiece, chunk_bytes, holds_chunk, nodes_of, piece_of, places_in}
-use Rattle.store_core.specs.Schedules.{AreTexts, HasPiece, IsWritten, after_step, event_by}
+use Rattle.store_core.specs.Schedules.{HasPiece, IsWritten, TakesBytes, after_step, event_by}
 use Rattle.store_core.specs.Slots.{caller}
 use Rattle.store_core.specs.States.{claims}
 use Rattle.store_core.specs.Served.{IsServed}
@@ -89,20 +89,20 @@ accepted_seat fixed m n seat here others k piece is = elim (cases_Bool (k == n))
 ]
 
 -- Hash
-listed_accepted : (fixed : Fixed) (pieces : List Checked) (i : ℕ) (piece : Piece) → AreTexts pieces → HasPiece fixed pieces i
+listed_accepted : (fixed : Fixed) (pieces : List Checked) (n i : ℕ) (piece : Piece) → TakesBytes pieces (Hash n i) → HasPiece fixed pieces i
     → option_map piece_of (slice_get pieces i) ≡ Some piece → IsAcceptedPiece fixed piece
-listed_accepted fixed pieces i piece texts has is =
+listed_accepted fixed pieces n i piece bytes has is =
     let found : Some (piece_of has.piece) ≡ Some piece = ap (λ (o : Option Checked). option_map piece_of o) (sym has.is) ∙ is in
     let same : piece_of has.piece ≡ piece = cc in
     let mode : IsAccepted fixed.mode has.piece.root.0 (piece_text has.piece) (nodes_of (piece_of has.piece)) =
     subst (λ (mode : Mode). IsAccepted mode has.piece.root.0 (piece_text has.piece) (nodes_of (piece_of has.piece))) has.mode has.piece.accepted in
     let root : IsAccepted fixed.mode fixed.root.0 (piece_text has.piece) (nodes_of (piece_of has.piece)) =
     subst (λ (root : List ℕ). IsAccepted fixed.mode root (piece_text has.piece) (nodes_of (piece_of has.piece))) has.root mode in
-    subst (λ (p : Piece). IsAcceptedPiece fixed p) same (record { bytes = texts i has.piece has.is; accepted = root })
+    subst (λ (p : Piece). IsAcceptedPiece fixed p) same (record { bytes = bytes has.piece has.is; accepted = root })
 
-pub hash_step : (fixed : Fixed) (pieces : List Checked) (m : Machine) (n i : ℕ) → AreTexts pieces → IsServed fixed m → HasPiece fixed pieces i
+pub hash_step : (fixed : Fixed) (pieces : List Checked) (m : Machine) (n i : ℕ) → TakesBytes pieces (Hash n i) → IsServed fixed m → HasPiece fixed pieces i
     → IsStep fixed m (after_step fixed pieces m (Hash n i) None) []
-hash_step fixed pieces m n i texts served has =
+hash_step fixed pieces m n i bytes served has =
     let seat : Seat = record (m.seat n) { piece = option_map piece_of (slice_get pieces i); written = λ c w. false } in
     keeps fixed m (with_seat m n seat) [] served tt refl
     (record {
@@ -114,7 +114,7 @@ hash_step fixed pieces m n i texts served has =
         | inl hit ↦ let none : false ≡ true = rw hit at wrote in cc
         | inr miss ↦ rw miss (served.kept.cells k c w (rw miss at wrote) hasc)
       ];
-      accepted = accepted_seat fixed m n seat (λ piece is. listed_accepted fixed pieces i piece texts has is) served.kept.accepted;
+      accepted = accepted_seat fixed m n seat (λ piece is. listed_accepted fixed pieces n i piece bytes has is) served.kept.accepted;
     })
     (reading_same m n seat refl)
 

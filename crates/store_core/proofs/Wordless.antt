@@ -13,7 +13,7 @@ use Rattle.store_core.specs.declared.micro.MicroStep.TheVariants.{Load, Settle, 
 use Rattle.store_core.specs.declared.micro.Reply.{Reply}
 use Rattle.store_core.specs.declared.micro.Reply.TheVariants.{Settling, LengthIs}
 use Rattle.store_core.specs.declared.schedule.Player.{Player}
-use Rattle.store_core.specs.declared.schedule.Stage.{Stage}
+use Rattle.store_core.specs.declared.schedule.ScheduleRun.{ScheduleRun}
 use Rattle.store_core.specs.declared.store.Store.{Store}
 use Rattle.store_core.specs.Events.{recorded_after, settling}
 use Rattle.store_core.specs.Machine.{Machine, Reading, Seat, is_whole, position, read_of, store_of}
@@ -146,7 +146,7 @@ load_next fixed pieces s old mid new written m n at len was player before after 
     }
 
 -- Length
-pub length_next : (pieces : List Checked) (stage : Stage) (m : Machine) (n : ℕ) (recorded : Option ℕ) → Stands stage m
+pub length_next : (pieces : List Checked) (stage : ScheduleRun) (m : Machine) (n : ℕ) (recorded : Option ℕ) → Stands stage m
     → ((who : List Name) → IsEvent stage.store stage.store who (LengthCall recorded))
     → IsNext (fixed_of stage.store) pieces (state_of stage.store) stage.players.items stage.written.items m (Length n) (Some (LengthIs recorded))
 length_next pieces stage m n recorded is each = record {

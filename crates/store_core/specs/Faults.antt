@@ -4,6 +4,8 @@ use Rattle.store_core.specs.declared.fault.ReplayFault.{ReplayFault}
 use Rattle.store_core.specs.declared.fault.ReplayFault.TheVariants as unreplayed
 use Rattle.store_core.specs.declared.fault.ServeFault.{ServeFault}
 use Rattle.store_core.specs.declared.fault.ServeFault.TheVariants as refused
+use Rattle.store_core.specs.declared.fault.StepFault.{StepFault}
+use Rattle.store_core.specs.declared.fault.StepFault.TheVariants as untaken
 use Rattle.store_core.specs.declared.fault.StoreFault.{StoreFault}
 use Rattle.store_core.specs.declared.fault.StoreFault.TheVariants.{Memory, NoGroup, OtherLength, OtherRoot}
 
@@ -22,3 +24,7 @@ abbrev pub replay_number_of : ReplayFault → ℕ
 replay_number_of unreplayed.Memory = 701
 replay_number_of (unreplayed.Illegal step) = 702
 replay_number_of unreplayed.Capacity = 802
+
+abbrev pub step_number_of : StepFault → ℕ
+step_number_of untaken.Memory = 701
+step_number_of untaken.Illegal = 702

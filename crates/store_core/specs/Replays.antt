@@ -7,12 +7,14 @@ use Rattle.store_core.specs.declared.history.Event.{Event}
 use Rattle.store_core.specs.declared.history.Piece.{Piece}
 use Rattle.store_core.specs.declared.micro.MicroStep.{MicroStep}
 use Rattle.store_core.specs.declared.micro.Reply.{Reply}
+use Rattle.store_core.specs.declared.schedule.ScheduleRun.{ScheduleRun}
 use Rattle.store_core.specs.declared.store.Store.{Store}
 use Rattle.store_core.specs.Histories.{IsLegal, state_after}
 use Rattle.store_core.specs.Laws.{IsBlob, IsCommitted, IsSettled, PairNamed}
 use Rattle.store_core.specs.Machine.{Machine, start, store_of}
 use Rattle.store_core.specs.Pieces.{piece_of}
 use Rattle.store_core.specs.Schedules.{IsLegalStep, Runs}
+use Rattle.store_core.specs.Stages.{HasRun}
 use Rattle.store_core.specs.Stores.{fixed_of, state_of}
 
 -- Each step was legal where it stood, and these are their replies. The store stands for what the words do at the end,
@@ -26,15 +28,18 @@ pub record IsReplayed (fixed : Fixed) (pieces : List Checked) (steps : List Micr
   pub legal : IsLegal fixed history
   pub events : state_of store ≡ state_after history
 
--- the steps before it ran, and the one with this index isn't legal where it stands
-pub record IsIllegalAt (fixed : Fixed) (pieces : List Checked) (steps : List MicroStep) (index : ℕ) : Type 0 where
+-- from this machine the steps before it ran, and the one with this index isn't legal where it stands
+pub record IsIllegalFrom (fixed : Fixed) (pieces : List Checked) (m : Machine) (steps : List MicroStep) (index : ℕ) : Type 0 where
   pub replies : List Reply
   pub history : List Event
   pub last : Machine
-  pub runs : Runs fixed pieces start (take index steps) replies history last
+  pub runs : Runs fixed pieces m (take index steps) replies history last
   pub step : MicroStep
   pub is : slice_get steps index ≡ Some step
   pub illegal : ¬ IsLegalStep fixed pieces last step
+
+abbrev pub IsIllegalAt : Fixed → List Checked → List MicroStep → ℕ → Type 0
+IsIllegalAt fixed pieces steps index = IsIllegalFrom fixed pieces start steps index
 
 -- the piece is one of the list
 pub record IsListed (pieces : List Checked) (piece : Piece) : Type 0 where
@@ -62,3 +67,8 @@ abbrev pub ReplayBinds : Fixed → List Checked → List MicroStep → List Repl
 ReplayBinds fixed pieces steps replies store = (blob : List ℕ) → IsBlob fixed blob → (by : IsReplayed fixed pieces steps replies store)
     → ((c : ℕ) (bytes : List ℕ) → (state_of store).held c ≡ Some bytes → (chunk_of blob c ≡ Some bytes) ⊎ PairOfChunk fixed pieces by.history blob c bytes)
     × ((l : ℕ) → (state_of store).recorded ≡ Some l → (l ≡ length blob) ⊎ PairOfLength fixed pieces by.history blob l)
+
+-- the store is that of a replay of the steps that the run took, which ends at the machine that the run stands for
+abbrev pub LeavesStore : ScheduleRun → Store → Type 0
+LeavesStore run store = (fixed : Fixed) (pieces : List Checked) (steps : List MicroStep) (replies : List Reply) (history : List Event) (m : Machine)
+    → HasRun fixed pieces steps replies history m run → (by : IsReplayed fixed pieces steps replies store) × (by.last ≡ m)

@@ -158,3 +158,8 @@ Runs fixed pieces m (step ∷ steps) replies history last =
 -- the texts are of bytes
 abbrev pub AreTexts : List Checked → Type 0
 AreTexts pieces = (i : ℕ) (piece : Checked) → slice_get pieces i ≡ Some piece → AreBytes (piece_text piece)
+
+-- the piece that a step takes has a text of bytes
+abbrev pub TakesBytes : List Checked → MicroStep → Type 0
+TakesBytes pieces (Hash n i) = (piece : Checked) → slice_get pieces i ≡ Some piece → AreBytes (piece_text piece)
+TakesBytes pieces step = Unit {0}

@@ -1,16 +1,18 @@
--- A schedule on its way: what the store, the marks of written words and the players stand for.
-use Rattle.std.specs.Prelude.{◌≡◌, ℕ, ◌+◌, ◌-◌, ◌*◌, ◌/◌, ◌%◌, ◌<◌, min, nat_lt, ◌==◌, Bool, false, true, ◌&&◌, if◌then◌else◌, List, [], ◌∷◌, ◌++◌, length, Option, None, Some, option_map, slice_index_or}
+-- A schedule on its way: what the store, the marks of written words and the players stand for, and what a step does.
+use Rattle.std.specs.Prelude.{◌≡◌, ℕ, ◌+◌, ◌-◌, ◌*◌, ◌/◌, ◌%◌, ◌<◌, min, nat_lt, ◌==◌, Bool, false, true, ◌&&◌, if◌then◌else◌, List, [], ◌∷◌, ◌++◌, length, Option, None, Some, option_map, option_to_list, slice_index_or}
 use Rattle.bao_check.specs.declared.checked.Checked.{Checked}
 use Rattle.store_core.specs.declared.fixed.Fixed.{Fixed}
+use Rattle.store_core.specs.declared.history.Event.{Event}
 use Rattle.store_core.specs.declared.micro.MicroStep.{MicroStep}
 use Rattle.store_core.specs.declared.micro.Reply.{Reply}
 use Rattle.store_core.specs.declared.schedule.Player.{Player}
 use Rattle.store_core.specs.declared.reading.Reading.{Reading as Under}
-use Rattle.store_core.specs.declared.schedule.Stage.{Stage}
+use Rattle.store_core.specs.declared.schedule.ScheduleRun.{ScheduleRun}
 use Rattle.store_core.specs.declared.store.Store.{Store}
-use Rattle.store_core.specs.Machine.{Machine, Reading, Seat, is_shown, position, seat_has, store_of}
+use Rattle.store_core.specs.Histories.{IsLegal, state_after}
+use Rattle.store_core.specs.Machine.{Machine, Reading, Seat, is_shown, position, seat_has, start, store_of}
 use Rattle.store_core.specs.Pieces.{holds_chunk, piece_of}
-use Rattle.store_core.specs.Schedules.{AreTexts, IsLegalStep, IsReply, after_step}
+use Rattle.store_core.specs.Schedules.{IsLegalStep, IsReply, Runs, after_step, step_events}
 use Rattle.store_core.specs.Served.{IsServed}
 use Rattle.store_core.specs.Slots.{caller}
 use Rattle.store_core.specs.States.{State, claims, read_bytes}
@@ -66,21 +68,34 @@ pub record StandsFor (fixed : Fixed) (s : State) (players : List Player) (writte
   pub wrote : (n c w : ℕ) → w < 129 → is_shown m c ≡ false → (m.seat n).written c w ≡ (seat_has m n c && is_marked written c w)
   pub clean : (c w : ℕ) → w < 129 → m.claim c ≡ None → is_shown m c ≡ false → is_marked written c w ≡ false
 
-abbrev pub Stands : Stage → Machine → Type 0
+abbrev pub Stands : ScheduleRun → Machine → Type 0
 Stands stage m = StandsFor (fixed_of stage.store) (state_of stage.store) stage.players.items stage.written.items m
 
--- Wherever a stage stands for a machine, the step is legal, this is its reply, and what the stage becomes stands for the
--- machine after it.
-pub record IsStepped (fixed : Fixed) (pieces : List Checked) (new : Stage) (m : Machine) (step : MicroStep) (reply : Option Reply) : Type 0 where
+-- The run took these steps over the pieces from the empty store, each legal where it stood. These are the replies, and
+-- these the events, which are a legal history of its store. It stands for this machine.
+pub record HasRun (fixed : Fixed) (pieces : List Checked) (steps : List MicroStep) (replies : List Reply) (history : List Event) (m : Machine) (run : ScheduleRun) : Type 0 where
+  pub runs : Runs fixed pieces start steps replies history m
+  pub legal : IsLegal fixed history
+  pub events : state_after history ≡ store_of m
+  pub fixed_is : fixed_of run.store ≡ fixed
+  pub served : IsServed (fixed_of run.store) m
+  pub stands : Stands run m
+
+-- it took none yet
+abbrev pub IsFresh : Fixed → ScheduleRun → Type 0
+IsFresh fixed run = (pieces : List Checked) → HasRun fixed pieces [] [] [] start run
+
+-- the step is legal at the machine, this is its reply, and the run took it
+pub record IsStepped (fixed : Fixed) (pieces : List Checked) (steps : List MicroStep) (replies : List Reply) (history : List Event) (m : Machine) (step : MicroStep) (reply : Option Reply) (new : ScheduleRun) : Type 0 where
   pub legal : IsLegalStep fixed pieces m step
   pub right : IsReply fixed m step reply
-  pub fixed_is : fixed_of new.store ≡ fixed
-  pub stands : Stands new (after_step fixed pieces m step reply)
+  pub has : HasRun fixed pieces (steps ++ step ∷ []) (replies ++ option_to_list reply) (history ++ step_events fixed m step reply) (after_step fixed pieces m step reply) new
 
-abbrev pub DoesStep : List Checked → Stage → Stage → MicroStep → Option Reply → Type 0
-DoesStep pieces old new step reply = (m : Machine) → AreTexts pieces → IsServed (fixed_of old.store) m → Stands old m
-    → IsStepped (fixed_of old.store) pieces new m step reply
+-- whatever the run took before, and whichever machine it stands for
+abbrev pub DoesStep : List Checked → ScheduleRun → ScheduleRun → MicroStep → Option Reply → Type 0
+DoesStep pieces old new step reply = (fixed : Fixed) (steps : List MicroStep) (replies : List Reply) (history : List Event) (m : Machine)
+    → HasRun fixed pieces steps replies history m old → IsStepped fixed pieces steps replies history m step reply new
 
--- or the step isn't legal
-abbrev pub DoesRefuse : List Checked → Stage → MicroStep → Type 0
+-- or the step isn't legal there
+abbrev pub DoesRefuse : List Checked → ScheduleRun → MicroStep → Type 0
 DoesRefuse pieces old step = (m : Machine) → IsServed (fixed_of old.store) m → Stands old m → ¬ IsLegalStep (fixed_of old.store) pieces m step

@@ -104,6 +104,41 @@ impl ServeFault {
 #[derive(Clone, Copy, Debug, PartialEq, Eq)]
 pub struct Missing(pub u64);
 
+/// Why a step of a schedule did not run.
+#[derive(Clone, Copy, Debug, PartialEq, Eq, Error)]
+pub enum StepFault {
+    /// There was no memory. Number 701.
+    #[error("701 memory")]
+    Memory,
+    /// The step isn't legal. Number 702.
+    #[error("702 illegal step")]
+    Illegal,
+}
+
+impl From<AllocError> for StepFault {
+    ghost use Rattle.store_core.specs.declared.fault.StepFault.{StepFault};
+
+    ghost from_gives = { λ _ fault. fault ≡ StepFault.Memory };
+
+    fn from(_memory: AllocError) -> StepFault {
+        StepFault::Memory
+    }
+}
+
+impl StepFault {
+    ghost use Rattle.store_core.specs.Faults.{step_number_of};
+
+    /// The fault's number: 701 or 702.
+    pub fn code(&self) -> u16
+        ensures { result ≡ step_number_of self.now }
+    {
+        match self {
+            StepFault::Memory => 701,
+            StepFault::Illegal => 702,
+        }
+    }
+}
+
 /// Why a schedule was refused. No store is handed out.
 #[derive(Clone, Copy, Debug, PartialEq, Eq, Error)]
 pub enum ReplayFault {

@@ -2,7 +2,7 @@
 #![tactic(auto)]
 
 pub use bao_check::GROUP_BYTES;
-pub use fault::{BadCapacity, Missing, ReplayFault, ServeFault, StoreFault};
+pub use fault::{BadCapacity, Missing, ReplayFault, ServeFault, StepFault, StoreFault};
 pub use fixed::Fixed;
 pub use history::{Call, Event, Piece, Serving, Settling, Storing};
 pub use law::{
@@ -11,7 +11,7 @@ pub use law::{
 };
 pub use masks::{CELL_WORDS, GROUP_LEN, PARENT_WORDS, has_bit, mask_below, with_bit};
 pub use micro::{MicroStep, ReadBytes, Reply};
-pub use schedule::replay;
+pub use schedule::{ScheduleRun, replay};
 pub use store::{MAX_CAPACITY, Store};
 pub use view::{Boundaries, Named, SeatView, StoredWord};
 
@@ -28,3 +28,4 @@ mod schedule;
 mod slot;
 mod store;
 mod view;
+mod written;

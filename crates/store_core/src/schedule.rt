@@ -1,21 +1,21 @@
-ghost use Rattle.std.specs.Prelude.{◌≡◌, ◌≢◌, ◌⊎◌, ◌↔◌, ℕ, ◌<◌, ◌≤◌, nat_lt, ◌==◌, ◌&&◌, ◌||◌, if◌then◌else◌, true, false, List, ◌++◌, length, slice_index_or, Some, option_map, option_to_list, IfOk, IsErrOf, IsTrue, OnOk};
+ghost use Rattle.std.specs.Prelude.{◌≡◌, ◌≢◌, ◌⊎◌, ◌↔◌, ℕ, ◌<◌, ◌≤◌, nat_lt, ◌==◌, ◌&&◌, ◌||◌, if◌then◌else◌, true, false, List, ◌++◌, length, slice_index_or, Some, option_map, option_to_list, IfOk, IsErrOf, IsOk, IsTrue, OnOk};
 ghost use Rattle.bao_check.specs.declared.checked.Checked.{Checked};
 ghost use Rattle.store_core.specs.declared.fault.ReplayFault.TheVariants.{Capacity, Illegal};
 ghost use Rattle.store_core.specs.Machine.{current_holds};
 ghost use Rattle.store_core.specs.Masks.{in_mask};
 ghost use Rattle.store_core.specs.Pieces.{piece_of};
 ghost use Rattle.store_core.specs.Replays.{IsIllegalAt, IsReplayed, ReplayBinds};
-ghost use Rattle.store_core.specs.Schedules.{AreTexts};
 ghost use Rattle.store_core.specs.Slots.{caller};
 ghost use Rattle.store_core.specs.Stages.{IsCleared, IsFilled, IsTaken, is_marked, player_in};
 ghost use Rattle.store_core.specs.States.{claims};
 ghost use Rattle.store_core.specs.Stores.{fixed_of, state_of};
 
-use crate::fault::ReplayFault;
-use crate::masks::{CELL_WORDS, GROUP_LEN, has_bit};
+use crate::fault::{BadCapacity, ReplayFault, StepFault};
+use crate::masks::{CELL_WORDS, GROUP_LEN};
 use crate::micro::{MicroStep, Reply};
 use crate::reading::Reading;
 use crate::store::Store;
+use crate::written::{is_written, mark, unmark_claims, unmark_group};
 use b3tree::{Hash, Mode};
 use bao_check::Checked;
 use std::alloc::{AllocError, Global};
@@ -31,32 +31,16 @@ struct Player<'a> {
     reading: Option<Reading>,
 }
 
-// A schedule on its way: the one-thread store in place of the words, as far as held bits and claims go. The words'
-// values need not be kept, since a chunk is shown only once all of them come from the current piece of the one seat that
-// claims it. Which of them do is kept, at index 129 * chunk + word.
+/// A schedule on its way, step by step: a one-thread store in place of the words, as far as held bits and claims go. The
+/// words' values need not be kept, since a chunk is shown only once all of them come from the current piece of the one
+/// seat that claims it.
 #[derive(Drop)]
-struct Stage<'a> {
+pub struct ScheduleRun<'a> {
     alloc: Global,
     store: Store,
+    // Which words were written, each at index 129 * chunk + word.
     written: Vec<bool>,
     players: Vec<Player<'a>>,
-}
-
-// Why a step did not run.
-#[derive(Clone, Copy)]
-enum StepFault {
-    Memory,
-    Illegal,
-}
-
-impl From<AllocError> for StepFault {
-    ghost use Rattle.store_core.specs.declared.schedule.StepFault.{StepFault};
-
-    ghost from_gives = { λ _ fault. fault ≡ StepFault.Memory };
-
-    fn from(_memory: AllocError) -> StepFault {
-        StepFault::Memory
-    }
 }
 
 // Takes the seat's player out of the list; a seat that did nothing yet has a new one.
@@ -95,76 +79,6 @@ fn add(replies: &mut Vec<Reply>, reply: Option<Reply>) -> Result<(), AllocError>
     Ok(())
 }
 
-// Whether all words of the chunk's cell are marked as written.
-fn is_written(written: &[bool], chunk: u32) -> bool
-    ensures { IsTrue result ↔ ((w : ℕ) → w < 129 → is_marked written.now chunk w ≡ true) }
-{
-    let first = CELL_WORDS as usize * chunk as usize;
-    for w in 0..CELL_WORDS as usize {
-        if first + w >= written.len() || !written[first + w] {
-            return false;
-        }
-    }
-    true
-}
-
-// At least `len` words have a mark, if there is memory; none is added as written.
-fn grow(written: &mut Vec<bool>, len: usize) -> Result<(), AllocError>
-    ensures same { (k : ℕ) → slice_index_or written.new.items k false ≡ slice_index_or written.old.items k false }
-    ensures enough { OnOk result (len ≤ length written.new.items) }
-{
-    while written.len() < len {
-        written.push(false)?;
-    }
-    Ok(())
-}
-
-// Marks a word of the chunk's cell as written.
-fn mark(written: &mut Vec<bool>, chunk: u32, word: u8) -> Result<(), AllocError>
-    requires { word < 129 }
-    ensures { OnOk result ((c w : ℕ) → w < 129 → is_marked written.new.items c w ≡ ((c == chunk) && (w == word) || is_marked written.old.items c w)) }
-{
-    let i = CELL_WORDS as usize * chunk as usize + word as usize;
-    grow(written, i + 1)?;
-    written[i] = true;
-    Ok(())
-}
-
-// No word of the chunk's cell counts as written.
-fn unmark(written: &mut [bool], chunk: u32)
-    ensures { IsCleared (λ c. c == chunk) written.old written.new }
-{
-    let first = CELL_WORDS as usize * chunk as usize;
-    for w in 0..CELL_WORDS as usize {
-        if first + w < written.len() {
-            written[first + w] = false;
-        }
-    }
-}
-
-// No word of the mask's chunks counts as written.
-fn unmark_group(written: &mut [bool], group: u32, mask: u64)
-    requires { group < 1024 }
-    ensures { IsCleared (in_mask group mask) written.old written.new }
-{
-    for j in 0..64u32 {
-        if has_bit(mask, j) {
-            unmark(written, GROUP_LEN * group + j);
-        }
-    }
-}
-
-// No word of the chunks that the seat claims counts as written.
-fn unmark_claims(written: &mut [bool], store: &Store, seat: u32)
-    ensures { IsCleared (λ c. nat_lt c (fixed_of store.now).capacity && claims (caller seat) (state_of store.now) c) written.old written.new }
-{
-    for chunk in 0..store.fixed().capacity {
-        if store.has_claim(seat, chunk) {
-            unmark(written, chunk);
-        }
-    }
-}
-
 // Whether the player's current piece holds the chunk.
 fn does_hold(player: &Player<'_>, chunk: u32) -> bool
     ensures { result ≡ current_holds (option_map piece_of player.now.piece) chunk }
@@ -175,10 +89,45 @@ fn does_hold(player: &Player<'_>, chunk: u32) -> bool
     }
 }
 
-impl<'a> Stage<'a> {
+impl<'a> ScheduleRun<'a> {
     ghost use Rattle.store_core.specs.declared.micro.MicroStep.{MicroStep};
-    ghost use Rattle.store_core.specs.declared.schedule.StepFault.{StepFault};
-    ghost use Rattle.store_core.specs.Stages.{DoesRefuse, DoesStep};
+    ghost use Rattle.store_core.specs.declared.fault.StepFault.{StepFault};
+    ghost use Rattle.store_core.specs.declared.fixed.Fixed.{Fixed};
+    ghost use Rattle.store_core.specs.Replays.{LeavesStore};
+    ghost use Rattle.store_core.specs.Stages.{DoesRefuse, DoesStep, IsFresh};
+
+    /// A run of no step yet, over an empty store. It takes no memory.
+    ///
+    /// 802 unless `capacity`, a number of chunks, is 1 to 65,536.
+    pub fn new(
+        alloc: Global,
+        root: Hash,
+        mode: Mode,
+        capacity: u32,
+    ) -> Result<ScheduleRun<'a>, BadCapacity>
+        ensures fits { IsOk result ↔ ((0 < capacity) × (capacity ≤ 65536)) }
+        ensures fresh { IfOk result (IsFresh (record { root = root; mode = mode; capacity = capacity })) }
+    {
+        Ok(ScheduleRun {
+            alloc,
+            store: Store::new(alloc, root, mode, capacity)?,
+            written: Vec::new(alloc),
+            players: Vec::new(alloc),
+        })
+    }
+
+    /// The store that the steps leave.
+    ///
+    /// For each blob with its root, each chunk that it holds is the blob's chunk of that number, and a recorded length is
+    /// the blob's; or two different inputs with one chaining value are named, one of the blob's and one of the piece's
+    /// from which the run committed the chunk, or by which it settled the length.
+    pub fn into_store(self) -> Store
+        ensures left { LeavesStore self.entry result }
+        ensures binds { (fixed : Fixed) (pieces : List Checked) (steps : List MicroStep) (replies : List Reply) → ReplayBinds fixed pieces steps replies result }
+    {
+        self.store.fixed().mode.is_keyed();
+        self.store
+    }
 
     fn claim(&mut self, seat: u32, group: u32, want: u64) -> Result<Option<Reply>, StepFault>
         ensures ok { (pieces : List Checked) → IfOk result (λ reply. DoesStep pieces self.old self.new (MicroStep.Claim seat group want) reply) }
@@ -206,6 +155,7 @@ impl<'a> Stage<'a> {
             return Err(StepFault::Illegal);
         }
         let piece = pieces[index];
+        piece.is_accepted();
         if !self.store.is_of(&piece) {
             return Err(StepFault::Illegal);
         }
@@ -329,8 +279,15 @@ impl<'a> Stage<'a> {
         Reply::LengthIs(self.store.length())
     }
 
-    // Runs a step, and answers what it answers, if it does.
-    fn step(&mut self, pieces: &[Checked<'a>], step: &MicroStep) -> Result<Option<Reply>, StepFault>
+    /// Runs a step, and answers what it answers, if it does.
+    ///
+    /// 702 `Illegal` where it isn't legal, and 701 `Memory`. After either nothing is known of what the run stands for: it
+    /// is to be let go.
+    pub fn step(
+        &mut self,
+        pieces: &[Checked<'a>],
+        step: &MicroStep,
+    ) -> Result<Option<Reply>, StepFault>
         ensures ok { IfOk result (λ reply. DoesStep pieces.now self.old self.new step.now reply) }
         ensures illegal { IsErrOf result StepFault.Illegal → DoesRefuse pieces.now self.old step.now }
     {
@@ -344,15 +301,6 @@ impl<'a> Stage<'a> {
             MicroStep::Settle { seat } => self.settle(seat),
             MicroStep::Length { .. } => Ok(Some(self.length())),
         }
-    }
-}
-
-// That the texts are of bytes, which each piece carries. A law, for the proof of `replay`.
-fn are_texts(pieces: &[Checked<'_>])
-    ensures { AreTexts pieces.now }
-{
-    for piece in pieces {
-        piece.is_accepted();
     }
 }
 
@@ -378,26 +326,17 @@ pub fn replay(
     ensures illegal { (i : ℕ) → IsErrOf result (Illegal i) → IsIllegalAt (record { root = root; mode = mode; capacity = capacity }) pieces.now steps.now i }
     ensures binds { IfOk result (λ r. ReplayBinds (record { root = root; mode = mode; capacity = capacity }) pieces.now steps.now r.0.items r.1) }
 {
-    mode.is_keyed();
-    let store = match Store::new(alloc, root, mode, capacity) {
-        Ok(store) => store,
-        Err(_) => return Err(ReplayFault::Capacity),
+    let mut run = match ScheduleRun::new(alloc, root, mode, capacity) {
+        Ok(run) => run,
+        Err(BadCapacity) => return Err(ReplayFault::Capacity),
     };
-    let mut stage = Stage {
-        alloc,
-        store,
-        written: Vec::new(alloc),
-        players: Vec::new(alloc),
-    };
-    are_texts(pieces);
     let mut replies = Vec::new(alloc);
     for i in 0..steps.len() {
-        match stage.step(pieces, &steps[i]) {
+        match run.step(pieces, &steps[i]) {
             Ok(reply) => add(&mut replies, reply)?,
             Err(StepFault::Memory) => return Err(ReplayFault::Memory),
             Err(StepFault::Illegal) => return Err(ReplayFault::Illegal { step: i }),
         }
     }
-    let Stage { store, .. } = stage;
-    Ok((replies, store))
+    Ok((replies, run.into_store()))
 }

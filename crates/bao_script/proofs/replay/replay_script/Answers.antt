@@ -1,17 +1,14 @@
-use Rattle.std.proofs.Common.{◌≡◌, ◌∙◌, ℕ, List, ◌++◌, Err, ap, map, sym, subst}
+use Rattle.std.proofs.Common.{◌≡◌, ◌∙◌, ℕ, List, [], ap, map, sym, subst, string_bytes}
 use Rattle.b3tree.specs.declared.mode.Mode.{Mode}
 use Rattle.bao_check.specs.declared.checked.Checked.{Checked}
 use Rattle.store_core.specs.declared.fixed.Fixed.{Fixed}
-use Rattle.store_core.specs.declared.micro.MicroStep.{MicroStep}
-use Rattle.store_core.specs.Replays.{IsIllegalAt, IsReplayed, ReplayBinds}
-use Rattle.bao_script.proofs.Exits.{passed_on}
-use Rattle.bao_script.proofs.Printing.{printed, stopped}
+use Rattle.store_core.specs.Machine.{start}
+use Rattle.bao_script.proofs.Exits.{passed_on, same_error}
+use Rattle.bao_script.proofs.Running.{printed}
 use Rattle.bao_script.specs.declared.fault.ReplayScriptFault.TheVariants.{Capacity, Illegal}
 use Rattle.bao_script.specs.declared.numbered.NumberedLine.{NumberedLine}
 use Rattle.bao_script.specs.Faults.{IsEarly, IsWant}
-use Rattle.bao_script.specs.Marks.{answers_of, marked_steps, number_at}
-use Rattle.bao_script.specs.Replies.{held_line}
-use Rattle.bao_script.specs.ScriptRuns.{answers_text}
+use Rattle.bao_script.specs.ScriptRuns.{RanLines, StandsAt, StopsAt}
 use Rattle.bao_script.specs.Slices.{ArePieces, Slice, slices_of}
 use Rattle.bao_script.proofs.replay.replay_script.Goals as goal
 
@@ -39,38 +36,35 @@ named mode root files lines script cut slices pieces given lines_are slices_are 
     let Q : List Checked → Type 0 = ArePieces mode root cut in
     subst P (cut_is ∙ slices_are ∙ ap (slices_of files) lines_are) (subst Q (sym given_are) are)
 
-pub returns-in-Ok-clause-printed : goal.returns-in-Ok-clause-printed
-returns-in-Ok-clause-printed c =
+pub returns-clause-printed : goal.returns-clause-printed
+returns-clause-printed c =
     let lines = c.lines-lines.ensures in
     let fixed : Fixed = record { root = c.args.root; mode = c.args.mode; capacity = c.args.capacity } in
     let files : List (List ℕ) = map (λ file. file.items) c.args.files.now in
     let pieces = named c.args.mode c.args.root.0 files c.lines-lines.result.now c.args.script.now c.as_slice.result.now c.in_ok-slices.slices.items c.in_ok-pieces.pieces.items c.as_slice-2.result.now
     lines c.in_ok-slices.ensures.ok c.as_slice.ensures.value c.as_slice-2.ensures.value c.in_ok-pieces.ensures.pieces
     in
-    let P : List MicroStep → Type 0 = λ steps. IsReplayed fixed c.as_slice-2.result.now steps c.in-Ok.replies.items c.in-Ok.store in
-    let Q : List MicroStep → Type 0 = λ steps. ReplayBinds fixed c.as_slice-2.result.now steps c.in-Ok.replies.items c.in-Ok.store in
-    let steps = c.as_slice-3.ensures.value ∙ c.in_ok-steps.ensures ∙ ap (marked_steps 0) lines in
-    let replayed = subst P steps c.in-Ok.ensures.ok in
-    let binds = subst Q steps c.in-Ok.ensures.binds in
-    let text : c.into_bytes.result.items ≡ answers_text (answers_of c.args.script.now c.in-Ok.replies.items) ++ held_line c.held_count.result =
-    ap (λ v. v.items) c.into_bytes.ensures.value ∙ c.in_ok-text-in-Ok.ensures
-    ∙ ap (λ all. answers_text (answers_of all c.as_slice-in-Ok.result.now) ++ held_line c.held_count.result) lines
-    ∙ ap (λ replies. answers_text (answers_of c.args.script.now replies) ++ held_line c.held_count.result) c.as_slice-in-Ok.ensures.value
-    in
-    printed fixed files c.args.script.now c.as_slice-2.result.now c.in-Ok.replies.items c.in-Ok.store c.held_count.result c.into_bytes.result.items
-    pieces replayed binds c.held_count.ensures text
+    let stands : StandsAt fixed c.as_slice-2.result.now start c.in-Ok.run' = ([], [], [], c.in-Ok.ensures.fresh c.as_slice-2.result.now) in
+    let over_lines = c.in_ok-run_lines.ensures.ok fixed start stands in
+    let over_script = subst (λ (all : List NumberedLine). RanLines fixed c.as_slice-2.result.now start all (string_bytes c.new-text.result) (string_bytes c.run_lines.new.out) c.run_lines.new.run) lines over_lines in
+    let ran = subst (λ (text : List ℕ). RanLines fixed c.as_slice-2.result.now start c.args.script.now text (string_bytes c.run_lines.new.out) c.run_lines.new.run) c.new-text.ensures.bytes over_script in
+    printed fixed files c.args.script.now c.as_slice-2.result.now c.run_lines.new.run c.into_store.result c.held_count.result (string_bytes c.run_lines.new.out) c.into_bytes.result.items
+    pieces ran c.into_store.ensures.left (c.into_store.ensures.binds fixed c.as_slice-2.result.now) c.held_count.ensures
+    (ap (λ v. v.items) c.into_bytes.ensures.value ∙ c.in_ok-push_held.ensures)
 
-pub returns-in-Err-Illegal-clause-illegal : goal.returns-in-Err-Illegal-clause-illegal
-returns-in-Err-Illegal-clause-illegal c number h =
+pub returns-in_err-run_lines-clause-illegal : goal.returns-in_err-run_lines-clause-illegal
+returns-in_err-run_lines-clause-illegal c = λ number h.
     let lines = c.lines-lines.ensures in
     let fixed : Fixed = record { root = c.args.root; mode = c.args.mode; capacity = c.args.capacity } in
     let files : List (List ℕ) = map (λ file. file.items) c.args.files.now in
     let pieces = named c.args.mode c.args.root.0 files c.lines-lines.result.now c.args.script.now c.as_slice.result.now c.in_ok-slices.slices.items c.in_ok-pieces.pieces.items c.as_slice-2.result.now
     lines c.in_ok-slices.ensures.ok c.as_slice.ensures.value c.as_slice-2.ensures.value c.in_ok-pieces.ensures.pieces
     in
-    let P : List MicroStep → Type 0 = λ steps. IsIllegalAt fixed c.as_slice-2.result.now steps c.in-Err-Illegal.step in
-    let illegal = subst P (c.as_slice-3.ensures.value ∙ c.in_ok-steps.ensures ∙ ap (marked_steps 0) lines) (c.in-Err-Illegal.ensures.illegal c.in-Err-Illegal.step (ap Err c.in-Err-Illegal.field-0-is)) in
-    let same : c.line_of_step.result ≡ number = cc in
-    let told : c.line_of_step.result ≡ number_at c.lines-lines.result.now c.in-Err-Illegal.step = rw c.in-Err-Illegal.field-0-is at c.line_of_step.ensures in
-    stopped fixed files c.args.script.now c.as_slice-2.result.now c.in-Err-Illegal.step number pieces illegal
-    (ap (λ all. number_at all c.in-Err-Illegal.step) (sym lines) ∙ sym told ∙ same)
+    let stands : StandsAt fixed c.as_slice-2.result.now start c.in-Ok.run' = ([], [], [], c.in-Ok.ensures.fresh c.as_slice-2.result.now) in
+    record {
+      pieces = c.as_slice-2.result.now;
+      named = pieces;
+      stops = subst (λ (all : List NumberedLine). StopsAt fixed c.as_slice-2.result.now 0 start all number) lines
+          (c.in_err-run_lines.ensures.illegal fixed start number stands
+          (same_error c.from_residual-in_err-run_lines.result c.in_err-run_lines.field-0.0 _ c.from_residual-in_err-run_lines.ensures.1 h));
+    }
