@@ -1,14 +1,10 @@
-ghost use Rattle.std.specs.Prelude.{◌≡◌, ◌≢◌, ◌⊎◌, ◌↔◌, ℕ, ◌<◌, ◌≤◌, nat_lt, ◌==◌, ◌&&◌, ◌||◌, if◌then◌else◌, true, false, List, ◌++◌, length, slice_index_or, Some, option_map, option_to_list, IfOk, IsErrOf, IsOk, IsTrue, OnOk};
+ghost use Rattle.std.specs.Prelude.{◌≡◌, ◌≢◌, ◌⊎◌, ◌↔◌, ℕ, ◌<◌, ◌≤◌, ◌==◌, if◌then◌else◌, List, ◌++◌, Some, option_map, option_to_list, IfOk, IsErrOf, IsOk, IsTrue, OnOk};
 ghost use Rattle.bao_check.specs.declared.checked.Checked.{Checked};
 ghost use Rattle.store_core.specs.declared.fault.ReplayFault.TheVariants.{Capacity, Illegal};
 ghost use Rattle.store_core.specs.Machine.{current_holds};
-ghost use Rattle.store_core.specs.Masks.{in_mask};
 ghost use Rattle.store_core.specs.Pieces.{piece_of};
 ghost use Rattle.store_core.specs.Replays.{IsIllegalAt, IsReplayed, ReplayBinds};
-ghost use Rattle.store_core.specs.Slots.{caller};
-ghost use Rattle.store_core.specs.Stages.{IsCleared, IsFilled, IsTaken, is_marked, player_in};
-ghost use Rattle.store_core.specs.States.{claims};
-ghost use Rattle.store_core.specs.Stores.{fixed_of, state_of};
+ghost use Rattle.store_core.specs.Stages.{IsFilled, IsTaken, player_in};
 
 use crate::fault::{BadCapacity, ReplayFault, StepFault};
 use crate::masks::{CELL_WORDS, GROUP_LEN};

@@ -1,7 +1,7 @@
 use Rattle.std.proofs.Common.{◌≡◌, ◌+◌, ◌*◌, true, false, get_or, sym, ◌∙◌, arith}
 use Rattle.std.proofs.lemmas.List.{get_or_past}
-use Rattle.store_core.proofs.schedule.is_written.Goals as goal
-use Rattle.store_core.proofs.schedule.is_written.Goals.{then-first-w-via-then-first-w, then-first-w-via-else-first-w+then-not-written-first}
+use Rattle.store_core.proofs.written.is_written.Goals as goal
+use Rattle.store_core.proofs.written.is_written.Goals.{then-first-w-via-then-first-w, then-first-w-via-else-first-w+then-not-written-first}
 
 pub returns-then-first-w : goal.returns-then-first-w
 returns-then-first-w c = (

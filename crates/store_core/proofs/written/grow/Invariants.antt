@@ -1,5 +1,5 @@
 use Rattle.std.proofs.Common.{◌≡◌, ℕ, ◌-◌, false, get_or, length}
-use Rattle.store_core.proofs.schedule.grow.Given as goal
+use Rattle.store_core.proofs.written.grow.Given as goal
 
 abbrev pub invariant-loop-written : goal.invariant-loop-written
 invariant-loop-written l = (k : ℕ) → get_or l.written.items k false ≡ get_or l.initial.written.items k false
