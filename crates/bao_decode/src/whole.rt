@@ -3,11 +3,11 @@ ghost use Rattle.bao_check.specs.Checked.{IsPiece, piece_text};
 ghost use Rattle.bao_check.specs.declared.fault.CheckFault.TheVariants as CheckFault;
 ghost use Rattle.bao_decode.specs.Ranges.{IsWholeFault};
 
-use bao_read::Source;
 use b3tree::{CHUNK_LEN, Hash, Mode};
 use bao_check::{CheckFault, Checked, check_slice};
 use bao_files::{ReadFault, read_sized};
 use bao_join::check_slice_join;
+use bao_read::Source;
 use bao_text::encoded_len;
 use std::alloc::Global;
 use std::fs::OpenFile;

@@ -5,9 +5,9 @@ ghost use Rattle.bao_gathered.specs.Gathered.{IsUnwrittenWhole, gathered_text};
 
 use crate::fault::GatheredFault;
 use crate::gathering::write_whole;
-use bao_read::PIECE_LEN;
 use b3tree::Mode;
 use bao_files::FileFault;
+use bao_read::PIECE_LEN;
 use bao_text::{WriteFault, write_text};
 use crews::{CrewsFault, Whole};
 use gather::GatherFault;

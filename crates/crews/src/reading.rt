@@ -9,8 +9,8 @@ ghost use Rattle.store_core.specs.States.{read_bytes};
 ghost use Rattle.store_shared.specs.Seats.{IsSeatOf};
 ghost use Rattle.crews.specs.Wholes.{IsTopRead, LackedByte, ReadOn};
 
-use bao_read::PIECE_LEN;
 use b3tree::{CHUNK_LEN, Cv, Input, Mode, cv, left_len, parent_input, top_input};
+use bao_read::PIECE_LEN;
 use gather::FinishFault;
 use std::alloc::Global;
 use std::thread::{Threads, join};

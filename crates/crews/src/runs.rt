@@ -9,8 +9,8 @@ ghost use Rattle.crews.specs.Seats.{SeenBinds};
 
 use crate::crew::Crew;
 use crate::rounds::both_rounds;
-use bao_read::Gate;
 use bao_check::Outline;
+use bao_read::Gate;
 use gather::{Form, Holder, Report};
 use std::alloc::Global;
 use std::thread::Threads;

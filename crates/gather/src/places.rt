@@ -8,8 +8,8 @@ ghost use Rattle.gather.specs.Reads.{Cuts, ReadFrom};
 
 use crate::form::CHUNK_LEN;
 use crate::holder::HolderFault;
-use bao_read::Source;
 use b3tree::left_len;
+use bao_read::Source;
 use bao_text::{Choice, LENGTH_LEN, PARENT_LEN, encoded_len};
 
 // No file and no slice of memory has a byte at this place or after it.

@@ -1,7 +1,7 @@
 use crate::readers::blob;
-use bao_read::Source;
 use b3tree::{Hash, Mode};
 use bao_files::{Encoding, FileFault, encode_input};
+use bao_read::Source;
 use bao_text::{combined, outboard, slice};
 use std::alloc::Global;
 use std::io;

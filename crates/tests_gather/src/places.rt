@@ -1,6 +1,6 @@
 use crate::holders::blob;
-use bao_read::Source;
 use b3tree::Mode;
+use bao_read::Source;
 use bao_text::{combined, slice};
 use gather::{Encoded, EncodedAt, Holder, HolderFault, Plain, PlainAt};
 use std::cell::Cell;

@@ -1,6 +1,6 @@
-use bao_read::Source;
 use b3tree::Mode;
 use bao_check::check_outboard;
+use bao_read::Source;
 use bao_text::{combined, outboard};
 use crews::{CrewsFault, gather_copies_at, gather_sources};
 use gather::{GatherFault, Grain};
