@@ -47,7 +47,7 @@ COMMENTS = {".rt": (RATTLE, "/*"), ".antt": (ANTT, "{-")}
 # A function's first line, with its indent and name.
 HEAD = re.compile(r"( *)(?:pub(?:\([^)]*\))? )?(?:(?:const|unsafe|final|extern \"C\") )*fn (\w+)")
 # What the prover says of a function that is not proved by itself, and of one that waits for another's proof.
-FAILS, WAITS = re.compile(r"not proved|no proof: expected answers"), re.compile(r"no proof: it calls")
+FAILS, WAITS = re.compile(r"not proved(?!; it calls)|no proof: expected answers"), re.compile(r"(no proof:|not proved;) it calls")
 
 
 def edits_of(crate, part):
