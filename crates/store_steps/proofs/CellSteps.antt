@@ -64,7 +64,7 @@ store_is_write fixed pieces s m id c w value view new here below ours holds valu
       stands = stands_after fixed pieces s m id view here new next
           (λ d. seat_is fixed pieces s m id view here d ∙ sym (ap (λ (v : SeatView). seat_claims v d) stores))
           (λ k d other. refl)
-          place value (one_step fixed pieces m step None here.texts here.stands.served legal refl).served
+          place value (one_step fixed pieces m step None tt here.stands.served legal refl).served
           (λ d v low cell. elim (cases_Bool ((d == c) && (v == w))) [
             | inl both ↦
                 let parts = and_parts (d == c) (v == w) both in
@@ -151,7 +151,7 @@ publish_is_publish fixed pieces s m id group mask piece view new here there curr
               | inl hit ↦ rw hit (sym (others_not fixed pieces s m id view here k c other (both c hit).0))
               | inr miss ↦ rw miss refl
             ])
-            group (bit_or (held_word s.words group) mask) (one_step fixed pieces m step reply here.texts here.stands.served legal right).served
+            group (bit_or (held_word s.words group) mask) (one_step fixed pieces m step reply tt here.stands.served legal right).served
             (λ c w below cell. left s.words group (bit_or (held_word s.words group) mask) (cell_place fixed (129 * c + w)) (λ e. omega (arith, e, there))
             ∙ here.stands.cells c w below cell)
             (λ g below. elim (cases_eq g group) [

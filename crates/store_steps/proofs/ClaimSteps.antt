@@ -109,7 +109,7 @@ take_is_claim fixed pieces s m id group want asked view new here there asks smal
             | inl hit ↦ rw hit (other_number k id other ∙ sym (none_of k (m.claim c) (free c hit)))
             | inr miss ↦ rw miss refl
           ])
-          (claim_place fixed group) (bit_or found asked) (one_step fixed pieces m step reply here.texts here.stands.served there right).served
+          (claim_place fixed group) (bit_or found asked) (one_step fixed pieces m step reply tt here.stands.served there right).served
           (λ c w below cell. left s.words (claim_place fixed group) (bit_or found asked) (cell_place fixed (129 * c + w)) (λ e. omega (arith, e, there)) ∙ here.stands.cells c w below cell)
           (λ g below. left s.words (claim_place fixed group) (bit_or found asked) g (λ e. omega (arith, e, below)) ∙ here.stands.held g below)
           (λ c below. elim (cases_eq (c / 64) group) [
@@ -163,7 +163,7 @@ give_is_give_back fixed pieces s m id group mask given view new here there ours 
             | inl hit ↦ rw hit (sym (others_not fixed pieces s m id view here k c other (its c hit)))
             | inr miss ↦ rw miss refl
           ])
-          (claim_place fixed group) (bit_and found (bit_not w64 given)) (one_step fixed pieces m step reply here.texts here.stands.served there right).served
+          (claim_place fixed group) (bit_and found (bit_not w64 given)) (one_step fixed pieces m step reply tt here.stands.served there right).served
           (λ c w below cell. left s.words (claim_place fixed group) (bit_and found (bit_not w64 given)) (cell_place fixed (129 * c + w)) (λ e. omega (arith, e, there))
           ∙ here.stands.cells c w below cell)
           (λ g below. left s.words (claim_place fixed group) (bit_and found (bit_not w64 given)) g (λ e. omega (arith, e, below)) ∙ here.stands.held g below)

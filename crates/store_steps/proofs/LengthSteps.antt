@@ -48,7 +48,7 @@ settle_is_settle fixed pieces s m id piece view new here current ends fits did =
       stands = stands_after fixed pieces s m id view here new next
           (λ c. seat_is fixed pieces s m id view here c ∙ sym (did.claims_are c))
           (λ k c other. refl)
-          (length_place fixed) word (one_step fixed pieces m step reply here.texts here.stands.served legal right).served
+          (length_place fixed) word (one_step fixed pieces m step reply tt here.stands.served legal right).served
           (λ c w below cell. left s.words (length_place fixed) word (cell_place fixed (129 * c + w)) (λ e. omega (arith, e, below, cell)) ∙ here.stands.cells c w below cell)
           (λ g there. left s.words (length_place fixed) word g (λ e. omega (arith, e, there)) ∙ here.stands.held g there)
           (λ c there. ap (λ (n : ℕ). has_bit n (c % 64)) (left s.words (length_place fixed) word (claim_place fixed (c / 64)) (λ e. omega (arith, e, there)))

@@ -351,7 +351,7 @@ load_is_load fixed pieces s m id group at len view new here there legal group_is
         stands = stands_after fixed pieces s m id view here new next
             (λ c. seat_is fixed pieces s m id view here c ∙ sym (loads.looked.claims_are c))
             (λ k c other. refl)
-            group found (one_step fixed pieces m step (load_reply fixed m id at len) here.texts here.stands.served legal refl).served
+            group found (one_step fixed pieces m step (load_reply fixed m id at len) tt here.stands.served legal refl).served
             (λ c w below cell. ap (λ (words : List ℕ). cell_at fixed words (129 * c + w)) same ∙ here.stands.cells c w below cell)
             (λ g below. ap (λ (words : List ℕ). held_word words g) same ∙ here.stands.held g below)
             (λ c below. ap (λ (words : List ℕ). has_bit (claim_word fixed words (c / 64)) (c % 64)) same ∙ here.stands.claimed c below)

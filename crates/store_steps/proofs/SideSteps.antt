@@ -58,7 +58,7 @@ absent_stays fixed pieces s m id place group mask piece view new here (inr did) 
 
 pub hash_is_no_step : HashIsNoStep
 hash_is_no_step fixed pieces s m id i texts stands legal = record {
-  served = (one_step fixed pieces m (Hash id i) None texts stands.served legal refl).served;
+  served = (one_step fixed pieces m (Hash id i) None (texts i) stands.served legal refl).served;
   cells = stands.cells;
   held = stands.held;
   claimed = stands.claimed;
