@@ -56,18 +56,12 @@ pub fn eight_values(mode: &Mode, first: u64, bytes: &[u8]) -> [Cv; 8]
     ensures each { (j : ℕ) (value : Cv) → slice_get result j ≡ Some value
         → value.0 ≡ cv (last_chunk_input mode.now (first + j) (piece bytes.now (1024 * j) 1024)) }
 {
-    let [c0, c1, c2, c3, c4, c5, c6, c7] = chunk_lanes(mode, first, bytes, 0, 1);
-    let [c0, c1, c2, c3, c4, c5, c6, c7] = transposed(c0, c1, c2, c3, c4, c5, c6, c7);
-    [
-        Cv(c0.to_array()),
-        Cv(c1.to_array()),
-        Cv(c2.to_array()),
-        Cv(c3.to_array()),
-        Cv(c4.to_array()),
-        Cv(c5.to_array()),
-        Cv(c6.to_array()),
-        Cv(c7.to_array()),
-    ]
+    let rows = transposed(&chunk_lanes(mode, first, bytes, 0, 1));
+    rows.map(
+        |row|
+            ensures { result.0 ≡ row }
+        { Cv(row.to_array()) },
+    )
 }
 
 /// The parents of the eight chunks of `bytes`, 8,192 in number, of which the first chunk has the number
@@ -86,12 +80,11 @@ pub fn eight_parents(mode: &Mode, first: u64, bytes: &[u8]) -> EightParents
 pub fn lane_parents(mode: &Mode, values: &[u32x8; 8]) -> EightParents
     ensures { result ≡ lane_parents mode.now (λ j. lane8 j values.now) }
 {
-    let [c0, c1, c2, c3, c4, c5, c6, c7] = *values;
-    let [p0, p1, p2, p3, p4, p5, p6, p7] = neighbour_lanes(mode, c0, c1, c2, c3, c4, c5, c6, c7);
-    let [q0, q1, q2, q3, q4, q5, q6, q7] = neighbour_lanes(mode, p0, p1, p2, p3, p4, p5, p6, p7);
-    let [c0, c1, c2, c3, c4, c5, c6, c7] = transposed(c0, c1, c2, c3, c4, c5, c6, c7);
-    let [p0, p1, p2, p3, ..] = transposed(p0, p1, p2, p3, p4, p5, p6, p7);
-    let [q0, q1, ..] = transposed(q0, q1, q2, q3, q4, q5, q6, q7);
+    let pairs = neighbour_lanes(mode, values);
+    let fours = neighbour_lanes(mode, &pairs);
+    let [c0, c1, c2, c3, c4, c5, c6, c7] = transposed(values);
+    let [p0, p1, p2, p3, ..] = transposed(&pairs);
+    let [q0, q1, ..] = transposed(&fours);
     EightParents {
         top: parent_of(q0, q1),
         left: FourParents {

@@ -17,7 +17,7 @@ use crate::flags::PARENT;
 use crate::mode::Mode;
 use crate::tree::parent_input;
 use crate::values::Cv;
-use b3word::{Input, cv_lanes, transposed};
+use b3word::{Input, cv_lanes, joined, transposed};
 use std::simd::u32x8;
 
 // Lanes of a vector.
@@ -45,7 +45,7 @@ fn half_blocks(bytes: &[u8], at: usize, stride: usize) -> [u32x8; 8]
     requires { at + stride * 7 + 32 ≤ length bytes.now }
     ensures { (j : ℕ) → j < 8 → lane8 j result ≡ words_of 8 (piece bytes.now (at + stride * j) 32) }
 {
-    transposed(
+    transposed(&[
         half_block(bytes, at),
         half_block(bytes, at + stride),
         half_block(bytes, at + stride * 2),
@@ -54,7 +54,7 @@ fn half_blocks(bytes: &[u8], at: usize, stride: usize) -> [u32x8; 8]
         half_block(bytes, at + stride * 5),
         half_block(bytes, at + stride * 6),
         half_block(bytes, at + stride * 7),
-    )
+    ])
 }
 
 // Block `k` of a chunk in each lane, the chunks `stride` bytes apart.
@@ -65,11 +65,9 @@ fn message(bytes: &[u8], at: usize, stride: usize, k: usize) -> [u32x8; 16]
     ensures { (j : ℕ) → j < 8 → lane16 j result ≡ block_words (block (piece bytes.now (at + stride * j) 1024) k) }
 {
     let start = at + BLOCK_LEN * k;
-    let [m0, m1, m2, m3, m4, m5, m6, m7] = half_blocks(bytes, start, stride);
-    let [m8, m9, m10, m11, m12, m13, m14, m15] = half_blocks(bytes, start + BLOCK_LEN / 2, stride);
-    [
-        m0, m1, m2, m3, m4, m5, m6, m7, m8, m9, m10, m11, m12, m13, m14, m15,
-    ]
+    let front = half_blocks(bytes, start, stride);
+    let back = half_blocks(bytes, start + BLOCK_LEN / 2, stride);
+    joined(&front, &back)
 }
 
 // The key words of the mode in each lane.
@@ -168,11 +166,7 @@ pub(crate) fn chunk_lanes(
 pub fn parent_lanes(mode: &Mode, left: &[u32x8; 8], right: &[u32x8; 8]) -> [u32x8; 8]
     ensures { (j : ℕ) → j < 8 → lane8 j result ≡ cv (parent_input mode.now (lane8 j left.now) (lane8 j right.now)) }
 {
-    let [l0, l1, l2, l3, l4, l5, l6, l7] = *left;
-    let [r0, r1, r2, r3, r4, r5, r6, r7] = *right;
-    let m = [
-        l0, l1, l2, l3, l4, l5, l6, l7, r0, r1, r2, r3, r4, r5, r6, r7,
-    ];
+    let m = joined(left, right);
     let zero = u32x8::splat(0);
     let len = u32x8::splat(BLOCK_LEN as u32);
     let flags = u32x8::splat(mode.flags() | PARENT);
@@ -210,47 +204,28 @@ pub(crate) fn subtree_lanes(
     parent_lanes(mode, &left, &right)
 }
 
-// The even lanes, and the odd ones, each twice.
-const EVEN: [usize; 8] = [0, 2, 4, 6, 0, 2, 4, 6];
+// The even lanes of a vector, each twice.
+#[inline(always)]
+fn even_lanes(v: u32x8) -> u32x8
+    ensures { (j : ℕ) → j < 4 → slice_index result j ≡ slice_index v (2 * j) }
+{
+    v.swizzle([0, 2, 4, 6, 0, 2, 4, 6])
+}
 
-const ODD: [usize; 8] = [1, 3, 5, 7, 1, 3, 5, 7];
+// Its odd lanes.
+#[inline(always)]
+fn odd_lanes(v: u32x8) -> u32x8
+    ensures { (j : ℕ) → j < 4 → slice_index result j ≡ slice_index v (2 * j + 1) }
+{
+    v.swizzle([1, 3, 5, 7, 1, 3, 5, 7])
+}
 
 // The parents of neighbouring lanes, two and two: lane `j` has that of lanes `2 * j` and `2 * j + 1`.
-pub(crate) fn neighbour_lanes(
-    mode: &Mode,
-    v0: u32x8,
-    v1: u32x8,
-    v2: u32x8,
-    v3: u32x8,
-    v4: u32x8,
-    v5: u32x8,
-    v6: u32x8,
-    v7: u32x8,
-) -> [u32x8; 8]
-    ensures { (j : ℕ) → j < 4 → lane8 j result
-        ≡ cv (parent_input mode.now (lane8 (2 * j) (v0 ∷ v1 ∷ v2 ∷ v3 ∷ v4 ∷ v5 ∷ v6 ∷ v7 ∷ [])) (lane8 (2 * j + 1) (v0 ∷ v1 ∷ v2 ∷ v3 ∷ v4 ∷ v5 ∷ v6 ∷ v7 ∷ []))) }
+pub(crate) fn neighbour_lanes(mode: &Mode, values: &[u32x8; 8]) -> [u32x8; 8]
+    ensures { (j : ℕ) → j < 4
+        → lane8 j result ≡ cv (parent_input mode.now (lane8 (2 * j) values.now) (lane8 (2 * j + 1) values.now)) }
 {
-    let left = [
-        v0.swizzle(EVEN),
-        v1.swizzle(EVEN),
-        v2.swizzle(EVEN),
-        v3.swizzle(EVEN),
-        v4.swizzle(EVEN),
-        v5.swizzle(EVEN),
-        v6.swizzle(EVEN),
-        v7.swizzle(EVEN),
-    ];
-    let right = [
-        v0.swizzle(ODD),
-        v1.swizzle(ODD),
-        v2.swizzle(ODD),
-        v3.swizzle(ODD),
-        v4.swizzle(ODD),
-        v5.swizzle(ODD),
-        v6.swizzle(ODD),
-        v7.swizzle(ODD),
-    ];
-    parent_lanes(mode, &left, &right)
+    parent_lanes(mode, &values.map(even_lanes), &values.map(odd_lanes))
 }
 
 // The last compression over a whole subtree of `8 * chunks` chunks.
@@ -260,10 +235,10 @@ pub(crate) fn whole_top(mode: &Mode, first: u64, bytes: &[u8], chunks: usize) ->
     requires number { first + 8 * chunks < 2 ^ 64 }
     ensures { IsPowerOfTwo chunks → result ≡ top_input mode.now first bytes.now }
 {
-    let [v0, v1, v2, v3, v4, v5, v6, v7] = subtree_lanes(mode, first, bytes, 0, chunks, chunks);
-    let [v0, v1, v2, v3, v4, v5, v6, v7] = neighbour_lanes(mode, v0, v1, v2, v3, v4, v5, v6, v7);
-    let [v0, v1, v2, v3, v4, v5, v6, v7] = neighbour_lanes(mode, v0, v1, v2, v3, v4, v5, v6, v7);
-    let [left, right, ..] = transposed(v0, v1, v2, v3, v4, v5, v6, v7);
+    let eighths = subtree_lanes(mode, first, bytes, 0, chunks, chunks);
+    let quarters = neighbour_lanes(mode, &eighths);
+    let halves = neighbour_lanes(mode, &quarters);
+    let [left, right, ..] = transposed(&halves);
     parent_input(mode, &Cv(left.to_array()), &Cv(right.to_array()))
 }
 

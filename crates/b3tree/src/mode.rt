@@ -4,10 +4,7 @@ ghost use Rattle.b3tree.specs.Words.{AreWords};
 use crate::bytes::words_of;
 use crate::flags::{DERIVE_KEY_CONTEXT, DERIVE_KEY_MATERIAL, KEYED_HASH};
 use crate::hashing::hash;
-
-const IV: [u32; 8] = [
-    0x6A09E667, 0xBB67AE85, 0x3C6EF372, 0xA54FF53A, 0x510E527F, 0x9B05688C, 0x1F83D9AB, 0x5BE0CD19,
-];
+use b3word::IV;
 
 /// A mode of BLAKE3: the key words and the flags that every compression carries (BLAKE3 paper, 2.3).
 #[derive(Clone, Copy, Debug, PartialEq, Eq)]

@@ -11,7 +11,7 @@ ghost use Rattle.b3tree.specs.Pieces.{lane_place, piece};
 use crate::chunk::{BLOCK_LEN, block_flags};
 use crate::lanes::{BLOCKS, half_block, high_words, key_lanes, low_words};
 use crate::mode::Mode;
-use b3word::{cv_lanes, transposed};
+use b3word::{cv_lanes, joined, transposed};
 use std::simd::u32x8;
 
 /// The words of 32 bytes of the text in each lane, those of lane 0 from place `at` on.
@@ -20,7 +20,7 @@ pub fn spaced_values(text: &[u8], at: usize, step: usize) -> [u32x8; 8]
     requires { at + step * 7 + 288 ≤ length text.now }
     ensures { (j : ℕ) → j < 8 → lane8 j result ≡ words_of 8 (piece text.now (lane_place at step j) 32) }
 {
-    transposed(
+    transposed(&[
         half_block(text, at),
         half_block(text, at + step),
         half_block(text, at + step * 2 + BLOCK_LEN),
@@ -29,7 +29,7 @@ pub fn spaced_values(text: &[u8], at: usize, step: usize) -> [u32x8; 8]
         half_block(text, at + step * 5 + 3 * BLOCK_LEN),
         half_block(text, at + step * 6 + 4 * BLOCK_LEN),
         half_block(text, at + step * 7 + 4 * BLOCK_LEN),
-    )
+    ])
 }
 
 // The words of 64 bytes.
@@ -39,11 +39,9 @@ fn spaced_words(text: &[u8], at: usize, step: usize) -> [u32x8; 16]
     ensures { (j : ℕ) → j < 8 → lane16 j result
         ≡ words_of 8 (piece text.now (lane_place at step j) 32) ++ words_of 8 (piece text.now (lane_place at step j + 32) 32) }
 {
-    let [m0, m1, m2, m3, m4, m5, m6, m7] = spaced_values(text, at, step);
-    let [m8, m9, m10, m11, m12, m13, m14, m15] = spaced_values(text, at + BLOCK_LEN / 2, step);
-    [
-        m0, m1, m2, m3, m4, m5, m6, m7, m8, m9, m10, m11, m12, m13, m14, m15,
-    ]
+    let front = spaced_values(text, at, step);
+    let back = spaced_values(text, at + BLOCK_LEN / 2, step);
+    joined(&front, &back)
 }
 
 /// The chaining value of a whole chunk of the text in each lane, that of lane 0 from place `at` on. The

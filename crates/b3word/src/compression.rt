@@ -3,7 +3,10 @@ ghost use Rattle.b3word.specs.Compression.{quarter_round, g, round, permuted, in
 
 use crate::input::Input;
 
-pub(crate) const IV: [u32; 4] = [0x6A09E667, 0xBB67AE85, 0x3C6EF372, 0xA54FF53A];
+/// The initial words (BLAKE3 paper, Table 1): the key words of plain hashing, and of which the first four stand in each state.
+pub const IV: [u32; 8] = [
+    0x6A09E667, 0xBB67AE85, 0x3C6EF372, 0xA54FF53A, 0x510E527F, 0x9B05688C, 0x1F83D9AB, 0x5BE0CD19,
+];
 
 #[inline(always)]
 #[tactic(auto, unfolding(crate::specs::Compression::quarter_round))]

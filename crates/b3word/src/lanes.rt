@@ -1,6 +1,6 @@
 // The compression function on eight inputs at a time, one in each lane.
 
-ghost use Rattle.std.specs.Prelude.{◌≡◌, ℕ, ◌/◌, ◌%◌, ◌^◌, ◌<◌, [], ◌∷◌, bit_xor, drop, map, slice_index, slice_index_or, take};
+ghost use Rattle.std.specs.Prelude.{◌≡◌, ℕ, ◌/◌, ◌%◌, ◌^◌, ◌<◌, [], ◌∷◌, ◌++◌, bit_xor, drop, length, map, slice_index, slice_index_or, take};
 ghost use Rattle.b3word.specs.Compression.{add32, xor_rotated, quarter_round, round, permuted, initial_state, rounds, cv};
 ghost use Rattle.b3word.specs.Lanes.{lane8, lane16, lane_input};
 
@@ -194,243 +194,117 @@ pub fn cv_lanes(
 }
 
 // Words from the front of each half of two vectors, in turns, and those from its back.
-const FRONT_WORDS: [usize; 8] = [0, 8, 1, 9, 4, 12, 5, 13];
-
-const BACK_WORDS: [usize; 8] = [2, 10, 3, 11, 6, 14, 7, 15];
+#[inline(always)]
+fn by_words(a: u32x8, b: u32x8) -> (u32x8, u32x8)
+    ensures lanes { (length a ≡ 8) × (length b ≡ 8) }
+    ensures front { result.0
+        ≡ slice_index a 0 ∷ slice_index b 0 ∷ slice_index a 1 ∷ slice_index b 1
+        ∷ slice_index a 4 ∷ slice_index b 4 ∷ slice_index a 5 ∷ slice_index b 5 ∷ [] }
+    ensures back { result.1
+        ≡ slice_index a 2 ∷ slice_index b 2 ∷ slice_index a 3 ∷ slice_index b 3
+        ∷ slice_index a 6 ∷ slice_index b 6 ∷ slice_index a 7 ∷ slice_index b 7 ∷ [] }
+{
+    (
+        a.shuffle(b, [0, 8, 1, 9, 4, 12, 5, 13]),
+        a.shuffle(b, [2, 10, 3, 11, 6, 14, 7, 15]),
+    )
+}
 
 // The same by pairs of words.
-const FRONT_PAIRS: [usize; 8] = [0, 1, 8, 9, 4, 5, 12, 13];
-
-const BACK_PAIRS: [usize; 8] = [2, 3, 10, 11, 6, 7, 14, 15];
+#[inline(always)]
+fn by_pairs(a: u32x8, b: u32x8) -> (u32x8, u32x8)
+    ensures front { result.0
+        ≡ slice_index a 0 ∷ slice_index a 1 ∷ slice_index b 0 ∷ slice_index b 1
+        ∷ slice_index a 4 ∷ slice_index a 5 ∷ slice_index b 4 ∷ slice_index b 5 ∷ [] }
+    ensures back { result.1
+        ≡ slice_index a 2 ∷ slice_index a 3 ∷ slice_index b 2 ∷ slice_index b 3
+        ∷ slice_index a 6 ∷ slice_index a 7 ∷ slice_index b 6 ∷ slice_index b 7 ∷ [] }
+{
+    (
+        a.shuffle(b, [0, 1, 8, 9, 4, 5, 12, 13]),
+        a.shuffle(b, [2, 3, 10, 11, 6, 7, 14, 15]),
+    )
+}
 
 // The first halves of two vectors, and their second halves.
-const FRONT_HALVES: [usize; 8] = [0, 1, 2, 3, 8, 9, 10, 11];
-
-const BACK_HALVES: [usize; 8] = [4, 5, 6, 7, 12, 13, 14, 15];
+#[inline(always)]
+fn by_halves(a: u32x8, b: u32x8) -> (u32x8, u32x8)
+    ensures front { result.0
+        ≡ slice_index a 0 ∷ slice_index a 1 ∷ slice_index a 2 ∷ slice_index a 3
+        ∷ slice_index b 0 ∷ slice_index b 1 ∷ slice_index b 2 ∷ slice_index b 3 ∷ [] }
+    ensures back { result.1
+        ≡ slice_index a 4 ∷ slice_index a 5 ∷ slice_index a 6 ∷ slice_index a 7
+        ∷ slice_index b 4 ∷ slice_index b 5 ∷ slice_index b 6 ∷ slice_index b 7 ∷ [] }
+{
+    (
+        a.shuffle(b, [0, 1, 2, 3, 8, 9, 10, 11]),
+        a.shuffle(b, [4, 5, 6, 7, 12, 13, 14, 15]),
+    )
+}
 
 /// Rows and lanes exchanged: vector `k` has lane `k` of each of the eight rows, and lane `j` of all of
 /// them is row `j`.
 #[inline(always)]
-pub fn transposed(
-    r0: u32x8,
-    r1: u32x8,
-    r2: u32x8,
-    r3: u32x8,
-    r4: u32x8,
-    r5: u32x8,
-    r6: u32x8,
-    r7: u32x8,
-) -> [u32x8; 8]
-    ensures lanes { (j : ℕ) → j < 8
-        → lane8 j result ≡ slice_index_or (r0 ∷ r1 ∷ r2 ∷ r3 ∷ r4 ∷ r5 ∷ r6 ∷ r7 ∷ []) j [] }
-    ensures vectors { (j : ℕ) → j < 8
-        → slice_index_or result j [] ≡ lane8 j (r0 ∷ r1 ∷ r2 ∷ r3 ∷ r4 ∷ r5 ∷ r6 ∷ r7 ∷ []) }
+pub fn transposed(rows: &[u32x8; 8]) -> [u32x8; 8]
+    ensures lanes { (j : ℕ) → j < 8 → lane8 j result ≡ slice_index_or rows.now j [] }
+    ensures vectors { (j : ℕ) → j < 8 → slice_index_or result j [] ≡ lane8 j rows.now }
 {
-    let a0 = r0.shuffle(r1, FRONT_WORDS);
-    let a1 = r0.shuffle(r1, BACK_WORDS);
-    let a2 = r2.shuffle(r3, FRONT_WORDS);
-    let a3 = r2.shuffle(r3, BACK_WORDS);
-    let a4 = r4.shuffle(r5, FRONT_WORDS);
-    let a5 = r4.shuffle(r5, BACK_WORDS);
-    let a6 = r6.shuffle(r7, FRONT_WORDS);
-    let a7 = r6.shuffle(r7, BACK_WORDS);
-    let b0 = a0.shuffle(a2, FRONT_PAIRS);
-    let b1 = a0.shuffle(a2, BACK_PAIRS);
-    let b2 = a1.shuffle(a3, FRONT_PAIRS);
-    let b3 = a1.shuffle(a3, BACK_PAIRS);
-    let b4 = a4.shuffle(a6, FRONT_PAIRS);
-    let b5 = a4.shuffle(a6, BACK_PAIRS);
-    let b6 = a5.shuffle(a7, FRONT_PAIRS);
-    let b7 = a5.shuffle(a7, BACK_PAIRS);
+    let (a0, a1) = by_words(rows[0], rows[1]);
+    let (a2, a3) = by_words(rows[2], rows[3]);
+    let (a4, a5) = by_words(rows[4], rows[5]);
+    let (a6, a7) = by_words(rows[6], rows[7]);
+    let (b0, b1) = by_pairs(a0, a2);
+    let (b2, b3) = by_pairs(a1, a3);
+    let (b4, b5) = by_pairs(a4, a6);
+    let (b6, b7) = by_pairs(a5, a7);
+    let (v0, v4) = by_halves(b0, b4);
+    let (v1, v5) = by_halves(b1, b5);
+    let (v2, v6) = by_halves(b2, b6);
+    let (v3, v7) = by_halves(b3, b7);
+    [v0, v1, v2, v3, v4, v5, v6, v7]
+}
+
+/// Two arrays of vectors in a row.
+#[inline(always)]
+pub fn joined(front: &[u32x8; 8], back: &[u32x8; 8]) -> [u32x8; 16]
+    ensures { (j : ℕ) → j < 8 → lane16 j result ≡ lane8 j front.now ++ lane8 j back.now }
+{
+    let [v0, v1, v2, v3, v4, v5, v6, v7] = *front;
+    let [w0, w1, w2, w3, w4, w5, w6, w7] = *back;
     [
-        b0.shuffle(b4, FRONT_HALVES),
-        b1.shuffle(b5, FRONT_HALVES),
-        b2.shuffle(b6, FRONT_HALVES),
-        b3.shuffle(b7, FRONT_HALVES),
-        b0.shuffle(b4, BACK_HALVES),
-        b1.shuffle(b5, BACK_HALVES),
-        b2.shuffle(b6, BACK_HALVES),
-        b3.shuffle(b7, BACK_HALVES),
+        v0, v1, v2, v3, v4, v5, v6, v7, w0, w1, w2, w3, w4, w5, w6, w7,
     ]
-}
-
-#[inline(always)]
-fn chaining_words(input: &Input) -> u32x8
-    ensures { result ≡ input.now.h }
-{
-    u32x8::from_array(input.h)
-}
-
-#[inline(always)]
-fn first_words(input: &Input) -> u32x8
-    ensures { result ≡ take 8 input.now.m }
-{
-    let m = &input.m;
-    u32x8::from_array([m[0], m[1], m[2], m[3], m[4], m[5], m[6], m[7]])
-}
-
-#[inline(always)]
-fn last_words(input: &Input) -> u32x8
-    ensures { result ≡ drop 8 input.now.m }
-{
-    let m = &input.m;
-    u32x8::from_array([m[8], m[9], m[10], m[11], m[12], m[13], m[14], m[15]])
-}
-
-#[inline(always)]
-fn counter_low(input: &Input) -> u32
-    ensures { result ≡ input.now.t % 2 ^ 32 }
-{
-    (input.t & 0xffff_ffff) as u32
-}
-
-#[inline(always)]
-fn counter_high(input: &Input) -> u32
-    ensures { result ≡ input.now.t / 2 ^ 32 }
-{
-    (input.t >> 32) as u32
-}
-
-// The input chaining values of eight inputs, each in a lane.
-#[inline(always)]
-fn chaining_lanes(inputs: &[Input; 8]) -> [u32x8; 8]
-    ensures { (j : ℕ) → j < 8 → lane8 j result ≡ slice_index_or (map (λ x. x.h) inputs.now) j [] }
-{
-    let [x0, x1, x2, x3, x4, x5, x6, x7] = inputs;
-    transposed(
-        chaining_words(x0),
-        chaining_words(x1),
-        chaining_words(x2),
-        chaining_words(x3),
-        chaining_words(x4),
-        chaining_words(x5),
-        chaining_words(x6),
-        chaining_words(x7),
-    )
-}
-
-// The first halves of the messages of eight inputs, each in a lane.
-#[inline(always)]
-fn first_word_lanes(inputs: &[Input; 8]) -> [u32x8; 8]
-    ensures { (j : ℕ) → j < 8 → lane8 j result ≡ slice_index_or (map (λ x. take 8 x.m) inputs.now) j [] }
-{
-    let [x0, x1, x2, x3, x4, x5, x6, x7] = inputs;
-    transposed(
-        first_words(x0),
-        first_words(x1),
-        first_words(x2),
-        first_words(x3),
-        first_words(x4),
-        first_words(x5),
-        first_words(x6),
-        first_words(x7),
-    )
-}
-
-// Their second halves.
-#[inline(always)]
-fn last_word_lanes(inputs: &[Input; 8]) -> [u32x8; 8]
-    ensures { (j : ℕ) → j < 8 → lane8 j result ≡ slice_index_or (map (λ x. drop 8 x.m) inputs.now) j [] }
-{
-    let [x0, x1, x2, x3, x4, x5, x6, x7] = inputs;
-    transposed(
-        last_words(x0),
-        last_words(x1),
-        last_words(x2),
-        last_words(x3),
-        last_words(x4),
-        last_words(x5),
-        last_words(x6),
-        last_words(x7),
-    )
-}
-
-// The messages of eight inputs, each in a lane.
-#[inline(always)]
-fn message_lanes(inputs: &[Input; 8]) -> [u32x8; 16]
-    ensures { (j : ℕ) → j < 8 → lane16 j result ≡ slice_index_or (map (λ x. x.m) inputs.now) j [] }
-{
-    let [m0, m1, m2, m3, m4, m5, m6, m7] = first_word_lanes(inputs);
-    let [m8, m9, m10, m11, m12, m13, m14, m15] = last_word_lanes(inputs);
-    [
-        m0, m1, m2, m3, m4, m5, m6, m7, m8, m9, m10, m11, m12, m13, m14, m15,
-    ]
-}
-
-// The low words of the counters of eight inputs.
-#[inline(always)]
-fn counter_low_lanes(inputs: &[Input; 8]) -> u32x8
-    ensures { result ≡ map (λ x. x.t % 2 ^ 32) inputs.now }
-{
-    let [x0, x1, x2, x3, x4, x5, x6, x7] = inputs;
-    u32x8::from_array([
-        counter_low(x0),
-        counter_low(x1),
-        counter_low(x2),
-        counter_low(x3),
-        counter_low(x4),
-        counter_low(x5),
-        counter_low(x6),
-        counter_low(x7),
-    ])
-}
-
-// Their high words.
-#[inline(always)]
-fn counter_high_lanes(inputs: &[Input; 8]) -> u32x8
-    ensures { result ≡ map (λ x. x.t / 2 ^ 32) inputs.now }
-{
-    let [x0, x1, x2, x3, x4, x5, x6, x7] = inputs;
-    u32x8::from_array([
-        counter_high(x0),
-        counter_high(x1),
-        counter_high(x2),
-        counter_high(x3),
-        counter_high(x4),
-        counter_high(x5),
-        counter_high(x6),
-        counter_high(x7),
-    ])
-}
-
-// How many bytes of the blocks of eight inputs count.
-#[inline(always)]
-fn length_lanes(inputs: &[Input; 8]) -> u32x8
-    ensures { result ≡ map (λ x. x.b) inputs.now }
-{
-    let [x0, x1, x2, x3, x4, x5, x6, x7] = inputs;
-    u32x8::from_array([x0.b, x1.b, x2.b, x3.b, x4.b, x5.b, x6.b, x7.b])
-}
-
-// The flags of eight inputs.
-#[inline(always)]
-fn flag_lanes(inputs: &[Input; 8]) -> u32x8
-    ensures { result ≡ map (λ x. x.d) inputs.now }
-{
-    let [x0, x1, x2, x3, x4, x5, x6, x7] = inputs;
-    u32x8::from_array([x0.d, x1.d, x2.d, x3.d, x4.d, x5.d, x6.d, x7.d])
 }
 
 /// The chaining values of eight inputs: entry `k` of the result is that of input `k`.
 pub fn cv8(inputs: &[Input; 8]) -> [[u32; 8]; 8]
     ensures { result ≡ map cv inputs.now }
 {
-    let h = chaining_lanes(inputs);
-    let m = message_lanes(inputs);
-    let t_low = counter_low_lanes(inputs);
-    let t_high = counter_high_lanes(inputs);
-    let b = length_lanes(inputs);
-    let d = flag_lanes(inputs);
-    let [v0, v1, v2, v3, v4, v5, v6, v7] = cv_lanes(&h, &m, t_low, t_high, b, d);
-    let [r0, r1, r2, r3, r4, r5, r6, r7] = transposed(v0, v1, v2, v3, v4, v5, v6, v7);
-    [
-        r0.to_array(),
-        r1.to_array(),
-        r2.to_array(),
-        r3.to_array(),
-        r4.to_array(),
-        r5.to_array(),
-        r6.to_array(),
-        r7.to_array(),
-    ]
+    let h = transposed(&inputs.map(
+        |x|
+            ensures { result ≡ x.h }
+        { u32x8::from_array(x.h) },
+    ));
+    let front = transposed(&inputs.map(
+        |x|
+            ensures { result ≡ take 8 x.m }
+        { u32x8::from_slice(&x.m) },
+    ));
+    let back = transposed(&inputs.map(
+        |x|
+            ensures { result ≡ drop 8 x.m }
+        { u32x8::from_slice(&x.m[8..]) },
+    ));
+    let m = joined(&front, &back);
+    let t_low = u32x8::from_array(inputs.map(|x| (x.t % (1 << 32)) as u32));
+    let t_high = u32x8::from_array(inputs.map(|x| (x.t >> 32) as u32));
+    let b = u32x8::from_array(inputs.map(|x| x.b));
+    let d = u32x8::from_array(inputs.map(|x| x.d));
+    let values = cv_lanes(&h, &m, t_low, t_high, b, d);
+    let rows = transposed(&values);
+    rows.map(
+        |row|
+            ensures { result ≡ row }
+        { row.to_array() },
+    )
 }

@@ -1,9 +1,9 @@
 //! BLAKE3's compression function, after section 2.2 of the BLAKE3 paper.
 #![tactic(auto)]
 
-pub use compression::{compress, cv};
+pub use compression::{IV, compress, cv};
 pub use input::Input;
-pub use lanes::{cv_lanes, cv8, transposed};
+pub use lanes::{cv_lanes, cv8, joined, transposed};
 
 mod compression;
 mod input;

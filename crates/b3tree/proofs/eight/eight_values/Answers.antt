@@ -1,35 +1,18 @@
-use Rattle.std.proofs.Common.{◌≡◌, ℕ, zero, suc, ◌+◌, ◌*◌, ◌<◌, List, [], Option, None, Some, slice_index_or, sym, ap, ◌∙◌, arith}
+use Rattle.std.proofs.Common.{◌≡◌, ◌+◌, ◌*◌, ◌<◌, [], sym, ap, ◌∙◌, arith}
+use Rattle.std.proofs.lemmas.Option.{get_or_from_slice_get, slice_get_within}
 use Rattle.b3word.specs.Compression.{cv}
-use Rattle.b3tree.specs.declared.mode.Mode.{Mode}
+use Rattle.b3word.proofs.EightLanes.{mapped-at}
 use Rattle.b3tree.specs.declared.values.Cv.{Cv}
 use Rattle.b3tree.specs.Chunk.{last_chunk_input}
 use Rattle.b3tree.specs.Pieces.{piece}
 use Rattle.b3tree.proofs.eight.eight_values.Goals as goal
 
--- a value that is found is that of its place
-found : (v w : List ℕ) (value : Cv) → v ≡ w → ◌≡◌ {A = Option Cv} (Some (record { 0 = v })) (Some value) → value.0 ≡ w
-found v w value same is =
-    let own : ◌≡◌ {A = Cv} (record { 0 = v }) value = cc in
-    sym (ap (λ (x : Cv). x.0) own) ∙ same
-
 pub returns-clause-each : goal.returns-clause-each
-returns-clause-each c =
-    let mode : Mode = c.args.mode.now in
-    let first : ℕ = c.args.first in
-    let bytes : List ℕ = c.args.bytes.now in
-    let value : (j : ℕ) → j < 8 → slice_index_or c.transposed.result j [] ≡ cv (last_chunk_input mode (first + j) (piece bytes (1024 * j) 1024)) =
-    λ j h.
-    let number : first + 1 * j ≡ first + j = omega arith in
+returns-clause-each c = λ j value is.
+    let within : j < 8 = omega (arith, slice_get_within c.map.result j value is, c.map.ensures.items.long) in
+    let number : c.args.first + 1 * j ≡ c.args.first + j = omega arith in
     let place : 0 + 1024 * 1 * j ≡ 1024 * j = omega arith in
-    c.transposed.ensures.vectors j h ∙ c.chunk_lanes.ensures j h ∙ (λ i. cv (last_chunk_input mode (number i) (piece bytes (place i) 1024))) in
-    elim [
-      | zero ↦ λ v is. found _ _ v (value 0 (omega arith)) is
-      | suc zero ↦ λ v is. found _ _ v (value 1 (omega arith)) is
-      | suc (suc zero) ↦ λ v is. found _ _ v (value 2 (omega arith)) is
-      | suc (suc (suc zero)) ↦ λ v is. found _ _ v (value 3 (omega arith)) is
-      | suc (suc (suc (suc zero))) ↦ λ v is. found _ _ v (value 4 (omega arith)) is
-      | suc (suc (suc (suc (suc zero)))) ↦ λ v is. found _ _ v (value 5 (omega arith)) is
-      | suc (suc (suc (suc (suc (suc zero))))) ↦ λ v is. found _ _ v (value 6 (omega arith)) is
-      | suc (suc (suc (suc (suc (suc (suc zero)))))) ↦ λ v is. found _ _ v (value 7 (omega arith)) is
-      | suc (suc (suc (suc (suc (suc (suc (suc k))))))) ↦ λ v is. let none : ◌≡◌ {A = Option Cv} None (Some v) = is in cc
-    ]
+    sym (ap (λ (x : Cv). x.0) (get_or_from_slice_get c.map.result j value value is))
+    ∙ mapped-at _ _ (λ x y. y.0 ≡ x) c.transposed-rows.result c.map.result [] value c.map.ensures.items (λ p x y q k. k.met) j within
+    ∙ c.transposed-rows.ensures.vectors j within ∙ c.chunk_lanes.ensures j within
+    ∙ (λ i. cv (last_chunk_input c.args.mode.now (number i) (piece c.args.bytes.now (place i) 1024)))

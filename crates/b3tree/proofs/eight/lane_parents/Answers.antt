@@ -10,9 +10,9 @@ pub returns : goal.returns
 returns c =
     let mode : Mode = c.args.mode.now in
     let v : ℕ → List ℕ = λ j. lane8 j c.args.values.now in
-    let pair : (j : ℕ) → j < 4 → lane8 j c.neighbour_lanes.result ≡ paired_values mode v j = λ j h. c.neighbour_lanes.ensures j h in
-    let four : (j : ℕ) → j < 2 → lane8 j c.neighbour_lanes-2.result ≡ paired_values mode (paired_values mode v) j =
-    λ j h. c.neighbour_lanes-2.ensures j (omega arith)
+    let pair : (j : ℕ) → j < 4 → lane8 j c.neighbour_lanes-pairs.result ≡ paired_values mode v j = λ j h. c.neighbour_lanes-pairs.ensures j h in
+    let four : (j : ℕ) → j < 2 → lane8 j c.neighbour_lanes-fours.result ≡ paired_values mode (paired_values mode v) j =
+    λ j h. c.neighbour_lanes-fours.ensures j (omega arith)
     ∙ (λ i. cv (parent_input mode (pair (2 * j) (omega arith) i) (pair (2 * j + 1) (omega arith) i))) in
     let c0 = c.transposed.ensures.vectors 0 (omega arith) in
     let c1 = c.transposed.ensures.vectors 1 (omega arith) in

@@ -13,6 +13,7 @@ returns c = λ j h.
     let far : c.args.at + 64 * c.args.k + 32 + c.args.stride * j ≡ at + 64 * c.args.k + 32 = omega arith in
     let within : c.args.stride * j ≤ c.args.stride * 7 = mul-le-mul_left c.args.stride (omega arith) in
     let fits : at + 1024 ≤ length s = omega (arith, c.requires.len) in
-    (λ i. c.half_blocks.ensures j h i ++ c.half_blocks-2.ensures j h i)
+    c.joined.ensures j h
+    ∙ (λ i. c.half_blocks-front.ensures j h i ++ c.half_blocks-back.ensures j h i)
     ∙ (λ i. words_of 8 (piece s (near i) 32) ++ words_of 8 (piece s (far i) 32))
     ∙ block_words-piece s at c.args.k c.requires.block fits

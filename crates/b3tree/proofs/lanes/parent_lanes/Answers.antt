@@ -1,6 +1,5 @@
-use Rattle.std.proofs.Common.{ℕ, ◌∙◌, ◌++◌, bit_or, ap}
+use Rattle.std.proofs.Common.{ℕ, ◌∙◌, bit_or, ap}
 use Rattle.b3word.specs.Compression.{cv}
-use Rattle.b3word.specs.Lanes.{lane8}
 use Rattle.b3word.proofs.EightLanes.{splat-at}
 use Rattle.b3tree.proofs.lanes.parent_lanes.Goals as goal
 
@@ -10,7 +9,7 @@ returns c = λ j h.
     c.cv_lanes.ensures j 0 h (splat-at 0 j h) (splat-at 0 j h)
     ∙ (λ i. cv (record {
       h = c.key_lanes.ensures j h i;
-      m = lane8 j c.args.left.now ++ lane8 j c.args.right.now;
+      m = c.joined-m.ensures j h i;
       t = 0;
       b = splat-at 64 j h i;
       d = flags i;

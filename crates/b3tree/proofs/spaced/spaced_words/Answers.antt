@@ -8,5 +8,6 @@ returns c = λ j h.
     let s : List ℕ = c.args.text.now in
     let at : ℕ = lane_place c.args.at c.args.step j in
     let far : lane_place (c.args.at + 32) c.args.step j ≡ at + 32 = omega arith in
-    (λ i. c.spaced_values.ensures j h i ++ c.spaced_values-2.ensures j h i)
+    c.joined.ensures j h
+    ∙ (λ i. c.spaced_values-front.ensures j h i ++ c.spaced_values-back.ensures j h i)
     ∙ (λ i. words_of 8 (piece s at 32) ++ words_of 8 (piece s (far i) 32))

@@ -1,0 +1,12 @@
+use Rattle.std.proofs.Common.{◌≡◌, ◌<◌, ℕ, ◌+◌, ◌*◌, List, [], ◌∷◌, ◌++◌, slice_index, slice_index_or, refl}
+use Rattle.b3word.proofs.EightLanes.{below_four, eight_lanes}
+use Rattle.b3tree.proofs.lanes.odd_lanes.Goals as goal
+
+-- the odd lanes of a vector, each twice
+abbrev chosen : List ℕ → List ℕ
+chosen v = slice_index_or (v ++ v) 1 0 ∷ slice_index_or (v ++ v) 3 0 ∷ slice_index_or (v ++ v) 5 0 ∷ slice_index_or (v ++ v) 7 0 ∷ slice_index_or (v ++ v) 1 0 ∷ slice_index_or (v ++ v) 3 0 ∷ slice_index_or (v ++ v) 5 0 ∷ slice_index_or (v ++ v) 7 0 ∷ []
+
+pub returns : goal.returns
+returns c =
+    eight_lanes (λ v. (j : ℕ) → j < 4 → slice_index (chosen v) j ≡ slice_index v (2 * j + 1)) (λ a b c d e f g h. below_four _ refl refl refl refl)
+    c.args.v c.fits-v.0
