@@ -21,7 +21,7 @@ use Rattle.bao_check.proofs.Certified.{IsCertified, certified}
 use Rattle.bao_check.proofs.SubtreeInputs.{blob_inputs-subtree}
 use Rattle.bao_check.proofs.Ways.{way_whole}
 use Rattle.bao_bind.specs.declared.pair.Pair.{Pair}
-use Rattle.bao_bind.specs.Search.{Finds, HasChunk, part_inputs}
+use Rattle.bao_bind.specs.Search.{Finds, TreeHasChunk, part_inputs}
 use Rattle.bao_bind.specs.Verdict.{AgreesWith, IsOurs}
 use Rattle.bao_bind.proofs.Found.{Finds-within}
 use Rattle.bao_bind.proofs.Walks.{Searches, part_subtree, searches_same}
@@ -41,7 +41,7 @@ module _ (blob : List ℕ) (piece : Checked) (number : ℕ) (bytes : List ℕ) (
   ]
 
   -- a chunk that the walk ends in is the blob's
-  ours_from_chunk : HasChunk 0 blob 0 (piece_claimed piece) number bytes → IsOurs blob (piece_claimed piece) number bytes
+  ours_from_chunk : TreeHasChunk 0 blob 0 (piece_claimed piece) number bytes → IsOurs blob (piece_claimed piece) number bytes
   ours_from_chunk h =
       let at_is : h.at ≡ number = omega (arith, h.number_is) in (
         chunk_of-there blob number (omega (arith, h.there)) ∙ ap Some (ap (λ (n : ℕ). take 1024 (drop (1024 * n) blob)) (sym at_is) ∙ h.bytes_are),
@@ -62,7 +62,7 @@ module _ (blob : List ℕ) (piece : Checked) (number : ℕ) (bytes : List ℕ) (
             agrees.tail (subst (λ (n : ℕ). is_some (chunk_in (piece_text piece) (piece_places piece) n) ≡ true) last some),
       )
 
-  -- and the walk finds a pair
+  -- and the walk finds a collision
   pub audit_finds : (r : Option Pair) (mode : Mode) (n : ℕ) → mode ≡ piece_mode piece → n ≡ piece_claimed piece → IsKeyed mode → hash (piece_mode piece) blob ≡ piece_root piece
       → (IsOurs blob (piece_claimed piece) number bytes → ⊥)
       → ((theirs : List Input) (value : List ℕ) → Searches (parent_in (piece_text piece) (piece_places piece)) theirs mode true value number bytes r 0 blob 0 n)
@@ -72,11 +72,11 @@ module _ (blob : List ℕ) (piece : Checked) (number : ℕ) (bytes : List ℕ) (
       let theirs : List Input = text_inputs mode (piece_text piece) (piece_places piece) in
       let value : List ℕ = words_of 8 (piece_root piece) in
       let top : cv (rooted (top_input mode 0 blob)) ≡ value = sym (words_of-hash mode blob (subst IsKeyed used_is keyed)) ∙ ap (words_of 8) is in
-      let found : Finds (part_inputs true mode 0 blob) theirs (HasChunk 0 blob 0 (piece_claimed piece) number bytes) r =
+      let found : Finds (part_inputs true mode 0 blob) theirs (TreeHasChunk 0 blob 0 (piece_claimed piece) number bytes) r =
       searches_same (parent_in (piece_text piece) (piece_places piece)) theirs mode true value number bytes r 0 0 blob blob 0 0 n (piece_claimed piece)
       refl refl refl n_is
       (subst (λ (m : Mode). Searches (parent_in (piece_text piece) (piece_places piece)) theirs m true value number bytes r 0 blob 0 n) used_is (search theirs value))
       (way_whole mode (piece_root piece) (piece_text piece) (piece_start piece) (piece_len piece) number bytes piece.accepted there) top in
       let inputs_are : part_inputs true mode 0 blob ≡ blob_inputs mode blob = sym (part_subtree true mode 0 blob) ∙ sym (blob_inputs-subtree mode blob) in
-      Finds-within (part_inputs true mode 0 blob) theirs (blob_inputs mode blob) theirs (HasChunk 0 blob 0 (piece_claimed piece) number bytes) ⊥ r
+      Finds-within (part_inputs true mode 0 blob) theirs (blob_inputs mode blob) theirs (TreeHasChunk 0 blob 0 (piece_claimed piece) number bytes) ⊥ r
       (λ x h. subst (λ (xs : List Input). Contains xs x) inputs_are h) (λ y h. h) (λ h. apart (ours_from_chunk h)) found

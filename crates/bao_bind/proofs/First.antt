@@ -6,14 +6,14 @@ use Rattle.std.specs.Bool.{Decides}
 use Rattle.b3tree.specs.Hashing.{hash}
 use Rattle.bao_check.specs.declared.checked.Checked.{Checked}
 use Rattle.bao_check.specs.Checked.{piece_mode, piece_root}
-use Rattle.bao_bind.specs.Verdict.{HasRoot, IsFirst, IsForged, IsOfBlob, IsOfOther}
+use Rattle.bao_bind.specs.Verdict.{HasRootOfPiece, IsFirst, IsForged, IsOfBlob, IsOfOther}
 
 stable : (b : Bool) (P : Type 0) → Decides b P → ¬ (¬ P) → P
 stable true P decides h = decides.0 refl
 stable false P decides h = absurd (h (λ p. true≢false (sym (decides.1 p))))
 
 -- a root that isn't another one is the blob's
-pub has_root : (blob : List ℕ) (piece : Checked) → ¬ IsOfOther blob piece → HasRoot blob piece
+pub has_root : (blob : List ℕ) (piece : Checked) → ¬ IsOfOther blob piece → HasRootOfPiece blob piece
 has_root blob piece = stable _ _ (bytes_eq-Decides (hash (piece_mode piece) blob) (piece_root piece))
 
 pub not_forged : (blob : List ℕ) (piece : Checked) → IsForged blob piece → ¬ IsOfBlob blob piece
@@ -45,7 +45,7 @@ pub not_both : (blob : List ℕ) (pieces : List Checked) (i j : ℕ) → IsFirst
 not_both blob pieces i j forged other =
     let d : Checked = some_piece pieces i forged.0 in
     let same : i ≡ j = one_first (IsForged blob) (IsOfOther blob) blob pieces i j (not_forged blob) (not_other blob) forged other in
-    other.2 d (subst (λ (k : ℕ). HasRoot blob (slice_index_or pieces k d)) same (forged.2 d).0)
+    other.2 d (subst (λ (k : ℕ). HasRootOfPiece blob (slice_index_or pieces k d)) same (forged.2 d).0)
 
 -- where all are of the blob there is none
 pub none_first : (P : Checked → Type 0) (blob : List ℕ) (pieces : List Checked) (i : ℕ) → ((x : Checked) → P x → ¬ IsOfBlob blob x)

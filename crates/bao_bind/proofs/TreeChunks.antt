@@ -5,10 +5,10 @@ use Rattle.b3tree.specs.Tree.{left_len}
 use Rattle.bao_text.specs.Choice.{chunk_count}
 use Rattle.bao_text.proofs.SubtreeText.{Parts, left_len-Parts}
 use Rattle.bao_check.proofs.Locating.{count_parts}
-use Rattle.bao_bind.specs.Search.{HasChunk}
+use Rattle.bao_bind.specs.Search.{TreeHasChunk}
 
 -- a tree that is one chunk
-pub chunk_whole : (first : ℕ) (s : List ℕ) (from n number : ℕ) (bytes : List ℕ) → length s ≤ 1024 → (first ≡ number) × (s ≡ bytes) → HasChunk first s from n number bytes
+pub chunk_whole : (first : ℕ) (s : List ℕ) (from n number : ℕ) (bytes : List ℕ) → length s ≤ 1024 → (first ≡ number) × (s ≡ bytes) → TreeHasChunk first s from n number bytes
 chunk_whole first s from n number bytes one same =
     let len : length s ≡ length bytes = ap length same.1 in
     record { at = 0; number_is = omega (arith, same.0); there = omega arith; bytes_are = take_all 1024 s one ∙ same.1; last = λ _. omega (arith, len) }
@@ -21,7 +21,7 @@ module _ (first : ℕ) (s : List ℕ) (from n number : ℕ) (bytes : List ℕ) (
   parts = left_len-Parts (length s) many
 
   -- not the last of n bytes, in the left part of them
-  pub chunk_left : number < from + left_len n / 1024 → HasChunk first (take l s) from (left_len n) number bytes → HasChunk first s from n number bytes
+  pub chunk_left : number < from + left_len n / 1024 → TreeHasChunk first (take l s) from (left_len n) number bytes → TreeHasChunk first s from n number bytes
   chunk_left before h =
       let size : length (take l s) ≡ l = length-take-le l s (omega (arith, parts.below)) in
       let there : h.at < chunk_count l = rw size at h.there in
@@ -41,7 +41,7 @@ module _ (first : ℕ) (s : List ℕ) (from n number : ℕ) (bytes : List ℕ) (
         last = λ end. absurd (omega (arith, end, count, some, before));
       }
 
-  pub chunk_right : HasChunk (first + l / 1024) (drop l s) (from + left_len n / 1024) (n - left_len n) number bytes → HasChunk first s from n number bytes
+  pub chunk_right : TreeHasChunk (first + l / 1024) (drop l s) (from + left_len n / 1024) (n - left_len n) number bytes → TreeHasChunk first s from n number bytes
   chunk_right h =
       let size : length (drop l s) ≡ length s - l = length-drop l s in
       let there : h.at < chunk_count (length s - l) = rw size at h.there in

@@ -19,7 +19,7 @@ use Rattle.bao_check.proofs.Naming.{last_there}
 use Rattle.bao_check.proofs.SubtreeInputs.{subtree_inputs, subtree_inputs-chunk, subtree_parent}
 use Rattle.bao_check.proofs.Ways.{AtChunk, AtParent, way_chunk, way_parent}
 use Rattle.bao_bind.specs.declared.pair.Pair.{Pair}
-use Rattle.bao_bind.specs.Search.{Finds, HasChunk, part_inputs}
+use Rattle.bao_bind.specs.Search.{Finds, TreeHasChunk, part_inputs}
 use Rattle.bao_bind.proofs.TreeChunks.{chunk_left, chunk_right, chunk_whole}
 use Rattle.bao_bind.proofs.Found.{Finds-within, Names-by}
 
@@ -47,7 +47,7 @@ parent_of mode parent = parent_input mode (part_value left parent) (part_value r
 abbrev pub Searches : (ℕ → Option (List ℕ)) → List Input → Mode → Bool → List ℕ → ℕ → List ℕ → Option Pair → ℕ → List ℕ → ℕ → ℕ → Type 0
 Searches parents theirs mode top value number bytes r first s from n =
     LeadsTo parents theirs mode top value from n number bytes → cv (marked top (top_input mode first s)) ≡ value
-    → Finds (part_inputs top mode first s) theirs (HasChunk first s from n number bytes) r
+    → Finds (part_inputs top mode first s) theirs (TreeHasChunk first s from n number bytes) r
 
 -- of a part that is made in another way
 pub searches_same : (parents : ℕ → Option (List ℕ)) (theirs : List Input) (mode : Mode) (top : Bool) (value : List ℕ) (number : ℕ) (bytes : List ℕ) (r : Option Pair)
@@ -69,12 +69,12 @@ module _ (parents : ℕ → Option (List ℕ)) (theirs : List Input) (mode : Mod
   pub chunk_chunk : (r : Option Pair) → n ≤ 1024 → length s ≤ 1024
       → (cv (marked top (last_chunk_input mode first s)) ≡ cv (marked top (last_chunk_input mode number bytes))
       → Finds (whole_chunk top mode first s) (whole_chunk top mode number bytes) ((first ≡ number) × (s ≡ bytes)) r)
-      → Finds ours theirs (HasChunk first s from n number bytes) r
+      → Finds ours theirs (TreeHasChunk first s from n number bytes) r
   chunk_chunk r small one search =
       let at : AtChunk theirs mode top value from number bytes = way_chunk parents theirs mode top value from n number bytes small w in
       let values : cv (marked top (last_chunk_input mode first s)) ≡ cv (marked top (last_chunk_input mode number bytes)) =
       ap (λ (x : Input). cv (marked top x)) (sym (top_input-chunk mode first s one)) ∙ same ∙ sym at.value_is in
-      Finds-within (whole_chunk top mode first s) (whole_chunk top mode number bytes) ours theirs ((first ≡ number) × (s ≡ bytes)) (HasChunk first s from n number bytes) r
+      Finds-within (whole_chunk top mode first s) (whole_chunk top mode number bytes) ours theirs ((first ≡ number) × (s ≡ bytes)) (TreeHasChunk first s from n number bytes) r
       (λ x h. chunk_there top mode first s x one h) at.inputs_are (chunk_whole first s from n number bytes one) (search values)
 
   -- a parent of ours against a chunk
@@ -149,12 +149,12 @@ module _ (parents : ℕ → Option (List ℕ)) (theirs : List Input) (mode : Mod
   pub goes_left : (r : Option Pair) (parent : List ℕ) (x y : Input) → 1024 < n → parents (from + left_len n / 1024) ≡ Some parent → 1024 < length s
       → x ≡ marked top (top_input mode first s) → y ≡ marked top (parent_of mode parent) → x ≡ y → number < from + left_len n / 1024
       → Searches parents theirs mode false (part_value left parent) number bytes r first (take l s) from (left_len n)
-      → Finds ours theirs (HasChunk first s from n number bytes) r
+      → Finds ours theirs (TreeHasChunk first s from n number bytes) r
   goes_left r parent x y more there many x_is y_is equal before search =
       let values : SameValues parent = same_values parent x y many x_is y_is equal in
       let way : LeadsTo parents theirs mode false (part_value left parent) from (left_len n) number bytes =
       subst (λ (p : List ℕ). LeadsTo parents theirs mode false (part_value left p) from (left_len n) number bytes) (same_parent parent more there) ((at_parent more).near before) in
-      Finds-within (part_inputs false mode first (take l s)) theirs ours theirs (HasChunk first (take l s) from (left_len n) number bytes) (HasChunk first s from n number bytes) r
+      Finds-within (part_inputs false mode first (take l s)) theirs ours theirs (TreeHasChunk first (take l s) from (left_len n) number bytes) (TreeHasChunk first s from n number bytes) r
       (λ z h. part_there top mode first s z (left_there top mode first s many z (there_part false mode first (take l s) z h)))
       (λ z h. h) (chunk_left first s from n number bytes many more before) (search way values.near_is)
 
@@ -162,12 +162,12 @@ module _ (parents : ℕ → Option (List ℕ)) (theirs : List Input) (mode : Mod
   pub goes_right : (r : Option Pair) (parent : List ℕ) (x y : Input) → 1024 < n → parents (from + left_len n / 1024) ≡ Some parent → 1024 < length s
       → x ≡ marked top (top_input mode first s) → y ≡ marked top (parent_of mode parent) → x ≡ y → from + left_len n / 1024 ≤ number
       → Searches parents theirs mode false (part_value right parent) number bytes r (first + l / 1024) (drop l s) (from + left_len n / 1024) (n - left_len n)
-      → Finds ours theirs (HasChunk first s from n number bytes) r
+      → Finds ours theirs (TreeHasChunk first s from n number bytes) r
   goes_right r parent x y more there many x_is y_is equal after search =
       let values : SameValues parent = same_values parent x y many x_is y_is equal in
       let way : LeadsTo parents theirs mode false (part_value right parent) (from + left_len n / 1024) (n - left_len n) number bytes =
       subst (λ (p : List ℕ). LeadsTo parents theirs mode false (part_value right p) (from + left_len n / 1024) (n - left_len n) number bytes) (same_parent parent more there) ((at_parent more).far after) in
       Finds-within (part_inputs false mode (first + l / 1024) (drop l s)) theirs ours theirs
-      (HasChunk (first + l / 1024) (drop l s) (from + left_len n / 1024) (n - left_len n) number bytes) (HasChunk first s from n number bytes) r
+      (TreeHasChunk (first + l / 1024) (drop l s) (from + left_len n / 1024) (n - left_len n) number bytes) (TreeHasChunk first s from n number bytes) r
       (λ z h. part_there top mode first s z (right_there top mode first s many z (there_part false mode (first + l / 1024) (drop l s) z h)))
       (λ z h. h) (chunk_right first s from n number bytes many more) (search way values.far_is)

@@ -17,7 +17,7 @@ Finds ours theirs same (Some pair) = Names ours theirs pair.ours pair.theirs
 
 -- Chunk `number` of the tree over s from chunk `first` on is `bytes`; and where it is the last chunk of the
 -- n bytes from chunk `from` on, s ends with it.
-pub record HasChunk (first : ℕ) (s : List ℕ) (from n number : ℕ) (bytes : List ℕ) : Type 0 where
+pub record TreeHasChunk (first : ℕ) (s : List ℕ) (from n number : ℕ) (bytes : List ℕ) : Type 0 where
   pub at : ℕ
   pub number_is : number ≡ first + at
   pub there : at < chunk_count (length s)

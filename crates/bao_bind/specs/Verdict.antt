@@ -41,18 +41,18 @@ Compared blob piece to (Some chunk) =
     (chunk_in (piece_text piece) (piece_places piece) chunk.first ≡ Some chunk.bytes.now) × (¬ IsOurs blob (piece_claimed piece) chunk.first chunk.bytes.now)
 
 -- The piece's root is the blob's hash in the piece's mode.
-abbrev pub HasRoot : List ℕ → Checked → Type 0
-HasRoot blob piece = hash (piece_mode piece) blob ≡ piece_root piece
+abbrev pub HasRootOfPiece : List ℕ → Checked → Type 0
+HasRootOfPiece blob piece = hash (piece_mode piece) blob ≡ piece_root piece
 
 -- An audit of the piece says that it agrees; that it is of another root; or exhibits a collision.
 abbrev pub IsOfBlob : List ℕ → Checked → Type 0
-IsOfBlob blob piece = HasRoot blob piece × AgreesWith blob piece
+IsOfBlob blob piece = HasRootOfPiece blob piece × AgreesWith blob piece
 
 abbrev pub IsOfOther : List ℕ → Checked → Type 0
-IsOfOther blob piece = ¬ HasRoot blob piece
+IsOfOther blob piece = ¬ HasRootOfPiece blob piece
 
 abbrev pub IsForged : List ℕ → Checked → Type 0
-IsForged blob piece = HasRoot blob piece × (¬ AgreesWith blob piece)
+IsForged blob piece = HasRootOfPiece blob piece × (¬ AgreesWith blob piece)
 
 -- Piece i is the first that isn't of the blob, and this is so of it.
 abbrev pub IsFirst : (Checked → Type 0) → List ℕ → List Checked → ℕ → Type 0

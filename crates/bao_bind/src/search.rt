@@ -4,7 +4,7 @@ ghost use Rattle.b3word.specs.Compression.{cv};
 ghost use Rattle.b3tree.specs.Tree.{top_input};
 ghost use Rattle.bao_check.specs.Inputs.{marked};
 ghost use Rattle.bao_check.specs.Ways.{LeadsTo};
-ghost use Rattle.bao_bind.specs.Search.{Finds, HasChunk, part_inputs};
+ghost use Rattle.bao_bind.specs.Search.{Finds, TreeHasChunk, part_inputs};
 
 use crate::chunks::chunks_apart;
 use crate::pair::{Pair, are_same, marked};
@@ -30,7 +30,7 @@ pub(crate) fn walk<P: Parents>(
     requires chunk_len { length chunk.now.bytes.now ≤ 1024 }
     ensures { (theirs : List Input) (value : List ℕ) → LeadsTo (P.bytes parents.now) theirs mode.now top value number n chunk.now.first chunk.now.bytes.now
         → cv (marked top (top_input mode.now ours.now.first ours.now.bytes.now)) ≡ value
-        → Finds (part_inputs top mode.now ours.now.first ours.now.bytes.now) theirs (HasChunk ours.now.first ours.now.bytes.now number n chunk.now.first chunk.now.bytes.now) result }
+        → Finds (part_inputs top mode.now ours.now.first ours.now.bytes.now) theirs (TreeHasChunk ours.now.first ours.now.bytes.now number n chunk.now.first chunk.now.bytes.now) result }
 {
     let x = marked(top, &top_input(mode, ours.first, ours.bytes));
     if n <= CHUNK_LEN as u64 {

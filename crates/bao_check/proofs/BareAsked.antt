@@ -7,7 +7,7 @@ use Rattle.b3tree.specs.Tree.{left_len}
 use Rattle.bao_text.specs.declared.choice.Choice.{Choice}
 use Rattle.bao_text.specs.Choice.{chunk_count, of_outboard}
 use Rattle.bao_text.specs.Cut.{claimed}
-use Rattle.bao_text.specs.Nodes.{TreeNode, Side, left, placed, right, subtree_nodes, subtree_size}
+use Rattle.bao_text.specs.Nodes.{TreeNode, Side, left, placed_nodes, right, subtree_nodes, subtree_size}
 use Rattle.bao_text.proofs.SubtreeText.{Parts, left_len-Parts}
 use Rattle.bao_check.specs.declared.asked.Asked.{Asked}
 use Rattle.bao_check.specs.Accepted.{outboard_nodes, places_of}
@@ -42,13 +42,13 @@ record IsAskedLeaf (outline : List ℕ) (places : List (ℕ × TreeNode)) (k : �
 
 asks-leaf : (levels : ℕ) (asked : Asked) (outline : List ℕ) (k : ℕ) (own : Choice) (number n : ℕ) (sides : List Side) (source at : ℕ) → 1024 < n → n ≤ 1024 * levels + 1024
     → WantsParents own number n → number ≤ k → k < number + chunk_count n
-    → IsAskedLeaf outline (placed at (subtree_nodes own number n sides source)) k (asks levels asked outline k number n at)
+    → IsAskedLeaf outline (placed_nodes at (subtree_nodes own number n sides source)) k (asks levels asked outline k number n at)
 asks-leaf zero asked outline k own number n sides source at more hn has first last = absurd (omega arith)
 asks-leaf (suc levels) asked outline k own number n sides source at more hn has first last =
     let l : ℕ = left_len n in
     let parts : Parts n l = left_len-Parts n more in
     let bytes : List ℕ = take 64 (drop at outline) in
-    let P : Asked → Type 0 = IsAskedLeaf outline (placed at (subtree_nodes own number n sides source)) k in
+    let P : Asked → Type 0 = IsAskedLeaf outline (placed_nodes at (subtree_nodes own number n sides source)) k in
     elim (cases_lt k (number + l / 1024)) [
       | inl before ↦
           elim (cases_lt 1024 l) [

@@ -8,7 +8,7 @@ use Rattle.bao_check.specs.declared.bare.Bare.{Bare}
 use Rattle.bao_check.specs.declared.fault.CheckFault.{CheckFault}
 use Rattle.bao_check.specs.declared.fault.CheckFault.TheVariants.{Short, Mismatch, Trailing, Memory, Reader}
 use Rattle.bao_check.specs.Bare.{AreBare, AreGoodBare, IsBareFault, IsGoodBare, IsWhollyThere, bare_at, chunk_len}
-use Rattle.bao_check.specs.BareWalk.{IsGoodIn, IsWanted, PartPasses, PartStops, part_input}
+use Rattle.bao_check.specs.BareWalk.{IsGoodChunkIn, IsWantedChunk, PartPasses, PartStops, part_input}
 use Rattle.bao_check.specs.Beside.{bare_len}
 use Rattle.bao_check.specs.Walk.{Meets, asked_root}
 use Rattle.bao_check.proofs.BareAsked.{asks_of, value-meets}
@@ -20,10 +20,10 @@ module _ (bare : Bare) (root : List ℕ) where
   from_start : 1024 * 0 + total ≡ total
   from_start = omega arith
 
-  wanted_is : (k : ℕ) → bare.after ≤ chunk_count total → bare.first ≤ k → k < bare.after → IsWanted bare 0 total k
+  wanted_is : (k : ℕ) → bare.after ≤ chunk_count total → bare.first ≤ k → k < bare.after → IsWantedChunk bare 0 total k
   wanted_is k within first after = record { first = first; after = after; from = omega arith; below = omega arith }
 
-  good_is : (k : ℕ) → k < chunk_count total → IsGoodIn bare (asked_root root) 0 total 8 k → IsGoodBare bare.mode root bare.outline.now bare.first bare.chunks.now k
+  good_is : (k : ℕ) → k < chunk_count total → IsGoodChunkIn bare (asked_root root) 0 total 8 k → IsGoodBare bare.mode root bare.outline.now bare.first bare.chunks.now k
   good_is k below good = (
     subst (λ (e : ℕ). IsWhollyThere e bare.first bare.chunks.now k) from_start good.0,
     (value-meets root bare.outline.now k (part_input bare total k) below).1

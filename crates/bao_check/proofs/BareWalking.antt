@@ -11,7 +11,7 @@ use Rattle.bao_check.specs.declared.bare.Bare.{Bare}
 use Rattle.bao_check.specs.declared.fault.CheckFault.{CheckFault}
 use Rattle.bao_check.specs.declared.fault.CheckFault.TheVariants.{Short, Mismatch, Trailing, Memory, Reader}
 use Rattle.bao_check.specs.Bare.{IsWhollyThere, bare_at, chunk_len}
-use Rattle.bao_check.specs.BareWalk.{ChunkStops, IsBadIn, IsChunkGood, IsGoodIn, IsWanted, PartPasses, PartStops, asks, below, input_of, part_input}
+use Rattle.bao_check.specs.BareWalk.{ChunkStops, IsBadIn, IsChunkGood, IsGoodChunkIn, IsWantedChunk, PartPasses, PartStops, asks, bare_input, below, part_input}
 use Rattle.bao_check.specs.Walk.{Meets}
 use Rattle.bao_check.proofs.BareAsked.{asks-far, asks-near, asks-small}
 
@@ -20,23 +20,23 @@ module _ (bare : Bare) (asked : Asked) (number n at : ℕ) where
   end = 1024 * number + n
 
   -- a subtree without a wanted chunk
-  pub passes_none : ((k : ℕ) → IsWanted bare number n k → ⊥) → PartPasses bare asked number n at
+  pub passes_none : ((k : ℕ) → IsWantedChunk bare number n k → ⊥) → PartPasses bare asked number n at
   passes_none none = λ k wanted. absurd (none k wanted)
 
   -- a chunk alone
   module _ (one : n ≤ 1024) where
-    only : (k : ℕ) → IsWanted bare number n k → k ≡ number
+    only : (k : ℕ) → IsWantedChunk bare number n k → k ≡ number
     only k wanted = omega (arith, wanted.from, wanted.below)
 
     len_is : chunk_len end number ≡ n
     len_is = omega arith
 
-    input_is : part_input bare end number ≡ input_of bare number n
+    input_is : part_input bare end number ≡ bare_input bare number n
     input_is = ap (λ (m : ℕ). last_chunk_input bare.mode number (take m (drop (bare_at bare.first number) bare.chunks.now))) len_is
 
     pub passes_chunk : IsChunkGood bare asked number n → PartPasses bare asked number n at
     passes_chunk good = λ k wanted.
-        subst (IsGoodIn bare asked number n at) (sym (only k wanted)) (
+        subst (IsGoodChunkIn bare asked number n at) (sym (only k wanted)) (
           omega (arith, good.0, len_is),
           λ levels hn.
               subst (λ (a : Asked). Meets a (part_input bare end number)) (sym (asks-small levels asked bare.outline.now number number n at one))
@@ -86,19 +86,19 @@ module _ (bare : Bare) (asked : Asked) (number n at : ℕ) where
     near_input k before = ap (λ (m : ℕ). last_chunk_input bare.mode k (take m (drop (bare_at bare.first k) bare.chunks.now))) (near_len k before)
 
     -- a wanted chunk is one of the left part's or of the right part's
-    near_wanted : (k : ℕ) → k < number + l / 1024 → IsWanted bare number n k → IsWanted bare number l k
+    near_wanted : (k : ℕ) → k < number + l / 1024 → IsWantedChunk bare number n k → IsWantedChunk bare number l k
     near_wanted k before wanted = record { first = wanted.first; after = wanted.after; from = wanted.from; below = omega (arith, parts.whole, parts.some) }
 
-    far_wanted : (k : ℕ) → number + l / 1024 ≤ k → IsWanted bare number n k → IsWanted bare (number + l / 1024) (n - l) k
+    far_wanted : (k : ℕ) → number + l / 1024 ≤ k → IsWantedChunk bare number n k → IsWantedChunk bare (number + l / 1024) (n - l) k
     far_wanted k after wanted = record { first = wanted.first; after = wanted.after; from = after; below = omega (arith, wanted.below, parts.whole, parts.below) }
 
-    from_near : (k : ℕ) → IsWanted bare number l k → IsWanted bare number n k
+    from_near : (k : ℕ) → IsWantedChunk bare number l k → IsWantedChunk bare number n k
     from_near k wanted = record { first = wanted.first; after = wanted.after; from = wanted.from; below = omega (arith, wanted.below, parts.below) }
 
-    from_far : (k : ℕ) → IsWanted bare (number + l / 1024) (n - l) k → IsWanted bare number n k
+    from_far : (k : ℕ) → IsWantedChunk bare (number + l / 1024) (n - l) k → IsWantedChunk bare number n k
     from_far k wanted = record { first = wanted.first; after = wanted.after; from = omega (arith, wanted.from); below = omega (arith, wanted.below, parts.whole, parts.below) }
 
-    before_middle : (k : ℕ) → IsWanted bare number l k → k < number + l / 1024
+    before_middle : (k : ℕ) → IsWantedChunk bare number l k → k < number + l / 1024
     before_middle k wanted = omega (arith, wanted.below, parts.whole, parts.some)
 
     -- what is asked of a chunk in the whole is what is asked of it in its part
@@ -130,7 +130,7 @@ module _ (bare : Bare) (asked : Asked) (number n at : ℕ) where
     far_meets (suc m) k after hn x each =
         subst (λ (a : Asked). Meets a x) (sym (asks-far m asked bare.outline.now k number n at more after)) (each m (omega (arith, parts.some)))
 
-    near_good : (k : ℕ) → k < number + l / 1024 → IsGoodIn bare (below left parent) number l (at + 64) k → IsGoodIn bare asked number n at k
+    near_good : (k : ℕ) → k < number + l / 1024 → IsGoodChunkIn bare (below left parent) number l (at + 64) k → IsGoodChunkIn bare asked number n at k
     near_good k before good = (
       omega (arith, good.0, near_len k before),
       λ levels hn.
@@ -138,7 +138,7 @@ module _ (bare : Bare) (asked : Asked) (number n at : ℕ) where
           (near_meets levels k before hn (part_input bare (1024 * number + l) k) good.1),
     )
 
-    far_good : (k : ℕ) → number + l / 1024 ≤ k → IsGoodIn bare (below right parent) (number + l / 1024) (n - l) (at + 64 * (l / 1024)) k → IsGoodIn bare asked number n at k
+    far_good : (k : ℕ) → number + l / 1024 ≤ k → IsGoodChunkIn bare (below right parent) (number + l / 1024) (n - l) (at + 64 * (l / 1024)) k → IsGoodChunkIn bare asked number n at k
     far_good k after good = (
       subst (λ (e : ℕ). IsWhollyThere e bare.first bare.chunks.now k) far_end good.0,
       λ levels hn.

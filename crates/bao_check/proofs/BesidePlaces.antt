@@ -10,7 +10,7 @@ use Rattle.b3tree.specs.Tree.{left_len}
 use Rattle.bao_text.specs.declared.choice.Choice.{Choice}
 use Rattle.bao_text.specs.Choice.{chunk_count, of_outboard, of_slice, wants}
 use Rattle.bao_text.specs.Cut.{claimed}
-use Rattle.bao_text.specs.Nodes.{TreeNode, Side, left, nodes, placed, right, size, subtree_nodes, subtree_size}
+use Rattle.bao_text.specs.Nodes.{TreeNode, Side, left, nodes, placed_nodes, right, size, subtree_nodes, subtree_size}
 use Rattle.bao_text.proofs.Everything.{At, At_first, At_rest}
 use Rattle.bao_text.proofs.SubtreeNodes.{parent_node, subtree_nodes-parent, subtree_nodes-unwanted}
 use Rattle.bao_text.proofs.SubtreeText.{Parts, left_len-Parts}
@@ -22,7 +22,7 @@ use Rattle.bao_check.specs.Parents.{parent_in, parent_place}
 use Rattle.bao_check.proofs.Lists.{All-append, All-member, Contains-cons_cases, nodes_size, nodes_size-cons}
 use Rattle.bao_check.proofs.Outlines.{far-WantsParents, near-WantsParents, near-size, outboard-WantsParents}
 use Rattle.bao_check.proofs.Parenting.{parent_in-place, parent_place-far, parent_place-here, parent_place-near}
-use Rattle.bao_check.proofs.Parts.{placed-All}
+use Rattle.bao_check.proofs.Parts.{placed_nodes-All}
 use Rattle.bao_check.proofs.Presence.{Meets, Meets-from_wants}
 use Rattle.bao_check.proofs.Sizes.{nodes_size-without_chunks, wants_whole}
 use Rattle.bao_check.proofs.Walking.{chunk_node, leaf_nodes}
@@ -30,7 +30,7 @@ use Rattle.bao_check.proofs.Written.{At_bytes}
 
 -- The parents of a subtree are found among all places as they are among the subtree's own.
 pub record Finds (all : List (ℕ × TreeNode)) (choice : Choice) (number n : ℕ) (sides : List Side) (source at : ℕ) : Type 0 where
-  pub same : (m : ℕ) → number < m → m < number + chunk_count n → parent_place all m ≡ parent_place (placed at (subtree_nodes choice number n sides source)) m
+  pub same : (m : ℕ) → number < m → m < number + chunk_count n → parent_place all m ≡ parent_place (placed_nodes at (subtree_nodes choice number n sides source)) m
 
 module _ (all : List (ℕ × TreeNode)) (choice : Choice) (number n : ℕ) (sides : List Side) (source at : ℕ) (more : 1024 < n) (has : WantsParents choice number n) (finds : Finds all choice number n sides source at) where
   wanted : wants choice (1024 * number) n ≡ true
@@ -56,7 +56,7 @@ module _ (all : List (ℕ × TreeNode)) (choice : Choice) (number n : ℕ) (side
         same = λ m low high.
             finds.same m (omega arith) (omega (arith, parts.whole, parts.some, parts.below))
             ∙ parent_place-far choice number n sides source at m wanted more low
-            ∙ ap (λ (k : ℕ). parent_place (placed k far) m) e;
+            ∙ ap (λ (k : ℕ). parent_place (placed_nodes k far) m) e;
       }
 
   -- the subtree's own parent
@@ -69,7 +69,7 @@ module _ (all : List (ℕ × TreeNode)) (choice : Choice) (number n : ℕ) (side
       (finds.same m (omega (arith, parts.some)) (omega (arith, parts.whole, parts.some, parts.below)) ∙ parent_place-here choice number n sides source at m wanted more refl)
 
 -- so is each parent of an outline
-pub Finds-all : (total : ℕ) → Finds (placed 8 (subtree_nodes (of_outboard total) 0 total [] 8)) (of_outboard total) 0 total [] 8 8
+pub Finds-all : (total : ℕ) → Finds (placed_nodes 8 (subtree_nodes (of_outboard total) 0 total [] 8)) (of_outboard total) 0 total [] 8 8
 Finds-all total = record { same = λ m low high. refl }
 
 -- what a choice wants lies in the chunks, of which there are to be `len` bytes from chunk `first` on
@@ -170,13 +170,13 @@ flat-size f (node ∷ nodes) all =
     omega (arith, all.0, length-append (f node) (flat_map f nodes), nodes_size-cons node nodes)
 
 -- then each stands at its node's place
-pub flat-placed : (f : TreeNode → List ℕ) (text : List ℕ) (at : ℕ) (nodes : List TreeNode) → AllByRecursion (λ node. length (f node) ≡ size node) nodes → At text at (flat_map f nodes)
-    → (place : ℕ × TreeNode) → Contains (placed at nodes) place → bytes_at text place ≡ f place.1
-flat-placed f text at [] all here place none = absurd (omega (arith, none.1))
-flat-placed f text at (node ∷ nodes) all here place there = elim (Contains-cons_cases (placed (at + size node) nodes) (at, node) place there) [
+pub flat-placed_nodes : (f : TreeNode → List ℕ) (text : List ℕ) (at : ℕ) (nodes : List TreeNode) → AllByRecursion (λ node. length (f node) ≡ size node) nodes → At text at (flat_map f nodes)
+    → (place : ℕ × TreeNode) → Contains (placed_nodes at nodes) place → bytes_at text place ≡ f place.1
+flat-placed_nodes f text at [] all here place none = absurd (omega (arith, none.1))
+flat-placed_nodes f text at (node ∷ nodes) all here place there = elim (Contains-cons_cases (placed_nodes (at + size node) nodes) (at, node) place there) [
   | inl same ↦
       subst (λ (p : ℕ × TreeNode). bytes_at text p ≡ f p.1) (sym same) (At_bytes text at (size node) (f node) all.0 (At_first text at (f node) (flat_map f nodes) here))
-  | inr rest ↦ flat-placed f text (at + size node) nodes all.1 (At_rest text at (size node) (f node) (flat_map f nodes) all.0 here) place rest
+  | inr rest ↦ flat-placed_nodes f text (at + size node) nodes all.1 (At_rest text at (size node) (f node) (flat_map f nodes) all.0 here) place rest
 ]
 
 All-map : (P Q : TreeNode → Type 0) (nodes : List TreeNode) → ((node : TreeNode) → P node → Q node) → AllByRecursion P nodes → AllByRecursion Q nodes
@@ -287,8 +287,8 @@ whole-stands outline start len chunks long whole place there =
     let f : TreeNode → List ℕ = node_beside outline (start / 1024) chunks in
     let ns : List TreeNode = nodes (claimed outline) start len in
     record {
-      bytes = flat-placed f (beside_text outline start len chunks) 8 ns whole.sizes (made-At outline start len chunks long) place there;
-      size_is = All-member (λ p. length (f p.1) ≡ size p.1) (placed 8 ns) (placed-All (λ node. length (f node) ≡ size node) 8 ns whole.sizes) place there;
+      bytes = flat-placed_nodes f (beside_text outline start len chunks) 8 ns whole.sizes (made-At outline start len chunks long) place there;
+      size_is = All-member (λ p. length (f p.1) ≡ size p.1) (placed_nodes 8 ns) (placed_nodes-All (λ node. length (f node) ≡ size node) 8 ns whole.sizes) place there;
     }
 
 pub beside-bytes : (outline : List ℕ) (start len : ℕ) (chunks : List ℕ) → IsMade outline start len chunks

@@ -15,7 +15,7 @@ use Rattle.b3tree.proofs.BlockWords.{AreBytes-drop, AreBytes-take}
 use Rattle.bao_text.specs.declared.choice.Choice.{Choice}
 use Rattle.bao_text.specs.Choice.{chunk_count, of_slice, wants}
 use Rattle.bao_text.specs.Cut.{claimed}
-use Rattle.bao_text.specs.Nodes.{TreeNode, Side, chosen_nodes, chunk_nodes, left, placed, right, size, subtree_nodes, subtree_size}
+use Rattle.bao_text.specs.Nodes.{TreeNode, Side, chosen_nodes, chunk_nodes, left, placed_nodes, right, size, subtree_nodes, subtree_size}
 use Rattle.bao_text.proofs.SubtreeNodes.{parent_node, subtree_nodes-leaf, subtree_nodes-unwanted}
 use Rattle.bao_text.proofs.SubtreeText.{Parts, left_len-Parts}
 use Rattle.bao_check.specs.declared.asked.Asked.{Asked}
@@ -25,7 +25,7 @@ use Rattle.bao_check.specs.Inputs.{is_top, marked, place_inputs, text_inputs, wa
 use Rattle.bao_check.specs.Pieces.{chunk_in}
 use Rattle.bao_check.specs.Walk.{AreGood, Meets}
 use Rattle.bao_check.proofs.Lists.{Contains-cons_cases, Contains-head, Contains-tail, nodes_size}
-use Rattle.bao_check.proofs.Parts.{AreGood-split, PartsGood, below, placed-parent}
+use Rattle.bao_check.proofs.Parts.{AreGood-split, PartsGood, below, placed_nodes-parent}
 use Rattle.bao_check.proofs.Walking.{chunk_node}
 
 -- the way goes to the right there
@@ -121,18 +121,18 @@ way-one asked mode text at number n sides source k bytes top one good there =
 
 -- no nodes have no chunk
 no_way : (asked : Asked) (sides : List Side) (mode : Mode) (text : List ℕ) (at number n k : ℕ) (bytes : List ℕ) (nodes : List TreeNode) → nodes ≡ []
-    → chunk_in text (placed at nodes) k ≡ Some bytes → Way asked mode text (placed at nodes) number n k bytes
+    → chunk_in text (placed_nodes at nodes) k ≡ Some bytes → Way asked mode text (placed_nodes at nodes) number n k bytes
 no_way asked sides mode text at number n k bytes nodes none there =
-    let bad : None ≡ Some bytes = ap (λ (xs : List TreeNode). chunk_in text (placed at xs) k) (sym none) ∙ there in cc
+    let bad : None ≡ Some bytes = ap (λ (xs : List TreeNode). chunk_in text (placed_nodes at xs) k) (sym none) ∙ there in cc
 
 way-chunk : (asked : Asked) (choice : Choice) (mode : Mode) (text : List ℕ) (at number n : ℕ) (sides : List Side) (source k : ℕ) (bytes : List ℕ)
     → asked.top ≡ is_top sides → n ≤ 1024
     → AreGood asked sides mode text at (chunk_nodes choice number n sides source)
-    → chunk_in text (placed at (chunk_nodes choice number n sides source)) k ≡ Some bytes
-    → Way asked mode text (placed at (chunk_nodes choice number n sides source)) number n k bytes
+    → chunk_in text (placed_nodes at (chunk_nodes choice number n sides source)) k ≡ Some bytes
+    → Way asked mode text (placed_nodes at (chunk_nodes choice number n sides source)) number n k bytes
 way-chunk asked choice mode text at number n sides source k bytes top one good there =
-    let P : List TreeNode → Type 0 = λ nodes. AreGood asked sides mode text at nodes → chunk_in text (placed at nodes) k ≡ Some bytes
-    → Way asked mode text (placed at nodes) number n k bytes in
+    let P : List TreeNode → Type 0 = λ nodes. AreGood asked sides mode text at nodes → chunk_in text (placed_nodes at nodes) k ≡ Some bytes
+    → Way asked mode text (placed_nodes at nodes) number n k bytes in
     elim (cases_Bool choice.chunks) [
       | inl with_chunks ↦
           let node : chunk_nodes choice number n sides source ≡ chunk_node number n sides source ∷ [] = rw with_chunks refl in
@@ -145,11 +145,11 @@ way-chunk asked choice mode text at number n sides source k bytes top one good t
 way-small : (asked : Asked) (choice : Choice) (mode : Mode) (text : List ℕ) (at number n : ℕ) (sides : List Side) (source k : ℕ) (bytes : List ℕ)
     → asked.top ≡ is_top sides → n ≤ 1024
     → AreGood asked sides mode text at (subtree_nodes choice number n sides source)
-    → chunk_in text (placed at (subtree_nodes choice number n sides source)) k ≡ Some bytes
-    → Way asked mode text (placed at (subtree_nodes choice number n sides source)) number n k bytes
+    → chunk_in text (placed_nodes at (subtree_nodes choice number n sides source)) k ≡ Some bytes
+    → Way asked mode text (placed_nodes at (subtree_nodes choice number n sides source)) number n k bytes
 way-small asked choice mode text at number n sides source k bytes top one good there =
-    let P : List TreeNode → Type 0 = λ nodes. AreGood asked sides mode text at nodes → chunk_in text (placed at nodes) k ≡ Some bytes
-    → Way asked mode text (placed at nodes) number n k bytes in
+    let P : List TreeNode → Type 0 = λ nodes. AreGood asked sides mode text at nodes → chunk_in text (placed_nodes at nodes) k ≡ Some bytes
+    → Way asked mode text (placed_nodes at nodes) number n k bytes in
     elim (cases_Bool (wants choice (1024 * number) n)) [
       | inr skipped ↦
           no_way asked sides mode text at number n k bytes (subtree_nodes choice number n sides source) (subtree_nodes-unwanted choice number n sides source skipped) there
@@ -271,8 +271,8 @@ way-far asked mode text at number n sides source k bytes near far top more there
 way-levels : (levels : ℕ) (asked : Asked) (choice : Choice) (mode : Mode) (text : List ℕ) (at number n : ℕ) (sides : List Side) (source k : ℕ) (bytes : List ℕ)
     → n ≤ 1024 * levels + 1024 → asked.top ≡ is_top sides
     → AreGood asked sides mode text at (subtree_nodes choice number n sides source)
-    → chunk_in text (placed at (subtree_nodes choice number n sides source)) k ≡ Some bytes
-    → Way asked mode text (placed at (subtree_nodes choice number n sides source)) number n k bytes
+    → chunk_in text (placed_nodes at (subtree_nodes choice number n sides source)) k ≡ Some bytes
+    → Way asked mode text (placed_nodes at (subtree_nodes choice number n sides source)) number n k bytes
 way-levels zero asked choice mode text at number n sides source k bytes hn top good there =
     way-small asked choice mode text at number n sides source k bytes top (omega arith) good there
 way-levels (suc levels) asked choice mode text at number n sides source k bytes hn top good there = elim (cases_lt 1024 n) [
@@ -288,9 +288,9 @@ way-levels (suc levels) asked choice mode text at number n sides source k bytes 
             let q : ℕ × TreeNode = (at, parent_node number n sides source) in
             let near_nodes : List TreeNode = subtree_nodes choice number l (sides ++ left ∷ []) (source + 64) in
             let far_nodes : List TreeNode = subtree_nodes choice (number + l / 1024) (n - l) (sides ++ right ∷ []) (source + 64 + subtree_size l) in
-            let near : List (ℕ × TreeNode) = placed (at + 64) near_nodes in
-            let far : List (ℕ × TreeNode) = placed (at + 64 + nodes_size near_nodes) far_nodes in
-            let places_are : placed at (subtree_nodes choice number n sides source) ≡ q ∷ (near ++ far) = placed-parent choice number n sides source at wanted more in
+            let near : List (ℕ × TreeNode) = placed_nodes (at + 64) near_nodes in
+            let far : List (ℕ × TreeNode) = placed_nodes (at + 64 + nodes_size near_nodes) far_nodes in
+            let places_are : placed_nodes at (subtree_nodes choice number n sides source) ≡ q ∷ (near ++ far) = placed_nodes-parent choice number n sides source at wanted more in
             let both : PartsGood asked sides mode text at near_nodes far_nodes = AreGood-split asked choice mode text at number n sides source wanted more good in
             let among : chunk_in text (near ++ far) k ≡ Some bytes = ap (λ (ps : List (ℕ × TreeNode)). chunk_in text ps k) (sym places_are) ∙ there in
             subst (λ (ps : List (ℕ × TreeNode)). Way asked mode text ps number n k bytes) (sym places_are)
@@ -338,7 +338,7 @@ pub chosen_certified : (choice : Choice) (mode : Mode) (root text : List ℕ) (t
     → IsCertified mode root text (places_of (chosen_nodes choice total)) total number bytes
 chosen_certified choice mode root text total accepted number bytes there =
     let asked : Asked = record { top = true; value = record { 0 = words_of 8 root } } in
-    let way : Way asked mode text (placed 8 (chosen_nodes choice total)) 0 total number bytes =
+    let way : Way asked mode text (placed_nodes 8 (chosen_nodes choice total)) 0 total number bytes =
     way-levels total asked choice mode text 8 0 total [] 8 number bytes (omega arith) refl accepted.good there in
     record {
       steps = way.steps;

@@ -6,11 +6,11 @@ use Rattle.std.proofs.lemmas.Nat.{leading_length, ones_le_self, xor_lt}
 use Rattle.b3tree.specs.Tree.{left_len}
 use Rattle.bao_text.specs.declared.choice.Choice.{Choice}
 use Rattle.bao_text.specs.Choice.{chunk_count, wants}
-use Rattle.bao_text.specs.Nodes.{TreeNode, Side, left, placed, right, subtree_nodes, subtree_size}
+use Rattle.bao_text.specs.Nodes.{TreeNode, Side, left, placed_nodes, right, subtree_nodes, subtree_size}
 use Rattle.bao_text.proofs.Everything.{chunk_part}
 use Rattle.bao_text.proofs.SubtreeNodes.{subtree_nodes-leaf, subtree_nodes-parent, subtree_nodes-unwanted}
 use Rattle.bao_check.specs.Parents.{parent_place}
-use Rattle.bao_check.specs.Spans.{Counts, HasDigits, bytes_before, chunk_place, first_of}
+use Rattle.bao_check.specs.Spans.{Counts, HasDigits, bytes_before, chunk_place, first_wanted}
 use Rattle.bao_check.proofs.Digits.{Halves, all_low, apart, far_sum, few_digits, halves, low_digits, ones_above, ones_power, ones_zero, same_digits, split, together, zeros_whole}
 use Rattle.bao_check.proofs.Lists.{nodes_size}
 use Rattle.bao_check.proofs.Locating.{chunk_place-far, chunk_place-leaf, chunk_place-near}
@@ -44,10 +44,10 @@ Sized choice number n sides source h d =
     nodes_size (subtree_nodes choice number n sides source) + 64 + 64 * d ≡ chunk_part choice (1024 * (h - d)) + 64 * h + 64 * ones d
 
 size_past : (levels : ℕ) (choice : Choice) (number n : ℕ) (sides : List Side) (source : ℕ) → n ≡ 1024 * 2 ^ levels → 1024 * number + n ≤ choice.end
-    → wants choice (1024 * number) n ≡ false → Sized choice number n sides source (2 ^ levels) (min (first_of choice number) (2 ^ levels))
+    → wants choice (1024 * number) n ≡ false → Sized choice number n sides source (2 ^ levels) (min (first_wanted choice number) (2 ^ levels))
 size_past levels choice number n sides source size end skipped =
     let h : ℕ = 2 ^ levels in
-    let d : ℕ = min (first_of choice number) h in
+    let d : ℕ = min (first_wanted choice number) h in
     let some : 0 < h = pow_pos levels in
     let start : 1024 * number + n ≤ choice.start = past choice number n (omega arith) (omega arith) skipped in
     let all : d ≡ h = omega (arith, start, size) in
@@ -57,11 +57,11 @@ size_past levels choice number n sides source size end skipped =
     omega (arith, none, count, part, all)
 
 size_chunk : (choice : Choice) (number n : ℕ) (sides : List Side) (source : ℕ) → n ≡ 1024 * 2 ^ zero → 1024 * number + n ≤ choice.end
-    → Sized choice number n sides source (2 ^ zero) (min (first_of choice number) (2 ^ zero))
+    → Sized choice number n sides source (2 ^ zero) (min (first_wanted choice number) (2 ^ zero))
 size_chunk choice number n sides source size end = elim (cases_Bool (wants choice (1024 * number) n)) [
   | inr skipped ↦ size_past zero choice number n sides source size end skipped
   | inl wanted ↦
-      let d : ℕ = min (first_of choice number) (2 ^ zero) in
+      let d : ℕ = min (first_wanted choice number) (2 ^ zero) in
       let meets : Meets choice (1024 * number) n = Meets-from_wants choice (1024 * number) n wanted in
       let after : choice.start < 1024 * number + max n 1 = meets.after in
       let first : d ≡ 0 = omega (arith, after, size) in
@@ -102,7 +102,7 @@ halves_sum choice levels a near far below in_near in_far =
     ]
 
 size_from : (levels : ℕ) (choice : Choice) (number n : ℕ) (sides : List Side) (source : ℕ) → n ≡ 1024 * 2 ^ levels → 1024 * number + n ≤ choice.end
-    → Sized choice number n sides source (2 ^ levels) (min (first_of choice number) (2 ^ levels))
+    → Sized choice number n sides source (2 ^ levels) (min (first_wanted choice number) (2 ^ levels))
 size_from zero choice number n sides source size end = size_chunk choice number n sides source size end
 size_from (suc levels) choice number n sides source size end = elim (cases_Bool (wants choice (1024 * number) n)) [
   | inr skipped ↦ size_past (suc levels) choice number n sides source size end skipped
@@ -113,12 +113,12 @@ size_from (suc levels) choice number n sides source size end = elim (cases_Bool 
       let l : left_len n ≡ 1024 * h = ap left_len twice ∙ left_len-double h (levels, refl) in
       let m : left_len n / 1024 ≡ h = omega arith in
       let more : 1024 < n = omega arith in
-      let a : ℕ = first_of choice number in
+      let a : ℕ = first_wanted choice number in
       let near : List TreeNode = subtree_nodes choice number (left_len n) (sides ++ left ∷ []) (source + 64) in
       let far : List TreeNode = subtree_nodes choice (number + left_len n / 1024) (n - left_len n) (sides ++ right ∷ []) (source + 64 + subtree_size (left_len n)) in
       let in_near = size_from levels choice number (left_len n) (sides ++ left ∷ []) (source + 64) l (omega arith) in
       let in_far = size_from levels choice (number + left_len n / 1024) (n - left_len n) (sides ++ right ∷ []) (source + 64 + subtree_size (left_len n)) (omega (arith, l, twice)) (omega (arith, l, m)) in
-      let shifted : first_of choice (number + left_len n / 1024) ≡ a - h = omega (arith, m) in
+      let shifted : first_wanted choice (number + left_len n / 1024) ≡ a - h = omega (arith, m) in
       let far_shifted = subst (λ (b : ℕ). nodes_size far + 64 + 64 * min b h ≡ chunk_part choice (1024 * (h - min b h)) + 64 * h + 64 * ones (min b h)) shifted in_far in
       let all : nodes_size (subtree_nodes choice number n sides source) ≡ 64 + (nodes_size near + nodes_size far) =
       ap nodes_size (subtree_nodes-parent choice number n sides source wanted more) ∙ nodes_size-parent number n sides source near far in
@@ -201,13 +201,13 @@ around choice number n k len meets fits =
 -- the place of what stands in the right part
 far_place : (choice : Choice) (number n : ℕ) (sides : List Side) (source at j p : ℕ) (more : 1024 < n) → 1024 * number + left_len n ≤ choice.end
     → at + 64 + nodes_size (subtree_nodes choice number (left_len n) (sides ++ left ∷ []) (source + 64)) + bytes_before choice (number + left_len n / 1024) j + 64 * p
-    ≡ at + bytes_before choice number (2 ^ (halves n more).high + j) + 64 * (2 ^ (halves n more).high + ones (min (first_of choice number) (2 ^ (halves n more).high)) - min (first_of choice number) (2 ^ (halves n more).high) + p)
+    ≡ at + bytes_before choice number (2 ^ (halves n more).high + j) + 64 * (2 ^ (halves n more).high + ones (min (first_wanted choice number) (2 ^ (halves n more).high)) - min (first_wanted choice number) (2 ^ (halves n more).high) + p)
 far_place choice number n sides source at j p more end =
     let hs : Halves n = halves n more in
     let h : ℕ = 2 ^ hs.high in
-    let a : ℕ = first_of choice number in
+    let a : ℕ = first_wanted choice number in
     let d : ℕ = min a h in
-    let b : ℕ = min (first_of choice (number + left_len n / 1024)) j in
+    let b : ℕ = min (first_wanted choice (number + left_len n / 1024)) j in
     let size = size_from hs.high choice number (left_len n) (sides ++ left ∷ []) (source + 64) hs.left_is end in
     let part : chunk_part choice (1024 * (h - d)) + chunk_part choice (1024 * (j - b)) ≡ chunk_part choice (1024 * (h + j - min a (h + j))) =
     part_sum choice (1024 * (h - d)) (1024 * (j - b)) ∙ ap (chunk_part choice) (omega (arith, hs.middle)) in
@@ -216,11 +216,11 @@ far_place choice number n sides source at j p more end =
 -- chunk k stands after so many parents
 abbrev pub Stands : Choice → ℕ → ℕ → List Side → ℕ → ℕ → ℕ → ℕ → Type 0
 Stands choice number n sides source at k p =
-    chunk_place (placed at (subtree_nodes choice number n sides source)) (number + k)
+    chunk_place (placed_nodes at (subtree_nodes choice number n sides source)) (number + k)
     ≡ Some (record { at = at + bytes_before choice number k + 64 * p; len = min 1024 (n - 1024 * k) })
 
 abbrev pub ChunkStands : Choice → ℕ → ℕ → List Side → ℕ → ℕ → ℕ → ℕ → Type 0
-ChunkStands choice number n sides source at t k = (p : ℕ) × Few n k t (min (first_of choice number) k) p × Stands choice number n sides source at k p
+ChunkStands choice number n sides source at t k = (p : ℕ) × Few n k t (min (first_wanted choice number) k) p × Stands choice number n sides source at k p
 
 chunk_alone : (choice : Choice) (number n : ℕ) (sides : List Side) (source at k t : ℕ) → n ≤ 1024 → choice.chunks ≡ true
     → k < chunk_count n → Meets choice (1024 * (number + k)) (min 1024 (n - 1024 * k)) → HasDigits (bit_xor (chunk_count n - 1) k) t
@@ -231,7 +231,7 @@ chunk_alone choice number n sides source at k t one there below meets digits =
     let zero_digits : HasDigits 0 t = subst (λ (x : ℕ). HasDigits x t) (λ i. bit_xor (last i) (none i)) digits in
     let no_digits : t ≡ 0 = same_digits 0 t 0 zero_digits (omega arith, omega arith) in
     let low : ones (k % 2 ^ t) ≡ 0 = ap ones (ap (λ (x : ℕ). x % 2 ^ t) none ∙ all_low 0 t (pow_pos t)) ∙ ones_zero in
-    let first : ones (min (first_of choice number) k) ≡ 0 = ap ones {y = 0} (omega (arith, none)) ∙ ones_zero in
+    let first : ones (min (first_wanted choice number) k) ≡ 0 = ap ones {y = 0} (omega (arith, none)) ∙ ones_zero in
     let wanted : wants choice (1024 * number) n ≡ true = around choice number n k (min 1024 (n - 1024 * k)) meets (omega (arith, none)) in
     let same : number + k ≡ number = omega (arith, none) in
     let part : bytes_before choice number k ≡ 0 = ap (chunk_part choice) {y = 0} (omega (arith, none)) ∙ part_zero choice in
@@ -239,7 +239,7 @@ chunk_alone choice number n sides source at k t one there below meets digits =
     let len : n ≡ min 1024 (n - 1024 * k) = omega (arith, none) in (
       0,
       (omega (arith, low, first, no_digits, none), omega arith),
-      ap (chunk_place (placed at (subtree_nodes choice number n sides source))) same
+      ap (chunk_place (placed_nodes at (subtree_nodes choice number n sides source))) same
           ∙ chunk_place-leaf choice number n sides source at wanted one there
           ∙ (λ i. Some (record { at = place i; len = len i })),
     )
@@ -264,14 +264,14 @@ chunk_stands (suc levels) choice number n sides source at k t bound there below 
             let ih = chunk_stands levels choice number l (sides ++ left ∷ []) (source + 64) (at + 64) k found.0 (omega (arith, hs.left_is, hs.below)) there (omega (arith, hs.near_count)) near_meets (found.2, found.3) in
             let place : at + 64 + bytes_before choice number k + 64 * ih.0 ≡ at + bytes_before choice number k + 64 * suc ih.0 = omega arith in (
               suc ih.0,
-              counts_near n k t (min (first_of choice number) k) ih.0 more near digits found.0 (found.2, found.3) ih.1,
+              counts_near n k t (min (first_wanted choice number) k) ih.0 more near digits found.0 (found.2, found.3) ih.1,
               chunk_place-near choice number n sides source at (number + k) wanted more (omega (arith, hs.middle))
                   ∙ ih.2 ∙ (λ i. Some (record { at = place i; len = len i })),
             )
         | inr far ↦
             let j : ℕ = k - h in
             let is : h + j ≡ k = omega arith in
-            let a : ℕ = first_of choice number in
+            let a : ℕ = first_wanted choice number in
             let within : j < chunk_count (n - l) = omega (arith, hs.count) in
             let at_far : ℕ = at + 64 + nodes_size (subtree_nodes choice number l (sides ++ left ∷ []) (source + 64)) in
             let far_given : HasDigits (bit_xor (chunk_count n - 1) (h + j)) t = subst (λ (x : ℕ). HasDigits (bit_xor (chunk_count n - 1) x) t) (sym is) digits in
@@ -280,7 +280,7 @@ chunk_stands (suc levels) choice number n sides source at k t bound there below 
             let far_meets : Meets choice (1024 * (number + l / 1024 + j)) (min 1024 (n - l - 1024 * j)) = subst (λ (x : ℕ). Meets choice (1024 * x) (min 1024 (n - l - 1024 * j))) same (subst (Meets choice (1024 * (number + k))) len meets) in
             let ih = chunk_stands levels choice (number + l / 1024) (n - l) (sides ++ right ∷ []) (source + 64 + subtree_size l) at_far j t (omega (arith, hs.left_is, hs.some)) there within far_meets
             (far_digits n j t a 0 more within far_given) in
-            let shifted : first_of choice (number + l / 1024) ≡ a - h = omega (arith, hs.middle) in
+            let shifted : first_wanted choice (number + l / 1024) ≡ a - h = omega (arith, hs.middle) in
             let counted = subst (λ (b : ℕ). Few (n - l) j t (min b j) ih.0) shifted ih.1 in
             let before : 1024 * (number + k) < choice.end = meets.before in
             let end : 1024 * number + l ≤ choice.end = omega (arith, hs.left_is, before) in
@@ -291,7 +291,7 @@ chunk_stands (suc levels) choice number n sides source at k t bound there below 
               far_parents n j t a ih.0 more within far_given,
               counts_far n j t a ih.0 more within far_given counted,
               chunk_place-far choice number n sides source at (number + (h + j)) wanted more (omega (arith, hs.middle))
-                  ∙ ap (chunk_place (placed at_far (subtree_nodes choice (number + l / 1024) (n - l) (sides ++ right ∷ []) (source + 64 + subtree_size l)))) far_same
+                  ∙ ap (chunk_place (placed_nodes at_far (subtree_nodes choice (number + l / 1024) (n - l) (sides ++ right ∷ []) (source + 64 + subtree_size l)))) far_same
                   ∙ ih.2 ∙ (λ i. Some (record { at = place i; len = far_len i })),
             )
       ]
@@ -304,10 +304,10 @@ below_power (suc j) = let ih : j < 2 ^ j = below_power j in omega (arith, ih)
 -- The parent whose right part begins at chunk s + 2 ^ j stands after so many parents, where its subtree begins with chunk s.
 abbrev pub ParentPlace : Choice → ℕ → ℕ → List Side → ℕ → ℕ → ℕ → ℕ → ℕ → Type 0
 ParentPlace choice number n sides source at j s p =
-    parent_place (placed at (subtree_nodes choice number n sides source)) (number + (s + 2 ^ j)) ≡ Some (at + bytes_before choice number s + 64 * p)
+    parent_place (placed_nodes at (subtree_nodes choice number n sides source)) (number + (s + 2 ^ j)) ≡ Some (at + bytes_before choice number s + 64 * p)
 
 abbrev pub ParentStands : Choice → ℕ → ℕ → List Side → ℕ → ℕ → ℕ → ℕ → ℕ → Type 0
-ParentStands choice number n sides source at t j s = (p : ℕ) × Few n s t (min (first_of choice number) s) (p + suc j) × ParentPlace choice number n sides source at j s p
+ParentStands choice number n sides source at t j s = (p : ℕ) × Few n s t (min (first_wanted choice number) s) (p + suc j) × ParentPlace choice number n sides source at j s p
 
 -- how many bytes of a subtree of n bytes the parent's subtree has
 abbrev pub parent_len : ℕ → ℕ → ℕ → ℕ
@@ -322,7 +322,7 @@ parent_own choice number n sides source at j s t more wanted own none digits =
     let power : 2 ^ j ≡ 2 ^ hs.high = ap (λ (e : ℕ). 2 ^ e) own in
     let top : t ≡ suc hs.high = apart hs.high (chunk_count n - 1) s r t (omega (arith, hs.count)) (omega (arith, hs.few, hs.some)) (omega (arith, hs.some, none)) digits in
     let low : ones (s % 2 ^ t) ≡ 0 = ap ones (ap (λ (x : ℕ). x % 2 ^ t) none ∙ all_low 0 t (pow_pos t)) ∙ ones_zero in
-    let first : ones (min (first_of choice number) s) ≡ 0 = ap ones {y = 0} (omega (arith, none)) ∙ ones_zero in
+    let first : ones (min (first_wanted choice number) s) ≡ 0 = ap ones {y = 0} (omega (arith, none)) ∙ ones_zero in
     let part : bytes_before choice number s ≡ 0 = ap (chunk_part choice) {y = 0} (omega (arith, none)) ∙ part_zero choice in
     let place : at ≡ at + bytes_before choice number s + 64 * 0 = omega (arith, part) in
     let small : hs.high < 2 ^ hs.high = below_power hs.high in (
@@ -354,10 +354,10 @@ parent_stands (suc levels) choice number n sides source at j q t bound below mee
             let near_meets = subst (Meets choice (1024 * (number + s))) len meets in
             let ih = parent_stands levels choice number l (sides ++ left ∷ []) (source + 64) (at + 64) j q found.0 (omega (arith, hs.left_is, hs.below)) (omega (arith, hs.near_count, near.0)) near_meets (found.2, found.3) in
             let place : at + 64 + bytes_before choice number s + 64 * ih.0 ≡ at + bytes_before choice number s + 64 * suc ih.0 = omega arith in
-            let counted = counts_near n s t (min (first_of choice number) s) (ih.0 + suc j) more before digits found.0 (found.2, found.3) ih.1 in
+            let counted = counts_near n s t (min (first_wanted choice number) s) (ih.0 + suc j) more before digits found.0 (found.2, found.3) ih.1 in
             let turned : suc (ih.0 + suc j) ≡ suc ih.0 + suc j = omega arith in (
               suc ih.0,
-              subst (Few n s t (min (first_of choice number) s)) turned counted,
+              subst (Few n s t (min (first_wanted choice number) s)) turned counted,
               parent_place-near choice number n sides source at (number + (s + 2 ^ j)) wanted more (omega (arith, hs.middle, near.0))
                   ∙ ih.2 ∙ (λ i. Some (place i)),
             )
@@ -366,7 +366,7 @@ parent_stands (suc levels) choice number n sides source at j q t bound below mee
             let r : ℕ = far.0 in
             let s_far : ℕ = 2 ^ suc j * r in
             let is : s ≡ h + s_far = far.1 in
-            let a : ℕ = first_of choice number in
+            let a : ℕ = first_wanted choice number in
             let far_below : s_far + 2 ^ j < chunk_count (n - l) = omega (arith, hs.count, is, below) in
             let within : s_far < chunk_count (n - l) = omega (arith, far_below) in
             let at_far : ℕ = at + 64 + nodes_size (subtree_nodes choice number l (sides ++ left ∷ []) (source + 64)) in
@@ -376,7 +376,7 @@ parent_stands (suc levels) choice number n sides source at j q t bound below mee
             let far_meets : Meets choice (1024 * (number + l / 1024 + s_far)) (parent_len (n - l) j s_far) = subst (λ (x : ℕ). Meets choice (1024 * x) (parent_len (n - l) j s_far)) same (subst (Meets choice (1024 * (number + s))) len meets) in
             let ih = parent_stands levels choice (number + l / 1024) (n - l) (sides ++ right ∷ []) (source + 64 + subtree_size l) at_far j r t (omega (arith, hs.left_is, hs.some)) far_below far_meets
             (far_digits n s_far t a 0 more within far_given) in
-            let shifted : first_of choice (number + l / 1024) ≡ a - h = omega (arith, hs.middle) in
+            let shifted : first_wanted choice (number + l / 1024) ≡ a - h = omega (arith, hs.middle) in
             let counted = subst (λ (b : ℕ). Few (n - l) s_far t (min b s_far) (ih.0 + suc j)) shifted ih.1 in
             let before : 1024 * (number + s) < choice.end = meets.before in
             let end : 1024 * number + l ≤ choice.end = omega (arith, hs.left_is, before, is) in
@@ -388,7 +388,7 @@ parent_stands (suc levels) choice number n sides source at j q t bound below mee
               parents,
               subst (Few n (h + s_far) t (min a (h + s_far))) turned (counts_far n s_far t a (ih.0 + suc j) more within far_given counted),
               parent_place-far choice number n sides source at (number + (h + s_far + 2 ^ j)) wanted more (omega (arith, hs.middle, some))
-                  ∙ ap (parent_place (placed at_far (subtree_nodes choice (number + l / 1024) (n - l) (sides ++ right ∷ []) (source + 64 + subtree_size l)))) far_same
+                  ∙ ap (parent_place (placed_nodes at_far (subtree_nodes choice (number + l / 1024) (n - l) (sides ++ right ∷ []) (source + 64 + subtree_size l)))) far_same
                   ∙ ih.2 ∙ (λ i. Some (place i)),
             )
       ]
@@ -397,7 +397,7 @@ parent_stands (suc levels) choice number n sides source at j q t bound below mee
 -- an encoding lacks a parent whose subtree it doesn't want
 pub parent_lacks : (levels : ℕ) (choice : Choice) (number n : ℕ) (sides : List Side) (source at j q : ℕ) → n ≤ 1024 * levels + 1024
     → 2 ^ suc j * q + 2 ^ j < chunk_count n → wants choice (1024 * (number + 2 ^ suc j * q)) (parent_len n j (2 ^ suc j * q)) ≡ false
-    → parent_place (placed at (subtree_nodes choice number n sides source)) (number + (2 ^ suc j * q + 2 ^ j)) ≡ None
+    → parent_place (placed_nodes at (subtree_nodes choice number n sides source)) (number + (2 ^ suc j * q + 2 ^ j)) ≡ None
 parent_lacks zero choice number n sides source at j q bound below skipped = let some : 0 < 2 ^ j = pow_pos j in absurd (omega (arith, below))
 parent_lacks (suc levels) choice number n sides source at j q bound below skipped = elim (cases_lt 1024 n) [
   | inr one ↦ let some : 0 < 2 ^ j = pow_pos j in absurd (omega (arith, below))
@@ -435,7 +435,7 @@ parent_lacks (suc levels) choice number n sides source at j q bound below skippe
                   ((λ i. wants choice (1024 * same i) (len i)) ∙ skipped) in
                   let far_same : number + (s + 2 ^ j) ≡ number + l / 1024 + (s_far + 2 ^ j) = omega (arith, hs.middle, is) in
                   parent_place-far choice number n sides source at (number + (s + 2 ^ j)) wanted more (omega (arith, hs.middle, some, is))
-                  ∙ ap (parent_place (placed at_far (subtree_nodes choice (number + l / 1024) (n - l) (sides ++ right ∷ []) (source + 64 + subtree_size l)))) far_same
+                  ∙ ap (parent_place (placed_nodes at_far (subtree_nodes choice (number + l / 1024) (n - l) (sides ++ right ∷ []) (source + 64 + subtree_size l)))) far_same
                   ∙ ih
             ]
       ]

@@ -24,7 +24,7 @@ use Rattle.bao_check.specs.declared.part.Part.{Part}
 use Rattle.bao_check.specs.Accepted.{part_value, slice_nodes}
 use Rattle.bao_check.specs.Checking.{IsNodeFault}
 use Rattle.bao_check.specs.Subtree.{PassesIn, StopsIn}
-use Rattle.bao_check.specs.Waiting.{AllPass, AllStop, AreParts, FirstPass, FirstStop, HasRefused, HasTaken, IsBefore, IsAcceptedAs, IsFaultAs, Task, WaitsIn, last_part, next_size, part_size, shape}
+use Rattle.bao_check.specs.Waiting.{AllPass, AllStop, AreParts, FirstPass, FirstStop, HasRefused, HasTaken, IsBefore, IsAcceptedAs, IsFaultAs, CheckTask, WaitsIn, last_part, next_size, part_size, shape}
 use Rattle.bao_check.specs.Walk.{Grows, Meets, Passes, Stops, asked_root}
 use Rattle.bao_check.proofs.Parts.{below}
 use Rattle.bao_check.proofs.Laws.{first_fault-not_accepted}
@@ -271,7 +271,7 @@ parent_taken_from mode choice before rest middle after part node near far is wan
     }
 
 -- what is known after a node, from what was known before it
-pub WaitsIn-taken : (task : Task) (choice : Choice) (before after : List Part) (taken node : List ℕ) → HasTaken task.mode choice before after node
+pub WaitsIn-taken : (task : CheckTask) (choice : Choice) (before after : List Part) (taken node : List ℕ) → HasTaken task.mode choice before after node
     → ((more : List ℕ) → WaitsIn task choice before (taken ++ more) (length taken))
     → (more : List ℕ) → WaitsIn task choice after ((taken ++ node) ++ more) (length (taken ++ node))
 WaitsIn-taken task choice before after taken node step waits more =
@@ -374,11 +374,11 @@ none_waits (x ∷ xs) none =
     let e : last_part (x ∷ xs) ≡ Some _ = slice_get-get_or (x ∷ xs) i x (omega arith) in
     absurd (not_both (sym (ap (λ (o : Option Part). is_some (option_map part_size o)) e) ∙ none))
 
-pub waits_accepted : (task : Task) (choice : Choice) (parts : List Part) (text : List ℕ) (at : ℕ) → IsNone (next_size parts) → WaitsIn task choice parts text at → length text ≤ at → IsAcceptedAs task text
+pub waits_accepted : (task : CheckTask) (choice : Choice) (parts : List Part) (text : List ℕ) (at : ℕ) → IsNone (next_size parts) → WaitsIn task choice parts text at → length text ≤ at → IsAcceptedAs task text
 waits_accepted task choice parts text at none w all =
     w.accepted at (subst (λ (ps : List Part). AllPass task.mode choice ps text at at) (sym (none_waits parts none)) refl) all
 
-pub waits_trailing : (task : Task) (choice : Choice) (parts : List Part) (text : List ℕ) (at : ℕ) → IsNone (next_size parts) → WaitsIn task choice parts text at → at < length text
+pub waits_trailing : (task : CheckTask) (choice : Choice) (parts : List Part) (text : List ℕ) (at : ℕ) → IsNone (next_size parts) → WaitsIn task choice parts text at → at < length text
     → IsFaultAs task text (Trailing at)
 waits_trailing task choice parts text at none w less =
     w.trailing at (subst (λ (ps : List Part). AllPass task.mode choice ps text at at) (sym (none_waits parts none)) refl) less
@@ -391,7 +391,7 @@ part_short mode choice parts part n taken more first there less = elim (cases_lt
   | inr one ↦ chunk_short part.asked mode choice part.number part.len taken more [] first.wanted there one (omega (arith, less, first.chunk one)) refl
 ]
 
-pub waits_short : (task : Task) (choice : Choice) (parts : List Part) (taken more : List ℕ) (n : ℕ) → AreParts choice parts → choice.chunks ≡ true → next_size parts ≡ Some n → length more < n
+pub waits_short : (task : CheckTask) (choice : Choice) (parts : List Part) (taken more : List ℕ) (n : ℕ) → AreParts choice parts → choice.chunks ≡ true → next_size parts ≡ Some n → length more < n
     → WaitsIn task choice parts (taken ++ more) (length taken) → IsFaultAs task (taken ++ more) (Short (length taken))
 waits_short task choice parts taken more n all there next less w =
     let found = size_of_some (last_part parts) n next in
@@ -414,7 +414,7 @@ none_or None h = refl
 none_or (Some n) h = absurd (h n refl)
 
 -- nothing comes after an accepted encoding
-pub accepted_done : (task : Task) (choice : Choice) (parts : List Part) (taken : List ℕ) → AreParts choice parts → choice.chunks ≡ true
+pub accepted_done : (task : CheckTask) (choice : Choice) (parts : List Part) (taken : List ℕ) → AreParts choice parts → choice.chunks ≡ true
     → ((more : List ℕ) → WaitsIn task choice parts (taken ++ more) (length taken)) → IsAcceptedAs task taken → IsNone (next_size parts)
 accepted_done task choice parts taken all there waits accepted =
     none_or (next_size parts) (λ n next.
@@ -427,7 +427,7 @@ accepted_done task choice parts taken all there waits accepted =
 -- what is known once the length is there
 module _ (mode : Mode) (root : List ℕ) (start len total : ℕ) (choice : Choice) (asked : Asked) (parts : List Part) (header more : List ℕ) (size : length header ≡ 8)
     (is : total ≡ claimed header) (chosen : choice ≡ of_slice total start len) (asks : asked ≡ asked_root root) where
-  abbrev own_task : Task
+  abbrev own_task : CheckTask
   own_task = record { mode = mode; root = root; start = start; len = len }
 
   long : 8 ≤ length (header ++ more)
@@ -483,19 +483,19 @@ module _ (mode : Mode) (root : List ℕ) (start len total : ℕ) (choice : Choic
         (subst (λ (T : Type 0). T) (λ i. StopsIn asked mode choice 0 (sym empty i) (bare_text i) (size i) (Mismatch (size i))) stop)
 
 -- the length is the first that is taken
-pub begun_taken : (said task : Task) (choice : Choice) (parts : List Part) (taken node : List ℕ) → said ≡ task → taken ≡ [] → length node ≡ 8
+pub begun_taken : (said task : CheckTask) (choice : Choice) (parts : List Part) (taken node : List ℕ) → said ≡ task → taken ≡ [] → length node ≡ 8
     → ((more : List ℕ) → WaitsIn said choice parts (node ++ more) 8) → (more : List ℕ) → WaitsIn task choice parts ((taken ++ node) ++ more) (length (taken ++ node))
 begun_taken said task choice parts taken node same none len waits more =
     subst (λ (s : List ℕ). WaitsIn task choice parts ((s ++ node) ++ more) (length (s ++ node))) (sym none)
-    (subst (λ (k : ℕ). WaitsIn task choice parts (node ++ more) k) (sym len) (subst (λ (t : Task). WaitsIn t choice parts (node ++ more) 8) same (waits more)))
+    (subst (λ (k : ℕ). WaitsIn task choice parts (node ++ more) k) (sym len) (subst (λ (t : CheckTask). WaitsIn t choice parts (node ++ more) 8) same (waits more)))
 
-pub begun_fault : (said task : Task) (taken node : List ℕ) (fault : CheckFault) → said ≡ task → taken ≡ []
+pub begun_fault : (said task : CheckTask) (taken node : List ℕ) (fault : CheckFault) → said ≡ task → taken ≡ []
     → ((more : List ℕ) → IsFaultAs said (node ++ more) fault) → (more : List ℕ) → IsFaultAs task ((taken ++ node) ++ more) fault
 begun_fault said task taken node fault same none faults more =
-    subst (λ (s : List ℕ). IsFaultAs task ((s ++ node) ++ more) fault) (sym none) (subst (λ (t : Task). IsFaultAs t (node ++ more) fault) same (faults more))
+    subst (λ (s : List ℕ). IsFaultAs task ((s ++ node) ++ more) fault) (sym none) (subst (λ (t : CheckTask). IsFaultAs t (node ++ more) fault) same (faults more))
 
 -- a node refused is the first fault, by what was known
-pub refused_fault : (task : Task) (choice : Choice) (parts : List Part) (at : ℕ) (taken node : List ℕ) (fault : CheckFault) → HasRefused task.mode choice parts at node fault → at ≡ length taken
+pub refused_fault : (task : CheckTask) (choice : Choice) (parts : List Part) (at : ℕ) (taken node : List ℕ) (fault : CheckFault) → HasRefused task.mode choice parts at node fault → at ≡ length taken
     → ((more : List ℕ) → WaitsIn task choice parts (taken ++ more) (length taken)) → (more : List ℕ) → IsFaultAs task ((taken ++ node) ++ more) fault
 refused_fault task choice parts at taken node fault refused at_is waits more =
     (subst (λ (s : List ℕ). WaitsIn task choice parts s (length taken)) (sym (append_assoc taken node more)) (waits (node ++ more))).stopped fault (refused.stops taken more at_is)
@@ -541,9 +541,9 @@ each_size None P h = tt
 each_size (Some n) P h = h n refl
 
 -- a node that hasn't its value: why it isn't taken
-pub node_fault : (task : Task) (text : List ℕ) (at : ℕ) (fault : CheckFault) → fault ≡ Mismatch at → ((more : List ℕ) → IsFaultAs task (text ++ more) fault) → IsNodeFault task text fault
+pub node_fault : (task : CheckTask) (text : List ℕ) (at : ℕ) (fault : CheckFault) → fault ≡ Mismatch at → ((more : List ℕ) → IsFaultAs task (text ++ more) fault) → IsNodeFault task text fault
 node_fault task text at fault is faults = subst (IsNodeFault task text) (sym is) (λ more. subst (λ (f : CheckFault). IsFaultAs task (text ++ more) f) is (faults more))
 
-pub node_refused : (task : Task) (text : List ℕ) (fault : CheckFault) → ((more : List ℕ) → IsFaultAs task (text ++ more) fault) → (more : List ℕ) → ¬ IsAcceptedAs task (text ++ more)
+pub node_refused : (task : CheckTask) (text : List ℕ) (fault : CheckFault) → ((more : List ℕ) → IsFaultAs task (text ++ more) fault) → (more : List ℕ) → ¬ IsAcceptedAs task (text ++ more)
 node_refused task text fault faults more accepted =
     first_fault-not_accepted task.mode task.root (text ++ more) (slice_nodes (text ++ more) task.start task.len) fault (faults more) accepted

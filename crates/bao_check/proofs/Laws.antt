@@ -7,7 +7,7 @@ use Rattle.bao_text.specs.Cut.{claimed}
 use Rattle.bao_text.specs.Nodes.{TreeNode}
 use Rattle.bao_check.specs.declared.fault.CheckFault.{CheckFault}
 use Rattle.bao_check.specs.declared.fault.CheckFault.TheVariants.{Short, Mismatch, Trailing, Memory, Reader}
-use Rattle.bao_check.specs.Accepted.{IsAccepted, IsGood, places_of, slice_nodes}
+use Rattle.bao_check.specs.Accepted.{IsAccepted, IsGoodNode, places_of, slice_nodes}
 use Rattle.bao_check.specs.Certificate.{Certificate}
 use Rattle.bao_check.specs.Faults.{IsFirstBad, IsFirstFault}
 use Rattle.bao_check.specs.Inputs.{blob_inputs, certificate_inputs, text_inputs}
@@ -44,7 +44,7 @@ written_accepted mode blob keyed bound = (
 -- an accepted encoding has no node that isn't good
 no_first_bad : (mode : Mode) (root text : List ℕ) (nodes : List TreeNode) (place : ℕ × TreeNode) → IsFirstBad mode root text (places_of nodes) place → IsAccepted mode root text nodes → ⊥
 no_first_bad mode root text nodes place bad accepted =
-    let P : ℕ × TreeNode → Type 0 = IsGood mode root text (places_of nodes) in
+    let P : ℕ × TreeNode → Type 0 = IsGoodNode mode root text (places_of nodes) in
     let all : AllByRecursion P (bad.earlier ++ place ∷ bad.later) = subst (AllByRecursion P) bad.split accepted.good in
     bad.bad (All-second P bad.earlier (place ∷ bad.later) all).0
 

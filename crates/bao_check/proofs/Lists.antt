@@ -2,7 +2,7 @@
 use Rattle.std.proofs.Common.{◌≡◌, ◌⊎◌, ℕ, zero, suc, ◌+◌, List, [], ◌∷◌, ◌++◌, refl, sym, ap, subst, ◌∙◌, arith, inl, inr, sum_by}
 use Rattle.std.specs.List.{AllByRecursion, Contains}
 use Rattle.std.proofs.lemmas.List.Sums.{sum_by-append}
-use Rattle.bao_text.specs.Nodes.{TreeNode, placed, size}
+use Rattle.bao_text.specs.Nodes.{TreeNode, placed_nodes, size}
 
 pub Contains-head : {X : Type 0} (xs : List X) (x : X) → Contains (x ∷ xs) x
 Contains-head xs x = (0, omega arith, refl)
@@ -44,8 +44,8 @@ nodes_size nodes = sum_by size nodes
 pub nodes_size-cons : (node : TreeNode) (nodes : List TreeNode) → nodes_size (node ∷ nodes) ≡ size node + nodes_size nodes
 nodes_size-cons node nodes = sum_by-append size (node ∷ []) nodes ∙ omega arith
 
-pub placed-append : (at : ℕ) (xs ys : List TreeNode) → placed at (xs ++ ys) ≡ placed at xs ++ placed (at + nodes_size xs) ys
-placed-append at [] ys = let e : at ≡ at + 0 = omega arith in ap (λ (k : ℕ). placed k ys) e
-placed-append at (x ∷ xs) ys =
+pub placed_nodes-append : (at : ℕ) (xs ys : List TreeNode) → placed_nodes at (xs ++ ys) ≡ placed_nodes at xs ++ placed_nodes (at + nodes_size xs) ys
+placed_nodes-append at [] ys = let e : at ≡ at + 0 = omega arith in ap (λ (k : ℕ). placed_nodes k ys) e
+placed_nodes-append at (x ∷ xs) ys =
     let e : at + size x + nodes_size xs ≡ at + nodes_size (x ∷ xs) = omega (arith, nodes_size-cons x xs) in
-    ap (λ (ps : List (ℕ × TreeNode)). (at, x) ∷ ps) (placed-append (at + size x) xs ys ∙ ap (λ (k : ℕ). placed (at + size x) xs ++ placed k ys) e)
+    ap (λ (ps : List (ℕ × TreeNode)). (at, x) ∷ ps) (placed_nodes-append (at + size x) xs ys ∙ ap (λ (k : ℕ). placed_nodes (at + size x) xs ++ placed_nodes k ys) e)

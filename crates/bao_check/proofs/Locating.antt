@@ -8,14 +8,14 @@ use Rattle.std.proofs.lemmas.Bool.Decides.{eqb_tells}
 use Rattle.b3tree.specs.Tree.{left_len}
 use Rattle.bao_text.specs.declared.choice.Choice.{Choice}
 use Rattle.bao_text.specs.Choice.{chunk_count, wants}
-use Rattle.bao_text.specs.Nodes.{TreeNode, Side, left, placed, right, size, subtree_nodes, subtree_size}
+use Rattle.bao_text.specs.Nodes.{TreeNode, Side, left, placed_nodes, right, size, subtree_nodes, subtree_size}
 use Rattle.bao_text.proofs.SubtreeNodes.{subtree_nodes-parent, subtree_nodes-unwanted}
 use Rattle.bao_text.proofs.SubtreeText.{Parts, left_len-Parts}
 use Rattle.bao_check.specs.Accepted.{end_of}
 use Rattle.bao_check.specs.Pieces.{chunk_in}
 use Rattle.bao_check.specs.Spans.{chunk_place}
 use Rattle.bao_check.proofs.Lists.{All-append, All-from_members, All-member, nodes_size}
-use Rattle.bao_check.proofs.Parts.{placed-All, placed-parent}
+use Rattle.bao_check.proofs.Parts.{placed_nodes-All, placed_nodes-parent}
 use Rattle.bao_check.proofs.Walking.{leaf_nodes, leaf_without}
 
 -- the nodes' chunk numbers lie in the subtree
@@ -113,18 +113,18 @@ chunk_place-second (x ∷ xs) ys i all = skip_place x (xs ++ ys) i all.0 ∙ chu
 
 -- chunk i in a subtree of more than one chunk: in its left part, or in its right part
 others_left : (choice : Choice) (number n i at source : ℕ) (sides : List Side) → number + chunk_count n ≤ i
-    → AllByRecursion (λ place. place.1.number ≢ i) (placed at (subtree_nodes choice number n sides source))
+    → AllByRecursion (λ place. place.1.number ≢ i) (placed_nodes at (subtree_nodes choice number n sides source))
 others_left choice number n i at source sides beyond =
-    placed-All (λ node. node.number ≢ i) at (subtree_nodes choice number n sides source)
+    placed_nodes-All (λ node. node.number ≢ i) at (subtree_nodes choice number n sides source)
     (All-from_members (λ node. node.number ≢ i) (subtree_nodes choice number n sides source)
     (λ x h same.
     let w : IsWithin number (chunk_count n) x = All-member (IsWithin number (chunk_count n)) (subtree_nodes choice number n sides source) (numbers_within choice number n sides source) x h in
     let high : x.number < number + chunk_count n = w.1 in absurd (omega arith)))
 
 others_right : (choice : Choice) (number n i at source : ℕ) (sides : List Side) → i < number
-    → AllByRecursion (λ place. place.1.number ≢ i) (placed at (subtree_nodes choice number n sides source))
+    → AllByRecursion (λ place. place.1.number ≢ i) (placed_nodes at (subtree_nodes choice number n sides source))
 others_right choice number n i at source sides before =
-    placed-All (λ node. node.number ≢ i) at (subtree_nodes choice number n sides source)
+    placed_nodes-All (λ node. node.number ≢ i) at (subtree_nodes choice number n sides source)
     (All-from_members (λ node. node.number ≢ i) (subtree_nodes choice number n sides source)
     (λ x h same.
     let w : IsWithin number (chunk_count n) x = All-member (IsWithin number (chunk_count n)) (subtree_nodes choice number n sides source) (numbers_within choice number n sides source) x h in
@@ -137,37 +137,37 @@ module _ (choice : Choice) (number n : ℕ) (sides : List Side) (source at i : �
   abbrev far_nodes : List TreeNode
   far_nodes = subtree_nodes choice (number + left_len n / 1024) (n - left_len n) (sides ++ right ∷ []) (source + 64 + subtree_size (left_len n))
 
-  pub chunk_place-near : i < number + left_len n / 1024 → chunk_place (placed at (subtree_nodes choice number n sides source)) i ≡ chunk_place (placed (at + 64) near_nodes) i
+  pub chunk_place-near : i < number + left_len n / 1024 → chunk_place (placed_nodes at (subtree_nodes choice number n sides source)) i ≡ chunk_place (placed_nodes (at + 64) near_nodes) i
   chunk_place-near before =
       let far_at : ℕ = at + 64 + nodes_size near_nodes in
-      ap (λ (ps : List (ℕ × TreeNode)). chunk_place ps i) (placed-parent choice number n sides source at wanted more)
-      ∙ chunk_place-first (placed (at + 64) near_nodes) (placed far_at far_nodes) i
+      ap (λ (ps : List (ℕ × TreeNode)). chunk_place ps i) (placed_nodes-parent choice number n sides source at wanted more)
+      ∙ chunk_place-first (placed_nodes (at + 64) near_nodes) (placed_nodes far_at far_nodes) i
       (others_right choice (number + left_len n / 1024) (n - left_len n) i far_at (source + 64 + subtree_size (left_len n)) (sides ++ right ∷ []) before)
 
   pub chunk_place-far : number + left_len n / 1024 ≤ i
-      → chunk_place (placed at (subtree_nodes choice number n sides source)) i ≡ chunk_place (placed (at + 64 + nodes_size near_nodes) far_nodes) i
+      → chunk_place (placed_nodes at (subtree_nodes choice number n sides source)) i ≡ chunk_place (placed_nodes (at + 64 + nodes_size near_nodes) far_nodes) i
   chunk_place-far after =
       let far_at : ℕ = at + 64 + nodes_size near_nodes in
       let count : chunk_count (left_len n) ≡ left_len n / 1024 = count_left n more in
-      ap (λ (ps : List (ℕ × TreeNode)). chunk_place ps i) (placed-parent choice number n sides source at wanted more)
-      ∙ chunk_place-second (placed (at + 64) near_nodes) (placed far_at far_nodes) i
+      ap (λ (ps : List (ℕ × TreeNode)). chunk_place ps i) (placed_nodes-parent choice number n sides source at wanted more)
+      ∙ chunk_place-second (placed_nodes (at + 64) near_nodes) (placed_nodes far_at far_nodes) i
       (others_left choice number (left_len n) i (at + 64) (source + 64) (sides ++ left ∷ []) (omega arith))
 
 pub chunk_place-unwanted : (choice : Choice) (number n : ℕ) (sides : List Side) (source at i : ℕ) → wants choice (1024 * number) n ≡ false
-    → chunk_place (placed at (subtree_nodes choice number n sides source)) i ≡ None
+    → chunk_place (placed_nodes at (subtree_nodes choice number n sides source)) i ≡ None
 chunk_place-unwanted choice number n sides source at i skipped =
-    ap (λ (nodes : List TreeNode). chunk_place (placed at nodes) i) (subtree_nodes-unwanted choice number n sides source skipped)
+    ap (λ (nodes : List TreeNode). chunk_place (placed_nodes at nodes) i) (subtree_nodes-unwanted choice number n sides source skipped)
 
 pub chunk_place-leaf : (choice : Choice) (number n : ℕ) (sides : List Side) (source at : ℕ) → wants choice (1024 * number) n ≡ true → n ≤ 1024 → choice.chunks ≡ true
-    → chunk_place (placed at (subtree_nodes choice number n sides source)) number ≡ Some (record { at = at; len = n })
+    → chunk_place (placed_nodes at (subtree_nodes choice number n sides source)) number ≡ Some (record { at = at; len = n })
 chunk_place-leaf choice number n sides source at wanted one there =
-    ap (λ (nodes : List TreeNode). chunk_place (placed at nodes) number) (leaf_nodes choice number n sides source wanted one there) ∙ rw (same_is number) refl
+    ap (λ (nodes : List TreeNode). chunk_place (placed_nodes at nodes) number) (leaf_nodes choice number n sides source wanted one there) ∙ rw (same_is number) refl
 
 pub chunk_place-other : (choice : Choice) (number n : ℕ) (sides : List Side) (source at i : ℕ) → n ≤ 1024 → number ≢ i
-    → chunk_place (placed at (subtree_nodes choice number n sides source)) i ≡ None
+    → chunk_place (placed_nodes at (subtree_nodes choice number n sides source)) i ≡ None
 chunk_place-other choice number n sides source at i one differ =
-    chunk_place-none (placed at (subtree_nodes choice number n sides source)) i
-    (placed-All (λ node. node.number ≢ i) at (subtree_nodes choice number n sides source)
+    chunk_place-none (placed_nodes at (subtree_nodes choice number n sides source)) i
+    (placed_nodes-All (λ node. node.number ≢ i) at (subtree_nodes choice number n sides source)
     (All-from_members (λ node. node.number ≢ i) (subtree_nodes choice number n sides source)
     (λ x h same.
     let w : IsWithin number (chunk_count n) x = All-member (IsWithin number (chunk_count n)) (subtree_nodes choice number n sides source) (numbers_within choice number n sides source) x h in
@@ -175,9 +175,9 @@ chunk_place-other choice number n sides source at i one differ =
     differ (omega arith))))
 
 pub chunk_place-without : (choice : Choice) (number n : ℕ) (sides : List Side) (source at i : ℕ) → wants choice (1024 * number) n ≡ true → n ≤ 1024 → choice.chunks ≡ false
-    → chunk_place (placed at (subtree_nodes choice number n sides source)) i ≡ None
+    → chunk_place (placed_nodes at (subtree_nodes choice number n sides source)) i ≡ None
 chunk_place-without choice number n sides source at i wanted one gone =
-    ap (λ (nodes : List TreeNode). chunk_place (placed at nodes) i) (leaf_without choice number n sides source wanted one gone)
+    ap (λ (nodes : List TreeNode). chunk_place (placed_nodes at nodes) i) (leaf_without choice number n sides source wanted one gone)
 
 -- the bytes of a chunk are those at its place
 pub chunk_in-place : (text : List ℕ) (places : List (ℕ × TreeNode)) (i : ℕ) → chunk_in text places i ≡ option_map (λ span. take span.len (drop span.at text)) (chunk_place places i)

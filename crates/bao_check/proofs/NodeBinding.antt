@@ -19,13 +19,13 @@ use Rattle.b3tree.proofs.TopInput.{top_input-chunk}
 use Rattle.bao_text.specs.declared.choice.Choice.{Choice}
 use Rattle.bao_text.specs.Choice.{of_slice, wants}
 use Rattle.bao_text.specs.Cut.{claimed}
-use Rattle.bao_text.specs.Nodes.{TreeNode, Side, chosen_nodes, left, placed, right, subtree_nodes, subtree_size}
+use Rattle.bao_text.specs.Nodes.{TreeNode, Side, chosen_nodes, left, placed_nodes, right, subtree_nodes, subtree_size}
 use Rattle.bao_text.specs.Texts.{node_text, parent_text}
 use Rattle.bao_text.proofs.SubtreeNodes.{parent_node, subtree_nodes-unwanted}
 use Rattle.bao_text.proofs.SubtreeText.{Parts, left_len-Parts}
 use Rattle.bao_text.proofs.TextNodes.{length-span, span, span-left, span-right}
 use Rattle.bao_check.specs.Accepted.{IsAccepted, bytes_at, part_value, places_of, slice_nodes}
-use Rattle.bao_check.specs.Inputs.{NamesPair, is_top, marked, text_inputs, whole_chunk}
+use Rattle.bao_check.specs.Inputs.{NamesCollision, is_top, marked, text_inputs, whole_chunk}
 use Rattle.bao_check.specs.Laws.{ParentBinds}
 use Rattle.bao_check.specs.Parents.{is_parent_at, parent_in}
 use Rattle.bao_check.specs.Walk.{AreGood}
@@ -38,7 +38,7 @@ use Rattle.bao_check.proofs.Lists.{All-append, All-from_members, All-member, Con
 use Rattle.bao_check.proofs.Marked.{SameParts, same_parts}
 use Rattle.bao_check.proofs.Naming.{Named, Named-within, same_or_named}
 use Rattle.bao_check.proofs.ParentBytes.{parent_bytes}
-use Rattle.bao_check.proofs.Parts.{AreGood-split, PartsGood, placed-All, placed-parent}
+use Rattle.bao_check.proofs.Parts.{AreGood-split, PartsGood, placed_nodes-All, placed_nodes-parent}
 use Rattle.bao_check.proofs.SubtreeInputs.{blob_inputs-subtree, subtree_inputs, subtree_inputs-chunk, subtree_parent}
 use Rattle.bao_check.proofs.Walking.{chunk_node, leaf_nodes, leaf_without}
 
@@ -56,15 +56,15 @@ Good top mode choice blob text at number n sides source =
     AreGood (asked_of top (cv (marked top (top_input mode number (span blob number n))))) sides mode text at (subtree_nodes choice number n sides source)
 
 bound_none : (top : Bool) (mode : Mode) (choice : Choice) (blob s text : List ℕ) (at number n : ℕ) (sides : List Side) (source : ℕ) → subtree_nodes choice number n sides source ≡ []
-    → Bound top mode blob s number text (placed at (subtree_nodes choice number n sides source))
+    → Bound top mode blob s number text (placed_nodes at (subtree_nodes choice number n sides source))
 bound_none top mode choice blob s text at number n sides source none =
-    inl (subst (λ (nodes : List TreeNode). AreBlobs mode blob text (placed at nodes)) (sym none) tt)
+    inl (subst (λ (nodes : List TreeNode). AreBlobs mode blob text (placed_nodes at nodes)) (sym none) tt)
 
 -- a chunk alone
 bound_chunk : (top : Bool) (mode : Mode) (blob text : List ℕ) (at number n : ℕ) (sides : List Side) (source : ℕ) → top ≡ is_top sides → AreBytes blob → AreBytes text
     → n ≤ 1024 → 1024 * number + n ≤ length blob
     → AreGood (asked_of top (cv (marked top (top_input mode number (span blob number n))))) sides mode text at (chunk_node number n sides source ∷ [])
-    → Bound top mode blob (span blob number n) number text (placed at (chunk_node number n sides source ∷ []))
+    → Bound top mode blob (span blob number n) number text (placed_nodes at (chunk_node number n sides source ∷ []))
 bound_chunk top mode blob text at number n sides source top_is hb ht one fits good =
     let s : List ℕ = span blob number n in
     let bytes : List ℕ = take n (drop at text) in
@@ -78,7 +78,7 @@ bound_chunk top mode blob text at number n sides source top_is hb ht one fits go
       | inl same ↦ inl (sym same.1, tt)
       | inr named ↦
           inr (rw (subtree_inputs-chunk top mode number s small)
-          (Named-within (whole_chunk top mode number s) (whole_chunk top mode number bytes) (whole_chunk top mode number s) (text_inputs mode text (placed at (chunk_node number n sides source ∷ [])))
+          (Named-within (whole_chunk top mode number s) (whole_chunk top mode number bytes) (whole_chunk top mode number s) (text_inputs mode text (placed_nodes at (chunk_node number n sides source ∷ [])))
           (λ x h. h)
           (λ x h. Contains-append_left (whole_chunk (is_top sides) mode number bytes) [] x
           (subst (λ (t : Bool). Contains (whole_chunk t mode number bytes) x) top_is h))
@@ -87,7 +87,7 @@ bound_chunk top mode blob text at number n sides source top_is hb ht one fits go
 
 bound_small : (top : Bool) (mode : Mode) (choice : Choice) (blob text : List ℕ) (at number n : ℕ) (sides : List Side) (source : ℕ) → top ≡ is_top sides → AreBytes blob → AreBytes text
     → n ≤ 1024 → 1024 * number + n ≤ length blob → Good top mode choice blob text at number n sides source
-    → Bound top mode blob (span blob number n) number text (placed at (subtree_nodes choice number n sides source))
+    → Bound top mode blob (span blob number n) number text (placed_nodes at (subtree_nodes choice number n sides source))
 bound_small top mode choice blob text at number n sides source top_is hb ht one fits good =
     let s : List ℕ = span blob number n in
     elim (cases_Bool (wants choice (1024 * number) n)) [
@@ -97,7 +97,7 @@ bound_small top mode choice blob text at number n sides source top_is hb ht one 
             | inr without ↦ bound_none top mode choice blob s text at number n sides source (leaf_without choice number n sides source wanted one without)
             | inl there ↦
                 let node : subtree_nodes choice number n sides source ≡ chunk_node number n sides source ∷ [] = leaf_nodes choice number n sides source wanted one there in
-                subst (λ (nodes : List TreeNode). Bound top mode blob s number text (placed at nodes)) (sym node)
+                subst (λ (nodes : List TreeNode). Bound top mode blob s number text (placed_nodes at nodes)) (sym node)
                 (bound_chunk top mode blob text at number n sides source top_is hb ht one fits
                 (subst (λ (nodes : List TreeNode). AreGood (asked_of top (cv (marked top (top_input mode number s)))) sides mode text at nodes) node good))
           ]
@@ -130,7 +130,7 @@ same_parent top mode number s parent bytes whole equal =
 -- by the number of levels
 bound_levels : (levels : ℕ) (top : Bool) (mode : Mode) (choice : Choice) (blob text : List ℕ) (at number n : ℕ) (sides : List Side) (source : ℕ) → n ≤ 1024 * levels + 1024
     → top ≡ is_top sides → AreBytes blob → AreBytes text → 1024 * number + n ≤ length blob → Good top mode choice blob text at number n sides source
-    → Bound top mode blob (span blob number n) number text (placed at (subtree_nodes choice number n sides source))
+    → Bound top mode blob (span blob number n) number text (placed_nodes at (subtree_nodes choice number n sides source))
 bound_levels zero top mode choice blob text at number n sides source hn top_is hb ht fits good =
     bound_small top mode choice blob text at number n sides source top_is hb ht (omega arith) fits good
 bound_levels (suc levels) top mode choice blob text at number n sides source hn top_is hb ht fits good = elim (cases_lt 1024 n) [
@@ -149,8 +149,8 @@ bound_levels (suc levels) top mode choice blob text at number n sides source hn 
             let parent : List ℕ = take 64 (drop at text) in
             let near_nodes : List TreeNode = subtree_nodes choice number l (sides ++ left ∷ []) (source + 64) in
             let far_nodes : List TreeNode = subtree_nodes choice (number + l / 1024) (n - l) (sides ++ right ∷ []) (source + 64 + subtree_size l) in
-            let near : List (ℕ × TreeNode) = placed (at + 64) near_nodes in
-            let far : List (ℕ × TreeNode) = placed (at + 64 + nodes_size near_nodes) far_nodes in
+            let near : List (ℕ × TreeNode) = placed_nodes (at + 64) near_nodes in
+            let far : List (ℕ × TreeNode) = placed_nodes (at + 64 + nodes_size near_nodes) far_nodes in
             let here : ℕ × TreeNode = (at, parent_node number n sides source) in
             let asked = asked_of top (cv (marked top (top_input mode number s))) in
             let split : PartsGood asked sides mode text at near_nodes far_nodes = AreGood-split asked choice mode text at number n sides source wanted more good in
@@ -164,7 +164,7 @@ bound_levels (suc levels) top mode choice blob text at number n sides source hn 
             subst (λ (t : Bool). Contains theirs (marked t y)) (sym top_is) (Contains-head (text_inputs mode text (near ++ far)) (marked (is_top sides) y)) in
             let further : (z : Input) → Contains (text_inputs mode text (near ++ far)) z → Contains theirs z =
             (λ z h. Contains-tail (text_inputs mode text (near ++ far)) (marked (is_top sides) y) z h) in
-            subst (λ (places : List (ℕ × TreeNode)). Bound top mode blob s number text places) (sym (placed-parent choice number n sides source at wanted more))
+            subst (λ (places : List (ℕ × TreeNode)). Bound top mode blob s number text places) (sym (placed_nodes-parent choice number n sides source at wanted more))
             (elim (same_or_named ours theirs (marked top x) (marked top y) (parent_there top mode number s more_s) y_there (sym (meets ∙ own))) [
               | inr named ↦ inr named
               | inl equal ↦
@@ -204,7 +204,7 @@ bound_levels (suc levels) top mode choice blob text at number n sides source hn 
 -- the nodes of an accepted encoding that claims the blob's length
 pub nodes_bind : (mode : Mode) (root text blob : List ℕ) (start len : ℕ) → IsKeyed mode → AreBytes blob → AreBytes text → hash mode blob ≡ root
     → IsAccepted mode root text (slice_nodes text start len) → claimed text ≡ length blob
-    → AreBlobs mode blob text (places_of (slice_nodes text start len)) ⊎ NamesPair mode blob text (places_of (slice_nodes text start len))
+    → AreBlobs mode blob text (places_of (slice_nodes text start len)) ⊎ NamesCollision mode blob text (places_of (slice_nodes text start len))
 nodes_bind mode root text blob start len keyed hb ht is accepted whole =
     let all : span blob 0 (length blob) ≡ blob = take_all (length blob) blob (omega arith) in
     let words : words_of 8 root ≡ cv (rooted (top_input mode 0 (span blob 0 (length blob)))) =
@@ -212,10 +212,10 @@ nodes_bind mode root text blob start len keyed hb ht is accepted whole =
     let choice : Choice = of_slice (claimed text) start len in
     let good : AreGood (asked_of true (cv (rooted (top_input mode 0 (span blob 0 (length blob)))))) [] mode text 8 (subtree_nodes choice 0 (claimed text) [] 8) =
     subst (λ (v : List ℕ). AreGood (asked_of true v) [] mode text 8 (subtree_nodes choice 0 (claimed text) [] 8)) words accepted.good in
-    let bound : Bound true mode blob (span blob 0 (length blob)) 0 text (placed 8 (subtree_nodes choice 0 (length blob) [] 8)) =
+    let bound : Bound true mode blob (span blob 0 (length blob)) 0 text (placed_nodes 8 (subtree_nodes choice 0 (length blob) [] 8)) =
     bound_levels (length blob) true mode choice blob text 8 0 (length blob) [] 8 (omega arith) refl hb ht (omega arith)
     (subst (λ (n : ℕ). AreGood (asked_of true (cv (rooted (top_input mode 0 (span blob 0 (length blob)))))) [] mode text 8 (subtree_nodes choice 0 n [] 8)) whole good) in
-    elim (subst (λ (n : ℕ). Bound true mode blob (span blob 0 (length blob)) 0 text (placed 8 (subtree_nodes choice 0 n [] 8))) (sym whole) bound) [
+    elim (subst (λ (n : ℕ). Bound true mode blob (span blob 0 (length blob)) 0 text (placed_nodes 8 (subtree_nodes choice 0 n [] 8))) (sym whole) bound) [
       | inl same ↦ inl same
       | inr named ↦
           inr (rw (blob_inputs-subtree mode blob) (subst (λ (s : List ℕ). Named (subtree_inputs true mode 0 s) (text_inputs mode text (places_of (slice_nodes text start len)))) all named))
@@ -242,9 +242,9 @@ at_node mode blob text (place ∷ places) m bytes all there = elim (cases_Bool (
 ]
 
 -- a place is of a node
-node_there : (at : ℕ) (nodes : List TreeNode) (place : ℕ × TreeNode) → Contains (placed at nodes) place → Contains nodes place.1
+node_there : (at : ℕ) (nodes : List TreeNode) (place : ℕ × TreeNode) → Contains (placed_nodes at nodes) place → Contains nodes place.1
 node_there at nodes place there =
-    All-member (λ place. Contains nodes place.1) (placed at nodes) (placed-All (λ node. Contains nodes node) at nodes (All-from_members (λ node. Contains nodes node) nodes (λ x h. h))) place there
+    All-member (λ place. Contains nodes place.1) (placed_nodes at nodes) (placed_nodes-All (λ node. Contains nodes node) at nodes (All-from_members (λ node. Contains nodes node) nodes (λ x h. h))) place there
 
 pub parent_binds : ParentBinds
 parent_binds mode root text blob start len m bytes keyed hb ht is accepted whole there =

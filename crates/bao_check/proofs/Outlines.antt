@@ -9,14 +9,14 @@ use Rattle.b3tree.specs.Tree.{left_len}
 use Rattle.bao_text.specs.declared.choice.Choice.{Choice}
 use Rattle.bao_text.specs.Choice.{chunk_count, of_outboard, wants}
 use Rattle.bao_text.specs.Cut.{claimed}
-use Rattle.bao_text.specs.Nodes.{TreeNode, Side, left, placed, right, subtree_nodes, subtree_size}
+use Rattle.bao_text.specs.Nodes.{TreeNode, Side, left, placed_nodes, right, subtree_nodes, subtree_size}
 use Rattle.bao_text.proofs.SubtreeNodes.{parent_node, subtree_nodes-leaf, subtree_nodes-unwanted}
 use Rattle.bao_text.proofs.SubtreeText.{Parts, left_len-Parts}
 use Rattle.bao_check.specs.Accepted.{IsAccepted, bytes_at, outboard_nodes, part_value, places_of}
 use Rattle.bao_check.specs.Leaves.{WantsParents}
 use Rattle.bao_check.specs.Pieces.{HasLeaf, IsLeafValue}
 use Rattle.bao_check.proofs.Lists.{Contains-cons_cases, Contains-head, Contains-tail, nodes_size}
-use Rattle.bao_check.proofs.Parts.{placed-parent}
+use Rattle.bao_check.proofs.Parts.{placed_nodes-parent}
 use Rattle.bao_check.proofs.Sizes.{nodes_size-without_chunks, wants_whole}
 
 -- the nodes of the two parts of a subtree
@@ -50,35 +50,35 @@ near-size choice number n sides source more all =
 
 -- the places of a subtree of more than one chunk: its parent's, and those of its two parts
 parent-places : (choice : Choice) (number n : ℕ) (sides : List Side) (source at : ℕ) → 1024 < n → WantsParents choice number n
-    → placed at (subtree_nodes choice number n sides source)
+    → placed_nodes at (subtree_nodes choice number n sides source)
     ≡ (at, parent_node number n sides source)
-    ∷ (placed (at + 64) (near_nodes choice number n sides source) ++ placed (at + 64 * (left_len n / 1024)) (far_nodes choice number n sides source))
+    ∷ (placed_nodes (at + 64) (near_nodes choice number n sides source) ++ placed_nodes (at + 64 * (left_len n / 1024)) (far_nodes choice number n sides source))
 parent-places choice number n sides source at more all =
     let near : List TreeNode = near_nodes choice number n sides source in
     let size : nodes_size near + 64 ≡ 64 * (left_len n / 1024) = near-size choice number n sides source more all in
     let e : at + 64 + nodes_size near ≡ at + 64 * (left_len n / 1024) = omega arith in
-    placed-parent choice number n sides source at (wants_whole choice (1024 * number) n all.start (omega (arith, all.end))) more
-    ∙ ap (λ (k : ℕ). (at, parent_node number n sides source) ∷ (placed (at + 64) near ++ placed k (far_nodes choice number n sides source))) e
+    placed_nodes-parent choice number n sides source at (wants_whole choice (1024 * number) n all.start (omega (arith, all.end))) more
+    ∙ ap (λ (k : ℕ). (at, parent_node number n sides source) ∷ (placed_nodes (at + 64) near ++ placed_nodes k (far_nodes choice number n sides source))) e
 
 -- the parent at the top has a chunk's value on a side
 pub leaf-top : (text : List ℕ) (i : ℕ) (choice : Choice) (number n : ℕ) (sides : List Side) (source at : ℕ) (side : Side) → 1024 < n → WantsParents choice number n
     → HasLeaf side (parent_node number n sides source) i
-    → IsLeafValue text (placed at (subtree_nodes choice number n sides source)) i (part_value side (take 64 (drop at text)))
+    → IsLeafValue text (placed_nodes at (subtree_nodes choice number n sides source)) i (part_value side (take 64 (drop at text)))
 leaf-top text i choice number n sides source at side more all over =
     let top : ℕ × TreeNode = (at, parent_node number n sides source) in
-    let near : List (ℕ × TreeNode) = placed (at + 64) (near_nodes choice number n sides source) in
-    let far : List (ℕ × TreeNode) = placed (at + 64 * (left_len n / 1024)) (far_nodes choice number n sides source) in
+    let near : List (ℕ × TreeNode) = placed_nodes (at + 64) (near_nodes choice number n sides source) in
+    let far : List (ℕ × TreeNode) = placed_nodes (at + 64 * (left_len n / 1024)) (far_nodes choice number n sides source) in
     subst (λ (ps : List (ℕ × TreeNode)). IsLeafValue text ps i (part_value side (take 64 (drop at text)))) (sym (parent-places choice number n sides source at more all))
     (record { parent = top; side = side; there = Contains-head (near ++ far) top; over = over; value_is = refl })
 
 -- or a parent of one of the parts has it
 pub leaf-near : (text : List ℕ) (i : ℕ) (value : List ℕ) (choice : Choice) (number n : ℕ) (sides : List Side) (source at : ℕ) → 1024 < n → WantsParents choice number n
-    → IsLeafValue text (placed (at + 64) (near_nodes choice number n sides source)) i value
-    → IsLeafValue text (placed at (subtree_nodes choice number n sides source)) i value
+    → IsLeafValue text (placed_nodes (at + 64) (near_nodes choice number n sides source)) i value
+    → IsLeafValue text (placed_nodes at (subtree_nodes choice number n sides source)) i value
 leaf-near text i value choice number n sides source at more all h =
     let top : ℕ × TreeNode = (at, parent_node number n sides source) in
-    let near : List (ℕ × TreeNode) = placed (at + 64) (near_nodes choice number n sides source) in
-    let far : List (ℕ × TreeNode) = placed (at + 64 * (left_len n / 1024)) (far_nodes choice number n sides source) in
+    let near : List (ℕ × TreeNode) = placed_nodes (at + 64) (near_nodes choice number n sides source) in
+    let far : List (ℕ × TreeNode) = placed_nodes (at + 64 * (left_len n / 1024)) (far_nodes choice number n sides source) in
     subst (λ (ps : List (ℕ × TreeNode)). IsLeafValue text ps i value) (sym (parent-places choice number n sides source at more all))
     (record {
       parent = h.parent;
@@ -89,12 +89,12 @@ leaf-near text i value choice number n sides source at more all h =
     })
 
 pub leaf-far : (text : List ℕ) (i : ℕ) (value : List ℕ) (choice : Choice) (number n : ℕ) (sides : List Side) (source at : ℕ) → 1024 < n → WantsParents choice number n
-    → IsLeafValue text (placed (at + 64 * (left_len n / 1024)) (far_nodes choice number n sides source)) i value
-    → IsLeafValue text (placed at (subtree_nodes choice number n sides source)) i value
+    → IsLeafValue text (placed_nodes (at + 64 * (left_len n / 1024)) (far_nodes choice number n sides source)) i value
+    → IsLeafValue text (placed_nodes at (subtree_nodes choice number n sides source)) i value
 leaf-far text i value choice number n sides source at more all h =
     let top : ℕ × TreeNode = (at, parent_node number n sides source) in
-    let near : List (ℕ × TreeNode) = placed (at + 64) (near_nodes choice number n sides source) in
-    let far : List (ℕ × TreeNode) = placed (at + 64 * (left_len n / 1024)) (far_nodes choice number n sides source) in
+    let near : List (ℕ × TreeNode) = placed_nodes (at + 64) (near_nodes choice number n sides source) in
+    let far : List (ℕ × TreeNode) = placed_nodes (at + 64 * (left_len n / 1024)) (far_nodes choice number n sides source) in
     subst (λ (ps : List (ℕ × TreeNode)). IsLeafValue text ps i value) (sym (parent-places choice number n sides source at more all))
     (record {
       parent = h.parent;
@@ -181,14 +181,14 @@ no_parents choice number n sides source one without = elim (cases_Bool (wants ch
 
 -- so no place is among them
 none_there : (choice : Choice) (number n : ℕ) (sides : List Side) (source at : ℕ) (place : ℕ × TreeNode) → n ≤ 1024 → choice.chunks ≡ false
-    → Contains (placed at (subtree_nodes choice number n sides source)) place → ⊥
+    → Contains (placed_nodes at (subtree_nodes choice number n sides source)) place → ⊥
 none_there choice number n sides source at place one without there =
-    let none : Contains [] place = subst (λ (nodes : List TreeNode). Contains (placed at nodes) place) (no_parents choice number n sides source one without) there in
+    let none : Contains [] place = subst (λ (nodes : List TreeNode). Contains (placed_nodes at nodes) place) (no_parents choice number n sides source one without) there in
     omega (arith, none.1)
 
 -- a parent of the subtree has no other value for chunk i
 leaf-is : (levels : ℕ) (text : List ℕ) (i : ℕ) (choice : Choice) (number n : ℕ) (sides : List Side) (source at : ℕ) (place : ℕ × TreeNode) (side : Side) → n ≤ 1024 * levels + 1024
-    → WantsParents choice number n → Contains (placed at (subtree_nodes choice number n sides source)) place → HasLeaf side place.1 i
+    → WantsParents choice number n → Contains (placed_nodes at (subtree_nodes choice number n sides source)) place → HasLeaf side place.1 i
     → IsWithin levels text i number n at (part_value side (bytes_at text place))
 leaf-is zero text i choice number n sides source at place side hn all there over =
     absurd (none_there choice number n sides source at place (omega arith) all.without there)
@@ -197,8 +197,8 @@ leaf-is (suc levels) text i choice number n sides source at place side hn all th
   | inl more ↦
       let parts : Parts n (left_len n) = left_len-Parts n more in
       let top : ℕ × TreeNode = (at, parent_node number n sides source) in
-      let near : List (ℕ × TreeNode) = placed (at + 64) (near_nodes choice number n sides source) in
-      let far : List (ℕ × TreeNode) = placed (at + 64 * (left_len n / 1024)) (far_nodes choice number n sides source) in
+      let near : List (ℕ × TreeNode) = placed_nodes (at + 64) (near_nodes choice number n sides source) in
+      let far : List (ℕ × TreeNode) = placed_nodes (at + 64 * (left_len n / 1024)) (far_nodes choice number n sides source) in
       let split : Contains (top ∷ (near ++ far)) place = subst (λ (ps : List (ℕ × TreeNode)). Contains ps place) (parent-places choice number n sides source at more all) there in
       elim (Contains-cons_cases (near ++ far) top place split) [
         | inl same ↦

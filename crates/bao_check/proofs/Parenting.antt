@@ -8,7 +8,7 @@ use Rattle.std.proofs.lemmas.Bool.Decides.{eqb_tells}
 use Rattle.b3tree.specs.Tree.{left_len}
 use Rattle.bao_text.specs.declared.choice.Choice.{Choice}
 use Rattle.bao_text.specs.Choice.{chunk_count, wants}
-use Rattle.bao_text.specs.Nodes.{TreeNode, Side, left, placed, right, subtree_nodes, subtree_size}
+use Rattle.bao_text.specs.Nodes.{TreeNode, Side, left, placed_nodes, right, subtree_nodes, subtree_size}
 use Rattle.bao_text.proofs.SubtreeNodes.{subtree_nodes-parent, subtree_nodes-unwanted}
 use Rattle.bao_text.proofs.SubtreeText.{Parts, left_len-Parts}
 use Rattle.bao_check.specs.Accepted.{end_of}
@@ -16,7 +16,7 @@ use Rattle.bao_text.specs.NodeNames.{boundary}
 use Rattle.bao_check.specs.Parents.{is_parent_at, parent_in, parent_place}
 use Rattle.bao_check.proofs.Lists.{All-append, All-from_members, All-member, nodes_size}
 use Rattle.bao_check.proofs.Locating.{count_parts}
-use Rattle.bao_check.proofs.Parts.{placed-All, placed-parent}
+use Rattle.bao_check.proofs.Parts.{placed_nodes-All, placed_nodes-parent}
 use Rattle.bao_check.proofs.Walking.{leaf_nodes, leaf_without}
 
 -- a parent's right part begins within the subtree, and not at its start
@@ -86,10 +86,10 @@ abbrev Lacks : ℕ → List (ℕ × TreeNode) → Type 0
 Lacks m places = AllByRecursion (λ place. is_parent_at m place.1 ≡ false) places
 
 pub outside_lacks : (choice : Choice) (number n m at source : ℕ) (sides : List Side) → ((number < m) × (m < number + chunk_count n) → ⊥)
-    → Lacks m (placed at (subtree_nodes choice number n sides source))
+    → Lacks m (placed_nodes at (subtree_nodes choice number n sides source))
 outside_lacks choice number n m at source sides outside =
     let nodes : List TreeNode = subtree_nodes choice number n sides source in
-    placed-All (λ node. is_parent_at m node ≡ false) at nodes
+    placed_nodes-All (λ node. is_parent_at m node ≡ false) at nodes
     (All-from_members (λ node. is_parent_at m node ≡ false) nodes
     (λ x h. not_parent_at m x
     (λ parent same.
@@ -120,7 +120,7 @@ module _ (choice : Choice) (number n : ℕ) (sides : List Side) (source at m : �
   far_nodes = subtree_nodes choice (number + left_len n / 1024) (n - left_len n) (sides ++ right ∷ []) (source + 64 + subtree_size (left_len n))
 
   abbrev all_places : List (ℕ × TreeNode)
-  all_places = placed at (subtree_nodes choice number n sides source)
+  all_places = placed_nodes at (subtree_nodes choice number n sides source)
 
   near_count : chunk_count (left_len n) ≡ left_len n / 1024
   near_count = let parts : Parts n (left_len n) = left_len-Parts n more in omega (arith, parts.whole, parts.some)
@@ -128,41 +128,41 @@ module _ (choice : Choice) (number n : ℕ) (sides : List Side) (source at m : �
   -- the subtree's own parent
   pub parent_place-here : number + left_len n / 1024 ≡ m → parent_place all_places m ≡ Some at
   parent_place-here same = elim (eqb_tells (number + left_len n / 1024) m) [
-    | inl hit ↦ ap (λ (ps : List (ℕ × TreeNode)). parent_place ps m) (placed-parent choice number n sides source at wanted more) ∙ rw hit.0 refl
+    | inl hit ↦ ap (λ (ps : List (ℕ × TreeNode)). parent_place ps m) (placed_nodes-parent choice number n sides source at wanted more) ∙ rw hit.0 refl
     | inr other ↦ absurd (other.1 same)
   ]
 
   -- one of its left part, or of its right part
-  pub parent_place-near : m < number + left_len n / 1024 → parent_place all_places m ≡ parent_place (placed (at + 64) near_nodes) m
+  pub parent_place-near : m < number + left_len n / 1024 → parent_place all_places m ≡ parent_place (placed_nodes (at + 64) near_nodes) m
   parent_place-near before = elim (eqb_tells (number + left_len n / 1024) m) [
     | inl hit ↦ absurd (omega (arith, hit.1))
     | inr other ↦
         let far_at : ℕ = at + 64 + nodes_size near_nodes in
-        ap (λ (ps : List (ℕ × TreeNode)). parent_place ps m) (placed-parent choice number n sides source at wanted more)
-        ∙ rw other.0 (parent_place-first (placed (at + 64) near_nodes) (placed far_at far_nodes) m
+        ap (λ (ps : List (ℕ × TreeNode)). parent_place ps m) (placed_nodes-parent choice number n sides source at wanted more)
+        ∙ rw other.0 (parent_place-first (placed_nodes (at + 64) near_nodes) (placed_nodes far_at far_nodes) m
         (outside_lacks choice (number + left_len n / 1024) (n - left_len n) m far_at (source + 64 + subtree_size (left_len n)) (sides ++ right ∷ []) (λ h. omega (arith, h.0))))
   ]
 
-  pub parent_place-far : number + left_len n / 1024 < m → parent_place all_places m ≡ parent_place (placed (at + 64 + nodes_size near_nodes) far_nodes) m
+  pub parent_place-far : number + left_len n / 1024 < m → parent_place all_places m ≡ parent_place (placed_nodes (at + 64 + nodes_size near_nodes) far_nodes) m
   parent_place-far after = elim (eqb_tells (number + left_len n / 1024) m) [
     | inl hit ↦ absurd (omega (arith, hit.1))
     | inr other ↦
         let far_at : ℕ = at + 64 + nodes_size near_nodes in
-        ap (λ (ps : List (ℕ × TreeNode)). parent_place ps m) (placed-parent choice number n sides source at wanted more)
-        ∙ rw other.0 (parent_place-second (placed (at + 64) near_nodes) (placed far_at far_nodes) m
+        ap (λ (ps : List (ℕ × TreeNode)). parent_place ps m) (placed_nodes-parent choice number n sides source at wanted more)
+        ∙ rw other.0 (parent_place-second (placed_nodes (at + 64) near_nodes) (placed_nodes far_at far_nodes) m
         (outside_lacks choice number (left_len n) m (at + 64) (source + 64) (sides ++ left ∷ []) (λ h. omega (arith, h.1, near_count))))
   ]
 
 pub parent_place-unwanted : (choice : Choice) (number n : ℕ) (sides : List Side) (source at m : ℕ) → wants choice (1024 * number) n ≡ false
-    → parent_place (placed at (subtree_nodes choice number n sides source)) m ≡ None
+    → parent_place (placed_nodes at (subtree_nodes choice number n sides source)) m ≡ None
 parent_place-unwanted choice number n sides source at m skipped =
-    ap (λ (nodes : List TreeNode). parent_place (placed at nodes) m) (subtree_nodes-unwanted choice number n sides source skipped)
+    ap (λ (nodes : List TreeNode). parent_place (placed_nodes at nodes) m) (subtree_nodes-unwanted choice number n sides source skipped)
 
 pub parent_place-chunk : (choice : Choice) (number n : ℕ) (sides : List Side) (source at m : ℕ) → n ≤ 1024
-    → parent_place (placed at (subtree_nodes choice number n sides source)) m ≡ None
+    → parent_place (placed_nodes at (subtree_nodes choice number n sides source)) m ≡ None
 parent_place-chunk choice number n sides source at m one =
     let count : chunk_count n ≡ 1 = omega arith in
-    parent_place-none (placed at (subtree_nodes choice number n sides source)) m
+    parent_place-none (placed_nodes at (subtree_nodes choice number n sides source)) m
     (outside_lacks choice number n m at source sides (λ h. omega (arith, h.0, h.1)))
 
 -- the bytes of a parent are those at its place

@@ -8,13 +8,13 @@ use Rattle.b3tree.specs.declared.mode.Mode.{Mode}
 use Rattle.b3tree.specs.Tree.{left_len, parent_input}
 use Rattle.bao_text.specs.declared.choice.Choice.{Choice}
 use Rattle.bao_text.specs.Choice.{wants}
-use Rattle.bao_text.specs.Nodes.{TreeNode, Side, left, right, size, placed, subtree_nodes, subtree_size}
+use Rattle.bao_text.specs.Nodes.{TreeNode, Side, left, right, size, placed_nodes, subtree_nodes, subtree_size}
 use Rattle.bao_check.specs.declared.asked.Asked.{Asked}
 use Rattle.bao_check.specs.Accepted.{bytes_at, end_of, input_at, part_value}
 use Rattle.bao_check.specs.Walk.{AreGood, IsAskedIn, IsGoodIn, Meets}
 use Rattle.bao_text.proofs.SubtreeNodes.{parent_node, subtree_nodes-leaf, subtree_nodes-parent, subtree_nodes-unwanted}
 use Rattle.bao_text.proofs.SubtreeText.{Parts, left_len-Parts}
-use Rattle.bao_check.proofs.Lists.{All-append, All-from_members, All-member, Contains-cons_cases, Contains-head, Contains-tail, nodes_size, placed-append}
+use Rattle.bao_check.proofs.Lists.{All-append, All-from_members, All-member, Contains-cons_cases, Contains-head, Contains-tail, nodes_size, placed_nodes-append}
 
 -- what a parent's 64 bytes ask of its part on a side
 abbrev pub below : Side → List ℕ → Asked
@@ -79,9 +79,9 @@ nodes-Extends_levels (suc levels) choice number n sides source hn = elim (cases_
 nodes-Extends : (choice : Choice) (number n : ℕ) (sides : List Side) (source : ℕ) → AllByRecursion (λ node. Extends sides node.sides) (subtree_nodes choice number n sides source)
 nodes-Extends choice number n sides source = nodes-Extends_levels n choice number n sides source (omega arith)
 
-pub placed-All : (P : TreeNode → Type 0) (at : ℕ) (nodes : List TreeNode) → AllByRecursion P nodes → AllByRecursion (λ place. P place.1) (placed at nodes)
-placed-All P at [] all = tt
-placed-All P at (node ∷ nodes) all = (all.0, placed-All P (at + size node) nodes all.1)
+pub placed_nodes-All : (P : TreeNode → Type 0) (at : ℕ) (nodes : List TreeNode) → AllByRecursion P nodes → AllByRecursion (λ place. P place.1) (placed_nodes at nodes)
+placed_nodes-All P at [] all = tt
+placed_nodes-All P at (node ∷ nodes) all = (all.0, placed_nodes-All P (at + size node) nodes all.1)
 
 -- the places `own` are those of the part on side d of the parent q, among the places ps
 record IsPart (sides : List Side) (d : Side) (ps : List (ℕ × TreeNode)) (q : ℕ × TreeNode) (own : List (ℕ × TreeNode)) : Type 0 where
@@ -272,27 +272,27 @@ far_from_whole asked sides mode text q near far tree all =
     (whole.0, down asked sides right mode text (q ∷ (near ++ far)) far q p (far_part sides q near far tree) whole.1))
 
 -- the places of a wanted subtree of more than one chunk
-pub placed-parent : (choice : Choice) (number n : ℕ) (sides : List Side) (source at : ℕ) → wants choice (1024 * number) n ≡ true → 1024 < n
-    → placed at (subtree_nodes choice number n sides source)
+pub placed_nodes-parent : (choice : Choice) (number n : ℕ) (sides : List Side) (source at : ℕ) → wants choice (1024 * number) n ≡ true → 1024 < n
+    → placed_nodes at (subtree_nodes choice number n sides source)
     ≡ (at, parent_node number n sides source)
-    ∷ (placed (at + 64) (subtree_nodes choice number (left_len n) (sides ++ left ∷ []) (source + 64))
-    ++ placed (at + 64 + nodes_size (subtree_nodes choice number (left_len n) (sides ++ left ∷ []) (source + 64)))
+    ∷ (placed_nodes (at + 64) (subtree_nodes choice number (left_len n) (sides ++ left ∷ []) (source + 64))
+    ++ placed_nodes (at + 64 + nodes_size (subtree_nodes choice number (left_len n) (sides ++ left ∷ []) (source + 64)))
     (subtree_nodes choice (number + left_len n / 1024) (n - left_len n) (sides ++ right ∷ []) (source + 64 + subtree_size (left_len n))))
-placed-parent choice number n sides source at wanted more =
-    ap (placed at) (subtree_nodes-parent choice number n sides source wanted more)
+placed_nodes-parent choice number n sides source at wanted more =
+    ap (placed_nodes at) (subtree_nodes-parent choice number n sides source wanted more)
     ∙ ap (λ (ps : List (ℕ × TreeNode)). (at, parent_node number n sides source) ∷ ps)
-    (placed-append (at + 64) (subtree_nodes choice number (left_len n) (sides ++ left ∷ []) (source + 64))
+    (placed_nodes-append (at + 64) (subtree_nodes choice number (left_len n) (sides ++ left ∷ []) (source + 64))
     (subtree_nodes choice (number + left_len n / 1024) (n - left_len n) (sides ++ right ∷ []) (source + 64 + subtree_size (left_len n))))
 
 -- they are a tree
 pub subtree_Tree : (choice : Choice) (number n : ℕ) (sides : List Side) (source at at_far : ℕ)
-    → Tree sides (at, parent_node number n sides source) (placed (at + 64) (subtree_nodes choice number (left_len n) (sides ++ left ∷ []) (source + 64)))
-    (placed at_far (subtree_nodes choice (number + left_len n / 1024) (n - left_len n) (sides ++ right ∷ []) (source + 64 + subtree_size (left_len n))))
+    → Tree sides (at, parent_node number n sides source) (placed_nodes (at + 64) (subtree_nodes choice number (left_len n) (sides ++ left ∷ []) (source + 64)))
+    (placed_nodes at_far (subtree_nodes choice (number + left_len n / 1024) (n - left_len n) (sides ++ right ∷ []) (source + 64 + subtree_size (left_len n))))
 subtree_Tree choice number n sides source at at_far = record {
   top = refl;
-  near_on = placed-All (λ node. Extends (sides ++ left ∷ []) node.sides) (at + 64) (subtree_nodes choice number (left_len n) (sides ++ left ∷ []) (source + 64))
+  near_on = placed_nodes-All (λ node. Extends (sides ++ left ∷ []) node.sides) (at + 64) (subtree_nodes choice number (left_len n) (sides ++ left ∷ []) (source + 64))
       (nodes-Extends choice number (left_len n) (sides ++ left ∷ []) (source + 64));
-  far_on = placed-All (λ node. Extends (sides ++ right ∷ []) node.sides) at_far
+  far_on = placed_nodes-All (λ node. Extends (sides ++ right ∷ []) node.sides) at_far
       (subtree_nodes choice (number + left_len n / 1024) (n - left_len n) (sides ++ right ∷ []) (source + 64 + subtree_size (left_len n)))
       (nodes-Extends choice (number + left_len n / 1024) (n - left_len n) (sides ++ right ∷ []) (source + 64 + subtree_size (left_len n)));
 }
@@ -313,10 +313,10 @@ AreGood-split asked choice mode text at number n sides source wanted more good =
     let q : ℕ × TreeNode = (at, parent_node number n sides source) in
     let near_nodes : List TreeNode = subtree_nodes choice number (left_len n) (sides ++ left ∷ []) (source + 64) in
     let far_nodes : List TreeNode = subtree_nodes choice (number + left_len n / 1024) (n - left_len n) (sides ++ right ∷ []) (source + 64 + subtree_size (left_len n)) in
-    let near : List (ℕ × TreeNode) = placed (at + 64) near_nodes in
-    let far : List (ℕ × TreeNode) = placed (at + 64 + nodes_size near_nodes) far_nodes in
+    let near : List (ℕ × TreeNode) = placed_nodes (at + 64) near_nodes in
+    let far : List (ℕ × TreeNode) = placed_nodes (at + 64 + nodes_size near_nodes) far_nodes in
     let all : AllByRecursion (IsGoodIn asked sides mode text (q ∷ (near ++ far))) (q ∷ (near ++ far)) =
-    subst (λ (ps : List (ℕ × TreeNode)). AllByRecursion (IsGoodIn asked sides mode text ps) ps) (placed-parent choice number n sides source at wanted more) good in
+    subst (λ (ps : List (ℕ × TreeNode)). AllByRecursion (IsGoodIn asked sides mode text ps) ps) (placed_nodes-parent choice number n sides source at wanted more) good in
     let tree : Tree sides q near far = subtree_Tree choice number n sides source at (at + 64 + nodes_size near_nodes) in
     record {
       there = all.0.0;
@@ -334,8 +334,8 @@ AreGood-join asked choice mode text at number n sides source wanted more parts =
     let q : ℕ × TreeNode = (at, parent_node number n sides source) in
     let near_nodes : List TreeNode = subtree_nodes choice number (left_len n) (sides ++ left ∷ []) (source + 64) in
     let far_nodes : List TreeNode = subtree_nodes choice (number + left_len n / 1024) (n - left_len n) (sides ++ right ∷ []) (source + 64 + subtree_size (left_len n)) in
-    let near : List (ℕ × TreeNode) = placed (at + 64) near_nodes in
-    let far : List (ℕ × TreeNode) = placed (at + 64 + nodes_size near_nodes) far_nodes in
+    let near : List (ℕ × TreeNode) = placed_nodes (at + 64) near_nodes in
+    let far : List (ℕ × TreeNode) = placed_nodes (at + 64 + nodes_size near_nodes) far_nodes in
     let tree : Tree sides q near far = subtree_Tree choice number n sides source at (at + 64 + nodes_size near_nodes) in
-    subst (λ (ps : List (ℕ × TreeNode)). AllByRecursion (IsGoodIn asked sides mode text ps) ps) (sym (placed-parent choice number n sides source at wanted more))
+    subst (λ (ps : List (ℕ × TreeNode)). AllByRecursion (IsGoodIn asked sides mode text ps) ps) (sym (placed_nodes-parent choice number n sides source at wanted more))
     (whole_good asked sides mode text q near far tree parts.there parts.meets parts.near_good parts.far_good)

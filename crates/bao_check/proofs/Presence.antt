@@ -5,7 +5,7 @@ use Rattle.std.proofs.lemmas.Bool.Decides.{eqb_tells}
 use Rattle.b3tree.specs.Tree.{left_len}
 use Rattle.bao_text.specs.declared.choice.Choice.{Choice}
 use Rattle.bao_text.specs.Choice.{chunk_count, of_slice, slice_end, slice_start, wants}
-use Rattle.bao_text.specs.Nodes.{TreeNode, Side, left, nodes, placed, right, subtree_nodes, subtree_size}
+use Rattle.bao_text.specs.Nodes.{TreeNode, Side, left, nodes, placed_nodes, right, subtree_nodes, subtree_size}
 use Rattle.bao_text.proofs.SubtreeText.{Parts, left_len-Parts}
 use Rattle.bao_check.specs.declared.locate.Span.{Span}
 use Rattle.bao_check.specs.Spans.{chunk_place}
@@ -61,7 +61,7 @@ some_is None x e = cc
 some_is (Some y) x e = refl
 
 abbrev pub Present : Choice → ℕ → ℕ → List Side → ℕ → ℕ → ℕ → Type 0
-Present choice number n sides source at i = IsSome (chunk_place (placed at (subtree_nodes choice number n sides source)) i) ↔ IsThere choice number n i
+Present choice number n sides source at i = IsSome (chunk_place (placed_nodes at (subtree_nodes choice number n sides source)) i) ↔ IsThere choice number n i
 
 present_unwanted : (choice : Choice) (number n : ℕ) (sides : List Side) (source at i : ℕ) → wants choice (1024 * number) n ≡ false → Present choice number n sides source at i
 present_unwanted choice number n sides source at i skipped = (
@@ -80,7 +80,7 @@ present_small choice number n sides source at i chunks one = elim (cases_Bool (w
             let before : 1024 * number < choice.end = meets.before in
             let after : choice.start < 1024 * number + max n 1 = meets.after in (
               λ _. record { first = omega arith; last = omega arith; meets = record { before = omega arith; after = omega arith } },
-              λ _. some_is _ _ (ap (chunk_place (placed at (subtree_nodes choice number n sides source))) (sym is) ∙ chunk_place-leaf choice number n sides source at wanted one chunks),
+              λ _. some_is _ _ (ap (chunk_place (placed_nodes at (subtree_nodes choice number n sides source))) (sym is) ∙ chunk_place-leaf choice number n sides source at wanted one chunks),
             )
         | inr differ ↦ (
           λ some. absurd (not_some _ (chunk_place-other choice number n sides source at i one differ.1) some),
@@ -143,7 +143,7 @@ present_levels (suc levels) choice number n sides source at i hn chunks = elim (
 
 -- a slice has the chunks that its positions meet
 pub slice_present : (total start len at i : ℕ)
-    → IsSome (chunk_place (placed at (nodes total start len)) i)
+    → IsSome (chunk_place (placed_nodes at (nodes total start len)) i)
     ↔ ((slice_start total start / 1024 ≤ i) × (i < (slice_end total start len + 1023) / 1024))
 slice_present total start len at i =
     let choice : Choice = of_slice total start len in

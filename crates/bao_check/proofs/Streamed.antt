@@ -6,14 +6,14 @@ use Rattle.std.specs.List.{AllByRecursion}
 use Rattle.b3word.specs.Compression.{cv}
 use Rattle.b3tree.specs.declared.mode.Mode.{Mode}
 use Rattle.b3tree.specs.Hashing.{rooted}
-use Rattle.bao_text.specs.Nodes.{TreeNode, placed, size}
+use Rattle.bao_text.specs.Nodes.{TreeNode, placed_nodes, size}
 use Rattle.bao_check.specs.declared.fault.CheckFault.{CheckFault}
 use Rattle.bao_check.specs.declared.fault.CheckFault.TheVariants.{Short, Mismatch, Trailing, Memory, Reader}
 use Rattle.bao_check.specs.declared.form.Form.TheVariants.{Slice}
-use Rattle.bao_check.specs.Accepted.{IsAccepted, IsGood, bytes_at, end_of, input_of, part_value, places_of, slice_nodes}
+use Rattle.bao_check.specs.Accepted.{IsAccepted, IsGoodNode, bytes_at, end_of, node_input, part_value, places_of, slice_nodes}
 use Rattle.bao_check.specs.Faults.{IsFirstBad}
 use Rattle.bao_check.specs.Forms.{form_nodes}
-use Rattle.bao_check.specs.Streams.{BeginsAccepted, EndsMismatched, IsOfBytes, IsStreamFault, ReadFault}
+use Rattle.bao_check.specs.Streams.{BeginsAccepted, EndsMismatched, IsOfBytes, IsReadFault, IsStreamFault}
 use Rattle.bao_check.specs.Walk.{AreGoodUpTo, IsAskedIn, IsSourceFault, PassesText, StopsText, asked_root}
 use Rattle.bao_check.proofs.Lists.{All-from_members, All-member, All-second}
 use Rattle.bao_check.proofs.WholeText.{accepted_from_walk, bad_place, form_nodes-append, mismatch_at, short_at}
@@ -23,7 +23,7 @@ pub read_accepted : (mode : Mode) (root : List ℕ) (start len : ℕ) (new : Lis
 read_accepted mode root start len new h = accepted_from_walk mode root (Slice start len) new [] new (sym (append-nil new)) (omega arith) h
 
 read_mismatched : (mode : Mode) (root new : List ℕ) (nodes : List TreeNode) (at : ℕ) (place : ℕ × TreeNode) → 8 ≤ length new → at ≡ place.0 → length new ≡ end_of place
-    → AreGoodUpTo (asked_root root) [] mode (new ++ []) (placed 8 nodes) place → ¬ IsAskedIn (asked_root root) [] mode (new ++ []) (placed 8 nodes) place
+    → AreGoodUpTo (asked_root root) [] mode (new ++ []) (placed_nodes 8 nodes) place → ¬ IsAskedIn (asked_root root) [] mode (new ++ []) (placed_nodes 8 nodes) place
     → EndsMismatched mode root new nodes at
 read_mismatched mode root new nodes at place long is ends good bad =
     let first : IsFirstBad mode root (new ++ []) (places_of nodes) place = bad_place mode root (new ++ []) nodes place bad good in
@@ -31,7 +31,7 @@ read_mismatched mode root new nodes at place long is ends good bad =
 
 -- one that stopped ended with what was read
 pub read_fault : (mode : Mode) (root : List ℕ) (start len : ℕ) (new : List ℕ) (after : Option (List ℕ)) (fault : CheckFault)
-    → StopsText IsSourceFault mode root new after (form_nodes (Slice start len) new) fault → ReadFault mode root start len new after fault
+    → StopsText IsSourceFault mode root new after (form_nodes (Slice start len) new) fault → IsReadFault mode root start len new after fault
 read_fault mode root start len new after (Short at) (inl h) = (inl (omega (arith, h.1), h.0), h.2)
 read_fault mode root start len new after (Short at) (inr (long, (place, h))) = (short_at mode root new new (Slice start len) at place refl long h.0 h.1 h.3, h.2)
 read_fault mode root start len new after (Mismatch at) (inl h) = absurd h
@@ -72,34 +72,34 @@ bytes_at-append text rest place there =
 
 -- the nodes of an accepted encoding are good, whatever follows
 good-append : (mode : Mode) (root text rest : List ℕ) (nodes : List TreeNode) → IsAccepted mode root text nodes
-    → AllByRecursion (IsGood mode root (text ++ rest) (places_of nodes)) (places_of nodes)
+    → AllByRecursion (IsGoodNode mode root (text ++ rest) (places_of nodes)) (places_of nodes)
 good-append mode root text rest nodes h =
     let places : List (ℕ × TreeNode) = places_of nodes in
-    let good = All-member (IsGood mode root text places) places h.good in
-    All-from_members (IsGood mode root (text ++ rest) places) places (λ place member.
-    let here : IsGood mode root text places place = good place member in
+    let good = All-member (IsGoodNode mode root text places) places h.good in
+    All-from_members (IsGoodNode mode root (text ++ rest) places) places (λ place member.
+    let here : IsGoodNode mode root text places place = good place member in
     let same : bytes_at (text ++ rest) place ≡ bytes_at text place = bytes_at-append text rest place here.0 in (
       omega (arith, here.0, length-append text rest),
       (
-        λ top. ap (λ (s : List ℕ). cv (rooted (input_of mode place.1 s))) same ∙ here.1.0 top,
+        λ top. ap (λ (s : List ℕ). cv (rooted (node_input mode place.1 s))) same ∙ here.1.0 top,
         λ above side there below.
-            ap (λ (s : List ℕ). cv (input_of mode place.1 s)) same ∙ here.1.1 above side there below
+            ap (λ (s : List ℕ). cv (node_input mode place.1 s)) same ∙ here.1.1 above side there below
             ∙ ap (part_value side) (sym (bytes_at-append text rest above (good above there).0)),
       ),
     ))
 
 -- so are they in all bytes that begin with it
 begun_good : (mode : Mode) (root : List ℕ) (start len : ℕ) (all : List ℕ) → BeginsAccepted mode root start len all
-    → AllByRecursion (IsGood mode root all (places_of (slice_nodes all start len))) (places_of (slice_nodes all start len))
+    → AllByRecursion (IsGoodNode mode root all (places_of (slice_nodes all start len))) (places_of (slice_nodes all start len))
 begun_good mode root start len all h =
     let same : slice_nodes h.text start len ≡ slice_nodes all start len = form_nodes-append (Slice start len) h.text h.rest all h.accepted.long h.split in
-    subst (λ (nodes : List TreeNode). AllByRecursion (IsGood mode root all (places_of nodes)) (places_of nodes)) same
-    (subst (λ (s : List ℕ). AllByRecursion (IsGood mode root s (places_of (slice_nodes h.text start len))) (places_of (slice_nodes h.text start len))) (sym h.split)
+    subst (λ (nodes : List TreeNode). AllByRecursion (IsGoodNode mode root all (places_of nodes)) (places_of nodes)) same
+    (subst (λ (s : List ℕ). AllByRecursion (IsGoodNode mode root s (places_of (slice_nodes h.text start len))) (places_of (slice_nodes h.text start len))) (sym h.split)
     (good-append mode root h.text h.rest (slice_nodes h.text start len) h.accepted))
 
-none_bad : (mode : Mode) (root all : List ℕ) (places : List (ℕ × TreeNode)) (place : ℕ × TreeNode) → AllByRecursion (IsGood mode root all places) places → IsFirstBad mode root all places place → ⊥
+none_bad : (mode : Mode) (root all : List ℕ) (places : List (ℕ × TreeNode)) (place : ℕ × TreeNode) → AllByRecursion (IsGoodNode mode root all places) places → IsFirstBad mode root all places place → ⊥
 none_bad mode root all places place good bad =
-    let P : ℕ × TreeNode → Type 0 = IsGood mode root all places in
+    let P : ℕ × TreeNode → Type 0 = IsGoodNode mode root all places in
     bad.bad (All-second P bad.earlier (place ∷ bad.later) (subst (AllByRecursion P) bad.split good)).0
 
 -- bytes that begin with an accepted encoding have no first fault
@@ -141,8 +141,8 @@ ok_clause mode root start len new held (Ok x) same h = subst (λ (s : List ℕ).
 ok_clause mode root start len new held (Err fault) same h = tt
 
 pub fault_clause : (mode : Mode) (root : List ℕ) (start len : ℕ) (new held : List ℕ) (after left : Option (List ℕ)) (result : Result (Unit {0}) CheckFault) → new ≡ held → after ≡ left
-    → IfErr result (StopsText IsSourceFault mode root new after (form_nodes (Slice start len) new)) → IfErr result (ReadFault mode root start len held left)
+    → IfErr result (StopsText IsSourceFault mode root new after (form_nodes (Slice start len) new)) → IfErr result (IsReadFault mode root start len held left)
 fault_clause mode root start len new held after left (Ok x) same end h = tt
 fault_clause mode root start len new held after left (Err fault) same end h =
-    subst (λ (s : List ℕ). ReadFault mode root start len s left fault) same
-    (subst (λ (o : Option (List ℕ)). ReadFault mode root start len new o fault) end (read_fault mode root start len new after fault h))
+    subst (λ (s : List ℕ). IsReadFault mode root start len s left fault) same
+    (subst (λ (o : Option (List ℕ)). IsReadFault mode root start len new o fault) end (read_fault mode root start len new after fault h))

@@ -10,15 +10,15 @@ use Rattle.b3tree.specs.declared.mode.Mode.{Mode}
 use Rattle.b3tree.specs.Tree.{left_len}
 use Rattle.bao_text.specs.declared.choice.Choice.{Choice}
 use Rattle.bao_text.specs.Choice.{wants}
-use Rattle.bao_text.specs.Nodes.{TreeNode, Side, left, placed, right, size, subtree_nodes, subtree_size}
+use Rattle.bao_text.specs.Nodes.{TreeNode, Side, left, placed_nodes, right, size, subtree_nodes, subtree_size}
 use Rattle.bao_text.proofs.SubtreeNodes.{parent_node, subtree_nodes-leaf, subtree_nodes-parent}
 use Rattle.bao_check.specs.declared.asked.Asked.{Asked}
 use Rattle.bao_check.specs.declared.fault.CheckFault.{CheckFault}
 use Rattle.bao_check.specs.declared.fault.CheckFault.TheVariants.{Short, Mismatch, Trailing, Memory, Reader}
 use Rattle.bao_check.specs.Accepted.{bytes_at, end_of, input_at}
-use Rattle.bao_check.specs.Walk.{AreGoodUpTo, Grows, IsAskedIn, IsGoodIn, IsRefused, Meets, Passes, Stops, StopsAt, Takes, chunk_taken, parent_taken}
+use Rattle.bao_check.specs.Walk.{AreGoodUpTo, Grows, IsAskedIn, IsGoodIn, IsRefusedInput, Meets, Passes, Stops, StopsAt, Takes, chunk_taken, parent_taken}
 use Rattle.bao_check.proofs.Lists.{All-append, All-from_members, All-member, nodes_size, nodes_size-cons}
-use Rattle.bao_check.proofs.Parts.{Tree, below, far_bad, far_good, near_bad, near_good, placed-parent, subtree_Tree, top_bad, top_good, whole_good}
+use Rattle.bao_check.proofs.Parts.{Tree, below, far_bad, far_good, near_bad, near_good, placed_nodes-parent, subtree_Tree, top_bad, top_good, whole_good}
 
 pub Consumes-then : (a b c : Option (List ℕ)) (xs ys : List ℕ) → Consumes a b xs → Consumes b c ys → Consumes a c (xs ++ ys)
 Consumes-then None b c xs ys h k = tt
@@ -56,7 +56,7 @@ taken_at old new rest n bytes grown len =
 -- a walk that ends at the first place
 stop_top : (fails : CheckFault → Type 0) (asked : Asked) (sides : List Side) (mode : Mode) (old new : List ℕ) (after : Option (List ℕ)) (node : TreeNode) (others : List (ℕ × TreeNode)) (x : Input)
     → node.sides ≡ sides → ((rest : List ℕ) → length new ≡ length old + size node → input_at mode (new ++ rest) (length old, node) ≡ x)
-    → (fault : CheckFault) → IsRefused fails asked x (size node) old new after fault → StopsAt fails asked sides mode new after ((length old, node) ∷ others) fault (length old, node)
+    → (fault : CheckFault) → IsRefusedInput fails asked x (size node) old new after fault → StopsAt fails asked sides mode new after ((length old, node) ∷ others) fault (length old, node)
 stop_top fails asked sides mode old new after node others x top is (Short at) h = (h.0, h.1, h.2, record { earlier = []; later = others; split = refl; good = tt })
 stop_top fails asked sides mode old new after node others x top is (Mismatch at) h = (
   h.0,
@@ -90,7 +90,7 @@ chunk_passes asked sides mode old new bytes number n source grown len meets = re
 }
 
 pub chunk_stops : (fails : CheckFault → Type 0) (asked : Asked) (sides : List Side) (mode : Mode) (old new bytes : List ℕ) (after : Option (List ℕ)) (number n source : ℕ) → new ≡ old ++ bytes
-    → (fault : CheckFault) → IsRefused fails asked (chunk_taken mode number old new) n old new after fault
+    → (fault : CheckFault) → IsRefusedInput fails asked (chunk_taken mode number old new) n old new after fault
     → Stops fails asked sides mode new after (length old) (chunk_node number n sides source ∷ []) fault
 chunk_stops fails asked sides mode old new bytes after number n source grown fault h = (
   (length old, chunk_node number n sides source),
@@ -238,15 +238,15 @@ module _ (asked : Asked) (choice : Choice) (mode : Mode) (number n : ℕ) (sides
   far_nodes = subtree_nodes choice (number + left_len n / 1024) (n - left_len n) (sides ++ right ∷ []) (source + 64 + subtree_size (left_len n))
 
   pub parent_stops : (fails : CheckFault → Type 0) (old new bytes : List ℕ) (after : Option (List ℕ)) → new ≡ old ++ bytes
-      → (fault : CheckFault) → IsRefused fails asked (parent_taken mode old new) 64 old new after fault
+      → (fault : CheckFault) → IsRefusedInput fails asked (parent_taken mode old new) 64 old new after fault
       → Stops fails asked sides mode new after (length old) (subtree_nodes choice number n sides source) fault
   parent_stops fails old new bytes after grown fault h =
       let q : ℕ × TreeNode = (length old, parent_node number n sides source) in
-      let all = placed-parent choice number n sides source (length old) wanted more in (
+      let all = placed_nodes-parent choice number n sides source (length old) wanted more in (
         q,
         subst (λ (ps : List (ℕ × TreeNode)). StopsAt fails asked sides mode new after ps fault q) (sym all)
             (stop_top fails asked sides mode old new after (parent_node number n sides source)
-            (placed (length old + 64) near_nodes ++ placed (length old + 64 + nodes_size near_nodes) far_nodes) (parent_taken mode old new) refl
+            (placed_nodes (length old + 64) near_nodes ++ placed_nodes (length old + 64 + nodes_size near_nodes) far_nodes) (parent_taken mode old new) refl
             (λ rest len. ap (λ (s : List ℕ). parent_taken mode [] s) (taken_at old new rest 64 bytes grown len)) fault h),
       )
 
@@ -257,22 +257,22 @@ module _ (asked : Asked) (choice : Choice) (mode : Mode) (number n : ℕ) (sides
   near_stops fails asked_near old new new_near bytes after took is grown fault h =
       let at_far : ℕ = length old + 64 + nodes_size near_nodes in
       let q : ℕ × TreeNode = (length old, parent_node number n sides source) in
-      let all = placed-parent choice number n sides source (length old) wanted more in (
+      let all = placed_nodes-parent choice number n sides source (length old) wanted more in (
         h.0,
         subst (λ (ps : List (ℕ × TreeNode)). StopsAt fails asked sides mode new_near after ps fault h.0) (sym all)
-            (near_stop fails asked asked_near sides mode new_near after q h.0 (placed (length old + 64) near_nodes) (placed at_far far_nodes) (drop (length old) new)
+            (near_stop fails asked asked_near sides mode new_near after q h.0 (placed_nodes (length old + 64) near_nodes) (placed_nodes at_far far_nodes) (drop (length old) new)
             (subtree_Tree choice number n sides source (length old) at_far)
             (λ rest. parent_tops asked mode old new (new_near ++ rest) (bytes ++ rest) number n sides source took (ap (λ (s : List ℕ). s ++ rest) grown ∙ append_assoc new bytes rest))
-            is fault (subst (λ (k : ℕ). StopsAt fails asked_near (sides ++ left ∷ []) mode new_near after (placed k near_nodes) fault h.0) took.len h.1)),
+            is fault (subst (λ (k : ℕ). StopsAt fails asked_near (sides ++ left ∷ []) mode new_near after (placed_nodes k near_nodes) fault h.0) took.len h.1)),
       )
 
   -- where the left part passed, from the encoding after it
   near_all : (asked_near : Asked) (old new new_near bytes text : List ℕ) → TookParent asked mode old new → text ≡ new_near ++ bytes
       → Passes asked_near (sides ++ left ∷ []) mode new_near (length new) near_nodes
-      → AllByRecursion (IsGoodIn asked_near (sides ++ left ∷ []) mode text (placed (length old + 64) near_nodes)) (placed (length old + 64) near_nodes)
+      → AllByRecursion (IsGoodIn asked_near (sides ++ left ∷ []) mode text (placed_nodes (length old + 64) near_nodes)) (placed_nodes (length old + 64) near_nodes)
   near_all asked_near old new new_near bytes text took on passes =
-      subst (λ (k : ℕ). AllByRecursion (IsGoodIn asked_near (sides ++ left ∷ []) mode text (placed k near_nodes)) (placed k near_nodes)) took.len
-      (subst (λ (s : List ℕ). AllByRecursion (IsGoodIn asked_near (sides ++ left ∷ []) mode s (placed (length new) near_nodes)) (placed (length new) near_nodes)) (sym on) (passes.good bytes))
+      subst (λ (k : ℕ). AllByRecursion (IsGoodIn asked_near (sides ++ left ∷ []) mode text (placed_nodes k near_nodes)) (placed_nodes k near_nodes)) took.len
+      (subst (λ (s : List ℕ). AllByRecursion (IsGoodIn asked_near (sides ++ left ∷ []) mode s (placed_nodes (length new) near_nodes)) (placed_nodes (length new) near_nodes)) (sym on) (passes.good bytes))
 
   far_at : (old new new_near : List ℕ) (asked_near : Asked) → TookParent asked mode old new → Passes asked_near (sides ++ left ∷ []) mode new_near (length new) near_nodes
       → length new_near ≡ length old + 64 + nodes_size near_nodes
@@ -286,16 +286,16 @@ module _ (asked : Asked) (choice : Choice) (mode : Mode) (number n : ℕ) (sides
   far_stops fails asked_near asked_far old new new_near new_far bytes bytes_far after took is_near is_far grown grown_far passes fault h =
       let at_far : ℕ = length old + 64 + nodes_size near_nodes in
       let q : ℕ × TreeNode = (length old, parent_node number n sides source) in
-      let all = placed-parent choice number n sides source (length old) wanted more in
+      let all = placed_nodes-parent choice number n sides source (length old) wanted more in
       let far_on = λ (rest : List ℕ). ap (λ (s : List ℕ). s ++ rest) grown_far ∙ append_assoc new_near bytes_far rest in (
         h.0,
         subst (λ (ps : List (ℕ × TreeNode)). StopsAt fails asked sides mode new_far after ps fault h.0) (sym all)
-            (far_stop fails asked asked_near asked_far sides mode new_far after q h.0 (placed (length old + 64) near_nodes) (placed at_far far_nodes) (drop (length old) new)
+            (far_stop fails asked asked_near asked_far sides mode new_far after q h.0 (placed_nodes (length old + 64) near_nodes) (placed_nodes at_far far_nodes) (drop (length old) new)
             (subtree_Tree choice number n sides source (length old) at_far)
             (λ rest. parent_tops asked mode old new (new_far ++ rest) (bytes ++ (bytes_far ++ rest)) number n sides source took
             (far_on rest ∙ ap (λ (s : List ℕ). s ++ (bytes_far ++ rest)) grown ∙ append_assoc new bytes (bytes_far ++ rest)))
             is_near is_far (λ rest. near_all asked_near old new new_near (bytes_far ++ rest) (new_far ++ rest) took (far_on rest) passes)
-            fault (subst (λ (k : ℕ). StopsAt fails asked_far (sides ++ right ∷ []) mode new_far after (placed k far_nodes) fault h.0) (far_at old new new_near asked_near took passes) h.1)),
+            fault (subst (λ (k : ℕ). StopsAt fails asked_far (sides ++ right ∷ []) mode new_far after (placed_nodes k far_nodes) fault h.0) (far_at old new new_near asked_near took passes) h.1)),
       )
 
   pub whole_passes : (asked_near asked_far : Asked) (old new new_near new_far bytes bytes_far : List ℕ) → TookParent asked mode old new
@@ -307,9 +307,9 @@ module _ (asked : Asked) (choice : Choice) (mode : Mode) (number n : ℕ) (sides
       let at_far : ℕ = length old + 64 + nodes_size near_nodes in
       let pn : TreeNode = parent_node number n sides source in
       let q : ℕ × TreeNode = (length old, pn) in
-      let near : List (ℕ × TreeNode) = placed (length old + 64) near_nodes in
-      let far : List (ℕ × TreeNode) = placed at_far far_nodes in
-      let all = placed-parent choice number n sides source (length old) wanted more in
+      let near : List (ℕ × TreeNode) = placed_nodes (length old + 64) near_nodes in
+      let far : List (ℕ × TreeNode) = placed_nodes at_far far_nodes in
+      let all = placed_nodes-parent choice number n sides source (length old) wanted more in
       let nodes = subtree_nodes-parent choice number n sides source wanted more in
       let sum : nodes_size (subtree_nodes choice number n sides source) ≡ 64 + (nodes_size near_nodes + nodes_size far_nodes) =
       ap nodes_size nodes ∙ nodes_size-cons pn (near_nodes ++ far_nodes) ∙ ap (λ (k : ℕ). 64 + k) (sum_by-append size near_nodes far_nodes) in
@@ -321,7 +321,7 @@ module _ (asked : Asked) (choice : Choice) (mode : Mode) (number n : ℕ) (sides
             parent_tops asked mode old new (new_far ++ rest) (bytes ++ (bytes_far ++ rest)) number n sides source took
             (on ∙ ap (λ (s : List ℕ). s ++ (bytes_far ++ rest)) grown ∙ append_assoc new bytes (bytes_far ++ rest)) in
             let near_good_all = near_all asked_near old new new_near (bytes_far ++ rest) (new_far ++ rest) took on near_passes in
-            let far_good_all = subst (λ (k : ℕ). AllByRecursion (IsGoodIn asked_far (sides ++ right ∷ []) mode (new_far ++ rest) (placed k far_nodes)) (placed k far_nodes))
+            let far_good_all = subst (λ (k : ℕ). AllByRecursion (IsGoodIn asked_far (sides ++ right ∷ []) mode (new_far ++ rest) (placed_nodes k far_nodes)) (placed_nodes k far_nodes))
             (far_at old new new_near asked_near took near_passes) (far_passes.good rest) in
             subst (λ (ps : List (ℕ × TreeNode)). AllByRecursion (IsGoodIn asked sides mode (new_far ++ rest) ps) ps) (sym all)
             (whole_good asked sides mode (new_far ++ rest) q near far (subtree_Tree choice number n sides source (length old) at_far) top.there top.meets

@@ -12,7 +12,7 @@ use Rattle.b3tree.specs.Chunk.{last_chunk_input}
 use Rattle.b3tree.specs.Tree.{left_len, parent_input}
 use Rattle.bao_text.specs.Choice.{chunk_count, of_slice, wants}
 use Rattle.bao_text.specs.Cut.{claimed}
-use Rattle.bao_text.specs.Nodes.{TreeNode, Side, left, placed, right, subtree_nodes, subtree_size}
+use Rattle.bao_text.specs.Nodes.{TreeNode, Side, left, placed_nodes, right, subtree_nodes, subtree_size}
 use Rattle.bao_text.proofs.SubtreeNodes.{parent_node, subtree_nodes-unwanted}
 use Rattle.bao_text.proofs.SubtreeText.{Parts, left_len-Parts}
 use Rattle.bao_check.specs.Accepted.{IsAccepted, part_value, places_of, slice_nodes}
@@ -25,7 +25,7 @@ use Rattle.bao_check.proofs.Certified.{is_top-below, same_chunk, text_inputs-far
 use Rattle.bao_check.proofs.Lists.{Contains-head, Contains-tail, nodes_size}
 use Rattle.bao_check.proofs.Locating.{chunk_in-place, chunk_place-far, chunk_place-near, count_parts}
 use Rattle.bao_check.proofs.Parenting.{parent_in-place, parent_place-far, parent_place-here, parent_place-near}
-use Rattle.bao_check.proofs.Parts.{AreGood-split, PartsGood, placed-parent}
+use Rattle.bao_check.proofs.Parts.{AreGood-split, PartsGood, placed_nodes-parent}
 use Rattle.bao_check.proofs.Walking.{chunk_node, leaf_nodes, leaf_without}
 
 -- from the top of an accepted encoding
@@ -61,9 +61,9 @@ pub record AtParent (parents : ℕ → Option (List ℕ)) (inputs : List Input) 
   pub far : from + left_len n / 1024 ≤ number → LeadsTo parents inputs mode false (part_value right parent) (from + left_len n / 1024) (n - left_len n) number bytes
 
 -- no nodes have a chunk
-no_chunk : (text : List ℕ) (at number : ℕ) (bytes : List ℕ) (nodes : List TreeNode) → nodes ≡ [] → chunk_in text (placed at nodes) number ≡ Some bytes → ⊥
+no_chunk : (text : List ℕ) (at number : ℕ) (bytes : List ℕ) (nodes : List TreeNode) → nodes ≡ [] → chunk_in text (placed_nodes at nodes) number ≡ Some bytes → ⊥
 no_chunk text at number bytes nodes none there =
-    let bad : None ≡ Some bytes = ap (λ (xs : List TreeNode). chunk_in text (placed at xs) number) (sym none) ∙ there in cc
+    let bad : None ≡ Some bytes = ap (λ (xs : List TreeNode). chunk_in text (placed_nodes at xs) number) (sym none) ∙ there in cc
 
 at_chunk : (inputs : List Input) (mode : Mode) (top : Bool) (value : List ℕ) (from n number : ℕ) (bytes text : List ℕ) (at : ℕ) (sides : List Side) (source : ℕ) → top ≡ is_top sides
     → AreGood (asked_of top value) sides mode text at (chunk_node from n sides source ∷ [])
@@ -94,8 +94,8 @@ way_chunk parents inputs mode top value from n number bytes one w =
                 let node : nodes ≡ chunk_node from n w.sides w.source ∷ [] = leaf_nodes w.choice from n w.sides w.source wanted one with_chunks in
                 at_chunk inputs mode top value from n number bytes w.text w.at w.sides w.source w.top_is
                 (subst (λ (xs : List TreeNode). AreGood (asked_of top value) w.sides mode w.text w.at xs) node w.good)
-                (subst (λ (xs : List TreeNode). chunk_in w.text (placed w.at xs) number ≡ Some bytes) node w.there)
-                (subst (λ (xs : List TreeNode). (x : Input) → Contains (text_inputs mode w.text (placed w.at xs)) x → Contains inputs x) node w.inputs_are)
+                (subst (λ (xs : List TreeNode). chunk_in w.text (placed_nodes w.at xs) number ≡ Some bytes) node w.there)
+                (subst (λ (xs : List TreeNode). (x : Input) → Contains (text_inputs mode w.text (placed_nodes w.at xs)) x → Contains inputs x) node w.inputs_are)
           ]
     ]
 
@@ -108,7 +108,7 @@ module _ (parents : ℕ → Option (List ℕ)) (inputs : List Input) (mode : Mod
   parent = take 64 (drop w.at w.text)
 
   abbrev all : List (ℕ × TreeNode)
-  all = placed w.at (subtree_nodes w.choice from n w.sides w.source)
+  all = placed_nodes w.at (subtree_nodes w.choice from n w.sides w.source)
 
   abbrev near_source : ℕ
   near_source = w.source + 64
@@ -123,10 +123,10 @@ module _ (parents : ℕ → Option (List ℕ)) (inputs : List Input) (mode : Mod
   far_nodes = subtree_nodes w.choice middle (n - left_len n) (w.sides ++ right ∷ []) far_source
 
   abbrev near : List (ℕ × TreeNode)
-  near = placed (w.at + 64) near_nodes
+  near = placed_nodes (w.at + 64) near_nodes
 
   abbrev far : List (ℕ × TreeNode)
-  far = placed (w.at + 64 + nodes_size near_nodes) far_nodes
+  far = placed_nodes (w.at + 64 + nodes_size near_nodes) far_nodes
 
   abbrev here : ℕ × TreeNode
   here = (w.at, parent_node from n w.sides w.source)
@@ -135,7 +135,7 @@ module _ (parents : ℕ → Option (List ℕ)) (inputs : List Input) (mode : Mod
   split = AreGood-split (asked_of top value) w.choice mode w.text w.at from n w.sides w.source wanted more w.good
 
   places_are : all ≡ here ∷ (near ++ far)
-  places_are = placed-parent w.choice from n w.sides w.source w.at wanted more
+  places_are = placed_nodes-parent w.choice from n w.sides w.source w.at wanted more
 
   counts : chunk_count n ≡ left_len n / 1024 + chunk_count (n - left_len n)
   counts = count_parts n more

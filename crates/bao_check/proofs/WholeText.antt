@@ -5,7 +5,7 @@ use Rattle.std.specs.Int.{w64, from_le_bytes}
 use Rattle.b3tree.specs.declared.mode.Mode.{Mode}
 use Rattle.bao_text.specs.declared.choice.Choice.{Choice}
 use Rattle.bao_text.specs.Cut.{claimed}
-use Rattle.bao_text.specs.Nodes.{TreeNode, chosen_nodes, placed, subtree_nodes}
+use Rattle.bao_text.specs.Nodes.{TreeNode, chosen_nodes, placed_nodes, subtree_nodes}
 use Rattle.bao_check.specs.declared.asked.Asked.{Asked}
 use Rattle.bao_check.specs.declared.fault.CheckFault.{CheckFault}
 use Rattle.bao_check.specs.declared.form.Form.{Form}
@@ -72,12 +72,12 @@ trailing_from_walk mode root form new rest text is more h =
 
 -- the first place that isn't good, from a walk that ended at it
 short_place : (mode : Mode) (root text : List ℕ) (nodes : List TreeNode) (place : ℕ × TreeNode) → length text < end_of place
-    → AreGoodUpTo (asked_root root) [] mode text (placed 8 nodes) place → IsFirstBad mode root text (places_of nodes) place
+    → AreGoodUpTo (asked_root root) [] mode text (placed_nodes 8 nodes) place → IsFirstBad mode root text (places_of nodes) place
 short_place mode root text nodes place short h =
     record { earlier = h.earlier; later = h.later; split = h.split; good = h.good; bad = λ good. let there : end_of place ≤ length text = good.0 in absurd (omega arith) }
 
-pub bad_place : (mode : Mode) (root text : List ℕ) (nodes : List TreeNode) (place : ℕ × TreeNode) → ¬ IsAskedIn (asked_root root) [] mode text (placed 8 nodes) place
-    → AreGoodUpTo (asked_root root) [] mode text (placed 8 nodes) place → IsFirstBad mode root text (places_of nodes) place
+pub bad_place : (mode : Mode) (root text : List ℕ) (nodes : List TreeNode) (place : ℕ × TreeNode) → ¬ IsAskedIn (asked_root root) [] mode text (placed_nodes 8 nodes) place
+    → AreGoodUpTo (asked_root root) [] mode text (placed_nodes 8 nodes) place → IsFirstBad mode root text (places_of nodes) place
 bad_place mode root text nodes place bad h =
     record { earlier = h.earlier; later = h.later; split = h.split; good = h.good; bad = λ good. bad good.1 }
 
@@ -86,14 +86,14 @@ none_left : (new rest text : List ℕ) → text ≡ new ++ rest → rest ≡ [] 
 none_left new rest text is none = sym (append-nil new) ∙ ap (λ (s : List ℕ). new ++ s) (sym none) ∙ sym is
 
 pub short_at : (mode : Mode) (root new text : List ℕ) (form : Form) (at : ℕ) (place : ℕ × TreeNode) → new ≡ text → 8 ≤ length new → at ≡ place.0 → length new < end_of place
-    → AreGoodUpTo (asked_root root) [] mode new (placed 8 (form_nodes form new)) place → IsShortAt mode root text (form_nodes form text) at
+    → AreGoodUpTo (asked_root root) [] mode new (placed_nodes 8 (form_nodes form new)) place → IsShortAt mode root text (form_nodes form text) at
 short_at mode root new text form at place same long is short good =
     subst (λ (s : List ℕ). IsShortAt mode root s (form_nodes form s) at) same
     (inr (long, (place, short_place mode root new (form_nodes form new) place short good, is, short)))
 
 pub mismatch_at : (mode : Mode) (root new rest text : List ℕ) (form : Form) (at : ℕ) (place : ℕ × TreeNode) → text ≡ new ++ rest → 8 ≤ length new → at ≡ place.0 → length new ≡ end_of place
-    → AreGoodUpTo (asked_root root) [] mode (new ++ rest) (placed 8 (form_nodes form new)) place
-    → ¬ IsAskedIn (asked_root root) [] mode (new ++ rest) (placed 8 (form_nodes form new)) place → IsMismatchAt mode root text (form_nodes form text) at
+    → AreGoodUpTo (asked_root root) [] mode (new ++ rest) (placed_nodes 8 (form_nodes form new)) place
+    → ¬ IsAskedIn (asked_root root) [] mode (new ++ rest) (placed_nodes 8 (form_nodes form new)) place → IsMismatchAt mode root text (form_nodes form text) at
 mismatch_at mode root new rest text form at place is long at_is len good bad =
     let same : form_nodes form new ≡ form_nodes form text = form_nodes-append form new rest text long is in
     let size : length (new ++ rest) ≡ length new + length rest = length-append new rest in

@@ -10,7 +10,7 @@ use Rattle.b3tree.specs.Tree.{parent_input}
 use Rattle.b3tree.specs.Hashing.{rooted}
 use Rattle.bao_text.specs.Choice.{of_outboard}
 use Rattle.bao_text.specs.Cut.{claimed}
-use Rattle.bao_text.specs.Nodes.{TreeNode, Side, chosen_nodes, left, nodes, placed, right, size}
+use Rattle.bao_text.specs.Nodes.{TreeNode, Side, chosen_nodes, left, nodes, placed_nodes, right, size}
 
 -- where the node of a place ends: a place is an offset in the encoding, and the node that begins there
 abbrev pub end_of : ℕ × TreeNode → ℕ
@@ -26,14 +26,14 @@ part_value left bytes = words_of 8 (take 32 bytes)
 part_value right bytes = words_of 8 (drop 32 bytes)
 
 -- the last compression of a node with these bytes: a chunk's last, or a parent's
-abbrev pub input_of : Mode → TreeNode → List ℕ → Input
-input_of mode node bytes =
+abbrev pub node_input : Mode → TreeNode → List ℕ → Input
+node_input mode node bytes =
     if node.is_chunk then last_chunk_input mode node.number bytes
     else parent_input mode (part_value left bytes) (part_value right bytes)
 
 -- that of the node at a place
 abbrev pub input_at : Mode → List ℕ → ℕ × TreeNode → Input
-input_at mode text place = input_of mode place.1 (bytes_at text place)
+input_at mode text place = node_input mode place.1 (bytes_at text place)
 
 -- The node at a place has the value that its place asks for: at the top, with ROOT, the root's words;
 -- below a parent the half of it that the node's last side names.
@@ -44,12 +44,12 @@ IsAsked mode root text places place =
     → cv (input_at mode text place) ≡ part_value side (bytes_at text above))
 
 -- the node is there, and has its value
-abbrev pub IsGood : Mode → List ℕ → List ℕ → List (ℕ × TreeNode) → ℕ × TreeNode → Type 0
-IsGood mode root text places place = (end_of place ≤ length text) × IsAsked mode root text places place
+abbrev pub IsGoodNode : Mode → List ℕ → List ℕ → List (ℕ × TreeNode) → ℕ × TreeNode → Type 0
+IsGoodNode mode root text places place = (end_of place ≤ length text) × IsAsked mode root text places place
 
 -- an encoding's nodes with their offsets: the first 8 bytes are the length
 abbrev pub places_of : List TreeNode → List (ℕ × TreeNode)
-places_of nodes = placed 8 nodes
+places_of nodes = placed_nodes 8 nodes
 
 -- where the last of them ends
 abbrev pub text_end : List TreeNode → ℕ
@@ -58,7 +58,7 @@ text_end nodes = 8 + sum_by size nodes
 -- the encoding is the length and these nodes, all of them good, and nothing follows
 pub record IsAccepted (mode : Mode) (root text : List ℕ) (nodes : List TreeNode) : Type 0 where
   pub long : 8 ≤ length text
-  pub good : AllByRecursion (IsGood mode root text (places_of nodes)) (places_of nodes)
+  pub good : AllByRecursion (IsGoodNode mode root text (places_of nodes)) (places_of nodes)
   pub ends : length text ≡ text_end nodes
 
 -- the nodes of the slice (start, len) in an encoding, by the length that it claims

@@ -4,7 +4,7 @@ use Rattle.std.specs.List.{AllByRecursion-prop}
 use Rattle.std.specs.Coded.{×_prop, Π_prop, le_prop, Coded-set, coded_ℕ, coded_list}
 use Rattle.b3tree.specs.declared.mode.Mode.{Mode}
 use Rattle.bao_text.specs.Nodes.{TreeNode}
-use Rattle.bao_check.specs.Accepted.{IsAccepted, IsAsked, IsGood, places_of, text_end}
+use Rattle.bao_check.specs.Accepted.{IsAccepted, IsAsked, IsGoodNode, places_of, text_end}
 
 -- so has an equation of two numbers
 same_number-prop : (a b : ℕ) → IsProp (a ≡ b)
@@ -20,11 +20,11 @@ IsAsked-prop mode root text places place =
     ×_prop (Π_prop (λ _. same_list-prop _ _)) (Π_prop (λ above. Π_prop (λ side. Π_prop (λ _. Π_prop (λ _. same_list-prop _ _)))))
 
 -- and that it is there and has its value
-pub IsGood-prop : (mode : Mode) (root text : List ℕ) (places : List (ℕ × TreeNode)) (place : ℕ × TreeNode) → IsProp (IsGood mode root text places place)
-IsGood-prop mode root text places place = ×_prop le_prop (IsAsked-prop mode root text places place)
+pub IsGoodNode-prop : (mode : Mode) (root text : List ℕ) (places : List (ℕ × TreeNode)) (place : ℕ × TreeNode) → IsProp (IsGoodNode mode root text places place)
+IsGoodNode-prop mode root text places place = ×_prop le_prop (IsAsked-prop mode root text places place)
 
 pub IsAccepted-prop : (mode : Mode) (root text : List ℕ) (nodes : List TreeNode) → IsProp (IsAccepted mode root text nodes)
 IsAccepted-prop mode root text nodes =
-    let good = AllByRecursion-prop (IsGood mode root text (places_of nodes)) (IsGood-prop mode root text (places_of nodes)) (places_of nodes) in
+    let good = AllByRecursion-prop (IsGoodNode mode root text (places_of nodes)) (IsGoodNode-prop mode root text (places_of nodes)) (places_of nodes) in
     let ends = same_number-prop (length text) (text_end nodes) in
     Prim.hlevel (le_prop, good, ends)

@@ -17,24 +17,24 @@ use Rattle.bao_check.specs.Accepted.{part_value}
 use Rattle.bao_check.specs.Walk.{Meets}
 
 -- the input that so many bytes make as chunk k
-abbrev pub input_of : Bare → ℕ → ℕ → Input
-input_of bare k len = last_chunk_input bare.mode k (take len (drop (bare_at bare.first k) bare.chunks.now))
+abbrev pub bare_input : Bare → ℕ → ℕ → Input
+bare_input bare k len = last_chunk_input bare.mode k (take len (drop (bare_at bare.first k) bare.chunks.now))
 
 -- the eight chunks are there, and have these values
 pub record AreEight (bare : Bare) (eight : Eight) : Type 0 where
   pub there : bare_at bare.first eight.first + 8192 ≤ length bare.chunks.now
   pub from : bare.first ≤ eight.first
-  pub values : (j : ℕ) (value : Cv) → slice_get eight.values j ≡ Some value → value.0 ≡ cv (input_of bare (eight.first + j) 1024)
+  pub values : (j : ℕ) (value : Cv) → slice_get eight.values j ≡ Some value → value.0 ≡ cv (bare_input bare (eight.first + j) 1024)
 
 -- they are there, and have the value that is asked for
 abbrev pub IsChunkGood : Bare → Asked → ℕ → ℕ → Type 0
-IsChunkGood bare asked k len = (bare_at bare.first k + len ≤ length bare.chunks.now) × Meets asked (input_of bare k len)
+IsChunkGood bare asked k len = (bare_at bare.first k + len ≤ length bare.chunks.now) × Meets asked (bare_input bare k len)
 
 -- they aren't, or haven't
 abbrev pub ChunkStops : Bare → Asked → ℕ → ℕ → CheckFault → Type 0
 ChunkStops bare asked k len (Short at) = (at ≡ bare_at bare.first k) × (length bare.chunks.now < bare_at bare.first k + len)
 ChunkStops bare asked k len (Mismatch at) =
-    (at ≡ bare_at bare.first k) × (bare_at bare.first k + len ≤ length bare.chunks.now) × ¬ Meets asked (input_of bare k len)
+    (at ≡ bare_at bare.first k) × (bare_at bare.first k + len ≤ length bare.chunks.now) × ¬ Meets asked (bare_input bare k len)
 ChunkStops bare asked k len (Trailing at) = ⊥
 ChunkStops bare asked k len Memory = ⊥
 ChunkStops bare asked k len Reader = ⊥
@@ -58,21 +58,21 @@ abbrev pub part_input : Bare → ℕ → ℕ → Input
 part_input bare end k = last_chunk_input bare.mode k (bare_chunk end bare.first bare.chunks.now k)
 
 -- chunk k is wanted, and is one of the subtree's
-pub record IsWanted (bare : Bare) (number n k : ℕ) : Type 0 where
+pub record IsWantedChunk (bare : Bare) (number n k : ℕ) : Type 0 where
   pub first : bare.first ≤ k
   pub after : k < bare.after
   pub from : number ≤ k
   pub below : k < number + chunk_count n
 
 -- it is there, and has the outline's value
-abbrev pub IsGoodIn : Bare → Asked → ℕ → ℕ → ℕ → ℕ → Type 0
-IsGoodIn bare asked number n at k =
+abbrev pub IsGoodChunkIn : Bare → Asked → ℕ → ℕ → ℕ → ℕ → Type 0
+IsGoodChunkIn bare asked number n at k =
     IsWhollyThere (1024 * number + n) bare.first bare.chunks.now k
     × ((levels : ℕ) → n ≤ 1024 * levels + 1024 → Meets (asks levels asked bare.outline.now k number n at) (part_input bare (1024 * number + n) k))
 
 -- all wanted chunks of the subtree are
 abbrev pub PartPasses : Bare → Asked → ℕ → ℕ → ℕ → Type 0
-PartPasses bare asked number n at = (k : ℕ) → IsWanted bare number n k → IsGoodIn bare asked number n at k
+PartPasses bare asked number n at = (k : ℕ) → IsWantedChunk bare number n k → IsGoodChunkIn bare asked number n at k
 
 -- what is wrong with the first that isn't
 abbrev pub IsBadIn : Bare → Asked → ℕ → ℕ → ℕ → ℕ → CheckFault → Type 0
@@ -86,6 +86,6 @@ IsBadIn bare asked number n at k Reader = ⊥
 
 pub record PartStops (bare : Bare) (asked : Asked) (number n at : ℕ) (fault : CheckFault) : Type 0 where
   pub k : ℕ
-  pub wanted : IsWanted bare number n k
-  pub good : (j : ℕ) → j < k → IsWanted bare number n j → IsGoodIn bare asked number n at j
+  pub wanted : IsWantedChunk bare number n k
+  pub good : (j : ℕ) → j < k → IsWantedChunk bare number n j → IsGoodChunkIn bare asked number n at j
   pub is : IsBadIn bare asked number n at k fault

@@ -3,10 +3,10 @@ use Rattle.std.specs.Prelude.{◌≡◌, ℕ, ◌^◌, ◌<◌, ◌≤◌, List,
 use Rattle.bao_check.specs.declared.checking.Checking.{Checking}
 use Rattle.bao_check.specs.declared.fault.CheckFault.{CheckFault}
 use Rattle.bao_check.specs.declared.fault.CheckFault.TheVariants.{Short, Mismatch, Trailing, Memory, Reader}
-use Rattle.bao_check.specs.Waiting.{IsFaultAs, Task, WaitsIn, next_size}
+use Rattle.bao_check.specs.Waiting.{CheckTask, IsFaultAs, WaitsIn, next_size}
 
 -- what it checks an encoding as
-abbrev pub task_of : Checking → Task
+abbrev pub task_of : Checking → CheckTask
 task_of check = record { mode = check.mode; root = check.root.0; start = check.start; len = check.len }
 
 -- how many bytes it wants next, if any: first the 8 of the length
@@ -14,14 +14,14 @@ abbrev pub wanted : Checking → Option ℕ
 wanted check = if nat_eq check.at 0 then Some 8 else next_size check.waiting.items
 
 -- It checks an encoding as that, and has taken these bytes of it, all of them good.
-pub record HasTakenAs (check : Checking) (task : Task) (taken : List ℕ) : Type 0 where
+pub record HasTakenAs (check : Checking) (task : CheckTask) (taken : List ℕ) : Type 0 where
   pub task_is : task_of check ≡ task
   pub at_is : check.at ≡ length taken
   pub waits : 0 < check.at → (more : List ℕ) → WaitsIn task check.choice check.waiting.items (taken ++ more) (length taken)
 
 -- Why a node isn't taken, where the encoding would be these bytes with it: it is the first fault of each encoding that begins so,
 -- or there would be more bytes than can be counted.
-abbrev pub IsNodeFault : Task → List ℕ → CheckFault → Type 0
+abbrev pub IsNodeFault : CheckTask → List ℕ → CheckFault → Type 0
 IsNodeFault task text (Short at) = ⊥
 IsNodeFault task text (Mismatch at) = (more : List ℕ) → IsFaultAs task (text ++ more) (Mismatch at)
 IsNodeFault task text (Trailing at) = ⊥

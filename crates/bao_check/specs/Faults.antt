@@ -5,7 +5,7 @@ use Rattle.b3tree.specs.declared.mode.Mode.{Mode}
 use Rattle.bao_text.specs.Nodes.{TreeNode}
 use Rattle.bao_check.specs.declared.fault.CheckFault.{CheckFault}
 use Rattle.bao_check.specs.declared.fault.CheckFault.TheVariants.{Short, Mismatch, Trailing, Memory, Reader}
-use Rattle.bao_check.specs.Accepted.{IsGood, end_of, places_of, text_end}
+use Rattle.bao_check.specs.Accepted.{IsGoodNode, end_of, places_of, text_end}
 
 -- the number of each fault
 abbrev pub number_of : CheckFault → ℕ
@@ -20,8 +20,8 @@ pub record IsFirstBad (mode : Mode) (root text : List ℕ) (places : List (ℕ �
   pub earlier : List (ℕ × TreeNode)
   pub later : List (ℕ × TreeNode)
   pub split : places ≡ earlier ++ place ∷ later
-  pub good : AllByRecursion (IsGood mode root text places) earlier
-  pub bad : ¬ IsGood mode root text places place
+  pub good : AllByRecursion (IsGoodNode mode root text places) earlier
+  pub bad : ¬ IsGoodNode mode root text places place
 
 -- That the encoding's first fault, by its nodes, is `Short`: it ends before its length's end, or before the
 -- end of the first node that isn't good. The fault is where that begins.
@@ -40,7 +40,7 @@ IsMismatchAt mode root text nodes at =
 -- all nodes are good, and something follows them
 abbrev pub IsTrailingAt : Mode → List ℕ → List ℕ → List TreeNode → ℕ → Type 0
 IsTrailingAt mode root text nodes at =
-    (8 ≤ length text) × AllByRecursion (IsGood mode root text (places_of nodes)) (places_of nodes) × (at ≡ text_end nodes) × (at < length text)
+    (8 ≤ length text) × AllByRecursion (IsGoodNode mode root text (places_of nodes)) (places_of nodes) × (at ≡ text_end nodes) × (at < length text)
 
 -- the fault is the encoding's first one
 abbrev pub IsFirstFault : Mode → List ℕ → List ℕ → List TreeNode → CheckFault → Type 0

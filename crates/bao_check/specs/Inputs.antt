@@ -67,5 +67,5 @@ pub record Names (ours theirs : List Input) (x y : Input) : Type 0 where
   pub same : cv x ≡ cv y
 
 -- a collision is exhibited from a blob and an encoding with these nodes
-abbrev pub NamesPair : Mode → List ℕ → List ℕ → List (ℕ × TreeNode) → Type 0
-NamesPair mode blob text places = (x : Input) × ((y : Input) × Names (blob_inputs mode blob) (text_inputs mode text places) x y)
+abbrev pub NamesCollision : Mode → List ℕ → List ℕ → List (ℕ × TreeNode) → Type 0
+NamesCollision mode blob text places = (x : Input) × ((y : Input) × Names (blob_inputs mode blob) (text_inputs mode text places) x y)

@@ -13,7 +13,7 @@ use Rattle.bao_check.specs.Accepted.{IsAccepted, outboard_nodes, places_of, slic
 use Rattle.bao_check.specs.Bare.{AreBare, bare_part}
 use Rattle.bao_check.specs.Beside.{beside_text}
 use Rattle.bao_check.specs.Certificate.{Certificate, IsLast}
-use Rattle.bao_check.specs.Inputs.{Names, NamesPair, blob_inputs, certificate_inputs}
+use Rattle.bao_check.specs.Inputs.{Names, NamesCollision, blob_inputs, certificate_inputs}
 use Rattle.bao_text.specs.NodeNames.{boundary}
 use Rattle.bao_check.specs.Parents.{parent_in, parent_of}
 use Rattle.bao_check.specs.Pieces.{chunk_in, chunk_of}
@@ -21,10 +21,10 @@ use Rattle.bao_check.specs.Pieces.{chunk_in, chunk_of}
 -- The bytes are the blob's chunk of that number, and where it is the last of the length that the encoding
 -- claims, that length is the blob's: or a collision is exhibited, one input of the blob's and one of the
 -- encoding's.
-abbrev pub Binds : Mode → List ℕ → ℕ → ℕ → List ℕ → ℕ → List ℕ → Type 0
-Binds mode text start len blob number bytes =
+abbrev pub BindsChunk : Mode → List ℕ → ℕ → ℕ → List ℕ → ℕ → List ℕ → Type 0
+BindsChunk mode text start len blob number bytes =
     ((chunk_of blob number ≡ Some bytes) × (number + 1 ≡ chunk_count (claimed text) → claimed text ≡ length blob))
-    ⊎ NamesPair mode blob text (places_of (slice_nodes text start len))
+    ⊎ NamesCollision mode blob text (places_of (slice_nodes text start len))
 
 -- For each certificate under a root, and each blob with that root: its bytes are the blob's chunk of that number, and
 -- where it is last the blob ends with them; or a collision is exhibited, one input of the blob's and one of the
@@ -41,7 +41,7 @@ abbrev pub AcceptedBinds : Type 0
 AcceptedBinds = (mode : Mode) (root text blob : List ℕ) (start len number : ℕ) (bytes : List ℕ)
     → IsKeyed mode → AreBytes blob → AreBytes text → hash mode blob ≡ root
     → IsAccepted mode root text (slice_nodes text start len) → chunk_in text (places_of (slice_nodes text start len)) number ≡ Some bytes
-    → Binds mode text start len blob number bytes
+    → BindsChunk mode text start len blob number bytes
 
 -- For each blob of less than 2 ^ 64 bytes: each slice of it is accepted under its hash, so is its combined
 -- encoding, as the slice of everything, and so is its outboard encoding.
@@ -67,7 +67,7 @@ ParentBinds = (mode : Mode) (root text blob : List ℕ) (start len m : ℕ) (byt
     → IsKeyed mode → AreBytes blob → AreBytes text → hash mode blob ≡ root
     → IsAccepted mode root text (slice_nodes text start len) → claimed text ≡ length blob
     → parent_in text (places_of (slice_nodes text start len)) m ≡ Some bytes
-    → (parent_of mode blob m ≡ Some bytes) ⊎ NamesPair mode blob text (places_of (slice_nodes text start len))
+    → (parent_of mode blob m ≡ Some bytes) ⊎ NamesCollision mode blob text (places_of (slice_nodes text start len))
 
 -- what is known of a blob at a node: a chunk by its number, a parent by its boundary
 abbrev pub known_at : (ℕ → Option (List ℕ)) → (ℕ → Option (List ℕ)) → TreeNode → Option (List ℕ)

@@ -16,12 +16,12 @@ abbrev pub HasDigits : ℕ → ℕ → Type 0
 HasDigits x t = (x < 2 ^ t) × (2 ^ t ≤ 2 * x + 1)
 
 -- the first chunk that the choice wants, counted from chunk `number` on
-abbrev pub first_of : Choice → ℕ → ℕ
-first_of choice number = choice.start / 1024 - number
+abbrev pub first_wanted : Choice → ℕ → ℕ
+first_wanted choice number = choice.start / 1024 - number
 
 -- how many bytes of wanted chunks stand before chunk k of a subtree, where the choice has chunks
 abbrev pub bytes_before : Choice → ℕ → ℕ → ℕ
-bytes_before choice number k = if choice.chunks then 1024 * (k - min (first_of choice number) k) else 0
+bytes_before choice number k = if choice.chunks then 1024 * (k - min (first_wanted choice number) k) else 0
 
 -- How many parents stand before chunk k, of which t digits tell that it isn't the last, where chunk d is the first that is wanted
 -- of it and those before it.

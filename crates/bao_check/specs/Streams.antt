@@ -10,7 +10,7 @@ use Rattle.b3tree.specs.declared.mode.Mode.{Mode}
 use Rattle.bao_text.specs.Nodes.{TreeNode}
 use Rattle.bao_check.specs.declared.fault.CheckFault.{CheckFault}
 use Rattle.bao_check.specs.declared.fault.CheckFault.TheVariants.{Short, Mismatch, Trailing, Memory, Reader}
-use Rattle.bao_check.specs.Accepted.{IsAccepted, IsGood, end_of, places_of, slice_nodes}
+use Rattle.bao_check.specs.Accepted.{IsAccepted, IsGoodNode, end_of, places_of, slice_nodes}
 use Rattle.bao_check.specs.Faults.{IsFirstBad, IsMismatchAt, IsShortAt}
 
 -- `Vec<u8>` as the logic holds it, for the clause on what a vector holds once nothing borrows it
@@ -46,7 +46,7 @@ pub record ReachesNode (mode : Mode) (root read : List ℕ) (places : List (ℕ 
   pub earlier : List (ℕ × TreeNode)
   pub later : List (ℕ × TreeNode)
   pub split : places ≡ earlier ++ place ∷ later
-  pub good : AllByRecursion (IsGood mode root read places) earlier
+  pub good : AllByRecursion (IsGoodNode mode root read places) earlier
   pub within : length read ≤ end_of place
 
 -- they end no later than the length that an encoding begins with, or than such a node
@@ -61,9 +61,9 @@ EndsMismatched mode root read nodes at =
 
 -- What was read when a check ended with a fault, and what the reader has then: nothing where the bytes are
 -- too few, and never a byte after the node at which it ended.
-abbrev pub ReadFault : Mode → List ℕ → ℕ → ℕ → List ℕ → Option (List ℕ) → CheckFault → Type 0
-ReadFault mode root start len read after (Short at) = IsShortAt mode root read (slice_nodes read start len) at × IsAtEnd after
-ReadFault mode root start len read after (Mismatch at) = EndsMismatched mode root read (slice_nodes read start len) at
-ReadFault mode root start len read after (Trailing at) = ⊥
-ReadFault mode root start len read after Memory = EndsWithin mode root read (slice_nodes read start len)
-ReadFault mode root start len read after Reader = EndsWithin mode root read (slice_nodes read start len)
+abbrev pub IsReadFault : Mode → List ℕ → ℕ → ℕ → List ℕ → Option (List ℕ) → CheckFault → Type 0
+IsReadFault mode root start len read after (Short at) = IsShortAt mode root read (slice_nodes read start len) at × IsAtEnd after
+IsReadFault mode root start len read after (Mismatch at) = EndsMismatched mode root read (slice_nodes read start len) at
+IsReadFault mode root start len read after (Trailing at) = ⊥
+IsReadFault mode root start len read after Memory = EndsWithin mode root read (slice_nodes read start len)
+IsReadFault mode root start len read after Reader = EndsWithin mode root read (slice_nodes read start len)

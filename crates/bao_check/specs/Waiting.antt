@@ -85,22 +85,22 @@ pub record HasRefused (mode : Mode) (choice : Choice) (parts : List Part) (at : 
   pub stops : (taken more : List ℕ) → at ≡ length taken → AllStop mode choice parts ((taken ++ node) ++ more) (length taken) fault
 
 -- what an encoding is checked as: the slice (start, len) of the blob with the hash `root`
-pub record Task : Type 0 where
+pub record CheckTask : Type 0 where
   pub mode : Mode
   pub root : List ℕ
   pub start : ℕ
   pub len : ℕ
 
 -- the encoding is accepted as that
-abbrev pub IsAcceptedAs : Task → List ℕ → Type 0
+abbrev pub IsAcceptedAs : CheckTask → List ℕ → Type 0
 IsAcceptedAs task text = IsAccepted task.mode task.root text (slice_nodes text task.start task.len)
 
 -- this is the first fault that it has as that
-abbrev pub IsFaultAs : Task → List ℕ → CheckFault → Type 0
+abbrev pub IsFaultAs : CheckTask → List ℕ → CheckFault → Type 0
 IsFaultAs task text fault = IsFirstFault task.mode task.root text (slice_nodes text task.start task.len) fault
 
 -- What the parts, from the encoding's place `at` on, come to, tells whether the encoding is accepted, and else its first fault.
-pub record WaitsIn (task : Task) (choice : Choice) (parts : List Part) (text : List ℕ) (at : ℕ) : Type 0 where
+pub record WaitsIn (task : CheckTask) (choice : Choice) (parts : List Part) (text : List ℕ) (at : ℕ) : Type 0 where
   pub accepted : (end : ℕ) → AllPass task.mode choice parts text at end → length text ≤ end → IsAcceptedAs task text
   pub trailing : (end : ℕ) → AllPass task.mode choice parts text at end → end < length text → IsFaultAs task text (Trailing end)
   pub stopped : (fault : CheckFault) → AllStop task.mode choice parts text at fault → IsFaultAs task text fault

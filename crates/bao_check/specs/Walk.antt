@@ -8,7 +8,7 @@ use Rattle.b3tree.specs.declared.mode.Mode.{Mode}
 use Rattle.b3tree.specs.Bytes.{words_of}
 use Rattle.b3tree.specs.Chunk.{last_chunk_input}
 use Rattle.b3tree.specs.Tree.{parent_input}
-use Rattle.bao_text.specs.Nodes.{TreeNode, Side, left, placed, right, size}
+use Rattle.bao_text.specs.Nodes.{TreeNode, Side, left, placed_nodes, right, size}
 use Rattle.bao_check.specs.declared.asked.Asked.{Asked}
 use Rattle.bao_check.specs.declared.fault.CheckFault.{CheckFault}
 use Rattle.bao_check.specs.declared.fault.CheckFault.TheVariants.{Short, Mismatch, Trailing, Memory, Reader}
@@ -54,12 +54,12 @@ abbrev pub Meets : Asked → Input → Type 0
 Meets asked x = cv (marked asked.top x) ≡ asked.value.0
 
 -- They weren't all taken, or they make an input that hasn't the value asked for.
-abbrev pub IsRefused : (CheckFault → Type 0) → Asked → Input → ℕ → List ℕ → List ℕ → Option (List ℕ) → CheckFault → Type 0
-IsRefused fails asked x size old new after (Short at) = IsCutShort fails size old new after (Short at)
-IsRefused fails asked x size old new after (Mismatch at) = (at ≡ length old) × (length new ≡ length old + size) × ¬ Meets asked x
-IsRefused fails asked x size old new after (Trailing at) = ⊥
-IsRefused fails asked x size old new after Memory = IsCutShort fails size old new after Memory
-IsRefused fails asked x size old new after Reader = IsCutShort fails size old new after Reader
+abbrev pub IsRefusedInput : (CheckFault → Type 0) → Asked → Input → ℕ → List ℕ → List ℕ → Option (List ℕ) → CheckFault → Type 0
+IsRefusedInput fails asked x size old new after (Short at) = IsCutShort fails size old new after (Short at)
+IsRefusedInput fails asked x size old new after (Mismatch at) = (at ≡ length old) × (length new ≡ length old + size) × ¬ Meets asked x
+IsRefusedInput fails asked x size old new after (Trailing at) = ⊥
+IsRefusedInput fails asked x size old new after Memory = IsCutShort fails size old new after Memory
+IsRefusedInput fails asked x size old new after Reader = IsCutShort fails size old new after Reader
 
 -- the input that the bytes taken last make as a parent
 abbrev pub parent_taken : Mode → List ℕ → List ℕ → Input
@@ -83,7 +83,7 @@ IsGoodIn asked sides mode text places place = (end_of place ≤ length text) × 
 
 -- a subtree's places, from `at` on, are all good
 abbrev pub AreGood : Asked → List Side → Mode → List ℕ → ℕ → List TreeNode → Type 0
-AreGood asked sides mode text at nodes = AllByRecursion (IsGoodIn asked sides mode text (placed at nodes)) (placed at nodes)
+AreGood asked sides mode text at nodes = AllByRecursion (IsGoodIn asked sides mode text (placed_nodes at nodes)) (placed_nodes at nodes)
 
 -- those before a place are
 pub record AreGoodUpTo (asked : Asked) (sides : List Side) (mode : Mode) (text : List ℕ) (places : List (ℕ × TreeNode)) (place : ℕ × TreeNode) : Type 0 where
@@ -112,7 +112,7 @@ StopsAt fails asked sides mode new after places Reader place =
     fails Reader × (length new ≤ end_of place) × AreGoodUpTo asked sides mode new places place
 
 abbrev pub Stops : (CheckFault → Type 0) → Asked → List Side → Mode → List ℕ → Option (List ℕ) → ℕ → List TreeNode → CheckFault → Type 0
-Stops fails asked sides mode new after at nodes fault = (place : ℕ × TreeNode) × StopsAt fails asked sides mode new after (placed at nodes) fault place
+Stops fails asked sides mode new after at nodes fault = (place : ℕ × TreeNode) × StopsAt fails asked sides mode new after (placed_nodes at nodes) fault place
 
 -- what the top of a whole encoding asks for: the words of the root
 abbrev pub asked_root : List ℕ → Asked

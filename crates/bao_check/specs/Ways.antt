@@ -4,7 +4,7 @@ use Rattle.b3word.specs.declared.input.Input.{Input}
 use Rattle.b3tree.specs.declared.mode.Mode.{Mode}
 use Rattle.bao_text.specs.declared.choice.Choice.{Choice}
 use Rattle.bao_text.specs.Choice.{chunk_count}
-use Rattle.bao_text.specs.Nodes.{Side, placed, subtree_nodes}
+use Rattle.bao_text.specs.Nodes.{Side, placed_nodes, subtree_nodes}
 use Rattle.bao_check.specs.declared.asked.Asked.{Asked}
 use Rattle.bao_check.specs.Inputs.{is_top, text_inputs}
 use Rattle.bao_check.specs.Parents.{parent_in}
@@ -26,6 +26,6 @@ pub record LeadsTo (parents : ℕ → Option (List ℕ)) (inputs : List Input) (
   pub at : ℕ
   pub top_is : top ≡ is_top sides
   pub good : AreGood (asked_of top value) sides mode text at (subtree_nodes choice from n sides source)
-  pub there : chunk_in text (placed at (subtree_nodes choice from n sides source)) number ≡ Some bytes
-  pub parents_are : (m : ℕ) → from < m → m < from + chunk_count n → parents m ≡ parent_in text (placed at (subtree_nodes choice from n sides source)) m
-  pub inputs_are : (x : Input) → Contains (text_inputs mode text (placed at (subtree_nodes choice from n sides source))) x → Contains inputs x
+  pub there : chunk_in text (placed_nodes at (subtree_nodes choice from n sides source)) number ≡ Some bytes
+  pub parents_are : (m : ℕ) → from < m → m < from + chunk_count n → parents m ≡ parent_in text (placed_nodes at (subtree_nodes choice from n sides source)) m
+  pub inputs_are : (x : Input) → Contains (text_inputs mode text (placed_nodes at (subtree_nodes choice from n sides source))) x → Contains inputs x

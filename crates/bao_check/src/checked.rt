@@ -4,7 +4,7 @@ ghost use Rattle.bao_text.specs.Choice.{of_slice};
 ghost use Rattle.b3tree.specs.Hashing.{hash};
 ghost use Rattle.b3tree.specs.Valid.{AreBytes};
 ghost use Rattle.bao_check.specs.Certificate.{Certificate};
-ghost use Rattle.bao_check.specs.Laws.{Binds};
+ghost use Rattle.bao_check.specs.Laws.{BindsChunk};
 ghost use Rattle.bao_check.specs.Pieces.{chunk_in};
 ghost use Rattle.bao_check.specs.Spans.{chunk_place};
 ghost use Rattle.bao_check.specs.Accepted.{IsAccepted, slice_nodes};
@@ -15,9 +15,8 @@ use crate::bare::bare_chunk;
 use crate::locate::{LENGTH_LEN, Span, bytes_from, find_chunk, nodes_size};
 use crate::outline::Outline;
 use crate::tail::Tail;
-use crate::walk::claimed;
 use b3tree::{CHUNK_LEN, Hash, Mode, bytes_are};
-use bao_text::{Choice, Nodes, chunk_count};
+use bao_text::{Choice, Nodes, chunk_count, claimed};
 
 /// What a slice is read from.
 #[derive(Clone, Copy, Debug)]
@@ -121,7 +120,7 @@ impl<'a> Checked<'a> {
         LENGTH_LEN + nodes_size(&self.choice(), 0, self.claimed())
     }
 
-    // The elements of its encoding are bytes.
+    // The elements of its encoding are bytes: a law. Nothing runs.
     fn is_of_bytes(&self)
         ensures { AreBytes (piece_text self.now) }
     {
@@ -201,7 +200,7 @@ impl<'a> Checked<'a> {
         ensures value { option_copied result ≡ chunk_in (piece_text self.now) (piece_places self.now) i }
         ensures certificate { IfSome result (λ bytes. Certificate (piece_mode self.now) (piece_root self.now) i bytes.now) }
         ensures binds { (blob : List ℕ) → AreBytes blob → hash (piece_mode self.now) blob ≡ piece_root self.now
-            → IfSome result (λ bytes. Binds (piece_mode self.now) (piece_text self.now) (piece_start self.now) (piece_len self.now) blob i bytes.now) }
+            → IfSome result (λ bytes. BindsChunk (piece_mode self.now) (piece_text self.now) (piece_start self.now) (piece_len self.now) blob i bytes.now) }
     {
         // Laws, so that the proof has what they say: nothing runs.
         self.mode.is_keyed();

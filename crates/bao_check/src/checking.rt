@@ -1,15 +1,14 @@
 ghost use Rattle.std.specs.Prelude.{◌≡◌, ◌↔◌, ℕ, ◌-◌, ◌^◌, ◌<◌, ◌≤◌, List, [], ◌++◌, length, true, IfErr, IfOk, IfSome, IsNone, IsTrue, MatchResult, OnErr, OnOk, Some};
 ghost use Rattle.bao_check.specs.declared.fault.CheckFault.TheVariants.{Mismatch, Short};
 ghost use Rattle.bao_check.specs.Streams.{IsOfBytes};
-ghost use Rattle.bao_check.specs.Waiting.{AreParts, AreParts-prop, IsAcceptedAs, IsFaultAs, Task, WaitsIn};
+ghost use Rattle.bao_check.specs.Waiting.{AreParts, AreParts-prop, CheckTask, IsAcceptedAs, IsFaultAs, WaitsIn};
 
 use crate::asked::{Asked, meets};
 use crate::fault::CheckFault;
 use crate::waiting::{Waiting, node_size, push_wanted, take_node};
-use crate::walk::claimed;
 use arrayvec::ArrayVec;
 use b3tree::{Cv, Hash, Mode, top_input};
-use bao_text::{Choice, LENGTH_LEN};
+use bao_text::{Choice, LENGTH_LEN, claimed};
 
 // Verifies an encoding's length, and answers what the encoding is of and the parts that come after the length. An empty
 // chunk has no bytes of its own, so it is verified with it.
@@ -95,8 +94,8 @@ impl Checking {
     pub fn wants(&self) -> Option<usize>
         ensures value { result ≡ wanted self.now }
         ensures size { IfSome result (λ size. (1 ≤ size) × (size ≤ 1024)) }
-        ensures done { (task : Task) (taken : List ℕ) → HasTakenAs self.now task taken → IsNone result ↔ IsAcceptedAs task taken }
-        ensures short { (task : Task) (taken : List ℕ) → HasTakenAs self.now task taken
+        ensures done { (task : CheckTask) (taken : List ℕ) → HasTakenAs self.now task taken → IsNone result ↔ IsAcceptedAs task taken }
+        ensures short { (task : CheckTask) (taken : List ℕ) → HasTakenAs self.now task taken
             → IfSome result (λ size. (more : List ℕ) → length more < size → IsFaultAs task (taken ++ more) (Short (length taken))) }
     {
         if self.at == 0 {
@@ -107,7 +106,7 @@ impl Checking {
 
     /// Whether what was taken is an accepted encoding.
     pub fn is_done(&self) -> bool
-        ensures { (task : Task) (taken : List ℕ) → HasTakenAs self.now task taken → IsTrue result ↔ IsAcceptedAs task taken }
+        ensures { (task : CheckTask) (taken : List ℕ) → HasTakenAs self.now task taken → IsTrue result ↔ IsAcceptedAs task taken }
     {
         self.wants().is_none()
     }
@@ -120,9 +119,9 @@ impl Checking {
     /// would have been taken. The check is unchanged then, and can take other bytes in their place.
     pub fn take(&mut self, node: &[u8]) -> Result<(), CheckFault>
         requires { wanted self.old ≡ Some (length node.now) }
-        ensures taken { (task : Task) (taken : List ℕ) → HasTakenAs self.old task taken → OnOk result (HasTakenAs self.new task (taken ++ node.now)) }
-        ensures fault { (task : Task) (taken : List ℕ) → HasTakenAs self.old task taken → IfErr result (IsNodeFault task (taken ++ node.now)) }
-        ensures refused { (task : Task) (taken : List ℕ) → HasTakenAs self.old task taken
+        ensures taken { (task : CheckTask) (taken : List ℕ) → HasTakenAs self.old task taken → OnOk result (HasTakenAs self.new task (taken ++ node.now)) }
+        ensures fault { (task : CheckTask) (taken : List ℕ) → HasTakenAs self.old task taken → IfErr result (IsNodeFault task (taken ++ node.now)) }
+        ensures refused { (task : CheckTask) (taken : List ℕ) → HasTakenAs self.old task taken
             → IfErr result (λ fault. IsOfBytes fault → (more : List ℕ) → ¬ IsAcceptedAs task ((taken ++ node.now) ++ more)) }
         ensures unchanged { OnErr result (self.new ≡ self.old) }
     {
@@ -149,7 +148,7 @@ impl Checking {
     /// end of the last where `rest` follows it.
     pub fn finish(&self, rest: &[u8]) -> Result<(), CheckFault>
         requires { IfSome (wanted self.now) (λ size. length rest.now < size) }
-        ensures { (task : Task) (taken : List ℕ) → HasTakenAs self.now task taken
+        ensures { (task : CheckTask) (taken : List ℕ) → HasTakenAs self.now task taken
             → MatchResult result (λ _. IsAcceptedAs task (taken ++ rest.now)) (IsFaultAs task (taken ++ rest.now)) }
     {
         if self.wants().is_some() {

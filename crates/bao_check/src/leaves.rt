@@ -1,7 +1,7 @@
 ghost use Rattle.std.specs.Prelude.{ℕ, ◌+◌, ◌-◌, ◌*◌, ◌^◌, ◌≤◌, ◌<◌, List, length};
 ghost use Rattle.bao_text.specs.Choice.{chunk_count};
 ghost use Rattle.bao_text.specs.declared.choice.Choice.{Choice};
-ghost use Rattle.bao_text.specs.Nodes.{Side, placed, subtree_nodes};
+ghost use Rattle.bao_text.specs.Nodes.{Side, placed_nodes, subtree_nodes};
 ghost use Rattle.bao_check.specs.Leaves.{WantsParents};
 ghost use Rattle.bao_check.specs.Pieces.{IsLeafValue};
 
@@ -18,7 +18,7 @@ pub(crate) fn leaf_below(text: &[u8], i: u64, number: u64, n: u64, at: usize) ->
     requires last { i < number + chunk_count n }
     requires fits { at + 64 * (chunk_count n - 1) ≤ length text.now }
     ensures { (choice : Choice) (sides : List Side) (source : ℕ) → WantsParents choice number n
-        → IsLeafValue text.now (placed at (subtree_nodes choice number n sides source)) i result.0 }
+        → IsLeafValue text.now (placed_nodes at (subtree_nodes choice number n sides source)) i result.0 }
 {
     let parent = &text[at..at + PARENT_LEN];
     let left_len = left_len(n);

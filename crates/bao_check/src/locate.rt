@@ -1,7 +1,7 @@
 ghost use Rattle.std.specs.Prelude.{◌≡◌, ℕ, ◌+◌, ◌-◌, ◌*◌, ◌^◌, ◌<◌, ◌≤◌, List, length, min, take, drop, bit_xor, sum_by};
 ghost use Rattle.bao_text.specs.Choice.{chunk_count};
-ghost use Rattle.bao_text.specs.Nodes.{Side, placed, size, subtree_nodes, subtree_size};
-ghost use Rattle.bao_check.specs.Spans.{Counts, HasDigits, bytes_before, chunk_place, first_of};
+ghost use Rattle.bao_text.specs.Nodes.{Side, placed_nodes, size, subtree_nodes, subtree_size};
+ghost use Rattle.bao_check.specs.Spans.{Counts, HasDigits, bytes_before, chunk_place, first_wanted};
 
 use b3tree::{CHUNK_LEN, left_len};
 use bao_text::{Choice, chunk_count, encoded_len, outboard_len};
@@ -87,7 +87,7 @@ impl Before {
     pub(crate) fn of(choice: &Choice, number: u64, n: u64, k: u64) -> Before
         requires { k < chunk_count n }
         ensures bytes { result.bytes ≡ bytes_before choice.now number k }
-        ensures parents { (t : ℕ) → HasDigits (bit_xor (chunk_count n - 1) k) t → Counts k t (min (first_of choice.now number) k) result.parents }
+        ensures parents { (t : ℕ) → HasDigits (bit_xor (chunk_count n - 1) k) t → Counts k t (min (first_wanted choice.now number) k) result.parents }
     {
         let wanted = choice.start() / CHUNK_LEN as u64;
         let first = wanted.saturating_sub(number).min(k);
@@ -106,7 +106,7 @@ impl Before {
 pub(crate) fn find_chunk(choice: &Choice, number: u64, n: u64, at: u128, i: u64) -> Option<Span>
     requires range { 1024 * number + n ≤ 2 ^ 64 - 1 }
     requires room { at + subtree_size n < 2 ^ 128 }
-    ensures { (sides : List Side) (from : ℕ) → result ≡ chunk_place (placed at (subtree_nodes choice.now number n sides from)) i }
+    ensures { (sides : List Side) (from : ℕ) → result ≡ chunk_place (placed_nodes at (subtree_nodes choice.now number n sides from)) i }
 {
     if !choice.has_chunks() || i < number || i - number >= chunk_count(n) {
         return None;

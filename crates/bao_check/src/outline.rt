@@ -6,9 +6,8 @@ ghost use Rattle.bao_check.specs.AcceptedProp.{IsAccepted-prop};
 ghost use Rattle.bao_check.specs.Pieces.{IsLeafValue};
 
 use crate::leaves::leaf_below;
-use crate::walk::claimed;
 use b3tree::{CHUNK_LEN, Cv, Hash, Mode, bytes_are};
-use bao_text::LENGTH_LEN;
+use bao_text::{LENGTH_LEN, claimed};
 
 /// An encoding that was accepted as an outboard encoding under a root: it carries that it was, so whoever holds
 /// one needs no premise. All calls on it take no memory, and cost at most the height of the tree.
@@ -35,7 +34,7 @@ impl<'a> Outline<'a> {
         }
     }
 
-    // The elements of its encoding are bytes.
+    // The elements of its encoding are bytes: a law. Nothing runs.
     pub(crate) fn is_of_bytes(&self)
         ensures { AreBytes (outline_text self.now) }
     {

@@ -1,7 +1,7 @@
 ghost use Rattle.std.specs.Prelude.{◌≡◌, ℕ, ◌+◌, ◌-◌, ◌*◌, ◌^◌, ◌≤◌, ◌<◌, List, length, max, min, is_some, IfSome};
 ghost use Rattle.std.specs.Option.{option_copied};
 ghost use Rattle.bao_text.specs.Choice.{chunk_count};
-ghost use Rattle.bao_text.specs.Nodes.{Side, chosen_nodes, placed, subtree_nodes, subtree_size};
+ghost use Rattle.bao_text.specs.Nodes.{Side, chosen_nodes, placed_nodes, subtree_nodes, subtree_size};
 ghost use Rattle.bao_check.specs.Accepted.{places_of};
 ghost use Rattle.bao_check.specs.Parents.{IsParentMask, parent_in, parent_place};
 
@@ -31,7 +31,7 @@ fn parent_len(n: u64, half: u64, k: u64) -> u64
 // at chunk `m`: there is one over these chunks, and some of its bytes are wanted.
 fn wants_parent(choice: &Choice, number: u64, n: u64, m: u64) -> bool
     requires { 1024 * number + n ≤ 2 ^ 64 - 1 }
-    ensures { (sides : List Side) (from at : ℕ) → result ≡ is_some (parent_place (placed at (subtree_nodes choice.now number n sides from)) m) }
+    ensures { (sides : List Side) (from at : ℕ) → result ≡ is_some (parent_place (placed_nodes at (subtree_nodes choice.now number n sides from)) m) }
 {
     if m <= number || m - number >= chunk_count(n) {
         return false;
@@ -49,7 +49,7 @@ fn wants_parent(choice: &Choice, number: u64, n: u64, m: u64) -> bool
 fn find_parent(choice: &Choice, number: u64, n: u64, at: u128, m: u64) -> Option<u128>
     requires range { 1024 * number + n ≤ 2 ^ 64 - 1 }
     requires room { at + subtree_size n < 2 ^ 128 }
-    ensures { (sides : List Side) (from : ℕ) → result ≡ parent_place (placed at (subtree_nodes choice.now number n sides from)) m }
+    ensures { (sides : List Side) (from : ℕ) → result ≡ parent_place (placed_nodes at (subtree_nodes choice.now number n sides from)) m }
 {
     if !wants_parent(choice, number, n, m) {
         return None;

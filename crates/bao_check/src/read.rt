@@ -4,7 +4,7 @@ ghost use Rattle.std.specs.Io.BufRead.{Rests};
 ghost use Rattle.std.specs.Io.KnownBytes.{Consumes};
 ghost use Rattle.bao_check.specs.Accepted.{IsAccepted, slice_nodes};
 ghost use Rattle.bao_check.specs.Checked.{IsPiece, piece_text};
-ghost use Rattle.bao_check.specs.Streams.{BeginsAccepted, IsOfBytes, IsStreamFault, ReadFault, bytes_row};
+ghost use Rattle.bao_check.specs.Streams.{BeginsAccepted, IsOfBytes, IsReadFault, IsStreamFault, bytes_row};
 
 use crate::checked::Checked;
 use crate::fault::CheckFault;
@@ -37,7 +37,7 @@ pub fn read_checked<R: Read>(
     requires { text.old.items ≡ [] }
     ensures reader { Consumes (R.remaining reader.old) (R.remaining reader.new) text.new.items }
     ensures ok { OnOk result (IsAccepted mode.now root.now.0 text.new.items (slice_nodes text.new.items start len)) }
-    ensures fault { IfErr result (λ fault. ReadFault mode.now root.now.0 start len text.new.items (R.remaining reader.new) fault) }
+    ensures fault { IfErr result (λ fault. IsReadFault mode.now root.now.0 start len text.new.items (R.remaining reader.new) fault) }
     ensures exact { IfSome (R.remaining reader.old) (λ all.
         MatchResult result (λ _. BeginsAccepted mode.now root.now.0 start len all) (IsStreamFault mode.now root.now.0 start len all)) }
     ensures refused { IfSome (R.remaining reader.old) (λ all. IfErr result (λ fault. IsOfBytes fault → ¬ BeginsAccepted mode.now root.now.0 start len all)) }
@@ -60,12 +60,12 @@ pub fn read_piece<'a, R: Read>(
     requires { text.old.items ≡ [] }
     ensures* rests { sem 𝓛 (Rests bytes_row text.entry (λ last.
         MatchResult result (λ piece. last.items ≡ piece_text piece)
-        (λ fault. Consumes (R.remaining reader.old) (R.remaining reader.new) last.items × ReadFault mode.now root.now.0 start len last.items (R.remaining reader.new) fault))) }
+        (λ fault. Consumes (R.remaining reader.old) (R.remaining reader.new) last.items × IsReadFault mode.now root.now.0 start len last.items (R.remaining reader.new) fault))) }
     ensures piece { IfOk result (λ piece. IsPiece piece mode.now root.now.0 start len (piece_text piece)) }
     ensures size { IfOk result (λ piece. length (piece_text piece) < 2 ^ 64) }
     ensures reader { IfOk result (λ piece. Consumes (R.remaining reader.old) (R.remaining reader.new) (piece_text piece)) }
     ensures fault { IfErr result (λ fault.
-        (read : List ℕ) × Consumes (R.remaining reader.old) (R.remaining reader.new) read × ReadFault mode.now root.now.0 start len read (R.remaining reader.new) fault) }
+        (read : List ℕ) × Consumes (R.remaining reader.old) (R.remaining reader.new) read × IsReadFault mode.now root.now.0 start len read (R.remaining reader.new) fault) }
     ensures exact { IfSome (R.remaining reader.old) (λ all.
         MatchResult result (λ _. BeginsAccepted mode.now root.now.0 start len all) (IsStreamFault mode.now root.now.0 start len all)) }
     ensures refused { IfSome (R.remaining reader.old) (λ all. IfErr result (λ fault. IsOfBytes fault → ¬ BeginsAccepted mode.now root.now.0 start len all)) }
@@ -90,7 +90,7 @@ pub fn check_stream<'a, R: Read>(
     ensures size { IfOk result (λ piece. length (piece_text piece) < 2 ^ 64) }
     ensures reader { IfOk result (λ piece. Consumes (R.remaining reader.old) (R.remaining reader.new) (piece_text piece)) }
     ensures fault { IfErr result (λ fault.
-        (read : List ℕ) × Consumes (R.remaining reader.old) (R.remaining reader.new) read × ReadFault mode.now root.now.0 start len read (R.remaining reader.new) fault) }
+        (read : List ℕ) × Consumes (R.remaining reader.old) (R.remaining reader.new) read × IsReadFault mode.now root.now.0 start len read (R.remaining reader.new) fault) }
     ensures exact { IfSome (R.remaining reader.old) (λ all.
         MatchResult result (λ _. BeginsAccepted mode.now root.now.0 start len all) (IsStreamFault mode.now root.now.0 start len all)) }
     ensures refused { IfSome (R.remaining reader.old) (λ all. IfErr result (λ fault. IsOfBytes fault → ¬ BeginsAccepted mode.now root.now.0 start len all)) }

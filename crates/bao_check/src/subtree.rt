@@ -7,9 +7,9 @@ use crate::asked::Asked;
 use crate::fault::CheckFault;
 use crate::locate::nodes_size;
 use crate::source::{Bytes, Source};
-use crate::walk::{check_parent, check_subtree, claimed};
+use crate::walk::{check_parent, check_subtree};
 use b3tree::{CHUNK_LEN, Cv, Hash, Mode, left_len};
-use bao_text::{Choice, LENGTH_LEN};
+use bao_text::{Choice, LENGTH_LEN, claimed};
 
 /// A part of the check of an encoding: the wanted nodes of a subtree, the place at which they begin in the encoding, and
 /// the value that its top must have. The parts of an encoding can be checked in any order, and at once. None of the

@@ -4,7 +4,7 @@ ghost use Rattle.b3tree.specs.Valid.{AreBytes};
 ghost use Rattle.bao_text.specs.Choice.{chunk_count};
 ghost use Rattle.bao_check.specs.Checked.{HasLastCertificate, HoldsLast, HoldsLast-prop, piece_claimed, piece_mode, piece_nodes, piece_places, piece_root, piece_text};
 ghost use Rattle.bao_check.specs.Accepted.{IsAccepted};
-ghost use Rattle.bao_check.specs.Inputs.{NamesPair};
+ghost use Rattle.bao_check.specs.Inputs.{NamesCollision};
 ghost use Rattle.bao_check.specs.Pieces.{chunk_in};
 
 use crate::checked::Checked;
@@ -58,7 +58,7 @@ impl<'a> Tail<'a> {
             → 1024 * (chunk_count result - 1) + length bytes ≡ result }
         ensures certificate { HasLastCertificate (tail_piece self.now) result }
         ensures binds { (blob : List ℕ) → AreBytes blob → hash (piece_mode (tail_piece self.now)) blob ≡ piece_root (tail_piece self.now)
-            → (result ≡ length blob) ⊎ NamesPair (piece_mode (tail_piece self.now)) blob (piece_text (tail_piece self.now)) (piece_places (tail_piece self.now)) }
+            → (result ≡ length blob) ⊎ NamesCollision (piece_mode (tail_piece self.now)) blob (piece_text (tail_piece self.now)) (piece_places (tail_piece self.now)) }
     {
         // A law, so that the proof has what it says: nothing runs.
         self.is_last();

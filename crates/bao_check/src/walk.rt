@@ -2,9 +2,8 @@ ghost use Rattle.std.specs.Prelude.{◌≡◌, ℕ, List, [], ◌+◌, ◌-◌, 
 ghost use Rattle.bao_text.specs.Nodes.{Side, left, right, subtree_nodes};
 ghost use Rattle.bao_check.specs.Accepted.{part_value};
 ghost use Rattle.bao_check.specs.Whole.{HasWholeAhead};
-ghost use Rattle.bao_check.specs.Walk.{Grows, IsCutShort, IsRefused, Meets, Passes, PassesText, Stops, StopsText, Takes, chunk_taken, parent_taken};
+ghost use Rattle.bao_check.specs.Walk.{Grows, IsCutShort, IsRefusedInput, Meets, Passes, PassesText, Stops, StopsText, Takes, chunk_taken, parent_taken};
 ghost use Rattle.bao_check.specs.Forms.{form_nodes};
-ghost use Rattle.bao_text.specs.Cut.{claimed};
 
 use crate::asked::{Asked, meets};
 use crate::fault::CheckFault;
@@ -12,7 +11,7 @@ use crate::form::Form;
 use crate::source::Source;
 use crate::whole::{is_whole_outline, is_whole_text};
 use b3tree::{CHUNK_LEN, Cv, Hash, Mode, chunks_a_lane, left_len, parent_input, top_input};
-use bao_text::{CV_LEN, Choice, EIGHT_LEN, LENGTH_LEN, PARENT_LEN};
+use bao_text::{CV_LEN, Choice, EIGHT_LEN, LENGTH_LEN, PARENT_LEN, claimed};
 
 // Takes the `size` bytes of the node that comes next.
 fn take_node<S: Source>(source: &mut S, size: usize) -> Result<(), CheckFault>
@@ -44,7 +43,7 @@ fn check_chunk<S: Source>(
     ensures takes { Takes size (S.taken source.old) (S.taken source.new) (S.ahead source.old) (S.ahead source.new) }
     ensures ok { OnOk result (length (S.taken source.new) ≡ length (S.taken source.old) + size) }
     ensures meets { OnOk result (Meets asked.now (chunk_taken mode.now number (S.taken source.old) (S.taken source.new))) }
-    ensures err { IfErr result (λ fault. IsRefused S.fails asked.now (chunk_taken mode.now number (S.taken source.old) (S.taken source.new)) size
+    ensures err { IfErr result (λ fault. IsRefusedInput S.fails asked.now (chunk_taken mode.now number (S.taken source.old) (S.taken source.new)) size
         (S.taken source.old) (S.taken source.new) (S.ahead source.new) fault) }
 {
     let at = source.taken().len();
@@ -80,7 +79,7 @@ pub(crate) fn check_parent<S: Source>(
     ensures meets { OnOk result (Meets asked.now (parent_taken mode.now (S.taken source.old) (S.taken source.new))) }
     ensures left { IfOk result (λ r. r.0.0 ≡ part_value left (drop (length (S.taken source.old)) (S.taken source.new))) }
     ensures right { IfOk result (λ r. r.1.0 ≡ part_value right (drop (length (S.taken source.old)) (S.taken source.new))) }
-    ensures err { IfErr result (λ fault. IsRefused S.fails asked.now (parent_taken mode.now (S.taken source.old) (S.taken source.new)) 64
+    ensures err { IfErr result (λ fault. IsRefusedInput S.fails asked.now (parent_taken mode.now (S.taken source.old) (S.taken source.new)) 64
         (S.taken source.old) (S.taken source.new) (S.ahead source.new) fault) }
 {
     let at = source.taken().len();
@@ -180,16 +179,6 @@ pub(crate) fn check_subtree<S: Source>(
         number + left_len / CHUNK_LEN as u64,
         n - left_len,
     )
-}
-
-// The length that the first 8 bytes of an encoding claim.
-pub(crate) fn claimed(text: &[u8]) -> u64
-    requires { 8 ≤ length text.now }
-    ensures { result ≡ claimed text.now }
-{
-    u64::from_le_bytes([
-        text[0], text[1], text[2], text[3], text[4], text[5], text[6], text[7],
-    ])
 }
 
 // Takes an encoding of the form from its start, and verifies each node before the next is taken.

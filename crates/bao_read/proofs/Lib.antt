@@ -1,3 +1,4 @@
+pub mod Cuttings
 pub mod Deque
 pub mod Parents
 pub mod Parts

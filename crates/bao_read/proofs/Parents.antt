@@ -9,7 +9,7 @@ use Rattle.b3tree.specs.Bytes.{bytes_of}
 use Rattle.b3tree.specs.Hashing.{root_hash, rooted}
 use Rattle.b3tree.specs.Tree.{left_len, parent_input, subtree_cv, top_input}
 use Rattle.b3tree.proofs.BlockWords.{AreBytes-append}
-use Rattle.bao_read.specs.Given.{GivenAt, IsTopOf}
+use Rattle.bao_read.specs.Given.{GivenAt, IsTopInputOf}
 use Rattle.bao_read.proofs.Parts.{GivenAt-append, IsHashOf-top}
 use Rattle.bao_text.specs.declared.choice.Choice.{Choice}
 use Rattle.bao_text.specs.Choice.{wants}
@@ -74,7 +74,7 @@ wanted_text choice mode first len l left right near far false splits none near_l
 -- a tree, after what was there before
 pub text_of_parts : (contents : Option (List ℕ)) (choice : Choice) (mode : Mode) (first len l : ℕ) (left right : Input) (old : List ℕ) (w : Bool)
     → SplitsAt mode first len l → wants choice (1024 * first) len ≡ w
-    → (a : IsTopOf contents mode first l left) (b : IsTopOf contents mode (first + l / 1024) (len - l) right)
+    → (a : IsTopInputOf contents mode first l left) (b : IsTopInputOf contents mode (first + l / 1024) (len - l) right)
     → GainsText contents choice mode first len old
     (old ++ (own_text w left right ++ (subtree_text choice mode first a.bytes ++ subtree_text choice mode (first + l / 1024) b.bytes)))
     (parent_input mode (cv left) (cv right))

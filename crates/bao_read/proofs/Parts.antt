@@ -10,7 +10,7 @@ use Rattle.b3tree.specs.Pieces.{piece}
 use Rattle.b3tree.specs.Tree.{top_input}
 use Rattle.b3tree.proofs.HashOutput.{hash-stream}
 use Rattle.b3tree.proofs.Pieces.{piece-append}
-use Rattle.bao_read.specs.Given.{GivenAt, IsHashOf, IsTopOf, ReadsAt}
+use Rattle.bao_read.specs.Given.{GivenAt, IsHashOf, IsTopInputOf, ReadsAt}
 
 -- what comes after other bytes
 pub GivenAt-append : (contents : Option (List ℕ)) (at : ℕ) (a b : List ℕ) → GivenAt contents at a → GivenAt contents (at + length a) b → GivenAt contents at (a ++ b)
@@ -51,7 +51,7 @@ hash_rooted : (mode : Mode) (bytes : List ℕ) (top : Input) → top ≡ top_inp
 unfolding hash
 hash_rooted mode bytes top is = ap (λ (x : Input). root_hash (rooted x)) is
 
-pub IsHashOf-top : (contents : Option (List ℕ)) (mode : Mode) (len : ℕ) (top : Input) (is : IsTopOf contents mode 0 len top)
+pub IsHashOf-top : (contents : Option (List ℕ)) (mode : Mode) (len : ℕ) (top : Input) (is : IsTopInputOf contents mode 0 len top)
     → IsHashOf mode len is.bytes (root_hash (rooted top))
 IsHashOf-top contents mode len top is =
     let hash_is : root_hash (rooted top) ≡ hash mode is.bytes = hash_rooted mode is.bytes top is.top in
@@ -63,7 +63,7 @@ IsHashOf-top contents mode len top is =
     }
 
 -- where the contents are known and end there, they are what was given
-pub IsHashOf-all : (contents : Option (List ℕ)) (mode : Mode) (len : ℕ) (top : Input) → IsTopOf contents mode 0 len top
+pub IsHashOf-all : (contents : Option (List ℕ)) (mode : Mode) (len : ℕ) (top : Input) → IsTopInputOf contents mode 0 len top
     → IfSome contents (λ s. length s ≤ len) → IfSome contents (λ s. IsHashOf mode len s (root_hash (rooted top)))
 IsHashOf-all None mode len top is ends = tt
 IsHashOf-all (Some s) mode len top is ends =

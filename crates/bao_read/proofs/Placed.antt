@@ -6,16 +6,16 @@ use Rattle.bao_read.specs.declared.fault.ReadFault.TheVariants.{Reader}
 use Rattle.bao_read.specs.declared.jobs.Answer.{Answer}
 use Rattle.bao_read.specs.Encodings.{GainsText}
 use Rattle.bao_read.specs.Given.{Lacks}
-use Rattle.bao_read.specs.Jobs.{AllThere, IsAnswer}
+use Rattle.bao_read.specs.Jobs.{AllThere, IsJobAnswer}
 
 pub placed_ok : (contents : Option (List ℕ)) (faultless : Type 0) (choice : Choice) (mode : Mode) (first len : ℕ) (answer : Answer) → answer.job.first ≡ first → answer.job.len ≡ len
-    → IsAnswer contents faultless choice mode answer → IfOk answer.made (λ made. GainsText contents choice mode first len [] made.text.items made.top)
+    → IsJobAnswer contents faultless choice mode answer → IfOk answer.made (λ made. GainsText contents choice mode first len [] made.text.items made.top)
 placed_ok contents faultless choice mode first len answer first_is len_is right =
     subst (λ (n : ℕ). IfOk answer.made (λ made. GainsText contents choice mode first n [] made.text.items made.top)) len_is
     (subst (λ (n : ℕ). IfOk answer.made (λ made. GainsText contents choice mode n answer.job.len [] made.text.items made.top)) first_is right.0)
 
 pub placed_err : (contents : Option (List ℕ)) (faultless : Type 0) (choice : Choice) (mode : Mode) (first len : ℕ) (answer : Answer) → answer.job.first ≡ first → answer.job.len ≡ len
-    → IsAnswer contents faultless choice mode answer → IfErr answer.made (λ fault. fault ≡ Reader → Lacks contents faultless (1024 * first + len))
+    → IsJobAnswer contents faultless choice mode answer → IfErr answer.made (λ fault. fault ≡ Reader → Lacks contents faultless (1024 * first + len))
 placed_err contents faultless choice mode first len answer first_is len_is right =
     subst (λ (n : ℕ). IfErr answer.made (λ fault. fault ≡ Reader → Lacks contents faultless (1024 * first + n))) len_is
     (subst (λ (n : ℕ). IfErr answer.made (λ fault. fault ≡ Reader → Lacks contents faultless (1024 * n + answer.job.len))) first_is right.1)

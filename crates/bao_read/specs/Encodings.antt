@@ -2,7 +2,7 @@
 use Rattle.std.specs.Prelude.{◌≡◌, ℕ, List, ◌++◌, length, Option}
 use Rattle.b3word.specs.declared.input.Input.{Input}
 use Rattle.b3tree.specs.declared.mode.Mode.{Mode}
-use Rattle.bao_read.specs.Given.{IsHashOf, IsTopOf}
+use Rattle.bao_read.specs.Given.{IsHashOf, IsTopInputOf}
 use Rattle.bao_text.specs.declared.choice.Choice.{Choice}
 use Rattle.bao_text.specs.Choice.{of_combined, of_outboard}
 use Rattle.bao_text.specs.Texts.{chosen_text, subtree_text}
@@ -10,7 +10,7 @@ use Rattle.bao_text.specs.Texts.{chosen_text, subtree_text}
 -- the input is the top of the tree over `len` bytes of the contents, which begin with chunk `first`, and the
 -- text has gained what the choice wants of this tree
 pub record GainsText (contents : Option (List ℕ)) (choice : Choice) (mode : Mode) (first len : ℕ) (old new : List ℕ) (input : Input) : Type 0 where
-  pub top : IsTopOf contents mode first len input
+  pub top : IsTopInputOf contents mode first len input
   pub text : new ≡ old ++ subtree_text choice mode first top.bytes
 
 -- the bytes are so many, the answer is their hash, and the text is theirs for the choice of so many bytes

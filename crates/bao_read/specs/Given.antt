@@ -25,7 +25,7 @@ abbrev pub HasOther : Option (List ℕ) → Type 0 → ℕ → Type 0
 HasOther contents faultless len = IfSome contents (λ s. faultless → length s ≢ len)
 
 -- the input is the top of the tree over `len` bytes (numbers below 256) of the contents, which begin with chunk `first`
-pub record IsTopOf (contents : Option (List ℕ)) (mode : Mode) (first len : ℕ) (input : Input) : Type 0 where
+pub record IsTopInputOf (contents : Option (List ℕ)) (mode : Mode) (first len : ℕ) (input : Input) : Type 0 where
   pub bytes : List ℕ
   pub are : AreBytes bytes
   pub given : GivenAt contents (1024 * first) bytes

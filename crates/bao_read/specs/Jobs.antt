@@ -31,8 +31,8 @@ abbrev pub IsJob : Job → Type 0
 IsJob job = 1024 * job.first + job.len ≤ 2 ^ 64 - 1
 
 -- an answer has what the choice wants of the job's bytes of the contents, or such a source lacks one of them, or there was no memory
-abbrev pub IsAnswer : Option (List ℕ) → Type 0 → Choice → Mode → Answer → Type 0
-IsAnswer contents faultless choice mode answer =
+abbrev pub IsJobAnswer : Option (List ℕ) → Type 0 → Choice → Mode → Answer → Type 0
+IsJobAnswer contents faultless choice mode answer =
     IfOk answer.made (λ made. GainsText contents choice mode answer.job.first answer.job.len [] made.text.items made.top)
     × IfErr answer.made (λ fault. fault ≡ Reader → Lacks contents faultless (1024 * answer.job.first + answer.job.len))
 

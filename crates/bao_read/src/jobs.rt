@@ -47,7 +47,8 @@ pub(crate) struct Cutting {
 }
 
 impl Cutting {
-    ghost use Rattle.std.specs.Prelude.{◌+◌, ◌-◌};
+    ghost use Rattle.std.specs.Prelude.{◌+◌, ◌-◌, ◌/◌};
+    ghost use Rattle.std.specs.Int.{IsPowerOfTwo};
     ghost use Rattle.bao_read.specs.Jobs.{IsJob, job_count, job_with};
 
     /// That of bytes that lie in memory.
@@ -60,9 +61,14 @@ impl Cutting {
         }
     }
 
-    /// That of a source that has to be read: of not many more jobs than a longer source has.
+    /// That of a source that has to be read: into jobs of 64 chunks, or, where these were more than 256, of so many chunks, a
+    /// power of two, that no more are left, while jobs of half as many were more.
     pub(crate) fn of_source(len: u64) -> Cutting
-        ensures { result.len ≡ len }
+        ensures len { result.len ≡ len }
+        ensures power { IsPowerOfTwo result.chunks }
+        ensures least { 64 ≤ result.chunks }
+        ensures few { job_count (1024 * result.chunks) len ≤ 256 }
+        ensures no_larger { 64 < result.chunks → 256 < job_count (1024 * (result.chunks / 2)) len }
     {
         let share = len.div_ceil(CHUNK_LEN as u64 * MOST_JOBS);
         Cutting {

@@ -57,6 +57,7 @@ pub(crate) fn append_at_hand(
         return Err(ReadFault::Reader);
     }
     let part = &bytes[start as usize..end as usize];
+    // A law, so that the proof has what it says: nothing runs.
     bytes_are(part);
     Ok(append_subtree(choice, mode, first, part, text)?)
 }
@@ -83,6 +84,7 @@ pub(crate) fn append_in_pieces<S: Source>(
     if len <= piece.len() as u64 {
         let part = &mut piece[..len as usize];
         fill(source, CHUNK_LEN as u64 * first, part)?;
+        // A law, so that the proof has what it says: nothing runs.
         bytes_are(part);
         return Ok(append_subtree(choice, mode, first, part, text)?);
     }

@@ -5,7 +5,7 @@ ghost use Rattle.bao_text.specs.declared.choice.Choice.{Choice};
 ghost use Rattle.bao_text.specs.Texts.{joined};
 ghost use Rattle.bao_read.specs.Encodings.{GainsText};
 ghost use Rattle.bao_read.specs.Given.{Lacks};
-ghost use Rattle.bao_read.specs.Jobs.{AllThere, IsAnswer, IsJob, job_count, jobs_below};
+ghost use Rattle.bao_read.specs.Jobs.{AllThere, IsJob, IsJobAnswer, job_count, jobs_below};
 
 use crate::fault::ReadFault;
 use crate::gate::Gate;
@@ -79,7 +79,7 @@ fn answers_of<S: Source>(
     pass: &mut Pass<Job, Log>,
 ) -> Vec<Answer>
     requires { IsPassOf (stealer_deque thief.now) pass.old × (view pass.old ≡ []) }
-    ensures right { All (IsAnswer (S.contents source.now) (S.faultless source.now) choice.now mode.now) result.items }
+    ensures right { All (IsJobAnswer (S.contents source.now) (S.faultless source.now) choice.now mode.now) result.items }
     ensures each { map (λ answer. answer.job) result.items ≡ view pass.new }
 {
     let mut answers = Vec::new(alloc);
@@ -113,7 +113,7 @@ fn work<S: Source, G: Gate>(
     gate: &G,
     worker: usize,
 ) -> Vec<Answer>
-    ensures { All (IsAnswer (S.contents source.now) (S.faultless source.now) choice.now mode.now) result.items }
+    ensures { All (IsJobAnswer (S.contents source.now) (S.faultless source.now) choice.now mode.now) result.items }
 {
     gate.pass(worker);
     let mut pass = thief.pass();
@@ -133,7 +133,7 @@ fn all_answers<R: Threads + Sync, S: Source + Sync, G: Gate + Sync>(
 ) -> Result<Vec<Vec<Answer>>, AllocError>
     ensures len { IfOk result (λ all. vec_len all ≡ workers) }
     ensures right { IfOk result (λ all. (i : ℕ) (d : _) → i < vec_len all
-        → All (IsAnswer (S.contents source.now) (S.faultless source.now) choice.now mode.now) (slice_index_or all.items i d).items) }
+        → All (IsJobAnswer (S.contents source.now) (S.faultless source.now) choice.now mode.now) (slice_index_or all.items i d).items) }
 {
     let thief = &owner.stealer()?;
     map_indices(
@@ -141,7 +141,7 @@ fn all_answers<R: Threads + Sync, S: Source + Sync, G: Gate + Sync>(
         alloc,
         workers,
         &|worker: usize| -> Vec<Answer>
-            ensures { All (IsAnswer (S.contents source.entry.now) (S.faultless source.entry.now) choice.entry.now mode.entry.now) result.items }
+            ensures { All (IsJobAnswer (S.contents source.entry.now) (S.faultless source.entry.now) choice.entry.now mode.entry.now) result.items }
         { work(alloc, choice, mode, source, thief, gate, worker) },
     )
 }
@@ -162,9 +162,9 @@ fn empty_slots(alloc: Global, count: usize) -> Result<Vec<Option<Answer>>, Alloc
 // below, is the kind of source that the contract speaks of.
 fn note<S: Source>(slots: &mut [Option<Answer>], answer: Answer)
     ensures len { length slots.new ≡ length slots.old }
-    ensures right { (source : S) (choice : Choice) (mode : Mode) → IsAnswer (S.contents source) (S.faultless source) choice mode answer
-        → AllThere (IsAnswer (S.contents source) (S.faultless source) choice mode) slots.old
-        → AllThere (IsAnswer (S.contents source) (S.faultless source) choice mode) slots.new }
+    ensures right { (source : S) (choice : Choice) (mode : Mode) → IsJobAnswer (S.contents source) (S.faultless source) choice mode answer
+        → AllThere (IsJobAnswer (S.contents source) (S.faultless source) choice mode) slots.old
+        → AllThere (IsJobAnswer (S.contents source) (S.faultless source) choice mode) slots.new }
 {
     let number = answer.job.number;
     if number < slots.len() && slots[number].is_none() {
@@ -175,9 +175,9 @@ fn note<S: Source>(slots: &mut [Option<Answer>], answer: Answer)
 // Notes what one worker answered.
 fn collect<S: Source>(slots: &mut [Option<Answer>], answers: Vec<Answer>)
     ensures len { length slots.new ≡ length slots.old }
-    ensures right { (source : S) (choice : Choice) (mode : Mode) → All (IsAnswer (S.contents source) (S.faultless source) choice mode) answers.items
-        → AllThere (IsAnswer (S.contents source) (S.faultless source) choice mode) slots.old
-        → AllThere (IsAnswer (S.contents source) (S.faultless source) choice mode) slots.new }
+    ensures right { (source : S) (choice : Choice) (mode : Mode) → All (IsJobAnswer (S.contents source) (S.faultless source) choice mode) answers.items
+        → AllThere (IsJobAnswer (S.contents source) (S.faultless source) choice mode) slots.old
+        → AllThere (IsJobAnswer (S.contents source) (S.faultless source) choice mode) slots.new }
 {
     'answers: for answer in answers {
         note::<S>(slots, answer);
@@ -188,9 +188,9 @@ fn collect<S: Source>(slots: &mut [Option<Answer>], answers: Vec<Answer>)
 fn gather<S: Source>(slots: &mut [Option<Answer>], all: Vec<Vec<Answer>>)
     ensures len { length slots.new ≡ length slots.old }
     ensures right { (source : S) (choice : Choice) (mode : Mode)
-        → ((i : ℕ) (d : _) → i < length all.items → All (IsAnswer (S.contents source) (S.faultless source) choice mode) (slice_index_or all.items i d).items)
-        → AllThere (IsAnswer (S.contents source) (S.faultless source) choice mode) slots.old
-        → AllThere (IsAnswer (S.contents source) (S.faultless source) choice mode) slots.new }
+        → ((i : ℕ) (d : _) → i < length all.items → All (IsJobAnswer (S.contents source) (S.faultless source) choice mode) (slice_index_or all.items i d).items)
+        → AllThere (IsJobAnswer (S.contents source) (S.faultless source) choice mode) slots.old
+        → AllThere (IsJobAnswer (S.contents source) (S.faultless source) choice mode) slots.new }
 {
     'workers: for answers in all {
         collect::<S>(slots, answers);

@@ -7,7 +7,7 @@ ghost use Rattle.bao_text.specs.Texts.{joined};
 ghost use Rattle.bao_text.specs.declared.choice.Choice.{Choice};
 ghost use Rattle.bao_read.specs.Encodings.{GainsText};
 ghost use Rattle.bao_read.specs.Given.{Lacks};
-ghost use Rattle.bao_read.specs.Jobs.{AllThere, IsAnswer};
+ghost use Rattle.bao_read.specs.Jobs.{AllThere, IsJobAnswer};
 
 use crate::fault::ReadFault;
 use crate::jobs::Answer;
@@ -34,9 +34,9 @@ fn taken<S: Source>(
 ) -> Option<Answer>
     ensures place { IfSome result (λ answer. (answer.job.first ≡ first) × (answer.job.len ≡ len)) }
     ensures right { (source : S) (choice : Choice) (mode : Mode)
-        → AllThere (IsAnswer (S.contents source) (S.faultless source) choice mode) slots.old
-        → AllThere (IsAnswer (S.contents source) (S.faultless source) choice mode) slots.new
-        × IfSome result (IsAnswer (S.contents source) (S.faultless source) choice mode) }
+        → AllThere (IsJobAnswer (S.contents source) (S.faultless source) choice mode) slots.old
+        → AllThere (IsJobAnswer (S.contents source) (S.faultless source) choice mode) slots.new
+        × IfSome result (IsJobAnswer (S.contents source) (S.faultless source) choice mode) }
 {
     if number >= slots.len() {
         return None;
@@ -60,8 +60,8 @@ fn made_of<S: Source>(
     piece: &mut Vec<u8>,
 ) -> Result<Made, ReadFault>
     requires range { 1024 * first + len ≤ 2 ^ 64 - 1 }
-    requires right { AllThere (IsAnswer (S.contents source.now) (S.faultless source.now) choice.now mode.now) slots.old }
-    ensures right { AllThere (IsAnswer (S.contents source.now) (S.faultless source.now) choice.now mode.now) slots.new }
+    requires right { AllThere (IsJobAnswer (S.contents source.now) (S.faultless source.now) choice.now mode.now) slots.old }
+    ensures right { AllThere (IsJobAnswer (S.contents source.now) (S.faultless source.now) choice.now mode.now) slots.new }
     ensures text { IfOk result (λ made. GainsText (S.contents source.now) choice.now mode.now first len [] made.text.items made.top) }
     ensures fault { IfErr result (λ fault. fault ≡ ReadFault.Reader → Lacks (S.contents source.now) (S.faultless source.now) (1024 * first + len)) }
 {
@@ -144,8 +144,8 @@ pub(crate) fn tree_over<S: Source>(
     requires some { 0 < chunks }
     requires most { 1024 * chunks ≤ 2 ^ 63 }
     requires range { 1024 * first + len ≤ 2 ^ 64 - 1 }
-    requires right { AllThere (IsAnswer (S.contents source.now) (S.faultless source.now) choice.now mode.now) slots.old }
-    ensures right { AllThere (IsAnswer (S.contents source.now) (S.faultless source.now) choice.now mode.now) slots.new }
+    requires right { AllThere (IsJobAnswer (S.contents source.now) (S.faultless source.now) choice.now mode.now) slots.old }
+    ensures right { AllThere (IsJobAnswer (S.contents source.now) (S.faultless source.now) choice.now mode.now) slots.new }
     ensures text { IfOk result (λ tree. GainsText (S.contents source.now) choice.now mode.now first len [] (joined tree.texts.items) tree.top) }
     ensures fault { IfErr result (λ fault. fault ≡ ReadFault.Reader → Lacks (S.contents source.now) (S.faultless source.now) (1024 * first + len)) }
 {

@@ -11,17 +11,17 @@ use Rattle.std.proofs.lemmas.Str.Ascii.{IsAscii-nil, IsAscii-cons}
 use Rattle.bao_script.proofs.Numbers.{own}
 use Rattle.bao_script.specs.declared.line.Line.{Line}
 use Rattle.bao_script.specs.declared.line.Line.TheVariants.{Claim, Hash, Write, Fill, Publish, Give, Load, Settle, Length}
-use Rattle.bao_script.specs.Forms.{AreWritten, Says, name_of, numbers_of}
-use Rattle.bao_script.specs.Words.{number_of, words_of}
+use Rattle.bao_script.specs.Forms.{AreWritten, SaysLine, name_of, numbers_of}
+use Rattle.bao_script.specs.Words.{line_words, written_number}
 
 abbrev AreAscii : List (List ℕ) → Type 0
 AreAscii [] = Unit {0}
 AreAscii (word ∷ words) = IsAscii word × AreAscii words
 
-digits_if_number : (bits : ℕ) (word : List ℕ) (n : ℕ) → number_of bits word ≡ Some n → list_all is_ascii_digit word ≡ true
+digits_if_number : (bits : ℕ) (word : List ℕ) (n : ℕ) → written_number bits word ≡ Some n → list_all is_ascii_digit word ≡ true
 digits_if_number bits word n h = grind (arith, nat_tests)
 
-number_is_ascii : (bits : ℕ) (word : List ℕ) (n : ℕ) → number_of bits word ≡ Some n → IsAscii word
+number_is_ascii : (bits : ℕ) (word : List ℕ) (n : ℕ) → written_number bits word ≡ Some n → IsAscii word
 number_is_ascii bits word n h = IsAscii-from_digits word (own.to word (digits_if_number bits word n h))
 
 written_are_ascii : (numbers : List (ℕ × ℕ)) (words : List (List ℕ)) → AreWritten numbers words → AreAscii words
@@ -59,9 +59,9 @@ join_is_ascii (word ∷ next ∷ words) h =
     IsAscii-append word (32 ∷ join_with_byte 32 (next ∷ words)) h.0
     (IsAscii-cons 32 (join_with_byte 32 (next ∷ words)) (lit< tt) (join_is_ascii (next ∷ words) h.1))
 
-pub says_in_utf8 : (files : ℕ) (bytes : List ℕ) (line : Line) → Says files (words_of bytes) line → IsUtf8 bytes
+pub says_in_utf8 : (files : ℕ) (bytes : List ℕ) (line : Line) → SaysLine files (line_words bytes) line → IsUtf8 bytes
 says_in_utf8 files bytes line (rest, is, written, named) =
     let P : List (List ℕ) → Type 0 = AreAscii in
-    let words : AreAscii (words_of bytes) = subst P (sym is) (name_is_ascii line, written_are_ascii (numbers_of line) rest written) in
+    let words : AreAscii (line_words bytes) = subst P (sym is) (name_is_ascii line, written_are_ascii (numbers_of line) rest written) in
     let Q : List ℕ → Type 0 = IsAscii in
-    IsUtf8-from_ascii bytes (subst Q (join_with_byte-slice_split 32 bytes) (join_is_ascii (words_of bytes) words))
+    IsUtf8-from_ascii bytes (subst Q (join_with_byte-slice_split 32 bytes) (join_is_ascii (line_words bytes) words))

@@ -1,7 +1,7 @@
 -- What is said line by line, as lines are added at the end.
 use Rattle.std.proofs.Common.{◌≡◌, ◌∙◌, ℕ, ◌+◌, ◌<◌, ◌≤◌, suc, take, get_or, map, Bor, List, [], ◌∷◌, ◌++◌, length, Bool, true, false, cond, ◌==◌, ap, sym, subst, refl, add-zero, arith}
 use Rattle.bao_script.specs.declared.numbered.NumberedLine.{NumberedLine}
-use Rattle.bao_script.specs.Scripts.{AreRead, Gains, IsRefused, IsRefusedLine, IsScript, numbered}
+use Rattle.bao_script.specs.Scripts.{AreRead, GainsLine, IsFirstRefused, IsRefusedLine, IsScript, numbered}
 use Rattle.bao_script.specs.Slices.{NameFiles}
 use Rattle.bao_script.specs.Words.{lines_of}
 use Rattle.std.proofs.lemmas.List.{take_more, get_or-map, length-map}
@@ -51,7 +51,7 @@ numbered_more lines i d below =
     ∙ ap (λ line. numbered 1 (take i (texts lines)) ++ numbered (i + 1) (line ∷ [])) (text_at lines i d below)
 
 pub read_more : (files : ℕ) (lines : List (Bor (List ℕ))) (i : ℕ) (d : Bor (List ℕ)) (old new : List NumberedLine) → i < length lines
-    → AreRead files (numbered 1 (take i (texts lines))) old → Gains files old new (i + 1) (get_or lines i d).now
+    → AreRead files (numbered 1 (take i (texts lines))) old → GainsLine files old new (i + 1) (get_or lines i d).now
     → AreRead files (numbered 1 (take (i + 1) (texts lines))) new
 read_more files lines i d old new below h (more, is, k) =
     let read : AreRead files (numbered 1 (take i (texts lines)) ++ numbered (i + 1) ((get_or lines i d).now ∷ [])) (old ++ more) =
@@ -61,7 +61,7 @@ read_more files lines i d old new below h (more, is, k) =
 
 pub refused_at : (files : ℕ) (text : List ℕ) (lines : List (Bor (List ℕ))) (i number : ℕ) (d : Bor (List ℕ)) (before : List NumberedLine)
     → texts lines ≡ lines_of text → i < length lines → AreRead files (numbered 1 (take i (texts lines))) before
-    → number ≡ i + 1 → IsRefusedLine files (get_or lines i d).now → IsRefused files text number
+    → number ≡ i + 1 → IsRefusedLine files (get_or lines i d).now → IsFirstRefused files text number
 refused_at files text lines i number d before is below h number_is refused =
     let P : List (List ℕ) → Type 0 = λ all. AreRead files (numbered 1 (take i all)) before in
     record {

@@ -13,7 +13,7 @@ use Rattle.store_core.specs.declared.store.Store.{Store}
 use Rattle.store_core.specs.Machine.{Machine, start, store_of}
 use Rattle.store_core.specs.Replays.{IsReplayed, LeavesStore, ReplayBinds}
 use Rattle.store_core.specs.Schedules.{IsLegalStep, Runs, after_step, step_events}
-use Rattle.store_core.specs.Stages.{DoesRefuse, DoesStep, IsStepped}
+use Rattle.store_core.specs.ScheduleRuns.{DoesRefuse, DoesStep, IsStepped}
 use Rattle.store_core.specs.States.{State, held_count}
 use Rattle.store_core.specs.Stores.{fixed_of, state_of}
 use Rattle.store_core.proofs.Running.{runs_more}
@@ -22,7 +22,7 @@ use Rattle.bao_script.specs.declared.line.Line.TheVariants.{Claim, Hash, Write, 
 use Rattle.bao_script.specs.declared.numbered.NumberedLine.{NumberedLine}
 use Rattle.bao_script.specs.Printouts.{EndBinds, IsPrinted}
 use Rattle.bao_script.specs.Replies.{held_line, reply_line}
-use Rattle.bao_script.specs.ScriptRuns.{RanLines, RanSteps, RunsScript, StandsAt, StopsAmong, StopsAt, answers_text}
+use Rattle.bao_script.specs.ScriptRuns.{RanLines, RanSteps, RunsScript, StandsAt, StopsAmong, StopsAtLine, answers_text}
 use Rattle.bao_script.specs.Slices.{ArePieces, slices_of}
 use Rattle.bao_script.specs.Steps.{pieces_among, pieces_in, steps_of}
 
@@ -142,7 +142,7 @@ split_at (x ∷ xs) (suc i) d below = ap (λ ys. x ∷ ys) (split_at xs i d (ome
 pub lines_stop : (fixed : Fixed) (pieces : List Checked) (m : Machine) (lines : List NumberedLine) (i piece number : ℕ) (old mid : List ℕ) (run : ScheduleRun) (d : NumberedLine)
     → i < length lines → piece ≡ pieces_among (take i lines) → RanLines fixed pieces m (take i lines) old mid run
     → ((n : Machine) → StandsAt fixed pieces n run → ((get_or lines i d).number ≡ number) × StopsAmong fixed pieces n (steps_of piece (get_or lines i d).line))
-    → StopsAt fixed pieces 0 m lines number
+    → StopsAtLine fixed pieces 0 m lines number
 lines_stop fixed pieces m lines i piece number old mid run d below place ran stops = (
   take i lines,
   get_or lines i d,

@@ -1,14 +1,14 @@
 -- Words that write numbers, by their places.
 use Rattle.std.proofs.Common.{◌≡◌, ℕ, List, [], ◌∷◌, Bor, Some, length, get_or, map, refl, sym, arith}
 use Rattle.bao_script.specs.Forms.{AreWritten}
-use Rattle.bao_script.specs.Words.{number_of}
+use Rattle.bao_script.specs.Words.{written_number}
 
 abbrev pub texts : List (Bor (List ℕ)) → List (List ℕ)
 texts words = map (λ word. word.now) words
 
 -- the word at a place writes the number
 abbrev pub WritesAt : List (Bor (List ℕ)) → Bor (List ℕ) → ℕ → ℕ → ℕ → Type 0
-WritesAt words d place bits n = Some n ≡ number_of bits (get_or words place d).now
+WritesAt words d place bits n = Some n ≡ written_number bits (get_or words place d).now
 
 pub two_written : (words : List (Bor (List ℕ))) (d : Bor (List ℕ)) (k l : ℕ) {m n : ℕ} → length words ≡ 2 → WritesAt words d 0 k m → WritesAt words d 1 l n
     → AreWritten ((k, m) ∷ (l, n) ∷ []) (texts words)

@@ -2,7 +2,7 @@
 use Rattle.std.specs.Prelude.{ℕ, ◌≡◌, ◌<◌, List, [], ◌∷◌, Option, None, Some, codes}
 use Rattle.bao_script.specs.declared.line.Line.{Line}
 use Rattle.bao_script.specs.declared.line.Line.TheVariants.{Claim, Hash, Write, Fill, Publish, Give, Load, Settle, Length}
-use Rattle.bao_script.specs.Words.{number_of}
+use Rattle.bao_script.specs.Words.{written_number}
 
 -- the word that a line begins with
 abbrev pub name_of : Line → List ℕ
@@ -32,7 +32,7 @@ numbers_of (Length seat) = (32, seat) ∷ []
 abbrev pub AreWritten : List (ℕ × ℕ) → List (List ℕ) → Type 0
 AreWritten [] words = words ≡ []
 AreWritten (number ∷ numbers) words =
-    (word : List ℕ) × (rest : List (List ℕ)) × (words ≡ word ∷ rest) × (number_of number.0 word ≡ Some number.1) × AreWritten numbers rest
+    (word : List ℕ) × (rest : List (List ℕ)) × (words ≡ word ∷ rest) × (written_number number.0 word ≡ Some number.1) × AreWritten numbers rest
 
 -- the file is one of those given
 abbrev pub NamesFile : ℕ → Line → Type 0
@@ -45,10 +45,10 @@ IsReading name words (Some line) = (name_of line ≡ name) × AreWritten (number
 IsReading name words None = (line : Line) → name_of line ≡ name → ¬ AreWritten (numbers_of line) words
 
 -- the words of a line say it
-abbrev pub Says : ℕ → List (List ℕ) → Line → Type 0
-Says files words line =
+abbrev pub SaysLine : ℕ → List (List ℕ) → Line → Type 0
+SaysLine files words line =
     (rest : List (List ℕ)) × (words ≡ name_of line ∷ rest) × AreWritten (numbers_of line) rest × NamesFile files line
 
 abbrev pub IsLine : ℕ → List (List ℕ) → Option Line → Type 0
-IsLine files words (Some line) = Says files words line
-IsLine files words None = (line : Line) → ¬ Says files words line
+IsLine files words (Some line) = SaysLine files words line
+IsLine files words None = (line : Line) → ¬ SaysLine files words line

@@ -5,40 +5,40 @@ use Rattle.bao_check.specs.Pieces.{chunk_of}
 use Rattle.store_core.specs.declared.fixed.Fixed.{Fixed}
 use Rattle.store_core.specs.declared.history.Piece.{Piece}
 use Rattle.store_core.specs.declared.micro.Reply.{Reply}
-use Rattle.store_core.specs.Laws.{IsBlob, PairNamed}
+use Rattle.store_core.specs.Laws.{IsBlob, CollidesWith}
 use Rattle.store_core.specs.Machine.{Machine, start, store_of}
 use Rattle.store_core.specs.Pieces.{EndsBlob, chunk_bytes, length_of}
 use Rattle.store_core.specs.Replays.{IsListed}
 use Rattle.store_core.specs.States.{held_count}
 use Rattle.bao_script.specs.declared.numbered.NumberedLine.{NumberedLine}
 use Rattle.bao_script.specs.Replies.{held_line}
-use Rattle.bao_script.specs.ScriptRuns.{RunsScript, StopsAt, answers_text}
+use Rattle.bao_script.specs.ScriptRuns.{RunsScript, StopsAtLine, answers_text}
 use Rattle.bao_script.specs.Slices.{ArePieces, slices_of}
 
--- A pair is named from a blob and a piece of the list that holds chunk c with these bytes.
-pub record PairOfHolder (fixed : Fixed) (pieces : List Checked) (blob : List ℕ) (c : ℕ) (bytes : List ℕ) : Type 0 where
+-- A collision is exhibited from a blob and a piece of the list that holds chunk c with these bytes.
+pub record CollisionOfHolder (fixed : Fixed) (pieces : List Checked) (blob : List ℕ) (c : ℕ) (bytes : List ℕ) : Type 0 where
   pub piece : Piece
   pub listed : IsListed pieces piece
   pub has : chunk_bytes piece c ≡ Some bytes
-  pub pair : PairNamed fixed blob piece
+  pub pair : CollidesWith fixed blob piece
 
 -- or from one that holds the last chunk of this length
-pub record PairOfEnd (fixed : Fixed) (pieces : List Checked) (blob : List ℕ) (l : ℕ) : Type 0 where
+pub record CollisionOfEnd (fixed : Fixed) (pieces : List Checked) (blob : List ℕ) (l : ℕ) : Type 0 where
   pub piece : Piece
   pub listed : IsListed pieces piece
   pub ends : EndsBlob piece
   pub is : length_of piece ≡ l
-  pub pair : PairNamed fixed blob piece
+  pub pair : CollidesWith fixed blob piece
 
 -- For each blob with the root: a chunk that is held at the end is the blob's chunk of that number, and a recorded length is
--- the blob's; or a pair is named from the blob and the piece, one of the list, that it comes from.
+-- the blob's; or a collision is exhibited from the blob and the piece, one of the list, that it comes from.
 abbrev pub EndBinds : Fixed → List Checked → Machine → Type 0
 EndBinds fixed pieces last = (blob : List ℕ) → IsBlob fixed blob
-    → ((c : ℕ) (bytes : List ℕ) → (store_of last).held c ≡ Some bytes → (chunk_of blob c ≡ Some bytes) ⊎ PairOfHolder fixed pieces blob c bytes)
-    × ((l : ℕ) → (store_of last).recorded ≡ Some l → (l ≡ length blob) ⊎ PairOfEnd fixed pieces blob l)
+    → ((c : ℕ) (bytes : List ℕ) → (store_of last).held c ≡ Some bytes → (chunk_of blob c ≡ Some bytes) ⊎ CollisionOfHolder fixed pieces blob c bytes)
+    × ((l : ℕ) → (store_of last).recorded ≡ Some l → (l ≡ length blob) ⊎ CollisionOfEnd fixed pieces blob l)
 
 -- The text is of the replies of the script's run from the empty store, over the pieces that its lines name, and of how
--- many chunks are held at the end. What is held and recorded then is the blob's, or a pair is named.
+-- many chunks are held at the end. What is held and recorded then is the blob's, or a collision is exhibited.
 pub record IsPrinted (fixed : Fixed) (files : List (List ℕ)) (script : List NumberedLine) (text : List ℕ) : Type 0 where
   pub pieces : List Checked
   pub named : ArePieces fixed.mode fixed.root.0 (slices_of files script) pieces
@@ -52,4 +52,4 @@ pub record IsPrinted (fixed : Fixed) (files : List (List ℕ)) (script : List Nu
 pub record IsStopped (fixed : Fixed) (files : List (List ℕ)) (script : List NumberedLine) (number : ℕ) : Type 0 where
   pub pieces : List Checked
   pub named : ArePieces fixed.mode fixed.root.0 (slices_of files script) pieces
-  pub stops : StopsAt fixed pieces 0 start script number
+  pub stops : StopsAtLine fixed pieces 0 start script number

@@ -19,9 +19,9 @@ settling_text Differs = codes "differs"
 settling_text OtherRoot = codes "otherroot"
 settling_text TooLarge = codes "toolarge"
 
-abbrev pub length_text : Option ℕ → List ℕ
-length_text None = codes "length none"
-length_text (Some length) = codes "length " ++ decimal length
+abbrev pub length_reply_text : Option ℕ → List ℕ
+length_reply_text None = codes "length none"
+length_reply_text (Some length) = codes "length " ++ decimal length
 
 abbrev pub reply_text : Reply → List ℕ
 reply_text (Granted mask) = codes "granted " ++ decimal mask
@@ -30,7 +30,7 @@ reply_text (Given mask) = codes "given " ++ decimal mask
 reply_text (Bytes bytes) = bytes_text bytes
 reply_text (NotHeld position) = codes "missing " ++ decimal position
 reply_text (Settling answer) = settling_text answer
-reply_text (LengthIs length) = length_text length
+reply_text (LengthIs length) = length_reply_text length
 
 -- a reply to the line with this number
 abbrev pub reply_line : ℕ → Reply → List ℕ

@@ -10,7 +10,7 @@ use Rattle.store_core.specs.declared.schedule.ScheduleRun.{ScheduleRun}
 use Rattle.store_core.specs.Machine.{Machine}
 use Rattle.store_core.specs.Replays.{IsIllegalFrom}
 use Rattle.store_core.specs.Schedules.{Runs}
-use Rattle.store_core.specs.Stages.{HasRun}
+use Rattle.store_core.specs.ScheduleRuns.{HasRun}
 use Rattle.bao_script.specs.declared.numbered.NumberedLine.{NumberedLine}
 use Rattle.bao_script.specs.Replies.{reply_line}
 use Rattle.bao_script.specs.Steps.{pieces_among, pieces_in, steps_of}
@@ -30,8 +30,8 @@ abbrev pub StopsAmong : Fixed → List Checked → Machine → List MicroStep �
 StopsAmong fixed pieces m steps = (index : ℕ) × IsIllegalFrom fixed pieces m steps index
 
 -- the lines before that with this number ran, and among its steps is one that isn't legal
-abbrev pub StopsAt : Fixed → List Checked → ℕ → Machine → List NumberedLine → ℕ → Type 0
-StopsAt fixed pieces piece m script number =
+abbrev pub StopsAtLine : Fixed → List Checked → ℕ → Machine → List NumberedLine → ℕ → Type 0
+StopsAtLine fixed pieces piece m script number =
     (before : List NumberedLine) × (line : NumberedLine) × (after : List NumberedLine)
     × (script ≡ before ++ line ∷ after) × (line.number ≡ number)
     × (answers : List (ℕ × Reply)) × (last : Machine) × RunsScript fixed pieces piece m before answers last

@@ -2,8 +2,8 @@
 use Rattle.std.specs.Prelude.{◌≡◌, ℕ, ◌+◌, ◌<◌, ◌==◌, if◌then◌else◌, List, [], ◌∷◌, ◌++◌, length, take, Some, slice_get}
 use Rattle.bao_script.specs.declared.line.Line.{Line}
 use Rattle.bao_script.specs.declared.numbered.NumberedLine.{NumberedLine}
-use Rattle.bao_script.specs.Forms.{Says}
-use Rattle.bao_script.specs.Words.{lines_of, words_of}
+use Rattle.bao_script.specs.Forms.{SaysLine}
+use Rattle.bao_script.specs.Words.{line_words, lines_of}
 
 -- the lines that aren't empty, each with its number, where the first line has the number that is given
 abbrev pub numbered : ℕ → List (List ℕ) → List (ℕ × List ℕ)
@@ -16,7 +16,7 @@ abbrev pub AreRead : ℕ → List (ℕ × List ℕ) → List NumberedLine → Ty
 AreRead files [] script = script ≡ []
 AreRead files (line ∷ lines) script =
     (first : NumberedLine) × (rest : List NumberedLine)
-    × (script ≡ first ∷ rest) × (first.number ≡ line.0) × Says files (words_of line.1) first.line × AreRead files lines rest
+    × (script ≡ first ∷ rest) × (first.number ≡ line.0) × SaysLine files (line_words line.1) first.line × AreRead files lines rest
 
 -- what the text says, of which each line that isn't empty has a form
 abbrev pub IsScript : ℕ → List ℕ → List NumberedLine → Type 0
@@ -24,10 +24,10 @@ IsScript files text script = AreRead files (numbered 1 (lines_of text)) script
 
 -- the line isn't empty, and has no form
 abbrev pub IsRefusedLine : ℕ → List ℕ → Type 0
-IsRefusedLine files text = (0 < length text) × ((line : Line) → ¬ Says files (words_of text) line)
+IsRefusedLine files text = (0 < length text) × ((line : Line) → ¬ SaysLine files (line_words text) line)
 
 -- the line with this number is the first that is refused: those before it say something
-pub record IsRefused (files : ℕ) (text : List ℕ) (number : ℕ) : Type 0 where
+pub record IsFirstRefused (files : ℕ) (text : List ℕ) (number : ℕ) : Type 0 where
   pub index : ℕ
   pub number_is : number ≡ index + 1
   pub before : List NumberedLine
@@ -37,6 +37,6 @@ pub record IsRefused (files : ℕ) (text : List ℕ) (number : ℕ) : Type 0 whe
   pub refused : IsRefusedLine files line
 
 -- the new lines are the old and what the line with this number says, if it isn't empty
-abbrev pub Gains : ℕ → List NumberedLine → List NumberedLine → ℕ → List ℕ → Type 0
-Gains files old new number line =
+abbrev pub GainsLine : ℕ → List NumberedLine → List NumberedLine → ℕ → List ℕ → Type 0
+GainsLine files old new number line =
     (more : List NumberedLine) × (new ≡ old ++ more) × AreRead files (numbered number (line ∷ [])) more

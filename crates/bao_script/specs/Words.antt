@@ -9,14 +9,14 @@ abbrev pub lines_of : List ℕ → List (List ℕ)
 lines_of text = slice_split (λ byte. byte == 10) text
 
 -- the words of a line, between its single spaces
-abbrev pub words_of : List ℕ → List (List ℕ)
-words_of line = slice_split (λ byte. byte == 32) line
+abbrev pub line_words : List ℕ → List (List ℕ)
+line_words line = slice_split (λ byte. byte == 32) line
 
 -- one or more decimal digits; leading zeros are digits, and a sign isn't one
-abbrev pub is_number : List ℕ → Bool
-is_number word = nat_lt 0 (length word) && list_all is_ascii_digit word
+abbrev pub is_numeral : List ℕ → Bool
+is_numeral word = nat_lt 0 (length word) && list_all is_ascii_digit word
 
 -- the number that a word writes, where it is one that fits the bits
-abbrev pub number_of : ℕ → List ℕ → Option ℕ
-number_of bits word =
-    if is_number word && nat_lt (digits_value 10 word) (2 ^ bits) then Some (digits_value 10 word) else None
+abbrev pub written_number : ℕ → List ℕ → Option ℕ
+written_number bits word =
+    if is_numeral word && nat_lt (digits_value 10 word) (2 ^ bits) then Some (digits_value 10 word) else None

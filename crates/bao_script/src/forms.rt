@@ -1,6 +1,6 @@
 ghost use Rattle.std.specs.Prelude.{map, codes, IfOk, IsTrue, ◌↔◌};
 ghost use Rattle.bao_script.specs.Forms.{IsLine, IsReading, NamesFile};
-ghost use Rattle.bao_script.specs.Words.{words_of};
+ghost use Rattle.bao_script.specs.Words.{line_words};
 
 use crate::line::Line;
 use crate::words::{number_8, number_32, number_64, split_words};
@@ -161,7 +161,7 @@ fn line_of(words: &[&str], files: usize) -> Option<Line>
 
 // What a line says, where it has a form.
 pub fn read_line(alloc: Global, line: &[u8], files: usize) -> Result<Option<Line>, AllocError>
-    ensures { IfOk result (IsLine files (words_of line.now)) }
+    ensures { IfOk result (IsLine files (line_words line.now)) }
 {
     let Ok(text) = str::from_utf8(line) else {
         return Ok(None);

@@ -1,5 +1,5 @@
 ghost use Rattle.std.specs.Prelude.{◌≡◌, ◌++◌, IfOk, OnOk, codes, string_bytes};
-ghost use Rattle.bao_script.specs.Replies.{bytes_text, held_line, length_text, reply_line, reply_text, settling_text};
+ghost use Rattle.bao_script.specs.Replies.{bytes_text, held_line, length_reply_text, reply_line, reply_text, settling_text};
 
 use std::alloc::{AllocError, Global};
 use std::fmt::Write;
@@ -28,7 +28,7 @@ fn settling_text(answer: Settling) -> &'static str
 }
 
 fn length_text(alloc: Global, length: Option<u64>) -> Result<String, AllocError>
-    ensures { IfOk result (λ text. string_bytes text ≡ length_text length) }
+    ensures { IfOk result (λ text. string_bytes text ≡ length_reply_text length) }
 {
     match length {
         Some(length) => format!(in alloc; "length {length}"),

@@ -23,7 +23,7 @@ use store_core::{BadCapacity, ScheduleRun};
 /// step that isn't legal. Memory that a slice (401), the schedule (701) or the text found none of is a fault of its own.
 ///
 /// For each blob with the hash `root`, each chunk that is held at the end is the blob's chunk of that number, and a recorded
-/// length is the blob's; or two different inputs with one chaining value are named, one of the blob's and one of a piece's
+/// length is the blob's; or a collision is exhibited, two different inputs with one chaining value, one of the blob's and one of a piece's
 /// that a line names.
 pub fn replay_script(
     alloc: Global,

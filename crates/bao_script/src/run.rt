@@ -1,7 +1,7 @@
 ghost use Rattle.std.specs.Prelude.{◌≡◌, ◌++◌, ℕ, IfErr, IsErrOf, OnOk, map, option_to_list, string_bytes};
 ghost use Rattle.bao_script.specs.declared.fault.ReplayScriptFault.TheVariants.{Illegal};
 ghost use Rattle.bao_script.specs.Faults.{IsLate};
-ghost use Rattle.bao_script.specs.ScriptRuns.{RanLines, RanSteps, StandsAt, StopsAmong, StopsAt, answers_text};
+ghost use Rattle.bao_script.specs.ScriptRuns.{RanLines, RanSteps, StandsAt, StopsAmong, StopsAtLine, answers_text};
 ghost use Rattle.bao_script.specs.Steps.{steps_of};
 ghost use Rattle.store_core.specs.declared.fixed.Fixed.{Fixed};
 ghost use Rattle.store_core.specs.Machine.{Machine};
@@ -67,7 +67,7 @@ pub fn run_lines<'a>(
     ensures ok { (fixed : Fixed) (m : Machine) → StandsAt fixed pieces.now m run.old
         → OnOk result (RanLines fixed pieces.now m lines.now (string_bytes out.old) (string_bytes out.new) run.new) }
     ensures illegal { (fixed : Fixed) (m : Machine) (number : ℕ) → StandsAt fixed pieces.now m run.old → IsErrOf result (Illegal number)
-        → StopsAt fixed pieces.now 0 m lines.now number }
+        → StopsAtLine fixed pieces.now 0 m lines.now number }
     ensures fault { IfErr result IsLate }
 {
     let mut piece = 0;

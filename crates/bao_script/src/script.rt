@@ -1,7 +1,7 @@
 ghost use Rattle.std.specs.Prelude.{◌≡◌, ℕ, ◌<◌, ◌++◌, List, length, map, IfOk, OnOk, IsErrOf};
 ghost use Rattle.bao_script.specs.declared.fault.ScriptFault.TheVariants.{Line as RefusedLine};
 ghost use Rattle.bao_script.specs.declared.numbered.NumberedLine.{NumberedLine};
-ghost use Rattle.bao_script.specs.Scripts.{Gains, IsRefused, IsScript, IsRefusedLine};
+ghost use Rattle.bao_script.specs.Scripts.{GainsLine, IsFirstRefused, IsScript, IsRefusedLine};
 ghost use Rattle.bao_script.specs.Slices.{NameFiles};
 ghost use Rattle.bao_script.specs.Words.{lines_of};
 
@@ -47,7 +47,7 @@ fn add_line(
     line: &[u8],
     files: usize,
 ) -> Result<(), ScriptFault>
-    ensures ok { OnOk result (Gains files lines.old.items lines.new.items number line.now) }
+    ensures ok { OnOk result (GainsLine files lines.old.items lines.new.items number line.now) }
     ensures refused { (n : ℕ) → IsErrOf result (RefusedLine n) → (n ≡ number) × IsRefusedLine files line.now }
 {
     if line.is_empty() {
@@ -72,7 +72,7 @@ fn add_line(
 pub fn parse(alloc: Global, text: &[u8], files: usize) -> Result<Script, ScriptFault>
     ensures script { IfOk result (IsScript files text.now) }
     ensures files { IfOk result (NameFiles files) }
-    ensures refused { (number : ℕ) → IsErrOf result (RefusedLine number) → IsRefused files text.now number }
+    ensures refused { (number : ℕ) → IsErrOf result (RefusedLine number) → IsFirstRefused files text.now number }
 {
     let texts = split_lines(alloc, text)?;
     let mut lines = Vec::new(alloc);

@@ -9,7 +9,7 @@ use Rattle.bao_text.specs.declared.walk.Node.{Node}
 use Rattle.bao_text.specs.declared.walk.Node.TheVariants.{Chunk, Parent}
 use Rattle.bao_text.specs.declared.walk.Subtree.{Subtree}
 use Rattle.bao_text.specs.Choice.{wants}
-use Rattle.bao_text.specs.NodeNames.{AreWaiting, IsWaiting, name, names_of, waiting_names}
+use Rattle.bao_text.specs.NodeNames.{AreWaiting, IsWaiting, name, node_names, waiting_names}
 use Rattle.bao_text.specs.Nodes.{TreeNode, Side, chunk_nodes, left, right, subtree_nodes, subtree_size}
 use Rattle.bao_text.proofs.SubtreeNodes.{subtree_nodes-leaf, subtree_nodes-parent, subtree_nodes-unwanted}
 use Rattle.bao_text.proofs.SubtreeText.{Parts, left_len-Parts}
@@ -68,17 +68,17 @@ names-levels (suc levels) choice number n sides others source other hn = elim (c
       ]
 ]
 
-pub names-anywhere : (choice : Choice) (number n : ℕ) (sides : List Side) (source : ℕ) → map name (subtree_nodes choice number n sides source) ≡ names_of choice number n
+pub names-anywhere : (choice : Choice) (number n : ℕ) (sides : List Side) (source : ℕ) → map name (subtree_nodes choice number n sides source) ≡ node_names choice number n
 names-anywhere choice number n sides source = names-levels n choice number n sides [] source 0 (omega arith)
 
-pub names-unwanted : (choice : Choice) (number n : ℕ) → wants choice (1024 * number) n ≡ false → names_of choice number n ≡ []
+pub names-unwanted : (choice : Choice) (number n : ℕ) → wants choice (1024 * number) n ≡ false → node_names choice number n ≡ []
 names-unwanted choice number n skipped = ap (map name) (subtree_nodes-unwanted choice number n [] 0 skipped)
 
-pub names-chunk : (choice : Choice) (number n : ℕ) → wants choice (1024 * number) n ≡ true → choice.chunks ≡ true → n ≤ 1024 → names_of choice number n ≡ Chunk number ∷ []
+pub names-chunk : (choice : Choice) (number n : ℕ) → wants choice (1024 * number) n ≡ true → choice.chunks ≡ true → n ≤ 1024 → node_names choice number n ≡ Chunk number ∷ []
 names-chunk choice number n wanted there one = names-one choice number n [] 0 wanted one there
 
 pub names-parent : (choice : Choice) (number n : ℕ) → wants choice (1024 * number) n ≡ true → 1024 < n
-    → names_of choice number n ≡ Parent (number + left_len n / 1024) ∷ (names_of choice number (left_len n) ++ names_of choice (number + left_len n / 1024) (n - left_len n))
+    → node_names choice number n ≡ Parent (number + left_len n / 1024) ∷ (node_names choice number (left_len n) ++ node_names choice (number + left_len n / 1024) (n - left_len n))
 names-parent choice number n wanted more =
     let l : ℕ = left_len n in
     let middle : ℕ = number + l / 1024 in
@@ -90,11 +90,11 @@ names-parent choice number n wanted more =
     ∙ (λ i. names-anywhere choice number l (left ∷ []) 64 i ++ names-anywhere choice middle (n - l) (right ∷ []) (64 + subtree_size l) i))
 
 -- a subtree put last comes first
-pub waiting_names-last : (choice : Choice) (xs : List Subtree) (x : Subtree) → waiting_names choice (xs ++ x ∷ []) ≡ names_of choice x.number x.len ++ waiting_names choice xs
-waiting_names-last choice [] x = sym (append-nil (names_of choice x.number x.len))
+pub waiting_names-last : (choice : Choice) (xs : List Subtree) (x : Subtree) → waiting_names choice (xs ++ x ∷ []) ≡ node_names choice x.number x.len ++ waiting_names choice xs
+waiting_names-last choice [] x = sym (append-nil (node_names choice x.number x.len))
 waiting_names-last choice (y ∷ ys) x =
-    ap (λ (zs : List Node). zs ++ names_of choice y.number y.len) (waiting_names-last choice ys x)
-    ∙ append_assoc (names_of choice x.number x.len) (waiting_names choice ys) (names_of choice y.number y.len)
+    ap (λ (zs : List Node). zs ++ node_names choice y.number y.len) (waiting_names-last choice ys x)
+    ∙ append_assoc (node_names choice x.number x.len) (waiting_names choice ys) (node_names choice y.number y.len)
 
 pub AreWaiting-last : (choice : Choice) (levels : ℕ) (xs : List Subtree) (x : Subtree) → AreWaiting choice levels xs → IsWaiting choice (levels - length xs) x
     → AreWaiting choice levels (xs ++ x ∷ [])
@@ -136,7 +136,7 @@ pub record Taken (choice : Choice) (old new : List Subtree) (x : Subtree) : Type
   pub wanted : wants choice (1024 * x.number) x.len ≡ true
   pub within : 1024 * x.number + x.len ≤ 2 ^ 64 - 1
   pub levels : x.len ≤ 1024 * 2 ^ (54 - length new)
-  pub names : waiting_names choice old ≡ names_of choice x.number x.len ++ waiting_names choice new
+  pub names : waiting_names choice old ≡ node_names choice x.number x.len ++ waiting_names choice new
 
 pub taken_last : (choice : Choice) (old new : List Subtree) (x : Subtree) → AreWaiting choice 54 old → old ≡ new ++ x ∷ [] → Taken choice old new x
 taken_last choice old new x all e =

@@ -19,8 +19,8 @@ abbrev pub name : TreeNode → Node
 name node = if node.is_chunk then Chunk node.number else Parent (boundary node)
 
 -- the wanted nodes of a subtree by name: neither the way to it nor its place in an encoding matters
-abbrev pub names_of : Choice → ℕ → ℕ → List Node
-names_of choice number n = map name (subtree_nodes choice number n [] 0)
+abbrev pub node_names : Choice → ℕ → ℕ → List Node
+node_names choice number n = map name (subtree_nodes choice number n [] 0)
 
 -- those of the slice (start, len) of a blob of `total` bytes
 abbrev pub slice_names : ℕ → ℕ → ℕ → List Node
@@ -29,7 +29,7 @@ slice_names total start len = map name (nodes total start len)
 -- those of subtrees that wait, the last of them first
 abbrev pub waiting_names : Choice → List Subtree → List Node
 waiting_names choice [] = []
-waiting_names choice (subtree ∷ rest) = waiting_names choice rest ++ names_of choice subtree.number subtree.len
+waiting_names choice (subtree ∷ rest) = waiting_names choice rest ++ node_names choice subtree.number subtree.len
 
 -- a wanted subtree of at most so many levels of parents
 abbrev pub IsWaiting : Choice → ℕ → Subtree → Type 0

@@ -61,6 +61,6 @@ abbrev pub nodes : ℕ → ℕ → ℕ → List TreeNode
 nodes total start len = chosen_nodes (of_slice total start len) total
 
 -- the nodes with their offsets in an encoding in which the first is at `at`
-abbrev pub placed : ℕ → List TreeNode → List (ℕ × TreeNode)
-placed at [] = []
-placed at (node ∷ rest) = (at, node) ∷ placed (at + size node) rest
+abbrev pub placed_nodes : ℕ → List TreeNode → List (ℕ × TreeNode)
+placed_nodes at [] = []
+placed_nodes at (node ∷ rest) = (at, node) ∷ placed_nodes (at + size node) rest

@@ -29,8 +29,8 @@ fn copy_node(text: &[u8], source: u128, size: u64, out: &mut Vec<u8>) -> Result<
     Ok(false)
 }
 
-// The length that the first 8 bytes of an encoding claim.
-fn claimed(text: &[u8]) -> u64
+/// The length that the first 8 bytes of an encoding claim, in bytes (little-endian). Nobody has checked it.
+pub fn claimed(text: &[u8]) -> u64
     requires { 8 ≤ length text.now }
     ensures { result ≡ claimed text.now }
 {

@@ -2,10 +2,10 @@
 #![tactic(auto)]
 
 pub use choice::Choice;
-pub use cut::cut_slice;
+pub use cut::{claimed, cut_slice};
 pub use fault::{Memory, WriteFault};
 pub use sizes::{
-    CV_LEN, EIGHT_LEN, LENGTH_LEN, PARENT_LEN, chunk_count, encoded_len, outboard_len,
+    CV_LEN, EIGHT_LEN, LENGTH_LEN, PARENT_LEN, chunk_count, encoded_len, outboard_len, subtree_size,
 };
 pub use slices::nodes;
 pub use texts::{append_subtree, combined, outboard, put_parent, slice};

@@ -25,8 +25,8 @@ pub fn chunk_count(len: u64) -> u64
     len.div_ceil(CHUNK_LEN as u64).max(1)
 }
 
-// How many bytes of a combined encoding the subtree over `n` bytes is.
-pub(crate) fn subtree_size(n: u64) -> u128
+/// How many bytes of a combined encoding the subtree over `n` bytes is: those, and 64 for each parent.
+pub fn subtree_size(n: u64) -> u128
     ensures { result ≡ subtree_size n }
 {
     u128::from(n) + PARENT_LEN as u128 * u128::from(chunk_count(n) - 1)

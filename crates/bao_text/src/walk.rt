@@ -1,5 +1,5 @@
 ghost use Rattle.std.specs.Prelude.{◌≡◌, ◌+◌, ◌-◌, ◌*◌, ◌^◌, ◌<◌, ◌≤◌, [], ◌∷◌, ◌++◌, length, true, IfNone, IfSome};
-ghost use Rattle.bao_text.specs.NodeNames.{AreWaiting, AreWaiting-prop, names_of, slice_names, waiting_names};
+ghost use Rattle.bao_text.specs.NodeNames.{AreWaiting, AreWaiting-prop, node_names, slice_names, waiting_names};
 
 use crate::choice::Choice;
 use arrayvec::ArrayVec;
@@ -43,7 +43,7 @@ fn push_wanted(choice: &Choice, waiting: &mut Waiting, number: u64, len: u64)
     requires levels { len ≤ 1024 * 2 ^ (54 - length waiting.old.items) }
     requires subtrees { AreWaiting choice.now 54 waiting.old.items }
     ensures subtrees { AreWaiting choice.now 54 waiting.new.items }
-    ensures names { waiting_names choice.now waiting.new.items ≡ names_of choice.now number len ++ waiting_names choice.now waiting.old.items }
+    ensures names { waiting_names choice.now waiting.new.items ≡ node_names choice.now number len ++ waiting_names choice.now waiting.old.items }
     ensures room { length waiting.new.items ≤ length waiting.old.items + 1 }
 {
     if choice.wants(CHUNK_LEN as u64 * number, len) {

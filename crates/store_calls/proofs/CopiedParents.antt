@@ -6,7 +6,7 @@ use Rattle.std.proofs.lemmas.Bool.{cases_lt, lt-ltb}
 use Rattle.std.proofs.lemmas.Option.{slice_get-get_or, slice_get_past}
 use Rattle.b3tree.specs.Valid.{AreBytes}
 use Rattle.b3tree.proofs.BlockWords.{AreBytes-drop, AreBytes-take}
-use Rattle.bao_check.specs.Accepted.{IsGood, end_of}
+use Rattle.bao_check.specs.Accepted.{IsGoodNode, end_of}
 use Rattle.bao_check.specs.Parents.{parent_place}
 use Rattle.bao_check.proofs.Lists.{All-from_members, All-member}
 use Rattle.bao_check.proofs.Parenting.{parent_in-place, parent_place-within}
@@ -40,7 +40,7 @@ piece_parent : (fixed : Fixed) (piece : Piece) (m : ℕ) (bytes : List ℕ) → 
     → AreBytes bytes × (length bytes ≡ 64)
 piece_parent fixed piece m bytes accepted has =
     let places : List (ℕ × TreeNode) = places_in piece in
-    let good = IsGood fixed.mode fixed.root.0 piece.text places in
+    let good = IsGoodNode fixed.mode fixed.root.0 piece.text places in
     parent_taken piece.text bytes (parent_place places m) accepted.bytes
     (parent_place-within (length piece.text) places m
     (All-from_members (λ place. end_of place ≤ length piece.text) places (λ p h. (All-member good places accepted.accepted.good p h).0)))

@@ -9,18 +9,18 @@ use Rattle.store_core.specs.declared.history.Call.TheVariants.{Read}
 use Rattle.store_core.specs.declared.history.Event.{Event}
 use Rattle.store_core.specs.declared.view.Named.{Named}
 use Rattle.store_core.specs.declared.view.SeatView.{SeatView}
-use Rattle.store_core.specs.Events.{IsRight}
+use Rattle.store_core.specs.Events.{IsRightReply}
 use Rattle.store_core.specs.Histories.{AreLegalFrom, IsLegal, run, state_after}
 use Rattle.store_core.specs.Laws.{IsRead, IsSound}
 use Rattle.store_core.specs.States.{State, byte_at, empty, read_bytes}
-use Rattle.store_core.specs.Stores.{Answers, filled_count}
+use Rattle.store_core.specs.Stores.{AnswersRead, filled_count}
 use Rattle.store_core.specs.Views.{names_of, seat_claims}
 use Rattle.store_core.proofs.Bound.{byte_binds}
 use Rattle.store_core.proofs.Joining.{plain}
 use Rattle.store_core.proofs.Lasting.{legal-append, legal_is_sound, run-append}
 use Rattle.store_core.proofs.ReadLaws.{is_read, read_is}
 use Rattle.store_core.proofs.Running.{past_none}
-use Rattle.store_core.proofs.Served.{byte_lasts}
+use Rattle.store_core.proofs.MachineInvariants.{byte_lasts}
 use Rattle.store_steps.specs.Reads.{group_end, is_last, read_end, read_events}
 use Rattle.store_core.specs.Knowledge.{Called, GoesOn, Looked, event_of}
 use Rattle.store_core.proofs.Going.{goes_on_then}
@@ -159,7 +159,7 @@ rest_is s at done old out filled =
 pub did_read : (first new : SeatView) (at done : ℕ) (old out : List ℕ) (missing : Option ℕ)
     → Called (Read at (length old) (read_bytes (state_after new.seen) at (length old))) first new
     → IsBufferFilled (state_after new.seen) at 0 done old out → (done < length old → byte_at (state_after new.seen) (at + done) ≡ None)
-    → (length (take done out) ≡ done → Answers at (length old) (take done out) missing) → SeatDidRead first new at old out missing
+    → (length (take done out) ≡ done → AnswersRead at (length old) (take done out) missing) → SeatDidRead first new at old out missing
 did_read first new at done old out missing called filled ends answers =
     let taken : length (take done out) ≡ done = length_taken out done (omega (arith, filled.within, filled.size)) in
     let bytes : take done out ≡ read_bytes (state_after new.seen) at (length old) = bytes_read (state_after new.seen) at done old out filled ends in
@@ -175,7 +175,7 @@ did_read first new at done old out missing called filled ends answers =
 -- a read of no bytes
 pub read_nothing : (first new : SeatView) (at : ℕ) (old : List ℕ) (missing : Option ℕ)
     → IsLegal first.fixed first.seen → Looked (read_events first 0 at (length old)) first new
-    → (length old ≡ 0) ⊎ (1024 * first.fixed.capacity ≤ at) → Answers at (length old) [] missing → SeatDidRead first new at old old missing
+    → (length old ≡ 0) ⊎ (1024 * first.fixed.capacity ≤ at) → AnswersRead at (length old) [] missing → SeatDidRead first new at old old missing
 read_nothing first new at old missing legal looked none answer =
     let going : IsGoing first first = going_none first legal in
     let s : State = state_after new.seen in
@@ -220,7 +220,7 @@ module _ (fixed : Fixed) (first view new : SeatView) (group at from done len : �
   ended : (missing : Option ℕ)
       → (read_end view.fixed at (length old) ≤ at) ⊎ ((read_end view.fixed at (length old) ≤ group_end group) ⊎ (at + length (read_bytes seen_state at (length old)) < group_end group))
       → (done < length old → byte_at seen_state (at + done) ≡ None)
-      → (length (take done out) ≡ done → Answers at (length old) (take done out) missing) → SeatDidRead first new at old out missing
+      → (length (take done out) ≡ done → AnswersRead at (length old) (take done out) missing) → SeatDidRead first new at old out missing
   ended missing why gap answers =
       did_read first new at done old out missing
       (was_last first view new group at (length old) going looks (is_last-true view.fixed group at (length old) seen_state why)) filled_now gap answers
@@ -268,7 +268,7 @@ module _ (fixed : Fixed) (first view new : SeatView) (group at from done len : �
       (is_last-false view.fixed group at (length old) seen_state (omega (arith, less, below, limit_is)) (omega (arith, less, end, below, stops.within, limit_is)) (omega (arith, held, end)))
 
 -- What a read filled in is the blob's, or a collision is exhibited.
-answer_count : (at len : ℕ) (bytes : List ℕ) (missing : Option ℕ) → Answers at len bytes missing → filled_count at len missing ≡ length bytes
+answer_count : (at len : ℕ) (bytes : List ℕ) (missing : Option ℕ) → AnswersRead at len bytes missing → filled_count at len missing ≡ length bytes
 answer_count at len bytes None answer = sym answer
 answer_count at len bytes (Some p) answer = omega (arith, answer.1)
 
@@ -280,7 +280,7 @@ binds first new at old out missing keyed did blob is i below =
     let s : State = state_after (first.seen ++ did.called.between) in
     let state : state_after new.seen ≡ s =
     ap (λ (h : List Event). state_after h) on.seen_is ∙ run-append empty (first.seen ++ did.called.between) (event_of first call ∷ []) in
-    let right : IsRight new.fixed s (names_of first) call =
+    let right : IsRightReply new.fixed s (names_of first) call =
     (legal-append new.fixed empty (first.seen ++ did.called.between) (event_of first call ∷ [])
     (subst (λ (h : List Event). IsLegal new.fixed h) on.seen_is on.legal)).1.0 in
     let bytes_are : did.bytes ≡ read_bytes s at (length old) = right in

@@ -15,7 +15,7 @@ use Rattle.store_core.specs.States.{State, byte_at, is_held}
 use Rattle.store_core.proofs.CellWords.{cell_get, cell_is}
 use Rattle.store_core.proofs.Lasting.{legal_is_sound}
 use Rattle.store_core.proofs.Origins.{held_is_committed}
-use Rattle.store_core.proofs.Served.{chunk_fits, chunk_valid}
+use Rattle.store_core.proofs.MachineInvariants.{chunk_fits, chunk_valid}
 use Rattle.store_calls.specs.Filled.{IsBufferFilled, StopsFilling, held_size}
 use Rattle.store_calls.proofs.Filling.{filled_then, put_filled}
 

@@ -8,7 +8,7 @@ use Rattle.bao_text.specs.declared.choice.Choice.{Choice}
 use Rattle.bao_text.specs.declared.walk.Node.{Node}
 use Rattle.bao_text.specs.declared.walk.Node.TheVariants.{Chunk, Parent}
 use Rattle.bao_text.specs.Choice.{chunk_count, of_slice, wants}
-use Rattle.bao_text.specs.NodeNames.{boundary, name, names_of, slice_names}
+use Rattle.bao_text.specs.NodeNames.{boundary, name, node_names, slice_names}
 use Rattle.bao_text.specs.Nodes.{TreeNode, nodes}
 use Rattle.bao_text.specs.Texts.{length_text}
 use Rattle.bao_text.proofs.NodeNaming.{names-anywhere, names-chunk, names-parent}
@@ -22,7 +22,7 @@ use Rattle.store_core.specs.declared.history.Event.{Event}
 use Rattle.store_core.specs.declared.history.Serving.{Serving}
 use Rattle.store_core.specs.declared.history.Serving.TheVariants.{Lacking, NoLength, Text}
 use Rattle.store_core.specs.declared.view.SeatView.{SeatView}
-use Rattle.store_core.specs.Events.{IsRight}
+use Rattle.store_core.specs.Events.{IsRightReply}
 use Rattle.store_core.specs.Histories.{AreLegalFrom, IsLegal, run, state_after}
 use Rattle.store_core.specs.Laws.{IsSettled, IsSound}
 use Rattle.store_core.specs.Serves.{after_bytes, node_and, node_held, served, serving, serving_of}
@@ -33,7 +33,7 @@ use Rattle.store_core.proofs.Lasting.{held_from, legal-append, legal_is_sound, r
 use Rattle.store_core.proofs.Origins.{record_is_settled}
 use Rattle.store_core.proofs.ParentOrigins.{parents_from}
 use Rattle.store_core.proofs.ServingLaws.{served_binds}
-use Rattle.store_steps.specs.Slices.{node_events, number_of, unserved_events}
+use Rattle.store_steps.specs.Slices.{node_events, node_number, unserved_events}
 use Rattle.store_core.specs.Knowledge.{Called, GoesOn, Looked, Sees, event_of}
 use Rattle.store_core.proofs.Going.{LeavesClaims, called_then, looked_state, sees_none, sees_then}
 use Rattle.store_calls.specs.Serving.{SeatSliceBinds}
@@ -79,7 +79,7 @@ IsServing first view start len (Some node) rest out =
 -- the numbers of the nodes left are below the capacity
 abbrev pub AreBelow : ℕ → Option Node → List Node → Type 0
 AreBelow capacity None rest = Unit {0}
-AreBelow capacity (Some node) rest = (number_of node < capacity) × AllByRecursion (λ node. number_of node < capacity) rest
+AreBelow capacity (Some node) rest = (node_number node < capacity) × AllByRecursion (λ node. node_number node < capacity) rest
 
 -- how many nodes are left
 abbrev pub left_count : Option Node → List Node → ℕ
@@ -90,10 +90,10 @@ left_count (Some node) rest = length rest + 1
 abbrev pub Steps : Option Node → List Node → List Node → Type 0
 Steps next old rest = MatchOption next ((old ≡ []) × (rest ≡ [])) (λ x. old ≡ x ∷ rest)
 
-pub below_next : (capacity : ℕ) (next : Option Node) (old rest : List Node) → Steps next old rest → AllByRecursion (λ node. number_of node < capacity) old
+pub below_next : (capacity : ℕ) (next : Option Node) (old rest : List Node) → Steps next old rest → AllByRecursion (λ node. node_number node < capacity) old
     → AreBelow capacity next rest
 below_next capacity None old rest steps all = tt
-below_next capacity (Some node) old rest steps all = subst (λ (nodes : List Node). AllByRecursion (λ node. number_of node < capacity) nodes) steps all
+below_next capacity (Some node) old rest steps all = subst (λ (nodes : List Node). AllByRecursion (λ node. node_number node < capacity) nodes) steps all
 
 pub fewer_left : (node : Node) (next : Option Node) (old rest : List Node) → Steps next old rest → left_count next rest < left_count (Some node) old
 fewer_left node None old rest steps = omega arith
@@ -232,7 +232,7 @@ slice_wants l start len =
 slice_some : (l start len : ℕ) → slice_names l start len ≡ [] → ⊥
 slice_some l start len none =
     let choice : Choice = of_slice l start len in
-    let named : slice_names l start len ≡ names_of choice 0 l = names-anywhere choice 0 l [] 8 in
+    let named : slice_names l start len ≡ node_names choice 0 l = names-anywhere choice 0 l [] 8 in
     elim (cases_lt 1024 l) [
       | inl more ↦ let bad = sym none ∙ named ∙ names-parent choice 0 l (slice_wants l start len) more in cc
       | inr one ↦ let bad = sym none ∙ named ∙ names-chunk choice 0 l (slice_wants l start len) refl one in cc
@@ -254,14 +254,14 @@ All-map P [] all = tt
 All-map P (place ∷ places) all = (all.0, All-map P places all.1)
 
 pub names_below : (fixed : Fixed) (history : List Event) (l start len : ℕ) → IsLegal fixed history → (state_after history).recorded ≡ Some l → 0 < fixed.capacity
-    → AllByRecursion (λ node. number_of node < fixed.capacity) (slice_names l start len)
+    → AllByRecursion (λ node. node_number node < fixed.capacity) (slice_names l start len)
 names_below fixed history l start len legal some capacity =
     let k : IsSettled fixed history l = record_is_settled fixed history l legal some in
     let choice : Choice = of_slice l start len in
     let all : List TreeNode = nodes l start len in
     let fits : chunk_count l ≤ fixed.capacity = omega (arith, k.fits, k.is, capacity) in
-    All-map (λ node. number_of node < fixed.capacity) all
-    (All-from_members (λ place. number_of (name place) < fixed.capacity) all (λ x h. elim (cases_Bool x.is_chunk) [
+    All-map (λ node. node_number node < fixed.capacity) all
+    (All-from_members (λ place. node_number (name place) < fixed.capacity) all (λ x h. elim (cases_Bool x.is_chunk) [
       | inl chunk ↦
           let w : IsWithin 0 (chunk_count l) x = All-member (IsWithin 0 (chunk_count l)) all (numbers_within choice 0 l [] 8) x h in
           let high : x.number < 0 + chunk_count l = w.1 in
@@ -280,7 +280,7 @@ serve_binds first new start len text keyed called blob is =
     let s : State = state_after (first.seen ++ called.between) in
     let state : state_after new.seen ≡ s =
     ap (λ (h : List Event). state_after h) on.seen_is ∙ run-append empty (first.seen ++ called.between) (event_of first call ∷ []) in
-    let right : IsRight new.fixed s (calls_as first) call =
+    let right : IsRightReply new.fixed s (calls_as first) call =
     (legal-append new.fixed empty (first.seen ++ called.between) (event_of first call ∷ [])
     (subst (λ (h : List Event). IsLegal new.fixed h) on.seen_is on.legal)).1.0 in
     let answer : Text text ≡ serving s start len = right in

@@ -6,7 +6,7 @@ use Rattle.store_core.specs.declared.fixed.Fixed.{Fixed}
 use Rattle.store_core.specs.declared.history.Piece.{Piece}
 use Rattle.store_core.specs.declared.view.SeatView.{SeatView}
 use Rattle.store_core.specs.Histories.{state_after}
-use Rattle.store_core.specs.Laws.{IsBlob, PairFrom}
+use Rattle.store_core.specs.Laws.{IsBlob, CollisionFrom}
 use Rattle.store_core.specs.Masks.{in_mask}
 use Rattle.store_core.specs.Pieces.{holds_parent, parent_bytes}
 use Rattle.store_core.specs.Views.{stored}
@@ -33,4 +33,4 @@ pub record HaveParentWords (group mask : ℕ) (piece : Piece) (end : ℕ) (old n
 -- is exhibited from the blob and a piece of what it has seen.
 abbrev pub SeatParentsBind : SeatView → Type 0
 SeatParentsBind view = (blob : List ℕ) → IsBlob view.fixed blob → (m : ℕ) (bytes : List ℕ) → (state_after view.seen).parents m ≡ Some bytes
-    → (parent_of view.fixed.mode blob m ≡ Some bytes) ⊎ PairFrom view.fixed view.seen blob
+    → (parent_of view.fixed.mode blob m ≡ Some bytes) ⊎ CollisionFrom view.fixed view.seen blob

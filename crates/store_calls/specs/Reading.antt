@@ -2,8 +2,8 @@
 use Rattle.std.specs.Prelude.{◌≡◌, ◌⊎◌, ℕ, ◌+◌, ◌<◌, ◌++◌, List, length, drop, Option, Some, slice_get, slice_index}
 use Rattle.store_core.specs.declared.history.Call.TheVariants.{Read}
 use Rattle.store_core.specs.declared.view.SeatView.{SeatView}
-use Rattle.store_core.specs.Laws.{ByteFrom, IsBlob, PairNamed}
-use Rattle.store_core.specs.Stores.{Answers}
+use Rattle.store_core.specs.Laws.{ByteFrom, IsBlob, CollidesWith}
+use Rattle.store_core.specs.Stores.{AnswersRead}
 use Rattle.store_core.specs.Knowledge.{Called}
 
 -- A read is an event of the store, the last in what the seat has seen. Its bytes fill the buffer from its beginning, and
@@ -12,11 +12,11 @@ pub record SeatDidRead (old new : SeatView) (at : ℕ) (before after : List ℕ)
   pub bytes : List ℕ
   pub called : Called (Read at (length before) bytes) old new
   pub filled : after ≡ bytes ++ drop (length bytes) before
-  pub answer : Answers at (length before) bytes missing
+  pub answer : AnswersRead at (length before) bytes missing
 
 -- Each byte filled in is the byte there of each blob with the store's root; or it is one of a chunk that a Commit, in
 -- what the seat has seen, took from its piece, and a collision is exhibited from the blob and that piece.
 abbrev pub SeatReadBinds : SeatView → ℕ → List ℕ → ℕ → Type 0
 SeatReadBinds view at bytes count = (blob : List ℕ) → IsBlob view.fixed blob → (i : ℕ) → i < count
     → (slice_get blob (at + i) ≡ Some (slice_index bytes i))
-    ⊎ ((from : ByteFrom view.fixed view.seen (at + i) (slice_index bytes i)) × PairNamed view.fixed blob from.chunk.piece)
+    ⊎ ((from : ByteFrom view.fixed view.seen (at + i) (slice_index bytes i)) × CollidesWith view.fixed blob from.chunk.piece)

@@ -8,7 +8,7 @@ use Rattle.store_core.specs.declared.fault.ServeFault.TheVariants as refused
 use Rattle.store_core.specs.declared.history.Call.TheVariants.{Serve}
 use Rattle.store_core.specs.declared.history.Serving.TheVariants.{Lacking, NoLength}
 use Rattle.store_core.specs.declared.view.SeatView.{SeatView}
-use Rattle.store_core.specs.Laws.{IsBlob, PairFrom}
+use Rattle.store_core.specs.Laws.{IsBlob, CollisionFrom}
 use Rattle.store_core.specs.Knowledge.{Called, Sees}
 
 -- how many bytes a node has at most
@@ -27,4 +27,4 @@ SeatIsRefused start len refused.Memory old new = Sees old new
 -- that a call, in what the seat has seen, committed, settled or stored parents of.
 abbrev pub SeatSliceBinds : SeatView → ℕ → ℕ → List ℕ → Type 0
 SeatSliceBinds view start len text =
-    (blob : List ℕ) → IsBlob view.fixed blob → (text ≡ slice_text view.fixed.mode blob start len) ⊎ PairFrom view.fixed view.seen blob
+    (blob : List ℕ) → IsBlob view.fixed blob → (text ≡ slice_text view.fixed.mode blob start len) ⊎ CollisionFrom view.fixed view.seen blob

@@ -6,7 +6,7 @@ ghost use Rattle.store_core.specs.Views.{seat_claims};
 ghost use Rattle.store_calls.specs.StoredCells.{HasCells};
 ghost use Rattle.store_steps.specs.Asks.{AreHeldClaims};
 ghost use Rattle.store_core.specs.Knowledge.{Called};
-ghost use Rattle.store_steps.specs.Words.{HasGroup, IsGripOf, fixed_of};
+ghost use Rattle.store_steps.specs.Words.{CoversGroup, IsGripOf, fixed_of};
 
 use crate::cell::store_cell;
 use bao_check::Checked;
@@ -26,7 +26,7 @@ fn held_in(piece: &Checked<'_>, group: u32) -> u64
 // Stores the cells of the group's chunks of the mask, which the grip claims and the piece holds.
 fn store_cells(words: &Words, grip: &mut Grip, group: u32, piece: &Checked<'_>, mask: u64)
     requires of { IsGripOf words.now grip.old }
-    requires group { HasGroup words.now group }
+    requires group { CoversGroup words.now group }
     requires mask { AreHeldClaims grip.old.view group (piece_of piece.now) mask }
     ensures of { IsGripOf words.now grip.new }
     ensures stored { HasCells group mask (piece_of piece.now) 64 grip.old.view grip.new.view }
@@ -51,7 +51,7 @@ fn store_cells(words: &Words, grip: &mut Grip, group: u32, piece: &Checked<'_>, 
 /// collision is exhibited, one input of the blob's and one of the piece's.
 pub fn commit(words: &Words, grip: &mut Grip, group: u32, piece: &Checked<'_>, claimed: u64) -> u64
     requires of { IsGripOf words.now grip.old }
-    requires group { HasGroup words.now group }
+    requires group { CoversGroup words.now group }
     requires piece { IsOf (fixed_of words.now) piece.now }
     requires claimed { IsMaskOf group claimed (λ c. seat_claims grip.old.view c) }
     ensures of { IsGripOf words.now grip.new }

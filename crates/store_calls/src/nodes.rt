@@ -3,7 +3,7 @@ ghost use Rattle.store_core.specs.Histories.{state_after};
 ghost use Rattle.store_core.specs.Serves.{node_held};
 ghost use Rattle.store_core.specs.Stores.{GainsNode};
 ghost use Rattle.store_calls.specs.Serving.{room_of};
-ghost use Rattle.store_steps.specs.Slices.{node_events, number_of};
+ghost use Rattle.store_steps.specs.Slices.{node_events, node_number};
 ghost use Rattle.store_core.specs.Knowledge.{Looked};
 ghost use Rattle.store_steps.specs.Words.{IsGripOf, fixed_of};
 
@@ -44,7 +44,7 @@ fn copy_parent(words: &Words, grip: &mut Grip, boundary: u32, out: &mut [u8])
 // Copies the bytes of a held node to the beginning of the buffer, and answers how many they are.
 fn copy_node(words: &Words, grip: &mut Grip, node: &Node, out: &mut [u8]) -> usize
     requires of { IsGripOf words.now grip.old }
-    requires node { number_of node.now < (fixed_of words.now).capacity }
+    requires node { node_number node.now < (fixed_of words.now).capacity }
     requires held { is_some (node_held (state_after grip.old.view.seen) node.now) ≡ true }
     requires room { length out.old ≡ room_of node.now }
     ensures same { grip.new ≡ grip.old }
@@ -72,7 +72,7 @@ pub(crate) fn append_node(
     out: &mut Vec<u8>,
 ) -> Result<bool, AllocError>
     requires of { IsGripOf words.now grip.old }
-    requires node { number_of node.now < (fixed_of words.now).capacity }
+    requires node { node_number node.now < (fixed_of words.now).capacity }
     ensures of { IsGripOf words.now grip.new }
     ensures looked { IfOk result (λ there. Looked (node_events grip.old.view node.now last start len) grip.old.view grip.new.view) }
     ensures appended { IfOk result (λ there. GainsNode (node_held (state_after grip.new.view.seen) node.now) out.old.items out.new.items there) }

@@ -7,7 +7,7 @@ ghost use Rattle.store_core.specs.Stores.{IsOf};
 ghost use Rattle.store_core.specs.Views.{is_storing};
 ghost use Rattle.store_calls.specs.Parents.{AreParentsOf, HasParentWords, HaveParentWords, SeatParentsBind};
 ghost use Rattle.store_core.specs.Knowledge.{Called};
-ghost use Rattle.store_steps.specs.Words.{HasGroup, IsGripOf, fixed_of};
+ghost use Rattle.store_steps.specs.Words.{CoversGroup, IsGripOf, fixed_of};
 
 use crate::cell::{WORD_LEN, whole_word};
 use bao_check::Checked;
@@ -39,7 +39,7 @@ fn store_parent(words: &Words, grip: &mut Grip, boundary: u32, bytes: &[u8])
 // Stores the parents at the group's boundaries of the mask, which the grip is storing.
 fn store_parents(words: &Words, grip: &mut Grip, group: u32, piece: &Checked<'_>, mask: u64)
     requires of { IsGripOf words.now grip.old }
-    requires group { HasGroup words.now group }
+    requires group { CoversGroup words.now group }
     requires storing { grip.old.view.storing ≡ record { group = group; mask = mask } ∷ [] }
     requires mask { AreParentsOf (fixed_of words.now) group mask (piece_of piece.now) }
     ensures of { IsGripOf words.now grip.new }
@@ -74,7 +74,7 @@ pub fn commit_parents(words: &Words, grip: &mut Grip, group: u32, piece: &Checke
     requires none { grip.old.view.storing ≡ [] }
     ensures of { IsGripOf words.now grip.new }
     ensures called { Called (Parents group (piece_of piece.now) result) grip.old.view grip.new.view }
-    ensures absent { ¬ HasGroup words.now group → (result ≡ OtherLength) ⊎ (result ≡ Stored 0) }
+    ensures absent { ¬ CoversGroup words.now group → (result ≡ OtherLength) ⊎ (result ≡ Stored 0) }
     ensures binds { SeatParentsBind grip.new.view }
 {
     let fixed = words.fixed();

@@ -48,10 +48,12 @@ fn read_event(words: &Words, grip: &mut Grip, at: u64, out: &mut [u8]) -> Result
     ensures read { SeatDidRead grip.old.view grip.new.view at out.old out.new (missing_in result) }
 {
     if out.is_empty() {
+        // One load, for the proof alone: by it the read has its place in the history.
         words.load(grip, 0, at, out.len() as u64);
         return Ok(());
     }
     if at >= limit_of(&words.fixed()) {
+        // One load, for the proof alone: by it the read has its place in the history.
         words.load(grip, 0, at, out.len() as u64);
         return Err(Missing(at));
     }

@@ -10,7 +10,7 @@ use Rattle.store_core.specs.declared.fixed.Fixed.{Fixed}
 use Rattle.store_core.specs.declared.history.Call.{Call}
 use Rattle.store_core.specs.declared.history.Call.TheVariants.{Take, Give, Commit, Settle, Read, Length, Parents, Serve}
 use Rattle.store_core.specs.declared.history.Event.{Event}
-use Rattle.store_core.specs.Events.{IsRight, after, after_call}
+use Rattle.store_core.specs.Events.{IsRightReply, after, after_call}
 use Rattle.store_core.specs.Histories.{AreLegalFrom, run}
 use Rattle.store_core.specs.Laws.{CommittedAddUp, IsSound, chunks_of}
 use Rattle.store_core.specs.Masks.{has_bit, in_mask}
@@ -117,7 +117,7 @@ held_nothing : (n : ℕ) → held_count empty n ≡ 0
 held_nothing zero = refl
 held_nothing (suc n) = omega (arith, held_nothing n)
 
-call_adds : (fixed : Fixed) (s : State) (who : List Name) (call : Call) → IsSound fixed s → IsRight fixed s who call
+call_adds : (fixed : Fixed) (s : State) (who : List Name) (call : Call) → IsSound fixed s → IsRightReply fixed s who call
     → chunks_of call + held_count s fixed.capacity ≡ held_count (after_call who call s) fixed.capacity
 call_adds fixed s who (Take group want granted) sound right = held_same s (after_call who (Take group want granted) s) fixed.capacity (λ c. refl)
 call_adds fixed s who (Give group mask given) sound right = held_same s (after_call who (Give group mask given) s) fixed.capacity (λ c. refl)

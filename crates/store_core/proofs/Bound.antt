@@ -10,14 +10,14 @@ use Rattle.store_core.specs.declared.fixed.Fixed.{Fixed}
 use Rattle.store_core.specs.declared.history.Event.{Event}
 use Rattle.store_core.specs.declared.history.Piece.{Piece}
 use Rattle.store_core.specs.Histories.{state_after}
-use Rattle.store_core.specs.Laws.{ByteBinds, HeldBinds, IsBlob, IsCommitted, IsSettled, PairNamed, RecordBinds}
+use Rattle.store_core.specs.Laws.{ByteBinds, HeldBinds, IsBlob, IsCommitted, IsSettled, CollidesWith, RecordBinds}
 use Rattle.store_core.specs.Pieces.{EndsBlob, IsAcceptedPiece, chunk_bytes, length_of}
 use Rattle.store_core.specs.Stores.{ClaimBinds}
 use Rattle.store_core.proofs.Origins.{held_is_committed, record_is_settled}
 
 -- a committed chunk is the blob's
 committed_binds : (fixed : Fixed) (history : List Event) (blob : List ℕ) (c : ℕ) (bytes : List ℕ) → IsKeyed fixed.mode → IsBlob fixed blob
-    → (k : IsCommitted fixed history c bytes) → (chunk_of blob c ≡ Some bytes) ⊎ PairNamed fixed blob k.piece
+    → (k : IsCommitted fixed history c bytes) → (chunk_of blob c ≡ Some bytes) ⊎ CollidesWith fixed blob k.piece
 committed_binds fixed history blob c bytes keyed is k = elim (
     accepted_binds fixed.mode fixed.root.0 k.piece.text blob k.piece.start k.piece.len c bytes keyed is.bytes k.accepted.bytes is.root k.accepted.accepted k.has
     ) [ inl same ↦ inl same.0 | inr named ↦ inr named ]
@@ -68,7 +68,7 @@ claim_binds fixed piece keyed accepted there blob is =
     ]
 
 settled_binds : (fixed : Fixed) (history : List Event) (blob : List ℕ) (l : ℕ) → IsKeyed fixed.mode → IsBlob fixed blob
-    → (k : IsSettled fixed history l) → (l ≡ length blob) ⊎ PairNamed fixed blob k.piece
+    → (k : IsSettled fixed history l) → (l ≡ length blob) ⊎ CollidesWith fixed blob k.piece
 settled_binds fixed history blob l keyed is k = elim (claim_binds fixed k.piece keyed k.accepted k.ends blob is) [
   | inl same ↦ inl (sym k.is ∙ same)
   | inr named ↦ inr named

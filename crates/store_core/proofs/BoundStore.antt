@@ -5,7 +5,7 @@ use Rattle.std.proofs.Math.Logic.{∥∥₁_elim}
 use Rattle.b3tree.specs.Valid.{IsKeyed}
 use Rattle.store_core.specs.declared.fixed.Fixed.{Fixed}
 use Rattle.store_core.specs.declared.slot.Slot.{Slot}
-use Rattle.store_core.specs.Laws.{IsBlob, IsSettled, PairFrom}
+use Rattle.store_core.specs.Laws.{IsBlob, IsSettled, CollisionFrom}
 use Rattle.store_core.specs.Reached.{IsReached}
 use Rattle.store_core.specs.Slots.{state_in, with_parents}
 use Rattle.store_core.specs.States.{State, byte_at}
@@ -13,7 +13,7 @@ use Rattle.bao_check.specs.Parents.{parent_of}
 use Rattle.bao_check.proofs.Laws.{accepted_binds}
 use Rattle.store_core.specs.declared.history.Piece.{Piece}
 use Rattle.store_core.specs.Pieces.{IsAcceptedPiece}
-use Rattle.store_core.specs.Stores.{ChunksBind, PairCommitted, PairSettled}
+use Rattle.store_core.specs.Stores.{ChunksBind, CollisionCommitted, CollisionSettled}
 use Rattle.store_core.proofs.Bound.{byte_binds, record_binds}
 use Rattle.store_core.proofs.ServingLaws.{parent_held_binds, served_binds}
 use Rattle.store_core.specs.Serves.{serving}
@@ -22,7 +22,7 @@ use Rattle.bao_text.specs.Texts.{slice_text}
 use Rattle.store_core.proofs.Origins.{record_is_settled}
 
 pub read_binds : (fixed : Fixed) (s : State) (blob : List ℕ) (q x : ℕ) → IsKeyed fixed.mode → IsBlob fixed blob → byte_at s q ≡ Some x → (by : IsReached fixed s)
-    → (slice_get blob q ≡ Some x) ⊎ PairCommitted fixed by.history blob (q / 1024)
+    → (slice_get blob q ≡ Some x) ⊎ CollisionCommitted fixed by.history blob (q / 1024)
 read_binds fixed s blob q x keyed is h r =
     elim (byte_binds fixed r.history blob q x keyed is r.legal (subst (λ (t : State). byte_at t q ≡ Some x) (sym r.is) h)) [
       | inl same ↦ inl same
@@ -30,7 +30,7 @@ read_binds fixed s blob q x keyed is h r =
     ]
 
 pub length_binds : (fixed : Fixed) (s : State) (blob : List ℕ) (l : ℕ) → IsKeyed fixed.mode → IsBlob fixed blob → s.recorded ≡ Some l → (by : IsReached fixed s)
-    → (l ≡ length blob) ⊎ PairSettled fixed by.history blob l
+    → (l ≡ length blob) ⊎ CollisionSettled fixed by.history blob l
 length_binds fixed s blob l keyed is h r =
     elim (record_binds fixed r.history blob l keyed is r.legal (subst (λ (t : State). t.recorded ≡ Some l) (sym r.is) h)) [
       | inl same ↦ inl same
@@ -57,11 +57,11 @@ piece_binds fixed piece group mask keyed accepted blob is c bytes hit has = elim
     ) [ inl same ↦ inl same.0 | inr named ↦ inr named ]
 
 pub slice_binds : (fixed : Fixed) (s : State) (blob : List ℕ) (start len : ℕ) (text : List ℕ) → IsKeyed fixed.mode → IsBlob fixed blob → serving s start len ≡ Text text
-    → (by : IsReached fixed s) → (text ≡ slice_text fixed.mode blob start len) ⊎ PairFrom fixed by.history blob
+    → (by : IsReached fixed s) → (text ≡ slice_text fixed.mode blob start len) ⊎ CollisionFrom fixed by.history blob
 slice_binds fixed s blob start len text keyed is h r =
     served_binds fixed r.history blob start len text keyed is r.legal (subst (λ (t : State). serving t start len ≡ Text text) (sym r.is) h)
 
 pub parents_bind : (fixed : Fixed) (s : State) (blob : List ℕ) → IsKeyed fixed.mode → IsBlob fixed blob → (by : IsReached fixed s) → (m : ℕ) (bytes : List ℕ) → s.parents m ≡ Some bytes
-    → (parent_of fixed.mode blob m ≡ Some bytes) ⊎ PairFrom fixed by.history blob
+    → (parent_of fixed.mode blob m ≡ Some bytes) ⊎ CollisionFrom fixed by.history blob
 parents_bind fixed s blob keyed is r m bytes h =
     parent_held_binds fixed r.history blob m bytes keyed is r.legal (subst (λ (t : State). t.parents m ≡ Some bytes) (sym r.is) h)

@@ -9,7 +9,7 @@ use Rattle.bao_check.specs.declared.checked.Checked.{Checked}
 use Rattle.bao_check.specs.Checked.{piece_places, piece_text}
 use Rattle.bao_check.specs.Parents.{IsParentMask}
 use Rattle.store_core.specs.Pieces.{holds_parent, piece_of}
-use Rattle.store_core.specs.Slots.{AreCopies, IsCopy, slot_at}
+use Rattle.store_core.specs.Slots.{AreCopies, IsSlotCopy, slot_at}
 use Rattle.store_core.proofs.Bits.{has_bit-zero}
 use Rattle.store_core.proofs.Putting as putting
 use Rattle.store_core.proofs.Putting.{IsPutBelow}
@@ -103,7 +103,7 @@ slot_left (x ∷ xs) ys (suc k) below = slot_left xs ys k (omega arith)
 
 -- one more slot of the mask
 pub copies_more : (piece : Checked) (group mask n : ℕ) (xs ys : List Slot) (slot : Slot) → AreCopies piece group mask n xs
-    → (has_bit mask n ≡ true → IsCopy piece (64 * group + n) slot) → ys ≡ xs ++ slot ∷ [] → AreCopies piece group mask (n + 1) ys
+    → (has_bit mask n ≡ true → IsSlotCopy piece (64 * group + n) slot) → ys ≡ xs ++ slot ∷ [] → AreCopies piece group mask (n + 1) ys
 copies_more piece group mask n xs ys slot copies here is = record {
   count = ap length is ∙ length-append xs (slot ∷ []) ∙ omega (arith, copies.count);
   each = λ k below bit. elim (cases_eq k n) [
@@ -111,11 +111,11 @@ copies_more piece group mask n xs ys slot copies here is = record {
         let last : slot_at (xs ++ slot ∷ []) (length xs + 0) ≡ slot = get_or-append-add xs (slot ∷ []) 0 Free in
         let place : length xs + 0 ≡ k = omega (arith, copies.count, at) in
         let found : slot ≡ slot_at ys k = sym last ∙ ap (λ (i : ℕ). slot_at (xs ++ slot ∷ []) i) place ∙ ap (λ (zs : List Slot). slot_at zs k) (sym is) in
-        subst (λ (s : Slot). IsCopy piece (64 * group + k) s) found
-        (subst (λ (i : ℕ). IsCopy piece (64 * group + i) slot) (sym at) (here (subst (λ (i : ℕ). has_bit mask i ≡ true) at bit)))
+        subst (λ (s : Slot). IsSlotCopy piece (64 * group + k) s) found
+        (subst (λ (i : ℕ). IsSlotCopy piece (64 * group + i) slot) (sym at) (here (subst (λ (i : ℕ). has_bit mask i ≡ true) at bit)))
     | inr other ↦
         let inside : k < length xs = omega (arith, copies.count, below, other) in
         let found : slot_at xs k ≡ slot_at ys k = sym (slot_left xs (slot ∷ []) k inside) ∙ ap (λ (zs : List Slot). slot_at zs k) (sym is) in
-        subst (λ (s : Slot). IsCopy piece (64 * group + k) s) found (copies.each k (omega (arith, below, other)) bit)
+        subst (λ (s : Slot). IsSlotCopy piece (64 * group + k) s) found (copies.each k (omega (arith, below, other)) bit)
   ];
 }

@@ -7,7 +7,7 @@ use Rattle.store_core.specs.declared.history.Call.TheVariants.{Take, Give, Commi
 use Rattle.store_core.specs.declared.history.Event.{Event}
 use Rattle.store_core.specs.declared.history.Piece.{Piece}
 use Rattle.store_core.specs.declared.history.Settling.{Settling}
-use Rattle.store_core.specs.Events.{IsRight, after, after_call, is_free, recorded_after, settling}
+use Rattle.store_core.specs.Events.{IsRightReply, after, after_call, is_free, recorded_after, settling}
 use Rattle.store_core.specs.Histories.{AreLegalFrom, AreOfOthers, events_of, is_by, run, state_after}
 use Rattle.store_core.specs.Laws.{ClaimsLast, HeldLasts, IsSound, LegalIsSound, RecordLasts}
 use Rattle.store_core.specs.Masks.{has_bit, in_mask}
@@ -34,7 +34,7 @@ legal-join fixed s [] second begun goes_on = goes_on
 legal-join fixed s (e ∷ first) second begun goes_on = (begun.0, legal-join fixed (after s e) first second begun.1 goes_on)
 
 -- a call keeps a state sound
-sound_take : (fixed : Fixed) (s : State) (who : List Name) (g w r : ℕ) → IsSound fixed s → IsRight fixed s who (Take g w r)
+sound_take : (fixed : Fixed) (s : State) (who : List Name) (g w r : ℕ) → IsSound fixed s → IsRightReply fixed s who (Take g w r)
     → IsSound fixed (after_call who (Take g w r) s)
 sound_take fixed s who g w r sound right =
     let granted : (c : ℕ) → in_mask g r c ≡ true → IsFree fixed s c = λ c hit.
@@ -65,12 +65,12 @@ sound_give fixed s who g m r sound = record {
 }
 
 -- what a Commit stores is claimed before
-pub committed-claimed : (fixed : Fixed) (s : State) (who : List Name) (g : ℕ) (piece : Piece) (r c : ℕ) → IsRight fixed s who (Commit g piece r)
+pub committed-claimed : (fixed : Fixed) (s : State) (who : List Name) (g : ℕ) (piece : Piece) (r c : ℕ) → IsRightReply fixed s who (Commit g piece r)
     → in_mask g r c ≡ true → claims who s c ≡ true
 committed-claimed fixed s who g piece r c right hit =
     (and_parts (claims who s c) (holds_chunk piece c) (masked g r (λ c. claims who s c && holds_chunk piece c) c right.1 hit)).0
 
-sound_commit : (fixed : Fixed) (s : State) (who : List Name) (g : ℕ) (piece : Piece) (r : ℕ) → IsSound fixed s → IsRight fixed s who (Commit g piece r)
+sound_commit : (fixed : Fixed) (s : State) (who : List Name) (g : ℕ) (piece : Piece) (r : ℕ) → IsSound fixed s → IsRightReply fixed s who (Commit g piece r)
     → IsSound fixed (after_call who (Commit g piece r) s)
 sound_commit fixed s who g piece r sound right =
     let below : (c : ℕ) → in_mask g r c ≡ true → c < fixed.capacity = λ c hit.
@@ -90,7 +90,7 @@ sound_commit fixed s who g piece r sound right =
       ];
     }
 
-pub sound_call : (fixed : Fixed) (s : State) (who : List Name) (call : Call) → IsSound fixed s → IsRight fixed s who call → IsSound fixed (after_call who call s)
+pub sound_call : (fixed : Fixed) (s : State) (who : List Name) (call : Call) → IsSound fixed s → IsRightReply fixed s who call → IsSound fixed (after_call who call s)
 sound_call fixed s who (Take g w r) sound right = sound_take fixed s who g w r sound right
 sound_call fixed s who (Give g m r) sound right = sound_give fixed s who g m r sound
 sound_call fixed s who (Commit g piece r) sound right = sound_commit fixed s who g piece r sound right
@@ -115,7 +115,7 @@ held_some : (o : Option (List ℕ)) (bytes : List ℕ) → o ≡ Some bytes → 
 held_some None bytes h = cc
 held_some (Some b) bytes h = refl
 
-held_call : (fixed : Fixed) (s : State) (who : List Name) (call : Call) → IsSound fixed s → IsRight fixed s who call
+held_call : (fixed : Fixed) (s : State) (who : List Name) (call : Call) → IsSound fixed s → IsRightReply fixed s who call
     → (c : ℕ) (bytes : List ℕ) → s.held c ≡ Some bytes → (after_call who call s).held c ≡ Some bytes
 held_call fixed s who (Take g w r) sound right c bytes h = h
 held_call fixed s who (Give g m r) sound right c bytes h = h
@@ -145,7 +145,7 @@ recorded_settle : (o : Option ℕ) (length l : ℕ) → o ≡ Some l → recorde
 recorded_settle None length l h = cc
 recorded_settle (Some m) length l h = elim (cases_Bool (m == length)) [ inl same ↦ rw same h | inr other ↦ rw other h ]
 
-recorded_call : (fixed : Fixed) (s : State) (who : List Name) (call : Call) → IsRight fixed s who call
+recorded_call : (fixed : Fixed) (s : State) (who : List Name) (call : Call) → IsRightReply fixed s who call
     → (l : ℕ) → s.recorded ≡ Some l → (after_call who call s).recorded ≡ Some l
 recorded_call fixed s who (Take g w r) right l h = h
 recorded_call fixed s who (Give g m r) right l h = h
@@ -168,7 +168,7 @@ record_lasts fixed history more l legal h =
     rw run-append (recorded_from fixed (state_after history) more parts.1 l h)
 
 -- a caller's claims stay while others call
-claims_take : (fixed : Fixed) (s : State) (who : List Name) (g w r : ℕ) (names : List Name) → share_name names who ≡ false → IsRight fixed s who (Take g w r)
+claims_take : (fixed : Fixed) (s : State) (who : List Name) (g w r : ℕ) (names : List Name) → share_name names who ≡ false → IsRightReply fixed s who (Take g w r)
     → (c : ℕ) → claims names (after_call who (Take g w r) s) c ≡ claims names s c
 claims_take fixed s who g w r names apart right c = elim (cases_Bool (in_mask g r c)) [
   | inl hit ↦
@@ -178,7 +178,7 @@ claims_take fixed s who g w r names apart right c = elim (cases_Bool (in_mask g 
   | inr miss ↦ rw miss refl
 ]
 
-claims_call : (fixed : Fixed) (s : State) (who : List Name) (call : Call) (names : List Name) → share_name names who ≡ false → IsRight fixed s who call
+claims_call : (fixed : Fixed) (s : State) (who : List Name) (call : Call) (names : List Name) → share_name names who ≡ false → IsRightReply fixed s who call
     → (c : ℕ) → claims names (after_call who call s) c ≡ claims names s c
 claims_call fixed s who (Take g w r) names apart right c = claims_take fixed s who g w r names apart right c
 claims_call fixed s who (Give g m r) names apart right c = elim (cases_Bool (in_mask g r c)) [

@@ -16,7 +16,7 @@ use Rattle.store_core.specs.declared.micro.MicroStep.{MicroStep}
 use Rattle.store_core.specs.declared.micro.MicroStep.TheVariants.{Claim, Hash, Write, Publish, GiveBack, Load, Settle, Length}
 use Rattle.store_core.specs.declared.micro.Reply.{Reply}
 use Rattle.store_core.specs.declared.store.Store.{Store}
-use Rattle.store_core.specs.Machine.{Machine, Seat, start, with_seat}
+use Rattle.store_core.specs.Machine.{Machine, MachineSeat, start, with_seat}
 use Rattle.store_core.specs.Pieces.{piece_of}
 use Rattle.store_core.specs.Replays.{IsListed, ReplayBinds}
 use Rattle.store_core.specs.Schedules.{Runs, after_step, commit_by, event_by, is_last_load, mask_in, read_after, settle_answer, settle_by, step_events}
@@ -53,7 +53,7 @@ hash_listed pieces i (Some checked) piece e h =
     record { index = i; checked = checked; there = e; is = same }
 
 -- a seat that is changed
-seat_listed : (pieces : List Checked) (m : Machine) (n : ℕ) (seat : Seat) → AreListed pieces m → ((piece : Piece) → seat.piece ≡ Some piece → IsListed pieces piece)
+seat_listed : (pieces : List Checked) (m : Machine) (n : ℕ) (seat : MachineSeat) → AreListed pieces m → ((piece : Piece) → seat.piece ≡ Some piece → IsListed pieces piece)
     → AreListed pieces (with_seat m n seat)
 seat_listed pieces m n seat are its k piece h = elim (cases_Bool (k == n)) [
   | inl hit ↦ its piece (rw hit at h)

@@ -3,7 +3,7 @@ use Rattle.std.proofs.Common.{◌≡◌, ◌≢◌, ℕ, ◌+◌, ◌*◌, ◌<�
 use Rattle.std.proofs.lemmas.Bool.{cases_eq, cases_lt, ne_eqb}
 use Rattle.std.proofs.lemmas.Grind.{get_or-set_at}
 use Rattle.std.proofs.lemmas.List.{get_or-set_other, get_or_past}
-use Rattle.store_core.specs.Stages.{IsCleared}
+use Rattle.store_core.specs.ScheduleRuns.{IsCleared}
 
 -- the first j words of chunk n are not marked, and the other marks stay
 pub record IsUnmarked (n j : ℕ) (old now : List Bool) : Type 0 where

@@ -10,7 +10,7 @@ use Rattle.store_core.specs.declared.history.Event.{Event}
 use Rattle.store_core.specs.declared.history.Piece.{Piece}
 use Rattle.store_core.specs.declared.history.Settling.{Settling}
 use Rattle.store_core.specs.declared.history.Settling.TheVariants.{Settled, Known, Differs, OtherRoot, TooLarge}
-use Rattle.store_core.specs.Events.{IsRight, after, after_call, recorded_after}
+use Rattle.store_core.specs.Events.{IsRightReply, after, after_call, recorded_after}
 use Rattle.store_core.specs.Histories.{AreLegalFrom, run}
 use Rattle.store_core.specs.Laws.{CommittedOnce, HeldIsCommitted, IsCommitted, IsSettled, IsSound, RecordIsSettled, commits}
 use Rattle.store_core.specs.Masks.{in_mask}
@@ -34,7 +34,7 @@ IsCommitted-later fixed e events c bytes k = record {
 }
 
 -- what is held after a call was held before, or the call commits it
-commit_held : (fixed : Fixed) (s : State) (who : List Name) (call : Call) (events : List Event) → IsRight fixed s who call
+commit_held : (fixed : Fixed) (s : State) (who : List Name) (call : Call) (events : List Event) → IsRightReply fixed s who call
     → (c : ℕ) (bytes : List ℕ) → (after_call who call s).held c ≡ Some bytes
     → (s.held c ≡ Some bytes) ⊎ IsCommitted fixed (record { who = who; call = call } ∷ events) c bytes
 commit_held fixed s who (Take g w r) events right c bytes h = inl h
@@ -73,7 +73,7 @@ held_is_committed fixed history c bytes legal h = elim (committed_from fixed emp
 ]
 
 -- a recorded length was so before, or the call settles it
-settle_record : (fixed : Fixed) (s : State) (who : List Name) (piece : Piece) (answer : Settling) (events : List Event) → IsRight fixed s who (Settle piece answer)
+settle_record : (fixed : Fixed) (s : State) (who : List Name) (piece : Piece) (answer : Settling) (events : List Event) → IsRightReply fixed s who (Settle piece answer)
     → (l : ℕ) → recorded_after answer (length_of piece) s.recorded ≡ Some l
     → (s.recorded ≡ Some l) ⊎ IsSettled fixed (record { who = who; call = Settle piece answer } ∷ events) l
 settle_record fixed s who piece Settled events right l h = inr (record {
@@ -90,7 +90,7 @@ settle_record fixed s who piece Differs events right l h = inl h
 settle_record fixed s who piece OtherRoot events right l h = inl h
 settle_record fixed s who piece TooLarge events right l h = inl h
 
-call_record : (fixed : Fixed) (s : State) (who : List Name) (call : Call) (events : List Event) → IsRight fixed s who call
+call_record : (fixed : Fixed) (s : State) (who : List Name) (call : Call) (events : List Event) → IsRightReply fixed s who call
     → (l : ℕ) → (after_call who call s).recorded ≡ Some l → (s.recorded ≡ Some l) ⊎ IsSettled fixed (record { who = who; call = call } ∷ events) l
 call_record fixed s who (Take g w r) events right l h = inl h
 call_record fixed s who (Give g m r) events right l h = inl h
@@ -125,12 +125,12 @@ abbrev pub one_if : Bool → ℕ
 one_if b = if b then 1 else 0
 
 -- what a Commit stores the piece holds
-holds : (fixed : Fixed) (s : State) (who : List Name) (g : ℕ) (piece : Piece) (r c : ℕ) → IsRight fixed s who (Commit g piece r) → in_mask g r c ≡ true → holds_chunk piece c ≡ true
+holds : (fixed : Fixed) (s : State) (who : List Name) (g : ℕ) (piece : Piece) (r c : ℕ) → IsRightReply fixed s who (Commit g piece r) → in_mask g r c ≡ true → holds_chunk piece c ≡ true
 holds fixed s who g piece r c right hit =
     (and_parts (claims who s c) (holds_chunk piece c) (masked g r (λ c. claims who s c && holds_chunk piece c) c right.1 hit)).1
 
 -- a call commits a chunk that wasn't held, and no other becomes held
-pub counted_commit : (fixed : Fixed) (s : State) (who : List Name) (g : ℕ) (piece : Piece) (r c : ℕ) → IsSound fixed s → IsRight fixed s who (Commit g piece r)
+pub counted_commit : (fixed : Fixed) (s : State) (who : List Name) (g : ℕ) (piece : Piece) (r c : ℕ) → IsSound fixed s → IsRightReply fixed s who (Commit g piece r)
     → one_if (in_mask g r c) + one_if (is_held s c) ≡ one_if (is_held (after_call who (Commit g piece r) s) c)
 counted_commit fixed s who g piece r c sound right = elim (cases_Bool (in_mask g r c)) [
   | inl hit ↦
@@ -142,7 +142,7 @@ counted_commit fixed s who g piece r c sound right = elim (cases_Bool (in_mask g
   | inr miss ↦ rw miss (omega arith)
 ]
 
-counted_call : (fixed : Fixed) (s : State) (who : List Name) (call : Call) (c : ℕ) → IsSound fixed s → IsRight fixed s who call
+counted_call : (fixed : Fixed) (s : State) (who : List Name) (call : Call) (c : ℕ) → IsSound fixed s → IsRightReply fixed s who call
     → one_if (commits c call) + one_if (is_held s c) ≡ one_if (is_held (after_call who call s) c)
 counted_call fixed s who (Take g w r) c sound right = omega arith
 counted_call fixed s who (Give g m r) c sound right = omega arith

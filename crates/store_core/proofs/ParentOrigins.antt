@@ -10,7 +10,7 @@ use Rattle.store_core.specs.declared.history.Event.{Event}
 use Rattle.store_core.specs.declared.history.Piece.{Piece}
 use Rattle.store_core.specs.declared.history.Storing.{Storing}
 use Rattle.store_core.specs.declared.history.Storing.TheVariants.{OtherLength, Stored}
-use Rattle.store_core.specs.Events.{IsRight, after, after_call, parents_after}
+use Rattle.store_core.specs.Events.{IsRightReply, after, after_call, parents_after}
 use Rattle.store_core.specs.Histories.{AreLegalFrom, run, state_after}
 use Rattle.store_core.specs.Laws.{ParentIsStored, ParentLasts}
 use Rattle.store_core.specs.Masks.{in_mask}
@@ -20,7 +20,7 @@ use Rattle.store_core.specs.States.{State, empty}
 use Rattle.store_core.proofs.Lasting.{legal-append, recorded_from, run-append}
 
 -- a parent that is held isn't stored again
-parent_stays : (fixed : Fixed) (s : State) (who : List Name) (group : ℕ) (piece : Piece) (answer : Storing) → IsRight fixed s who (Parents group piece answer)
+parent_stays : (fixed : Fixed) (s : State) (who : List Name) (group : ℕ) (piece : Piece) (answer : Storing) → IsRightReply fixed s who (Parents group piece answer)
     → (m : ℕ) (bytes : List ℕ) → s.parents m ≡ Some bytes → parents_after answer group piece s.parents m ≡ Some bytes
 parent_stays fixed s who group piece OtherLength right m bytes h = h
 parent_stays fixed s who group piece (Stored mask) right m bytes h = elim (cases_Bool (in_mask group mask m)) [
@@ -28,7 +28,7 @@ parent_stays fixed s who group piece (Stored mask) right m bytes h = elim (cases
   | inr miss ↦ rw miss h
 ]
 
-parent_call : (fixed : Fixed) (s : State) (who : List Name) (call : Call) → IsRight fixed s who call
+parent_call : (fixed : Fixed) (s : State) (who : List Name) (call : Call) → IsRightReply fixed s who call
     → (m : ℕ) (bytes : List ℕ) → s.parents m ≡ Some bytes → (after_call who call s).parents m ≡ Some bytes
 parent_call fixed s who (Take g w r) right m bytes h = h
 parent_call fixed s who (Give g n r) right m bytes h = h
@@ -62,7 +62,7 @@ record StoredFrom (fixed : Fixed) (s : State) (events : List Event) (m : ℕ) (b
   has : parent_bytes piece m ≡ Some bytes
   length_is : (run s events).recorded ≡ Some (length_of piece)
 
-store_parent : (fixed : Fixed) (s : State) (who : List Name) (group : ℕ) (piece : Piece) (answer : Storing) (events : List Event) → IsRight fixed s who (Parents group piece answer)
+store_parent : (fixed : Fixed) (s : State) (who : List Name) (group : ℕ) (piece : Piece) (answer : Storing) (events : List Event) → IsRightReply fixed s who (Parents group piece answer)
     → AreLegalFrom fixed (after_call who (Parents group piece answer) s) events
     → (m : ℕ) (bytes : List ℕ) → parents_after answer group piece s.parents m ≡ Some bytes
     → (s.parents m ≡ Some bytes) ⊎ StoredFrom fixed s (record { who = who; call = Parents group piece answer } ∷ events) m bytes
@@ -83,7 +83,7 @@ store_parent fixed s who group piece (Stored mask) events right legal m bytes h 
 ]
 
 -- what is held after a call was held before, or the call stores it
-call_parent : (fixed : Fixed) (s : State) (who : List Name) (call : Call) (events : List Event) → IsRight fixed s who call → AreLegalFrom fixed (after_call who call s) events
+call_parent : (fixed : Fixed) (s : State) (who : List Name) (call : Call) (events : List Event) → IsRightReply fixed s who call → AreLegalFrom fixed (after_call who call s) events
     → (m : ℕ) (bytes : List ℕ) → (after_call who call s).parents m ≡ Some bytes
     → (s.parents m ≡ Some bytes) ⊎ StoredFrom fixed s (record { who = who; call = call } ∷ events) m bytes
 call_parent fixed s who (Take g w r) events right legal m bytes h = inl h

@@ -14,7 +14,7 @@ use Rattle.store_core.specs.declared.schedule.ScheduleRun.{ScheduleRun}
 use Rattle.store_core.specs.Machine.{Machine, start}
 use Rattle.store_core.specs.Replays.{IsIllegalAt, LeavesStore}
 use Rattle.store_core.specs.Schedules.{IsLegalStep, after_step, step_events}
-use Rattle.store_core.specs.Stages.{DoesRefuse, DoesStep, HasRun, IsFresh, IsSeatOf, IsStepped, is_marked, player_in}
+use Rattle.store_core.specs.ScheduleRuns.{DoesRefuse, DoesStep, HasRun, IsFresh, StandsForSeat, IsStepped, is_marked, player_in}
 use Rattle.store_core.specs.States.{empty}
 use Rattle.store_core.specs.Stores.{fixed_of, state_of}
 use Rattle.store_core.proofs.Running.{start_empty, start_served}
@@ -33,7 +33,7 @@ fresh fixed run same new nobody unwritten pieces = record {
   served = start_served (fixed_of run.store);
   stands = record {
     state = new ∙ sym start_empty;
-    seats = λ n. subst (λ (xs : List Player). IsSeatOf (fixed_of run.store) (player_in xs n) (start.seat n)) (sym nobody) (refl, refl);
+    seats = λ n. subst (λ (xs : List Player). StandsForSeat (fixed_of run.store) (player_in xs n) (start.seat n)) (sym nobody) (refl, refl);
     wrote = λ n c w below dark. refl;
     clean = λ c w below free dark. subst (λ (xs : List Bool). is_marked xs c w ≡ false) (sym unwritten) (get_or_past [] (129 * c + w) false (omega arith));
   };

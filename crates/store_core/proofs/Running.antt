@@ -16,19 +16,19 @@ use Rattle.store_core.specs.declared.micro.Reply.TheVariants.{Committed}
 use Rattle.store_core.specs.Events.{recorded_after, settling}
 use Rattle.store_core.specs.Histories.{AreLegalFrom, run}
 use Rattle.store_core.specs.Laws.{IsSound, RunsAreLegal}
-use Rattle.store_core.specs.Machine.{Machine, Reading, Seat, copied, current_bytes, current_holds, seat_has, is_over, is_whole, loaded, loaded_group, position, read_of, shown_byte, start, store_of, with_seat}
+use Rattle.store_core.specs.Machine.{Machine, ReadUnderWay, MachineSeat, copied, current_bytes, current_holds, seat_has, is_over, is_whole, loaded, loaded_group, position, read_of, shown_byte, start, store_of, with_seat}
 use Rattle.store_core.specs.Pieces.{length_of}
 use Rattle.store_core.specs.Schedules.{AreTexts, HasTail, IsLegalStep, IsReply, IsWritten, Runs, after_step, commit_by, current_length, event_by, is_last_load, length_answer, read_after, read_before, settle_by, step_events, TakesBytes}
 use Rattle.store_core.specs.States.{State, byte_and, byte_at, empty, read_bytes}
 use Rattle.store_core.proofs.Bits.{has_bit-zero}
 use Rattle.store_core.proofs.Lasting.{legal-join, run-append, sound_empty}
 use Rattle.store_core.proofs.ReadLaws.{is_read}
-use Rattle.store_core.specs.Served.{IsKept, IsPart, IsServed}
-use Rattle.store_core.proofs.Served.{IsStep, keeps, shown_is}
+use Rattle.store_core.specs.MachineInvariant.{IsKept, IsReadSoFar, IsSoundMachine}
+use Rattle.store_core.proofs.MachineInvariants.{IsStep, keeps, shown_is}
 use Rattle.store_core.specs.Cells.{cell_bytes, cell_word}
 use Rattle.store_core.specs.Masks.{IsMaskOf}
-use Rattle.store_core.proofs.Stepping.{claim_step, give_step, hash_step, publish_step, write_step}
-use Rattle.store_core.proofs.Stored.{same_state}
+use Rattle.store_core.proofs.StepEvents.{claim_step, give_step, hash_step, publish_step, write_step}
+use Rattle.store_core.proofs.SlotStates.{same_state}
 
 -- What is copied of a group is what a read of the positions of the group gives.
 copied_none : (m : Machine) (group p n : ℕ) → p / 65536 ≢ group → copied m group p n ≡ []
@@ -73,8 +73,8 @@ copied_held m group p (suc n) = elim (cases_Bool (p / 65536 == group)) [
 ]
 
 -- bytes held after those that were copied
-part_more : (s : State) (r : Reading) (more : List ℕ) → IsPart s r → IsHeldFrom s (position r) (r.len - length r.bytes) more
-    → IsPart s (record r { bytes = r.bytes ++ more })
+part_more : (s : State) (r : ReadUnderWay) (more : List ℕ) → IsReadSoFar s r → IsHeldFrom s (position r) (r.len - length r.bytes) more
+    → IsReadSoFar s (record r { bytes = r.bytes ++ more })
 part_more s r more part next = record {
   within = omega (arith, length-append r.bytes more, part.within, next.within);
   held = λ i h. elim (cases_lt i (length r.bytes)) [
@@ -89,7 +89,7 @@ part_more s r more part next = record {
   ];
 }
 
-pub loaded_part : (fixed : Fixed) (m : Machine) (r : Reading) → IsPart (store_of m) r → IsPart (store_of m) (loaded fixed m r)
+pub loaded_part : (fixed : Fixed) (m : Machine) (r : ReadUnderWay) → IsReadSoFar (store_of m) r → IsReadSoFar (store_of m) (loaded fixed m r)
 loaded_part fixed m r part = part_more (store_of m) r _ part (copied_held m (loaded_group fixed r) (position r) (r.len - length r.bytes))
 
 -- no position at or above 1,024 times the capacity is held
@@ -105,7 +105,7 @@ none_is None h = refl
 none_is (Some x) h = cc
 
 -- where a read is over, its bytes are those of an event
-over_missing : (fixed : Fixed) (m : Machine) (group : ℕ) (r : Reading) → IsSound fixed (store_of m) → is_over fixed m group r ≡ true
+over_missing : (fixed : Fixed) (m : Machine) (group : ℕ) (r : ReadUnderWay) → IsSound fixed (store_of m) → is_over fixed m group r ≡ true
     → length r.bytes < r.len → byte_at (store_of m) (r.at + length r.bytes) ≡ None
 over_missing fixed m group r sound over less =
     elim (or_cases (is_whole r) (((position r / 65536 == group) && is_none (shown_byte m (position r))) || nat_le (1024 * fixed.capacity) (position r)) over) [
@@ -116,24 +116,24 @@ over_missing fixed m group r sound over less =
       ]
     ]
 
-pub over_read : (fixed : Fixed) (m : Machine) (group : ℕ) (r : Reading) → IsSound fixed (store_of m) → IsPart (store_of m) r → is_over fixed m group r ≡ true
+pub over_read : (fixed : Fixed) (m : Machine) (group : ℕ) (r : ReadUnderWay) → IsSound fixed (store_of m) → IsReadSoFar (store_of m) r → is_over fixed m group r ≡ true
     → r.bytes ≡ read_bytes (store_of m) r.at r.len
 over_read fixed m group r sound part over =
     is_read (store_of m) r.at r.len r.bytes (record { within = part.within; held = part.held; missing = over_missing fixed m group r sound over })
 
 -- the read that a load goes on with
-pub record IsBefore (s : State) (at len : ℕ) (r : Reading) : Type 0 where
-  pub part : IsPart s r
+pub record IsBefore (s : State) (at len : ℕ) (r : ReadUnderWay) : Type 0 where
+  pub part : IsReadSoFar s r
   pub at_is : r.at ≡ at
   pub len_is : r.len ≡ len
 
-pub before_is : (s : State) (o : Option Reading) (at len : ℕ) → ((r : Reading) → o ≡ Some r → IsPart s r) → IfSome o (λ r. (r.at ≡ at) × (r.len ≡ len))
+pub before_is : (s : State) (o : Option ReadUnderWay) (at len : ℕ) → ((r : ReadUnderWay) → o ≡ Some r → IsReadSoFar s r) → IfSome o (λ r. (r.at ≡ at) × (r.len ≡ len))
     → IsBefore s at len (read_of o at len)
 before_is s None at len each same = record { part = record { within = omega arith; held = λ i h. absurd (omega arith) }; at_is = refl; len_is = refl }
 before_is s (Some r) at len each same = record { part = each r refl; at_is = same.0; len_is = same.1 }
 
 -- a seat that is changed, but neither its piece nor what it wrote
-seat_kept : (fixed : Fixed) (m : Machine) (n : ℕ) (seat : Seat) → IsKept fixed m → seat.written ≡ (m.seat n).written → seat.piece ≡ (m.seat n).piece
+seat_kept : (fixed : Fixed) (m : Machine) (n : ℕ) (seat : MachineSeat) → IsKept fixed m → seat.written ≡ (m.seat n).written → seat.piece ≡ (m.seat n).piece
     → IsKept fixed (with_seat m n seat)
 seat_kept fixed m n seat kept written piece =
     let same : (k : ℕ) → (((with_seat m n seat).seat k).written ≡ (m.seat k).written) × (((with_seat m n seat).seat k).piece ≡ (m.seat k).piece) =
@@ -153,7 +153,7 @@ seat_kept fixed m n seat kept written piece =
     }
 
 -- Load, at its end or not
-load_with : (fixed : Fixed) (m : Machine) (n at len : ℕ) (last : Bool) (r : Reading) → IsServed fixed m → IsPart (store_of m) r
+load_with : (fixed : Fixed) (m : Machine) (n at len : ℕ) (last : Bool) (r : ReadUnderWay) → IsSoundMachine fixed m → IsReadSoFar (store_of m) r
     → (last ≡ true → r.bytes ≡ read_bytes (store_of m) at len)
     → IsStep fixed m (with_seat m n (record (m.seat n) { reading = if last then None else Some r })) (if last then event_by n (Read at len r.bytes) else [])
 load_with fixed m n at len true r served part right = record {
@@ -173,7 +173,7 @@ load_with fixed m n at len false r served part right = record {
     sound = served.sound;
     kept = seat_kept fixed m n (record (m.seat n) { reading = Some r }) served.kept refl refl;
     reads = λ k x is. elim (cases_Bool (k == n)) [
-      | inl hit ↦ let some : Some r ≡ Some x = rw hit at is in let same : r ≡ x = cc in subst (λ (y : Reading). IsPart (store_of m) y) same part
+      | inl hit ↦ let some : Some r ≡ Some x = rw hit at is in let same : r ≡ x = cc in subst (λ (y : ReadUnderWay). IsReadSoFar (store_of m) y) same part
       | inr miss ↦ served.reads k x (rw miss at is)
     ];
   };
@@ -181,12 +181,12 @@ load_with fixed m n at len false r served part right = record {
   state = refl;
 }
 
-pub load_step : (fixed : Fixed) (pieces : List Checked) (m : Machine) (n at len : ℕ) (reply : Option Reply) → IsServed fixed m
+pub load_step : (fixed : Fixed) (pieces : List Checked) (m : Machine) (n at len : ℕ) (reply : Option Reply) → IsSoundMachine fixed m
     → IfSome (m.seat n).reading (λ r. (r.at ≡ at) × (r.len ≡ len))
     → IsStep fixed m (after_step fixed pieces m (Load n at len) reply) (step_events fixed m (Load n at len) reply)
 load_step fixed pieces m n at len reply served same =
     let before : IsBefore (store_of m) at len (read_before m n at len) = before_is (store_of m) (m.seat n).reading at len (served.reads n) same in
-    let part : IsPart (store_of m) (read_after fixed m n at len) = loaded_part fixed m (read_before m n at len) before.part in
+    let part : IsReadSoFar (store_of m) (read_after fixed m n at len) = loaded_part fixed m (read_before m n at len) before.part in
     load_with fixed m n at len (is_last_load fixed m n at len) (read_after fixed m n at len) served part (λ last.
     over_read fixed m (loaded_group fixed (read_before m n at len)) (read_after fixed m n at len) served.sound part last
     ∙ ap (λ (q : ℕ). read_bytes (store_of m) q (read_before m n at len).len) before.at_is ∙ ap (λ (k : ℕ). read_bytes (store_of m) at k) before.len_is)
@@ -206,7 +206,7 @@ settling_fits (Some k) l h = elim (cases_Bool (k == l)) [
   | inr other ↦ let no : Differs ≡ TooLarge = rw other at h in cc
 ]
 
-settle_at : (fixed : Fixed) (m : Machine) (n : ℕ) (o : Option Piece) → IsServed fixed m → (m.seat n).piece ≡ o → HasTail o
+settle_at : (fixed : Fixed) (m : Machine) (n : ℕ) (o : Option Piece) → IsSoundMachine fixed m → (m.seat n).piece ≡ o → HasTail o
     → IsStep fixed m (record m { recorded = recorded_after (length_answer fixed m.recorded (current_length o)) (current_length o) m.recorded })
     (settle_by n o (length_answer fixed m.recorded (current_length o)))
 settle_at fixed m n None served is ends = absurd ends
@@ -226,19 +226,19 @@ settle_at fixed m n (Some piece) served is ends = elim (cases_Bool (nat_le (leng
       (λ k. refl))
 ]
 
-pub settle_step : (fixed : Fixed) (pieces : List Checked) (m : Machine) (n : ℕ) (reply : Option Reply) → IsServed fixed m → HasTail (m.seat n).piece
+pub settle_step : (fixed : Fixed) (pieces : List Checked) (m : Machine) (n : ℕ) (reply : Option Reply) → IsSoundMachine fixed m → HasTail (m.seat n).piece
     → IsStep fixed m (after_step fixed pieces m (Settle n) reply) (step_events fixed m (Settle n) reply)
 settle_step fixed pieces m n reply served ends = settle_at fixed m n (m.seat n).piece served refl ends
 
 -- Publish, of a seat with a current piece
-publish_at : (fixed : Fixed) (pieces : List Checked) (m : Machine) (n group mask : ℕ) (o : Option Piece) → IsServed fixed m → (m.seat n).piece ≡ o → is_some o ≡ true
+publish_at : (fixed : Fixed) (pieces : List Checked) (m : Machine) (n group mask : ℕ) (o : Option Piece) → IsSoundMachine fixed m → (m.seat n).piece ≡ o → is_some o ≡ true
     → IsWritten m n group → IsMaskOf group mask (λ c. seat_has m n c && current_holds (m.seat n).piece c)
     → IsStep fixed m (after_step fixed pieces m (Publish n group) (Some (Committed mask))) (commit_by n group o mask)
 publish_at fixed pieces m n group mask None served is some wrote right = cc
 publish_at fixed pieces m n group mask (Some piece) served is some wrote right = publish_step fixed pieces m n group mask piece served is wrote right
 
 -- each step
-pub one_step : (fixed : Fixed) (pieces : List Checked) (m : Machine) (step : MicroStep) (reply : Option Reply) → TakesBytes pieces step → IsServed fixed m
+pub one_step : (fixed : Fixed) (pieces : List Checked) (m : Machine) (step : MicroStep) (reply : Option Reply) → TakesBytes pieces step → IsSoundMachine fixed m
     → IsLegalStep fixed pieces m step → IsReply fixed m step reply → IsStep fixed m (after_step fixed pieces m step reply) (step_events fixed m step reply)
 one_step fixed pieces m (Claim n group want) reply texts served legal right =
     subst (λ (r : Option Reply). IsStep fixed m (after_step fixed pieces m (Claim n group want) r) (step_events fixed m (Claim n group want) r)) (sym right.1)
@@ -272,7 +272,7 @@ pub start_empty : store_of start ≡ empty
 start_empty = same_state (store_of start) empty refl
     (λ c. ap (λ (b : Bool). if b then Some (cell_bytes (λ w. 0)) else None) (has_bit-zero (c % 64))) (λ c. refl) refl
 
-pub start_served : (fixed : Fixed) → IsServed fixed start
+pub start_served : (fixed : Fixed) → IsSoundMachine fixed start
 start_served fixed = record {
   sound = subst (λ (s : State). IsSound fixed s) (sym start_empty) (sound_empty fixed);
   kept = record {
@@ -312,12 +312,12 @@ runs_more fixed pieces m (first ∷ steps) replies history last step reply runs 
 )
 
 pub record IsRun (fixed : Fixed) (m last : Machine) (history : List Event) : Type 0 where
-  pub served : IsServed fixed last
+  pub served : IsSoundMachine fixed last
   pub legal : AreLegalFrom fixed (store_of m) history
   pub state : run (store_of m) history ≡ store_of last
 
 pub whole_run : (fixed : Fixed) (pieces : List Checked) (m : Machine) (steps : List MicroStep) (replies : List Reply) (history : List Event) (last : Machine)
-    → AreTexts pieces → IsServed fixed m → Runs fixed pieces m steps replies history last → IsRun fixed m last history
+    → AreTexts pieces → IsSoundMachine fixed m → Runs fixed pieces m steps replies history last → IsRun fixed m last history
 whole_run fixed pieces m [] replies history last texts served runs =
     subst (λ (x : Machine). IsRun fixed m x history) (sym runs.2) (subst (λ (events : List Event). IsRun fixed m m events) (sym runs.1)
     (record { served = served; legal = tt; state = refl }))

@@ -19,8 +19,8 @@ use Rattle.store_core.specs.declared.history.Event.{Event}
 use Rattle.store_core.specs.declared.history.Serving.{Serving}
 use Rattle.store_core.specs.declared.history.Serving.TheVariants.{Lacking, NoLength, Text}
 use Rattle.store_core.specs.Histories.{IsLegal, state_after}
-use Rattle.store_core.specs.Laws.{IsBlob, IsStored, PairFrom, ParentHeldBinds, ServedBinds}
-use Rattle.store_core.specs.Laws.PairFrom.{of_chunk, of_length, of_parent}
+use Rattle.store_core.specs.Laws.{IsBlob, IsStored, CollisionFrom, ParentHeldBinds, ServedBinds}
+use Rattle.store_core.specs.Laws.CollisionFrom.{of_chunk, of_length, of_parent}
 use Rattle.store_core.specs.Pieces.{length_of}
 use Rattle.store_core.specs.Serves.{after_bytes, node_and, node_held, served, serving_of}
 use Rattle.store_core.specs.States.{State}
@@ -52,7 +52,7 @@ module _ (fixed : Fixed) (history : List Event) (blob : List ℕ) (keyed : IsKey
 
   -- what is held of a node is the blob's
   node_binds : (start len : ℕ) (node : TreeNode) (bytes : List ℕ) → Contains (nodes (length blob) start len) node → node_held s (name node) ≡ Some bytes
-      → (bytes ≡ node_text fixed.mode blob node) ⊎ PairFrom fixed history blob
+      → (bytes ≡ node_text fixed.mode blob node) ⊎ CollisionFrom fixed history blob
   node_binds start len node bytes there h = elim (cases_Bool node.is_chunk) [
     | inl chunk ↦
         let held : s.held node.number ≡ Some bytes = rw chunk at h in
@@ -73,9 +73,9 @@ module _ (fixed : Fixed) (history : List Event) (blob : List ℕ) (keyed : IsKey
 
   -- and so are the bytes of several
   one_binds : (start len : ℕ) (node : TreeNode) (rest : List TreeNode) (text : List ℕ) (o : Option (List ℕ)) → Contains (nodes (length blob) start len) node
-      → ((more : List ℕ) → served s (map name rest) ≡ Text more → (more ≡ flat_map (node_text fixed.mode blob) rest) ⊎ PairFrom fixed history blob)
+      → ((more : List ℕ) → served s (map name rest) ≡ Text more → (more ≡ flat_map (node_text fixed.mode blob) rest) ⊎ CollisionFrom fixed history blob)
       → node_held s (name node) ≡ o → node_and (name node) o (served s (map name rest)) ≡ Text text
-      → (text ≡ flat_map (node_text fixed.mode blob) (node ∷ rest)) ⊎ PairFrom fixed history blob
+      → (text ≡ flat_map (node_text fixed.mode blob) (node ∷ rest)) ⊎ CollisionFrom fixed history blob
   one_binds start len node rest text None there further e got = cc
   one_binds start len node rest text (Some bytes) there further e got =
       let w = after_text bytes text (served s (map name rest)) got in
@@ -89,14 +89,14 @@ module _ (fixed : Fixed) (history : List Event) (blob : List ℕ) (keyed : IsKey
       ]
 
   nodes_bind : (start len : ℕ) (some : List TreeNode) (text : List ℕ) → ((node : TreeNode) → Contains some node → Contains (nodes (length blob) start len) node)
-      → served s (map name some) ≡ Text text → (text ≡ flat_map (node_text fixed.mode blob) some) ⊎ PairFrom fixed history blob
+      → served s (map name some) ≡ Text text → (text ≡ flat_map (node_text fixed.mode blob) some) ⊎ CollisionFrom fixed history blob
   nodes_bind start len [] text among h = inl (cc)
   nodes_bind start len (node ∷ rest) text among h =
       one_binds start len node rest text (node_held s (name node)) (among node (Contains-head rest node))
       (λ more got. nodes_bind start len rest more (λ x there. among x (Contains-tail rest node x there)) got) refl h
 
   slice_binds : (o : Option ℕ) → s.recorded ≡ o → (start len : ℕ) (text : List ℕ) → serving_of o s start len ≡ Text text
-      → (text ≡ slice_text fixed.mode blob start len) ⊎ PairFrom fixed history blob
+      → (text ≡ slice_text fixed.mode blob start len) ⊎ CollisionFrom fixed history blob
   slice_binds None e start len text h = cc
   slice_binds (Some l) e start len text h = elim (record_binds fixed history blob l keyed is legal e) [
     | inr settled ↦ inr (of_length l settled.0 settled.1)

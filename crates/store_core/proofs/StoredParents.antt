@@ -13,22 +13,22 @@ use Rattle.store_core.specs.declared.history.Piece.{Piece}
 use Rattle.store_core.specs.declared.history.Storing.TheVariants.{Stored}
 use Rattle.store_core.specs.declared.slot.Slot.{Slot}
 use Rattle.store_core.specs.declared.store.Store.{Store}
-use Rattle.store_core.specs.Events.{IsRight, after_call}
+use Rattle.store_core.specs.Events.{IsRightReply, after_call}
 use Rattle.store_core.specs.Masks.{IsMaskOf, has_bit, in_mask}
 use Rattle.store_core.specs.Names.{Name}
 use Rattle.store_core.specs.Pieces.{IsAcceptedPiece, holds_parent, length_of, parent_bytes}
-use Rattle.store_core.specs.Slots.{parents_in, state_in, with_parents}
+use Rattle.store_core.specs.Slots.{parent_among, state_in, with_parents}
 use Rattle.store_core.specs.States.{State}
 use Rattle.store_core.specs.Stores.{IsSame, IsUnstored}
 use Rattle.store_core.proofs.Bits.{has_bit-zero}
 
 -- parents that are the same at each boundary make the same state
-pub same_parents : (s : State) (old new : List (Option (List ℕ))) → ((m : ℕ) → parents_in new m ≡ parents_in old m) → with_parents s new ≡ with_parents s old
+pub same_parents : (s : State) (old new : List (Option (List ℕ))) → ((m : ℕ) → parent_among new m ≡ parent_among old m) → with_parents s new ≡ with_parents s old
 same_parents s old new same = λ i. record s { parents = λ m. same m i }
 
 -- the mask's parents are stored, and this is the state after it
 pub record IsStoredBy (fixed : Fixed) (s t : State) (group mask : ℕ) (piece : Piece) : Type 0 where
-  pub right : (who : List Name) → IsRight fixed s who (Parents group piece (Stored mask))
+  pub right : (who : List Name) → IsRightReply fixed s who (Parents group piece (Stored mask))
   pub after : (who : List Name) → t ≡ after_call who (Parents group piece (Stored mask)) s
 
 none_from : (o : Option (List ℕ)) → not (is_some o) ≡ true → o ≡ None
@@ -36,7 +36,7 @@ none_from None h = refl
 none_from (Some bytes) h = cc
 
 store_right : (fixed : Fixed) (s : State) (group mask : ℕ) (piece : Piece) → IsAcceptedPiece fixed piece → s.recorded ≡ Some (length_of piece)
-    → IsMaskOf group mask (λ m. holds_parent piece m && not (is_some (s.parents m))) → (who : List Name) → IsRight fixed s who (Parents group piece (Stored mask))
+    → IsMaskOf group mask (λ m. holds_parent piece m && not (is_some (s.parents m))) → (who : List Name) → IsRightReply fixed s who (Parents group piece (Stored mask))
 store_right fixed s group mask piece accepted length_is is who = (
   accepted,
   (
@@ -50,23 +50,23 @@ store_right fixed s group mask piece accepted length_is is who = (
 
 -- parents put into a list that was made longer
 pub store_at : (fixed : Fixed) (slots : List Slot) (o : Option ℕ) (old seen grown written new put : List (Option (List ℕ))) (group mask : ℕ) (piece : Piece) → IsAcceptedPiece fixed piece
-    → o ≡ Some (length_of piece) → seen ≡ old → written ≡ grown → put ≡ new → ((m : ℕ) → parents_in grown m ≡ parents_in old m)
-    → IsMaskOf group mask (λ m. holds_parent piece m && not (is_some (parents_in seen m)))
-    → ((m : ℕ) → parents_in new m ≡ (if in_mask group mask m then parent_bytes piece m else parents_in written m))
+    → o ≡ Some (length_of piece) → seen ≡ old → written ≡ grown → put ≡ new → ((m : ℕ) → parent_among grown m ≡ parent_among old m)
+    → IsMaskOf group mask (λ m. holds_parent piece m && not (is_some (parent_among seen m)))
+    → ((m : ℕ) → parent_among new m ≡ (if in_mask group mask m then parent_bytes piece m else parent_among written m))
     → IsStoredBy fixed (with_parents (state_in slots o) old) (with_parents (state_in slots o) put) group mask piece
 store_at fixed slots o old seen grown written new put group mask piece accepted length_is e f g same wanted after =
-    let each : (m : ℕ) → parents_in put m ≡ (if in_mask group mask m then parent_bytes piece m else parents_in old m) = λ m.
-    ap (λ (ps : List (Option (List ℕ))). parents_in ps m) g ∙ after m
-    ∙ ap (λ (x : Option (List ℕ)). if in_mask group mask m then parent_bytes piece m else x) (ap (λ (ps : List (Option (List ℕ))). parents_in ps m) f ∙ same m) in
+    let each : (m : ℕ) → parent_among put m ≡ (if in_mask group mask m then parent_bytes piece m else parent_among old m) = λ m.
+    ap (λ (ps : List (Option (List ℕ))). parent_among ps m) g ∙ after m
+    ∙ ap (λ (x : Option (List ℕ)). if in_mask group mask m then parent_bytes piece m else x) (ap (λ (ps : List (Option (List ℕ))). parent_among ps m) f ∙ same m) in
     record {
       right = store_right fixed (with_parents (state_in slots o) old) group mask piece accepted length_is
-          (subst (λ (ps : List (Option (List ℕ))). IsMaskOf group mask (λ m. holds_parent piece m && not (is_some (parents_in ps m)))) e wanted);
+          (subst (λ (ps : List (Option (List ℕ))). IsMaskOf group mask (λ m. holds_parent piece m && not (is_some (parent_among ps m)))) e wanted);
       after = λ who i. record (with_parents (state_in slots o) old) { parents = λ m. each m i };
     }
 
 -- no parent is stored
 pub store_none : (fixed : Fixed) (slots : List Slot) (o : Option ℕ) (old seen : List (Option (List ℕ))) (group mask : ℕ) (piece : Piece) → IsAcceptedPiece fixed piece
-    → o ≡ Some (length_of piece) → seen ≡ old → mask ≡ 0 → IsMaskOf group mask (λ m. holds_parent piece m && not (is_some (parents_in seen m)))
+    → o ≡ Some (length_of piece) → seen ≡ old → mask ≡ 0 → IsMaskOf group mask (λ m. holds_parent piece m && not (is_some (parent_among seen m)))
     → IsStoredBy fixed (with_parents (state_in slots o) old) (with_parents (state_in slots o) old) group 0 piece
 store_none fixed slots o old seen group mask piece accepted length_is e none wanted =
     let s : State = with_parents (state_in slots o) old in
@@ -75,7 +75,7 @@ store_none fixed slots o old seen group mask piece accepted length_is e none wan
     record {
       right = store_right fixed s group 0 piece accepted length_is
           (subst (λ (n : ℕ). IsMaskOf group n (λ m. holds_parent piece m && not (is_some (s.parents m)))) none
-          (subst (λ (ps : List (Option (List ℕ))). IsMaskOf group mask (λ m. holds_parent piece m && not (is_some (parents_in ps m)))) e wanted));
+          (subst (λ (ps : List (Option (List ℕ))). IsMaskOf group mask (λ m. holds_parent piece m && not (is_some (parent_among ps m)))) e wanted));
       after = λ who i. record s { parents = λ m. each m i };
     }
 

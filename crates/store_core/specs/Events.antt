@@ -41,21 +41,21 @@ IsStoring s group piece (Stored mask) = (s.recorded ≡ Some (length_of piece))
 --  Length: the recorded length or none.
 --  Parents, of an accepted piece: that its length isn't the recorded one, or boundaries whose parents become held.
 --  Serve: that there is no length, the first node that isn't held, or the encoding.
-abbrev pub IsRight : Fixed → State → List Name → Call → Type 0
-IsRight fixed s who (Take group want granted) = IsMaskOf group granted (λ c. has_bit want (c % 64) && is_free fixed s c)
-IsRight fixed s who (Give group mask given) = IsMaskOf group given (λ c. has_bit mask (c % 64) && claims who s c)
-IsRight fixed s who (Commit group piece committed) =
+abbrev pub IsRightReply : Fixed → State → List Name → Call → Type 0
+IsRightReply fixed s who (Take group want granted) = IsMaskOf group granted (λ c. has_bit want (c % 64) && is_free fixed s c)
+IsRightReply fixed s who (Give group mask given) = IsMaskOf group given (λ c. has_bit mask (c % 64) && claims who s c)
+IsRightReply fixed s who (Commit group piece committed) =
     IsAcceptedPiece fixed piece × IsMaskOf group committed (λ c. claims who s c && holds_chunk piece c)
-IsRight fixed s who (Settle piece answer) =
+IsRightReply fixed s who (Settle piece answer) =
     IsAcceptedPiece fixed piece × EndsBlob piece × (length_of piece ≤ 1024 * fixed.capacity) × (answer ≡ settling s.recorded (length_of piece))
-IsRight fixed s who (Read at len bytes) = bytes ≡ read_bytes s at len
-IsRight fixed s who (Length recorded) = recorded ≡ s.recorded
-IsRight fixed s who (Parents group piece answer) = IsAcceptedPiece fixed piece × IsStoring s group piece answer
-IsRight fixed s who (Serve start len answer) = answer ≡ serving s start len
+IsRightReply fixed s who (Read at len bytes) = bytes ≡ read_bytes s at len
+IsRightReply fixed s who (Length recorded) = recorded ≡ s.recorded
+IsRightReply fixed s who (Parents group piece answer) = IsAcceptedPiece fixed piece × IsStoring s group piece answer
+IsRightReply fixed s who (Serve start len answer) = answer ≡ serving s start len
 
 -- an event is legal in a state where its reply is the right one
 abbrev pub IsLegalIn : Fixed → State → Event → Type 0
-IsLegalIn fixed s e = IsRight fixed s e.who e.call
+IsLegalIn fixed s e = IsRightReply fixed s e.who e.call
 
 -- a settled length is recorded, and otherwise the record stays
 abbrev pub recorded_after : Settling → ℕ → Option ℕ → Option ℕ

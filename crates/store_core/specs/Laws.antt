@@ -3,7 +3,7 @@ use Rattle.std.specs.Prelude.{◌≡◌, ◌⊎◌, ℕ, ◌+◌, ◌*◌, ◌/�
 use Rattle.std.specs.List.{sum_by}
 use Rattle.b3tree.specs.Hashing.{hash}
 use Rattle.b3tree.specs.Valid.{AreBytes, IsKeyed}
-use Rattle.bao_check.specs.Inputs.{NamesPair}
+use Rattle.bao_check.specs.Inputs.{NamesCollision}
 use Rattle.bao_text.specs.Texts.{slice_text}
 use Rattle.bao_check.specs.Parents.{parent_of}
 use Rattle.bao_check.specs.Pieces.{chunk_of}
@@ -15,7 +15,7 @@ use Rattle.store_core.specs.declared.history.Piece.{Piece}
 use Rattle.store_core.specs.declared.history.Settling.TheVariants.{Settled}
 use Rattle.store_core.specs.declared.history.Serving.TheVariants.{NoLength, Text}
 use Rattle.store_core.specs.declared.history.Storing.TheVariants.{OtherLength, Stored}
-use Rattle.store_core.specs.Events.{IsRight}
+use Rattle.store_core.specs.Events.{IsRightReply}
 use Rattle.store_core.specs.Histories.{AreOfOthers, IsLegal, events_of, state_after}
 use Rattle.store_core.specs.Masks.{in_mask}
 use Rattle.store_core.specs.Names.{Name, has_name, share_name}
@@ -55,7 +55,7 @@ is_partial (Serve at len answer) = false
 -- The state after a history determines every reply but which parents are stored: two right replies to one question of
 -- one caller are one.
 abbrev pub StateDetermines : Type 0
-StateDetermines = (fixed : Fixed) (s : State) (who : List Name) (one other : Call) → IsRight fixed s who one → IsRight fixed s who other
+StateDetermines = (fixed : Fixed) (s : State) (who : List Name) (one other : Call) → IsRightReply fixed s who one → IsRightReply fixed s who other
     → is_partial one ≡ false → question one ≡ question other → one ≡ other
 
 -- What is held stays, and so does a recorded length.
@@ -173,8 +173,8 @@ pub record IsBlob (fixed : Fixed) (blob : List ℕ) : Type 0 where
   pub root : hash fixed.mode blob ≡ fixed.root.0
 
 -- a collision is exhibited, one input of the blob's and one of the piece's
-abbrev pub PairNamed : Fixed → List ℕ → Piece → Type 0
-PairNamed fixed blob piece = NamesPair fixed.mode blob piece.text (places_in piece)
+abbrev pub CollidesWith : Fixed → List ℕ → Piece → Type 0
+CollidesWith fixed blob piece = NamesCollision fixed.mode blob piece.text (places_in piece)
 
 -- For each blob with the root: a chunk that is held is the blob's chunk of that number, a byte that is held is the
 -- blob's byte there, and a recorded length is the blob's; or a collision is exhibited from that blob and from the committed
@@ -182,25 +182,25 @@ PairNamed fixed blob piece = NamesPair fixed.mode blob piece.text (places_in pie
 abbrev pub HeldBinds : Type 0
 HeldBinds = (fixed : Fixed) (history : List Event) (blob : List ℕ) (c : ℕ) (bytes : List ℕ) → IsKeyed fixed.mode → IsBlob fixed blob
     → IsLegal fixed history → (state_after history).held c ≡ Some bytes
-    → (chunk_of blob c ≡ Some bytes) ⊎ ((from : IsCommitted fixed history c bytes) × PairNamed fixed blob from.piece)
+    → (chunk_of blob c ≡ Some bytes) ⊎ ((from : IsCommitted fixed history c bytes) × CollidesWith fixed blob from.piece)
 
 -- A collision is exhibited from the blob and a piece that a history committed, settled a length by, or stored parents of.
-pub data PairFrom (fixed : Fixed) (history : List Event) (blob : List ℕ) : Type 0 where
-  of_chunk : (c : ℕ) (bytes : List ℕ) (from : IsCommitted fixed history c bytes) → PairNamed fixed blob from.piece → PairFrom fixed history blob
-  of_length : (l : ℕ) (from : IsSettled fixed history l) → PairNamed fixed blob from.piece → PairFrom fixed history blob
-  of_parent : (m : ℕ) (bytes : List ℕ) (from : IsStored fixed history m bytes) → PairNamed fixed blob from.piece → PairFrom fixed history blob
+pub data CollisionFrom (fixed : Fixed) (history : List Event) (blob : List ℕ) : Type 0 where
+  of_chunk : (c : ℕ) (bytes : List ℕ) (from : IsCommitted fixed history c bytes) → CollidesWith fixed blob from.piece → CollisionFrom fixed history blob
+  of_length : (l : ℕ) (from : IsSettled fixed history l) → CollidesWith fixed blob from.piece → CollisionFrom fixed history blob
+  of_parent : (m : ℕ) (bytes : List ℕ) (from : IsStored fixed history m bytes) → CollidesWith fixed blob from.piece → CollisionFrom fixed history blob
 
 -- For each blob with the root: a parent that is held is the blob's at that boundary, or a collision is exhibited.
 abbrev pub ParentHeldBinds : Type 0
 ParentHeldBinds = (fixed : Fixed) (history : List Event) (blob : List ℕ) (m : ℕ) (bytes : List ℕ) → IsKeyed fixed.mode → IsBlob fixed blob
     → IsLegal fixed history → (state_after history).parents m ≡ Some bytes
-    → (parent_of fixed.mode blob m ≡ Some bytes) ⊎ PairFrom fixed history blob
+    → (parent_of fixed.mode blob m ≡ Some bytes) ⊎ CollisionFrom fixed history blob
 
 -- For each blob with the root: an encoding that is served is the blob's slice, or a collision is exhibited.
 abbrev pub ServedBinds : Type 0
 ServedBinds = (fixed : Fixed) (history : List Event) (blob : List ℕ) (start len : ℕ) (text : List ℕ) → IsKeyed fixed.mode → IsBlob fixed blob
     → IsLegal fixed history → serving (state_after history) start len ≡ Text text
-    → (text ≡ slice_text fixed.mode blob start len) ⊎ PairFrom fixed history blob
+    → (text ≡ slice_text fixed.mode blob start len) ⊎ CollisionFrom fixed history blob
 
 -- x is the byte at position q of a chunk that a history committed
 pub record ByteFrom (fixed : Fixed) (history : List Event) (q x : ℕ) : Type 0 where
@@ -211,12 +211,12 @@ pub record ByteFrom (fixed : Fixed) (history : List Event) (q x : ℕ) : Type 0 
 abbrev pub ByteBinds : Type 0
 ByteBinds = (fixed : Fixed) (history : List Event) (blob : List ℕ) (q x : ℕ) → IsKeyed fixed.mode → IsBlob fixed blob
     → IsLegal fixed history → byte_at (state_after history) q ≡ Some x
-    → (slice_get blob q ≡ Some x) ⊎ ((from : ByteFrom fixed history q x) × PairNamed fixed blob from.chunk.piece)
+    → (slice_get blob q ≡ Some x) ⊎ ((from : ByteFrom fixed history q x) × CollidesWith fixed blob from.chunk.piece)
 
 abbrev pub RecordBinds : Type 0
 RecordBinds = (fixed : Fixed) (history : List Event) (blob : List ℕ) (l : ℕ) → IsKeyed fixed.mode → IsBlob fixed blob
     → IsLegal fixed history → (state_after history).recorded ≡ Some l
-    → (l ≡ length blob) ⊎ ((from : IsSettled fixed history l) × PairNamed fixed blob from.piece)
+    → (l ≡ length blob) ⊎ ((from : IsSettled fixed history l) × CollidesWith fixed blob from.piece)
 
 -- The bytes are those from position `at` on, as far as they are held: all `len` of them, or those before the least
 -- position of the range that isn't held.

@@ -13,9 +13,9 @@ pub mod Slots
 pub mod Reached
 pub mod Stores
 pub mod Laws
-pub mod Served
+pub mod MachineInvariant
 pub mod Replays
-pub mod Stages
+pub mod ScheduleRuns
 pub mod Orders
 pub mod Serves
 pub mod Knowledge

@@ -8,16 +8,16 @@ use Rattle.store_core.specs.Pieces.{chunk_bytes, holds_chunk}
 use Rattle.store_core.specs.States.{State, byte_and}
 
 -- a read under way: its first position, its length, and the bytes copied so far
-pub record Reading : Type 0 where
+pub record ReadUnderWay : Type 0 where
   pub at : ℕ
   pub len : ℕ
   pub bytes : List ℕ
 
 -- a seat: its current piece, which words of which chunks it wrote from it, and a read under way
-pub record Seat : Type 0 where
+pub record MachineSeat : Type 0 where
   pub piece : Option Piece
   pub written : ℕ → ℕ → Bool
-  pub reading : Option Reading
+  pub reading : Option ReadUnderWay
 
 -- The words: word w of chunk c's cell, the held word of a group, in which bit j stands for chunk 64 * group + j. The
 -- seat that claims a chunk, the recorded length, and the seats.
@@ -26,10 +26,10 @@ pub record Machine : Type 0 where
   pub held_word : ℕ → ℕ
   pub claim : ℕ → Option ℕ
   pub recorded : Option ℕ
-  pub seat : ℕ → Seat
+  pub seat : ℕ → MachineSeat
 
 -- nothing is written, and no seat has done anything
-abbrev pub no_seat : Seat
+abbrev pub no_seat : MachineSeat
 no_seat = record { piece = None; written = λ c w. false; reading = None }
 
 abbrev pub start : Machine
@@ -54,7 +54,7 @@ abbrev pub groups : Fixed → ℕ
 groups fixed = (fixed.capacity + 63) / 64
 
 -- the seat with this number, changed
-abbrev pub with_seat : Machine → ℕ → Seat → Machine
+abbrev pub with_seat : Machine → ℕ → MachineSeat → Machine
 with_seat m n seat = record m { seat = λ k. if k == n then seat else m.seat k }
 
 -- whether a chunk is claimed by the seat
@@ -80,10 +80,10 @@ current_bytes (Some piece) c = bytes_or_none (chunk_bytes piece c)
 
 -- Reads. The position where a read goes on, and the group whose held word the next load is of: that of the position, or
 -- group 0 where the position is at or above 1024 times the capacity or nothing is asked.
-abbrev pub position : Reading → ℕ
+abbrev pub position : ReadUnderWay → ℕ
 position r = r.at + length r.bytes
 
-abbrev pub loaded_group : Fixed → Reading → ℕ
+abbrev pub loaded_group : Fixed → ReadUnderWay → ℕ
 loaded_group fixed r = if nat_lt (position r) (1024 * fixed.capacity) && nat_lt 0 r.len then position r / 65536 else 0
 
 -- the byte of a position as the words have it
@@ -97,19 +97,19 @@ copied m group p zero = []
 copied m group p (suc n) = if p / 65536 == group then byte_and (shown_byte m p) (copied m group (p + 1) n) else []
 
 -- the read after a load
-abbrev pub loaded : Fixed → Machine → Reading → Reading
+abbrev pub loaded : Fixed → Machine → ReadUnderWay → ReadUnderWay
 loaded fixed m r = record r { bytes = r.bytes ++ copied m (loaded_group fixed r) (position r) (r.len - length r.bytes) }
 
 -- A read ends with all its bytes, at a position of the loaded group that isn't held, or at one at or above 1024 times
 -- the capacity.
-abbrev pub is_whole : Reading → Bool
+abbrev pub is_whole : ReadUnderWay → Bool
 is_whole r = length r.bytes == r.len
 
-abbrev pub is_over : Fixed → Machine → ℕ → Reading → Bool
+abbrev pub is_over : Fixed → Machine → ℕ → ReadUnderWay → Bool
 is_over fixed m group r =
     is_whole r || (((position r / 65536 == group) && is_none (shown_byte m (position r))) || nat_le (1024 * fixed.capacity) (position r))
 
 -- the read that a load goes on with: the seat's, or one that begins
-abbrev pub read_of : Option Reading → ℕ → ℕ → Reading
+abbrev pub read_of : Option ReadUnderWay → ℕ → ℕ → ReadUnderWay
 read_of None at len = record { at = at; len = len; bytes = [] }
 read_of (Some r) at len = r

@@ -10,11 +10,11 @@ use Rattle.store_core.specs.declared.micro.Reply.{Reply}
 use Rattle.store_core.specs.declared.schedule.ScheduleRun.{ScheduleRun}
 use Rattle.store_core.specs.declared.store.Store.{Store}
 use Rattle.store_core.specs.Histories.{IsLegal, state_after}
-use Rattle.store_core.specs.Laws.{IsBlob, IsCommitted, IsSettled, PairNamed}
+use Rattle.store_core.specs.Laws.{IsBlob, IsCommitted, IsSettled, CollidesWith}
 use Rattle.store_core.specs.Machine.{Machine, start, store_of}
 use Rattle.store_core.specs.Pieces.{piece_of}
 use Rattle.store_core.specs.Schedules.{IsLegalStep, Runs}
-use Rattle.store_core.specs.Stages.{HasRun}
+use Rattle.store_core.specs.ScheduleRuns.{HasRun}
 use Rattle.store_core.specs.Stores.{fixed_of, state_of}
 
 -- Each step was legal where it stood, and these are their replies. The store stands for what the words do at the end,
@@ -48,25 +48,25 @@ pub record IsListed (pieces : List Checked) (piece : Piece) : Type 0 where
   pub there : slice_get pieces index ≡ Some checked
   pub is : piece ≡ piece_of checked
 
--- A pair is named from a blob and the piece of which a run committed chunk c with these bytes, one of the list.
-pub record PairOfChunk (fixed : Fixed) (pieces : List Checked) (history : List Event) (blob : List ℕ) (c : ℕ) (bytes : List ℕ) : Type 0 where
+-- A collision is exhibited from a blob and the piece of which a run committed chunk c with these bytes, one of the list.
+pub record CollisionOfChunk (fixed : Fixed) (pieces : List Checked) (history : List Event) (blob : List ℕ) (c : ℕ) (bytes : List ℕ) : Type 0 where
   pub committed : IsCommitted fixed history c bytes
   pub listed : IsListed pieces committed.piece
-  pub pair : PairNamed fixed blob committed.piece
+  pub pair : CollidesWith fixed blob committed.piece
 
 -- or from the one by which it settled the length
-pub record PairOfLength (fixed : Fixed) (pieces : List Checked) (history : List Event) (blob : List ℕ) (l : ℕ) : Type 0 where
+pub record CollisionOfLength (fixed : Fixed) (pieces : List Checked) (history : List Event) (blob : List ℕ) (l : ℕ) : Type 0 where
   pub settled : IsSettled fixed history l
   pub listed : IsListed pieces settled.piece
-  pub pair : PairNamed fixed blob settled.piece
+  pub pair : CollidesWith fixed blob settled.piece
 
 -- For each blob with the store's root and each run of the steps: a chunk that the store holds is the blob's chunk of that
--- number, and a recorded length is the blob's; or a pair is named from the blob and a piece of the list, the one of which
+-- number, and a recorded length is the blob's; or a collision is exhibited from the blob and a piece of the list, the one of which
 -- this run committed the chunk, or by which it settled the length.
 abbrev pub ReplayBinds : Fixed → List Checked → List MicroStep → List Reply → Store → Type 0
 ReplayBinds fixed pieces steps replies store = (blob : List ℕ) → IsBlob fixed blob → (by : IsReplayed fixed pieces steps replies store)
-    → ((c : ℕ) (bytes : List ℕ) → (state_of store).held c ≡ Some bytes → (chunk_of blob c ≡ Some bytes) ⊎ PairOfChunk fixed pieces by.history blob c bytes)
-    × ((l : ℕ) → (state_of store).recorded ≡ Some l → (l ≡ length blob) ⊎ PairOfLength fixed pieces by.history blob l)
+    → ((c : ℕ) (bytes : List ℕ) → (state_of store).held c ≡ Some bytes → (chunk_of blob c ≡ Some bytes) ⊎ CollisionOfChunk fixed pieces by.history blob c bytes)
+    × ((l : ℕ) → (state_of store).recorded ≡ Some l → (l ≡ length blob) ⊎ CollisionOfLength fixed pieces by.history blob l)
 
 -- the store is that of a replay of the steps that the run took, which ends at the machine that the run stands for
 abbrev pub LeavesStore : ScheduleRun → Store → Type 0

@@ -16,7 +16,7 @@ use Rattle.store_core.specs.declared.micro.Reply.{Reply}
 use Rattle.store_core.specs.declared.micro.Reply.TheVariants.{Granted, Committed, Given, Bytes, NotHeld, Settling, LengthIs}
 use Rattle.store_core.specs.Cells.{cell_word}
 use Rattle.store_core.specs.Events.{recorded_after, settling}
-use Rattle.store_core.specs.Machine.{Machine, Reading, current_bytes, current_holds, groups, is_over, is_shown, is_whole, loaded, loaded_group, position, read_of, seat_has, with_seat}
+use Rattle.store_core.specs.Machine.{Machine, ReadUnderWay, current_bytes, current_holds, groups, is_over, is_shown, is_whole, loaded, loaded_group, position, read_of, seat_has, with_seat}
 use Rattle.store_core.specs.Masks.{IsMaskOf, has_bit, in_mask}
 use Rattle.store_core.specs.Pieces.{EndsBlob, length_of, piece_of}
 
@@ -49,10 +49,10 @@ IsLegalStep fixed pieces m (Settle n) = HasTail (m.seat n).piece
 IsLegalStep fixed pieces m (Length n) = Unit {0}
 
 -- the seat's read at a load, before it and after it
-abbrev pub read_before : Machine → ℕ → ℕ → ℕ → Reading
+abbrev pub read_before : Machine → ℕ → ℕ → ℕ → ReadUnderWay
 read_before m n at len = read_of (m.seat n).reading at len
 
-abbrev pub read_after : Fixed → Machine → ℕ → ℕ → ℕ → Reading
+abbrev pub read_after : Fixed → Machine → ℕ → ℕ → ℕ → ReadUnderWay
 read_after fixed m n at len = loaded fixed m (read_before m n at len)
 
 -- whether the load is the read's last
@@ -60,7 +60,7 @@ abbrev pub is_last_load : Fixed → Machine → ℕ → ℕ → ℕ → Bool
 is_last_load fixed m n at len = is_over fixed m (loaded_group fixed (read_before m n at len)) (read_after fixed m n at len)
 
 -- what a read answers at its end: all bytes, or the position that isn't held
-abbrev pub end_reply : Reading → Reply
+abbrev pub end_reply : ReadUnderWay → Reply
 end_reply r = if is_whole r then Bytes r.bytes else NotHeld (position r)
 
 -- what a length meets that the current piece settles

@@ -31,12 +31,12 @@ abbrev pub state_in : List Slot → Option ℕ → State
 state_in slots recorded = record { held = λ c. held_in (slot_at slots c); claim = λ c. claim_in (slot_at slots c); recorded = recorded; parents = λ m. None }
 
 -- the parent at a boundary
-abbrev pub parents_in : List (Option (List ℕ)) → ℕ → Option (List ℕ)
-parents_in parents m = slice_index_or parents m None
+abbrev pub parent_among : List (Option (List ℕ)) → ℕ → Option (List ℕ)
+parent_among parents m = slice_index_or parents m None
 
 -- the state with these parents
 abbrev pub with_parents : State → List (Option (List ℕ)) → State
-with_parents s parents = record s { parents = parents_in parents }
+with_parents s parents = record s { parents = parent_among parents }
 
 -- the byte at position q
 abbrev pub slot_byte : List Slot → ℕ → Option ℕ
@@ -65,11 +65,11 @@ claimed_slot None = Free
 claimed_slot (Some seat) = Claimed seat
 
 -- the slot is that of chunk c of the piece: with its bytes where the piece holds it, and free otherwise
-pub record IsCopy (piece : Checked) (c : ℕ) (slot : Slot) : Type 0 where
+pub record IsSlotCopy (piece : Checked) (c : ℕ) (slot : Slot) : Type 0 where
   pub bytes : held_in slot ≡ chunk_bytes (piece_of piece) c
   pub unclaimed : claim_in slot ≡ None
 
 -- there are n slots, and those of the mask's bits are of the group's chunks
 pub record AreCopies (piece : Checked) (group mask n : ℕ) (ready : List Slot) : Type 0 where
   pub count : length ready ≡ n
-  pub each : (j : ℕ) → j < n → has_bit mask j ≡ true → IsCopy piece (64 * group + j) (slot_at ready j)
+  pub each : (j : ℕ) → j < n → has_bit mask j ≡ true → IsSlotCopy piece (64 * group + j) (slot_at ready j)

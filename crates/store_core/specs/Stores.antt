@@ -20,8 +20,8 @@ use Rattle.store_core.specs.Pieces.{chunk_bytes, length_of, piece_of}
 use Rattle.bao_check.specs.declared.checked.Checked.{Checked}
 use Rattle.store_core.specs.declared.fault.Missing.{Missing}
 use Rattle.store_core.specs.declared.store.Store.{Store}
-use Rattle.store_core.specs.Events.{IsRight, after_call}
-use Rattle.store_core.specs.Laws.{IsBlob, IsCommitted, IsSettled, PairFrom, PairNamed}
+use Rattle.store_core.specs.Events.{IsRightReply, after_call}
+use Rattle.store_core.specs.Laws.{IsBlob, IsCommitted, IsSettled, CollisionFrom, CollidesWith}
 use Rattle.bao_text.specs.Texts.{slice_text}
 use Rattle.store_core.specs.Reached.{IsReached}
 use Rattle.bao_check.specs.Parents.{parent_of}
@@ -51,7 +51,7 @@ pub record IsSame (old new : Store) : Type 0 where
 -- the call, with its reply, is an event of the store: the reply is right, and this is the state after it
 pub record IsEvent (old new : Store) (who : List Name) (call : Call) : Type 0 where
   pub fixed : fixed_of new ≡ fixed_of old
-  pub right : IsRight (fixed_of old) (state_of old) who call
+  pub right : IsRightReply (fixed_of old) (state_of old) who call
   pub after : state_of new ≡ after_call who call (state_of old)
 
 -- a piece is of the store's root and mode
@@ -84,9 +84,9 @@ missing_in (Ok done) = None
 missing_in (Err missing) = Some missing.0
 
 -- all bytes were read, or the position is the one after those that were
-abbrev pub Answers : ℕ → ℕ → List ℕ → Option ℕ → Type 0
-Answers at len bytes None = length bytes ≡ len
-Answers at len bytes (Some p) = (length bytes < len) × (p ≡ at + length bytes)
+abbrev pub AnswersRead : ℕ → ℕ → List ℕ → Option ℕ → Type 0
+AnswersRead at len bytes None = length bytes ≡ len
+AnswersRead at len bytes (Some p) = (length bytes < len) × (p ≡ at + length bytes)
 
 -- A read is an event of the store, anybody's. Its bytes fill the buffer from its beginning, and the rest of it is
 -- unchanged.
@@ -94,18 +94,18 @@ pub record DidRead (store : Store) (at : ℕ) (old new : List ℕ) (missing : Op
   pub bytes : List ℕ
   pub event : (who : List Name) → IsEvent store store who (Read at (length old) bytes)
   pub filled : new ≡ bytes ++ drop (length bytes) old
-  pub answer : Answers at (length old) bytes missing
+  pub answer : AnswersRead at (length old) bytes missing
 
 -- A collision is exhibited from a blob and from the piece of which a history committed chunk c.
-pub record PairCommitted (fixed : Fixed) (history : List Event) (blob : List ℕ) (c : ℕ) : Type 0 where
+pub record CollisionCommitted (fixed : Fixed) (history : List Event) (blob : List ℕ) (c : ℕ) : Type 0 where
   pub bytes : List ℕ
   pub committed : IsCommitted fixed history c bytes
-  pub pair : PairNamed fixed blob committed.piece
+  pub pair : CollidesWith fixed blob committed.piece
 
 -- or from the one by which it settled the length
-pub record PairSettled (fixed : Fixed) (history : List Event) (blob : List ℕ) (l : ℕ) : Type 0 where
+pub record CollisionSettled (fixed : Fixed) (history : List Event) (blob : List ℕ) (l : ℕ) : Type 0 where
   pub settled : IsSettled fixed history l
-  pub pair : PairNamed fixed blob settled.piece
+  pub pair : CollidesWith fixed blob settled.piece
 
 -- how many bytes a read filled in
 abbrev pub filled_count : ℕ → ℕ → Option ℕ → ℕ
@@ -116,33 +116,33 @@ filled_count at len (Some p) = p - at
 -- byte there, or a collision is exhibited from the blob and the piece of which this history committed the byte's chunk.
 abbrev pub ReadBinds : Store → ℕ → List ℕ → ℕ → Type 0
 ReadBinds store at bytes count = (blob : List ℕ) → IsBlob (fixed_of store) blob → (by : IsReached (fixed_of store) (state_of store)) → (i : ℕ) → i < count
-    → (slice_get blob (at + i) ≡ Some (slice_index bytes i)) ⊎ PairCommitted (fixed_of store) by.history blob ((at + i) / 1024)
+    → (slice_get blob (at + i) ≡ Some (slice_index bytes i)) ⊎ CollisionCommitted (fixed_of store) by.history blob ((at + i) / 1024)
 
 -- and a recorded length is the length of each, or a collision is exhibited from the blob and the piece by which it settled it
 abbrev pub LengthBinds : Store → ℕ → Type 0
 LengthBinds store l = (blob : List ℕ) → IsBlob (fixed_of store) blob → (by : IsReached (fixed_of store) (state_of store))
-    → (l ≡ length blob) ⊎ PairSettled (fixed_of store) by.history blob l
+    → (l ≡ length blob) ⊎ CollisionSettled (fixed_of store) by.history blob l
 
 -- For each blob with the store's root, each chunk of the group's mask that the piece has is the blob's chunk of that
 -- number, or a collision is exhibited from the blob and the piece.
 abbrev pub ChunksBind : Fixed → Piece → ℕ → ℕ → Type 0
 ChunksBind fixed piece group mask = (blob : List ℕ) → IsBlob fixed blob → (c : ℕ) (bytes : List ℕ) → in_mask group mask c ≡ true
-    → chunk_bytes piece c ≡ Some bytes → (chunk_of blob c ≡ Some bytes) ⊎ PairNamed fixed blob piece
+    → chunk_bytes piece c ≡ Some bytes → (chunk_of blob c ≡ Some bytes) ⊎ CollidesWith fixed blob piece
 
 -- For each blob with the store's root, the length that the piece claims is the blob's, or a collision is exhibited from the blob and
 -- the piece.
 abbrev pub ClaimBinds : Fixed → Piece → Type 0
-ClaimBinds fixed piece = (blob : List ℕ) → IsBlob fixed blob → (length_of piece ≡ length blob) ⊎ PairNamed fixed blob piece
+ClaimBinds fixed piece = (blob : List ℕ) → IsBlob fixed blob → (length_of piece ≡ length blob) ⊎ CollidesWith fixed blob piece
 
 -- The slice's answer is an event of the store, anybody's, which leaves it.
 abbrev pub DidServe : Store → ℕ → ℕ → Serving → Type 0
 DidServe store start len answer = (who : List Name) → IsEvent store store who (Serve start len answer)
 
 -- what a refused slice says: running out of memory alone is no event
-abbrev pub IsRefused : Store → ℕ → ℕ → ServeFault → Type 0
-IsRefused store start len refused.NoLength = DidServe store start len NoLength
-IsRefused store start len (refused.Lacking node) = DidServe store start len (Lacking node)
-IsRefused store start len refused.Memory = Unit {0}
+abbrev pub IsUnserved : Store → ℕ → ℕ → ServeFault → Type 0
+IsUnserved store start len refused.NoLength = DidServe store start len NoLength
+IsUnserved store start len (refused.Lacking node) = DidServe store start len (Lacking node)
+IsUnserved store start len refused.Memory = Unit {0}
 
 -- the bytes gained are those of a node, where they are held
 abbrev pub GainsNode : Option (List ℕ) → List ℕ → List ℕ → Bool → Type 0
@@ -153,10 +153,10 @@ GainsNode (Some bytes) old new there = (there ≡ true) × (new ≡ old ++ bytes
 -- or a collision is exhibited from the blob and a piece of this history.
 abbrev pub SliceBinds : Store → ℕ → ℕ → List ℕ → Type 0
 SliceBinds store start len text = (blob : List ℕ) → IsBlob (fixed_of store) blob → (by : IsReached (fixed_of store) (state_of store))
-    → (text ≡ slice_text (fixed_of store).mode blob start len) ⊎ PairFrom (fixed_of store) by.history blob
+    → (text ≡ slice_text (fixed_of store).mode blob start len) ⊎ CollisionFrom (fixed_of store) by.history blob
 
 -- Each parent that is held is the blob's at that boundary, or such a collision is exhibited.
 abbrev pub ParentsBind : Store → Type 0
 ParentsBind store = (blob : List ℕ) → IsBlob (fixed_of store) blob → (by : IsReached (fixed_of store) (state_of store))
     → (m : ℕ) (bytes : List ℕ) → (state_of store).parents m ≡ Some bytes
-    → (parent_of (fixed_of store).mode blob m ≡ Some bytes) ⊎ PairFrom (fixed_of store) by.history blob
+    → (parent_of (fixed_of store).mode blob m ≡ Some bytes) ⊎ CollisionFrom (fixed_of store) by.history blob

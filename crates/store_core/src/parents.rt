@@ -2,7 +2,7 @@ ghost use Rattle.std.specs.Prelude.{◌≡◌, ℕ, ◌<◌, ◌≤◌, length, 
 ghost use Rattle.std.specs.Option.{option_copied};
 ghost use Rattle.store_core.specs.Masks.{IsMaskOf, in_mask};
 ghost use Rattle.store_core.specs.Pieces.{holds_parent, parent_bytes, piece_of};
-ghost use Rattle.store_core.specs.Slots.{parents_in};
+ghost use Rattle.store_core.specs.Slots.{parent_among};
 
 use crate::masks::{GROUP_LEN, has_bit, with_bit};
 use bao_check::Checked;
@@ -10,7 +10,7 @@ use std::alloc::AllocError;
 
 // The bytes of the parent at a boundary, if it is held.
 pub(crate) fn held_parent(parents: &[Option<[u8; 64]>], m: usize) -> Option<&[u8]>
-    ensures { option_copied result ≡ parents_in parents.now m }
+    ensures { option_copied result ≡ parent_among parents.now m }
 {
     match parents.get(m) {
         Some(Some(bytes)) => Some(bytes.as_slice()),
@@ -20,7 +20,7 @@ pub(crate) fn held_parent(parents: &[Option<[u8; 64]>], m: usize) -> Option<&[u8
 
 // Whether the parent at a boundary is held.
 fn is_held(parents: &[Option<[u8; 64]>], m: usize) -> bool
-    ensures { result ≡ is_some (parents_in parents.now m) }
+    ensures { result ≡ is_some (parent_among parents.now m) }
 {
     matches!(parents.get(m), Some(Some(_)))
 }
@@ -34,7 +34,7 @@ fn held_in(piece: &Checked<'_>, group: u32) -> u64
 
 // The mask of the group's boundaries of which the piece holds the parent and none is held yet.
 pub(crate) fn wanted(parents: &[Option<[u8; 64]>], group: u32, piece: &Checked<'_>) -> u64
-    ensures { IsMaskOf group result (λ m. holds_parent (piece_of piece.now) m && not (is_some (parents_in parents.now m))) }
+    ensures { IsMaskOf group result (λ m. holds_parent (piece_of piece.now) m && not (is_some (parent_among parents.now m))) }
 {
     let first = GROUP_LEN as u64 * u64::from(group);
     let has = held_in(piece, group);
@@ -50,7 +50,7 @@ pub(crate) fn wanted(parents: &[Option<[u8; 64]>], group: u32, piece: &Checked<'
 
 // There is room for the parents at the first `len` boundaries, if there is memory. Those that are held stay.
 pub(crate) fn make_room(parents: &mut Vec<Option<[u8; 64]>>, len: usize) -> Result<(), AllocError>
-    ensures same { (m : ℕ) → parents_in parents.new.items m ≡ parents_in parents.old.items m }
+    ensures same { (m : ℕ) → parent_among parents.new.items m ≡ parent_among parents.old.items m }
     ensures enough { OnOk result (len ≤ length parents.new.items) }
 {
     while parents.len() < len {
@@ -81,7 +81,7 @@ pub(crate) fn put_parents(
     piece: &Checked<'_>,
 )
     requires within { (m : ℕ) → in_mask group mask m ≡ true → m < length parents.old }
-    ensures { (m : ℕ) → parents_in parents.new m ≡ (if in_mask group mask m then parent_bytes (piece_of piece.now) m else parents_in parents.old m) }
+    ensures { (m : ℕ) → parent_among parents.new m ≡ (if in_mask group mask m then parent_bytes (piece_of piece.now) m else parent_among parents.old m) }
 {
     let first = GROUP_LEN as u64 * u64::from(group);
     for j in 0..64u32 {

@@ -19,7 +19,7 @@ impl Reading {
     ghost use Rattle.std.specs.Prelude.{◌*◌, ◌/◌, ◌↔◌, nat_le, ◌==◌, ◌||◌, option_map, Some, None, if◌then◌else◌, IfOk, IsTrue};
     ghost use Rattle.store_core.specs.Machine.{is_whole, position, read_of};
     ghost use Rattle.store_core.specs.Schedules.{end_reply};
-    ghost use Rattle.store_core.specs.Stages.{carried_on, reading_of};
+    ghost use Rattle.store_core.specs.ScheduleRuns.{carried_on, reading_of};
     ghost use Rattle.store_core.specs.States.{read_bytes};
     ghost use Rattle.store_core.specs.Stores.{fixed_of, state_of};
 

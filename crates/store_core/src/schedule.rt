@@ -4,7 +4,7 @@ ghost use Rattle.store_core.specs.declared.fault.ReplayFault.TheVariants.{Capaci
 ghost use Rattle.store_core.specs.Machine.{current_holds};
 ghost use Rattle.store_core.specs.Pieces.{piece_of};
 ghost use Rattle.store_core.specs.Replays.{IsIllegalAt, IsReplayed, ReplayBinds};
-ghost use Rattle.store_core.specs.Stages.{IsFilled, IsTaken, player_in};
+ghost use Rattle.store_core.specs.ScheduleRuns.{IsAllMarked, IsTakenPlayer, player_in};
 
 use crate::fault::{BadCapacity, ReplayFault, StepFault};
 use crate::masks::{CELL_WORDS, GROUP_LEN};
@@ -41,7 +41,7 @@ pub struct ScheduleRun<'a> {
 
 // Takes the seat's player out of the list; a seat that did nothing yet has a new one.
 fn take_player<'a>(players: &mut Vec<Player<'a>>, number: u32) -> Player<'a>
-    ensures is { IsTaken (player_in players.old.items number) result }
+    ensures is { IsTakenPlayer (player_in players.old.items number) result }
     ensures others { (k : ℕ) → k ≢ number → player_in players.new.items k ≡ player_in players.old.items k }
     ensures number { result.number ≡ number }
 {
@@ -90,7 +90,7 @@ impl<'a> ScheduleRun<'a> {
     ghost use Rattle.store_core.specs.declared.fault.StepFault.{StepFault};
     ghost use Rattle.store_core.specs.declared.fixed.Fixed.{Fixed};
     ghost use Rattle.store_core.specs.Replays.{LeavesStore};
-    ghost use Rattle.store_core.specs.Stages.{DoesRefuse, DoesStep, IsFresh};
+    ghost use Rattle.store_core.specs.ScheduleRuns.{DoesRefuse, DoesStep, IsFresh, IsLegalFor};
 
     /// A run of no step yet, over an empty store. It takes no memory.
     ///
@@ -115,12 +115,13 @@ impl<'a> ScheduleRun<'a> {
     /// The store that the steps leave.
     ///
     /// For each blob with its root, each chunk that it holds is the blob's chunk of that number, and a recorded length is
-    /// the blob's; or two different inputs with one chaining value are named, one of the blob's and one of the piece's
+    /// the blob's; or a collision is exhibited, two different inputs with one chaining value, one of the blob's and one of the piece's
     /// from which the run committed the chunk, or by which it settled the length.
     pub fn into_store(self) -> Store
         ensures left { LeavesStore self.entry result }
         ensures binds { (fixed : Fixed) (pieces : List Checked) (steps : List MicroStep) (replies : List Reply) → ReplayBinds fixed pieces steps replies result }
     {
+        // A law, so that the proof has what it says: nothing runs.
         self.store.fixed().mode.is_keyed();
         self.store
     }
@@ -128,6 +129,7 @@ impl<'a> ScheduleRun<'a> {
     fn claim(&mut self, seat: u32, group: u32, want: u64) -> Result<Option<Reply>, StepFault>
         ensures ok { (pieces : List Checked) → IfOk result (λ reply. DoesStep pieces self.old self.new (MicroStep.Claim seat group want) reply) }
         ensures illegal { (pieces : List Checked) → IsErrOf result StepFault.Illegal → DoesRefuse pieces self.old (MicroStep.Claim seat group want) }
+        ensures memory { (pieces : List Checked) → IsErrOf result StepFault.Memory → IsLegalFor pieces self.old (MicroStep.Claim seat group want) }
     {
         if group >= self.store.groups() {
             return Err(StepFault::Illegal);
@@ -146,11 +148,13 @@ impl<'a> ScheduleRun<'a> {
     ) -> Result<Option<Reply>, StepFault>
         ensures ok { IfOk result (λ reply. DoesStep pieces.now self.old self.new (MicroStep.Hash seat index) reply) }
         ensures illegal { IsErrOf result StepFault.Illegal → DoesRefuse pieces.now self.old (MicroStep.Hash seat index) }
+        ensures memory { IsErrOf result StepFault.Memory → IsLegalFor pieces.now self.old (MicroStep.Hash seat index) }
     {
         if index >= pieces.len() {
             return Err(StepFault::Illegal);
         }
         let piece = pieces[index];
+        // A law, so that the proof has what it says: nothing runs.
         piece.is_accepted();
         if !self.store.is_of(&piece) {
             return Err(StepFault::Illegal);
@@ -165,6 +169,7 @@ impl<'a> ScheduleRun<'a> {
     fn write(&mut self, seat: u32, chunk: u32, word: u8) -> Result<Option<Reply>, StepFault>
         ensures ok { (pieces : List Checked) → IfOk result (λ reply. DoesStep pieces self.old self.new (MicroStep.Write seat chunk word) reply) }
         ensures illegal { (pieces : List Checked) → IsErrOf result StepFault.Illegal → DoesRefuse pieces self.old (MicroStep.Write seat chunk word) }
+        ensures memory { (pieces : List Checked) → IsErrOf result StepFault.Memory → IsLegalFor pieces self.old (MicroStep.Write seat chunk word) }
     {
         let player = take_player(&mut self.players, seat);
         let holds = does_hold(&player, chunk);
@@ -179,6 +184,7 @@ impl<'a> ScheduleRun<'a> {
     fn publish(&mut self, seat: u32, group: u32) -> Result<Option<Reply>, StepFault>
         ensures ok { (pieces : List Checked) → IfOk result (λ reply. DoesStep pieces self.old self.new (MicroStep.Publish seat group) reply) }
         ensures illegal { (pieces : List Checked) → IsErrOf result StepFault.Illegal → DoesRefuse pieces self.old (MicroStep.Publish seat group) }
+        ensures memory { (pieces : List Checked) → IsErrOf result StepFault.Memory → IsLegalFor pieces self.old (MicroStep.Publish seat group) }
     {
         let player = take_player(&mut self.players, seat);
         let piece = match player.piece {
@@ -199,7 +205,7 @@ impl<'a> ScheduleRun<'a> {
     // Whether all words were written of each chunk of the group that the seat claims and the piece holds.
     fn is_filled(&self, seat: u32, group: u32, piece: &Checked<'_>) -> bool
         requires { group < 1024 }
-        ensures { IsTrue result ↔ IsFilled self.now.store self.now.written.items seat group piece.now }
+        ensures { IsTrue result ↔ IsAllMarked self.now.store self.now.written.items seat group piece.now }
     {
         for j in 0..64u32 {
             let chunk = GROUP_LEN * group + j;
@@ -216,6 +222,7 @@ impl<'a> ScheduleRun<'a> {
     fn give_back(&mut self, seat: u32, group: u32, mask: u64) -> Result<Option<Reply>, StepFault>
         ensures ok { (pieces : List Checked) → IfOk result (λ reply. DoesStep pieces self.old self.new (MicroStep.GiveBack seat group mask) reply) }
         ensures illegal { (pieces : List Checked) → IsErrOf result StepFault.Illegal → DoesRefuse pieces self.old (MicroStep.GiveBack seat group mask) }
+        ensures memory { (pieces : List Checked) → IsErrOf result StepFault.Memory → IsLegalFor pieces self.old (MicroStep.GiveBack seat group mask) }
     {
         if group >= self.store.groups() {
             return Err(StepFault::Illegal);
@@ -228,6 +235,7 @@ impl<'a> ScheduleRun<'a> {
     fn load(&mut self, seat: u32, at: u64, len: u32) -> Result<Option<Reply>, StepFault>
         ensures ok { (pieces : List Checked) → IfOk result (λ reply. DoesStep pieces self.old self.new (MicroStep.Load seat at len) reply) }
         ensures illegal { (pieces : List Checked) → IsErrOf result StepFault.Illegal → DoesRefuse pieces self.old (MicroStep.Load seat at len) }
+        ensures memory { (pieces : List Checked) → IsErrOf result StepFault.Memory → IsLegalFor pieces self.old (MicroStep.Load seat at len) }
     {
         let Player {
             number,
@@ -254,6 +262,7 @@ impl<'a> ScheduleRun<'a> {
     fn settle(&mut self, seat: u32) -> Result<Option<Reply>, StepFault>
         ensures ok { (pieces : List Checked) → IfOk result (λ reply. DoesStep pieces self.old self.new (MicroStep.Settle seat) reply) }
         ensures illegal { (pieces : List Checked) → IsErrOf result StepFault.Illegal → DoesRefuse pieces self.old (MicroStep.Settle seat) }
+        ensures memory { (pieces : List Checked) → IsErrOf result StepFault.Memory → IsLegalFor pieces self.old (MicroStep.Settle seat) }
     {
         let player = take_player(&mut self.players, seat);
         let piece = match player.piece {
@@ -277,8 +286,8 @@ impl<'a> ScheduleRun<'a> {
 
     /// Runs a step, and answers what it answers, if it does.
     ///
-    /// 702 `Illegal` where it isn't legal, and 701 `Memory`. After either nothing is known of what the run stands for: it
-    /// is to be let go.
+    /// 702 `Illegal` exactly where it isn't legal, and 701 `Memory` of a legal one alone. After either nothing is known of
+    /// what the run stands for: it is to be let go.
     pub fn step(
         &mut self,
         pieces: &[Checked<'a>],
@@ -286,6 +295,7 @@ impl<'a> ScheduleRun<'a> {
     ) -> Result<Option<Reply>, StepFault>
         ensures ok { IfOk result (λ reply. DoesStep pieces.now self.old self.new step.now reply) }
         ensures illegal { IsErrOf result StepFault.Illegal → DoesRefuse pieces.now self.old step.now }
+        ensures memory { IsErrOf result StepFault.Memory → IsLegalFor pieces.now self.old step.now }
     {
         match *step {
             MicroStep::Claim { seat, group, want } => self.claim(seat, group, want),
@@ -307,7 +317,7 @@ impl<'a> ScheduleRun<'a> {
 /// least index, from 0, of a step that isn't legal, and 701 `Memory`. No store is handed out then.
 ///
 /// For each blob with the hash `root`, each chunk that the store holds is the blob's chunk of that number, and a recorded
-/// length is the blob's; or two different inputs with one chaining value are named, one of the blob's and one of a piece of
+/// length is the blob's; or a collision is exhibited, two different inputs with one chaining value, one of the blob's and one of a piece of
 /// `pieces`: the one from which the schedule committed the chunk, or by which it settled the length.
 pub fn replay(
     alloc: Global,

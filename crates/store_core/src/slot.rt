@@ -2,7 +2,7 @@ ghost use Rattle.std.specs.Prelude.{◌≡◌, ℕ, ◌<◌, ◌≤◌, ◌%◌,
 ghost use Rattle.store_core.specs.Masks.{IsMaskOf, has_bit, in_mask};
 ghost use Rattle.store_core.specs.Pieces.{holds_chunk, piece_of};
 ghost use Rattle.std.specs.Option.{option_copied};
-ghost use Rattle.store_core.specs.Slots.{AreCopies, IsCopy, claimed_slot, held_in, is_of, picks, slot_at};
+ghost use Rattle.store_core.specs.Slots.{AreCopies, IsSlotCopy, claimed_slot, held_in, is_of, picks, slot_at};
 
 use crate::masks::{GROUP_LEN, has_bit, with_bit};
 use bao_check::Checked;
@@ -142,7 +142,7 @@ pub(crate) fn grow(slots: &mut Vec<Slot>, len: usize) -> Result<(), AllocError>
 
 // What chunk `chunk` of the piece is in a store, if the piece holds it.
 fn copy(alloc: Global, piece: &Checked<'_>, chunk: u64) -> Result<Slot, AllocError>
-    ensures { IfOk result (λ slot. IsCopy piece.now chunk slot) }
+    ensures { IfOk result (λ slot. IsSlotCopy piece.now chunk slot) }
 {
     match piece.chunk(chunk) {
         Some(bytes) => Ok(Slot::Held(bytes.to_vec(alloc)?)),

@@ -48,7 +48,7 @@ impl Store {
     ghost use Rattle.store_core.specs.declared.history.Serving.TheVariants.{Text};
     ghost use Rattle.store_core.specs.Serves.{node_held};
     ghost use Rattle.store_core.specs.States.{claims, empty, held_count};
-    ghost use Rattle.store_core.specs.Stores.{ChunksBind, ClaimBinds, DidRead, DidServe, DidStore, GainsNode, IsEvent, IsNew, IsOf, IsRefused, IsSame, IsUnstored, LengthBinds, ParentsBind, ReadBinds, Settles, SliceBinds, filled_count, fixed_of, missing_in, state_of};
+    ghost use Rattle.store_core.specs.Stores.{ChunksBind, ClaimBinds, DidRead, DidServe, DidStore, GainsNode, IsEvent, IsNew, IsOf, IsSame, IsUnserved, IsUnstored, LengthBinds, ParentsBind, ReadBinds, Settles, SliceBinds, filled_count, fixed_of, missing_in, state_of};
 
     /// A store that holds, claims and records nothing. It takes no memory.
     ///
@@ -344,7 +344,7 @@ impl Store {
     /// committed, settled or stored parents of.
     pub fn serve_slice(&self, start: u64, len: u64) -> Result<Vec<u8>, ServeFault>
         ensures served { IfOk result (λ text. DidServe self.now start len (Text text.items)) }
-        ensures refused { IfErr result (λ fault. IsRefused self.now start len fault) }
+        ensures refused { IfErr result (λ fault. IsUnserved self.now start len fault) }
         ensures no_length { IsErrOf result NoLength ↔ ((state_of self.now).recorded ≡ None) }
         ensures binds { IfOk result (λ text. SliceBinds self.now start len text.items) }
     {

@@ -1,7 +1,7 @@
 ghost use Rattle.std.specs.Prelude.{◌≡◌, ℕ, ◌<◌, ◌≤◌, nat_lt, ◌==◌, ◌&&◌, ◌||◌, if◌then◌else◌, ◌↔◌, true, false, length, slice_index_or, IsTrue, OnOk};
 ghost use Rattle.store_core.specs.Masks.{in_mask};
 ghost use Rattle.store_core.specs.Slots.{caller};
-ghost use Rattle.store_core.specs.Stages.{IsCleared, is_marked};
+ghost use Rattle.store_core.specs.ScheduleRuns.{IsCleared, is_marked};
 ghost use Rattle.store_core.specs.States.{claims};
 ghost use Rattle.store_core.specs.Stores.{fixed_of, state_of};
 

@@ -9,7 +9,7 @@ use Rattle.store_core.specs.declared.history.Event.{Event}
 use Rattle.store_core.specs.declared.history.Settling.{Settling}
 use Rattle.store_core.specs.declared.history.Settling.TheVariants.{Settled, Known, Differs, OtherRoot, TooLarge}
 use Rattle.store_core.specs.declared.view.SeatView.{SeatView}
-use Rattle.store_core.specs.Events.{IsRight, settling}
+use Rattle.store_core.specs.Events.{IsRightReply, settling}
 use Rattle.store_core.specs.Histories.{IsLegal, state_after}
 use Rattle.store_core.specs.Pieces.{length_of, piece_of}
 use Rattle.store_core.specs.States.{empty}
@@ -23,7 +23,7 @@ pub called : (call : Call) (old new : SeatView) → Did call old new → Called 
 called call old new did = record { between = did.between; goes_on = did.goes_on; claims_are = did.claims_are; storing_is = did.storing_is }
 
 -- a call's reply is the right one at its place
-pub right_there : (call : Call) (old new : SeatView) (d : Called call old new) → IsRight new.fixed (state_after (old.seen ++ d.between)) (names_of old) call
+pub right_there : (call : Call) (old new : SeatView) (d : Called call old new) → IsRightReply new.fixed (state_after (old.seen ++ d.between)) (names_of old) call
 right_there call old new d =
     (legal-append new.fixed empty (old.seen ++ d.between) (event_of old call ∷ [])
     (subst (λ (h : List Event). IsLegal new.fixed h) d.goes_on.seen_is d.goes_on.legal)).1.0

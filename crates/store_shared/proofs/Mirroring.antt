@@ -14,7 +14,7 @@ use Rattle.bao_text.specs.declared.walk.Node.{Node}
 use Rattle.bao_text.specs.declared.walk.Node.TheVariants.{Chunk, Parent}
 use Rattle.bao_text.specs.NodeNames.{slice_names}
 use Rattle.bao_text.specs.Texts.{length_text}
-use Rattle.store_core.specs.Events.{IsRight, IsStoring, after, after_call, is_free}
+use Rattle.store_core.specs.Events.{IsRightReply, IsStoring, after, after_call, is_free}
 use Rattle.store_core.specs.Laws.{IsSound, is_partial}
 use Rattle.store_core.specs.Serves.{after_bytes, node_and, served, serving, serving_of}
 use Rattle.store_core.specs.Histories.{AreLegalFrom}
@@ -26,9 +26,9 @@ use Rattle.store_core.specs.States.{State, byte_and, byte_at, claims, empty, is_
 use Rattle.store_core.specs.Stores.{fixed_of, state_of}
 use Rattle.store_core.proofs.Determined.{state_determines}
 use Rattle.store_core.proofs.Lasting.{sound_call, sound_empty}
-use Rattle.store_core.proofs.Stored.{mask_same, same_state}
+use Rattle.store_core.proofs.SlotStates.{mask_same, same_state}
 use Rattle.store_core.proofs.Bits.{has_bit-ones}
-use Rattle.store_shared.specs.Partner.{AnswersInTurn, AskTheSame, Asked, IsSeat, Numbering, RepliesAreTheStores, calls, calls_in, moved, moves}
+use Rattle.store_shared.specs.Partner.{AnswersInTurn, AskTheSame, AskedOfStore, IsSeat, Numbering, RepliesAreTheStores, calls, calls_in, moved, moves}
 
 -- the one-thread store's name for the seat of a name
 abbrev alone : (Name → ℕ) → Name → Name
@@ -80,7 +80,7 @@ storing_mirrored number s group piece (Stored mask) h = h
 
 -- a right reply is right in the mirrored state too
 right_mirrored : (fixed : Fixed) (number : Numbering) (s : State) (who : List Name) (seat : ℕ) → IsSeat number s who seat → (call : Call)
-    → IsRight fixed s who call → IsRight fixed (mirrored number s) (caller seat) call
+    → IsRightReply fixed s who call → IsRightReply fixed (mirrored number s) (caller seat) call
 right_mirrored fixed number s who seat is (Take g w r) right =
     mask_same g r (λ c. has_bit w (c % 64) && is_free fixed s c) (λ c. has_bit w (c % 64) && is_free fixed (mirrored number s) c)
     (λ c here. ap (λ (b : Bool). has_bit w (c % 64) && b) (sym (free_same number fixed s c))) right
@@ -140,8 +140,8 @@ all_bits c = has_bit-ones 64 (c % 64) ∙ lt-ltb (c % 64) 64 (omega arith)
 
 -- Claims of a group that the one seat gave and the other took.
 module _ (fixed : Fixed) (number : Numbering) (s : State) (group from to given taken : ℕ) (sound : IsSound fixed s)
-    (gave : IsRight fixed (mirrored number s) (caller from) (Give group (2 ^ 64 - 1) given))
-    (took : IsRight fixed (after_call (caller from) (Give group (2 ^ 64 - 1) given) (mirrored number s)) (caller to) (Take group given taken)) where
+    (gave : IsRightReply fixed (mirrored number s) (caller from) (Give group (2 ^ 64 - 1) given))
+    (took : IsRightReply fixed (after_call (caller from) (Give group (2 ^ 64 - 1) given) (mirrored number s)) (caller to) (Take group given taken)) where
   abbrev middle : State
   middle = after_call (caller from) (Give group (2 ^ 64 - 1) given) (mirrored number s)
 
@@ -199,21 +199,21 @@ module _ (fixed : Fixed) (number : Numbering) (s : State) (group from to given t
   move_mirrored = same_state (after_call (caller to) (Take group given taken) middle) (mirrored (moved number group from to) s) refl (λ c. refl) moved_claim refl
 
 -- a store that mirrors the state gives the replies of what follows
-same_replies : (fixed : Fixed) (number : Numbering) (s : State) (history : List Event) (store : Store) (asked : List Asked) → IsSound fixed s → AreLegalFrom fixed s history
+same_replies : (fixed : Fixed) (number : Numbering) (s : State) (history : List Event) (store : Store) (asked : List AskedOfStore) → IsSound fixed s → AreLegalFrom fixed s history
     → fixed_of store ≡ fixed → state_of store ≡ mirrored number s → AskTheSame number s history asked → AnswersInTurn store asked
     → calls_in asked ≡ map (λ e. e.call) history
 same_replies fixed number s history store [] sound legal fixed_is state_is asks answers = ap (λ (h : List Event). map (λ e. e.call) h) (sym asks)
 same_replies fixed number s history store (moves group from to ∷ rest) sound legal fixed_is state_is asks answers =
     let given : ℕ = answers.0 in
     let taken : ℕ = answers.1 in
-    let gave : IsRight fixed (mirrored number s) (caller from) (Give group (2 ^ 64 - 1) given) =
-    subst (λ (t : State). IsRight fixed t (caller from) (Give group (2 ^ 64 - 1) given)) state_is answers.4.right in
+    let gave : IsRightReply fixed (mirrored number s) (caller from) (Give group (2 ^ 64 - 1) given) =
+    subst (λ (t : State). IsRightReply fixed t (caller from) (Give group (2 ^ 64 - 1) given)) state_is answers.4.right in
     let middle_is : state_of answers.2 ≡ after_call (caller from) (Give group (2 ^ 64 - 1) given) (mirrored number s) =
     answers.4.after ∙ ap (λ (t : State). after_call (caller from) (Give group (2 ^ 64 - 1) given) t) state_is in
     let middle_fixed : fixed_of answers.2 ≡ fixed = answers.4.fixed ∙ fixed_is in
-    let took : IsRight fixed (after_call (caller from) (Give group (2 ^ 64 - 1) given) (mirrored number s)) (caller to) (Take group given taken) =
-    subst (λ (f : Fixed). IsRight f (after_call (caller from) (Give group (2 ^ 64 - 1) given) (mirrored number s)) (caller to) (Take group given taken)) middle_fixed
-    (subst (λ (t : State). IsRight (fixed_of answers.2) t (caller to) (Take group given taken)) middle_is answers.5.right) in
+    let took : IsRightReply fixed (after_call (caller from) (Give group (2 ^ 64 - 1) given) (mirrored number s)) (caller to) (Take group given taken) =
+    subst (λ (f : Fixed). IsRightReply f (after_call (caller from) (Give group (2 ^ 64 - 1) given) (mirrored number s)) (caller to) (Take group given taken)) middle_fixed
+    (subst (λ (t : State). IsRightReply (fixed_of answers.2) t (caller to) (Take group given taken)) middle_is answers.5.right) in
     let next_is : state_of answers.3 ≡ mirrored (moved number group from to) s =
     answers.5.after ∙ ap (λ (t : State). after_call (caller to) (Take group given taken) t) middle_is
     ∙ move_mirrored fixed number s group from to given taken sound gave took in
@@ -221,9 +221,9 @@ same_replies fixed number s history store (moves group from to ∷ rest) sound l
 same_replies fixed number s history store (calls seat call ∷ rest) sound legal fixed_is state_is asks answers =
     let e : Event = asks.0 in
     let there : AreLegalFrom fixed s (e ∷ asks.1) = subst (λ (h : List Event). AreLegalFrom fixed s h) asks.2 legal in
-    let right : IsRight fixed (mirrored number s) (caller seat) call =
-    subst (λ (f : Fixed). IsRight f (mirrored number s) (caller seat) call) fixed_is
-    (subst (λ (t : State). IsRight (fixed_of store) t (caller seat) call) state_is answers.1.right) in
+    let right : IsRightReply fixed (mirrored number s) (caller seat) call =
+    subst (λ (f : Fixed). IsRightReply f (mirrored number s) (caller seat) call) fixed_is
+    (subst (λ (t : State). IsRightReply (fixed_of store) t (caller seat) call) state_is answers.1.right) in
     let same : call ≡ e.call =
     elim (cases_Bool (is_partial e.call)) [
       | inl part ↦ asks.5 part

@@ -16,13 +16,13 @@ use Rattle.store_core.specs.Stores.{IsEvent, IsNew}
 
 -- What is asked of a one-thread store: a call of a seat, with its reply; or that a seat's claims of a group move to
 -- another seat, which from then on counts for both.
-pub data Asked : Type 0 where
-  calls : (seat : ℕ) (call : Call) → Asked
-  moves : (group from to : ℕ) → Asked
+pub data AskedOfStore : Type 0 where
+  calls : (seat : ℕ) (call : Call) → AskedOfStore
+  moves : (group from to : ℕ) → AskedOfStore
 
 -- The store answers, one after another. Claims move by two calls: the one seat gives all that it has of the group, and
 -- the other takes it.
-abbrev pub AnswersInTurn : Store → List Asked → Type 0
+abbrev pub AnswersInTurn : Store → List AskedOfStore → Type 0
 AnswersInTurn store [] = Unit {0}
 AnswersInTurn store (calls seat call ∷ rest) = (next : Store) × IsEvent store next (caller seat) call × AnswersInTurn next rest
 AnswersInTurn store (moves group from to ∷ rest) =
@@ -47,7 +47,7 @@ pub record IsSeat (number : Numbering) (s : State) (who : List Name) (seat : ℕ
 -- The calls are those that the events answer, in their order and by their callers; where a reply may tell of a part, it is
 -- that part. Claims that move change the numbering alone: so the claims of a seat that was joined with another move to
 -- that before the two call as one.
-abbrev pub AskTheSame : Numbering → State → List Event → List Asked → Type 0
+abbrev pub AskTheSame : Numbering → State → List Event → List AskedOfStore → Type 0
 AskTheSame number s events [] = events ≡ []
 AskTheSame number s events (calls seat call ∷ rest) =
     (e : Event) × (later : List Event) × (events ≡ e ∷ later) × IsSeat number s e.who seat × (question call ≡ question e.call)
@@ -55,14 +55,14 @@ AskTheSame number s events (calls seat call ∷ rest) =
 AskTheSame number s events (moves group from to ∷ rest) = AskTheSame (moved number group from to) s events rest
 
 -- the calls with their replies
-abbrev pub calls_in : List Asked → List Call
+abbrev pub calls_in : List AskedOfStore → List Call
 calls_in [] = []
 calls_in (calls seat call ∷ rest) = call ∷ calls_in rest
 calls_in (moves group from to ∷ rest) = calls_in rest
 
 -- Served with the calls of a legal history in its order, a new one-thread store gives the history's replies.
 abbrev pub RepliesAreTheStores : Type 0
-RepliesAreTheStores = (fixed : Fixed) (history : List Event) (number : Name → ℕ) (store : Store) (asked : List Asked) → IsLegal fixed history
+RepliesAreTheStores = (fixed : Fixed) (history : List Event) (number : Name → ℕ) (store : Store) (asked : List AskedOfStore) → IsLegal fixed history
     → IsNew store fixed.root fixed.mode fixed.capacity → AskTheSame (λ c. number) empty history asked → AnswersInTurn store asked
     → calls_in asked ≡ map (λ e. e.call) history
 

@@ -7,7 +7,7 @@ use Rattle.store_core.specs.Masks.{has_bit}
 use Rattle.store_core.specs.Views.{seat_claims}
 use Rattle.store_shared.specs.declared.assembly.Assembly.{Assembly}
 pub use Rattle.store_steps.specs.Grips.{Gripped}
-use Rattle.store_steps.specs.Words.{HasGroup, IsGripOf, fixed_of as fixed_of_words}
+use Rattle.store_steps.specs.Words.{CoversGroup, IsGripOf, fixed_of as fixed_of_words}
 
 -- one word a group, with the bits of exactly the chunks that the seat claims; and the seat is storing no parents
 pub record AreClaims (view : SeatView) (claims : List ℕ) : Type 0 where
@@ -26,4 +26,4 @@ IsSeatOf assembly seat = IsGripOf assembly.words seat
 
 -- there is such a group
 abbrev pub IsGroupOf : Assembly → ℕ → Type 0
-IsGroupOf assembly group = HasGroup assembly.words group
+IsGroupOf assembly group = CoversGroup assembly.words group

@@ -24,8 +24,8 @@ use Rattle.store_core.specs.States.{empty}
 use Rattle.store_core.specs.Views.{seat_claims, stored}
 use Rattle.store_core.proofs.Lasting.{legal-append}
 use Rattle.store_core.proofs.Running.{one_step}
-use Rattle.store_core.proofs.Served.{seat_claim}
-use Rattle.store_core.proofs.Stepping.{shown_or}
+use Rattle.store_core.proofs.MachineInvariants.{seat_claim}
+use Rattle.store_core.proofs.StepEvents.{shown_or}
 use Rattle.store_core.proofs.Tells.{masked}
 use Rattle.store_steps.specs.Asks.{AreWordsStored}
 use Rattle.store_steps.specs.Layout.{cell_at, cell_place, claim_place, held_word, length_place}

@@ -13,7 +13,7 @@ use Rattle.store_core.specs.Masks.{has_bit, in_mask}
 use Rattle.store_core.specs.Schedules.{IsReply, after_step}
 use Rattle.store_core.specs.Views.{stored}
 use Rattle.store_core.proofs.Running.{one_step}
-use Rattle.store_core.proofs.Served.{claim_seat}
+use Rattle.store_core.proofs.MachineInvariants.{claim_seat}
 use Rattle.store_core.proofs.Tells.{masked}
 use Rattle.store_steps.specs.Layout.{cell_place, claim_place, claim_word, length_place}
 use Rattle.store_steps.specs.Simulates.{GiveIsGiveBack, TakeIsClaim}

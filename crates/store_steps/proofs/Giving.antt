@@ -10,7 +10,7 @@ use Rattle.store_core.specs.declared.fixed.Fixed.{Fixed}
 use Rattle.store_core.specs.declared.history.Call.TheVariants.{Give}
 use Rattle.store_core.specs.declared.view.SeatView.{SeatView}
 use Rattle.store_core.specs.declared.view.StoredWord.{StoredWord}
-use Rattle.store_core.specs.Events.{IsRight, after_call}
+use Rattle.store_core.specs.Events.{IsRightReply, after_call}
 use Rattle.store_core.specs.Histories.{state_after}
 use Rattle.store_core.specs.Machine.{groups}
 use Rattle.store_core.specs.Masks.{has_bit, in_mask}
@@ -85,7 +85,7 @@ module _ (fixed : Fixed) (s : Table Unit (List SeatView)) (k : RuleHolds fixed s
     abbrev state : State
     state = state_after k.history
 
-    right : IsRight fixed state (names_of view) (Give group mask given)
+    right : IsRightReply fixed state (names_of view) (Give group mask given)
     right = record { small = ours.small; bits = λ c here. ours.bits c here ∙ ap (λ (b : Bool). has_bit mask (c % 64) && b) (sym (claims_now fixed s k id view seat c)) }
 
     -- a chunk of the mask is claimed, and so not held

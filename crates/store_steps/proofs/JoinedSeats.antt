@@ -10,7 +10,7 @@ use Rattle.store_core.specs.declared.history.Piece.{Piece}
 use Rattle.store_core.specs.declared.view.SeatView.{SeatView}
 use Rattle.store_core.specs.declared.view.StoredWord.{StoredWord}
 use Rattle.store_core.specs.Histories.{IsLegal, state_after}
-use Rattle.store_core.specs.Machine.{Machine, Reading, Seat, no_seat}
+use Rattle.store_core.specs.Machine.{Machine, MachineSeat, ReadUnderWay, no_seat}
 use Rattle.store_core.specs.States.{claims}
 use Rattle.store_core.specs.Views.{names_of, seat_claims, stored}
 use Rattle.store_core.proofs.Joining.{claims_continued, join_keeps}
@@ -40,7 +40,7 @@ joined_some seat other None = refl
 joined_some seat other (Some n) = elim (cases_Bool (n == other)) [ inl hit ↦ rw hit refl | inr miss ↦ rw miss refl ]
 
 module _ (m : Machine) (other : ℕ) where
-  abbrev without : ℕ → Seat
+  abbrev without : ℕ → MachineSeat
   without n = if n == other then no_seat else m.seat n
 
   without_wrote : (n c w : ℕ) → (without n).written c w ≡ true → ((n == other) ≡ false) × ((m.seat n).written c w ≡ true)
@@ -49,7 +49,7 @@ module _ (m : Machine) (other : ℕ) where
     | inr miss ↦ (miss, rw miss at is)
   ]
 
-  without_read : (n : ℕ) (r : Reading) → (without n).reading ≡ Some r → ((n == other) ≡ false) × ((m.seat n).reading ≡ Some r)
+  without_read : (n : ℕ) (r : ReadUnderWay) → (without n).reading ≡ Some r → ((n == other) ≡ false) × ((m.seat n).reading ≡ Some r)
   without_read n r is = elim (cases_Bool (n == other)) [
     | inl hit ↦ let never : None ≡ Some r = rw hit at is in cc
     | inr miss ↦ (miss, rw miss at is)
@@ -98,7 +98,7 @@ left_some seat new theirs None = refl
 left_some seat new theirs (Some n) = elim (cases_Bool ((n == seat) && theirs)) [ inl hit ↦ rw hit refl | inr miss ↦ rw miss refl ]
 
 module _ (m : Machine) (seat : ℕ) (view : SeatView) where
-  abbrev leaving : ℕ → Seat
+  abbrev leaving : ℕ → MachineSeat
   leaving n = if n == seat then record (m.seat n) { written = λ c w. not (seat_claims view c) && (m.seat n).written c w } else m.seat n
 
   leaving_wrote : (n c w : ℕ) → (leaving n).written c w ≡ true → (((n == seat) && seat_claims view c) ≡ false) × ((m.seat n).written c w ≡ true)

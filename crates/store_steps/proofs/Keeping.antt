@@ -23,7 +23,8 @@ use Rattle.store_steps.specs.Rule.{AreApart, AreParentsKept, ViewFits, FitsParen
 use Rattle.store_steps.proofs.ParentsStanding.{LeavesParents, fits_left, fits_same, parents_left}
 use Rattle.store_steps.proofs.Storers.{stores_on}
 use Rattle.store_steps.proofs.Callers.{callers-append, callers_by}
-use Rattle.store_steps.proofs.Lists.{AreBy, apart_from, entry_of, one_part, others_by}
+use Rattle.store_core.proofs.Naming.{apart_from, entry_of}
+use Rattle.store_steps.proofs.Lists.{AreBy, one_part, others_by}
 use Rattle.store_core.proofs.Going.{others-append}
 
 -- the names of views that have the same entries

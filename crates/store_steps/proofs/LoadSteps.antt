@@ -14,12 +14,12 @@ use Rattle.store_core.specs.declared.view.StoredWord.{StoredWord}
 use Rattle.store_core.specs.Cells.{cell_bytes}
 use Rattle.store_core.specs.Histories.{IsLegal, state_after}
 use Rattle.store_core.specs.Laws.{IsCommitted, IsRead, IsSound}
-use Rattle.store_core.specs.Machine.{Machine, Reading, copied, groups, is_shown, is_whole, loaded_group, position, read_of, shown_byte, store_of}
+use Rattle.store_core.specs.Machine.{Machine, ReadUnderWay, copied, groups, is_shown, is_whole, loaded_group, position, read_of, shown_byte, store_of}
 use Rattle.store_core.specs.Masks.{has_bit}
 use Rattle.store_core.specs.Pieces.{places_in}
 use Rattle.store_core.specs.Schedules.{IsLegalStep, after_step, is_last_load, read_after, read_before}
-use Rattle.store_core.specs.Served.{IsPart}
-use Rattle.store_core.specs.Stages.{carried_on}
+use Rattle.store_core.specs.MachineInvariant.{IsReadSoFar}
+use Rattle.store_core.specs.ScheduleRuns.{carried_on}
 use Rattle.store_core.specs.States.{State, byte_at, empty, read_bytes}
 use Rattle.store_core.specs.Views.{stored}
 use Rattle.store_core.proofs.CellWords.{cell_is}
@@ -28,7 +28,7 @@ use Rattle.store_core.proofs.Loading.{carried_loaded, over_same}
 use Rattle.store_core.proofs.Origins.{held_is_committed}
 use Rattle.store_core.proofs.ReadLaws.{is_read, read_is}
 use Rattle.store_core.proofs.Running.{IsBefore, before_is, loaded_part, one_step, past_none}
-use Rattle.store_core.proofs.Served.{chunk_fits, chunk_valid}
+use Rattle.store_core.proofs.MachineInvariants.{chunk_fits, chunk_valid}
 use Rattle.store_steps.specs.Layout.{cell_at, claim_word, held_word, length_word}
 use Rattle.store_steps.specs.Machines.{IsAtMachine, IsUnderWay}
 use Rattle.store_steps.specs.Plays.{Loads}
@@ -47,7 +47,7 @@ held_by_bit None shown bytes is each = rw is refl
 held_by_bit (Some b) shown bytes is each = rw is (ap (λ (x : List ℕ). Some x) (sym (each b refl)))
 
 -- a read begins, or goes on below the limit
-begun : (o : Option Reading) (at len limit : ℕ) → ((r : Reading) → o ≡ Some r → position r < limit)
+begun : (o : Option ReadUnderWay) (at len limit : ℕ) → ((r : ReadUnderWay) → o ≡ Some r → position r < limit)
     → (length (read_of o at len).bytes ≡ 0) ⊎ (position (read_of o at len) < limit)
 begun None at len limit each = inl refl
 begun (Some r) at len limit each = inr (each r refl)
@@ -77,10 +77,10 @@ module _ (fixed : Fixed) (pieces : List Checked) (s : Table Unit (List SeatView)
   abbrev seen : State
   seen = state_after new.seen
 
-  abbrev before : Reading
+  abbrev before : ReadUnderWay
   before = read_before m id at len
 
-  abbrev later : Reading
+  abbrev later : ReadUnderWay
   later = read_after fixed m id at len
 
   abbrev limit : ℕ
@@ -146,7 +146,7 @@ module _ (fixed : Fixed) (pieces : List Checked) (s : Table Unit (List SeatView)
   begins : (length before.bytes ≡ 0) ⊎ (position before < limit)
   begins = begun (m.seat id).reading at len limit (λ r is. let on : IsUnderWay fixed view r = read_is_of fixed pieces s m id view here r is in on.below)
 
-  part_words : IsPart (store_of m) later
+  part_words : IsReadSoFar (store_of m) later
   part_words = loaded_part fixed m before in_words.part
 
   abbrev more : List ℕ
@@ -156,7 +156,7 @@ module _ (fixed : Fixed) (pieces : List Checked) (s : Table Unit (List SeatView)
   count = length-append before.bytes more
 
   -- A load that only reads in its group: the later read's bytes are seen held.
-  part_seen : ((q : ℕ) → position before ≤ q → q < position later → q / 65536 ≡ group) → IsPart seen later
+  part_seen : ((q : ℕ) → position before ≤ q → q < position later → q / 65536 ≡ group) → IsReadSoFar seen later
   part_seen inside = record {
     within = part_words.within;
     held = λ i h. elim (cases_lt i (length before.bytes)) [
@@ -212,7 +212,7 @@ module _ (fixed : Fixed) (pieces : List Checked) (s : Table Unit (List SeatView)
     size : length later.bytes ≡ length before.bytes + length found
     size =
         let e : carried_on fixed (store_of m) before ≡ later = carried_loaded fixed m before sound_words in
-        let bytes : later.bytes ≡ before.bytes ++ found = sym (ap (λ (r : Reading). r.bytes) e)
+        let bytes : later.bytes ≡ before.bytes ++ found = sym (ap (λ (r : ReadUnderWay). r.bytes) e)
         ∙ ap (λ (b : Bool). if b then before.bytes ++ found else before.bytes) (lt-ltb (position before) limit below) in
         ap (λ (xs : List ℕ). length xs) bytes ∙ length-append before.bytes found
 
@@ -223,7 +223,7 @@ module _ (fixed : Fixed) (pieces : List Checked) (s : Table Unit (List SeatView)
     inside q from to =
         let of : q / 65536 ≡ position before / 65536 = omega (arith, from, to, size, read.within) in of ∙ sym group_at
 
-    part : IsPart seen later
+    part : IsReadSoFar seen later
     part = part_seen inside
 
     -- it stops in the group where a byte isn't held
@@ -303,7 +303,7 @@ module _ (fixed : Fixed) (pieces : List Checked) (s : Table Unit (List SeatView)
     | inr past ↦ ends_past past
   ]
 
-  pub seen_part : IsPart seen later
+  pub seen_part : IsReadSoFar seen later
   seen_part = part_seen ends.inside
 
   same_bytes : is_last_load fixed m id at len ≡ true → read_bytes seen at len ≡ later.bytes
@@ -330,13 +330,13 @@ module _ (fixed : Fixed) (pieces : List Checked) (s : Table Unit (List SeatView)
       let short : length later.bytes ≢ later.len = λ e. both_ways _ parts.0 (eq-eqb (length later.bytes) later.len e) in
       record { part = seen_part; more = omega (arith, short, part_words.within); below = leb-false limit (position later) more_parts.1 }
 
-  pub read_stays : (r : Reading) → (if is_last_load fixed m id at len then None else Some later) ≡ Some r → IsUnderWay fixed new r
+  pub read_stays : (r : ReadUnderWay) → (if is_last_load fixed m id at len then None else Some later) ≡ Some r → IsUnderWay fixed new r
   read_stays r is = elim (cases_Bool (is_last_load fixed m id at len)) [
     | inl last ↦ let none : None ≡ Some r = rw last at is in cc
     | inr goes ↦
         let some : Some later ≡ Some r = rw goes at is in
         let same : later ≡ r = cc in
-        subst (λ (x : Reading). IsUnderWay fixed new x) same (under_way goes)
+        subst (λ (x : ReadUnderWay). IsUnderWay fixed new x) same (under_way goes)
   ]
 
 pub load_is_load : LoadIsLoad

@@ -15,7 +15,7 @@ use Rattle.store_core.specs.States.{State, is_held}
 use Rattle.store_core.specs.Views.{names_of}
 use Rattle.store_core.proofs.Lasting.{held_lasts}
 use Rattle.store_steps.specs.Layout.{cell_place, held_word, length_code, length_place}
-use Rattle.store_steps.specs.Plays.{LoadsLength, Copies, Loads, length_in}
+use Rattle.store_steps.specs.Plays.{LoadsLength, CopiesWord, Loads, length_in}
 use Rattle.store_steps.specs.Reads.{is_last, read_events}
 use Rattle.store_steps.specs.Rule.{RuleHolds}
 use Rattle.store_core.specs.Knowledge.{event_of}
@@ -80,7 +80,7 @@ module _ (fixed : Fixed) (s : Table Unit (List SeatView)) (k : RuleHolds fixed s
       ∙ held_lasts fixed view.seen on.between c bytes (subst (λ (t : List Event). IsLegal fixed t) on.is k.legal) h
 
   pub copy_steps : (chunk w : ℕ) → w < 129 → Steps fixed s id (cell_place fixed (129 * chunk + w)) (slice_index s.words (cell_place fixed (129 * chunk + w)))
-      (λ new. Copies chunk w (slice_index s.words (cell_place fixed (129 * chunk + w))) view new)
+      (λ new. CopiesWord chunk w (slice_index s.words (cell_place fixed (129 * chunk + w))) view new)
   copy_steps chunk w below = record {
     new = view;
     kept = still_step fixed s k id view seat (cell_place fixed (129 * chunk + w));

@@ -21,11 +21,11 @@ use Rattle.store_core.specs.Views.{is_boundary, is_storing, merge_names, names_o
 use Rattle.store_core.proofs.Joining.{merge-has}
 use Rattle.store_core.proofs.Ordering.{merge_order}
 use Rattle.store_steps.specs.Grips.{first_of}
-use Rattle.store_steps.specs.Plays.{MeetsSeat, Merges, OfTwo, rest_of}
+use Rattle.store_steps.specs.Plays.{MeetsSeat, Merges, OfTwo, later_views}
 use Rattle.store_steps.specs.Rule.{AreApart, ViewFits, FitsParents, HasView, RuleHolds, IsNamed, StoresAt}
 use Rattle.store_steps.proofs.Keeping.{Before, apart_still}
-use Rattle.store_steps.proofs.Lists.{apart_from, one_part}
-use Rattle.store_steps.proofs.Naming.{merge-cases, merge-some}
+use Rattle.store_core.proofs.Naming.{apart_from, merge-cases, merge-some}
+use Rattle.store_steps.proofs.Lists.{one_part}
 use Rattle.store_steps.proofs.Regrouping.{at_other, other_place, rekept, same_place, stand_moved, two_parts}
 use Rattle.store_steps.proofs.ParentsStanding.{fits_same}
 use Rattle.store_steps.proofs.Storers.{gets, had, moved_from, stays}
@@ -51,7 +51,7 @@ at_two fixed key key_is slots id me one two is Told turns =
       λ first second e.
           let same : one ∷ two ∷ [] ≡ first ∷ second ∷ [] = sym is ∙ e in (
             subst (λ (u : SeatView). Told u second t.later) (ap (λ (vs : List SeatView). first_of vs) same)
-                (subst (λ (u : SeatView). Told one u t.later) (ap (λ (vs : List SeatView). first_of (rest_of vs)) same) t.told),
+                (subst (λ (u : SeatView). Told one u t.later) (ap (λ (vs : List SeatView). first_of (later_views vs)) same) t.told),
             refl,
           ),
     ))

@@ -13,7 +13,7 @@ use Rattle.store_core.specs.Histories.{state_after}
 use Rattle.store_core.specs.Machine.{groups}
 use Rattle.store_core.specs.Masks.{has_bit, in_mask}
 use Rattle.store_core.specs.Views.{is_boundary, is_storing}
-use Rattle.store_steps.specs.Layout.{parent_claim_place, parent_claim_word, parent_held_place, parent_place}
+use Rattle.store_steps.specs.Layout.{parent_claim_place, parent_claim_word, parent_held_place, parent_word_place}
 use Rattle.store_steps.specs.Plays.{ClaimsParents}
 use Rattle.store_steps.specs.Rule.{FitsParents, RuleHolds, StandForParents, StoresAt}
 use Rattle.store_core.proofs.Bits.{has_bit-and, has_bit-not, has_bit-or}
@@ -99,8 +99,8 @@ module _ (fixed : Fixed) (s : Table Unit (List SeatView)) (k : RuleHolds fixed s
       let here = of_group m hit in
       asks m here (and_parts (has_bit asked (m % 64)) (not (is_some (parents m) || is_some (storer m))) (sym (in_here m here) ∙ hit)).0
 
-  cells_left : (number : ℕ) → slice_index later (parent_place fixed number) ≡ slice_index s.words (parent_place fixed number)
-  cells_left number = left s.words place (bit_or found_word asked) (parent_place fixed number) (λ e. omega (arith, e, there))
+  cells_left : (number : ℕ) → slice_index later (parent_word_place fixed number) ≡ slice_index s.words (parent_word_place fixed number)
+  cells_left number = left s.words place (bit_or found_word asked) (parent_word_place fixed number) (λ e. omega (arith, e, there))
 
   stand : StandForParents fixed later parents storer_then
   stand = record {

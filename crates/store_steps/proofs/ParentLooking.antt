@@ -23,10 +23,10 @@ use Rattle.store_core.specs.States.{State}
 use Rattle.store_core.specs.Views.{names_of}
 use Rattle.store_core.proofs.Bits.{has_bit-zero}
 use Rattle.store_core.proofs.ParentOrigins.{parent_lasts}
-use Rattle.store_steps.specs.Layout.{length_place, parent_place}
+use Rattle.store_steps.specs.Layout.{length_place, parent_word_place}
 use Rattle.store_steps.specs.Plays.{CopiesParent, LoadsNode, LoadsToServe, LoadsToStore, length_in}
 use Rattle.store_steps.specs.Rule.{RuleHolds}
-use Rattle.store_steps.specs.Slices.{is_recorded, node_events, node_place, number_of, unserved_events, unstored_events}
+use Rattle.store_steps.specs.Slices.{is_recorded, node_events, node_number, node_place, unserved_events, unstored_events}
 use Rattle.store_core.specs.Knowledge.{event_of}
 use Rattle.store_steps.proofs.Lists.{AreBy}
 use Rattle.store_steps.proofs.Looking.{length_back}
@@ -72,12 +72,12 @@ module _ (fixed : Fixed) (s : Table Unit (List SeatView)) (k : RuleHolds fixed s
   state = state_after k.history
 
   -- the bit of a node that could be held
-  pub held_node : (node : Node) → number_of node < fixed.capacity
-      → has_bit (slice_index s.words (node_place fixed node)) (number_of node % 64) ≡ is_some (node_held state node)
+  pub held_node : (node : Node) → node_number node < fixed.capacity
+      → has_bit (slice_index s.words (node_place fixed node)) (node_number node % 64) ≡ is_some (node_held state node)
   held_node (Chunk c) below = k.words.held c (omega (arith, below))
   held_node (Parent m) below = k.parents.stand.held m (omega (arith, below))
 
-  pub load_node_steps : (node : Node) (last : Bool) (start len : ℕ) → number_of node < fixed.capacity
+  pub load_node_steps : (node : Node) (last : Bool) (start len : ℕ) → node_number node < fixed.capacity
       → Steps fixed s id (node_place fixed node) (slice_index s.words (node_place fixed node))
       (λ new. LoadsNode node last start len (slice_index s.words (node_place fixed node)) view new)
   load_node_steps node last start len below =
@@ -139,10 +139,10 @@ module _ (fixed : Fixed) (s : Table Unit (List SeatView)) (k : RuleHolds fixed s
       ap (λ (t : List Event). (state_after t).parents m) on.is
       ∙ parent_lasts fixed view.seen on.between m bytes (subst (λ (t : List Event). IsLegal fixed t) on.is k.legal) h
 
-  pub copy_parent_steps : (m w : ℕ) → w < 8 → Steps fixed s id (parent_place fixed (8 * m + w)) (slice_index s.words (parent_place fixed (8 * m + w)))
-      (λ new. CopiesParent m w (slice_index s.words (parent_place fixed (8 * m + w))) view new)
+  pub copy_parent_steps : (m w : ℕ) → w < 8 → Steps fixed s id (parent_word_place fixed (8 * m + w)) (slice_index s.words (parent_word_place fixed (8 * m + w)))
+      (λ new. CopiesParent m w (slice_index s.words (parent_word_place fixed (8 * m + w))) view new)
   copy_parent_steps m w below = record {
     new = view;
-    kept = still_step fixed s k id view seat (parent_place fixed (8 * m + w));
+    kept = still_step fixed s k id view seat (parent_word_place fixed (8 * m + w));
     told = record { same = refl; finds = λ bytes held. k.parents.stand.cells m w bytes (parent_now m bytes held) below };
   }

@@ -12,7 +12,7 @@ use Rattle.store_core.specs.declared.history.Piece.{Piece}
 use Rattle.store_core.specs.declared.history.Storing.TheVariants.{Stored}
 use Rattle.store_core.specs.declared.view.Boundaries.{Boundaries}
 use Rattle.store_core.specs.declared.view.SeatView.{SeatView}
-use Rattle.store_core.specs.Events.{IsRight}
+use Rattle.store_core.specs.Events.{IsRightReply}
 use Rattle.store_core.specs.Histories.{IsLegal, state_after}
 use Rattle.store_core.specs.Machine.{groups}
 use Rattle.store_core.specs.Masks.{has_bit, in_mask}
@@ -20,7 +20,7 @@ use Rattle.store_core.specs.Pieces.{IsAcceptedPiece, length_of, parent_bytes}
 use Rattle.store_core.specs.Views.{is_boundary, is_storing, names_of}
 use Rattle.store_core.proofs.Lasting.{record_lasts}
 use Rattle.store_steps.specs.Asks.{AreParentsWritten}
-use Rattle.store_steps.specs.Layout.{parent_at, parent_claim_place, parent_held_place, parent_held_word, parent_place, parent_word}
+use Rattle.store_steps.specs.Layout.{parent_at, parent_claim_place, parent_held_place, parent_held_word, parent_word, parent_word_place}
 use Rattle.store_steps.specs.Plays.{PublishesParents}
 use Rattle.store_steps.specs.Rule.{FitsParents, RuleHolds, StandForParents, StoresAt}
 use Rattle.store_core.specs.Knowledge.{event_of}
@@ -92,7 +92,7 @@ module _ (fixed : Fixed) (s : Table Unit (List SeatView)) (k : RuleHolds fixed s
       ap (λ (t : List Event). (state_after t).recorded) on.is
       ∙ record_lasts fixed view.seen on.between (length_of piece) (subst (λ (t : List Event). IsLegal fixed t) on.is k.legal) known
 
-  right : IsRight fixed (state_after k.history) (names_of view) (Parents group piece (Stored mask))
+  right : IsRightReply fixed (state_after k.history) (names_of view) (Parents group piece (Stored mask))
   right = (accepted, (recorded, λ m hit. (written.held m hit, k.parents.stand.apart m (stored_bit m hit))))
 
   in_here : (m : ℕ) → m / 64 ≡ group → in_mask group mask m ≡ has_bit mask (m % 64)
@@ -102,7 +102,7 @@ module _ (fixed : Fixed) (s : Table Unit (List SeatView)) (k : RuleHolds fixed s
   in_other m other = and_left _ _ (ne_eqb (m / 64) group other)
 
   cells_left : (number : ℕ) → parent_at fixed later number ≡ parent_at fixed s.words number
-  cells_left number = left s.words place (bit_or found_word mask) (parent_place fixed number) (λ e. omega (arith, e, there))
+  cells_left number = left s.words place (bit_or found_word mask) (parent_word_place fixed number) (λ e. omega (arith, e, there))
 
   stand : StandForParents fixed later parents_then storer_then
   stand = record {

@@ -10,7 +10,7 @@ use Rattle.store_core.specs.declared.view.StoredWord.{StoredWord}
 use Rattle.store_core.specs.Histories.{state_after}
 use Rattle.store_core.specs.Masks.{has_bit}
 use Rattle.store_core.specs.Views.{is_storing}
-use Rattle.store_steps.specs.Layout.{parent_at, parent_claim_place, parent_held_place, parent_place}
+use Rattle.store_steps.specs.Layout.{parent_at, parent_claim_place, parent_held_place, parent_word_place}
 use Rattle.store_steps.specs.Plays.{StoresParent}
 use Rattle.store_steps.specs.Rule.{FitsParents, RuleHolds, StandForParents}
 use Rattle.store_steps.proofs.Keeping.{Found, found, its}
@@ -26,7 +26,7 @@ module _ (fixed : Fixed) (s : Table Unit (List SeatView)) (k : RuleHolds fixed s
   number = 8 * m + w
 
   abbrev place : ℕ
-  place = parent_place fixed number
+  place = parent_word_place fixed number
 
   abbrev later : List ℕ
   later = set s.words place value
@@ -53,7 +53,7 @@ module _ (fixed : Fixed) (s : Table Unit (List SeatView)) (k : RuleHolds fixed s
   of_boundary other e = omega (arith, e, cell)
 
   cells_left : (other : ℕ) → other ≢ number → parent_at fixed later other ≡ parent_at fixed s.words other
-  cells_left other differs = left s.words place value (parent_place fixed other) (λ e. differs (omega (arith, e)))
+  cells_left other differs = left s.words place value (parent_word_place fixed other) (λ e. differs (omega (arith, e)))
 
   stand : StandForParents fixed later parents k.parents.storer
   stand = record {

@@ -13,7 +13,7 @@ use Rattle.store_core.specs.declared.history.Storing.{Storing}
 use Rattle.store_core.specs.declared.view.Boundaries.{Boundaries}
 use Rattle.store_core.specs.declared.view.SeatView.{SeatView}
 use Rattle.store_core.specs.declared.view.StoredWord.{StoredWord}
-use Rattle.store_core.specs.Events.{IsRight, after_call, parents_after}
+use Rattle.store_core.specs.Events.{IsRightReply, after_call, parents_after}
 use Rattle.store_core.specs.Histories.{IsLegal, state_after}
 use Rattle.store_core.specs.Laws.{IsSound}
 use Rattle.store_core.specs.Masks.{has_bit}
@@ -75,7 +75,7 @@ module _ (fixed : Fixed) (s : Table Unit (List SeatView)) (k : RuleHolds fixed s
       (subst (λ (h : List Event). AreParentsKept fixed (set s.words i n) (set s.views id (new ∷ [])) (state_after h).parents) (sym whole) parents)
 
   -- a step at which parents are stored, or aren't: the seat is storing none then
-  pub parents_step : (group : ℕ) (piece : Piece) (answer : Storing) → IsRight fixed now (names_of view) (Parents group piece answer)
+  pub parents_step : (group : ℕ) (piece : Piece) (answer : Storing) → IsRightReply fixed now (names_of view) (Parents group piece answer)
       → AreParentsKept fixed (set s.words i n)
       (set s.views id (record view { seen = k.history ++ event_of view (Parents group piece answer) ∷ []; storing = []; parent_words = [] } ∷ []))
       (λ m. parents_after answer group piece now.parents m)

@@ -7,7 +7,7 @@ use Rattle.store_core.specs.declared.view.SeatView.{SeatView}
 use Rattle.store_core.specs.declared.view.StoredWord.{StoredWord}
 use Rattle.store_core.specs.Masks.{has_bit}
 use Rattle.store_core.specs.Views.{is_boundary, is_storing, stored}
-use Rattle.store_steps.specs.Layout.{parents_place, parent_claim_place, parent_held_place, parent_place}
+use Rattle.store_steps.specs.Layout.{parents_place, parent_claim_place, parent_held_place, parent_word_place}
 use Rattle.store_steps.specs.Rule.{FitsParents, StandForParents}
 use Rattle.store_steps.proofs.WrittenWords.{left}
 
@@ -27,7 +27,7 @@ pub parents_left : (fixed : Fixed) (words later : List ℕ) (parents : ℕ → O
 parents_left fixed words later parents storer leaves h = record {
   held = λ m below. ap (λ (w : ℕ). has_bit w (m % 64)) (leaves (parent_held_place fixed (m / 64)) (omega arith)) ∙ h.held m below;
   claimed = λ m below. ap (λ (w : ℕ). has_bit w (m % 64)) (leaves (parent_claim_place fixed (m / 64)) (omega arith)) ∙ h.claimed m below;
-  cells = λ m w bytes held below. leaves (parent_place fixed (8 * m + w)) (omega arith) ∙ h.cells m w bytes held below;
+  cells = λ m w bytes held below. leaves (parent_word_place fixed (8 * m + w)) (omega arith) ∙ h.cells m w bytes held below;
   apart = h.apart;
 }
 
@@ -36,7 +36,7 @@ pub fits_left : (fixed : Fixed) (words later : List ℕ) (storer : ℕ → Optio
 fits_left fixed words later storer seat part view leaves h = record {
   low = h.low;
   owned = h.owned;
-  written = λ number value is. let w = h.written number value is in (w.0, leaves (parent_place fixed number) (omega arith) ∙ w.1);
+  written = λ number value is. let w = h.written number value is in (w.0, leaves (parent_word_place fixed number) (omega arith) ∙ w.1);
 }
 
 -- a view that is storing the same

@@ -23,11 +23,12 @@ use Rattle.store_steps.specs.Layout.{cell_at}
 use Rattle.store_core.specs.Knowledge.{ArePartsOf}
 use Rattle.store_steps.specs.Rule.{ViewFits, FitsParents, HasView, RuleHolds, IsLater, IsNamed}
 use Rattle.store_steps.specs.Grips.{first_of}
-use Rattle.store_steps.specs.Plays.{Parts}
+use Rattle.store_steps.specs.Plays.{PartsInTwo}
 use Rattle.store_steps.proofs.StepViews.{Steps, still_step}
 use Rattle.store_steps.proofs.Keeping.{its, single}
-use Rattle.store_steps.proofs.Lists.{entry_of, one_part}
-use Rattle.store_steps.proofs.Naming.{child, child_later, first_entry, first_there, later_cases, later_child, later_raised, name_there, new_names-are, raise-length, raised, raised_cases, same_rest}
+use Rattle.store_core.proofs.Naming.{child, entry_of, first_entry, first_there, later_cases, name_there, new_names-are, raise-length, raised, raised_cases, same_rest}
+use Rattle.store_steps.proofs.Lists.{one_part}
+use Rattle.store_steps.proofs.Naming.{child_later, later_child, later_raised}
 use Rattle.store_steps.proofs.ParentsStanding.{fits_same}
 use Rattle.store_steps.proofs.Regrouping.{at_end, at_other, rekept}
 use Rattle.store_steps.proofs.Storers.{stores_longer, stores_on}
@@ -261,7 +262,7 @@ module _ (fixed : Fixed) (s : Table Unit (List SeatView)) (k : RuleHolds fixed s
   })
 
   -- the load before it
-  pub part_steps : Steps fixed s id 0 (slice_index s.words 0) (λ new. Parts view new)
+  pub part_steps : Steps fixed s id 0 (slice_index s.words 0) (λ new. PartsInTwo view new)
   part_steps = record { new = view; kept = still_step fixed s k id view at 0; told = record { same = refl; parts = parts_told } }
 
 -- that is what the table asks where a seat's only view parts

@@ -13,7 +13,7 @@ use Rattle.store_core.specs.Histories.{state_after}
 use Rattle.store_steps.specs.Rule.{AreApart, AreParentsKept, ViewFits, HasView, RuleHolds, IsNamed, StandFor, StandForParents, StoresAt}
 use Rattle.atomic_table.specs.Table.{Enters, Joins, Splits}
 use Rattle.store_steps.specs.Grips.{first_of}
-use Rattle.store_steps.specs.Plays.{rest_of}
+use Rattle.store_steps.specs.Plays.{later_views}
 use Rattle.store_steps.proofs.Lists.{one_part}
 use Rattle.store_steps.proofs.Storers.{gets, had, longer, moved_from, stays}
 
@@ -287,8 +287,8 @@ enter_asks fixed key key_is slots i =
     subst (λ (f : Fixed). Enters (RuleHolds f) slots i (λ n views. views ≡ [])) (sym key_is) (λ s k homes small. ([], entered_kept fixed s k, refl))
 
 pub leave_asks : (fixed key : Fixed) → key ≡ fixed → (id : ℕ) (views : List SeatView) (one two : SeatView) → views ≡ one ∷ two ∷ []
-    → Splits (RuleHolds key) id views (first_of views ∷ []) (rest_of views)
+    → Splits (RuleHolds key) id views (first_of views ∷ []) (later_views views)
 leave_asks fixed key key_is id views one two both =
-    subst (λ (f : Fixed). Splits (RuleHolds f) id views (first_of views ∷ []) (rest_of views)) (sym key_is)
-    (subst (λ (vs : List SeatView). Splits (RuleHolds fixed) id vs (first_of vs ∷ []) (rest_of vs)) (sym both)
+    subst (λ (f : Fixed). Splits (RuleHolds f) id views (first_of views ∷ []) (later_views views)) (sym key_is)
+    (subst (λ (vs : List SeatView). Splits (RuleHolds fixed) id vs (first_of vs ∷ []) (later_views vs)) (sym both)
     (λ s k at. left_kept fixed s k id one two at))

@@ -7,13 +7,13 @@ use Rattle.store_core.specs.declared.history.Piece.{Piece}
 use Rattle.store_core.specs.declared.view.SeatView.{SeatView}
 use Rattle.store_core.specs.Cells.{cell_word}
 use Rattle.store_core.specs.Histories.{state_after}
-use Rattle.store_core.specs.Machine.{Machine, Reading, Seat, current_bytes, is_number, is_shown, store_of}
+use Rattle.store_core.specs.Machine.{Machine, MachineSeat, ReadUnderWay, current_bytes, is_number, is_shown, store_of}
 use Rattle.store_core.specs.Masks.{has_bit}
-use Rattle.store_core.specs.Served.{IsServed}
+use Rattle.store_core.specs.MachineInvariant.{IsSoundMachine}
 use Rattle.store_core.specs.States.{claims, is_claimed, is_held}
 use Rattle.store_core.specs.Views.{names_of, seat_claims, stored}
 use Rattle.store_core.proofs.Joining.{claims_continued}
-use Rattle.store_core.proofs.Served.{claim_seat, seat_claim}
+use Rattle.store_core.proofs.MachineInvariants.{claim_seat, seat_claim}
 use Rattle.store_steps.specs.Layout.{cell_at, claim_word, held_word, length_word}
 use Rattle.store_steps.specs.Machines.{HasClaim, HasRead, HasStored, IsUnderWay, StandsForMachine}
 use Rattle.store_steps.specs.Rule.{HasView, RuleHolds}
@@ -30,22 +30,22 @@ some_name None = refl
 some_name (Some n) = refl
 
 -- what is claimed isn't shown
-dark : (fixed : Fixed) (m : Machine) (c : ℕ) → IsServed fixed m → is_some (m.claim c) ≡ true → is_shown m c ≡ false
+dark : (fixed : Fixed) (m : Machine) (c : ℕ) → IsSoundMachine fixed m → is_some (m.claim c) ≡ true → is_shown m c ≡ false
 dark fixed m c served claimed = false_from_ne_true _ (λ shown.
     let held : is_held (store_of m) c ≡ true = rw shown refl in
     both_ways _ (served.sound.apart c held) (some_name (m.claim c) ∙ claimed))
 
 -- who wrote a word of a claimed chunk claims it
-writer : (fixed : Fixed) (m : Machine) (n c w : ℕ) → IsServed fixed m → (m.seat n).written c w ≡ true → is_some (m.claim c) ≡ true → m.claim c ≡ Some n
+writer : (fixed : Fixed) (m : Machine) (n c w : ℕ) → IsSoundMachine fixed m → (m.seat n).written c w ≡ true → is_some (m.claim c) ≡ true → m.claim c ≡ Some n
 writer fixed m n c w served wrote claimed = seat_claim n (m.claim c) (served.kept.known n c w wrote (dark fixed m c served claimed))
 
 -- The machine with other claims and seats keeps what it kept, where the same chunks are claimed and no seat has more than it had.
-pub renamed_served : (fixed : Fixed) (m : Machine) (f : ℕ → Option ℕ) (g : ℕ → Seat) → IsServed fixed m → ((c : ℕ) → is_some (f c) ≡ is_some (m.claim c))
+pub renamed_served : (fixed : Fixed) (m : Machine) (f : ℕ → Option ℕ) (g : ℕ → MachineSeat) → IsSoundMachine fixed m → ((c : ℕ) → is_some (f c) ≡ is_some (m.claim c))
     → ((n c w : ℕ) → (g n).written c w ≡ true → ((m.seat n).written c w ≡ true) × ((g n).piece ≡ (m.seat n).piece))
     → ((n c w : ℕ) → (g n).written c w ≡ true → m.claim c ≡ Some n → f c ≡ Some n)
     → ((n : ℕ) (piece : Piece) → (g n).piece ≡ Some piece → (m.seat n).piece ≡ Some piece)
-    → ((n : ℕ) (r : Reading) → (g n).reading ≡ Some r → (m.seat n).reading ≡ Some r)
-    → IsServed fixed (record m { claim = f; seat = g })
+    → ((n : ℕ) (r : ReadUnderWay) → (g n).reading ≡ Some r → (m.seat n).reading ≡ Some r)
+    → IsSoundMachine fixed (record m { claim = f; seat = g })
 renamed_served fixed m f g served same wrote keeps_claim pieces readings =
     let claimed_same : (c : ℕ) → is_some (option_map (λ (n : ℕ). n ∷ []) (f c)) ≡ is_claimed (store_of m) c =
     λ c. some_name (f c) ∙ same c ∙ sym (some_name (m.claim c)) in
@@ -75,7 +75,7 @@ pub record Stands (fixed : Fixed) (later : List (List SeatView)) (seat : ℕ) (v
   pub has : HasView later seat part new
   pub claimed : (c : ℕ) → seat_claims view c ≡ true → seat_claims new c ≡ true
   pub wrote : (number value : ℕ) → stored view.written number ≡ Some value → stored new.written number ≡ Some value
-  pub reading : (r : Reading) → IsUnderWay fixed view r → IsUnderWay fixed new r
+  pub reading : (r : ReadUnderWay) → IsUnderWay fixed view r → IsUnderWay fixed new r
 
 -- the view that a claim was of
 pub record Stood (views : List (List SeatView)) (to : ℕ × ℕ → ℕ) (seat c : ℕ) : Type 0 where
@@ -104,7 +104,7 @@ claims_now fixed s k i j v h c = claims_continued fixed v k.history (k.views i j
 module _ (fixed : Fixed) (s t : Table Unit (List SeatView)) (m : Machine) (to : ℕ × ℕ → ℕ) (words : t.words ≡ s.words) (k : RuleHolds fixed s)
     (stands : StandsForMachine fixed s m) (forth : (i j : ℕ) (v : SeatView) → HasView s.views i j v → Stands fixed t.views (to (i, j)) v)
     (back : (i j : ℕ) (v : SeatView) → HasView t.views i j v → (c : ℕ) → seat_claims v c ≡ true → Stood s.views to i c)
-    (f : ℕ → Option ℕ) (g : ℕ → Seat) (same : (c : ℕ) → is_some (f c) ≡ is_some (m.claim c))
+    (f : ℕ → Option ℕ) (g : ℕ → MachineSeat) (same : (c : ℕ) → is_some (f c) ≡ is_some (m.claim c))
     (renames : (i j : ℕ) (v : SeatView) → HasView s.views i j v → (c : ℕ) → seat_claims v c ≡ true → m.claim c ≡ Some i → f c ≡ Some (to (i, j))) where
   its : (i j : ℕ) (v : SeatView) → HasView s.views i j v → (c : ℕ) → seat_claims v c ≡ true → f c ≡ Some (to (i, j))
   its i j v h c is = renames i j v h c is ((stands.claims i c).1 (record { part = j; view = v; has = h; claims = is }))
@@ -134,9 +134,9 @@ module _ (fixed : Fixed) (s t : Table Unit (List SeatView)) (m : Machine) (to : 
       subst (λ (x : ℕ). HasStored t.views x (129 * c + w) (m.cell c w)) (some_one (to (old, was.part)) n (sym (its old was.part was.view was.has c ours) ∙ is))
       (record { part = now.part; view = now.new; has = now.has; is = now.wrote (129 * c + w) (m.cell c w) was.is })
 
-  pub renamed_stands : IsServed fixed (record m { claim = f; seat = g })
+  pub renamed_stands : IsSoundMachine fixed (record m { claim = f; seat = g })
       → ((n c w : ℕ) → (g n).written c w ≡ true → (m.seat n).written c w ≡ true)
-      → ((n : ℕ) (r : Reading) → (g n).reading ≡ Some r → HasRead fixed t.views n r)
+      → ((n : ℕ) (r : ReadUnderWay) → (g n).reading ≡ Some r → HasRead fixed t.views n r)
       → StandsForMachine fixed t (record m { claim = f; seat = g })
   renamed_stands served wrote reads = record {
     served = served;

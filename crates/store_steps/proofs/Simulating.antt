@@ -12,13 +12,13 @@ use Rattle.store_core.specs.declared.history.Event.{Event}
 use Rattle.store_core.specs.declared.view.SeatView.{SeatView}
 use Rattle.store_core.specs.declared.view.StoredWord.{StoredWord}
 use Rattle.store_core.specs.Histories.{IsLegal, state_after}
-use Rattle.store_core.specs.Machine.{Machine, Reading, groups, is_number, is_shown, seat_has}
+use Rattle.store_core.specs.Machine.{Machine, ReadUnderWay, groups, is_number, is_shown, seat_has}
 use Rattle.store_core.specs.Masks.{has_bit, in_mask}
-use Rattle.store_core.specs.Served.{IsServed}
+use Rattle.store_core.specs.MachineInvariant.{IsSoundMachine}
 use Rattle.store_core.specs.States.{State, byte_at, empty}
 use Rattle.store_core.specs.Views.{seat_claims, stored, without_chunks}
 use Rattle.store_core.proofs.Lasting.{legal-append, legal_is_sound, run-append}
-use Rattle.store_core.proofs.Served.{byte_lasts, claim_seat, claimed_hidden, seat_claim}
+use Rattle.store_core.proofs.MachineInvariants.{byte_lasts, claim_seat, claimed_hidden, seat_claim}
 use Rattle.store_steps.specs.Layout.{cell_at, claim_word, held_word, length_code, length_word}
 use Rattle.store_steps.specs.Machines.{HasClaim, HasRead, HasStored, IsAtMachine, IsUnderWay, StandsForMachine}
 use Rattle.store_steps.specs.Rule.{HasView}
@@ -48,7 +48,7 @@ stays_stored group mask number (w ∷ words) miss = elim (cases_Bool (in_mask gr
 ]
 
 -- a read under way goes on in all that is seen later
-pub under_way_later : (fixed of : Fixed) (view new : SeatView) (more : List Event) (r : Reading) → new.seen ≡ view.seen ++ more → IsLegal of new.seen
+pub under_way_later : (fixed of : Fixed) (view new : SeatView) (more : List Event) (r : ReadUnderWay) → new.seen ≡ view.seen ++ more → IsLegal of new.seen
     → IsUnderWay fixed view r → IsUnderWay fixed new r
 under_way_later fixed of view new more r is legal old =
     let parts = legal-append of empty view.seen more (subst (λ (h : List Event). IsLegal of h) is legal) in
@@ -92,18 +92,18 @@ module _ (fixed : Fixed) (pieces : List Checked) (s : Table Unit (List SeatView)
       let k : HasStored s.views id (129 * c + w) (m.cell c w) = here.stands.written id c w wrote ours below in
       subst (λ (v : SeatView). stored v.written (129 * c + w) ≡ Some (m.cell c w)) (the_view k.part k.view k.has) k.is
 
-  pub read_is_of : (r : Reading) → (m.seat id).reading ≡ Some r → IsUnderWay fixed view r
+  pub read_is_of : (r : ReadUnderWay) → (m.seat id).reading ≡ Some r → IsUnderWay fixed view r
   read_is_of r is =
       let k : HasRead fixed s.views id r = here.stands.reads id r is in
       subst (λ (v : SeatView). IsUnderWay fixed v r) (the_view k.part k.view k.has) k.under_way
 
   -- it is so of what is seen later
   pub still_read : (new : SeatView) (more : List Event) → new.fixed ≡ view.fixed → new.seen ≡ view.seen ++ more → IsLegal new.fixed new.seen
-      → (r : Reading) → (m.seat id).reading ≡ Some r → IsUnderWay fixed new r
+      → (r : ReadUnderWay) → (m.seat id).reading ≡ Some r → IsUnderWay fixed new r
   still_read new more same is legal r reading =
       under_way_later fixed view.fixed view new more r is (subst (λ (f : Fixed). IsLegal f new.seen) same legal) (read_is_of r reading)
 
-  pub read_on : (new : SeatView) (between own : List Event) → GoesOn view new between own → (r : Reading) → (m.seat id).reading ≡ Some r → IsUnderWay fixed new r
+  pub read_on : (new : SeatView) (between own : List Event) → GoesOn view new between own → (r : ReadUnderWay) → (m.seat id).reading ≡ Some r → IsUnderWay fixed new r
   read_on new between own on r reading =
       still_read new (between ++ own) on.fixed_is (on.seen_is ∙ append_assoc view.seen between own) on.legal r reading
 
@@ -160,14 +160,14 @@ module _ (fixed : Fixed) (pieces : List Checked) (s : Table Unit (List SeatView)
             seat_claim k (next.claim c) (others k c other ∙ claimer_of m k c ((here.stands.claims k c).1 had))
       ]
 
-      pub stands_after : (i n : ℕ) → IsServed fixed next
+      pub stands_after : (i n : ℕ) → IsSoundMachine fixed next
           → ((c w : ℕ) → c < fixed.capacity → w < 129 → cell_at fixed (set s.words i n) (129 * c + w) ≡ next.cell c w)
           → ((group : ℕ) → group < groups fixed → held_word (set s.words i n) group ≡ next.held_word group)
           → ((c : ℕ) → c / 64 < groups fixed → has_bit (claim_word fixed (set s.words i n) (c / 64)) (c % 64) ≡ (is_shown next c || is_some (next.claim c)))
           → length_word fixed (set s.words i n) ≡ length_code next.recorded
           → ((c w : ℕ) → (next.seat id).written c w ≡ true → next.claim c ≡ Some id → w < 129 → stored new.written (129 * c + w) ≡ Some (next.cell c w))
           → ((k c w : ℕ) → k ≢ id → (next.seat k).written c w ≡ true → m.claim c ≡ Some k → w < 129 → ((m.seat k).written c w ≡ true) × (next.cell c w ≡ m.cell c w))
-          → ((r : Reading) → (next.seat id).reading ≡ Some r → IsUnderWay fixed new r)
+          → ((r : ReadUnderWay) → (next.seat id).reading ≡ Some r → IsUnderWay fixed new r)
           → ((k : ℕ) → k ≢ id → (next.seat k).reading ≡ (m.seat k).reading)
           → StandsForMachine fixed (stepped s i n id [] (new ∷ []) keeps) next
       stands_after i n served cells held claimed recorded wrote theirs reads others_read = record {
@@ -204,7 +204,7 @@ module _ (fixed : Fixed) (pieces : List Checked) (s : Table Unit (List SeatView)
   -- a load leaves the words: the table stands for the same machine where the seat's claims and stored words stay
   pub stays_after : (new : SeatView) (place : ℕ) → ((c : ℕ) → seat_claims new c ≡ seat_claims view c)
       → ((number : ℕ) → stored new.written number ≡ stored view.written number)
-      → ((r : Reading) → (m.seat id).reading ≡ Some r → IsUnderWay fixed new r) → StandsForMachine fixed (after_load s place id new) m
+      → ((r : ReadUnderWay) → (m.seat id).reading ≡ Some r → IsUnderWay fixed new r) → StandsForMachine fixed (after_load s place id new) m
   stays_after new place claims written reads =
       let same : set s.words place (slice_index s.words place) ≡ s.words = set-get_or s.words place 0 in
       stands_after new m (λ c. seat_is c ∙ sym (claims c)) (λ k c other. refl) place (slice_index s.words place) here.stands.served

@@ -10,7 +10,7 @@ use Rattle.store_core.specs.declared.history.Call.{Call}
 use Rattle.store_core.specs.declared.history.Event.{Event}
 use Rattle.store_core.specs.declared.view.SeatView.{SeatView}
 use Rattle.store_core.specs.declared.view.StoredWord.{StoredWord}
-use Rattle.store_core.specs.Events.{IsRight, after_call}
+use Rattle.store_core.specs.Events.{IsRightReply, after_call}
 use Rattle.store_core.specs.Histories.{AreLegalFrom, IsLegal, events_of, is_by, run, state_after}
 use Rattle.store_core.specs.States.{State, claims, empty, is_claimed}
 use Rattle.store_core.specs.Views.{mine, names_of, seat_claims, stored, written_after}
@@ -88,7 +88,7 @@ module _ (fixed : Fixed) (s : Table Unit (List SeatView)) (k : RuleHolds fixed s
 
   -- A call of the seat's, whose reply is right: the words stand for the state after it, the words that count as stored
   -- stand in cells of its claims, and the cells of others' claims are left.
-  pub did_step : (call : Call) (i n : ℕ) → i < parents_place fixed → (after_call (names_of view) call now).parents ≡ now.parents → IsRight fixed now (names_of view) call
+  pub did_step : (call : Call) (i n : ℕ) → i < parents_place fixed → (after_call (names_of view) call now).parents ≡ now.parents → IsRightReply fixed now (names_of view) call
       → StandFor fixed (set s.words i n) (after_call (names_of view) call now)
       → ((number value : ℕ) → stored (written_after call view.written) number ≡ Some value
       → (claims (names_of view) (after_call (names_of view) call now) (number / 129) ≡ true) × (cell_at fixed (set s.words i n) number ≡ value))

@@ -10,7 +10,7 @@ use Rattle.store_core.specs.declared.fixed.Fixed.{Fixed}
 use Rattle.store_core.specs.declared.history.Call.TheVariants.{Take}
 use Rattle.store_core.specs.declared.view.Named.{Named}
 use Rattle.store_core.specs.declared.view.SeatView.{SeatView}
-use Rattle.store_core.specs.Events.{IsRight, after_call}
+use Rattle.store_core.specs.Events.{IsRightReply, after_call}
 use Rattle.store_core.specs.Histories.{state_after}
 use Rattle.store_core.specs.Machine.{groups}
 use Rattle.store_core.specs.Masks.{has_bit, in_mask}
@@ -68,7 +68,7 @@ module _ (fixed : Fixed) (s : Table Unit (List SeatView)) (k : RuleHolds fixed s
       has_bit-and asked (bit_not w64 found) (c % 64)
       ∙ ap (λ (b : Bool). has_bit asked (c % 64) && b) (has_bit-not found (c % 64) small (omega arith) ∙ ap (λ (b : Bool). not b) (found_bit c here))
 
-  right : IsRight fixed state (names_of view) (Take group want granted)
+  right : IsRightReply fixed state (names_of view) (Take group want granted)
   right = record {
     small = and_small asked (bit_not w64 found) small_asked;
     bits = λ c here.

@@ -16,7 +16,7 @@ use Rattle.store_core.proofs.Tells.{same_name-refl}
 use Rattle.store_core.specs.Knowledge.{AreAllNames, LooksRound}
 use Rattle.store_steps.specs.Rule.{HasView, HaveCallers, RuleHolds, IsLater}
 use Rattle.store_steps.proofs.Storers.{gets}
-use Rattle.store_steps.proofs.Lists.{entry_of}
+use Rattle.store_core.proofs.Naming.{entry_of}
 use Rattle.store_steps.proofs.StepViews.{Steps, look_step}
 
 -- a name is one of these, or one that a later split gives, or one that comes of it

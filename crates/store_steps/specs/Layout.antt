@@ -26,11 +26,11 @@ abbrev pub parent_claim_place : Fixed → ℕ → ℕ
 parent_claim_place fixed group = parents_place fixed + groups fixed + group
 
 -- word w of boundary m's parent has the number 8 * m + w
-abbrev pub parent_place : Fixed → ℕ → ℕ
-parent_place fixed number = parents_place fixed + 2 * groups fixed + number
+abbrev pub parent_word_place : Fixed → ℕ → ℕ
+parent_word_place fixed number = parents_place fixed + 2 * groups fixed + number
 
 abbrev pub word_count : Fixed → ℕ
-word_count fixed = parent_place fixed (8 * fixed.capacity)
+word_count fixed = parent_word_place fixed (8 * fixed.capacity)
 
 abbrev pub held_word : List ℕ → ℕ → ℕ
 held_word words group = slice_index words group
@@ -51,7 +51,7 @@ abbrev pub parent_claim_word : Fixed → List ℕ → ℕ → ℕ
 parent_claim_word fixed words group = slice_index words (parent_claim_place fixed group)
 
 abbrev pub parent_at : Fixed → List ℕ → ℕ → ℕ
-parent_at fixed words number = slice_index words (parent_place fixed number)
+parent_at fixed words number = slice_index words (parent_word_place fixed number)
 
 -- word w of a parent's 64 bytes, little-endian
 abbrev pub parent_word : List ℕ → ℕ → ℕ

@@ -9,10 +9,10 @@ use Rattle.store_core.specs.declared.micro.MicroStep.{MicroStep}
 use Rattle.store_core.specs.declared.micro.Reply.{Reply}
 use Rattle.store_core.specs.declared.view.SeatView.{SeatView}
 use Rattle.store_core.specs.Histories.{state_after}
-use Rattle.store_core.specs.Machine.{Machine, Reading, groups, is_shown, position}
+use Rattle.store_core.specs.Machine.{Machine, ReadUnderWay, groups, is_shown, position}
 use Rattle.store_core.specs.Masks.{has_bit}
 use Rattle.store_core.specs.Schedules.{AreTexts, IsLegalStep, IsReply, after_step}
-use Rattle.store_core.specs.Served.{IsPart, IsServed}
+use Rattle.store_core.specs.MachineInvariant.{IsReadSoFar, IsSoundMachine}
 use Rattle.store_core.specs.Views.{seat_claims, stored}
 use Rattle.store_steps.specs.Layout.{cell_at, claim_word, held_word, length_code, length_word}
 use Rattle.store_steps.specs.Rule.{HasView, RuleHolds}
@@ -32,13 +32,13 @@ pub record HasStored (views : List (List SeatView)) (seat number value : ℕ) : 
   pub is : stored view.written number ≡ Some value
 
 -- A read under way: its bytes were held in what the view has seen, and it goes on at a position that could be held.
-pub record IsUnderWay (fixed : Fixed) (view : SeatView) (r : Reading) : Type 0 where
-  pub part : IsPart (state_after view.seen) r
+pub record IsUnderWay (fixed : Fixed) (view : SeatView) (r : ReadUnderWay) : Type 0 where
+  pub part : IsReadSoFar (state_after view.seen) r
   pub more : length r.bytes < r.len
   pub below : position r < 1024 * fixed.capacity
 
 -- of a view of the seat
-pub record HasRead (fixed : Fixed) (views : List (List SeatView)) (seat : ℕ) (r : Reading) : Type 0 where
+pub record HasRead (fixed : Fixed) (views : List (List SeatView)) (seat : ℕ) (r : ReadUnderWay) : Type 0 where
   pub part : ℕ
   pub view : SeatView
   pub has : HasView views seat part view
@@ -48,14 +48,14 @@ pub record HasRead (fixed : Fixed) (views : List (List SeatView)) (seat : ℕ) (
 -- n is the table's seat n, and claims what a view of it claims, so that two views that were joined count as one seat. Of
 -- a chunk that it claims each word that the machine has as written was stored. Its read under way is a view's.
 pub record StandsForMachine (fixed : Fixed) (table : Table Unit (List SeatView)) (m : Machine) : Type 0 where
-  pub served : IsServed fixed m
+  pub served : IsSoundMachine fixed m
   pub cells : (c w : ℕ) → c < fixed.capacity → w < 129 → cell_at fixed table.words (129 * c + w) ≡ m.cell c w
   pub held : (group : ℕ) → group < groups fixed → held_word table.words group ≡ m.held_word group
   pub claimed : (c : ℕ) → c / 64 < groups fixed → has_bit (claim_word fixed table.words (c / 64)) (c % 64) ≡ (is_shown m c || is_some (m.claim c))
   pub recorded : length_word fixed table.words ≡ length_code m.recorded
   pub claims : (seat c : ℕ) → (m.claim c ≡ Some seat) ↔ HasClaim table.views seat c
   pub written : (seat c w : ℕ) → (m.seat seat).written c w ≡ true → m.claim c ≡ Some seat → w < 129 → HasStored table.views seat (129 * c + w) (m.cell c w)
-  pub reads : (seat : ℕ) (r : Reading) → (m.seat seat).reading ≡ Some r → HasRead fixed table.views seat r
+  pub reads : (seat : ℕ) (r : ReadUnderWay) → (m.seat seat).reading ≡ Some r → HasRead fixed table.views seat r
 
 -- Seat `seat`, which has one view, makes a step: word `place` becomes `word`, and `new` is its view. It is the machine's
 -- step: legal there, with this reply, and the table afterwards stands for the machine after it.

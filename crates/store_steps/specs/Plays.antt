@@ -15,7 +15,7 @@ use Rattle.store_core.specs.Serves.{node_held}
 use Rattle.store_core.specs.Views.{split_first, split_second}
 use Rattle.store_core.specs.Knowledge.{AreMet, ArePartsOf, Did, EndsStoring, IsMerged, Looked}
 use Rattle.store_steps.specs.Reads.{read_events}
-use Rattle.store_steps.specs.Slices.{node_events, number_of, unserved_events, unstored_events}
+use Rattle.store_steps.specs.Slices.{node_events, node_number, unserved_events, unstored_events}
 use Rattle.store_steps.specs.Tells.{FindsHeld, FindsParentWord, FindsWord}
 
 -- a seat with one view has one afterwards, of which this is told
@@ -41,13 +41,13 @@ pub record Loads (group at len found : ℕ) (old new : SeatView) : Type 0 where
   pub looked : Looked (read_events old group at len) old new
   pub finds : FindsHeld group found new
 
-pub record Copies (chunk w found : ℕ) (old new : SeatView) : Type 0 where
+pub record CopiesWord (chunk w found : ℕ) (old new : SeatView) : Type 0 where
   pub same : new ≡ old
   pub finds : FindsWord chunk w found old
 
 pub record LoadsNode (node : Node) (last : Bool) (start len found : ℕ) (old new : SeatView) : Type 0 where
   pub looked : Looked (node_events old node last start len) old new
-  pub finds : has_bit found (number_of node % 64) ≡ is_some (node_held (state_after new.seen) node)
+  pub finds : has_bit found (node_number node % 64) ≡ is_some (node_held (state_after new.seen) node)
 
 pub record CopiesParent (boundary w found : ℕ) (old new : SeatView) : Type 0 where
   pub same : new ≡ old
@@ -86,7 +86,7 @@ abbrev pub LoadsLength : ℕ → SeatView → SeatView → Type 0
 LoadsLength found old new = Did (Length (length_in found)) old new
 
 -- the loads of a split, a join and a meeting
-pub record Parts (old new : SeatView) : Type 0 where
+pub record PartsInTwo (old new : SeatView) : Type 0 where
   pub same : new ≡ old
   pub parts : ArePartsOf old (split_first old) (split_second old)
 
@@ -106,6 +106,6 @@ pub record MeetsSeat (first second : SeatView) (later : List SeatView) : Type 0 
   pub met : AreMet first second new_first new_second
 
 -- the second of a seat's views, and those after the first
-abbrev pub rest_of : List SeatView → List SeatView
-rest_of [] = []
-rest_of (view ∷ views) = views
+abbrev pub later_views : List SeatView → List SeatView
+later_views [] = []
+later_views (view ∷ views) = views

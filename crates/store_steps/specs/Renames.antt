@@ -5,7 +5,7 @@ use lib.ListN.{get_elem?}
 use Rattle.atomic_table.specs.Table.{State as Table, keeps, stepped}
 use Rattle.store_core.specs.declared.fixed.Fixed.{Fixed}
 use Rattle.store_core.specs.declared.view.SeatView.{SeatView}
-use Rattle.store_core.specs.Machine.{Machine, Reading, is_number, no_seat}
+use Rattle.store_core.specs.Machine.{Machine, ReadUnderWay, is_number, no_seat}
 use Rattle.store_core.specs.Views.{seat_claims}
 use Rattle.store_steps.specs.Machines.{IsUnderWay, StandsForMachine}
 use Rattle.store_core.specs.Knowledge.{AreMet, IsMerged}
@@ -22,8 +22,8 @@ EnterStays = (fixed : Fixed) (table : Table Unit (List SeatView)) (m : Machine) 
 abbrev pub joined_claim : ℕ → ℕ → Option ℕ → Option ℕ
 joined_claim seat other o = if is_number other o then Some seat else o
 
-abbrev pub joined : Machine → ℕ → ℕ → Machine
-joined m seat other = record m {
+abbrev pub joined_machine : Machine → ℕ → ℕ → Machine
+joined_machine m seat other = record m {
   claim = λ c. joined_claim seat other (m.claim c);
   seat = λ n. if n == other then no_seat else m.seat n;
 }
@@ -36,7 +36,7 @@ JoinRenames = (fixed : Fixed) (table : Table Unit (List SeatView)) (m : Machine)
       words = table.words;
       homes = table.homes;
       views = slice_set (slice_set table.views seat (one ∷ two ∷ [])) other [];
-    }) (joined m seat other)
+    }) (joined_machine m seat other)
 
 -- A load by which the two views of a seat become one leaves the machine: the joined seat is one already.
 abbrev pub MergeStays : Type 0
@@ -54,8 +54,8 @@ MeetStays = (fixed : Fixed) (table : Table Unit (List SeatView)) (m : Machine) (
 abbrev pub left_claim : ℕ → ℕ → Bool → Option ℕ → Option ℕ
 left_claim seat new theirs o = if is_number seat o && theirs then Some new else o
 
-abbrev pub left : Machine → ℕ → ℕ → SeatView → Machine
-left m seat new view = record m {
+abbrev pub left_machine : Machine → ℕ → ℕ → SeatView → Machine
+left_machine m seat new view = record m {
   claim = λ c. left_claim seat new (seat_claims view c) (m.claim c);
   seat = λ n. if n == seat then record (m.seat n) { written = λ c w. not (seat_claims view c) && (m.seat n).written c w } else m.seat n;
 }
@@ -65,9 +65,9 @@ left m seat new view = record m {
 abbrev pub LeaveRenames : Type 0
 LeaveRenames = (fixed : Fixed) (table : Table Unit (List SeatView)) (m : Machine) (seat : ℕ) (one two : SeatView) → RuleHolds fixed table
     → StandsForMachine fixed table m → get_elem? table.views seat ≡ some (one ∷ two ∷ [])
-    → ((r : Reading) → (m.seat seat).reading ≡ Some r → IsUnderWay fixed one r)
+    → ((r : ReadUnderWay) → (m.seat seat).reading ≡ Some r → IsUnderWay fixed one r)
     → StandsForMachine fixed (record {
       words = table.words;
       homes = table.homes;
       views = slice_set table.views seat (one ∷ []) ++ (two ∷ []) ∷ [];
-    }) (left m seat (length table.views) two)
+    }) (left_machine m seat (length table.views) two)

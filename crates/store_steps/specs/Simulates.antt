@@ -26,7 +26,7 @@ use Rattle.store_steps.specs.Asks.{AreClaimed, AreHeldClaims, AreWordsStored}
 use Rattle.store_core.specs.Knowledge.{Looked, event_of, opening_view}
 use Rattle.store_steps.specs.Layout.{cell_at, cell_place, claim_place, claim_word, held_word, length_place, length_word, word_count}
 use Rattle.store_steps.specs.Machines.{IsAtMachine, IsMachineStep, StandsForMachine}
-use Rattle.store_steps.specs.Plays.{LoadsLength, Copies, Gives, Loads, Parts, Publishes, SettlesLength, TakesChunks, length_in}
+use Rattle.store_steps.specs.Plays.{LoadsLength, CopiesWord, Gives, Loads, PartsInTwo, Publishes, SettlesLength, TakesChunks, length_in}
 use Rattle.store_steps.specs.Reads.{read_events}
 use Rattle.store_steps.specs.Rule.{RuleHolds}
 use Rattle.store_steps.specs.Tells.{Stores}
@@ -122,7 +122,7 @@ LookIsTooLarge = (fixed : Fixed) (pieces : List Checked) (table : Table Unit (Li
 -- A copy leaves the machine, and finds its word.
 abbrev pub CopyStays : Type 0
 CopyStays = (fixed : Fixed) (pieces : List Checked) (table : Table Unit (List SeatView)) (m : Machine) (seat c w : ℕ) (view new : SeatView)
-    → IsAtMachine fixed pieces table m seat view → c < fixed.capacity → w < 129 → Copies c w (cell_at fixed table.words (129 * c + w)) view new
+    → IsAtMachine fixed pieces table m seat view → c < fixed.capacity → w < 129 → CopiesWord c w (cell_at fixed table.words (129 * c + w)) view new
     → (cell_at fixed table.words (129 * c + w) ≡ m.cell c w) × StandsForMachine fixed (after_load table (cell_place fixed (129 * c + w)) seat new) m
 
 -- So does a load that stands for a give or a commit of a group that isn't there.
@@ -142,5 +142,5 @@ parted_table table seat view = record {
 -- A part leaves the machine, at its load and where the new seat comes: it claims nothing.
 abbrev pub PartStays : Type 0
 PartStays = (fixed : Fixed) (pieces : List Checked) (table : Table Unit (List SeatView)) (m : Machine) (seat place : ℕ) (view new : SeatView)
-    → IsAtMachine fixed pieces table m seat view → Parts view new
+    → IsAtMachine fixed pieces table m seat view → PartsInTwo view new
     → StandsForMachine fixed (after_load table place seat new) m × StandsForMachine fixed (parted_table table seat view) m

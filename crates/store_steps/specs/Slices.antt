@@ -16,9 +16,9 @@ use Rattle.store_steps.specs.Layout.{parent_held_place}
 use Rattle.store_core.specs.Knowledge.{event_of}
 
 -- a chunk's number, or a parent's boundary
-abbrev pub number_of : Node → ℕ
-number_of (Chunk c) = c
-number_of (Parent m) = m
+abbrev pub node_number : Node → ℕ
+node_number (Chunk c) = c
+node_number (Parent m) = m
 
 -- where the held word with a node's bit stands
 abbrev pub node_place : Fixed → Node → ℕ

@@ -17,5 +17,5 @@ pub record IsGripOf (words : Words) (grip : Gripped) : Type 0 where
   pub knows : IsViewOf words.fixed grip.view
 
 -- there is such a group
-abbrev pub HasGroup : Words → ℕ → Type 0
-HasGroup words group = group < groups words.fixed
+abbrev pub CoversGroup : Words → ℕ → Type 0
+CoversGroup words group = group < groups words.fixed

@@ -19,9 +19,9 @@ impl Split<LinkedList<SeatView>> for Parts {
 pub(crate) struct Parting;
 
 impl Play<(), LinkedList<SeatView>> for Parting {
-    ghost use Rattle.store_steps.specs.Plays.{OfOne, Parts};
+    ghost use Rattle.store_steps.specs.Plays.{OfOne, PartsInTwo};
 
-    ghost then = { λ step me found later. OfOne Parts me later };
+    ghost then = { λ step me found later. OfOne PartsInTwo me later };
 }
 
 // A load by which a seat sees all that was called.
@@ -78,9 +78,9 @@ pub(crate) struct Leaving;
 impl Split<LinkedList<SeatView>> for Leaving {
     ghost use Rattle.std.specs.Prelude.{[], ◌∷◌};
     ghost use Rattle.store_steps.specs.Grips.{first_of};
-    ghost use Rattle.store_steps.specs.Plays.{rest_of};
+    ghost use Rattle.store_steps.specs.Plays.{later_views};
 
     ghost left = { λ views. first_of views ∷ [] };
 
-    ghost right = { rest_of };
+    ghost right = { later_views };
 }

@@ -1,8 +1,8 @@
 ghost use Rattle.std.specs.Prelude.{◌≡◌, ◌+◌, ◌*◌, ◌<◌, ◌≤◌, ◌^◌, ◌%◌};
 ghost use Rattle.store_core.specs.Machine.{groups};
 ghost use Rattle.store_core.specs.Masks.{has_bit};
-ghost use Rattle.store_steps.specs.Layout.{cell_place, claim_place, length_place, parent_claim_place, parent_held_place, parent_place, word_count};
-ghost use Rattle.store_steps.specs.Slices.{node_place, number_of};
+ghost use Rattle.store_steps.specs.Layout.{cell_place, claim_place, length_place, parent_claim_place, parent_held_place, parent_word_place, word_count};
+ghost use Rattle.store_steps.specs.Slices.{node_number, node_place};
 
 use bao_text::Node;
 use store_core::{CELL_WORDS, Fixed, PARENT_WORDS, has_bit};
@@ -81,7 +81,7 @@ pub(crate) fn parent_claim_place(fixed: &Fixed, group: u32) -> usize
 
 // Where the held word with a node's bit stands.
 pub(crate) fn node_place(fixed: &Fixed, node: &Node) -> usize
-    requires { number_of node.now < fixed.now.capacity }
+    requires { node_number node.now < fixed.now.capacity }
     ensures place { result ≡ node_place fixed.now node.now }
     ensures within { result < word_count fixed.now }
 {
@@ -93,7 +93,7 @@ pub(crate) fn node_place(fixed: &Fixed, node: &Node) -> usize
 
 // Whether a node's bit is set in its held word.
 pub(crate) fn has_node(held: u64, node: &Node) -> bool
-    ensures { result ≡ has_bit held (number_of node.now % 64) }
+    ensures { result ≡ has_bit held (node_number node.now % 64) }
 {
     match node {
         Node::Chunk(chunk) => has_bit(held, (*chunk % 64) as u32),
@@ -105,7 +105,7 @@ pub(crate) fn has_node(held: u64, node: &Node) -> bool
 pub(crate) fn parent_place(fixed: &Fixed, boundary: u32, word: u8) -> usize
     requires boundary { boundary < fixed.now.capacity }
     requires word { word < 8 }
-    ensures place { result ≡ parent_place fixed.now (8 * boundary + word) }
+    ensures place { result ≡ parent_word_place fixed.now (8 * boundary + word) }
     ensures within { result < word_count fixed.now }
 {
     length_place(fixed)

@@ -123,9 +123,9 @@ pub(crate) struct Copying<A> {
 }
 
 impl<A: Asked> Play<(), LinkedList<SeatView>> for Copying<A> {
-    ghost use Rattle.store_steps.specs.Plays.{OfOne, Copies};
+    ghost use Rattle.store_steps.specs.Plays.{OfOne, CopiesWord};
 
-    ghost then = { λ step me found later. OfOne (Copies A.first A.second found) me later };
+    ghost then = { λ step me found later. OfOne (CopiesWord A.first A.second found) me later };
 }
 
 pub(crate) struct LoadingNode<A> {

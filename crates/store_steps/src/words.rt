@@ -54,11 +54,11 @@ impl Words {
     ghost use Rattle.store_core.specs.Knowledge.{AreMet, ArePartsOf, Did, EndsStoring, IsMerged, Looked, LooksRound, opening_view};
     ghost use Rattle.store_steps.specs.Reads.{read_events};
     ghost use Rattle.store_core.specs.Serves.{node_held};
-    ghost use Rattle.store_steps.specs.Slices.{node_events, number_of, unserved_events, unstored_events};
+    ghost use Rattle.store_steps.specs.Slices.{node_events, node_number, unserved_events, unstored_events};
     ghost use Rattle.store_core.specs.Masks.{has_bit};
     ghost use Rattle.store_steps.specs.Plays.{StoresParent};
     ghost use Rattle.store_steps.specs.Tells.{FindsHeld, FindsParentWord, FindsWord, IsStoringNow, Stores};
-    ghost use Rattle.store_steps.specs.Words.{HasGroup, IsGripOf, fixed_of};
+    ghost use Rattle.store_steps.specs.Words.{CoversGroup, IsGripOf, fixed_of};
 
     /// Words of which none is held, claimed or recorded, and their first grip, which has seen nothing. `capacity` is a
     /// number of chunks.
@@ -102,7 +102,7 @@ impl Words {
     /// mask. A chunk that the grip claims already isn't granted again. One `fetch_or` on the claim word.
     pub fn take(&self, grip: &mut Grip, group: u32, want: u64) -> u64
         requires of { IsGripOf self.now grip.old }
-        requires group { HasGroup self.now group }
+        requires group { CoversGroup self.now group }
         ensures of { IsGripOf self.now grip.new }
         ensures did { Did (Take group want result) grip.old.view grip.new.view }
     {
@@ -111,7 +111,7 @@ impl Words {
 
     fn take_asked<A: Asked>(&self, grip: &mut Grip, group: u32, want: u64) -> u64
         requires of { IsGripOf self.now grip.old }
-        requires group { HasGroup self.now group }
+        requires group { CoversGroup self.now group }
         requires asked { (A.group ≡ group) × (A.first ≡ want) }
         ensures of { IsGripOf self.now grip.new }
         ensures did { Did (Take group want result) grip.old.view grip.new.view }
@@ -129,7 +129,7 @@ impl Words {
     /// word.
     pub fn give(&self, grip: &mut Grip, group: u32, mask: u64, given: u64)
         requires of { IsGripOf self.now grip.old }
-        requires group { HasGroup self.now group }
+        requires group { CoversGroup self.now group }
         requires given { AreClaimed grip.old.view group mask given }
         ensures of { IsGripOf self.now grip.new }
         ensures did { Did (Give group mask given) grip.old.view grip.new.view }
@@ -139,7 +139,7 @@ impl Words {
 
     fn give_asked<A: Asked>(&self, grip: &mut Grip, group: u32, mask: u64, given: u64)
         requires of { IsGripOf self.now grip.old }
-        requires group { HasGroup self.now group }
+        requires group { CoversGroup self.now group }
         requires given { AreClaimed grip.old.view group mask given }
         requires asked { (A.group ≡ group) × (A.first ≡ mask) × (A.second ≡ given) }
         ensures of { IsGripOf self.now grip.new }
@@ -154,7 +154,7 @@ impl Words {
     /// A give of a group that isn't there: no claim ends. One load, which changes nothing.
     pub fn give_none(&self, grip: &mut Grip, group: u32, mask: u64)
         requires of { IsGripOf self.now grip.old }
-        requires group { ¬ HasGroup self.now group }
+        requires group { ¬ CoversGroup self.now group }
         ensures of { IsGripOf self.now grip.new }
         ensures did { Did (Give group mask 0) grip.old.view grip.new.view }
     {
@@ -163,11 +163,12 @@ impl Words {
 
     fn give_none_asked<A: Asked>(&self, grip: &mut Grip, group: u32, mask: u64)
         requires of { IsGripOf self.now grip.old }
-        requires group { ¬ HasGroup self.now group }
+        requires group { ¬ CoversGroup self.now group }
         requires asked { (A.group ≡ group) × (A.first ≡ mask) × (A.second ≡ 0) }
         ensures of { IsGripOf self.now grip.new }
         ensures did { Did (Give group mask 0) grip.old.view grip.new.view }
     {
+        // For the proof alone: by it the call has its place in the history.
         self.table.shared.load::<Giving<A>>(&mut grip.seat, 0);
     }
 
@@ -202,7 +203,7 @@ impl Words {
     /// word, also where the mask is 0.
     pub fn publish(&self, grip: &mut Grip, group: u32, piece: &Checked<'_>, mask: u64)
         requires of { IsGripOf self.now grip.old }
-        requires group { HasGroup self.now group }
+        requires group { CoversGroup self.now group }
         requires piece { IsOf (fixed_of self.now) piece.now }
         requires mask { AreHeldClaims grip.old.view group (piece_of piece.now) mask }
         requires written { AreWordsStored grip.old.view.written group mask (piece_of piece.now) }
@@ -214,7 +215,7 @@ impl Words {
 
     fn publish_asked<A: Asked>(&self, grip: &mut Grip, group: u32, piece: &Checked<'_>, mask: u64)
         requires of { IsGripOf self.now grip.old }
-        requires group { HasGroup self.now group }
+        requires group { CoversGroup self.now group }
         requires piece { IsOf (fixed_of self.now) piece.now }
         requires mask { AreHeldClaims grip.old.view group (piece_of piece.now) mask }
         requires written { AreWordsStored grip.old.view.written group mask (piece_of piece.now) }
@@ -233,7 +234,7 @@ impl Words {
     /// A commit to a group that isn't there: nothing is published, and no claim ends. One load, which changes nothing.
     pub fn publish_none(&self, grip: &mut Grip, group: u32, piece: &Checked<'_>)
         requires of { IsGripOf self.now grip.old }
-        requires group { ¬ HasGroup self.now group }
+        requires group { ¬ CoversGroup self.now group }
         requires piece { IsOf (fixed_of self.now) piece.now }
         ensures of { IsGripOf self.now grip.new }
         ensures did { Did (Commit group (piece_of piece.now) 0) grip.old.view grip.new.view }
@@ -243,7 +244,7 @@ impl Words {
 
     fn publish_none_asked<A: Asked>(&self, grip: &mut Grip, group: u32, piece: &Checked<'_>)
         requires of { IsGripOf self.now grip.old }
-        requires group { ¬ HasGroup self.now group }
+        requires group { ¬ CoversGroup self.now group }
         requires piece { IsOf (fixed_of self.now) piece.now }
         requires asked { (A.group ≡ group) × (A.piece ≡ piece_of piece.now) }
         ensures of { IsGripOf self.now grip.new }
@@ -251,6 +252,7 @@ impl Words {
     {
         // A law, so that the proof has what it says: nothing runs.
         piece.is_accepted();
+        // For the proof alone: by it the call has its place in the history.
         self.table.shared.load::<Publishing<A>>(&mut grip.seat, 0);
     }
 
@@ -258,7 +260,7 @@ impl Words {
     /// `len` bytes from position `at` on, and the read's event where it is its last.
     pub fn load(&self, grip: &mut Grip, group: u32, at: u64, len: u64) -> u64
         requires of { IsGripOf self.now grip.old }
-        requires group { HasGroup self.now group }
+        requires group { CoversGroup self.now group }
         ensures of { IsGripOf self.now grip.new }
         ensures looked { Looked (read_events grip.old.view group at len) grip.old.view grip.new.view }
         ensures held { FindsHeld group result grip.new.view }
@@ -268,7 +270,7 @@ impl Words {
 
     fn load_asked<A: Asked>(&self, grip: &mut Grip, group: u32, at: u64, len: u64) -> u64
         requires of { IsGripOf self.now grip.old }
-        requires group { HasGroup self.now group }
+        requires group { CoversGroup self.now group }
         requires asked { (A.group ≡ group) × (A.first ≡ at) × (A.second ≡ len) }
         ensures of { IsGripOf self.now grip.new }
         ensures looked { Looked (read_events grip.old.view group at len) grip.old.view grip.new.view }
@@ -349,7 +351,7 @@ impl Words {
     /// or where it is the slice's last, which `last` says. One load of a held word.
     pub fn load_node(&self, grip: &mut Grip, node: &Node, last: bool, start: u64, len: u64) -> bool
         requires of { IsGripOf self.now grip.old }
-        requires node { number_of node.now < (fixed_of self.now).capacity }
+        requires node { node_number node.now < (fixed_of self.now).capacity }
         ensures of { IsGripOf self.now grip.new }
         ensures looked { Looked (node_events grip.old.view node.now last start len) grip.old.view grip.new.view }
         ensures held { result ≡ is_some (node_held (state_after grip.new.view.seen) node.now) }
@@ -366,7 +368,7 @@ impl Words {
         len: u64,
     ) -> bool
         requires of { IsGripOf self.now grip.old }
-        requires node { number_of node.now < (fixed_of self.now).capacity }
+        requires node { node_number node.now < (fixed_of self.now).capacity }
         requires asked { (A.node ≡ node.now) × (A.last ≡ last) × (A.start ≡ start) × (A.len ≡ len) }
         ensures of { IsGripOf self.now grip.new }
         ensures looked { Looked (node_events grip.old.view node.now last start len) grip.old.view grip.new.view }
@@ -472,7 +474,7 @@ impl Words {
     /// word of boundaries.
     pub fn claim_parents(&self, grip: &mut Grip, group: u32, want: u64) -> u64
         requires of { IsGripOf self.now grip.old }
-        requires group { HasGroup self.now group }
+        requires group { CoversGroup self.now group }
         requires none { grip.old.view.storing ≡ [] }
         ensures of { IsGripOf self.now grip.new }
         ensures claimed { IsStoringNow group result grip.old.view grip.new.view }
@@ -483,7 +485,7 @@ impl Words {
 
     fn claim_parents_asked<A: Asked>(&self, grip: &mut Grip, group: u32, want: u64) -> u64
         requires of { IsGripOf self.now grip.old }
-        requires group { HasGroup self.now group }
+        requires group { CoversGroup self.now group }
         requires none { grip.old.view.storing ≡ [] }
         requires asked { A.group ≡ group }
         ensures of { IsGripOf self.now grip.new }
@@ -531,7 +533,7 @@ impl Words {
     /// whose words it stored. One `fetch_or` on the held word of boundaries, also where the mask is 0.
     pub fn publish_parents(&self, grip: &mut Grip, group: u32, piece: &Checked<'_>, mask: u64)
         requires of { IsGripOf self.now grip.old }
-        requires group { HasGroup self.now group }
+        requires group { CoversGroup self.now group }
         requires piece { IsOf (fixed_of self.now) piece.now }
         requires length { (state_after grip.old.view.seen).recorded ≡ Some (length_of (piece_of piece.now)) }
         requires written { AreParentsWritten grip.old.view group mask (piece_of piece.now) }
@@ -550,7 +552,7 @@ impl Words {
         mask: u64,
     )
         requires of { IsGripOf self.now grip.old }
-        requires group { HasGroup self.now group }
+        requires group { CoversGroup self.now group }
         requires piece { IsOf (fixed_of self.now) piece.now }
         requires length { (state_after grip.old.view.seen).recorded ≡ Some (length_of (piece_of piece.now)) }
         requires written { AreParentsWritten grip.old.view group mask (piece_of piece.now) }
@@ -579,6 +581,7 @@ impl Words {
         ensures back { IfErr result (λ back. back ≡ grip) }
     {
         let Grip { mut seat } = grip;
+        // For the proof alone: by it the new name is known to be new.
         self.table.shared.load::<Parting>(&mut seat, 0);
         let other = self.table.shared.split_seat::<Parts>(&mut seat);
         Ok((Grip { seat }, Grip { seat: other }))
@@ -591,6 +594,7 @@ impl Words {
         ensures of { IsGripOf self.now grip.new }
         ensures looked { LooksRound grip.old.view grip.new.view }
     {
+        // For the proof alone: by it the grip sees the history so far.
         self.table.shared.load::<LookingRound>(&mut grip.seat, 0);
     }
 
@@ -605,6 +609,7 @@ impl Words {
         let Grip { mut seat } = first;
         let Grip { seat: other } = second;
         self.table.shared.join_seat::<Both>(&mut seat, other);
+        // For the proof alone: by it the two views become one.
         self.table.shared.load::<Merging>(&mut seat, 0);
         Grip { seat }
     }
@@ -621,6 +626,7 @@ impl Words {
         let (_, spare) = self.table.shared.load_new_seat::<Entering>(0);
         let other = replace(&mut second.seat, spare);
         self.table.shared.join_seat::<Both>(&mut first.seat, other);
+        // For the proof alone: by it both have seen one history.
         self.table.shared.load::<Meeting>(&mut first.seat, 0);
         second.seat = self.table.shared.split_seat::<Leaving>(&mut first.seat);
     }

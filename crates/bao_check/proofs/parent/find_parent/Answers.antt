@@ -1,13 +1,13 @@
 use Rattle.std.proofs.Common.{◌≡◌, suc, ◌+◌, ◌-◌, ◌*◌, [], Some, sym, ◌∙◌, arith}
 use Rattle.std.specs.Int.Count.{count_trailing_zeros}
-use Rattle.bao_text.specs.Nodes.{placed, subtree_nodes}
+use Rattle.bao_text.specs.Nodes.{placed_nodes, subtree_nodes}
 use Rattle.bao_check.specs.Parents.{parent_place}
 use Rattle.bao_check.proofs.Finding.{found_at, found_place, none_of}
 use Rattle.bao_check.proofs.parent.find_parent.Goals as goal
 
 pub returns-then-not-wants_parent : goal.returns-then-not-wants_parent
 returns-then-not-wants_parent c = λ sides from.
-    sym (none_of (parent_place (placed c.args.at (subtree_nodes c.args.choice.now c.args.number c.args.n sides from)) c.args.m)
+    sym (none_of (parent_place (placed_nodes c.args.at (subtree_nodes c.args.choice.now c.args.number c.args.n sides from)) c.args.m)
     (sym (c.wants_parent.ensures sides from c.args.at) ∙ c.if-not-wants_parent.true))
 
 pub overflow_sub-levels : goal.overflow_sub-levels

@@ -3,7 +3,7 @@ use Rattle.std.proofs.lemmas.Bool.{cases_Bool}
 use Rattle.std.proofs.Math.Pow.{pow_mono}
 use Rattle.std.specs.Int.Count.{count_trailing_zeros}
 use Rattle.bao_text.specs.Choice.{chunk_count, wants}
-use Rattle.bao_text.specs.Nodes.{placed, subtree_nodes}
+use Rattle.bao_text.specs.Nodes.{placed_nodes, subtree_nodes}
 use Rattle.bao_check.specs.Parents.{parent_place}
 use Rattle.bao_check.proofs.Finding.{half, is_there, lowest_of, parent_outside, parent_unwanted}
 use Rattle.bao_check.proofs.parent.wants_parent.Goals as goal
@@ -53,7 +53,7 @@ returns c = λ sides from at.
     let asked : wants choice (1024 * (number + k)) (min (1024 * (2 * h)) (n - 1024 * k)) ≡ c.wants.result =
     (λ i. wants choice (1024 * start i) (min (1024 * (2 * h)) (n - 1024 * inner i)))
     ∙ ap (wants choice (1024 * (m - h))) (sym c.parent_len.ensures) ∙ sym c.wants.ensures in
-    let there : Bool = is_some (parent_place (placed at (subtree_nodes choice number n sides from)) m) in
+    let there : Bool = is_some (parent_place (placed_nodes at (subtree_nodes choice number n sides from)) m) in
     elim (cases_Bool (wants choice (1024 * (number + k)) (min (1024 * (2 * h)) (n - 1024 * k)))) [
       | inl wanted ↦ sym asked ∙ wanted ∙ sym (is_there choice number n at m below above range wanted sides from)
       | inr skipped ↦

@@ -3,7 +3,7 @@ use Rattle.std.proofs.lemmas.List.{map-append}
 use Rattle.std.proofs.lemmas.List.Elements.{All-push}
 use Rattle.bao_read.specs.declared.jobs.Answer.{Answer}
 use Rattle.bao_read.specs.declared.jobs.Job.{Job}
-use Rattle.bao_read.specs.Jobs.{IsAnswer}
+use Rattle.bao_read.specs.Jobs.{IsJobAnswer}
 use Rattle.bao_read.proofs.Deque.{takes}
 use Rattle.bao_read.proofs.pool.answers_of.Goals as goal
 use Rattle.bao_read.proofs.pool.answers_of.Goals.{in-Success+in-Ok, in-Retry}
@@ -21,7 +21,7 @@ pub steals-preserved : goal.steals-preserved
 steals-preserved g c =
     let same = c.steal_as.ensures.same in
     let table = c.steals.invariant.table in
-    let Right : Answer → Type 0 = IsAnswer (g.S.Source.contents c.args.source.now) (g.S.Source.faultless c.args.source.now) c.args.choice.now c.args.mode.now in
+    let Right : Answer → Type 0 = IsJobAnswer (g.S.Source.contents c.args.source.now) (g.S.Source.faultless c.args.source.now) c.args.choice.now c.args.mode.now in
     let old : List Answer = c.steals.answers.items in
     let kept : c.reserve.new.self.items ≡ old = c.reserve.ensures.items in
     record {

@@ -1,11 +1,11 @@
 use Rattle.std.proofs.Common.{◌≡◌, All, map}
 use Rattle.crossbeam_deque.specs.Handles.{IsPassOf, stealer_deque, view}
-use Rattle.bao_read.specs.Jobs.{IsAnswer}
+use Rattle.bao_read.specs.Jobs.{IsJobAnswer}
 use Rattle.bao_read.proofs.pool.answers_of.Given as goal
 
 abbrev pub invariant-steals : goal.invariant-steals
 invariant-steals g l = record {
   table : IsPassOf (stealer_deque l.thief) l.pass;
-  right : All (IsAnswer (g.S.Source.contents l.source) (g.S.Source.faultless l.source) l.choice l.mode) l.answers.items;
+  right : All (IsJobAnswer (g.S.Source.contents l.source) (g.S.Source.faultless l.source) l.choice l.mode) l.answers.items;
   each : map (λ answer. answer.job) l.answers.items ≡ view l.pass;
 }

@@ -1,13 +1,13 @@
 use Rattle.std.proofs.Common.{rules, ◌≡◌, ◌<◌, ℕ, length, ◌∙◌, sym, subst, arith}
 use Rattle.std.proofs.lemmas.List.{take_at}
 use Rattle.bao_read.specs.declared.jobs.Answer.{Answer}
-use Rattle.bao_read.specs.Jobs.{AllThere, IsAnswer}
+use Rattle.bao_read.specs.Jobs.{AllThere, IsJobAnswer}
 use Rattle.bao_read.proofs.Placed.{none_wrong}
 use Rattle.bao_read.proofs.pool.tree_by_pool.Goals as goal
 
 pub tree_over-requires-clause-right : goal.tree_over-requires-clause-right
 tree_over-requires-clause-right g c =
-    let Right : Answer → Type 0 = IsAnswer (g.S.Source.contents c.args.source.now) (g.S.Source.faultless c.args.source.now) c.args.choice.now c.args.mode.now in
+    let Right : Answer → Type 0 = IsJobAnswer (g.S.Source.contents c.args.source.now) (g.S.Source.faultless c.args.source.now) c.args.choice.now c.args.mode.now in
     let before : AllThere Right c.as_mut_slice.result.now =
     subst (AllThere Right) (sym c.as_mut_slice.ensures.value) (none_wrong Right c.in_ok-slots.slots.items c.in_ok-slots.ensures.empty) in
     let count : length c.in_ok-all.all.items ≡ c.in_ok-all.all.len = search rules in

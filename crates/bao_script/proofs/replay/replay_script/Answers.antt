@@ -8,7 +8,7 @@ use Rattle.bao_script.proofs.Running.{printed}
 use Rattle.bao_script.specs.declared.fault.ReplayScriptFault.TheVariants.{Capacity, Illegal}
 use Rattle.bao_script.specs.declared.numbered.NumberedLine.{NumberedLine}
 use Rattle.bao_script.specs.Faults.{IsEarly, IsWant}
-use Rattle.bao_script.specs.ScriptRuns.{RanLines, StandsAt, StopsAt}
+use Rattle.bao_script.specs.ScriptRuns.{RanLines, StandsAt, StopsAtLine}
 use Rattle.bao_script.specs.Slices.{ArePieces, Slice, slices_of}
 use Rattle.bao_script.proofs.replay.replay_script.Goals as goal
 
@@ -64,7 +64,7 @@ returns-in_err-run_lines-clause-illegal c = λ number h.
     record {
       pieces = c.as_slice-2.result.now;
       named = pieces;
-      stops = subst (λ (all : List NumberedLine). StopsAt fixed c.as_slice-2.result.now 0 start all number) lines
+      stops = subst (λ (all : List NumberedLine). StopsAtLine fixed c.as_slice-2.result.now 0 start all number) lines
           (c.in_err-run_lines.ensures.illegal fixed start number stands
           (same_error c.from_residual-in_err-run_lines.result c.in_err-run_lines.field-0.0 _ c.from_residual-in_err-run_lines.ensures.1 h));
     }

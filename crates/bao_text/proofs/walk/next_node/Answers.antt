@@ -4,7 +4,7 @@ use Rattle.b3tree.specs.Tree.{left_len}
 use Rattle.bao_text.specs.declared.walk.Node.{Node}
 use Rattle.bao_text.specs.declared.walk.Node.TheVariants.{Parent}
 use Rattle.bao_text.specs.declared.walk.Subtree.{Subtree}
-use Rattle.bao_text.specs.NodeNames.{names_of, waiting_names}
+use Rattle.bao_text.specs.NodeNames.{node_names, waiting_names}
 use Rattle.bao_text.proofs.NodeNaming.{names-chunk, names-parent, parted, taken_last}
 use Rattle.bao_text.proofs.walk.next_node.Goals as goal
 
@@ -94,12 +94,12 @@ returns-clause-first c =
     let middle : ℕ = x.number + l / 1024 in
     let more : 1024 < x.len = c.if-len.false in
     let parts = names-parent choice x.number x.len taken.wanted more in
-    let near : List Node = names_of choice x.number l in
-    let far : List Node = names_of choice middle (x.len - l) in
+    let near : List Node = node_names choice x.number l in
+    let far : List Node = node_names choice middle (x.len - l) in
     let rest : List Node = waiting_names choice c.pop.new.self.items in
     let same : l ≡ left_len x.len = c.left_len-left_len.ensures.value in
     taken.names
     ∙ ap (λ (names : List Node). names ++ rest) parts
-    ∙ (λ i. Parent (x.number + sym same i / 1024) ∷ ((names_of choice x.number (sym same i) ++ names_of choice (x.number + sym same i / 1024) (x.len - sym same i)) ++ rest))
+    ∙ (λ i. Parent (x.number + sym same i / 1024) ∷ ((node_names choice x.number (sym same i) ++ node_names choice (x.number + sym same i / 1024) (x.len - sym same i)) ++ rest))
     ∙ ap (λ (names : List Node). Parent middle ∷ names)
     (append_assoc near far rest ∙ ap (λ (names : List Node). near ++ names) (sym c.push_wanted.ensures.names) ∙ sym c.push_wanted-2.ensures.names)

@@ -5,7 +5,7 @@ use Rattle.store_core.specs.declared.history.Piece.{Piece}
 use Rattle.store_core.specs.declared.view.SeatView.{SeatView}
 use Rattle.store_core.specs.Pieces.{IsAcceptedPiece, piece_of}
 use Rattle.store_core.proofs.BoundStore.{piece_binds}
-use Rattle.store_core.proofs.Stored.{accepted_piece}
+use Rattle.store_core.proofs.SlotStates.{accepted_piece}
 use Rattle.store_steps.specs.Asks.{AreHeldClaims}
 use Rattle.store_steps.specs.Words.{fixed_of}
 use Rattle.store_calls.proofs.CommittedChunks.{held_claims}

@@ -11,7 +11,7 @@ use Rattle.store_core.specs.declared.view.SeatView.{SeatView}
 use Rattle.store_core.specs.Histories.{state_after}
 use Rattle.store_core.specs.Serves.{node_held}
 use Rattle.store_core.specs.Stores.{GainsNode}
-use Rattle.store_steps.specs.Slices.{number_of}
+use Rattle.store_steps.specs.Slices.{node_number}
 use Rattle.store_core.specs.Knowledge.{Called, Sees}
 use Rattle.store_calls.proofs.Slices.{AreBelow, IsServing, below_next, has_length, lacks, names_below, none_told, serve_binds, serves_first, serves_on}
 use Rattle.store_calls.proofs.serving.serve_slice.Goals as goal
@@ -30,9 +30,9 @@ nodes-init c =
     let some : (state_after new.seen).recorded ≡ Some c.in-Some.length = sym c.length_to_serve.ensures.recorded ∙ c.in-Some.is in
     let sees : Sees first new = has_length first new c.args.start c.args.len c.requires.of.knows.legal c.length_to_serve.ensures.looked c.in-Some.length some in
     let capacity : 0 < new.fixed.capacity = subst (λ (f : Fixed). 0 < f.capacity) (sym c.length_to_serve.ensures.of.knows.fixed_is) c.args.words.now.some in
-    let below : AllByRecursion (λ node. number_of node < fixed.capacity) (rest_of c.nodes-rest.result) =
-    subst (λ (f : Fixed). AllByRecursion (λ node. number_of node < f.capacity) (rest_of c.nodes-rest.result)) c.length_to_serve.ensures.of.knows.fixed_is
-    (subst (λ (nodes : List Node). AllByRecursion (λ node. number_of node < new.fixed.capacity) nodes) (sym c.nodes-rest.ensures)
+    let below : AllByRecursion (λ node. node_number node < fixed.capacity) (rest_of c.nodes-rest.result) =
+    subst (λ (f : Fixed). AllByRecursion (λ node. node_number node < f.capacity) (rest_of c.nodes-rest.result)) c.length_to_serve.ensures.of.knows.fixed_is
+    (subst (λ (nodes : List Node). AllByRecursion (λ node. node_number node < new.fixed.capacity) nodes) (sym c.nodes-rest.ensures)
     (names_below new.fixed new.seen c.in-Some.length c.args.start c.args.len c.length_to_serve.ensures.of.knows.legal some capacity)) in (
       c.length_to_serve.ensures.of,
       serves_first first new c.args.start c.args.len c.in-Some.length c.next-next.result (rest_of c.nodes-rest.result) (rest_of c.next-next.new.self) c.extend_from_slice.new.self.items

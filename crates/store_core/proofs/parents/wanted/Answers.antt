@@ -1,7 +1,7 @@
 use Rattle.std.proofs.Common.{◌≡◌, ℕ, ◌+◌, ◌*◌, true, false, Bool, is_some, not, ◌&&◌, sym, ap, subst, ◌∙◌, arith}
 use Rattle.std.proofs.lemmas.Bool.{and_from, and_left, and_right}
 use Rattle.store_core.specs.Pieces.{holds_parent, piece_of}
-use Rattle.store_core.specs.Slots.{parents_in}
+use Rattle.store_core.specs.Slots.{parent_among}
 use Rattle.store_core.proofs.Choosing.{IsMaskUpTo, bit_of, up_to_more, up_to_none, up_to_same}
 use Rattle.store_core.proofs.parents.wanted.Goals as goal
 use Rattle.store_core.proofs.parents.wanted.Goals.{then-has_bit+then-not-is_held, else-has_bit, else-has_bit-via-then-has_bit+else-not-is_held, else-has_bit-via-else-has_bit}
@@ -14,7 +14,7 @@ loop-j-preserved c =
     let g : ℕ = c.args.group in
     let j : ℕ = c.loop-j.j in
     let holds : ℕ → Bool = λ m. holds_parent (piece_of c.args.piece.now) m in
-    let held : ℕ → Bool = λ m. is_some (parents_in c.args.parents.now m) in
+    let held : ℕ → Bool = λ m. is_some (parent_among c.args.parents.now m) in
     let test : ℕ → Bool = λ m. holds m && not (held m) in
     let place : 64 * c.from.result + c.from-in-loop-j.result ≡ 64 * g + j = omega arith in
     let has : c.has_bit.result ≡ holds (64 * g + j) = c.has_bit.ensures ∙ bit_of g c.held_in-has.result j holds c.held_in-has.ensures (omega arith) in

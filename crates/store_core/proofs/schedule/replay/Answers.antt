@@ -8,7 +8,7 @@ use Rattle.store_core.specs.declared.micro.Reply.{Reply}
 use Rattle.store_core.specs.declared.fault.StepFault.{StepFault}
 use Rattle.store_core.specs.Machine.{start}
 use Rattle.store_core.specs.Replays.{IsIllegalAt}
-use Rattle.store_core.specs.Stages.{HasRun}
+use Rattle.store_core.specs.ScheduleRuns.{HasRun}
 use Rattle.store_core.proofs.Replaying.{run_illegal, run_more, same_index}
 use Rattle.store_core.proofs.schedule.replay.Goals as goal
 

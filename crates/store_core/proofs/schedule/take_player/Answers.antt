@@ -2,8 +2,8 @@ use Rattle.std.proofs.Common.{◌≡◌, ℕ, ◌<◌, List, Option, None, Some,
 use Rattle.std.proofs.lemmas.Bool.{cases_eq}
 use Rattle.std.proofs.lemmas.List.{get_or_read}
 use Rattle.store_core.specs.declared.schedule.Player.{Player}
-use Rattle.store_core.specs.Stages.{IsTaken, player_in}
-use Rattle.store_core.proofs.Staging.{player_found, player_none, player_rest}
+use Rattle.store_core.specs.ScheduleRuns.{IsTakenPlayer, player_in}
+use Rattle.store_core.proofs.Players.{player_found, player_none, player_rest}
 use Rattle.store_core.proofs.schedule.take_player.Goals as goal
 
 -- the player that the code looks at, in the list at hand
@@ -32,7 +32,7 @@ returns-then-index-number-clause-is c =
     let found : player_in first c.args.number ≡ Some (get_or first c.loop-i.i r) =
     player_found first c.loop-i.i c.args.number r below (λ j h. c.loop-i.invariant.1 j r h)
     (at_hand c.loop-i.players.items first c.loop-i.i c.args.number c.index.result.now r c.loop-i.invariant.0 inside c.index.ensures c.if-index-number.true) in
-    subst (λ (o : Option Player). IsTaken o r) (sym found) (c.remove.ensures.value ∙ ap (λ (xs : List Player). get_or xs c.loop-i.i r) c.loop-i.invariant.0)
+    subst (λ (o : Option Player). IsTakenPlayer o r) (sym found) (c.remove.ensures.value ∙ ap (λ (xs : List Player). get_or xs c.loop-i.i r) c.loop-i.invariant.0)
 
 pub returns-then-index-number-clause-others : goal.returns-then-index-number-clause-others
 returns-then-index-number-clause-others c = λ k apart.
@@ -50,7 +50,7 @@ returns-clause-is c =
     let d : Player = record { number = c.args.number; piece = None; reading = None } in
     let none : player_in first c.args.number ≡ None =
     player_none first c.args.number d (λ j h. c.loop-i.invariant.1 j d (omega (arith, h, ap length c.loop-i.invariant.0))) in
-    subst (λ (o : Option Player). IsTaken o d) (sym none) (refl, refl)
+    subst (λ (o : Option Player). IsTakenPlayer o d) (sym none) (refl, refl)
 
 pub returns-clause-others : goal.returns-clause-others
 returns-clause-others c = λ k apart. ap (λ (xs : List Player). player_in xs k) c.loop-i.invariant.0

@@ -1,7 +1,7 @@
 use Rattle.std.proofs.Common.{◌≡◌, ℕ, ◌+◌, ◌*◌, sym, subst, ◌∙◌, arith}
 use Rattle.std.proofs.lemmas.Bool.{both_ways}
 use Rattle.store_core.specs.declared.slot.Slot.{Slot}
-use Rattle.store_core.specs.Slots.{IsCopy}
+use Rattle.store_core.specs.Slots.{IsSlotCopy}
 use Rattle.store_core.proofs.Choosing.{copies_more}
 use Rattle.store_core.proofs.slot.copies.Goals as goal
 use Rattle.store_core.proofs.slot.copies.Goals.{then-has_bit+in_ok-slot, else-has_bit}
@@ -13,8 +13,8 @@ loop-j-preserved c =
     (λ bit. elim c.if-has_bit.branch [
       | then-has_bit+in_ok-slot w ↦
           let place : 64 * c.from.result + w.from-then-has_bit.result ≡ 64 * c.args.group + c.loop-j.j = omega arith in
-          subst (λ (x : Slot). IsCopy piece (64 * c.args.group + c.loop-j.j) x) (sym w.slot-is)
-          (subst (λ (n : ℕ). IsCopy piece n w.in_ok-slot.slot) place w.in_ok-slot.ensures)
+          subst (λ (x : Slot). IsSlotCopy piece (64 * c.args.group + c.loop-j.j) x) (sym w.slot-is)
+          (subst (λ (n : ℕ). IsSlotCopy piece n w.in_ok-slot.slot) place w.in_ok-slot.ensures)
       | else-has_bit w ↦ absurd (both_ways _ (sym c.has_bit.ensures ∙ w.if-has_bit.false) bit)
     ])
     c.in_ok-push.ensures.items

@@ -1,6 +1,6 @@
 use Rattle.std.proofs.Common.{◌&&◌, nat_lt}
 use Rattle.store_core.specs.Slots.{caller}
-use Rattle.store_core.specs.Stages.{IsCleared}
+use Rattle.store_core.specs.ScheduleRuns.{IsCleared}
 use Rattle.store_core.specs.States.{claims}
 use Rattle.store_core.specs.Stores.{state_of}
 use Rattle.store_core.proofs.written.unmark_claims.Given as goal

@@ -1,6 +1,6 @@
 use Rattle.std.proofs.Common.{◌%◌, ◌&&◌, nat_lt}
 use Rattle.store_core.specs.Masks.{in_mask}
-use Rattle.store_core.specs.Stages.{IsCleared}
+use Rattle.store_core.specs.ScheduleRuns.{IsCleared}
 use Rattle.store_core.proofs.written.unmark_group.Given as goal
 
 abbrev pub invariant-loop-j : goal.invariant-loop-j

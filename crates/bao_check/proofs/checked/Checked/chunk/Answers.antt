@@ -3,7 +3,7 @@ use Rattle.std.specs.Option.{option_copied}
 use Rattle.b3tree.specs.Valid.{AreBytes, IsKeyed}
 use Rattle.bao_check.specs.Certificate.{Certificate}
 use Rattle.bao_check.specs.Checked.{piece_mode, piece_root, piece_text}
-use Rattle.bao_check.specs.Laws.{Binds}
+use Rattle.bao_check.specs.Laws.{BindsChunk}
 use Rattle.bao_check.proofs.Laws.{accepted_binds, chunk_certificate}
 use Rattle.std.specs.Borrow.{Bor}
 use Rattle.bao_check.proofs.checked.Checked.chunk.Goals as goal
@@ -24,7 +24,7 @@ pub returns-clause-binds : goal.returns-clause-binds
 returns-clause-binds c = λ blob valid is.
     let keyed : IsKeyed (piece_mode c.args.self.now) = c.is_keyed.ensures in
     let bytes_are : AreBytes (piece_text c.args.self.now) = c.is_of_bytes.ensures in
-    IfSome-copied c.bytes.result _ (λ bytes. Binds (piece_mode c.args.self.now) (piece_text c.args.self.now) c.args.self.now.start c.args.self.now.len blob c.args.i bytes) c.bytes.ensures
+    IfSome-copied c.bytes.result _ (λ bytes. BindsChunk (piece_mode c.args.self.now) (piece_text c.args.self.now) c.args.self.now.start c.args.self.now.len blob c.args.i bytes) c.bytes.ensures
     (λ bytes there.
     accepted_binds (piece_mode c.args.self.now) (piece_root c.args.self.now) (piece_text c.args.self.now) blob c.args.self.now.start c.args.self.now.len c.args.i bytes
     keyed valid bytes_are is c.args.self.now.accepted there)

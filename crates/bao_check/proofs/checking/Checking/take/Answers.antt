@@ -2,7 +2,7 @@ use Rattle.std.proofs.Common.{◌≡◌, ℕ, ◌<◌, List, [], ◌++◌, sym, 
 use Rattle.std.proofs.lemmas.Result.{err_from_is_err_and}
 use Rattle.bao_check.specs.declared.fault.CheckFault.{CheckFault}
 use Rattle.bao_check.specs.Checking.{task_of}
-use Rattle.bao_check.specs.Waiting.{HasRefused, HasTaken, Task}
+use Rattle.bao_check.specs.Waiting.{CheckTask, HasRefused, HasTaken}
 use Rattle.bao_check.proofs.Feeding.{WaitsIn-taken, begun_fault, node_fault, node_refused, nothing, refused_fault}
 use Rattle.bao_check.proofs.checking.Checking.take.Goals as goal
 
@@ -33,7 +33,7 @@ returns-in_err-take_node-clause-fault c = λ task taken it.
     let fault : CheckFault = c.in_err-take_node.field-0.0 in
     let begun : 0 < check.at = omega (arith, c.if-self-eq0.false) in
     let refused : HasRefused task.mode check.choice check.waiting.items check.at node fault =
-    subst (λ (t : Task). HasRefused t.mode check.choice check.waiting.items check.at node fault) it.task_is c.in_err-take_node.ensures.err in
+    subst (λ (t : CheckTask). HasRefused t.mode check.choice check.waiting.items check.at node fault) it.task_is c.in_err-take_node.ensures.err in
     let faults = refused_fault task check.choice check.waiting.items check.at taken node fault refused it.at_is (it.waits begun) in
     let p = err_from_is_err_and c.from_residual-in_err-take_node.result c.from_residual-in_err-take_node.ensures.1 in
     rw (p.1, p.2) (node_fault task (taken ++ node) check.at fault c.in_err-take_node.ensures.err.is faults)
@@ -45,7 +45,7 @@ returns-in_err-take_node-clause-refused c = λ task taken it.
     let fault : CheckFault = c.in_err-take_node.field-0.0 in
     let begun : 0 < check.at = omega (arith, c.if-self-eq0.false) in
     let refused : HasRefused task.mode check.choice check.waiting.items check.at node fault =
-    subst (λ (t : Task). HasRefused t.mode check.choice check.waiting.items check.at node fault) it.task_is c.in_err-take_node.ensures.err in
+    subst (λ (t : CheckTask). HasRefused t.mode check.choice check.waiting.items check.at node fault) it.task_is c.in_err-take_node.ensures.err in
     let faults = refused_fault task check.choice check.waiting.items check.at taken node fault refused it.at_is (it.waits begun) in
     let p = err_from_is_err_and c.from_residual-in_err-take_node.result c.from_residual-in_err-take_node.ensures.1 in
     rw (p.1, p.2) (λ _. node_refused task (taken ++ node) fault faults)
@@ -56,7 +56,7 @@ returns-clause-taken c = λ task taken it.
     let node : List ℕ = c.args.node.now in
     let begun : 0 < check.at = omega (arith, c.if-self-eq0.false) in
     let step : HasTaken task.mode check.choice check.waiting.items c.take_node.new.waiting.items node =
-    subst (λ (t : Task). HasTaken t.mode check.choice check.waiting.items c.take_node.new.waiting.items node) it.task_is c.in_ok-take_node.ensures.ok in
+    subst (λ (t : CheckTask). HasTaken t.mode check.choice check.waiting.items c.take_node.new.waiting.items node) it.task_is c.in_ok-take_node.ensures.ok in
     record {
       task_is = it.task_is;
       at_is = omega (arith, it.at_is, length-append taken node);

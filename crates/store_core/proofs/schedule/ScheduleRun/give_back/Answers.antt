@@ -3,7 +3,7 @@ use Rattle.std.specs.Vec.{with_items}
 use Rattle.std.proofs.lemmas.List.{with_items_is}
 use Rattle.store_core.specs.Masks.{in_mask}
 use Rattle.store_core.specs.Stores.{state_of}
-use Rattle.store_core.proofs.Standing.{cleared_at, give_next, stepped}
+use Rattle.store_core.proofs.RunSteps.{cleared_at, give_next, stepped}
 use Rattle.store_core.proofs.schedule.ScheduleRun.give_back.Goals as goal
 
 pub returns-clause-ok : goal.returns-clause-ok

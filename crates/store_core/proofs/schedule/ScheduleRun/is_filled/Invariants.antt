@@ -1,7 +1,7 @@
 use Rattle.std.proofs.Common.{◌≡◌, ℕ, ◌+◌, ◌*◌, ◌<◌, true}
 use Rattle.store_core.specs.Pieces.{holds_chunk, piece_of}
 use Rattle.store_core.specs.Slots.{caller}
-use Rattle.store_core.specs.Stages.{is_marked}
+use Rattle.store_core.specs.ScheduleRuns.{is_marked}
 use Rattle.store_core.specs.States.{claims}
 use Rattle.store_core.specs.Stores.{state_of}
 use Rattle.store_core.proofs.schedule.ScheduleRun.is_filled.Given as goal

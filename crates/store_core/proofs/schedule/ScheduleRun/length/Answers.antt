@@ -1,5 +1,5 @@
 use Rattle.std.proofs.Common.{refl}
-use Rattle.store_core.proofs.Standing.{stepped}
+use Rattle.store_core.proofs.RunSteps.{stepped}
 use Rattle.store_core.proofs.Wordless.{length_next}
 use Rattle.store_core.proofs.schedule.ScheduleRun.length.Goals as goal
 

@@ -1,6 +1,6 @@
 use Rattle.std.proofs.Common.{Some, sym, subst}
 use Rattle.store_core.specs.declared.micro.MicroStep.{MicroStep}
-use Rattle.store_core.specs.Stages.{IsStepped}
+use Rattle.store_core.specs.ScheduleRuns.{IsStepped}
 use Rattle.store_core.proofs.Wordless.{legal_at}
 use Rattle.store_core.proofs.schedule.ScheduleRun.step.Goals as goal
 
@@ -32,3 +32,27 @@ pub returns-in-Length-clause-ok : goal.returns-in-Length-clause-ok
 returns-in-Length-clause-ok c = λ fixed steps replies history m has.
     subst (λ (step : MicroStep). IsStepped fixed c.args.pieces.now steps replies history m step (Some c.length.result) c.args.self.now) (sym c.in-Length.is)
     (c.length.ensures c.args.pieces.now c.in-Length.seat fixed steps replies history m has)
+
+pub returns-in-Claim-clause-memory : goal.returns-in-Claim-clause-memory
+returns-in-Claim-clause-memory c = λ out m served is.
+    legal_at c.args.self.now.store.fixed c.args.pieces.now m _ c.args.step.now (sym c.in-Claim.is) (c.claim.ensures.memory c.args.pieces.now out m served is)
+
+pub returns-in-Write-clause-memory : goal.returns-in-Write-clause-memory
+returns-in-Write-clause-memory c = λ out m served is.
+    legal_at c.args.self.now.store.fixed c.args.pieces.now m _ c.args.step.now (sym c.in-Write.is) (c.write.ensures.memory c.args.pieces.now out m served is)
+
+pub returns-in-Publish-clause-memory : goal.returns-in-Publish-clause-memory
+returns-in-Publish-clause-memory c = λ out m served is.
+    legal_at c.args.self.now.store.fixed c.args.pieces.now m _ c.args.step.now (sym c.in-Publish.is) (c.publish.ensures.memory c.args.pieces.now out m served is)
+
+pub returns-in-GiveBack-clause-memory : goal.returns-in-GiveBack-clause-memory
+returns-in-GiveBack-clause-memory c = λ out m served is.
+    legal_at c.args.self.now.store.fixed c.args.pieces.now m _ c.args.step.now (sym c.in-GiveBack.is) (c.give_back.ensures.memory c.args.pieces.now out m served is)
+
+pub returns-in-Load-clause-memory : goal.returns-in-Load-clause-memory
+returns-in-Load-clause-memory c = λ out m served is.
+    legal_at c.args.self.now.store.fixed c.args.pieces.now m _ c.args.step.now (sym c.in-Load.is) (c.load.ensures.memory c.args.pieces.now out m served is)
+
+pub returns-in-Settle-clause-memory : goal.returns-in-Settle-clause-memory
+returns-in-Settle-clause-memory c = λ out m served is.
+    legal_at c.args.self.now.store.fixed c.args.pieces.now m _ c.args.step.now (sym c.in-Settle.is) (c.settle.ensures.memory c.args.pieces.now out m served is)

@@ -8,7 +8,7 @@ use Rattle.store_core.specs.Pieces.{IsAcceptedPiece, piece_of}
 use Rattle.store_core.specs.Slots.{caller, state_in, with_parents}
 use Rattle.store_core.specs.States.{State}
 use Rattle.store_core.proofs.BoundStore.{piece_binds}
-use Rattle.store_core.proofs.Stored.{IsDone, accepted_piece, commit_at, commit_none, is_of_piece, reached_by}
+use Rattle.store_core.proofs.SlotStates.{IsDone, accepted_piece, commit_at, commit_none, is_of_piece, reached_by}
 use Rattle.store_core.proofs.store.Store.commit.Goals as goal
 
 pub invariant_of-self : goal.invariant_of-self

@@ -6,7 +6,7 @@ use Rattle.store_core.specs.declared.history.Storing.TheVariants.{Stored}
 use Rattle.store_core.specs.Pieces.{IsAcceptedPiece, length_of, piece_of}
 use Rattle.store_core.specs.Slots.{state_in, with_parents}
 use Rattle.store_core.proofs.BoundStore.{parents_bind}
-use Rattle.store_core.proofs.Stored.{accepted_piece, reached_by, reached_same}
+use Rattle.store_core.proofs.SlotStates.{accepted_piece, reached_by, reached_same}
 use Rattle.store_core.proofs.StoredParents.{recorded_is, same_parents, store_at, store_none, unstored_memory}
 use Rattle.store_core.proofs.store.Store.commit_parents.Goals as goal
 

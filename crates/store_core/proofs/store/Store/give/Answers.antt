@@ -6,7 +6,7 @@ use Rattle.store_core.specs.declared.history.Call.TheVariants.{Give}
 use Rattle.store_core.specs.declared.slot.Slot.{Slot}
 use Rattle.store_core.specs.Slots.{caller, state_in, with_parents}
 use Rattle.store_core.specs.States.{State}
-use Rattle.store_core.proofs.Stored.{IsDone, give_at, give_none, reached_by}
+use Rattle.store_core.proofs.SlotStates.{IsDone, give_at, give_none, reached_by}
 use Rattle.store_core.proofs.store.Store.give.Goals as goal
 
 pub invariant_of-self : goal.invariant_of-self

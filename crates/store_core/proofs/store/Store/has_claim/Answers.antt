@@ -1,7 +1,7 @@
 use Rattle.std.proofs.Common.{List, ◌&&◌, length, nat_lt, ap, ◌∙◌}
 use Rattle.store_core.specs.declared.slot.Slot.{Slot}
 use Rattle.store_core.specs.Slots.{is_of, slot_at}
-use Rattle.store_core.proofs.Stored.{claims_test}
+use Rattle.store_core.proofs.SlotStates.{claims_test}
 use Rattle.store_core.proofs.store.Store.has_claim.Goals as goal
 
 pub returns : goal.returns

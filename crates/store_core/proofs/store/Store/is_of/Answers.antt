@@ -1,6 +1,6 @@
 use Rattle.std.proofs.Common.{inl, inr}
 use Rattle.std.proofs.lemmas.Bool.{cases_Bool, both_ways}
-use Rattle.store_core.proofs.Stored.{is_of_piece, not_of_piece}
+use Rattle.store_core.proofs.SlotStates.{is_of_piece, not_of_piece}
 use Rattle.store_core.proofs.store.Store.is_of.Goals as goal
 
 pub returns : goal.returns

@@ -5,7 +5,7 @@ use Rattle.store_core.specs.declared.history.Settling.TheVariants.{Settled, Know
 use Rattle.store_core.specs.Pieces.{IsAcceptedPiece, piece_of}
 use Rattle.store_core.specs.Slots.{state_in, with_parents}
 use Rattle.store_core.proofs.Bound.{claim_binds}
-use Rattle.store_core.proofs.Stored.{accepted_piece, is_of_piece, not_of_piece, reached_by, same_state, settle_right, settling_differs, settling_known, settling_none}
+use Rattle.store_core.proofs.SlotStates.{accepted_piece, is_of_piece, not_of_piece, reached_by, same_state, settle_right, settling_differs, settling_known, settling_none}
 use Rattle.store_core.proofs.store.Store.settle.Goals as goal
 
 pub returns-then-not-is_of-clause-event : goal.returns-then-not-is_of-clause-event

@@ -6,7 +6,7 @@ use Rattle.store_core.specs.declared.history.Call.TheVariants.{Take}
 use Rattle.store_core.specs.declared.slot.Slot.{Slot}
 use Rattle.store_core.specs.Slots.{caller, state_in, with_parents}
 use Rattle.store_core.specs.States.{State}
-use Rattle.store_core.proofs.Stored.{IsDone, on_err, reached_by, state_same, take_at, within_group}
+use Rattle.store_core.proofs.SlotStates.{IsDone, on_err, reached_by, state_same, take_at, within_group}
 use Rattle.store_core.proofs.store.Store.take.Goals as goal
 
 pub invariant_of-self-2 : goal.invariant_of-self-2

@@ -2,7 +2,7 @@ use Rattle.std.proofs.Common.{◌*◌, ◌≤◌, ℕ, subst, arith}
 use Rattle.bao_check.specs.declared.checked.Checked.{Checked}
 use Rattle.bao_check.specs.Tail.{tail_piece}
 use Rattle.store_core.specs.declared.fixed.Fixed.{Fixed}
-use Rattle.store_core.proofs.Stored.{is_of_piece}
+use Rattle.store_core.proofs.SlotStates.{is_of_piece}
 use Rattle.store_shared.specs.Seats.{Gripped}
 use Rattle.store_shared.specs.Calls.{MaySettle, SeatSettles}
 use Rattle.store_shared.proofs.Asking.{called, settled}

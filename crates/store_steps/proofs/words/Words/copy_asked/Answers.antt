@@ -3,7 +3,7 @@ use Rattle.store_core.specs.declared.fixed.Fixed.{Fixed}
 use Rattle.store_core.specs.declared.view.SeatView.{SeatView}
 use Rattle.store_steps.specs.Grips.{Gripped, first_of}
 use Rattle.store_steps.specs.Layout.{cell_place}
-use Rattle.store_steps.specs.Plays.{Copies}
+use Rattle.store_steps.specs.Plays.{CopiesWord}
 use Rattle.store_steps.proofs.StepViews.{at_code}
 use Rattle.store_steps.proofs.Looking.{copy_steps}
 use Rattle.store_steps.proofs.words.Words.copy_asked.Goals as goal
@@ -23,5 +23,5 @@ load-requires g c =
       omega (arith, c.cell_place-place.ensures.within, words.count),
       at_code fixed words.table.shared.key words.key_is words.table.shared.table_id.slots seat.id seat.me c.grip.invariant.0
           (cell_place fixed (129 * chunk + w)) c.cell_place-place.result (c.cell_place-place.ensures.place ∙ place)
-          (λ n. n) (λ n. Copies chunk w n) (λ s kept at small. copy_steps fixed s kept seat.id view at chunk w (omega (arith, c.requires.asked.1, c.requires.word))),
+          (λ n. n) (λ n. CopiesWord chunk w n) (λ s kept at small. copy_steps fixed s kept seat.id view at chunk w (omega (arith, c.requires.asked.1, c.requires.word))),
     )

@@ -2,7 +2,7 @@ use Rattle.std.proofs.Common.{◌≡◌, ◌+◌, ◌*◌, ℕ, ap, ◌∙◌, a
 use Rattle.store_core.specs.declared.fixed.Fixed.{Fixed}
 use Rattle.store_core.specs.declared.view.SeatView.{SeatView}
 use Rattle.store_steps.specs.Grips.{Gripped, first_of}
-use Rattle.store_steps.specs.Layout.{parent_place}
+use Rattle.store_steps.specs.Layout.{parent_word_place}
 use Rattle.store_steps.specs.Plays.{CopiesParent}
 use Rattle.store_steps.proofs.ParentLooking.{copy_parent_steps}
 use Rattle.store_steps.proofs.StepViews.{at_code}
@@ -16,11 +16,11 @@ load-requires g c =
     let view : SeatView = first_of seat.me.0 in
     let m : ℕ = g.A.Asked.first in
     let w : ℕ = g.A.Asked.second in
-    let place : parent_place fixed (8 * c.args.boundary + c.args.word) ≡ parent_place fixed (8 * m + w) =
+    let place : parent_word_place fixed (8 * c.args.boundary + c.args.word) ≡ parent_word_place fixed (8 * m + w) =
     omega (arith, c.requires.asked.0, c.requires.asked.1) in (
       ap (λ (x : Gripped). x.table_id) c.grip.view_is ∙ c.requires.of.table_is,
       omega (arith, c.parent_place-from.ensures.within, words.count),
       at_code fixed words.table.shared.key words.key_is words.table.shared.table_id.slots seat.id seat.me c.grip.invariant.0
-          (parent_place fixed (8 * m + w)) c.parent_place-from.result (c.parent_place-from.ensures.place ∙ place)
+          (parent_word_place fixed (8 * m + w)) c.parent_place-from.result (c.parent_place-from.ensures.place ∙ place)
           (λ n. n) (λ n. CopiesParent m w n) (λ s kept at small. copy_parent_steps fixed s kept seat.id view at m w (omega (arith, c.requires.asked.1, c.requires.word))),
     )

@@ -3,7 +3,7 @@ use Rattle.store_core.specs.declared.fixed.Fixed.{Fixed}
 use Rattle.store_core.specs.declared.history.Piece.{Piece}
 use Rattle.store_core.specs.declared.view.SeatView.{SeatView}
 use Rattle.store_core.specs.Pieces.{IsAcceptedPiece, piece_of}
-use Rattle.store_core.proofs.Stored.{accepted_piece}
+use Rattle.store_core.proofs.SlotStates.{accepted_piece}
 use Rattle.store_steps.specs.Grips.{Gripped, first_of}
 use Rattle.store_steps.specs.Layout.{length_place}
 use Rattle.store_steps.specs.Plays.{LoadsToStore}

@@ -7,7 +7,7 @@ use Rattle.store_core.specs.Orders.{AreInOrder}
 use Rattle.store_core.specs.Views.{names_of}
 use Rattle.store_steps.specs.Grips.{Gripped, first_of}
 use Rattle.store_core.specs.Knowledge.{AreMet}
-use Rattle.store_steps.specs.Plays.{MeetsSeat, rest_of}
+use Rattle.store_steps.specs.Plays.{MeetsSeat, later_views}
 use Rattle.store_steps.proofs.Lists.{only, two_of}
 use Rattle.store_steps.proofs.Meeting.{at_two, meet_turns}
 use Rattle.store_steps.proofs.Regrouping.{enter_asks, join_asks, leave_asks}
@@ -102,7 +102,7 @@ invariant_of-second c =
     let later = c.load.new.seat in
     let t = c.load.ensures.2 one two is in (
       only c.split_seat.result.me.0 t.0.new_second
-          (ap (λ (m : Me Unit (List SeatView)). m.0) c.split_seat.ensures.4 ∙ ap (λ (vs : List SeatView). rest_of vs) t.0.is),
+          (ap (λ (m : Me Unit (List SeatView)). m.0) c.split_seat.ensures.4 ∙ ap (λ (vs : List SeatView). later_views vs) t.0.is),
       ap (λ (m : Me Unit (List SeatView)). m.1) c.split_seat.ensures.4,
     )
 
@@ -124,7 +124,7 @@ returns-clause-met c =
     let first_is : t.0.new_first ≡ new_first =
     sym (ap (λ (m : Me Unit (List SeatView)). first_of m.0) c.split_seat.ensures.2 ∙ ap (λ (vs : List SeatView). first_of vs) t.0.is) in
     let second_is : t.0.new_second ≡ new_second =
-    sym (ap (λ (m : Me Unit (List SeatView)). first_of m.0) c.split_seat.ensures.4 ∙ ap (λ (vs : List SeatView). first_of (rest_of vs)) t.0.is) in
+    sym (ap (λ (m : Me Unit (List SeatView)). first_of m.0) c.split_seat.ensures.4 ∙ ap (λ (vs : List SeatView). first_of (later_views vs)) t.0.is) in
     subst (λ (v : SeatView). AreMet v c.args.second.now.view new_first new_second) (ap (λ (x : Gripped). x.view) c.first.view_is)
     (subst (λ (v : SeatView). AreMet one v new_first new_second) (ap (λ (x : Gripped). x.view) c.second.view_is)
     (subst (λ (v : SeatView). AreMet one two v new_second) first_is

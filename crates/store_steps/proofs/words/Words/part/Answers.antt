@@ -1,6 +1,6 @@
 use Rattle.std.proofs.Common.{refl, ap, ◌∙◌, arith}
 use Rattle.store_steps.specs.Grips.{Gripped, first_of}
-use Rattle.store_steps.specs.Plays.{Parts}
+use Rattle.store_steps.specs.Plays.{PartsInTwo}
 use Rattle.store_steps.proofs.Lists.{only}
 use Rattle.store_steps.proofs.Parting.{part_asks, part_steps}
 use Rattle.store_steps.proofs.StepViews.{at_code}
@@ -13,7 +13,7 @@ load-requires c =
       ap (λ (x : Gripped). x.table_id) c.grip.view_is ∙ c.requires.of.table_is,
       omega (arith, words.count),
       at_code words.fixed words.table.shared.key words.key_is words.table.shared.table_id.slots seat.id seat.me c.grip.invariant.0 0 0 refl
-          (λ n. n) (λ n. Parts) (λ s kept at small. part_steps words.fixed s kept seat.id (first_of seat.me.0) at),
+          (λ n. n) (λ n. PartsInTwo) (λ s kept at small. part_steps words.fixed s kept seat.id (first_of seat.me.0) at),
     )
 
 pub split_seat-other-requires : goal.split_seat-other-requires

@@ -9,7 +9,7 @@ use Rattle.store_core.specs.declared.history.Settling.{Settling}
 use Rattle.store_core.specs.declared.view.SeatView.{SeatView}
 use Rattle.store_core.specs.Events.{settling}
 use Rattle.store_core.specs.Pieces.{IsAcceptedPiece, length_of, piece_of}
-use Rattle.store_core.proofs.Stored.{accepted_piece}
+use Rattle.store_core.proofs.SlotStates.{accepted_piece}
 use Rattle.store_steps.specs.Grips.{Gripped, first_of}
 use Rattle.store_steps.specs.Layout.{length_place}
 use Rattle.store_steps.specs.Plays.{SettlesLength, length_in}

@@ -4,12 +4,12 @@ use Rattle.store_core.specs.declared.fixed.Fixed.{Fixed}
 use Rattle.store_core.specs.declared.history.Piece.{Piece}
 use Rattle.store_core.specs.Cells.{cell_word}
 use Rattle.store_core.specs.Laws.{IsSound}
-use Rattle.store_core.specs.Machine.{Machine, Reading, current_bytes, is_shown, seat_has, store_of}
+use Rattle.store_core.specs.Machine.{Machine, ReadUnderWay, current_bytes, is_shown, seat_has, store_of}
 use Rattle.store_core.specs.Pieces.{IsAcceptedPiece}
 use Rattle.store_core.specs.States.{State, byte_at}
 
 -- the bytes that are copied of a read are those of its positions
-pub record IsPart (s : State) (r : Reading) : Type 0 where
+pub record IsReadSoFar (s : State) (r : ReadUnderWay) : Type 0 where
   pub within : length r.bytes ≤ r.len
   pub held : (i : ℕ) → i < length r.bytes → byte_at s (r.at + i) ≡ Some (slice_index r.bytes i)
 
@@ -20,7 +20,7 @@ pub record IsKept (fixed : Fixed) (m : Machine) : Type 0 where
   pub cells : (n c w : ℕ) → (m.seat n).written c w ≡ true → seat_has m n c ≡ true → m.cell c w ≡ cell_word (current_bytes (m.seat n).piece c) w
   pub accepted : (n : ℕ) (piece : Piece) → (m.seat n).piece ≡ Some piece → IsAcceptedPiece fixed piece
 
-pub record IsServed (fixed : Fixed) (m : Machine) : Type 0 where
+pub record IsSoundMachine (fixed : Fixed) (m : Machine) : Type 0 where
   pub sound : IsSound fixed (store_of m)
   pub kept : IsKept fixed m
-  pub reads : (n : ℕ) (r : Reading) → (m.seat n).reading ≡ Some r → IsPart (store_of m) r
+  pub reads : (n : ℕ) (r : ReadUnderWay) → (m.seat n).reading ≡ Some r → IsReadSoFar (store_of m) r

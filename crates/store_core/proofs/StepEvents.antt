@@ -11,18 +11,18 @@ use Rattle.store_core.specs.declared.history.Piece.{Piece}
 use Rattle.store_core.specs.declared.micro.MicroStep.TheVariants.{Claim, Hash, Write, Publish, GiveBack}
 use Rattle.store_core.specs.declared.micro.Reply.TheVariants.{Granted, Committed, Given}
 use Rattle.store_core.specs.Cells.{cell_bytes, cell_word}
-use Rattle.store_core.specs.Events.{IsRight, is_free}
-use Rattle.store_core.specs.Machine.{Machine, Seat, bytes_or_none, current_bytes, current_holds, is_number, is_shown, seat_has, store_of, with_seat}
+use Rattle.store_core.specs.Events.{IsRightReply, is_free}
+use Rattle.store_core.specs.Machine.{Machine, MachineSeat, bytes_or_none, current_bytes, current_holds, is_number, is_shown, seat_has, store_of, with_seat}
 use Rattle.store_core.specs.Masks.{IsMaskOf, has_bit, in_mask}
 use Rattle.store_core.specs.Pieces.{IsAcceptedPiece, chunk_bytes, holds_chunk, nodes_of, piece_of, places_in}
 use Rattle.store_core.specs.Schedules.{HasPiece, IsWritten, TakesBytes, after_step, event_by}
 use Rattle.store_core.specs.Slots.{caller}
 use Rattle.store_core.specs.States.{claims}
-use Rattle.store_core.specs.Served.{IsServed}
-use Rattle.store_core.proofs.Served.{IsStep, chunk_fits, chunk_valid, claimed_hidden, claims_seat, free_same, keeps, one_seat}
+use Rattle.store_core.specs.MachineInvariant.{IsSoundMachine}
+use Rattle.store_core.proofs.MachineInvariants.{IsStep, chunk_fits, chunk_valid, claimed_hidden, claims_seat, free_same, keeps, one_seat}
 use Rattle.store_core.proofs.Bits.{has_bit-or}
 use Rattle.store_core.proofs.CellWords.{cell_is}
-use Rattle.store_core.proofs.Stored.{mask_same, same_state}
+use Rattle.store_core.proofs.SlotStates.{mask_same, same_state}
 use Rattle.store_core.proofs.Tells.{masked}
 
 -- the claims after chunks were claimed by a seat
@@ -39,11 +39,11 @@ claimed_some k None h = h
 claimed_some k (Some n) h = refl
 
 -- Claim
-pub claim_step : (fixed : Fixed) (pieces : List Checked) (m : Machine) (n group want mask : ℕ) → IsServed fixed m
+pub claim_step : (fixed : Fixed) (pieces : List Checked) (m : Machine) (n group want mask : ℕ) → IsSoundMachine fixed m
     → IsMaskOf group mask (λ c. has_bit want (c % 64) && (nat_lt c fixed.capacity && not (is_shown m c || is_some (m.claim c))))
     → IsStep fixed m (after_step fixed pieces m (Claim n group want) (Some (Granted mask))) (event_by n (Take group want mask))
 claim_step fixed pieces m n group want mask served is =
-    let right : IsRight fixed (store_of m) (caller n) (Take group want mask) =
+    let right : IsRightReply fixed (store_of m) (caller n) (Take group want mask) =
     mask_same group mask (λ c. has_bit want (c % 64) && (nat_lt c fixed.capacity && not (is_shown m c || is_some (m.claim c))))
     (λ c. has_bit want (c % 64) && is_free fixed (store_of m) c)
     (λ c of_group. ap (λ (b : Bool). has_bit want (c % 64) && b) (free_same fixed m c)) is in
@@ -74,13 +74,13 @@ claim_step fixed pieces m n group want mask served is =
     (λ k. refl)
 
 -- A seat that is changed. Its read under way is the same, and so are the others.
-reading_same : (m : Machine) (n : ℕ) (seat : Seat) → seat.reading ≡ (m.seat n).reading → (k : ℕ) → ((with_seat m n seat).seat k).reading ≡ (m.seat k).reading
+reading_same : (m : Machine) (n : ℕ) (seat : MachineSeat) → seat.reading ≡ (m.seat n).reading → (k : ℕ) → ((with_seat m n seat).seat k).reading ≡ (m.seat k).reading
 reading_same m n seat same k = elim (cases_Bool (k == n)) [
   | inl hit ↦ rw hit (same ∙ ap (λ (x : ℕ). (m.seat x).reading) (sym (eqb-true k n hit)))
   | inr miss ↦ rw miss refl
 ]
 
-accepted_seat : (fixed : Fixed) (m : Machine) (n : ℕ) (seat : Seat) → ((piece : Piece) → seat.piece ≡ Some piece → IsAcceptedPiece fixed piece)
+accepted_seat : (fixed : Fixed) (m : Machine) (n : ℕ) (seat : MachineSeat) → ((piece : Piece) → seat.piece ≡ Some piece → IsAcceptedPiece fixed piece)
     → ((k : ℕ) (piece : Piece) → (m.seat k).piece ≡ Some piece → IsAcceptedPiece fixed piece)
     → (k : ℕ) (piece : Piece) → ((with_seat m n seat).seat k).piece ≡ Some piece → IsAcceptedPiece fixed piece
 accepted_seat fixed m n seat here others k piece is = elim (cases_Bool (k == n)) [
@@ -100,10 +100,10 @@ listed_accepted fixed pieces n i piece bytes has is =
     subst (λ (root : List ℕ). IsAccepted fixed.mode root (piece_text has.piece) (nodes_of (piece_of has.piece))) has.root mode in
     subst (λ (p : Piece). IsAcceptedPiece fixed p) same (record { bytes = bytes has.piece has.is; accepted = root })
 
-pub hash_step : (fixed : Fixed) (pieces : List Checked) (m : Machine) (n i : ℕ) → TakesBytes pieces (Hash n i) → IsServed fixed m → HasPiece fixed pieces i
+pub hash_step : (fixed : Fixed) (pieces : List Checked) (m : Machine) (n i : ℕ) → TakesBytes pieces (Hash n i) → IsSoundMachine fixed m → HasPiece fixed pieces i
     → IsStep fixed m (after_step fixed pieces m (Hash n i) None) []
 hash_step fixed pieces m n i bytes served has =
-    let seat : Seat = record (m.seat n) { piece = option_map piece_of (slice_get pieces i); written = λ c w. false } in
+    let seat : MachineSeat = record (m.seat n) { piece = option_map piece_of (slice_get pieces i); written = λ c w. false } in
     keeps fixed m (with_seat m n seat) [] served tt refl
     (record {
       known = λ k c w wrote dark. elim (cases_Bool (k == n)) [
@@ -119,10 +119,10 @@ hash_step fixed pieces m n i bytes served has =
     (reading_same m n seat refl)
 
 -- Write
-pub write_step : (fixed : Fixed) (pieces : List Checked) (m : Machine) (n c w : ℕ) → IsServed fixed m → seat_has m n c ≡ true
+pub write_step : (fixed : Fixed) (pieces : List Checked) (m : Machine) (n c w : ℕ) → IsSoundMachine fixed m → seat_has m n c ≡ true
     → IsStep fixed m (after_step fixed pieces m (Write n c w) None) []
 write_step fixed pieces m n c w served ours =
-    let seat : Seat = record (m.seat n) { written = λ d v. ((d == c) && (v == w)) || (m.seat n).written d v } in
+    let seat : MachineSeat = record (m.seat n) { written = λ d v. ((d == c) && (v == w)) || (m.seat n).written d v } in
     let next : Machine = after_step fixed pieces m (Write n c w) None in
     keeps fixed m next [] served tt
     (same_state (store_of m) (store_of next) refl
@@ -163,12 +163,12 @@ write_step fixed pieces m n c w served ours =
     (reading_same m n seat refl)
 
 -- GiveBack
-pub give_step : (fixed : Fixed) (pieces : List Checked) (m : Machine) (n group mask given : ℕ) → IsServed fixed m
+pub give_step : (fixed : Fixed) (pieces : List Checked) (m : Machine) (n group mask given : ℕ) → IsSoundMachine fixed m
     → IsMaskOf group given (λ c. has_bit mask (c % 64) && seat_has m n c)
     → IsStep fixed m (after_step fixed pieces m (GiveBack n group mask) (Some (Given given))) (event_by n (Give group mask given))
 give_step fixed pieces m n group mask given served is =
-    let seat : Seat = record (m.seat n) { written = λ c w. not (in_mask group given c) && (m.seat n).written c w } in
-    let right : IsRight fixed (store_of m) (caller n) (Give group mask given) =
+    let seat : MachineSeat = record (m.seat n) { written = λ c w. not (in_mask group given c) && (m.seat n).written c w } in
+    let right : IsRightReply fixed (store_of m) (caller n) (Give group mask given) =
     mask_same group given (λ c. has_bit mask (c % 64) && seat_has m n c) (λ c. has_bit mask (c % 64) && claims (caller n) (store_of m) c)
     (λ c of_group. ap (λ (b : Bool). has_bit mask (c % 64) && b) (sym (claims_seat m n c))) is in
     let ours : (c : ℕ) → in_mask group given c ≡ true → seat_has m n c ≡ true = λ c hit.
@@ -219,13 +219,13 @@ some_is : (o : Option (List ℕ)) (x : Option (List ℕ)) → is_some o ≡ true
 some_is None x h each = cc
 some_is (Some bytes) x h each = each bytes refl
 
-pub publish_step : (fixed : Fixed) (pieces : List Checked) (m : Machine) (n group mask : ℕ) (piece : Piece) → IsServed fixed m → (m.seat n).piece ≡ Some piece
+pub publish_step : (fixed : Fixed) (pieces : List Checked) (m : Machine) (n group mask : ℕ) (piece : Piece) → IsSoundMachine fixed m → (m.seat n).piece ≡ Some piece
     → IsWritten m n group → IsMaskOf group mask (λ c. seat_has m n c && current_holds (m.seat n).piece c)
     → IsStep fixed m (after_step fixed pieces m (Publish n group) (Some (Committed mask))) (event_by n (Commit group piece mask))
 publish_step fixed pieces m n group mask piece served current wrote_all is =
     let next : Machine = after_step fixed pieces m (Publish n group) (Some (Committed mask)) in
     let accepted : IsAcceptedPiece fixed piece = served.kept.accepted n piece current in
-    let right : IsRight fixed (store_of m) (caller n) (Commit group piece mask) = (
+    let right : IsRightReply fixed (store_of m) (caller n) (Commit group piece mask) = (
       accepted,
       mask_same group mask (λ c. seat_has m n c && current_holds (m.seat n).piece c) (λ c. claims (caller n) (store_of m) c && holds_chunk piece c)
           (λ c of_group. ap (λ (o : Option Piece). seat_has m n c && current_holds o c) current ∙ ap (λ (b : Bool). b && holds_chunk piece c) (sym (claims_seat m n c))) is,

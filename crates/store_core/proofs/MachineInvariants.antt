@@ -16,7 +16,7 @@ use Rattle.store_core.specs.Histories.{AreLegalFrom, run}
 use Rattle.store_core.specs.Laws.{IsSound}
 use Rattle.store_core.specs.Machine.{Machine, is_number, is_shown, seat_has, shown_byte, store_of}
 use Rattle.store_core.specs.Pieces.{IsAcceptedPiece, chunk_bytes}
-use Rattle.store_core.specs.Served.{IsKept, IsPart, IsServed}
+use Rattle.store_core.specs.MachineInvariant.{IsKept, IsReadSoFar, IsSoundMachine}
 use Rattle.store_core.specs.Slots.{caller}
 use Rattle.store_core.specs.States.{State, byte_at, claims, is_among}
 use Rattle.store_core.proofs.CellWords.{cell_get}
@@ -24,7 +24,7 @@ use Rattle.store_core.proofs.Lasting.{held_from, sound_from}
 
 -- a step that is these events
 pub record IsStep (fixed : Fixed) (m next : Machine) (events : List Event) : Type 0 where
-  pub served : IsServed fixed next
+  pub served : IsSoundMachine fixed next
   pub legal : AreLegalFrom fixed (store_of m) events
   pub state : run (store_of m) events ≡ store_of next
 
@@ -103,14 +103,14 @@ byte_lasts fixed s events sound legal q x h =
     byte_stays (s.held (q / 1024)) ((run s events).held (q / 1024)) (q % 1024) x h (λ bytes is. held_from fixed s events sound legal (q / 1024) bytes is)
 
 -- after steps that leave the reads under way
-pub keeps : (fixed : Fixed) (m next : Machine) (events : List Event) → IsServed fixed m → AreLegalFrom fixed (store_of m) events → run (store_of m) events ≡ store_of next
+pub keeps : (fixed : Fixed) (m next : Machine) (events : List Event) → IsSoundMachine fixed m → AreLegalFrom fixed (store_of m) events → run (store_of m) events ≡ store_of next
     → IsKept fixed next → ((n : ℕ) → (next.seat n).reading ≡ (m.seat n).reading) → IsStep fixed m next events
 keeps fixed m next events served legal state kept same = record {
   served = record {
     sound = subst (λ (s : State). IsSound fixed s) state (sound_from fixed (store_of m) events served.sound legal);
     kept = kept;
     reads = λ n r is.
-        let part : IsPart (store_of m) r = served.reads n r (sym (same n) ∙ is) in record {
+        let part : IsReadSoFar (store_of m) r = served.reads n r (sym (same n) ∙ is) in record {
           within = part.within;
           held = λ i h. subst (λ (s : State). byte_at s (r.at + i) ≡ Some (slice_index r.bytes i)) state
               (byte_lasts fixed (store_of m) events served.sound legal (r.at + i) (slice_index r.bytes i) (part.held i h));

@@ -21,12 +21,12 @@ use Rattle.store_core.specs.declared.history.Call.TheVariants.{Take, Give, Commi
 use Rattle.store_core.specs.declared.history.Event.{Event}
 use Rattle.store_core.specs.declared.slot.Slot.{Slot}
 use Rattle.store_core.specs.declared.slot.Slot.TheVariants.{Free, Claimed, Held}
-use Rattle.store_core.specs.Events.{IsRight, after_call, is_free, settling}
+use Rattle.store_core.specs.Events.{IsRightReply, after_call, is_free, settling}
 use Rattle.store_core.specs.Machine.{groups}
 use Rattle.store_core.specs.Masks.{IsMaskOf, has_bit, in_mask}
 use Rattle.store_core.specs.Names.{Name}
 use Rattle.store_core.specs.Reached.{IsReached}
-use Rattle.store_core.specs.Slots.{AreCopies, IsCopy, caller, claim_in, claimed_slot, held_in, is_free_slot, is_of, slot_at, state_in}
+use Rattle.store_core.specs.Slots.{AreCopies, IsSlotCopy, caller, claim_in, claimed_slot, held_in, is_free_slot, is_of, slot_at, state_in}
 use Rattle.store_core.specs.States.{State, claims, empty, is_among}
 use Rattle.store_core.proofs.Bits.{has_bit-zero}
 use Rattle.store_core.proofs.Lasting.{legal-join, run-append}
@@ -41,17 +41,17 @@ pub state_same : (old new : List Slot) (o : Option ℕ) → ((c : ℕ) → slot_
 state_same old new o same = same_state (state_in new o) (state_in old o) refl (λ c. ap held_in (same c)) (λ c. ap claim_in (same c)) refl
 
 -- one more event goes on with a history
-pub reached_more : (fixed : Fixed) (s t : State) (who : List Name) (call : Call) → IsRight fixed s who call → t ≡ after_call who call s
+pub reached_more : (fixed : Fixed) (s t : State) (who : List Name) (call : Call) → IsRightReply fixed s who call → t ≡ after_call who call s
     → IsReached fixed s → IsReached fixed t
 reached_more fixed s t who call right is r =
     let e : Event = record { who = who; call = call } in
     record {
       history = r.history ++ e ∷ [];
-      legal = legal-join fixed empty r.history (e ∷ []) r.legal (subst (λ (x : State). IsRight fixed x who call) (sym r.is) right, tt);
+      legal = legal-join fixed empty r.history (e ∷ []) r.legal (subst (λ (x : State). IsRightReply fixed x who call) (sym r.is) right, tt);
       is = run-append empty r.history (e ∷ []) ∙ ap (λ (x : State). after_call who call x) r.is ∙ sym is;
     }
 
-pub reached_by : (fixed : Fixed) (s t : State) (who : List Name) (call : Call) → IsRight fixed s who call → t ≡ after_call who call s
+pub reached_by : (fixed : Fixed) (s t : State) (who : List Name) (call : Call) → IsRightReply fixed s who call → t ≡ after_call who call s
     → ∥ IsReached fixed s ∥₁ → ∥ IsReached fixed t ∥₁
 reached_by fixed s t who call right is r = ∥∥₁_map r (reached_more fixed s t who call right is)
 
@@ -167,7 +167,7 @@ no_mask group test none = record { small = omega arith; bits = λ c h. has_bit-z
 
 -- what a call does to what slots stand for
 pub record IsDone (fixed : Fixed) (old new : List Slot) (o : Option ℕ) (who : List Name) (call : Call) : Type 0 where
-  pub right : IsRight fixed (state_in old o) who call
+  pub right : IsRightReply fixed (state_in old o) who call
   pub after : state_in new o ≡ after_call who call (state_in old o)
 
 pub take_done : (fixed : Fixed) (old grown new : List Slot) (o : Option ℕ) (seat group want mask : ℕ) → length grown ≤ fixed.capacity
@@ -177,12 +177,12 @@ pub take_done : (fixed : Fixed) (old grown new : List Slot) (o : Option ℕ) (se
     → IsDone fixed old new o (caller seat) (Take group want mask)
 take_done fixed old grown new o seat group want mask fits enough same chosen put =
     let is : state_in grown o ≡ state_in old o = state_same old grown o same in
-    let right : IsRight fixed (state_in grown o) (caller seat) (Take group want mask) =
+    let right : IsRightReply fixed (state_in grown o) (caller seat) (Take group want mask) =
     mask_same group mask (λ c. has_bit want (c % 64) && (nat_lt c (length grown) && is_free_slot (slot_at grown c)))
     (λ c. has_bit want (c % 64) && is_free fixed (state_in grown o) c)
     (λ c of_group. ap (λ (b : Bool). has_bit want (c % 64) && b) (free_test fixed grown o group c fits (enough c of_group))) chosen in
     record {
-      right = subst (λ (s : State). IsRight fixed s (caller seat) (Take group want mask)) is right;
+      right = subst (λ (s : State). IsRightReply fixed s (caller seat) (Take group want mask)) is right;
       after = put_taken grown new o seat group want mask
           (λ c hit. free_held (slot_at grown c) (picked grown group mask want is_free_slot c chosen hit).passes) put
           ∙ ap (λ (s : State). after_call (caller seat) (Take group want mask) s) is;
@@ -274,7 +274,7 @@ settling_differs o m l e other = rw e (rw (ne_eqb m l other) refl)
 
 -- a right Settle
 pub settle_right : (fixed : Fixed) (slots : List Slot) (o : Option ℕ) (piece : Checked) (l : ℕ) (answer : Settling) → IsAcceptedPiece fixed (piece_of piece) → HoldsLast piece
-    → l ≡ piece_claimed piece → l ≤ 1024 * fixed.capacity → answer ≡ settling o l → (who : List Name) → IsRight fixed (state_in slots o) who (Settle (piece_of piece) answer)
+    → l ≡ piece_claimed piece → l ≤ 1024 * fixed.capacity → answer ≡ settling o l → (who : List Name) → IsRightReply fixed (state_in slots o) who (Settle (piece_of piece) answer)
 settle_right fixed slots o piece l answer accepted last is fits same who =
     (accepted, last, subst (λ (n : ℕ). n ≤ 1024 * fixed.capacity) is fits, same ∙ ap (λ (n : ℕ). settling o n) is)
 
@@ -297,12 +297,12 @@ commit_test slots o seat piece c =
     ∙ ap (λ (b : Bool). b && holds_chunk piece c) (claims_test slots o seat c))
 
 -- the copy of a chunk of the mask
-copy_at : (group mask : ℕ) (piece : Checked) (ready : List Slot) (c : ℕ) → AreCopies piece group mask 64 ready → in_mask group mask c ≡ true → IsCopy piece c (slot_at ready (c % 64))
+copy_at : (group mask : ℕ) (piece : Checked) (ready : List Slot) (c : ℕ) → AreCopies piece group mask 64 ready → in_mask group mask c ≡ true → IsSlotCopy piece c (slot_at ready (c % 64))
 copy_at group mask piece ready c copies hit =
     let parts = and_parts (c / 64 == group) (has_bit mask (c % 64)) hit in
     let of_group : c / 64 ≡ group = eqb-true (c / 64) group parts.0 in
     let place : 64 * group + c % 64 ≡ c = omega (arith, of_group) in
-    subst (λ (n : ℕ). IsCopy piece n (slot_at ready (c % 64))) place (copies.each (c % 64) (omega arith) parts.1)
+    subst (λ (n : ℕ). IsSlotCopy piece n (slot_at ready (c % 64))) place (copies.each (c % 64) (omega arith) parts.1)
 
 -- copies that were put are what stands after a Commit
 pub put_committed : (old ready new : List Slot) (o : Option ℕ) (seat group mask : ℕ) (piece : Checked) → AreCopies piece group mask 64 ready

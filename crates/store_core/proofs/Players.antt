@@ -2,7 +2,7 @@
 use Rattle.std.proofs.Common.{◌≡◌, ◌≢◌, ℕ, zero, suc, ◌<◌, ◌==◌, if◌then◌else◌, List, [], ◌∷◌, length, get_or, remove, Option, None, Some, refl, sym, ap, ◌∙◌, arith, eq-eqb}
 use Rattle.std.proofs.lemmas.Bool.{ne_eqb}
 use Rattle.store_core.specs.declared.schedule.Player.{Player}
-use Rattle.store_core.specs.Stages.{player_in}
+use Rattle.store_core.specs.ScheduleRuns.{player_in}
 
 -- the first with its number is the seat's
 pub player_found : (players : List Player) (i n : ℕ) (d : Player) → i < length players → ((j : ℕ) → j < i → (get_or players j d).number ≢ n)

@@ -6,14 +6,14 @@ use Rattle.store_core.specs.declared.history.Event.{Event}
 use Rattle.store_core.specs.declared.micro.MicroStep.{MicroStep}
 use Rattle.store_core.specs.declared.micro.Reply.{Reply}
 use Rattle.store_core.specs.declared.schedule.Player.{Player}
-use Rattle.store_core.specs.declared.reading.Reading.{Reading as Under}
+use Rattle.store_core.specs.declared.reading.Reading.{Reading}
 use Rattle.store_core.specs.declared.schedule.ScheduleRun.{ScheduleRun}
 use Rattle.store_core.specs.declared.store.Store.{Store}
 use Rattle.store_core.specs.Histories.{IsLegal, state_after}
-use Rattle.store_core.specs.Machine.{Machine, Reading, Seat, is_shown, position, seat_has, start, store_of}
+use Rattle.store_core.specs.Machine.{Machine, MachineSeat, ReadUnderWay, is_shown, position, seat_has, start, store_of}
 use Rattle.store_core.specs.Pieces.{holds_chunk, piece_of}
 use Rattle.store_core.specs.Schedules.{IsLegalStep, IsReply, Runs, after_step, step_events}
-use Rattle.store_core.specs.Served.{IsServed}
+use Rattle.store_core.specs.MachineInvariant.{IsSoundMachine}
 use Rattle.store_core.specs.Slots.{caller}
 use Rattle.store_core.specs.States.{State, claims, read_bytes}
 use Rattle.store_core.specs.Stores.{IsOf, fixed_of, state_of}
@@ -24,9 +24,9 @@ player_in [] n = None
 player_in (player ∷ players) n = if player.number == n then Some player else player_in players n
 
 -- what is taken: the seat's player, or a new one
-abbrev pub IsTaken : Option Player → Player → Type 0
-IsTaken None player = (player.piece ≡ None) × (player.reading ≡ None)
-IsTaken (Some was) player = player ≡ was
+abbrev pub IsTakenPlayer : Option Player → Player → Type 0
+IsTakenPlayer None player = (player.piece ≡ None) × (player.reading ≡ None)
+IsTakenPlayer (Some was) player = player ≡ was
 
 -- whether word w of the chunk's cell is marked as written
 abbrev pub is_marked : List Bool → ℕ → ℕ → Bool
@@ -37,39 +37,39 @@ abbrev pub IsCleared : (ℕ → Bool) → List Bool → List Bool → Type 0
 IsCleared test old new = (c w : ℕ) → w < 129 → is_marked new c w ≡ (if test c then false else is_marked old c w)
 
 -- of each chunk of the group that the seat claims and the piece holds, all words are marked
-abbrev pub IsFilled : Store → List Bool → ℕ → ℕ → Checked → Type 0
-IsFilled store written n group piece = (c w : ℕ) → c / 64 ≡ group → claims (caller n) (state_of store) c ≡ true → holds_chunk (piece_of piece) c ≡ true
+abbrev pub IsAllMarked : Store → List Bool → ℕ → ℕ → Checked → Type 0
+IsAllMarked store written n group piece = (c w : ℕ) → c / 64 ≡ group → claims (caller n) (state_of store) c ≡ true → holds_chunk (piece_of piece) c ≡ true
     → w < 129 → is_marked written c w ≡ true
 
-abbrev pub reading_of : Under → Reading
+abbrev pub reading_of : Reading → ReadUnderWay
 reading_of r = record { at = r.at; len = r.len; bytes = r.bytes.items }
 
 -- a read with what a load of one group adds
-abbrev pub carried_on : Fixed → State → Reading → Reading
+abbrev pub carried_on : Fixed → State → ReadUnderWay → ReadUnderWay
 carried_on fixed s r = record r {
   bytes = if nat_lt (position r) (1024 * fixed.capacity) then r.bytes ++ read_bytes s (position r) (min (r.len - length r.bytes) (65536 - position r % 65536)) else r.bytes;
 }
 
 -- a player stands for the seat, but for the words written; its piece is of the store's root and mode
-pub record IsPlayer (fixed : Fixed) (player : Player) (seat : Seat) : Type 0 where
+pub record IsPlayer (fixed : Fixed) (player : Player) (seat : MachineSeat) : Type 0 where
   pub piece : seat.piece ≡ option_map piece_of player.piece
   pub reading : seat.reading ≡ option_map reading_of player.reading
   pub of : (piece : Checked) → player.piece ≡ Some piece → IsOf fixed piece
 
-abbrev pub IsSeatOf : Fixed → Option Player → Seat → Type 0
-IsSeatOf fixed None seat = (seat.piece ≡ None) × (seat.reading ≡ None)
-IsSeatOf fixed (Some player) seat = IsPlayer fixed player seat
+abbrev pub StandsForSeat : Fixed → Option Player → MachineSeat → Type 0
+StandsForSeat fixed None seat = (seat.piece ≡ None) × (seat.reading ≡ None)
+StandsForSeat fixed (Some player) seat = IsPlayer fixed player seat
 
 -- The store stands for what the words do, the players for the seats. Of a chunk that isn't shown the words that a seat
 -- wrote are those marked, if it claims the chunk, and none otherwise. If nobody claims it, no word is marked.
 pub record StandsFor (fixed : Fixed) (s : State) (players : List Player) (written : List Bool) (m : Machine) : Type 0 where
   pub state : s ≡ store_of m
-  pub seats : (n : ℕ) → IsSeatOf fixed (player_in players n) (m.seat n)
+  pub seats : (n : ℕ) → StandsForSeat fixed (player_in players n) (m.seat n)
   pub wrote : (n c w : ℕ) → w < 129 → is_shown m c ≡ false → (m.seat n).written c w ≡ (seat_has m n c && is_marked written c w)
   pub clean : (c w : ℕ) → w < 129 → m.claim c ≡ None → is_shown m c ≡ false → is_marked written c w ≡ false
 
 abbrev pub Stands : ScheduleRun → Machine → Type 0
-Stands stage m = StandsFor (fixed_of stage.store) (state_of stage.store) stage.players.items stage.written.items m
+Stands run m = StandsFor (fixed_of run.store) (state_of run.store) run.players.items run.written.items m
 
 -- The run took these steps over the pieces from the empty store, each legal where it stood. These are the replies, and
 -- these the events, which are a legal history of its store. It stands for this machine.
@@ -78,7 +78,7 @@ pub record HasRun (fixed : Fixed) (pieces : List Checked) (steps : List MicroSte
   pub legal : IsLegal fixed history
   pub events : state_after history ≡ store_of m
   pub fixed_is : fixed_of run.store ≡ fixed
-  pub served : IsServed (fixed_of run.store) m
+  pub served : IsSoundMachine (fixed_of run.store) m
   pub stands : Stands run m
 
 -- it took none yet
@@ -98,4 +98,8 @@ DoesStep pieces old new step reply = (fixed : Fixed) (steps : List MicroStep) (r
 
 -- or the step isn't legal there
 abbrev pub DoesRefuse : List Checked → ScheduleRun → MicroStep → Type 0
-DoesRefuse pieces old step = (m : Machine) → IsServed (fixed_of old.store) m → Stands old m → ¬ IsLegalStep (fixed_of old.store) pieces m step
+DoesRefuse pieces old step = (m : Machine) → IsSoundMachine (fixed_of old.store) m → Stands old m → ¬ IsLegalStep (fixed_of old.store) pieces m step
+
+-- or the step is legal there
+abbrev pub IsLegalFor : List Checked → ScheduleRun → MicroStep → Type 0
+IsLegalFor pieces old step = (m : Machine) → IsSoundMachine (fixed_of old.store) m → Stands old m → IsLegalStep (fixed_of old.store) pieces m step

@@ -1,4 +1,4 @@
--- What a stage stands for after a step: Claim, GiveBack, Publish, Hash and Write.
+-- What a run stands for after a step: Claim, GiveBack, Publish, Hash and Write.
 use Rattle.std.proofs.Common.{◌≡◌, ◌≢◌, ℕ, ◌+◌, ◌/◌, ◌%◌, ◌<◌, nat_lt, ◌==◌, Bool, true, false, not, ◌&&◌, ◌||◌, if◌then◌else◌, List, [], ◌∷◌, slice_get, Option, None, Some, is_some, option_map, refl, sym, ap, subst, ◌∙◌, inl, inr, eqb-true, eq-eqb}
 use Rattle.std.proofs.lemmas.Bool.{and_from, and_left, and_parts, and_right, both_ways, cases_Bool, false_from_ne_true, lt-ltb, ne_eqb, not-true, or_parts}
 use Rattle.b3tree.specs.declared.values.Hash.{Hash as Digest}
@@ -13,26 +13,26 @@ use Rattle.store_core.specs.declared.micro.Reply.{Reply}
 use Rattle.store_core.specs.declared.micro.Reply.TheVariants.{Granted, Committed, Given}
 use Rattle.store_core.specs.declared.schedule.Player.{Player}
 use Rattle.store_core.specs.declared.schedule.ScheduleRun.{ScheduleRun}
-use Rattle.store_core.specs.Events.{IsRight, is_free}
+use Rattle.store_core.specs.Events.{IsRightReply, is_free}
 use Rattle.store_core.specs.Histories.{AreLegalFrom, run}
-use Rattle.store_core.specs.Machine.{Machine, Seat, current_holds, is_number, is_shown, seat_has, start, store_of}
+use Rattle.store_core.specs.Machine.{Machine, MachineSeat, current_holds, is_number, is_shown, seat_has, start, store_of}
 use Rattle.store_core.specs.Masks.{IsMaskOf, has_bit, in_mask}
 use Rattle.store_core.specs.Pieces.{holds_chunk, piece_of}
 use Rattle.store_core.specs.Schedules.{IsLegalStep, IsReply, IsWritten, TakesBytes, after_step, commit_by, step_events}
-use Rattle.store_core.specs.Served.{IsServed}
+use Rattle.store_core.specs.MachineInvariant.{IsSoundMachine}
 use Rattle.store_core.specs.Slots.{caller}
-use Rattle.store_core.specs.Stages.{HasRun, IsCleared, IsPlayer, IsSeatOf, IsStepped, IsTaken, StandsFor, is_marked, player_in, reading_of}
+use Rattle.store_core.specs.ScheduleRuns.{HasRun, IsCleared, IsPlayer, StandsForSeat, IsStepped, IsTakenPlayer, StandsFor, is_marked, player_in, reading_of}
 use Rattle.store_core.specs.States.{State, claims, empty, is_claimed}
 use Rattle.store_core.specs.Stores.{IsOf, fixed_of, state_of}
 use Rattle.store_core.proofs.Lasting.{legal-join, run-append}
 use Rattle.store_core.proofs.Running.{one_step, runs_more}
-use Rattle.store_core.proofs.Served.{IsStep, claimed_hidden, claims_seat, free_same, one_seat, seat_claim}
-use Rattle.store_core.proofs.Stepping.{shown_or, write_step}
-use Rattle.store_core.proofs.Stored.{mask_same}
+use Rattle.store_core.proofs.MachineInvariants.{IsStep, claimed_hidden, claims_seat, free_same, one_seat, seat_claim}
+use Rattle.store_core.proofs.StepEvents.{shown_or, write_step}
+use Rattle.store_core.proofs.SlotStates.{mask_same}
 use Rattle.store_core.proofs.Tells.{masked}
 
 -- Players. What is taken stands for the seat.
-pub taken_seat : (fixed : Fixed) (was : Option Player) (player : Player) (seat : Seat) → IsSeatOf fixed was seat → IsTaken was player → IsPlayer fixed player seat
+pub taken_seat : (fixed : Fixed) (was : Option Player) (player : Player) (seat : MachineSeat) → StandsForSeat fixed was seat → IsTakenPlayer was player → IsPlayer fixed player seat
 taken_seat fixed None player seat is taken = record {
   piece = is.0 ∙ sym (ap (λ (o : Option Checked). option_map piece_of o) taken.0);
   reading = is.1 ∙ sym (ap (λ o. option_map reading_of o) taken.1);
@@ -41,18 +41,18 @@ taken_seat fixed None player seat is taken = record {
 taken_seat fixed (Some old) player seat is taken = subst (λ (p : Player). IsPlayer fixed p seat) (sym taken) is
 
 -- and after it is put back each stands for its seat
-pub put_seats : (fixed : Fixed) (old mid new : List Player) (n : ℕ) (player : Player) (seat : Seat) (seats : ℕ → Seat)
-    → ((k : ℕ) → IsSeatOf fixed (player_in old k) (seats k)) → ((k : ℕ) → k ≢ n → player_in mid k ≡ player_in old k)
+pub put_seats : (fixed : Fixed) (old mid new : List Player) (n : ℕ) (player : Player) (seat : MachineSeat) (seats : ℕ → MachineSeat)
+    → ((k : ℕ) → StandsForSeat fixed (player_in old k) (seats k)) → ((k : ℕ) → k ≢ n → player_in mid k ≡ player_in old k)
     → ((k : ℕ) → player_in new k ≡ (if player.number == k then Some player else player_in mid k)) → player.number ≡ n → IsPlayer fixed player seat
-    → (k : ℕ) → IsSeatOf fixed (player_in new k) (if k == n then seat else seats k)
+    → (k : ℕ) → StandsForSeat fixed (player_in new k) (if k == n then seat else seats k)
 put_seats fixed old mid new n player seat seats were others put number is k = elim (cases_Bool (k == n)) [
   | inl hit ↦
       let found : player_in new k ≡ Some player = rw (eq-eqb player.number k (number ∙ sym (eqb-true k n hit))) at (put k) in
-      rw hit (subst (λ (o : Option Player). IsSeatOf fixed o seat) (sym found) is)
+      rw hit (subst (λ (o : Option Player). StandsForSeat fixed o seat) (sym found) is)
   | inr miss ↦
       let apart : k ≢ n = λ e. both_ways _ miss (eq-eqb k n e) in
       let other : player_in new k ≡ player_in mid k = rw (ne_eqb player.number k (λ e. apart (sym e ∙ number))) at (put k) in
-      rw miss (subst (λ (o : Option Player). IsSeatOf fixed o (seats k)) (sym (other ∙ others k apart)) (were k))
+      rw miss (subst (λ (o : Option Player). StandsForSeat fixed o (seats k)) (sym (other ∙ others k apart)) (were k))
 ]
 
 -- a seat that stays
@@ -63,20 +63,20 @@ same_seats m n k = elim (cases_Bool (k == n)) [
 ]
 
 pub kept_seats : (fixed : Fixed) (old mid new : List Player) (m : Machine) (n : ℕ) (player : Player)
-    → ((k : ℕ) → IsSeatOf fixed (player_in old k) (m.seat k)) → IsTaken (player_in old n) player → ((k : ℕ) → k ≢ n → player_in mid k ≡ player_in old k)
+    → ((k : ℕ) → StandsForSeat fixed (player_in old k) (m.seat k)) → IsTakenPlayer (player_in old n) player → ((k : ℕ) → k ≢ n → player_in mid k ≡ player_in old k)
     → ((k : ℕ) → player_in new k ≡ (if player.number == k then Some player else player_in mid k)) → player.number ≡ n
-    → (k : ℕ) → IsSeatOf fixed (player_in new k) (m.seat k)
+    → (k : ℕ) → StandsForSeat fixed (player_in new k) (m.seat k)
 kept_seats fixed old mid new m n player were taken others put number k =
-    subst (λ (s : Seat). IsSeatOf fixed (player_in new k) s) (same_seats m n k)
+    subst (λ (s : MachineSeat). StandsForSeat fixed (player_in new k) s) (same_seats m n k)
     (put_seats fixed old mid new n player (m.seat n) (λ x. m.seat x) were others put number (taken_seat fixed (player_in old n) player (m.seat n) (were n) taken) k)
 
 -- seats with the same piece and the same read
-pub seat_like : (fixed : Fixed) (o : Option Player) (one other : Seat) → other.piece ≡ one.piece → other.reading ≡ one.reading → IsSeatOf fixed o one → IsSeatOf fixed o other
+pub seat_like : (fixed : Fixed) (o : Option Player) (one other : MachineSeat) → other.piece ≡ one.piece → other.reading ≡ one.reading → StandsForSeat fixed o one → StandsForSeat fixed o other
 seat_like fixed None one other piece reading is = (piece ∙ is.0, reading ∙ is.1)
 seat_like fixed (Some player) one other piece reading is = record { piece = piece ∙ is.piece; reading = reading ∙ is.reading; of = is.of }
 
-pub with_like : (fixed : Fixed) (o : Option Player) (m : Machine) (n k : ℕ) (seat : Seat) → seat.piece ≡ (m.seat n).piece → seat.reading ≡ (m.seat n).reading
-    → IsSeatOf fixed o (m.seat k) → IsSeatOf fixed o (if k == n then seat else m.seat k)
+pub with_like : (fixed : Fixed) (o : Option Player) (m : Machine) (n k : ℕ) (seat : MachineSeat) → seat.piece ≡ (m.seat n).piece → seat.reading ≡ (m.seat n).reading
+    → StandsForSeat fixed o (m.seat k) → StandsForSeat fixed o (if k == n then seat else m.seat k)
 with_like fixed o m n k seat piece reading is = elim (cases_Bool (k == n)) [
   | inl hit ↦
       let back : n ≡ k = sym (eqb-true k n hit) in
@@ -105,12 +105,12 @@ claims_at : (s : State) (m : Machine) (n c : ℕ) → s ≡ store_of m → claim
 claims_at s m n c is = ap (λ (x : State). claims (caller n) x c) is ∙ claims_seat m n c
 
 -- the current piece, in the list and in the words
-pub current : (fixed : Fixed) (o : Option Player) (player : Player) (seat : Seat) (piece : Checked) → IsSeatOf fixed o seat → IsTaken o player → player.piece ≡ Some piece
+pub current : (fixed : Fixed) (o : Option Player) (player : Player) (seat : MachineSeat) (piece : Checked) → StandsForSeat fixed o seat → IsTakenPlayer o player → player.piece ≡ Some piece
     → seat.piece ≡ Some (piece_of piece)
 current fixed o player seat piece is taken there =
     (taken_seat fixed o player seat is taken).piece ∙ ap (λ (x : Option Checked). option_map piece_of x) there
 
-pub no_current : (fixed : Fixed) (o : Option Player) (player : Player) (seat : Seat) → IsSeatOf fixed o seat → IsTaken o player → player.piece ≡ None → seat.piece ≡ None
+pub no_current : (fixed : Fixed) (o : Option Player) (player : Player) (seat : MachineSeat) → StandsForSeat fixed o seat → IsTakenPlayer o player → player.piece ≡ None → seat.piece ≡ None
 no_current fixed o player seat is taken there =
     (taken_seat fixed o player seat is taken).piece ∙ ap (λ (x : Option Checked). option_map piece_of x) there
 
@@ -130,7 +130,7 @@ pub record IsNext (fixed : Fixed) (pieces : List Checked) (t : State) (players :
 
 -- Claim
 pub claim_next : (fixed : Fixed) (pieces : List Checked) (s t : State) (players : List Player) (written : List Bool) (m : Machine) (n group want mask : ℕ)
-    → IsServed fixed m → StandsFor fixed s players written m → group < ((fixed.capacity + 63) / 64) → IsRight fixed s (caller n) (Take group want mask)
+    → IsSoundMachine fixed m → StandsFor fixed s players written m → group < ((fixed.capacity + 63) / 64) → IsRightReply fixed s (caller n) (Take group want mask)
     → t ≡ run s (record { who = caller n; call = Take group want mask } ∷ [])
     → IsNext fixed pieces t players written m (Claim n group want) (Some (Granted mask))
 claim_next fixed pieces s t players written m n group want mask served is legal done after =
@@ -138,7 +138,7 @@ claim_next fixed pieces s t players written m n group want mask served is legal 
     let chosen : IsMaskOf group mask test =
     mask_same group mask (λ c. has_bit want (c % 64) && is_free fixed (store_of m) c) test
     (λ c of_group. ap (λ (b : Bool). has_bit want (c % 64) && b) (sym (free_same fixed m c)))
-    (subst (λ (x : State). IsRight fixed x (caller n) (Take group want mask)) is.state done) in
+    (subst (λ (x : State). IsRightReply fixed x (caller n) (Take group want mask)) is.state done) in
     let right : IsReply fixed m (Claim n group want) (Some (Granted mask)) = (mask, refl, chosen) in
     let open_ : (c : ℕ) → in_mask group mask c ≡ true → m.claim c ≡ None = λ c hit.
     none_of (m.claim c) (or_parts (is_shown m c) (is_some (m.claim c)) (not-true _ (and_parts (nat_lt c fixed.capacity) (not (is_shown m c || is_some (m.claim c)))
@@ -165,7 +165,7 @@ claim_next fixed pieces s t players written m n group want mask served is legal 
 
 -- GiveBack
 pub give_next : (fixed : Fixed) (pieces : List Checked) (s t : State) (players : List Player) (written cleared : List Bool) (m : Machine) (n group mask given : ℕ)
-    → IsServed fixed m → StandsFor fixed s players written m → group < ((fixed.capacity + 63) / 64) → IsRight fixed s (caller n) (Give group mask given)
+    → IsSoundMachine fixed m → StandsFor fixed s players written m → group < ((fixed.capacity + 63) / 64) → IsRightReply fixed s (caller n) (Give group mask given)
     → t ≡ run s (record { who = caller n; call = Give group mask given } ∷ []) → IsCleared (in_mask group given) written cleared
     → IsNext fixed pieces t players cleared m (GiveBack n group mask) (Some (Given given))
 give_next fixed pieces s t players written cleared m n group mask given served is legal done after clear =
@@ -173,11 +173,11 @@ give_next fixed pieces s t players written cleared m n group mask given served i
     let chosen : IsMaskOf group given test =
     mask_same group given (λ c. has_bit mask (c % 64) && claims (caller n) (store_of m) c) test
     (λ c of_group. ap (λ (b : Bool). has_bit mask (c % 64) && b) (claims_seat m n c))
-    (subst (λ (x : State). IsRight fixed x (caller n) (Give group mask given)) is.state done) in
+    (subst (λ (x : State). IsRightReply fixed x (caller n) (Give group mask given)) is.state done) in
     let right : IsReply fixed m (GiveBack n group mask) (Some (Given given)) = (given, refl, chosen) in
     let ours : (c : ℕ) → in_mask group given c ≡ true → seat_has m n c ≡ true = λ c hit.
     (and_parts (has_bit mask (c % 64)) (seat_has m n c) (masked group given test c chosen hit)).1 in
-    let seat : Seat = record (m.seat n) { written = λ c w. not (in_mask group given c) && (m.seat n).written c w } in
+    let seat : MachineSeat = record (m.seat n) { written = λ c w. not (in_mask group given c) && (m.seat n).written c w } in
     record {
       legal = legal;
       right = right;
@@ -216,7 +216,7 @@ stepped fixed pieces steps replies history m step reply old new has same bytes n
     let was : Fixed = fixed_of old.store in
     let legal : IsLegalStep fixed pieces m step = subst (λ (f : Fixed). IsLegalStep f pieces m step) has.fixed_is next.legal in
     let right : IsReply fixed m step reply = subst (λ (f : Fixed). IsReply f m step reply) has.fixed_is next.right in
-    let served : IsServed fixed m = subst (λ (f : Fixed). IsServed f m) has.fixed_is has.served in
+    let served : IsSoundMachine fixed m = subst (λ (f : Fixed). IsSoundMachine f m) has.fixed_is has.served in
     let done : IsStep fixed m (after_step fixed pieces m step reply) (step_events fixed m step reply) = one_step fixed pieces m step reply bytes served legal right in
     let now : fixed_of new.store ≡ fixed = same ∙ has.fixed_is in
     record {
@@ -228,18 +228,31 @@ stepped fixed pieces steps replies history m step reply old new has same bytes n
             (subst (λ (s : State). AreLegalFrom fixed s (step_events fixed m step reply)) (sym has.events) done.legal);
         events = run-append empty history (step_events fixed m step reply) ∙ ap (λ (s : State). run s (step_events fixed m step reply)) has.events ∙ done.state;
         fixed_is = now;
-        served = subst (λ (f : Fixed). IsServed f (after_step fixed pieces m step reply)) (sym now) done.served;
+        served = subst (λ (f : Fixed). IsSoundMachine f (after_step fixed pieces m step reply)) (sym now) done.served;
         stands = subst (λ (f : Fixed). StandsFor f (state_of new.store) new.players.items new.written.items (after_step fixed pieces m step reply)) (sym now)
             (subst (λ (f : Fixed). StandsFor f (state_of new.store) new.players.items new.written.items (after_step f pieces m step reply)) has.fixed_is next.stands);
       };
     }
 
--- Publish
-pub publish_next : (fixed : Fixed) (pieces : List Checked) (s t : State) (old mid new : List Player) (written : List Bool) (m : Machine) (n group mask : ℕ) (player : Player) (piece : Checked)
-    → IsServed fixed m → StandsFor fixed s old written m → group < ((fixed.capacity + 63) / 64)
-    → IsTaken (player_in old n) player → player.piece ≡ Some piece
+-- Publish. It is legal where all words are marked.
+pub may_publish : (fixed : Fixed) (pieces : List Checked) (s : State) (old : List Player) (written : List Bool) (m : Machine) (n group : ℕ) (player : Player) (piece : Checked)
+    → IsSoundMachine fixed m → StandsFor fixed s old written m → group < ((fixed.capacity + 63) / 64)
+    → IsTakenPlayer (player_in old n) player → player.piece ≡ Some piece
     → ((c w : ℕ) → c / 64 ≡ group → claims (caller n) s c ≡ true → holds_chunk (piece_of piece) c ≡ true → w < 129 → is_marked written c w ≡ true)
-    → IsRight fixed s (caller n) (Commit group (piece_of piece) mask)
+    → IsLegalStep fixed pieces m (Publish n group)
+may_publish fixed pieces s old written m n group player piece served is there taken has filled =
+    let seat_piece : (m.seat n).piece ≡ Some (piece_of piece) = current fixed (player_in old n) player (m.seat n) piece (is.seats n) taken has in
+    let wrote : IsWritten m n group = λ c w of_group ours holds below.
+    let held : holds_chunk (piece_of piece) c ≡ true = sym (ap (λ (o : Option Piece). current_holds o c) seat_piece) ∙ holds in
+    is.wrote n c w below (claimed_hidden fixed m n c served.sound ours)
+    ∙ and_from _ _ ours (filled c w of_group (claims_at s m n c is.state ∙ ours) held below) in
+    (there, ap (λ (o : Option Piece). is_some o) seat_piece, wrote)
+
+pub publish_next : (fixed : Fixed) (pieces : List Checked) (s t : State) (old mid new : List Player) (written : List Bool) (m : Machine) (n group mask : ℕ) (player : Player) (piece : Checked)
+    → IsSoundMachine fixed m → StandsFor fixed s old written m → group < ((fixed.capacity + 63) / 64)
+    → IsTakenPlayer (player_in old n) player → player.piece ≡ Some piece
+    → ((c w : ℕ) → c / 64 ≡ group → claims (caller n) s c ≡ true → holds_chunk (piece_of piece) c ≡ true → w < 129 → is_marked written c w ≡ true)
+    → IsRightReply fixed s (caller n) (Commit group (piece_of piece) mask)
     → t ≡ run s (record { who = caller n; call = Commit group (piece_of piece) mask } ∷ [])
     → ((k : ℕ) → k ≢ n → player_in mid k ≡ player_in old k) → ((k : ℕ) → player_in new k ≡ (if player.number == k then Some player else player_in mid k)) → player.number ≡ n
     → IsNext fixed pieces t new written m (Publish n group) (Some (Committed mask))
@@ -251,11 +264,7 @@ publish_next fixed pieces s t old mid new written m n group mask player piece se
     (λ c of_group. ap (λ (b : Bool). b && holds_chunk (piece_of piece) c) (claims_at s m n c is.state)
     ∙ ap (λ (o : Option Piece). seat_has m n c && current_holds o c) (sym seat_piece)) done.1 in
     let right : IsReply fixed m (Publish n group) (Some (Committed mask)) = (mask, refl, chosen) in
-    let wrote : IsWritten m n group = λ c w of_group ours holds below.
-    let held : holds_chunk (piece_of piece) c ≡ true = sym (ap (λ (o : Option Piece). current_holds o c) seat_piece) ∙ holds in
-    is.wrote n c w below (claimed_hidden fixed m n c served.sound ours)
-    ∙ and_from _ _ ours (filled c w of_group (claims_at s m n c is.state ∙ ours) held below) in
-    let legal : IsLegalStep fixed pieces m (Publish n group) = (there, ap (λ (o : Option Piece). is_some o) seat_piece, wrote) in
+    let legal : IsLegalStep fixed pieces m (Publish n group) = may_publish fixed pieces s old written m n group player piece served is there taken has filled in
     let next : Machine = after_step fixed pieces m (Publish n group) (Some (Committed mask)) in
     record {
       legal = legal;
@@ -276,7 +285,7 @@ publish_next fixed pieces s t old mid new written m n group mask player piece se
 
 -- a legal Publish is of a seat with a current piece, all of whose words are marked
 pub publish_filled : (fixed : Fixed) (pieces : List Checked) (s : State) (old : List Player) (written : List Bool) (m : Machine) (n group : ℕ) (player : Player) (piece : Checked)
-    → IsServed fixed m → StandsFor fixed s old written m → IsTaken (player_in old n) player → player.piece ≡ Some piece → IsLegalStep fixed pieces m (Publish n group)
+    → IsSoundMachine fixed m → StandsFor fixed s old written m → IsTakenPlayer (player_in old n) player → player.piece ≡ Some piece → IsLegalStep fixed pieces m (Publish n group)
     → (c w : ℕ) → c / 64 ≡ group → claims (caller n) s c ≡ true → holds_chunk (piece_of piece) c ≡ true → w < 129 → is_marked written c w ≡ true
 publish_filled fixed pieces s old written m n group player piece served is taken has legal c w of_group ours holds below =
     let seat_piece : (m.seat n).piece ≡ Some (piece_of piece) = current fixed (player_in old n) player (m.seat n) piece (is.seats n) taken has in
@@ -284,15 +293,18 @@ publish_filled fixed pieces s old written m n group player piece served is taken
     let wrote : (m.seat n).written c w ≡ true = legal.2 c w of_group mine (ap (λ (o : Option Piece). current_holds o c) seat_piece ∙ holds) below in
     (and_parts (seat_has m n c) (is_marked written c w) (sym (is.wrote n c w below (claimed_hidden fixed m n c served.sound mine)) ∙ wrote)).1
 
--- Hash
+-- Hash. It is legal of a piece of the list that is of the store.
+pub may_hash : (fixed : Fixed) (pieces : List Checked) (m : Machine) (n i : ℕ) (piece : Checked) → slice_get pieces i ≡ Some piece → IsOf fixed piece → IsLegalStep fixed pieces m (Hash n i)
+may_hash fixed pieces m n i piece found of_store = record { piece = piece; is = found; root = ap (λ (h : Digest). h.0) of_store.root; mode = of_store.mode }
+
 pub hash_next : (fixed : Fixed) (pieces : List Checked) (s : State) (old mid new : List Player) (written cleared : List Bool) (m : Machine) (n i : ℕ) (was player : Player) (piece : Checked)
-    → IsServed fixed m → StandsFor fixed s old written m → slice_get pieces i ≡ Some piece → IsOf fixed piece
+    → IsSoundMachine fixed m → StandsFor fixed s old written m → slice_get pieces i ≡ Some piece → IsOf fixed piece
     → IsCleared (λ c. nat_lt c fixed.capacity && claims (caller n) s c) written cleared
-    → IsTaken (player_in old n) was → player.piece ≡ Some piece → player.reading ≡ was.reading → player.number ≡ n
+    → IsTakenPlayer (player_in old n) was → player.piece ≡ Some piece → player.reading ≡ was.reading → player.number ≡ n
     → ((k : ℕ) → k ≢ n → player_in mid k ≡ player_in old k) → ((k : ℕ) → player_in new k ≡ (if player.number == k then Some player else player_in mid k))
     → IsNext fixed pieces s new cleared m (Hash n i) None
 hash_next fixed pieces s old mid new written cleared m n i was player piece served is found of_store clear taken now read number others put =
-    let seat : Seat = record (m.seat n) { piece = option_map piece_of (slice_get pieces i); written = λ c w. false } in
+    let seat : MachineSeat = record (m.seat n) { piece = option_map piece_of (slice_get pieces i); written = λ c w. false } in
     let mapped : option_map piece_of (slice_get pieces i) ≡ option_map piece_of player.piece =
     ap (λ (o : Option Checked). option_map piece_of o) found ∙ sym (ap (λ (o : Option Checked). option_map piece_of o) now) in
     let old_seat : IsPlayer fixed was (m.seat n) = taken_seat fixed (player_in old n) was (m.seat n) (is.seats n) taken in
@@ -308,7 +320,7 @@ hash_next fixed pieces s old mid new written cleared m n i was player piece serv
     let fails : (nat_lt c fixed.capacity && claims (caller n) s c) ≡ false = and_right _ _ (claims_at s m n c is.state ∙ free) in
     clear c w below ∙ ap (λ (b : Bool). if b then false else is_marked written c w) fails in
     record {
-      legal = record { piece = piece; is = found; root = ap (λ (h : Digest). h.0) of_store.root; mode = of_store.mode };
+      legal = may_hash fixed pieces m n i piece found of_store;
       right = refl;
       stands = record {
         state = is.state;
@@ -333,20 +345,26 @@ hash_next fixed pieces s old mid new written cleared m n i was player piece serv
       };
     }
 
--- Write
+-- Write. It is legal of a chunk that the player's piece holds and the seat claims.
+pub may_write : (fixed : Fixed) (pieces : List Checked) (s : State) (old : List Player) (written : List Bool) (m : Machine) (n c w : ℕ) (player : Player)
+    → StandsFor fixed s old written m → w < 129 → claims (caller n) s c ≡ true → current_holds (option_map piece_of player.piece) c ≡ true
+    → IsTakenPlayer (player_in old n) player → IsLegalStep fixed pieces m (Write n c w)
+may_write fixed pieces s old written m n c w player is fits ours holds taken =
+    let was : IsPlayer fixed player (m.seat n) = taken_seat fixed (player_in old n) player (m.seat n) (is.seats n) taken in
+    (fits, sym (claims_at s m n c is.state) ∙ ours, ap (λ (o : Option Piece). current_holds o c) was.piece ∙ holds)
+
 pub write_next : (fixed : Fixed) (pieces : List Checked) (s : State) (old mid new : List Player) (written marked : List Bool) (m : Machine) (n c w : ℕ) (player : Player)
-    → IsServed fixed m → StandsFor fixed s old written m → w < 129 → claims (caller n) s c ≡ true → current_holds (option_map piece_of player.piece) c ≡ true
+    → IsSoundMachine fixed m → StandsFor fixed s old written m → w < 129 → claims (caller n) s c ≡ true → current_holds (option_map piece_of player.piece) c ≡ true
     → ((d v : ℕ) → v < 129 → is_marked marked d v ≡ ((d == c) && (v == w) || is_marked written d v))
-    → IsTaken (player_in old n) player → player.number ≡ n
+    → IsTakenPlayer (player_in old n) player → player.number ≡ n
     → ((k : ℕ) → k ≢ n → player_in mid k ≡ player_in old k) → ((k : ℕ) → player_in new k ≡ (if player.number == k then Some player else player_in mid k))
     → IsNext fixed pieces s new marked m (Write n c w) None
 write_next fixed pieces s old mid new written marked m n c w player served is fits ours holds mark taken number others put =
     let mine : seat_has m n c ≡ true = sym (claims_at s m n c is.state) ∙ ours in
-    let was : IsPlayer fixed player (m.seat n) = taken_seat fixed (player_in old n) player (m.seat n) (is.seats n) taken in
-    let seat : Seat = record (m.seat n) { written = λ d v. ((d == c) && (v == w)) || (m.seat n).written d v } in
+    let seat : MachineSeat = record (m.seat n) { written = λ d v. ((d == c) && (v == w)) || (m.seat n).written d v } in
     let dark_at : (d : ℕ) → d ≡ c → seat_has m n d ≡ true = λ d e. subst (λ (x : ℕ). seat_has m n x ≡ true) (sym e) mine in
     record {
-      legal = (fits, mine, ap (λ (o : Option Piece). current_holds o c) was.piece ∙ holds);
+      legal = may_write fixed pieces s old written m n c w player is fits ours holds taken;
       right = refl;
       stands = record {
         state = is.state ∙ (write_step fixed pieces m n c w served mine).state;
@@ -381,7 +399,7 @@ write_next fixed pieces s old mid new written marked m n c w player served is fi
 
 -- a legal Write is of a chunk that the player's piece holds and the seat claims
 pub write_legal : (fixed : Fixed) (pieces : List Checked) (s : State) (old : List Player) (written : List Bool) (m : Machine) (n c w : ℕ) (player : Player)
-    → StandsFor fixed s old written m → IsTaken (player_in old n) player → IsLegalStep fixed pieces m (Write n c w)
+    → StandsFor fixed s old written m → IsTakenPlayer (player_in old n) player → IsLegalStep fixed pieces m (Write n c w)
     → (claims (caller n) s c ≡ true) × (current_holds (option_map piece_of player.piece) c ≡ true)
 write_legal fixed pieces s old written m n c w player is taken legal =
     let was : IsPlayer fixed player (m.seat n) = taken_seat fixed (player_in old n) player (m.seat n) (is.seats n) taken in
