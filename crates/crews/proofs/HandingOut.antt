@@ -19,7 +19,7 @@ use Rattle.gather.specs.Counts.{HasFailed, Reports}
 use Rattle.gather.specs.Faults.{cause_of}
 use Rattle.gather.specs.HandedOut.{IsExcused}
 use Rattle.gather.specs.Holders.{IsHanded}
-use Rattle.gather.specs.Large.{HasPair, IsTooLarge}
+use Rattle.gather.specs.Large.{HasCollision, IsTooLarge}
 use Rattle.gather.specs.Worked.{AreFrom, IsFrom}
 use Rattle.gather.proofs.Binding.{pair_of}
 use Rattle.gather.proofs.Handing.{cause_handed, large_pair, none_failed, unfinished_named}
@@ -78,10 +78,10 @@ module _ (handed : Piece → Type 0) where
         | inr never ↦ absurd (omega (arith, never.1))
       ])
 
--- a seat that filled its store from the blob doesn't find it unfinished, unless a pair is named
+-- a seat that filled its store from the blob doesn't find it unfinished, unless a collision is exhibited
 pub unfinished_pair : (handed : Piece → Type 0) (fixed : Fixed) (start seat : Gripped) (finished : SeatView) (blob : List ℕ) → seat.view.fixed ≡ fixed → IsKeyed fixed.mode
     → IsBlob fixed blob → IsLegal fixed finished.seen → ((c : ℕ) → claims_of start c ≡ false) → IsFilled Records HoldsOn Claims start seat blob
-    → AreFrom handed finished.seen → WasUnfinished seat.view finished → HasPair handed fixed blob
+    → AreFrom handed finished.seen → WasUnfinished seat.view finished → HasCollision handed fixed blob
 unfinished_pair handed fixed start seat finished blob same keyed is legal unclaimed filled from was =
     let history : List Event = seat.view.seen ++ was.before in
     let begun : IsLegal fixed history =
@@ -97,7 +97,7 @@ unfinished_pair handed fixed start seat finished blob same keyed is legal unclai
     ]) was.unfinished)
 
 -- The closing rounds over holders of which some give the blob's slices that are asked for, and what their seat finds afterwards:
--- memory was refused, or a pair is named.
+-- memory was refused, or a collision is exhibited.
 module _ (H : Type 0) (gives : H → ℕ → ℕ → List ℕ → Type 0) (count : H → ℕ) (handed : Piece → Type 0) (fixed : Fixed) (start seat : Gripped) (finished round : SeatView)
     (holders later : List H) (report report' : Report) (wide : (piece : Piece) → IsHanded gives holders piece → handed piece)
     (of_start : start.view.fixed ≡ fixed) (of_seat : seat.view.fixed ≡ fixed) (left : IsLeft handed start.view)
@@ -124,9 +124,9 @@ module _ (H : Type 0) (gives : H → ℕ → ℕ → List ℕ → Type 0) (count
       → (IsTrue report.too_large → IsTooLarge handed fixed)
       → (IsServed start.view.fixed blob → HaveSlices grain gives start.view.fixed.mode blob holders
       → HasFailed report' ⊎ IsTooLarge (IsHanded gives holders) start.view.fixed ⊎ IsFilled Records HoldsOn Claims start seat blob)
-      → WasUnfinished seat.view finished → IsExcused (cause_of report') ⊎ HasPair handed fixed blob
+      → WasUnfinished seat.view finished → IsExcused (cause_of report') ⊎ HasCollision handed fixed blob
   unfinished_handed grain blob quiet keyed is room limit has legal no_fault before met unfinished =
-      let P : Type 0 = HasPair handed fixed blob in
+      let P : Type 0 = HasCollision handed fixed blob in
       let slices : IsServed fixed blob = served fixed blob keyed is room limit in
       let more : IsTooLarge (IsHanded gives holders) start.view.fixed → P =
       (λ large.

@@ -10,4 +10,3 @@ pub mod Alone
 pub mod Whence
 pub mod Rereading
 pub mod HandingOut
-pub mod Lending

@@ -1,12 +1,9 @@
 -- What several workers leave whose holders hand over no more than is known of them.
-use Rattle.std.proofs.Common.{◌≡◌, ◌<◌, get_or, length, nat_lt, subst, ℕ, List, Bool, true, false, if◌then◌else◌}
-use Rattle.gather.specs.declared.report.Report.{Report}
-use Rattle.gather.specs.declared.texts.GatherFault.TheVariants.{Capacity, Starved, TooLarge, Unfinished}
-use Rattle.gather.specs.Faults.{cause_of}
+use Rattle.std.proofs.Common.{◌≡◌, ◌<◌, get_or, length, subst, ℕ, List}
 use Rattle.gather.specs.Holders.{IsHanded}
 use Rattle.crews.specs.declared.crew.Crew.{Crew}
 use Rattle.crews.specs.Crews.{IsHandedTo}
-use Rattle.crews.specs.Lists.{IsLent}
+use Rattle.gather.specs.Lists.{IsLent}
 use Rattle.std.specs.List.{All}
 use Rattle.std.proofs.lemmas.Option.{get_or_from_slice_get, slice_get_within}
 use Rattle.store_core.specs.declared.history.Piece.{Piece}
@@ -27,12 +24,3 @@ handed_wide {H = H} gives handed crews wide piece to =
 pub lent_all : {H : Type 0} (gives : H → ℕ → ℕ → List ℕ → Type 0) (over : List H → Type 0) (crews : List (Crew H)) → All (λ (crew : Crew H). over crew.holders.items) crews
     → AreLent gives (IsLent gives over) crews
 lent_all gives over crews are k d below piece handed = record { holders = (get_or crews k d).holders.items; are = are k d below; handed = handed }
-
-never_capacity : (starved large : Bool) → Capacity ≡ (if starved then Starved else if large then TooLarge else Unfinished) → ⊥
-never_capacity true large e = cc
-never_capacity false true e = cc
-never_capacity false false e = cc
-
--- no report is of a capacity
-pub cause_never : (report : Report) → Capacity ≡ cause_of report → ⊥
-cause_never report e = never_capacity (nat_lt 0 report.memory) report.too_large e

@@ -33,7 +33,7 @@ use Rattle.store_core.proofs.Joining.{split_keeps}
 use Rattle.store_core.proofs.Lasting.{held_lasts, legal-append, record_lasts}
 use Rattle.store_core.proofs.ReadLaws.{read_is, read_means}
 use Rattle.store_shared.proofs.Asking.{right_there}
-use Rattle.store_steps.proofs.Naming.{merge-cases}
+use Rattle.store_core.proofs.Naming.{merge-cases}
 
 -- a call that reads
 pub on_called : (old new : SeatView) (call : Call) → OnlyReads call → Called call old new → ReadOn old new

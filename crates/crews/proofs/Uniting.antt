@@ -14,8 +14,7 @@ use Rattle.store_core.specs.Views.{merge_names, mine, names_of, new_names, put_n
 use Rattle.store_core.proofs.Joining.{join_keeps, plain}
 use Rattle.store_core.proofs.Tells.{same_name-true}
 use Rattle.store_core.specs.Knowledge.{AreAllNames, ArePartsOf, IsMerged}
-use Rattle.store_steps.proofs.Lists.{entry_of, shared}
-use Rattle.store_steps.proofs.Naming.{child, merge-cases, name_there, raised}
+use Rattle.store_core.proofs.Naming.{child, entry_of, merge-cases, name_there, raised, shared}
 
 has_there : (a b : List Named) → ((n : Named) → Contains a n → Contains b n) → (name : Name) → has_name (plain a) name ≡ true → has_name (plain b) name ≡ true
 has_there a b to name h = let e = entry_of a name h in subst (λ (n : Name). has_name (plain b) n ≡ true) e.2 (name_there b e.0 (to e.0 e.1))

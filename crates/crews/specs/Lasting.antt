@@ -22,8 +22,8 @@ abbrev pub Records : Gripped → ℕ → Type 0
 Records seat l = IsFromNow (λ (s : State). s.recorded ≡ Some l) seat
 
 -- nothing is said of which chunks are held or claimed by others
-abbrev pub Holds : Gripped → ℕ → Type 0
-Holds seat c = Unit {0}
+abbrev pub HoldsChunk : Gripped → ℕ → Type 0
+HoldsChunk seat c = Unit {0}
 
 abbrev pub IsBusy : Gripped → ℕ → Type 0
 IsBusy seat c = Unit {0}
@@ -38,7 +38,7 @@ lasts_on P handed s t n q gone is more legal =
 records_last : (handed : Piece → Type 0) (s t : Gripped) (n q l : ℕ) → GoneOn handed s t n q → Records s l → Records t l
 records_last handed s t n q l gone is = lasts_on (λ (x : State). x.recorded ≡ Some l) handed s t n q gone is
 
-pub lasts : Lasts GoneOn claims_of Records Holds IsBusy
+pub lasts : Lasts GoneOn claims_of Records HoldsChunk IsBusy
 lasts = record { length = records_last; chunk = λ handed s t n q c gone is. is; frees = λ handed s t n q c gone among busy. inl busy }
 
 -- The seat has all names that there are, and no other names than these made its calls.

@@ -3,10 +3,8 @@ pub mod Going
 pub mod Lasting
 pub mod Crews
 pub mod Finished
-pub mod Faults
 pub mod Peers
 pub mod Joined
 pub mod Beside
 pub mod Closing
-pub mod Lists
 pub mod Wholes

@@ -16,15 +16,15 @@ pub record Peered : Type 0 where
 
 -- The call that stands behind a text: the slice was served, or there is no text, since the store has no length or lacks a
 -- node.
-abbrev pub IsServed : ℕ → ℕ → List ℕ → SeatView → SeatView → Type 0
-IsServed start len text old new = Called (Serve start len (Text text)) old new
+abbrev pub IsFetchCall : ℕ → ℕ → List ℕ → SeatView → SeatView → Type 0
+IsFetchCall start len text old new = Called (Serve start len (Text text)) old new
     ⊎ ((text ≡ []) × (Called (Serve start len NoLength) old new ⊎ ((node : Node) × Called (Serve start len (Lacking node)) old new)))
 
--- A text is appended. If it isn't empty it is the slice of each blob with the root, or a pair is named.
+-- A text is appended. If it isn't empty it is the slice of each blob with the root, or a collision is exhibited.
 pub record Fetches (start len : ℕ) (before after : List ℕ) (old new : SeatView) : Type 0 where
   pub text : List ℕ
   pub is : after ≡ before ++ text
-  pub served : IsServed start len text old new
+  pub served : IsFetchCall start len text old new
   pub binds : (text ≡ []) ⊎ SeatSliceBinds new start len text
 
 -- there was no memory for the slice, or for what it is appended to

@@ -8,7 +8,7 @@ use Rattle.store_core.specs.declared.fixed.Fixed.{Fixed}
 use Rattle.store_core.specs.declared.history.Event.{Event}
 use Rattle.store_core.specs.declared.view.SeatView.{SeatView}
 use Rattle.store_core.specs.Histories.{AreOfOthers, state_after}
-use Rattle.store_core.specs.Laws.{IsBlob, IsCommitted, PairNamed}
+use Rattle.store_core.specs.Laws.{IsBlob, IsCommitted, CollidesWith}
 use Rattle.store_core.specs.Views.{mine, names_of, seat_claims}
 use Rattle.store_shared.specs.Seats.{Gripped}
 
@@ -35,11 +35,11 @@ pub record GoneOn (handed : Piece → Type 0) (old new : Gripped) (chunks parent
   pub counts : chunks ≡ chunks_in own
   pub counts_parents : parents ≡ parents_in own
 
--- Each chunk that is held after all that was seen is the one of that number of each blob with the root; or a pair is
--- named from that blob and from the piece by which the chunk was committed.
+-- Each chunk that is held after all that was seen is the one of that number of each blob with the root; or a collision is
+-- exhibited from that blob and from the piece by which the chunk was committed.
 abbrev pub SeenBinds : SeatView → Type 0
 SeenBinds view = (blob : List ℕ) → IsBlob view.fixed blob → (c : ℕ) (bytes : List ℕ) → (state_after view.seen).held c ≡ Some bytes
-    → (chunk_of blob c ≡ Some bytes) ⊎ ((from : IsCommitted view.fixed view.seen c bytes) × PairNamed view.fixed blob from.piece)
+    → (chunk_of blob c ≡ Some bytes) ⊎ ((from : IsCommitted view.fixed view.seen c bytes) × CollidesWith view.fixed blob from.piece)
 
 -- A new seat has seen what a seat had seen, and has neither calls nor claims.
 pub record BeginsAfter (given new : SeatView) : Type 0 where

@@ -37,8 +37,8 @@ fn read_all(alloc: Global, assembly: &Assembly, seat: &mut Seat) -> Result<Vec<u
 /// byte below the length isn't held; 902 `NotTheRoot` where the hash of the bytes isn't the root. The store is unchanged:
 /// the seat asks for the length, and then at most once reads.
 ///
-/// For each blob with the root the blob is the one that is answered, and there is none at `NotTheRoot`; or two different
-/// inputs with one chaining value are named, one of the blob's and one of a piece's of which the history that the seat has
+/// For each blob with the root the blob is the one that is answered, and there is none at `NotTheRoot`; or a collision
+/// is exhibited, two different inputs with one chaining value, one of the blob's and one of a piece's of which the history that the seat has
 /// seen committed a chunk, or by which it settled the length.
 pub fn finish(alloc: Global, assembly: &Assembly, seat: &mut Seat) -> Result<Vec<u8>, FinishFault>
     requires of { IsSeatOf assembly.now seat.old }
@@ -49,6 +49,7 @@ pub fn finish(alloc: Global, assembly: &Assembly, seat: &mut Seat) -> Result<Vec
 {
     let blob = read_all(alloc, assembly, seat)?;
     let fixed = Shared(assembly).fixed(seat);
+    // For the prover alone: the flags of a mode are apart from the tree's.
     fixed.mode.is_keyed();
     judge(&fixed, hash(&fixed.mode, blob.as_slice()))?;
     Ok(blob)

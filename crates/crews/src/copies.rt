@@ -1,17 +1,12 @@
-ghost use Rattle.std.specs.Prelude.{◌≡◌, ◌↔◌, ◌⊎◌, ◌*◌, ◌<◌, ◌≤◌, Err, IfOk, length};
-ghost use Rattle.b3tree.specs.Hashing.{hash};
-ghost use Rattle.bao_check.specs.Outline.{outline_mode, outline_root};
-ghost use Rattle.crews.specs.declared.fault.CrewsFault.TheVariants.{Gather};
-ghost use Rattle.gather.specs.declared.texts.GatherFault.TheVariants.{Capacity};
+ghost use Rattle.std.specs.Prelude.{vec_items};
+ghost use Rattle.gather.specs.HandedOut.{Certifies, own_bytes};
+ghost use Rattle.crews.specs.Beside.{fixed_beside};
 
-use crate::fault::CrewsFault;
 use crate::gathering::gather_beside;
-use crate::lists::Copies;
-use crate::places::CopiesAt;
 use crate::whole::{Whole, in_memory};
 use bao_check::Outline;
 use bao_read::Source;
-use gather::{Grain, Plain, PlainAt};
+use gather::{Copies, CopiesAt, GatherFault, Grain, Plain, PlainAt};
 use std::alloc::Global;
 use std::thread::Threads;
 
@@ -34,10 +29,8 @@ pub fn gather_copies<R: Threads + Sync>(
     workers: u32,
     grain: Grain,
     copies: &[Vec<u8>],
-) -> Result<Vec<u8>, CrewsFault>
-    ensures root { IfOk result (λ blob. hash (outline_mode outline.now) blob.items ≡ outline_root outline.now) }
-    ensures fits { IfOk result (λ blob. length blob.items ≤ 1024 * capacity) }
-    ensures capacity { (result ≡ Err (Gather Capacity)) ↔ ((capacity ≡ 0) ⊎ (65536 < capacity)) }
+) -> Result<Vec<u8>, GatherFault>
+    ensures { Certifies vec_items (fixed_beside outline.now capacity) result }
 {
     let copies = Copies(copies);
     let gathered = gather_beside::<R, Plain<'_>, Copies<'_>>(
@@ -46,7 +39,7 @@ pub fn gather_copies<R: Threads + Sync>(
     in_memory(alloc, gathered)
 }
 
-/// The blob of an outboard encoding that was accepted, out of plain copies of it that are read at places, as files are, and
+/// The blob of an outboard encoding that was accepted, out of plain copies of it that are read by position, as files are, and
 /// that nobody trusts: each may be whole, cut, changed, or any bytes, and have other bytes at each read. So many workers, at
 /// least 1 and at most 64, fill a shared store with room for `capacity` chunks, as `run_bare` says, each with a seat of its
 /// own and all copies in their order; with `Grain::Chunk` one more seat then asks for each chunk by itself, as `salvage`
@@ -67,10 +60,8 @@ pub fn gather_copies_at<R: Threads + Sync, S: Source + Sync>(
     workers: u32,
     grain: Grain,
     copies: &[S],
-) -> Result<Whole, CrewsFault>
-    ensures root { IfOk result (λ blob. hash (outline_mode outline.now) blob ≡ outline_root outline.now) }
-    ensures fits { IfOk result (λ blob. length blob ≤ 1024 * capacity) }
-    ensures capacity { (result ≡ Err (Gather Capacity)) ↔ ((capacity ≡ 0) ⊎ (65536 < capacity)) }
+) -> Result<Whole, GatherFault>
+    ensures { Certifies own_bytes (fixed_beside outline.now capacity) result }
 {
     gather_beside::<R, PlainAt<'_, S>, CopiesAt<'_, S>>(
         rt,

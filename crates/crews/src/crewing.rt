@@ -1,15 +1,11 @@
 ghost use Rattle.std.specs.Prelude.{◌≡◌, ◌⊎◌, All, IfErr, IfOk, vec_len};
-ghost use Rattle.crews.specs.declared.fault.CrewsFault.TheVariants.{Gather};
-ghost use Rattle.gather.specs.declared.texts.GatherFault.TheVariants.{Starved};
 ghost use Rattle.store_core.specs.Knowledge.{AreAllNames};
 ghost use Rattle.store_shared.specs.Seats.{IsSeatOf};
 ghost use Rattle.crews.specs.Joined.{HaveAllNames};
 ghost use Rattle.crews.specs.Seats.{BeginsAfter, KeepsItsOwn};
 
 use crate::crew::Crew;
-use crate::fault::CrewsFault;
-use crate::lists::Lists;
-use gather::GatherFault;
+use gather::{GatherFault, Lists};
 use std::alloc::Global;
 use store_shared::{Assembly, Seat};
 
@@ -24,7 +20,7 @@ pub(crate) fn crews_with<H: Drop, L: Lists<H>>(
     seat: Seat,
     workers: u32,
     lists: &L,
-) -> Result<(Vec<Crew<H>>, Seat), CrewsFault>
+) -> Result<(Vec<Crew<H>>, Seat), GatherFault>
     requires { IsSeatOf assembly.now seat }
     ensures of { IfOk result (λ made. All (λ crew. IsSeatOf assembly.now crew.seat) made.0.items) }
     ensures count { IfOk result (λ made. vec_len made.0 ≡ workers) }
@@ -33,22 +29,23 @@ pub(crate) fn crews_with<H: Drop, L: Lists<H>>(
     ensures stays { IfOk result (λ made. IsSeatOf assembly.now made.1) }
     ensures keeps { IfOk result (λ made. KeepsItsOwn seat.view made.1.view) }
     ensures names { IfOk result (λ made. AreAllNames seat.view.names → HaveAllNames made.1.view made.0.items) }
-    ensures fault { IfErr result (λ fault. (fault ≡ CrewsFault.Seat) ⊎ (fault ≡ Gather Starved)) }
+    ensures fault { IfErr result (λ fault. (fault ≡ GatherFault.Seat) ⊎ (fault ≡ GatherFault.Starved)) }
 {
-    let starved = CrewsFault::Gather(GatherFault::Starved);
-    let mut crews = Vec::with_capacity(alloc, workers as usize).map_err(|_| starved)?;
+    let mut crews = Vec::with_capacity(alloc, workers as usize).map_err(|_| GatherFault::Starved)?;
     let mut stays = seat;
     for _ in 0..workers {
         let (kept, own) = match assembly.split(stays) {
             Ok(parts) => parts,
-            Err(_) => return Err(CrewsFault::Seat),
+            Err(_) => return Err(GatherFault::Seat),
         };
         stays = kept;
         let holders = match lists.list(alloc) {
             Ok(holders) => holders,
-            Err(_) => return Err(starved),
+            Err(_) => return Err(GatherFault::Starved),
         };
-        crews.push(Crew::new(own, holders)).map_err(|_| starved)?;
+        crews
+            .push(Crew::new(own, holders))
+            .map_err(|_| GatherFault::Starved)?;
     }
     Ok((crews, stays))
 }

@@ -55,8 +55,8 @@ impl<'a> Holder for Peer<'a> {
 
     /// Appends the slice that the store serves, or nothing where it has no length or lacks a node. No device fails.
     ///
-    /// What isn't empty is the slice of each blob with the store's root; or two different inputs with one chaining value
-    /// are named, one of the blob's and one of a piece's that was committed to the store, by which its length was settled,
+    /// What isn't empty is the slice of each blob with the store's root; or a collision is exhibited, two different inputs with
+    /// one chaining value, one of the blob's and one of a piece's that was committed to the store, by which its length was settled,
     /// or whose parents were stored.
     fn fetch(&mut self, start: u64, len: u64, into: &mut Vec<u8>) -> Result<(), HolderFault>
         ensures appended { OnOk result (Appends (λ _. Unit {0}) into.old.items into.new.items) }

@@ -35,6 +35,7 @@ fn run_as<R: Threads + Sync, H: Holder + Send, G: Gate + Sync>(
     ensures too_large { IsTrue result.too_large → IsTooLarge (IsHandedTo (made_of form.now H.gives) crews.old) (fixed_of assembly.now) }
     ensures longer { IsTrue result.too_large → AreLonger (IsHandedTo (made_of form.now H.gives) crews.old) (fixed_of assembly.now) }
 {
+    // For the prover alone: the flags of a mode are apart from the tree's.
     assembly.mode().is_keyed();
     both_rounds(rt, alloc, assembly, form, crews, gate)
 }
@@ -58,11 +59,11 @@ fn run_as<R: Threads + Sync, H: Holder + Send, G: Gate + Sync>(
 /// What a crew's seat has seen goes on from what it had seen, and is a legal history of the store. A report's
 /// `committed` is the number of chunks in the commits that the crew's own calls added to it, its `parents` that of
 /// the parents that they stored, and the crew claims no more than it did. For each blob with the root, each chunk
-/// seen held is the blob's of that number, or two different inputs with one chaining value are named, one of the
+/// seen held is the blob's of that number, or a collision is exhibited, two different inputs with one chaining value, one of the
 /// blob's and one of the piece's by which it was committed.
 ///
 /// `failed` is at most what the holders' counts rose together, and `too_large` is set only where an accepted text
-/// certifies a length above what the store has room for: each blob with the root is then longer, or such a pair is named.
+/// certifies a length above what the store has room for: each blob with the root is then longer, or such a collision is exhibited.
 pub fn run<R: Threads + Sync, H: Holder + Send, G: Gate + Sync>(
     rt: &R,
     alloc: Global,

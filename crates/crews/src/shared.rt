@@ -10,7 +10,7 @@ pub struct Shared<'a>(pub &'a Assembly);
 impl Shelf for Shared<'_> {
     ghost use Rattle.store_shared.specs.Seats.{IsSeatOf};
     ghost use Rattle.crews.specs.Going.{goes};
-    ghost use Rattle.crews.specs.Lasting.{Holds, IsBusy, Records, lasts};
+    ghost use Rattle.crews.specs.Lasting.{HoldsChunk, IsBusy, Records, lasts};
     ghost use Rattle.crews.specs.Seats.{GoneOn, claims_of, fixed_of};
 
     type Seat = Seat;
@@ -27,7 +27,7 @@ impl Shelf for Shared<'_> {
 
     ghost records = { λ seat l. Records seat l };
 
-    ghost holds = { λ seat c. Holds seat c };
+    ghost holds = { λ seat c. HoldsChunk seat c };
 
     ghost busy = { λ seat c. IsBusy seat c };
 
@@ -72,6 +72,7 @@ impl Shelf for Shared<'_> {
     }
 
     fn settle(&self, seat: &mut Seat, tail: &Tail<'_>) -> Settling {
+        // For the prover alone: a tail is of a piece with its last chunk.
         tail.is_last();
         self.0.settle(seat, tail)
     }

@@ -1,75 +1,21 @@
-ghost use Rattle.std.specs.Prelude.{◌≡◌, ◌↔◌, ◌⊎◌, ◌*◌, ◌<◌, ◌≤◌, ℕ, Err, IfOk, IsErrOf, IsTrue, List, Some, length, slice_get};
-ghost use Rattle.b3tree.specs.Hashing.{hash};
+ghost use Rattle.std.specs.Prelude.{◌≡◌, ◌≤◌, ℕ, List, Some, length, slice_get};
 ghost use Rattle.bao_text.specs.Choice.{chunk_count};
 ghost use Rattle.bao_text.specs.Texts.{combined_text};
-ghost use Rattle.gather.specs.Large.{AreLonger, AreTheBlob, IsOfNone, IsTooLarge, fixed_as};
-ghost use Rattle.crews.specs.declared.fault.CrewsFault.TheVariants.{Gather};
-ghost use Rattle.gather.specs.declared.texts.GatherFault.TheVariants.{Capacity, NotTheRoot, TooLarge, Unfinished};
-ghost use Rattle.store_core.specs.Laws.{IsBlob};
-ghost use Rattle.crews.specs.Closing.{IsKeptWhole};
-ghost use Rattle.crews.specs.Lists.{IsCutOfSource, source_gives};
 ghost use Rattle.gather.specs.Available.{HaveSlices};
+ghost use Rattle.gather.specs.HandedOut.{Gathers, IsHandedOut, own_bytes};
+ghost use Rattle.gather.specs.Large.{fixed_as};
+ghost use Rattle.gather.specs.Lists.{IsCutOfSource, source_gives};
+ghost use Rattle.store_core.specs.Laws.{IsBlob};
 
-use crate::fault::CrewsFault;
 use crate::gathering::gather_by;
-use crate::places::{SourceAt, Sources};
 use crate::whole::Whole;
 use b3tree::{Hash, Mode};
 use bao_read::Source;
-use gather::{GatherFault, Grain};
+use gather::{GatherFault, Grain, SourceAt, Sources};
 use std::alloc::Global;
 use std::thread::Threads;
-use store_core::MAX_CAPACITY;
 
-// `gather_sources` by a store with room for `capacity` chunks.
-fn gather_within<R: Threads + Sync, S: Source + Sync>(
-    rt: &R,
-    alloc: Global,
-    root: Hash,
-    mode: Mode,
-    capacity: u32,
-    workers: u32,
-    grain: Grain,
-    sources: &[S],
-) -> Result<Whole, CrewsFault>
-    ensures root { IfOk result (λ blob. hash mode blob ≡ root.0) }
-    ensures fits { IfOk result (λ blob. length blob ≤ 1024 * capacity) }
-    ensures capacity { (result ≡ Err (Gather Capacity)) ↔ ((capacity ≡ 0) ⊎ (65536 < capacity)) }
-    ensures too_large { IsErrOf result (Gather TooLarge) → IsTooLarge (IsCutOfSource S.contents S.faultless sources.now) (fixed_as root mode capacity) }
-    ensures longer { IsErrOf result (Gather TooLarge) → AreLonger (IsCutOfSource S.contents S.faultless sources.now) (fixed_as root mode capacity) }
-    ensures none { IsErrOf result (Gather NotTheRoot) → IsOfNone (IsCutOfSource S.contents S.faultless sources.now) (fixed_as root mode capacity) }
-    ensures found { IfOk result (λ blob. AreTheBlob (IsCutOfSource S.contents S.faultless sources.now) (fixed_as root mode capacity) blob) }
-    ensures available { (blob : List ℕ) (i : ℕ) (source : S) → IsBlob (fixed_as root mode capacity) blob → chunk_count (length blob) ≤ capacity
-        → slice_get sources.now i ≡ Some source → S.contents source ≡ Some (combined_text mode blob) → S.faultless source
-        → IsKeptWhole (IsCutOfSource S.contents S.faultless sources.now) (fixed_as root mode capacity) blob result }
-    ensures covered { (blob : List ℕ) → IsBlob (fixed_as root mode capacity) blob → chunk_count (length blob) ≤ capacity
-        → HaveSlices grain (source_gives S.contents S.faultless) mode blob sources.now
-        → IsKeptWhole (IsCutOfSource S.contents S.faultless sources.now) (fixed_as root mode capacity) blob result }
-{
-    gather_by::<R, SourceAt<'_, S>, Sources<'_, S>>(
-        rt,
-        alloc,
-        root,
-        mode,
-        capacity,
-        workers,
-        grain,
-        &Sources(sources),
-    )
-}
-
-// Whether it may be for want of room that no blob was gathered.
-fn may_lack_room(gathered: &Result<Whole, CrewsFault>) -> bool
-    ensures large { IsErrOf gathered.now (Gather TooLarge) → IsTrue result }
-    ensures unfinished { IsErrOf gathered.now (Gather Unfinished) → IsTrue result }
-{
-    matches!(
-        gathered,
-        Err(CrewsFault::Gather(GatherFault::TooLarge | GatherFault::Unfinished))
-    )
-}
-
-/// The blob with this root in this mode, out of sources that are read at places, as files are, and that nobody trusts: each
+/// The blob with this root in this mode, out of sources that are read by position, as files are, and that nobody trusts: each
 /// may have its combined encoding, or any bytes, and other bytes at each read. What they have takes no memory but for the
 /// slices that workers ask for. So many workers, at least 1 and at most 64, fill a shared store, as `run` says, each with a
 /// seat of its own and all sources in their order. Then their seats are joined to one, which goes once more round the groups
@@ -90,14 +36,14 @@ fn may_lack_room(gathered: &Result<Whole, CrewsFault>) -> bool
 ///
 /// Where one of the sources never fails, its bytes are known, and they are the combined encoding of a blob with the root,
 /// of at most `capacity` chunks, that blob is answered, whatever the other sources are, whether or not they fail, and
-/// however the workers meet; or there was no memory, or such a pair as follows is named. Nor need any source be whole: it
+/// however the workers meet; or there was no memory, or such a collision as follows is exhibited. Nor need any source be whole: it
 /// is enough that what one gives as the slice of the last byte is known to be the blob's, and for each group of the blob's
 /// chunks what one gives as the group's slice, or with `Grain::Chunk` for each chunk as the chunk's.
 ///
-/// At 805 each blob with the root is longer than the capacity, and at 902 there is none; or two different inputs with
-/// one chaining value are named, one of the blob's and one of a slice's that is accepted under the root. Where the
-/// bytes of the source are known from which it came, it is cut out of them. Such a slice certifies the length that is too
-/// large, too.
+/// What is answered is each blob with the root, at 805 each of them is longer than the capacity, and at 902 there is none;
+/// or a collision is exhibited, two different inputs with one chaining value, one of the blob's and one of a slice's that is
+/// accepted under the root. Where the bytes of the source are known from which it came, it is cut out of them. Such a slice
+/// certifies the length that is too large, too.
 pub fn gather_sources<R: Threads + Sync, S: Source + Sync>(
     rt: &R,
     alloc: Global,
@@ -108,27 +54,24 @@ pub fn gather_sources<R: Threads + Sync, S: Source + Sync>(
     workers: u32,
     grain: Grain,
     sources: &[S],
-) -> Result<Whole, CrewsFault>
-    ensures root { IfOk result (λ blob. hash mode blob ≡ root.0) }
-    ensures fits { IfOk result (λ blob. length blob ≤ 1024 * capacity) }
-    ensures capacity { (result ≡ Err (Gather Capacity)) ↔ ((capacity ≡ 0) ⊎ (65536 < capacity)) }
-    ensures too_large { IsErrOf result (Gather TooLarge) → IsTooLarge (IsCutOfSource S.contents S.faultless sources.now) (fixed_as root mode capacity) }
-    ensures longer { IsErrOf result (Gather TooLarge) → AreLonger (IsCutOfSource S.contents S.faultless sources.now) (fixed_as root mode capacity) }
-    ensures none { IsErrOf result (Gather NotTheRoot) → IsOfNone (IsCutOfSource S.contents S.faultless sources.now) (fixed_as root mode capacity) }
+) -> Result<Whole, GatherFault>
+    ensures gathers { Gathers own_bytes (IsCutOfSource S.contents S.faultless sources.now) (fixed_as root mode capacity) result }
     ensures available { (blob : List ℕ) (i : ℕ) (source : S) → IsBlob (fixed_as root mode capacity) blob → chunk_count (length blob) ≤ capacity
         → slice_get sources.now i ≡ Some source → S.contents source ≡ Some (combined_text mode blob) → S.faultless source
-        → IsKeptWhole (IsCutOfSource S.contents S.faultless sources.now) (fixed_as root mode capacity) blob result }
+        → IsHandedOut own_bytes (IsCutOfSource S.contents S.faultless sources.now) (fixed_as root mode capacity) blob result }
     ensures covered { (blob : List ℕ) → IsBlob (fixed_as root mode capacity) blob → chunk_count (length blob) ≤ capacity
         → HaveSlices grain (source_gives S.contents S.faultless) mode blob sources.now
-        → IsKeptWhole (IsCutOfSource S.contents S.faultless sources.now) (fixed_as root mode capacity) blob result }
+        → IsHandedOut own_bytes (IsCutOfSource S.contents S.faultless sources.now) (fixed_as root mode capacity) blob result }
 {
-    let first = room.max(1).min(capacity);
-    if first == capacity || capacity > MAX_CAPACITY {
-        return gather_within(rt, alloc, root, mode, capacity, workers, grain, sources);
-    }
-    let gathered = gather_within(rt, alloc, root, mode, first, workers, grain, sources);
-    if may_lack_room(&gathered) {
-        return gather_within(rt, alloc, root, mode, capacity, workers, grain, sources);
-    }
-    gathered
+    gather_by::<R, SourceAt<'_, S>, Sources<'_, S>>(
+        rt,
+        alloc,
+        root,
+        mode,
+        capacity,
+        room,
+        workers,
+        grain,
+        &Sources(sources),
+    )
 }

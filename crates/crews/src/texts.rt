@@ -1,31 +1,24 @@
-ghost use Rattle.std.specs.Prelude.{◌≡◌, ◌↔◌, ◌⊎◌, ◌*◌, ◌<◌, ◌≤◌, ℕ, All, Err, IfErr, IfOk, IsErrOf, IsTrue, List, Some, length, map, slice_get, vec_items, vec_len};
-ghost use Rattle.b3tree.specs.Hashing.{hash};
+ghost use Rattle.std.specs.Prelude.{◌≡◌, ◌⊎◌, ◌≤◌, ℕ, All, IfErr, IfOk, List, Some, length, map, slice_get, vec_items, vec_len};
 ghost use Rattle.bao_text.specs.Choice.{chunk_count};
 ghost use Rattle.bao_text.specs.Texts.{combined_text};
 ghost use Rattle.gather.specs.Available.{HaveSlices};
 ghost use Rattle.gather.specs.Encodings.{IsCutOf, cut_gives, encoding};
-ghost use Rattle.gather.specs.Room.{most_chunks};
-ghost use Rattle.gather.specs.Large.{AreLonger, IsOfNone, IsTooLarge, fixed_as};
-ghost use Rattle.crews.specs.declared.fault.CrewsFault.TheVariants.{Gather};
-ghost use Rattle.gather.specs.declared.texts.GatherFault.TheVariants.{Capacity, NotTheRoot, Starved, TooLarge};
+ghost use Rattle.gather.specs.HandedOut.{Gathers, IsHandedOut};
+ghost use Rattle.gather.specs.Large.{fixed_as};
 ghost use Rattle.store_core.specs.Laws.{IsBlob};
 ghost use Rattle.store_shared.specs.Seats.{IsSeatOf};
 ghost use Rattle.store_core.specs.Knowledge.{AreAllNames};
-ghost use Rattle.crews.specs.Closing.{IsHandedOut};
 ghost use Rattle.crews.specs.Joined.{HaveAllNames};
 ghost use Rattle.crews.specs.Seats.{BeginsAfter, KeepsItsOwn};
 
 use crate::crew::Crew;
 use crate::crewing::crews_with;
-use crate::fault::CrewsFault;
 use crate::gathering::gather_by;
-use crate::lists::Texts;
 use crate::whole::in_memory;
 use b3tree::{Hash, Mode};
-use gather::{Encoded, GatherFault, Grain, room_for};
+use gather::{Encoded, GatherFault, Grain, Texts, room_for};
 use std::alloc::Global;
 use std::thread::Threads;
-use store_core::MAX_CAPACITY;
 use store_shared::{Assembly, Seat};
 
 /// So many crews, each with a seat of its own that is split off this one, and holders over all texts in their order;
@@ -42,7 +35,7 @@ pub fn crews_over<'a>(
     seat: Seat,
     workers: u32,
     texts: &'a [Vec<u8>],
-) -> Result<(Vec<Crew<Encoded<'a>>>, Seat), CrewsFault>
+) -> Result<(Vec<Crew<Encoded<'a>>>, Seat), GatherFault>
     requires { IsSeatOf assembly.now seat }
     ensures of { IfOk result (λ made. All (λ crew. IsSeatOf assembly.now crew.seat) made.0.items) }
     ensures count { IfOk result (λ made. vec_len made.0 ≡ workers) }
@@ -51,47 +44,9 @@ pub fn crews_over<'a>(
     ensures stays { IfOk result (λ made. IsSeatOf assembly.now made.1) }
     ensures keeps { IfOk result (λ made. KeepsItsOwn seat.view made.1.view) }
     ensures names { IfOk result (λ made. AreAllNames seat.view.names → HaveAllNames made.1.view made.0.items) }
-    ensures fault { IfErr result (λ fault. (fault ≡ CrewsFault.Seat) ⊎ (fault ≡ Gather Starved)) }
+    ensures fault { IfErr result (λ fault. (fault ≡ GatherFault.Seat) ⊎ (fault ≡ GatherFault.Starved)) }
 {
     crews_with(alloc, assembly, seat, workers, &Texts(texts))
-}
-
-// `gather_texts` by a store with room for `capacity` chunks.
-fn gather_within<R: Threads + Sync>(
-    rt: &R,
-    alloc: Global,
-    root: Hash,
-    mode: Mode,
-    capacity: u32,
-    workers: u32,
-    grain: Grain,
-    texts: &[Vec<u8>],
-) -> Result<Vec<u8>, CrewsFault>
-    ensures root { IfOk result (λ blob. hash mode blob.items ≡ root.0) }
-    ensures fits { IfOk result (λ blob. length blob.items ≤ 1024 * capacity) }
-    ensures capacity { (result ≡ Err (Gather Capacity)) ↔ ((capacity ≡ 0) ⊎ (65536 < capacity)) }
-    ensures too_large { IsErrOf result (Gather TooLarge) → IsTooLarge (IsCutOf (map vec_items texts.now)) (fixed_as root mode capacity) }
-    ensures longer { IsErrOf result (Gather TooLarge) → AreLonger (IsCutOf (map vec_items texts.now)) (fixed_as root mode capacity) }
-    ensures none { IsErrOf result (Gather NotTheRoot) → IsOfNone (IsCutOf (map vec_items texts.now)) (fixed_as root mode capacity) }
-    ensures available { (blob : List ℕ) (i : ℕ) → IsBlob (fixed_as root mode capacity) blob → chunk_count (length blob) ≤ capacity
-        → slice_get (map vec_items texts.now) i ≡ Some (combined_text mode blob)
-        → IsHandedOut (IsCutOf (map vec_items texts.now)) (fixed_as root mode capacity) blob result }
-    ensures covered { (blob : List ℕ) → IsBlob (fixed_as root mode capacity) blob → chunk_count (length blob) ≤ capacity
-        → HaveSlices grain cut_gives mode blob (map vec_items texts.now)
-        → IsHandedOut (IsCutOf (map vec_items texts.now)) (fixed_as root mode capacity) blob result }
-{
-    let texts = Texts(texts);
-    let gathered = gather_by::<R, Encoded<'_>, Texts<'_>>(
-        rt, alloc, root, mode, capacity, workers, grain, &texts,
-    );
-    in_memory(alloc, gathered)
-}
-
-// Whether it was for want of room that no blob was gathered.
-fn lacks_room(gathered: &Result<Vec<u8>, CrewsFault>) -> bool
-    ensures { IsTrue result ↔ IsErrOf gathered.now (Gather TooLarge) }
-{
-    matches!(gathered, Err(CrewsFault::Gather(GatherFault::TooLarge)))
 }
 
 /// The blob with this root in this mode, out of texts that nobody trusts: each may be its combined encoding, or any
@@ -99,7 +54,8 @@ fn lacks_room(gathered: &Result<Vec<u8>, CrewsFault>) -> bool
 /// all texts in their order. Then their seats are joined to one, which goes once more round the groups and asks for
 /// what is held by nobody; with `Grain::Chunk` it then asks for each chunk by itself, as `salvage` says. The store is let
 /// go at the end. It has room for as many chunks as a blob with such an encoding may have, at most `capacity`: where that
-/// is less and too little, the work is done again with room for all. The texts are not copied.
+/// is less, and the blob is too large for it or left unfinished, the work is done again with room for all. The texts are
+/// not copied.
 ///
 /// 802 `Capacity` unless `capacity` is 1 to 65,536, asked before all else; 801 where there is no memory for the store,
 /// 806 for a worker's seat, and 911 `Starved` for the crews and the lists of texts. Then the blob is answered only
@@ -109,14 +65,13 @@ fn lacks_room(gathered: &Result<Vec<u8>, CrewsFault>) -> bool
 /// length above 1,024 times the capacity, else 901 `Unfinished`.
 ///
 /// Where one of the texts is the combined encoding of a blob with the root, of at most `capacity` chunks, that blob is
-/// answered, whatever the other texts are and however the workers meet, or there was no memory, or such a pair as
-/// follows is named. Nor need any text be whole, where one is as long as that encoding: it is enough that the slice of
-/// the last byte can be cut out of one, and for each group of the blob's chunks the group's slice out of one, or with
-/// `Grain::Chunk` for each chunk the chunk's.
+/// answered, whatever the other texts are and however the workers meet, or there was no memory, or such a collision as
+/// follows is exhibited. Nor need any text be whole: it is enough that the slice of the last byte can be cut out of one, and
+/// for each group of the blob's chunks the group's slice out of one, or with `Grain::Chunk` for each chunk the chunk's.
 ///
-/// At 805 each blob with the root is longer than the capacity, and at 902 there is none; or two different inputs with
-/// one chaining value are named, one of the blob's and one of a slice's that is cut out of one of these texts and
-/// accepted under the root. Such a slice certifies the length that is too large, too.
+/// What is answered is each blob with the root, at 805 each of them is longer than the capacity, and at 902 there is none;
+/// or a collision is exhibited, two different inputs with one chaining value, one of the blob's and one of a slice's that is
+/// cut out of one of these texts and accepted under the root. Such a slice certifies the length that is too large, too.
 pub fn gather_texts<R: Threads + Sync>(
     rt: &R,
     alloc: Global,
@@ -126,28 +81,19 @@ pub fn gather_texts<R: Threads + Sync>(
     workers: u32,
     grain: Grain,
     texts: &[Vec<u8>],
-) -> Result<Vec<u8>, CrewsFault>
-    ensures root { IfOk result (λ blob. hash mode blob.items ≡ root.0) }
-    ensures fits { IfOk result (λ blob. length blob.items ≤ 1024 * capacity) }
-    ensures capacity { (result ≡ Err (Gather Capacity)) ↔ ((capacity ≡ 0) ⊎ (65536 < capacity)) }
-    ensures too_large { IsErrOf result (Gather TooLarge) → IsTooLarge (IsCutOf (map vec_items texts.now)) (fixed_as root mode capacity) }
-    ensures longer { IsErrOf result (Gather TooLarge) → AreLonger (IsCutOf (map vec_items texts.now)) (fixed_as root mode capacity) }
-    ensures none { IsErrOf result (Gather NotTheRoot) → IsOfNone (IsCutOf (map vec_items texts.now)) (fixed_as root mode capacity) }
+) -> Result<Vec<u8>, GatherFault>
+    ensures gathers { Gathers vec_items (IsCutOf (map vec_items texts.now)) (fixed_as root mode capacity) result }
     ensures available { (blob : List ℕ) (i : ℕ) → IsBlob (fixed_as root mode capacity) blob → chunk_count (length blob) ≤ capacity
         → slice_get (map vec_items texts.now) i ≡ Some (combined_text mode blob)
-        → IsHandedOut (IsCutOf (map vec_items texts.now)) (fixed_as root mode capacity) blob result }
+        → IsHandedOut vec_items (IsCutOf (map vec_items texts.now)) (fixed_as root mode capacity) blob result }
     ensures covered { (blob : List ℕ) → IsBlob (fixed_as root mode capacity) blob → chunk_count (length blob) ≤ capacity
-        → chunk_count (length blob) ≤ most_chunks (map vec_items texts.now)
         → HaveSlices grain cut_gives mode blob (map vec_items texts.now)
-        → IsHandedOut (IsCutOf (map vec_items texts.now)) (fixed_as root mode capacity) blob result }
+        → IsHandedOut vec_items (IsCutOf (map vec_items texts.now)) (fixed_as root mode capacity) blob result }
 {
     let room = room_for(texts, capacity);
-    if room == capacity || capacity > MAX_CAPACITY {
-        return gather_within(rt, alloc, root, mode, capacity, workers, grain, texts);
-    }
-    let gathered = gather_within(rt, alloc, root, mode, room, workers, grain, texts);
-    if lacks_room(&gathered) {
-        return gather_within(rt, alloc, root, mode, capacity, workers, grain, texts);
-    }
-    gathered
+    let lists = Texts(texts);
+    let gathered = gather_by::<R, Encoded<'_>, Texts<'_>>(
+        rt, alloc, root, mode, capacity, room, workers, grain, &lists,
+    );
+    in_memory(alloc, gathered)
 }

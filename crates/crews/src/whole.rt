@@ -4,11 +4,8 @@ ghost use Rattle.gather.specs.Finished.{Binds, IsFinished};
 ghost use Rattle.store_core.specs.Histories.{state_after};
 ghost use Rattle.store_core.specs.States.{read_bytes};
 ghost use Rattle.store_shared.specs.Seats.{IsSeatOf, fixed_of};
-ghost use Rattle.crews.specs.declared.fault.CrewsFault.TheVariants.{Gather};
-ghost use Rattle.gather.specs.declared.texts.GatherFault.TheVariants.{Memory};
 ghost use Rattle.crews.specs.Wholes.{IsFull, IsTopRead, ReadOn, WasUnfinished};
 
-use crate::fault::CrewsFault;
 use crate::reading::{read_part, top_by_seats};
 use crate::shared::Shared;
 use b3tree::{Input, root_hash, rooted};
@@ -30,6 +27,7 @@ fn judged(assembly: &Assembly, seat: &Seat, len: u64, top: &Input) -> Result<u64
     ensures never { result ≢ Err Unfinished }
 {
     let fixed = Shared(assembly).fixed(seat);
+    // For the prover alone: the flags of a mode are apart from the tree's.
     fixed.mode.is_keyed();
     judge(&fixed, root_hash(&rooted(top)))?;
     Ok(len)
@@ -154,16 +152,16 @@ impl Whole {
 // A blob that came together, in memory of its own.
 pub(crate) fn in_memory(
     alloc: Global,
-    gathered: Result<Whole, CrewsFault>,
-) -> Result<Vec<u8>, CrewsFault>
+    gathered: Result<Whole, GatherFault>,
+) -> Result<Vec<u8>, GatherFault>
     ensures blob { IfOk result (λ blob. gathered ≡ Ok blob.items) }
-    ensures fault { IfErr result (λ fault. (gathered ≡ Err fault) ⊎ (fault ≡ Gather Memory)) }
+    ensures fault { IfErr result (λ fault. (gathered ≡ Err fault) ⊎ (fault ≡ GatherFault.Memory)) }
     ensures kept { IfErr gathered (λ fault. result ≡ Err fault) }
 {
     match gathered {
         Ok(mut whole) => match whole.to_vec(alloc) {
             Ok(blob) => Ok(blob),
-            Err(_) => Err(CrewsFault::Gather(GatherFault::Memory)),
+            Err(_) => Err(GatherFault::Memory),
         },
         Err(fault) => Err(fault),
     }

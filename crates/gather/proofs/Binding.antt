@@ -1,4 +1,4 @@
--- What comes from accepted texts is the blob's, or a pair is named.
+-- What comes from accepted texts is the blob's, or a collision is exhibited.
 use Rattle.std.proofs.Common.{Contains, map, option_map, ap, ◌∙◌, ◌≡◌, ◌⊎◌, zero, suc, ℕ, ◌+◌, ◌-◌, ◌<◌, List, length, Option, None, Some, is_some, true, false, slice_get, slice_index, refl, sym, subst, arith, inl, inr, below_more}
 use Rattle.std.proofs.lemmas.List.{ext_get_or}
 use Rattle.bao_check.proofs.Lists.{All-member}
@@ -10,7 +10,7 @@ use Rattle.bao_text.specs.Choice.{chunk_count}
 use Rattle.store_core.specs.declared.fixed.Fixed.{Fixed}
 use Rattle.store_core.specs.declared.history.Piece.{Piece}
 use Rattle.store_core.specs.declared.store.Store.{Store}
-use Rattle.store_core.specs.Laws.{IsBlob, PairNamed}
+use Rattle.store_core.specs.Laws.{IsBlob, CollidesWith}
 use Rattle.store_core.specs.Pieces.{chunk_bytes, length_of}
 use Rattle.store_core.specs.declared.history.Event.{Event}
 use Rattle.store_core.specs.Histories.{AreLegalFrom, IsLegal, run}
@@ -20,13 +20,13 @@ use Rattle.gather.specs.declared.holder.Encoded.{Encoded}
 use Rattle.gather.specs.Encodings.{IsCut, IsCutOf, encoding}
 use Rattle.gather.specs.Holders.{IsHanded}
 use Rattle.gather.specs.Finished.{BindsNone, BindsTo, IsNamedIn}
-use Rattle.gather.specs.Large.{AreLonger, AreTheBlob, HasPair, IsOfNone, IsTooLarge}
+use Rattle.gather.specs.Large.{AreLonger, AreTheBlob, HasCollision, IsOfNone, IsTooLarge}
 use Rattle.store_core.specs.States.{State, empty}
 use Rattle.gather.specs.Worked.{AreFrom, HasWorked, IsFrom, AddsBlobs, AddsCertified, IsCertified}
 
 certified_binds : AcceptedBinds → (handed : Piece → Type 0) (fixed : Fixed) (blob : List ℕ) (c : ℕ) (bytes : List ℕ) → IsKeyed fixed.mode → IsBlob fixed blob
     → (from : IsCertified handed fixed c bytes)
-    → (chunk_of blob c ≡ Some bytes) ⊎ PairNamed fixed blob from.piece
+    → (chunk_of blob c ≡ Some bytes) ⊎ CollidesWith fixed blob from.piece
 certified_binds law handed fixed blob c bytes keyed is from = elim (
     law fixed.mode fixed.root.0 from.piece.text blob from.piece.start from.piece.len c bytes keyed is.bytes from.accepted.bytes is.root from.accepted.accepted from.has
     ) [ inl same ↦ inl same.0 | inr named ↦ inr named ]
@@ -52,7 +52,7 @@ are_longer law handed fixed keyed too_large blob is =
       | inr named ↦ inr (record { piece = piece; from = too_large.from; accepted = large.accepted; pair = named })
     ]
 
--- the bytes read are the blob's up to some number, or there is a pair
+-- the bytes read are the blob's up to some number, or there is a collision
 pub both_same : (blob bytes : List ℕ) (P : Type 0) (n : ℕ) → ((i : ℕ) → i < n → slice_get blob (0 + i) ≡ Some (slice_index bytes i)) ⊎ P
     → (slice_get blob (0 + n) ≡ Some (slice_index bytes n)) ⊎ P → ((i : ℕ) → i < suc n → slice_get blob (0 + i) ≡ Some (slice_index bytes i)) ⊎ P
 both_same blob bytes P n (inl before) (inl here) = inl (λ i below. below_more _ _ before here i (omega (arith, below)))
@@ -81,8 +81,8 @@ handed_cut holders texts over piece from = record {
   cut = from.given;
 }
 
-pub pair_wider : (handed wider : Piece → Type 0) → ((piece : Piece) → handed piece → wider piece) → (fixed : Fixed) (blob : List ℕ) → HasPair handed fixed blob
-    → HasPair wider fixed blob
+pub pair_wider : (handed wider : Piece → Type 0) → ((piece : Piece) → handed piece → wider piece) → (fixed : Fixed) (blob : List ℕ) → HasCollision handed fixed blob
+    → HasCollision wider fixed blob
 pair_wider handed wider more fixed blob has = record { piece = has.piece; from = more has.piece has.from; accepted = has.accepted; pair = has.pair }
 
 pub longer_wider : (handed wider : Piece → Type 0) → ((piece : Piece) → handed piece → wider piece) → (fixed : Fixed) → AreLonger handed fixed → AreLonger wider fixed
@@ -95,8 +95,8 @@ none_wider handed wider more fixed none blob is = pair_wider handed wider more f
 event_from : (handed : Piece → Type 0) (events : List Event) (e : Event) → AreFrom handed events → Contains events e → IsFrom handed e.call
 event_from handed events e from there = All-member (λ (it : Event). IsFrom handed it.call) events from e there
 
--- a pair that is named from a piece of the worker's history
-pub pair_of : (handed : Piece → Type 0) (fixed : Fixed) (history : List Event) (blob : List ℕ) → AreFrom handed history → IsNamedIn fixed history blob → HasPair handed fixed blob
+-- a collision that is exhibited from a piece of the worker's history
+pub pair_of : (handed : Piece → Type 0) (fixed : Fixed) (history : List Event) (blob : List ℕ) → AreFrom handed history → IsNamedIn fixed history blob → HasCollision handed fixed blob
 pair_of handed fixed history blob of (inl from) =
     let it = from.1.committed in
     record { piece = it.piece; from = event_from handed history _ of it.there; accepted = it.accepted; pair = from.1.pair }

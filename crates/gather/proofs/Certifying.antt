@@ -7,7 +7,7 @@ use Rattle.store_core.specs.declared.history.Call.TheVariants.{Take, Give, Commi
 use Rattle.store_core.specs.declared.history.Event.{Event}
 use Rattle.store_core.specs.declared.history.Piece.{Piece}
 use Rattle.store_core.specs.declared.store.Store.{Store}
-use Rattle.store_core.specs.Events.{IsRight, after, after_call}
+use Rattle.store_core.specs.Events.{IsRightReply, after, after_call}
 use Rattle.store_core.specs.Histories.{AreLegalFrom, run}
 use Rattle.store_core.specs.Masks.{in_mask}
 use Rattle.store_core.specs.Names.{Name}
@@ -15,7 +15,7 @@ use Rattle.store_core.specs.States.{State}
 use Rattle.store_core.specs.Stores.{fixed_of, state_of}
 use Rattle.gather.specs.Worked.{AddsCertified, AreFrom, HasWorked, IsCertified, IsFrom}
 
-by_call : (handed : Piece → Type 0) (fixed : Fixed) (s : State) (who : List Name) (call : Call) → IsFrom handed call → IsRight fixed s who call → (c : ℕ) (bytes : List ℕ)
+by_call : (handed : Piece → Type 0) (fixed : Fixed) (s : State) (who : List Name) (call : Call) → IsFrom handed call → IsRightReply fixed s who call → (c : ℕ) (bytes : List ℕ)
     → (after_call who call s).held c ≡ Some bytes → (s.held c ≡ Some bytes) ⊎ IsCertified handed fixed c bytes
 by_call handed fixed s who (Take group want granted) from right c bytes is = inl is
 by_call handed fixed s who (Give group mask given) from right c bytes is = inl is

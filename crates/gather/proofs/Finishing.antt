@@ -16,7 +16,7 @@ use Rattle.store_core.specs.declared.store.Store.{Store}
 use Rattle.store_core.specs.Histories.{IsLegal, state_after}
 use Rattle.store_core.specs.Laws.{IsRead, ReadMeans}
 use Rattle.store_core.specs.States.{State, byte_at}
-use Rattle.store_core.specs.Stores.{DidRead, PairCommitted, state_of}
+use Rattle.store_core.specs.Stores.{DidRead, CollisionCommitted, state_of}
 use Rattle.store_core.proofs.Bound.{byte_binds, record_binds}
 use Rattle.store_core.proofs.ReadLaws.{read_means}
 
@@ -86,12 +86,12 @@ no_none recorded l is none = let no : Some l ≡ None = sym is ∙ none in cc
 pub some_same : (k l : ℕ) → Some k ≡ Some l → k ≡ l
 some_same k l e = cc
 
--- all bytes that are held after a history are the blob's, or a pair is named
+-- all bytes that are held after a history are the blob's, or a collision is exhibited
 pub whole_binds : (fixed : Fixed) (history : List Event) (bytes : List ℕ) → IsKeyed fixed.mode → IsLegal fixed history → IsWhole (state_after history) bytes
     → BindsTo fixed history bytes
 whole_binds fixed history bytes keyed legal whole blob is =
     let held : IsRead (state_after history) 0 (length bytes) bytes = (read_means (state_after history) 0 (length bytes) bytes).0 (sym whole.held) in
-    let P = (c : ℕ) × PairCommitted fixed history blob c in
+    let P = (c : ℕ) × CollisionCommitted fixed history blob c in
     let each : (i : ℕ) → i < length bytes → (slice_get blob (0 + i) ≡ Some (slice_index bytes i)) ⊎ P = λ i below.
     elim (byte_binds fixed history blob (0 + i) (slice_index bytes i) keyed is legal (held.held i below)) [
       | inl same ↦ inl same

@@ -17,12 +17,12 @@ use Rattle.gather.specs.Available.{HasTrue, IsFilled}
 use Rattle.gather.specs.declared.holder.Encoded.{Encoded}
 use Rattle.gather.specs.Encodings.{IsCut, encoding}
 use Rattle.gather.specs.declared.report.Report.{Report}
-use Rattle.gather.specs.declared.texts.GatherFault.TheVariants.{Starved, TooLarge, Unfinished}
+use Rattle.gather.specs.declared.fault.GatherFault.TheVariants.{Capacity, NotTheRoot, Starved, TooLarge, Unfinished}
 use Rattle.gather.specs.Faults.{cause_of}
 use Rattle.gather.specs.HandedOut.{IsExcused}
 use Rattle.gather.specs.Finished.{IsNamedIn, IsUnfinished}
-use Rattle.gather.specs.Large.{HasPair, IsTooLarge}
-use Rattle.gather.specs.Lasting.{Holds, IsBusy, Records}
+use Rattle.gather.specs.Large.{HasCollision, IsTooLarge}
+use Rattle.gather.specs.Lasting.{HoldsChunk, IsBusy, Records}
 use Rattle.gather.specs.Worked.{HasWorked}
 use Rattle.gather.proofs.Binding.{are_longer, pair_of, some_bytes}
 use Rattle.gather.proofs.Finishing.{some_same}
@@ -50,7 +50,7 @@ byte_there s blob bytes p below held chunk missing =
     let no : Some (get_or bytes (p % 1024) 0) ≡ None = sym (slice_get-get_or bytes (p % 1024) 0 long) ∙ none in
     cc
 
--- a length is recorded, all chunks of the blob are held if it is the blob's, and the store is unfinished: a pair is named
+-- a length is recorded, all chunks of the blob are held if it is the blob's, and the store is unfinished: a collision is exhibited
 pub unfinished_named : (fixed : Fixed) (history : List Event) (blob : List ℕ) (l : ℕ) → IsKeyed fixed.mode → IsBlob fixed blob → IsLegal fixed history
     → (state_after history).recorded ≡ Some l → (l ≡ length blob → (c : ℕ) → c < chunk_count (length blob) → is_held (state_after history) c ≡ true)
     → IsUnfinished (state_after history) → IsNamedIn fixed history blob
@@ -71,9 +71,9 @@ unfinished_named fixed history blob l keyed is legal recorded chunks unfinished 
       ]
     ]
 
--- a new store that was filled from the blob isn't unfinished, unless a pair is named
+-- a new store that was filled from the blob isn't unfinished, unless a collision is exhibited
 pub unfinished_pair : (handed : Piece → Type 0) (old new : Store) (n q : ℕ) (blob : List ℕ) → IsKeyed (fixed_of old).mode → IsBlob (fixed_of old) blob → state_of old ≡ empty
-    → HasWorked handed old new n q → IsFilled Records Holds IsBusy old new blob → IsUnfinished (state_of new) → HasPair handed (fixed_of old) blob
+    → HasWorked handed old new n q → IsFilled Records HoldsChunk IsBusy old new blob → IsUnfinished (state_of new) → HasCollision handed (fixed_of old) blob
 unfinished_pair handed old new n q blob keyed is fresh worked filled unfinished =
     let there : state_of new ≡ state_after worked.events = worked.after ∙ ap (λ (s : State). run s worked.events) fresh in
     let legal : IsLegal (fixed_of old) worked.events = subst (λ (s : State). AreLegalFrom (fixed_of old) s worked.events) fresh worked.legal in
@@ -121,9 +121,9 @@ pub none_failed : {H : Type 0} (count : H → ℕ) → ((holder : H) → count h
 none_failed count quiet [] = refl
 none_failed count quiet (x ∷ holders) = omega (arith, sum_by-cons count x holders, quiet x, none_failed count quiet holders)
 
--- a piece that certifies too large a length, where there is room for the blob, names a pair
+-- a piece that certifies too large a length, where there is room for the blob, exhibits a collision
 pub large_pair : (handed : Piece → Type 0) (fixed : Fixed) (blob : List ℕ) → IsKeyed fixed.mode → IsBlob fixed blob → chunk_count (length blob) ≤ fixed.capacity
-    → IsTooLarge handed fixed → HasPair handed fixed blob
+    → IsTooLarge handed fixed → HasCollision handed fixed blob
 large_pair handed fixed blob keyed is room large = elim (are_longer accepted_binds handed fixed keyed large blob is) [
   | inl long ↦ absurd (omega (arith, long, room))
   | inr pair ↦ pair
@@ -137,3 +137,21 @@ large_of false false e = let bad : TooLarge ≡ Unfinished = e in cc
 -- a blob that was left unfinished because it is too large was reported so
 pub is_large : (report : Report) → TooLarge ≡ cause_of report → report.too_large ≡ true
 is_large report e = large_of (nat_lt 0 report.memory) report.too_large e
+
+never_capacity : (starved large : Bool) → Capacity ≡ (if starved then Starved else if large then TooLarge else Unfinished) → ⊥
+never_capacity true large e = cc
+never_capacity false true e = cc
+never_capacity false false e = cc
+
+-- no report is of a capacity
+pub cause_never : (report : Report) → Capacity ≡ cause_of report → ⊥
+cause_never report e = never_capacity (nat_lt 0 report.memory) report.too_large e
+
+never_other : (starved large : Bool) → NotTheRoot ≡ (if starved then Starved else if large then TooLarge else Unfinished) → ⊥
+never_other true large e = cc
+never_other false true e = cc
+never_other false false e = cc
+
+-- nor of another hash
+pub cause_other : (report : Report) → NotTheRoot ≡ cause_of report → ⊥
+cause_other report e = never_other (nat_lt 0 report.memory) report.too_large e

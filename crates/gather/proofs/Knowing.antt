@@ -15,7 +15,7 @@ use Rattle.store_core.specs.Pieces.{holds_chunk, length_of, piece_of}
 use Rattle.store_core.specs.States.{State, claims, is_held}
 use Rattle.store_core.specs.Stores.{DidStore, IsEvent, IsSame, IsUnstored, Settles, fixed_of, state_of}
 use Rattle.gather.specs.Available.{IsWanted, Keeps, KeepsBut}
-use Rattle.gather.specs.Lasting.{Holds, Records}
+use Rattle.gather.specs.Lasting.{HoldsChunk, Records}
 use Rattle.gather.specs.Worked.{worker, worker_claims}
 use Rattle.gather.proofs.Alone.{unstored_same}
 
@@ -45,7 +45,7 @@ commit_all old new group piece (Ok mask) event = λ c here claimed has.
 commit_all old new group piece (Err fault) event = tt
 
 pub commit_held : (old new : Store) (group : ℕ) (piece : Piece) (result : Result ℕ StoreFault) → IfOk result (λ mask. IsEvent old new worker (Commit group piece mask))
-    → IfOk result (λ mask. (c : ℕ) → in_mask group mask c ≡ true → Holds new c)
+    → IfOk result (λ mask. (c : ℕ) → in_mask group mask c ≡ true → HoldsChunk new c)
 commit_held old new group piece (Ok mask) event = λ c hit.
     let parts = and_parts (c / 64 == group) (has_bit mask (c % 64)) hit in
     let both : (worker_claims old c && holds_chunk piece c) ≡ true = sym (event.right.1.bits c (eqb-true (c / 64) group parts.0)) ∙ parts.1 in

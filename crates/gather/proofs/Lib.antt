@@ -11,8 +11,10 @@ pub mod Serving
 pub mod Served
 pub mod Finishing
 pub mod Handing
+pub mod Answering
 pub mod Rooms
 pub mod Reading
 pub mod Runs
 pub mod Cuts
 pub mod Appending
+pub mod Lending

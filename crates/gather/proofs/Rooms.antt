@@ -1,5 +1,5 @@
 -- A store with less room, which is enough for each blob whose encoding is one of the texts.
-use Rattle.std.proofs.Common.{◌≡◌, ℕ, ◌+◌, ◌-◌, ◌*◌, ◌<◌, ◌≤◌, zero, suc, List, [], ◌∷◌, None, Some, Result, Vec, ap, arith, get_or, length, map, max, slice_get, take, inl, inr}
+use Rattle.std.proofs.Common.{◌≡◌, ℕ, ◌+◌, ◌-◌, ◌*◌, ◌<◌, ◌≤◌, zero, suc, List, [], ◌∷◌, None, Some, Vec, ap, arith, get_or, length, map, max, slice_get, take}
 use Rattle.std.specs.Global.{Global}
 use Rattle.std.specs.Prelude.{vec_items}
 use Rattle.b3tree.specs.declared.mode.Mode.{Mode}
@@ -7,9 +7,7 @@ use Rattle.b3tree.specs.declared.values.Hash.{Hash}
 use Rattle.bao_text.specs.Choice.{chunk_count}
 use Rattle.bao_text.specs.Texts.{combined_text}
 use Rattle.bao_text.proofs.Laws.{length-combined_text}
-use Rattle.gather.specs.declared.texts.GatherFault.{GatherFault}
-use Rattle.gather.specs.HandedOut.{IsHandedOut}
-use Rattle.gather.specs.Large.{HasPair, IsOfNone, fixed_as}
+use Rattle.gather.specs.Large.{HasCollision, IsOfNone, fixed_as}
 use Rattle.gather.specs.Room.{longest, most_chunks}
 use Rattle.store_core.specs.declared.history.Piece.{Piece}
 use Rattle.store_core.specs.Laws.{IsBlob}
@@ -45,7 +43,7 @@ chunks_fit texts mode blob i is =
 pub blob_at : (root : Hash) (mode : Mode) (a b : ℕ) (blob : List ℕ) → IsBlob (fixed_as root mode a) blob → IsBlob (fixed_as root mode b) blob
 blob_at root mode a b blob is = record { bytes = is.bytes; root = is.root }
 
-pub pair_at : (handed : Piece → Type 0) (root : Hash) (mode : Mode) (a b : ℕ) (blob : List ℕ) → HasPair handed (fixed_as root mode a) blob → HasPair handed (fixed_as root mode b) blob
+pub pair_at : (handed : Piece → Type 0) (root : Hash) (mode : Mode) (a b : ℕ) (blob : List ℕ) → HasCollision handed (fixed_as root mode a) blob → HasCollision handed (fixed_as root mode b) blob
 pair_at handed root mode a b blob has = record {
   piece = has.piece;
   from = has.from;
@@ -55,10 +53,3 @@ pair_at handed root mode a b blob has = record {
 
 pub none_at : (handed : Piece → Type 0) (root : Hash) (mode : Mode) (a b : ℕ) → IsOfNone handed (fixed_as root mode a) → IsOfNone handed (fixed_as root mode b)
 none_at handed root mode a b none blob is = pair_at handed root mode a b blob (none blob (blob_at root mode b a blob is))
-
-pub handed_at : (handed : Piece → Type 0) (root : Hash) (mode : Mode) (a b : ℕ) (blob : List ℕ) (r : Result (Vec ℕ Global) GatherFault)
-    → IsHandedOut handed (fixed_as root mode a) blob r → IsHandedOut handed (fixed_as root mode b) blob r
-handed_at handed root mode a b blob r is = elim is [
-  | inl same ↦ inl same
-  | inr pair ↦ inr (pair_at handed root mode a b blob pair)
-]

@@ -8,7 +8,7 @@ use Rattle.store_core.specs.declared.fixed.Fixed.{Fixed}
 use Rattle.store_core.specs.declared.history.Event.{Event}
 use Rattle.store_core.specs.Histories.{IsLegal, state_after}
 use Rattle.store_core.specs.Laws.{IsBlob}
-use Rattle.store_core.specs.Stores.{PairCommitted, PairSettled}
+use Rattle.store_core.specs.Stores.{CollisionCommitted, CollisionSettled}
 use Rattle.store_core.specs.States.{State, byte_at, read_bytes}
 
 -- these are the bytes below the recorded length, all of them held
@@ -47,10 +47,10 @@ pub record Finishes {T : Type 0} (bytes_of : T → List ℕ) (fixed : Fixed) (s 
   pub unfinished : IsErrOf result Unfinished → IsUnfinished s
   pub other : IsErrOf result NotTheRoot → IsOther fixed s
 
--- Two different inputs with one chaining value are named: one of the blob's, and one of a piece's of which the history
+-- A collision is exhibited, two different inputs with one chaining value: one of the blob's, and one of a piece's of which the history
 -- committed a chunk, or by which it settled the length.
 abbrev pub IsNamedIn : Fixed → List Event → List ℕ → Type 0
-IsNamedIn fixed history blob = ((c : ℕ) × PairCommitted fixed history blob c) ⊎ ((l : ℕ) × PairSettled fixed history blob l)
+IsNamedIn fixed history blob = ((c : ℕ) × CollisionCommitted fixed history blob c) ⊎ ((l : ℕ) × CollisionSettled fixed history blob l)
 
 -- so it is for each blob with the root
 abbrev pub BindsNone : Fixed → List Event → Type 0

@@ -4,7 +4,7 @@ use Rattle.b3tree.specs.declared.mode.Mode.{Mode}
 use Rattle.b3tree.specs.declared.values.Hash.{Hash}
 use Rattle.store_core.specs.declared.fixed.Fixed.{Fixed}
 use Rattle.store_core.specs.declared.history.Piece.{Piece}
-use Rattle.store_core.specs.Laws.{IsBlob, PairNamed}
+use Rattle.store_core.specs.Laws.{IsBlob, CollidesWith}
 use Rattle.store_core.specs.Pieces.{EndsBlob, IsAcceptedPiece, length_of}
 
 -- an accepted piece certifies a length that is above what the store has room for
@@ -19,25 +19,25 @@ pub record IsTooLarge (handed : Piece → Type 0) (fixed : Fixed) : Type 0 where
   pub from : handed piece
   pub large : EndsTooFar fixed piece
 
--- Two different inputs with one chaining value are named, one of the blob's and one of an accepted piece's that was
+-- A collision is exhibited, two different inputs with one chaining value, one of the blob's and one of an accepted piece's that was
 -- handed over.
-pub record HasPair (handed : Piece → Type 0) (fixed : Fixed) (blob : List ℕ) : Type 0 where
+pub record HasCollision (handed : Piece → Type 0) (fixed : Fixed) (blob : List ℕ) : Type 0 where
   pub piece : Piece
   pub from : handed piece
   pub accepted : IsAcceptedPiece fixed piece
-  pub pair : PairNamed fixed blob piece
+  pub pair : CollidesWith fixed blob piece
 
--- each blob with the root is longer than what the store has room for, or a pair is named
+-- each blob with the root is longer than what the store has room for, or a collision is exhibited
 abbrev pub AreLonger : (Piece → Type 0) → Fixed → Type 0
-AreLonger handed fixed = (blob : List ℕ) → IsBlob fixed blob → (1024 * fixed.capacity < length blob) ⊎ HasPair handed fixed blob
+AreLonger handed fixed = (blob : List ℕ) → IsBlob fixed blob → (1024 * fixed.capacity < length blob) ⊎ HasCollision handed fixed blob
 
--- there is no blob with the root, or a pair is named
+-- there is no blob with the root, or a collision is exhibited
 abbrev pub IsOfNone : (Piece → Type 0) → Fixed → Type 0
-IsOfNone handed fixed = (blob : List ℕ) → IsBlob fixed blob → HasPair handed fixed blob
+IsOfNone handed fixed = (blob : List ℕ) → IsBlob fixed blob → HasCollision handed fixed blob
 
--- the bytes are each blob's with the root, or a pair is named
+-- the bytes are each blob's with the root, or a collision is exhibited
 abbrev pub AreTheBlob : (Piece → Type 0) → Fixed → List ℕ → Type 0
-AreTheBlob handed fixed bytes = (blob : List ℕ) → IsBlob fixed blob → (bytes ≡ blob) ⊎ HasPair handed fixed blob
+AreTheBlob handed fixed bytes = (blob : List ℕ) → IsBlob fixed blob → (bytes ≡ blob) ⊎ HasCollision handed fixed blob
 
 -- a store's root, mode and capacity
 abbrev pub fixed_as : Hash → Mode → ℕ → Fixed

@@ -8,7 +8,7 @@ use Rattle.store_core.specs.declared.history.Call.TheVariants.{Take, Give, Commi
 use Rattle.store_core.specs.declared.history.Event.{Event}
 use Rattle.store_core.specs.declared.history.Piece.{Piece}
 use Rattle.store_core.specs.declared.store.Store.{Store}
-use Rattle.store_core.specs.Events.{IsRight, after, after_call, recorded_after, settling}
+use Rattle.store_core.specs.Events.{IsRightReply, after, after_call, recorded_after, settling}
 use Rattle.store_core.specs.Histories.{AreLegalFrom, run}
 use Rattle.store_core.specs.Masks.{has_bit, in_mask}
 use Rattle.store_core.specs.Names.{Name}
@@ -23,8 +23,8 @@ use Rattle.gather.specs.Worked.{HasWorked, IsOwn, worker, worker_claims}
 abbrev pub Records : Store → ℕ → Type 0
 Records store l = (state_of store).recorded ≡ Some l
 
-abbrev pub Holds : Store → ℕ → Type 0
-Holds store c = is_held (state_of store) c ≡ true
+abbrev pub HoldsChunk : Store → ℕ → Type 0
+HoldsChunk store c = is_held (state_of store) c ≡ true
 
 abbrev pub IsBusy : Store → ℕ → Type 0
 IsBusy store c = is_claimed (state_of store) c ≡ true
@@ -34,7 +34,7 @@ settled_stays : (o : Option ℕ) (n l : ℕ) → o ≡ Some l → recorded_after
 settled_stays None n l is = let no : None ≡ Some l = is in cc
 settled_stays (Some m) n l is = elim (cases_Bool (m == n)) [ inl same ↦ rw same is | inr other ↦ rw other is ]
 
-call_records : (fixed : Fixed) (s : State) (who : List Name) (call : Call) → IsRight fixed s who call → (l : ℕ) → s.recorded ≡ Some l
+call_records : (fixed : Fixed) (s : State) (who : List Name) (call : Call) → IsRightReply fixed s who call → (l : ℕ) → s.recorded ≡ Some l
     → (after_call who call s).recorded ≡ Some l
 call_records fixed s who (Take group want granted) right l is = is
 call_records fixed s who (Give group mask given) right l is = is
@@ -50,7 +50,7 @@ run_records fixed s [] legal l is = is
 run_records fixed s (e ∷ events) legal l is = run_records fixed (after s e) events legal.1 l (call_records fixed s e.who e.call legal.0 l is)
 
 -- a chunk that is held stays so
-call_holds : (fixed : Fixed) (s : State) (who : List Name) (call : Call) → IsRight fixed s who call → (c : ℕ) → is_held s c ≡ true
+call_holds : (fixed : Fixed) (s : State) (who : List Name) (call : Call) → IsRightReply fixed s who call → (c : ℕ) → is_held s c ≡ true
     → is_held (after_call who call s) c ≡ true
 call_holds fixed s who (Take group want granted) right c is = is
 call_holds fixed s who (Give group mask given) right c is = is
@@ -108,7 +108,7 @@ some_claims : (names : List Name) (o : Option Name) → is_among names o ≡ tru
 some_claims names None is = let no : false ≡ true = is in cc
 some_claims names (Some name) is = refl
 
-work_frees : (handed : Piece → Type 0) (s t : Store) (n q c : ℕ) → HasWorked handed s t n q → Among (worker_claims s) (worker_claims t) → IsBusy t c → IsBusy s c ⊎ Holds t c
+work_frees : (handed : Piece → Type 0) (s t : Store) (n q c : ℕ) → HasWorked handed s t n q → Among (worker_claims s) (worker_claims t) → IsBusy t c → IsBusy s c ⊎ HoldsChunk t c
 work_frees handed s t n q c worked among busy =
     elim (run_claims (state_of s) worked.events worked.own c (subst (λ (x : State). is_claimed x c ≡ true) worked.after busy)) [
       | inl same ↦
@@ -118,7 +118,7 @@ work_frees handed s t n q c worked among busy =
           inl (some_claims worker ((state_of s).claim c) (among c now))
     ]
 
-pub lasts_work : Lasts HasWorked worker_claims Records Holds IsBusy
+pub lasts_work : Lasts HasWorked worker_claims Records HoldsChunk IsBusy
 lasts_work = record {
   length = λ handed s t n q l worked is.
       subst (λ (x : State). x.recorded ≡ Some l) (sym worked.after) (run_records (fixed_of s) (state_of s) worked.events worked.legal l is);

@@ -16,3 +16,4 @@ pub mod Worked
 pub mod Working
 pub mod Lasting
 pub mod Finished
+pub mod Lists

@@ -8,7 +8,7 @@ use Rattle.store_core.specs.declared.fixed.Fixed.{Fixed}
 use Rattle.store_core.specs.declared.history.Piece.{Piece}
 use Rattle.store_core.specs.declared.history.Storing.TheVariants.{OtherLength, Stored}
 use Rattle.bao_check.specs.Pieces.{chunk_of}
-use Rattle.store_core.specs.Laws.{IsBlob, PairNamed, chunks_of}
+use Rattle.store_core.specs.Laws.{IsBlob, CollidesWith, chunks_of}
 use Rattle.store_core.specs.Pieces.{IsAcceptedPiece, chunk_bytes}
 use Rattle.store_core.specs.declared.store.Store.{Store}
 use Rattle.store_core.specs.Histories.{AreLegalFrom, run}
@@ -74,11 +74,11 @@ abbrev pub AddsCertified : (Piece → Type 0) → Store → Store → Type 0
 AddsCertified handed old new = (c : ℕ) (bytes : List ℕ) → (state_of new).held c ≡ Some bytes
     → ((state_of old).held c ≡ Some bytes) ⊎ IsCertified handed (fixed_of old) c bytes
 
--- Each chunk stored is the one of that number of each blob with the root, or a pair is named from that blob and from
+-- Each chunk stored is the one of that number of each blob with the root, or a collision is exhibited from that blob and from
 -- the piece that the chunk comes from.
 abbrev pub AddsBlobs : (Piece → Type 0) → Store → Store → Type 0
 AddsBlobs handed old new = (blob : List ℕ) → IsBlob (fixed_of old) blob → (c : ℕ) (bytes : List ℕ) → (state_of new).held c ≡ Some bytes
-    → ((state_of old).held c ≡ Some bytes) ⊎ (chunk_of blob c ≡ Some bytes) ⊎ ((from : IsCertified handed (fixed_of old) c bytes) × PairNamed (fixed_of old) blob from.piece)
+    → ((state_of old).held c ≡ Some bytes) ⊎ (chunk_of blob c ≡ Some bytes) ⊎ ((from : IsCertified handed (fixed_of old) c bytes) × CollidesWith (fixed_of old) blob from.piece)
 
 -- Calls of the worker, each with the right reply where it stands, lead from one state of a store to the other, and
 -- store so many chunks and parents. They are of accepted pieces alone, which were handed over: nothing is stored that the

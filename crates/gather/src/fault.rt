@@ -1,7 +1,10 @@
-ghost use Rattle.std.specs.Prelude.{◌≡◌};
+ghost use Rattle.std.specs.Prelude.{◌≡◌, ◌↔◌, ◌⊎◌, IsErrOf, IsTrue};
+ghost use Rattle.gather.specs.Faults.{cause_of, why_of};
+ghost use Rattle.gather.specs.declared.fault.GatherFault.TheVariants.{TooLarge, Unfinished};
 
+use crate::report::Report;
 use std::alloc::AllocError;
-use store_core::Missing;
+use store_core::{BadCapacity, Missing};
 use thiserror::Error;
 
 /// Why a store's blob was not handed out. The store is unchanged.
@@ -51,4 +54,101 @@ impl FinishFault {
             FinishFault::Memory => 903,
         }
     }
+}
+
+/// Why no blob was gathered.
+#[derive(Clone, Copy, Debug, PartialEq, Eq, Error)]
+pub enum GatherFault {
+    /// There was no memory for a store that several workers share. Number 801.
+    #[error("801 memory")]
+    Store,
+    /// The capacity is not 1 to 65,536 chunks. Number 802.
+    #[error("802 capacity")]
+    Capacity,
+    /// The blob is unfinished, and what was handed over certifies a length above the capacity. Number 805.
+    #[error("805 too large")]
+    TooLarge,
+    /// There was no memory for the seat of one of several workers. Number 806.
+    #[error("806 memory")]
+    Seat,
+    /// The blob is unfinished. Number 901.
+    #[error("901 unfinished")]
+    Unfinished,
+    /// All bytes are held, and their hash isn't the root. Number 902.
+    #[error("902 not the root")]
+    NotTheRoot,
+    /// There was no memory for the blob. Number 903.
+    #[error("903 memory")]
+    Memory,
+    /// There was no memory for a worker's list of holders, or one met none in its work and the blob is unfinished.
+    /// Number 911.
+    #[error("911 memory")]
+    Starved,
+}
+
+impl From<BadCapacity> for GatherFault {
+    ghost use Rattle.gather.specs.declared.fault.GatherFault.{GatherFault};
+
+    ghost from_gives = { λ _ fault. fault ≡ GatherFault.Capacity };
+
+    fn from(_capacity: BadCapacity) -> GatherFault {
+        GatherFault::Capacity
+    }
+}
+
+impl GatherFault {
+    ghost use Rattle.gather.specs.Faults.{number_of_gather};
+
+    /// The fault's number: 801, 802, 805, 806, 901 to 903 or 911.
+    pub fn code(&self) -> u16
+        ensures { result ≡ number_of_gather self.now }
+    {
+        match self {
+            GatherFault::Store => 801,
+            GatherFault::Capacity => 802,
+            GatherFault::TooLarge => 805,
+            GatherFault::Seat => 806,
+            GatherFault::Unfinished => 901,
+            GatherFault::NotTheRoot => 902,
+            GatherFault::Memory => 903,
+            GatherFault::Starved => 911,
+        }
+    }
+}
+
+/// Why workers with this report left a blob unfinished: what they lacked first of memory, room and texts. It is 911
+/// `Starved` where they met a want of memory, else 805 `TooLarge` where they met a length above 1,024 times the
+/// capacity, else 901 `Unfinished`.
+pub fn cause(report: &Report) -> GatherFault
+    ensures { result ≡ cause_of report.now }
+{
+    if report.memory > 0 {
+        GatherFault::Starved
+    } else if report.too_large {
+        GatherFault::TooLarge
+    } else {
+        GatherFault::Unfinished
+    }
+}
+
+/// Why no blob was gathered by workers with this report, where its store handed none out for `fault`: an unfinished one
+/// has its cause in their work.
+pub fn why(fault: FinishFault, report: &Report) -> GatherFault
+    ensures { result ≡ why_of fault report.now }
+{
+    match fault {
+        FinishFault::Unfinished => cause(report),
+        FinishFault::NotTheRoot => GatherFault::NotTheRoot,
+        FinishFault::Memory => GatherFault::Memory,
+    }
+}
+
+/// Whether it may be for want of room that no blob was gathered: where it is 805 `TooLarge` or 901 `Unfinished`.
+pub fn may_lack_room<T>(gathered: &Result<T, GatherFault>) -> bool
+    ensures { IsTrue result ↔ (IsErrOf gathered.now TooLarge ⊎ IsErrOf gathered.now Unfinished) }
+{
+    matches!(
+        gathered,
+        Err(GatherFault::TooLarge | GatherFault::Unfinished)
+    )
 }

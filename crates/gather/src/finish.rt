@@ -20,6 +20,7 @@ fn read_all(alloc: Global, store: &Store, end: u64) -> Result<Vec<u8>, FinishFau
     ensures lacks { IsErrOf result Unfinished → LacksByte (state_of store.now) }
     ensures never { result ≢ Err NotTheRoot }
 {
+    // For the prover alone: what is read of a store are its bytes.
     read_means();
     let end = end as usize;
     let mut blob = Vec::with_capacity(alloc, end)?;
@@ -35,11 +36,12 @@ fn read_all(alloc: Global, store: &Store, end: u64) -> Result<Vec<u8>, FinishFau
 /// Whether this is the hash of the blob of a store with this root and mode: 902 `NotTheRoot` unless it is the root.
 ///
 /// Where it is the hash of all bytes that a store holds below its recorded length, these are another's then: for each blob
-/// with the root, two different inputs with one chaining value are named, one of the blob's and one of a piece's of which
+/// with the root, a collision is exhibited, two different inputs with one chaining value, one of the blob's and one of a piece's of which
 /// the store's history committed a chunk, or by which it settled the length.
 pub fn judge(fixed: &Fixed, hashed: Hash) -> Result<(), FinishFault>
     ensures { (bytes : List ℕ) → hashed.0 ≡ hash fixed.now.mode bytes → Judges fixed.now bytes result }
 {
+    // For the prover alone: the flags of a mode are apart from the tree's.
     fixed.mode.is_keyed();
     if hashed != fixed.root {
         return Err(FinishFault::NotTheRoot);
@@ -53,7 +55,7 @@ pub fn judge(fixed: &Fixed, hashed: Hash) -> Result<(), FinishFault>
 /// held; 902 `NotTheRoot` where the hash of the bytes isn't the root. The store is unchanged.
 ///
 /// For each blob with the root and whatever legal history led to the store, the blob is the one that is answered, and
-/// there is none at `NotTheRoot`; or two different inputs with one chaining value are named, one of the blob's and one of
+/// there is none at `NotTheRoot`; or a collision is exhibited, two different inputs with one chaining value, one of the blob's and one of
 /// a piece's of which that history committed a chunk, or by which it settled the length.
 pub fn finish_one(alloc: Global, store: &Store) -> Result<Vec<u8>, FinishFault>
     ensures finishes { Finishes (λ blob. blob.items) (fixed_of store.now) (state_of store.now) result }
@@ -65,6 +67,7 @@ pub fn finish_one(alloc: Global, store: &Store) -> Result<Vec<u8>, FinishFault>
     };
     let blob = read_all(alloc, store, length)?;
     let fixed = store.fixed();
+    // For the prover alone: the flags of a mode are apart from the tree's.
     fixed.mode.is_keyed();
     judge(&fixed, hash(&fixed.mode, blob.as_slice()))?;
     Ok(blob)

@@ -2,20 +2,22 @@
 #![tactic(auto)]
 
 pub use encoded_at::EncodedAt;
-pub use fault::FinishFault;
+pub use fault::{FinishFault, GatherFault, cause, may_lack_room, why};
 pub use finish::{finish_one, judge};
 pub use form::Form;
 pub use grain::Grain;
 pub use holder::{Encoded, Holder, HolderFault};
+pub use lists::{Copies, Lists, Texts};
 pub use one::run_one;
 pub use parents::boundary_groups;
 pub use plain::{Plain, copies_over};
 pub use plain_at::PlainAt;
 pub use report::Report;
-pub use room::room_for;
+pub use room::{first_room, room_for};
 pub use salvaging::salvage;
 pub use shelf::Shelf;
-pub use texts::{GatherFault, cause, gather_texts, holders_over};
+pub use sources::{CopiesAt, SourceAt, Sources};
+pub use texts::{gather_texts, holders_over};
 pub use worker::{Place, work, work_as};
 
 mod encoded_at;
@@ -24,6 +26,7 @@ mod finish;
 mod form;
 mod grain;
 mod holder;
+mod lists;
 mod masks;
 mod one;
 mod parents;
@@ -34,5 +37,6 @@ mod report;
 mod room;
 mod salvaging;
 mod shelf;
+mod sources;
 mod texts;
 mod worker;

@@ -5,7 +5,7 @@ ghost use Rattle.bao_text.specs.Choice.{chunk_count};
 ghost use Rattle.gather.specs.Available.{HaveSlices, IsFilled};
 ghost use Rattle.gather.specs.declared.grain.Grain.TheVariants.{Group as ByGroup};
 ghost use Rattle.gather.specs.Counts.{HasFailed, IsAnswered};
-ghost use Rattle.gather.specs.Lasting.{Holds, IsBusy, Records};
+ghost use Rattle.gather.specs.Lasting.{HoldsChunk, IsBusy, Records};
 ghost use Rattle.store_core.specs.Laws.{IsBlob};
 ghost use Rattle.gather.specs.Holders.{AreLater, IsHanded};
 ghost use Rattle.gather.specs.Large.{AreLonger, IsTooLarge};
@@ -28,7 +28,7 @@ struct Alone;
 
 impl Shelf for Alone {
     ghost use Rattle.gather.specs.Working.{goes_work};
-    ghost use Rattle.gather.specs.Lasting.{Holds, IsBusy, Records, lasts_work};
+    ghost use Rattle.gather.specs.Lasting.{HoldsChunk, IsBusy, Records, lasts_work};
     ghost use Rattle.store_core.specs.Stores.{fixed_of};
 
     type Seat = Store;
@@ -45,7 +45,7 @@ impl Shelf for Alone {
 
     ghost records = { λ store l. Records store l };
 
-    ghost holds = { λ store c. Holds store c };
+    ghost holds = { λ store c. HoldsChunk store c };
 
     ghost busy = { λ store c. IsBusy store c };
 
@@ -82,6 +82,7 @@ impl Shelf for Alone {
     }
 
     fn settle(&self, store: &mut Store, tail: &Tail<'_>) -> Settling {
+        // For the prover alone: a tail is of a piece with its last chunk.
         tail.is_last();
         store.settle(tail)
     }
@@ -105,7 +106,7 @@ impl Shelf for Alone {
 ///
 /// What the worker did is a history of its own calls, each with the right reply in its turn, of pieces that its holders
 /// may have given: so what is stored comes from such texts, accepted under the store's root. For each blob with that
-/// root, each chunk stored is the blob's of that number, or two different inputs with one chaining value are named, one
+/// root, each chunk stored is the blob's of that number, or a collision is exhibited, two different inputs with one chaining value, one
 /// of the blob's and one of that text's. No claim is left that the worker took.
 ///
 /// It is enough that, of a blob with the root for which the store has room, one of the holders gives the slice of the last
@@ -115,7 +116,7 @@ impl Shelf for Alone {
 ///
 /// The report's `committed` is the number of chunks stored and `parents` that of parents, `failed` is at most what
 /// the holders' counts rose together, and `too_large` is set only where an accepted text certifies a length above
-/// what the store has room for: each blob with the root is then longer, or such a pair is named.
+/// what the store has room for: each blob with the root is then longer, or such a collision is exhibited.
 pub fn run_one<H: Holder>(alloc: Global, store: &mut Store, holders: &mut [H]) -> Report
     ensures worked { Gains (IsHanded H.gives holders.old) store.old store.new result }
     ensures certified { AddsCertified (IsHanded H.gives holders.old) store.old store.new }
@@ -128,13 +129,14 @@ pub fn run_one<H: Holder>(alloc: Global, store: &mut Store, holders: &mut [H]) -
     ensures longer { IsTrue result.too_large → AreLonger (IsHanded H.gives holders.old) (fixed_of store.old) }
     ensures available { (blob : List ℕ) → IsBlob (fixed_of store.old) blob → chunk_count (length blob) ≤ (fixed_of store.old).capacity
         → HaveSlices ByGroup H.gives (fixed_of store.old).mode blob holders.old
-        → HasFailed result ⊎ IsTooLarge (IsHanded H.gives holders.old) (fixed_of store.old) ⊎ IsFilled Records Holds IsBusy store.old store.new blob }
+        → HasFailed result ⊎ IsTooLarge (IsHanded H.gives holders.old) (fixed_of store.old) ⊎ IsFilled Records HoldsChunk IsBusy store.old store.new blob }
 {
     let place = Place {
         number: 0,
         workers: 1,
     };
     let fixed = store.fixed();
+    // For the prover alone: the flags of a mode are apart from the tree's, and what is accepted binds.
     fixed.mode.is_keyed();
     accepted_binds();
     let mut report = Report::new();

@@ -1,5 +1,5 @@
 ghost use Rattle.std.specs.Prelude.{◌≡◌, ℕ, List, true, ◌+◌, ◌-◌, ◌*◌, ◌^◌, ◌<◌, ◌≤◌, ◌++◌, length, take, drop, nat_le, IfOk, IfSome, IsErrOf, OnOk};
-ghost use Rattle.bao_text.specs.Cut.{claimed, cut_text};
+ghost use Rattle.bao_text.specs.Cut.{cut_text};
 ghost use Rattle.bao_text.specs.Nodes.{Side, subtree_nodes, subtree_size};
 ghost use Rattle.gather.specs.declared.holder.HolderFault.TheVariants.{Device};
 ghost use Rattle.gather.specs.Places.{OfBytes, slice_len};
@@ -10,7 +10,7 @@ use crate::form::CHUNK_LEN;
 use crate::holder::HolderFault;
 use b3tree::left_len;
 use bao_read::Source;
-use bao_text::{Choice, LENGTH_LEN, PARENT_LEN, encoded_len};
+use bao_text::{Choice, LENGTH_LEN, PARENT_LEN, claimed, subtree_size};
 
 // No file and no slice of memory has a byte at this place or after it.
 const END: u128 = i64::MAX as u128;
@@ -78,13 +78,6 @@ pub(crate) fn append_part<S: Source>(
     Ok(true)
 }
 
-// The bytes of the subtree over `n` bytes in a combined encoding.
-fn subtree_len(n: u64) -> u128
-    ensures { result ≡ subtree_size n }
-{
-    encoded_len(n) - LENGTH_LEN as u128
-}
-
 // Appends the wanted nodes of the subtree over `n` bytes from chunk `number` on, which begins at the place `at` of a combined
 // encoding, up to the first that isn't wholly there; answers whether all were. A subtree of which everything is wanted
 // is one part.
@@ -108,7 +101,7 @@ fn append_subtree<S: Source>(
         return Ok(true);
     }
     if n <= CHUNK_LEN || choice.covers(first, n) {
-        return append_part(source, at, subtree_len(n), into);
+        return append_part(source, at, subtree_size(n), into);
     }
     if !append_part(source, at, PARENT_LEN as u128, into)? {
         return Ok(false);
@@ -118,7 +111,7 @@ fn append_subtree<S: Source>(
     if !append_subtree(source, choice, number, left_len, left_at, into)? {
         return Ok(false);
     }
-    let right_at = left_at + subtree_len(left_len);
+    let right_at = left_at + subtree_size(left_len);
     append_subtree(
         source,
         choice,
@@ -127,16 +120,6 @@ fn append_subtree<S: Source>(
         right_at,
         into,
     )
-}
-
-// The length that the first 8 bytes of a text claim.
-fn claimed(text: &[u8]) -> u64
-    requires { 8 ≤ length text.now }
-    ensures { result ≡ claimed text.now }
-{
-    u64::from_le_bytes([
-        text[0], text[1], text[2], text[3], text[4], text[5], text[6], text[7],
-    ])
 }
 
 // Appends the slice as it is cut out of the combined encoding that the source has.

@@ -1,4 +1,4 @@
-ghost use Rattle.std.specs.Prelude.{◌≡◌, ◌≤◌, ℕ, List, Some, length, map, min, slice_get, vec_items};
+ghost use Rattle.std.specs.Prelude.{◌≡◌, ◌<◌, ◌≤◌, ◌⊎◌, ℕ, IfSome, List, None, Some, length, map, max, min, slice_get, vec_items};
 ghost use Rattle.b3tree.specs.declared.mode.Mode.{Mode};
 ghost use Rattle.bao_text.specs.Choice.{chunk_count};
 ghost use Rattle.bao_text.specs.Texts.{combined_text};
@@ -6,6 +6,7 @@ ghost use Rattle.gather.specs.Room.{most_chunks};
 
 use b3tree::CHUNK_LEN;
 use bao_text::PARENT_LEN;
+use store_core::MAX_CAPACITY;
 
 /// How many chunks a blob may have whose combined encoding is one of these texts: as many as the longest of them has
 /// room for, with a parent for each but one, and at most `capacity`. It is 1 where there is no text, or 0 at a capacity
@@ -21,4 +22,18 @@ pub fn room_for(texts: &[Vec<u8>], capacity: u32) -> u32
     }
     let most = longest / (CHUNK_LEN + PARENT_LEN) + 1;
     most.min(capacity as usize) as u32
+}
+
+/// With room for how many chunks it is tried first: `room`, at least 1, where that is less than a capacity that a store may
+/// have.
+pub fn first_room(room: u32, capacity: u32) -> Option<u32>
+    ensures some { IfSome result (λ first. (first ≡ max 1 room) × (first < capacity) × (capacity ≤ 65536)) }
+    ensures none { result ≡ None → (capacity ≤ max 1 room) ⊎ (65536 < capacity) }
+{
+    let first = room.max(1);
+    if first < capacity && capacity <= MAX_CAPACITY {
+        Some(first)
+    } else {
+        None
+    }
 }

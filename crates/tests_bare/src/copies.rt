@@ -5,7 +5,7 @@ ghost use Rattle.store_shared.specs.Seats.{IsSeatOf, fixed_of};
 use b3tree::{Hash, Mode};
 use bao_check::{Outline, check_outboard, check_slice};
 use bao_text::{outboard, slice};
-use crews::{Crew, CrewsFault, Open, finish, gather_copies, run_bare};
+use crews::{Crew, Open, finish, gather_copies, run_bare};
 use gather::{FinishFault, GatherFault, Grain, Plain, Report};
 use std::alloc::Global;
 use std::test::Fail;
@@ -138,7 +138,7 @@ fn room_for_two_chunks(rt: HostRuntime) -> Result<(), Fail> {
         copies.as_slice(),
     )
     .err();
-    assert_eq!(rt; fault, Some(CrewsFault::Gather(GatherFault::TooLarge)));
+    assert_eq!(rt; fault, Some(GatherFault::TooLarge));
     Ok(())
 }
 

@@ -3,8 +3,8 @@ ghost use Rattle.store_shared.specs.Seats.{IsSeatOf};
 use b3tree::Mode;
 use bao_check::check_combined;
 use bao_text::combined;
-use crews::{CrewsFault, Gate, Open, finish};
-use gather::{Encoded, FinishFault, GatherFault, Holder, HolderFault, Report};
+use crews::{Gate, Open, finish};
+use gather::{Encoded, FinishFault, Holder, HolderFault, Report};
 use std::sync::atomic::{AtomicU64, Ordering};
 use std::test::Fail;
 use std::thread;
@@ -258,22 +258,5 @@ fn no_claim_is_left(rt: HostRuntime) -> Result<(), Fail> {
     assert_eq!(rt; report.refused, report.asked);
     let taken = take_all(&assembly, &mut seat, 4)?;
     assert_eq!(rt; taken, 196);
-    Ok(())
-}
-
-#[test]
-fn each_fault_has_a_number_and_a_line(rt: HostRuntime) -> Result<(), Fail> {
-    for (fault, number, line) in [
-        (CrewsFault::Store, 801, "801 memory"),
-        (CrewsFault::Seat, 806, "806 memory"),
-        (
-            CrewsFault::Gather(GatherFault::Unfinished),
-            901,
-            "901 unfinished",
-        ),
-    ] {
-        assert_eq!(rt; fault.code(), number);
-        assert_eq!(rt; format!(in rt.alloc(); "{fault}")?.as_str(), line);
-    }
     Ok(())
 }

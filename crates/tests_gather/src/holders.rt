@@ -303,8 +303,10 @@ fn each_fault_has_a_number_and_a_line(rt: HostRuntime) -> Result<(), Fail> {
         assert_eq!(rt; format!(in rt.alloc(); "{fault}")?.as_str(), line);
     }
     for (fault, number, line) in [
+        (GatherFault::Store, 801, "801 memory"),
         (GatherFault::Capacity, 802, "802 capacity"),
         (GatherFault::TooLarge, 805, "805 too large"),
+        (GatherFault::Seat, 806, "806 memory"),
         (GatherFault::Unfinished, 901, "901 unfinished"),
         (GatherFault::NotTheRoot, 902, "902 not the root"),
         (GatherFault::Memory, 903, "903 memory"),

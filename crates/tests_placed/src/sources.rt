@@ -2,7 +2,7 @@ use b3tree::Mode;
 use bao_check::check_outboard;
 use bao_read::Source;
 use bao_text::{combined, outboard};
-use crews::{CrewsFault, gather_copies_at, gather_sources};
+use crews::{gather_copies_at, gather_sources};
 use gather::{GatherFault, Grain};
 use std::io;
 use std::test::Fail;
@@ -91,7 +91,7 @@ fn refusals(rt: HostRuntime) -> Result<(), Fail> {
     let whole = [text.as_slice()];
     let cut = [text.as_slice().get(..1_000).ok_or("a cut")?];
     let fault = gather_sources(&rt, alloc, root, mode, 200, 1, 2, Grain::Group, &whole).err();
-    assert_eq!(rt; fault, Some(CrewsFault::Gather(GatherFault::TooLarge)));
+    assert_eq!(rt; fault, Some(GatherFault::TooLarge));
     for capacity in [0, 65_537] {
         let fault = gather_sources(
             &rt,
@@ -104,10 +104,10 @@ fn refusals(rt: HostRuntime) -> Result<(), Fail> {
             Grain::Group,
             &whole,
         ).err();
-        assert_eq!(rt; fault, Some(CrewsFault::Gather(GatherFault::Capacity)));
+        assert_eq!(rt; fault, Some(GatherFault::Capacity));
     }
     let fault = gather_sources(&rt, alloc, root, mode, 400, 300, 2, Grain::Group, &cut).err();
-    assert_eq!(rt; fault, Some(CrewsFault::Gather(GatherFault::Unfinished)));
+    assert_eq!(rt; fault, Some(GatherFault::Unfinished));
     Ok(())
 }
 

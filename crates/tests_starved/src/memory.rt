@@ -1,6 +1,6 @@
 use b3tree::Mode;
 use bao_text::combined;
-use crews::{CrewsFault, Open, finish, gather_texts};
+use crews::{Open, finish, gather_texts};
 use gather::{Encoded, FinishFault, GatherFault, Grain, Holder, HolderFault, Report};
 use std::sync::atomic::{AtomicU64, Ordering};
 use std::test::Fail;
@@ -127,9 +127,10 @@ fn a_growth_that_is_refused(rt: HostRuntime) -> Result<(), Fail> {
             assert!(rt;
                 matches!(
                     fault,
-                    CrewsFault::Store
-                        | CrewsFault::Seat
-                        | CrewsFault::Gather(GatherFault::Memory | GatherFault::Starved)
+                    GatherFault::Store
+                        | GatherFault::Seat
+                        | GatherFault::Memory
+                        | GatherFault::Starved
                 )
             );
             let gathered = gather_texts(
@@ -169,9 +170,7 @@ fn sixteen_workers(rt: HostRuntime) -> Result<(), Fail> {
         Err(fault) => assert!(rt;
             matches!(
                 fault,
-                CrewsFault::Store
-                    | CrewsFault::Seat
-                    | CrewsFault::Gather(GatherFault::Memory | GatherFault::Starved)
+                GatherFault::Store | GatherFault::Seat | GatherFault::Memory | GatherFault::Starved
             )
         ),
     }

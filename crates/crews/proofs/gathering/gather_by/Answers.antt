@@ -1,87 +1,18 @@
-use Rattle.std.proofs.Common.{◌≡◌, ℕ, ◌≤◌, IfOk, List, length, sym, ap, arith, subst}
-use Rattle.std.proofs.lemmas.List.{with_items_is}
-use Rattle.std.specs.List.{All}
-use Rattle.bao_text.specs.Choice.{chunk_count}
-use Rattle.crews.specs.declared.crew.Crew.{Crew}
-use Rattle.crews.specs.Closing.{IsKeptWhole}
-use Rattle.crews.specs.Crews.{IsHandedTo}
-use Rattle.crews.specs.Joined.{AreCallsOf, AreClaimsOf, HasAllNamesOf, HaveAllNames}
-use Rattle.crews.specs.Lists.{HaveAll, IsLent}
-use Rattle.crews.specs.Seats.{BeginsAfter}
-use Rattle.crews.proofs.OfNone.{handed_wide, lent_all}
-use Rattle.crews.proofs.Summing.{all_each}
-use Rattle.crews.proofs.Whence.{left_to_one, no_faults, opening_all}
+use Rattle.std.proofs.Common.{arith, inl, inr}
+use Rattle.std.proofs.lemmas.Bool.{both_ways}
 use Rattle.crews.proofs.gathering.gather_by.Goals as goal
-use Rattle.gather.specs.Large.{AreTheBlob, AreLonger, IsOfNone, IsTooLarge}
-use Rattle.gather.proofs.Reporting.{large_wider}
-use Rattle.store_core.specs.declared.fixed.Fixed.{Fixed}
-use Rattle.store_core.specs.declared.history.Piece.{Piece}
-use Rattle.store_core.specs.declared.view.SeatView.{SeatView}
-use Rattle.store_core.specs.Laws.{IsBlob}
-use Rattle.store_shared.specs.Seats.{IsSeatOf, fixed_of}
-use Rattle.store_core.specs.Knowledge.{opening_view}
+use Rattle.gather.specs.HandedOut.{own_bytes}
+use Rattle.gather.specs.Lists.{IsLent}
+use Rattle.gather.proofs.Answering.{gathers_anyway, out_anyway}
 
-pub all_joined-seat-requires-clause-crews : goal.all_joined-seat-requires-clause-crews
-all_joined-seat-requires-clause-crews g c =
-    let put = with_items_is c.in_ok-crews.crews c.run-report.new.crews (omega (arith, c.run-report.ensures.each.len, c.as_mut_slice.ensures.len)) in
-    subst (λ (crews : List (Crew g.row.H.Denot)). All (λ (crew : Crew g.row.H.Denot). IsSeatOf c.in_ok-assembly.assembly crew.seat) crews) (sym put)
-    (all_each _ c.as_mut_slice.result.now c.run-report.new.crews (λ x y worked. worked.of) c.run-report.ensures.each)
+pub returns-then-not-may_lack_room-clause-gathers : goal.returns-then-not-may_lack_room-clause-gathers
+returns-then-not-may_lack_room-clause-gathers g c =
+    gathers_anyway own_bytes (IsLent g.H.Holder.gives (g.L.Lists.over c.args.lists.now)) c.args.root c.args.mode c.in-Some.first c.args.capacity
+    (omega (arith, c.in-Some.ensures.some.0)) c.in-Some.ensures.some.1 c.in-Some.ensures.some.2 c.gather_within-gathered.result c.gather_within-gathered.ensures.gathers
+    (λ e. both_ways _ c.if-not-may_lack_room.true (c.may_lack_room.ensures.1 (inl e)))
 
-pub hand_out-requires-clause-left : goal.hand_out-requires-clause-left
-hand_out-requires-clause-left g c = λ _ _.
-    let put = with_items_is c.in_ok-crews.crews c.run-report.new.crews (omega (arith, c.run-report.ensures.each.len, c.as_mut_slice.ensures.len)) in
-    let over = g.L.Lists.over c.args.lists.now in
-    let given : SeatView = c.in_ok-assembly.seat.view in
-    let stays : SeatView = c.in_ok-crews.seat.view in
-    let joined : SeatView = c.all_joined-seat.result.view in
-    let opening : given ≡ opening_view (fixed_of c.in_ok-assembly.assembly) = c.in_ok-assembly.ensures.view in
-    let value = sym c.as_mut_slice.ensures.value in
-    let are : All (λ (crew : Crew g.row.H.Denot). over crew.holders.items) c.as_mut_slice.result.now =
-    subst (λ (all : List (Crew g.row.H.Denot)). All (λ (crew : Crew g.row.H.Denot). over crew.holders.items) all) value c.in_ok-crews.ensures.holders in
-    let begins : All (λ (crew : Crew g.row.H.Denot). BeginsAfter given crew.seat.view) c.as_mut_slice.result.now =
-    subst (λ (all : List (Crew g.row.H.Denot)). All (λ (crew : Crew g.row.H.Denot). BeginsAfter given crew.seat.view) all) value c.in_ok-crews.ensures.begin in
-    let all : HaveAllNames stays c.as_mut_slice.result.now =
-    subst (λ (crews : List (Crew g.row.H.Denot)). HaveAllNames stays crews) value (c.in_ok-crews.ensures.names (opening_all (fixed_of c.in_ok-assembly.assembly) given opening)) in
-    left_to_one _ g.H.Holder.gives g.H.Holder.count (IsLent g.H.Holder.gives over) c.in_ok-assembly.assembly given c.as_mut_slice.result.now c.run-report.new.crews
-    (ap (λ (v : SeatView). v.seen) opening) begins (lent_all g.H.Holder.gives over c.as_mut_slice.result.now are)
-    c.run-report.ensures.each stays joined c.in_ok-crews.ensures.keeps all
-    (λ h. c.all_joined-seat.ensures.names (subst (λ (crews : List (Crew g.row.H.Denot)). HaveAllNames stays crews) (sym put) h))
-    (subst (λ (crews : List (Crew g.row.H.Denot)). AreCallsOf stays crews joined) put c.all_joined-seat.ensures.calls)
-    (subst (λ (crews : List (Crew g.row.H.Denot)). HasAllNamesOf stays crews joined) put c.all_joined-seat.ensures.has)
-    (subst (λ (crews : List (Crew g.row.H.Denot)). AreClaimsOf stays crews joined) put c.all_joined-seat.ensures.claims)
-
-pub hand_out-requires-clause-failed : goal.hand_out-requires-clause-failed
-hand_out-requires-clause-failed g c = omega (arith, c.run-report.ensures.failed, no_faults g.H.Holder.count c.requires.quiet c.run-report.new.crews)
-
-pub hand_out-requires-clause-large : goal.hand_out-requires-clause-large
-hand_out-requires-clause-large g c = λ _ _ large.
-    let crews = c.as_mut_slice.result.now in
-    let gives = g.H.Holder.gives in
-    let over = g.L.Lists.over c.args.lists.now in
-    let are : All (λ (crew : Crew g.row.H.Denot). over crew.holders.items) crews =
-    subst (λ (all : List (Crew g.row.H.Denot)). All (λ (crew : Crew g.row.H.Denot). over crew.holders.items) all) (sym c.as_mut_slice.ensures.value) c.in_ok-crews.ensures.holders in
-    large_wider (IsHandedTo gives crews) (IsLent gives over) (handed_wide gives (IsLent gives over) crews (lent_all gives over crews are)) (fixed_of c.in_ok-assembly.assembly)
-    (c.run-report.ensures.too_large large)
-
-pub returns-clause-too_large : goal.returns-clause-too_large
-returns-clause-too_large g c = λ e.
-    subst (λ (fixed : Fixed). IsTooLarge (IsLent g.H.Holder.gives (g.L.Lists.over c.args.lists.now)) fixed) c.in_ok-assembly.ensures.fixed (c.hand_out.ensures.too_large e)
-
-pub returns-clause-longer : goal.returns-clause-longer
-returns-clause-longer g c = λ e.
-    subst (λ (fixed : Fixed). AreLonger (IsLent g.H.Holder.gives (g.L.Lists.over c.args.lists.now)) fixed) c.in_ok-assembly.ensures.fixed (c.hand_out.ensures.longer e)
-
-pub returns-clause-none : goal.returns-clause-none
-returns-clause-none g c = λ e.
-    subst (λ (fixed : Fixed). IsOfNone (IsLent g.H.Holder.gives (g.L.Lists.over c.args.lists.now)) fixed) c.in_ok-assembly.ensures.fixed (c.hand_out.ensures.none e)
-
-pub returns-clause-found : goal.returns-clause-found
-returns-clause-found g c =
-    let handed : Piece → Type 0 = IsLent g.H.Holder.gives (g.L.Lists.over c.args.lists.now) in
-    subst (λ (f : Fixed). IfOk c.hand_out.result (λ bytes. AreTheBlob handed f bytes)) c.in_ok-assembly.ensures.fixed c.hand_out.ensures.found
-
-pub returns-clause-available : goal.returns-clause-available
-returns-clause-available g c =
-    let handed : Piece → Type 0 = IsLent g.H.Holder.gives (g.L.Lists.over c.args.lists.now) in
-    subst (λ (f : Fixed). (blob : List ℕ) → IsBlob f blob → chunk_count (length blob) ≤ f.capacity → HaveAll c.args.grain g.H.Holder.gives (g.L.Lists.over c.args.lists.now) f.mode blob
-    → IsKeptWhole handed f blob c.hand_out.result) c.in_ok-assembly.ensures.fixed c.hand_out.ensures.available
+pub returns-then-not-may_lack_room-clause-available : goal.returns-then-not-may_lack_room-clause-available
+returns-then-not-may_lack_room-clause-available g c = λ blob is fits there.
+    out_anyway own_bytes (IsLent g.H.Holder.gives (g.L.Lists.over c.args.lists.now)) c.args.root c.args.mode c.in-Some.first c.args.capacity
+    (omega (arith, c.in-Some.ensures.some.0)) c.in-Some.ensures.some.1 c.in-Some.ensures.some.2 blob c.gather_within-gathered.result is c.gather_within-gathered.ensures.gathers
+    (λ e. both_ways _ c.if-not-may_lack_room.true (c.may_lack_room.ensures.1 (inl e))) (λ e. both_ways _ c.if-not-may_lack_room.true (c.may_lack_room.ensures.1 (inr e)))

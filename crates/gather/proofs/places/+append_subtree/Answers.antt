@@ -37,10 +37,10 @@ returns-then-n-le-CHUNK_LEN-clause-cuts g t c = λ sides.
           let both : (choice.start ≤ 1024 * c.args.number) × (1024 * c.args.number + max n 1 ≤ choice.end) = w.covers.ensures.0 w.if-covers.true in
           run-subtree choice c.args.number n sides at c.requires.chunks both.0 both.1
     ] in
-    let of : IsRun at c.subtree_len.result nodes = subst (λ (k : ℕ). IsRun at k nodes) (sym c.subtree_len.ensures) run in
-    let least : n ≤ c.subtree_len.result = omega (arith, c.subtree_len.ensures) in
+    let of : IsRun at c.subtree_size.result nodes = subst (λ (k : ℕ). IsRun at k nodes) (sym c.subtree_size.ensures) run in
+    let least : n ≤ c.subtree_size.result = omega (arith, c.subtree_size.ensures) in
     joined c.append_part.result _ _ _ _ c.append_part.ensures.part c.append_part.ensures.whole c.append_part.ensures.few
-    (λ whole part all few. Cuts-run contents old new at c.subtree_len.result n nodes whole of least part all few)
+    (λ whole part all few. Cuts-run contents old new at c.subtree_size.result n nodes whole of least part all few)
 
 -- the parent alone
 pub returns-then-not-branch-clause-cuts : goal.returns-then-not-branch-clause-cuts
@@ -119,12 +119,12 @@ returns-clause-cuts g t c = λ sides.
     (c.in_ok-append_subtree.ensures.cuts (sides ++ left ∷ []))) in
     let both : Cuts contents old more (node ∷ near) n true =
     Cuts-then contents old mid more (node ∷ []) near 64 l n true (omega arith) (omega (arith, parts.some)) first second in
-    let far_at : at + 64 + c.subtree_len-2.result ≡ at + 64 + subtree_size l = ap (λ (k : ℕ). at + 64 + k) (c.subtree_len-2.ensures ∙ ap subtree_size parted) in
+    let far_at : at + 64 + c.subtree_size-2.result ≡ at + 64 + subtree_size l = ap (λ (k : ℕ). at + 64 + k) (c.subtree_size-2.ensures ∙ ap subtree_size parted) in
     IfOk-weaker c.append_subtree-2.result _ _
     (λ whole third.
     let last : Cuts contents more new far (n - l) whole =
     subst (λ (place : ℕ). Cuts contents more new (subtree_nodes choice (number + l / 1024) (n - l) (sides ++ right ∷ []) place) (n - l) whole) far_at
-    (subst (λ (k : ℕ). Cuts contents more new (subtree_nodes choice (number + k / 1024) (n - k) (sides ++ right ∷ []) (at + 64 + c.subtree_len-2.result)) (n - k) whole) parted third) in
+    (subst (λ (k : ℕ). Cuts contents more new (subtree_nodes choice (number + k / 1024) (n - k) (sides ++ right ∷ []) (at + 64 + c.subtree_size-2.result)) (n - k) whole) parted third) in
     subst (λ (nodes : List TreeNode). Cuts contents old new nodes n whole) (sym tree)
     (Cuts-then contents old more new (node ∷ near) far n (n - l) n whole (omega arith) (omega (arith, parts.below)) both last))
     (c.append_subtree-2.ensures.cuts (sides ++ right ∷ []))

@@ -1,15 +1,18 @@
-use Rattle.std.proofs.Common.{map}
+use Rattle.std.proofs.Common.{arith, map, inl, inr}
+use Rattle.std.proofs.lemmas.Bool.{both_ways}
 use Rattle.std.specs.Prelude.{vec_items}
 use Rattle.gather.specs.Encodings.{IsCutOf}
-use Rattle.gather.proofs.Rooms.{blob_at, handed_at, none_at}
+use Rattle.gather.proofs.Answering.{gathers_anyway, out_anyway}
 use Rattle.gather.proofs.texts.gather_texts.Goals as goal
 
-pub returns-clause-none : goal.returns-clause-none
-returns-clause-none c = λ e.
-    none_at (IsCutOf (map vec_items c.args.texts.now)) c.args.root c.args.mode c.room_for-room.result c.args.capacity (c.gather_within-gathered.ensures.none e)
+pub returns-then-not-may_lack_room-clause-gathers : goal.returns-then-not-may_lack_room-clause-gathers
+returns-then-not-may_lack_room-clause-gathers c =
+    gathers_anyway vec_items (IsCutOf (map vec_items c.args.texts.now)) c.args.root c.args.mode c.in-Some.first c.args.capacity (omega (arith, c.in-Some.ensures.some.0))
+    c.in-Some.ensures.some.1 c.in-Some.ensures.some.2 c.gather_within-gathered.result c.gather_within-gathered.ensures.gathers
+    (λ e. both_ways _ c.if-not-may_lack_room.true (c.may_lack_room.ensures.1 (inl e)))
 
-pub returns-clause-available : goal.returns-clause-available
-returns-clause-available c = λ blob i is fits there.
-    handed_at (IsCutOf (map vec_items c.args.texts.now)) c.args.root c.args.mode c.room_for-room.result c.args.capacity blob c.gather_within-gathered.result
-    (c.gather_within-gathered.ensures.available blob i (blob_at c.args.root c.args.mode c.args.capacity c.room_for-room.result blob is)
-    (c.room_for-room.ensures.enough c.args.mode blob i there fits) there)
+pub returns-then-not-may_lack_room-clause-available : goal.returns-then-not-may_lack_room-clause-available
+returns-then-not-may_lack_room-clause-available c = λ blob i is fits there.
+    out_anyway vec_items (IsCutOf (map vec_items c.args.texts.now)) c.args.root c.args.mode c.in-Some.first c.args.capacity (omega (arith, c.in-Some.ensures.some.0))
+    c.in-Some.ensures.some.1 c.in-Some.ensures.some.2 blob c.gather_within-gathered.result is c.gather_within-gathered.ensures.gathers
+    (λ e. both_ways _ c.if-not-may_lack_room.true (c.may_lack_room.ensures.1 (inl e))) (λ e. both_ways _ c.if-not-may_lack_room.true (c.may_lack_room.ensures.1 (inr e)))

@@ -3,6 +3,7 @@ use Rattle.std.specs.Prelude.{◌≡◌, ℕ, ◌≤◌, List, Option, Some, len
 use Rattle.b3tree.specs.declared.mode.Mode.{Mode}
 use Rattle.bao_text.specs.Choice.{chunk_count}
 use Rattle.gather.specs.declared.grain.Grain.{Grain}
+use Rattle.gather.specs.declared.sources.SourceAt.{SourceAt}
 use Rattle.gather.specs.Available.{HaveSlices}
 use Rattle.gather.specs.Holders.{IsHanded}
 use Rattle.gather.specs.Places.{IsCutAt}
@@ -17,6 +18,10 @@ pub record IsLent {H : Type 0} (gives : H → ℕ → ℕ → List ℕ → Type 
 -- in each such list the blob's slices are given that its chunks are asked for by, where a store may have room for it
 abbrev pub HaveAll : {H : Type 0} → Grain → (H → ℕ → ℕ → List ℕ → Type 0) → (List H → Type 0) → Mode → List ℕ → Type 0
 HaveAll grain gives over mode blob = (holders : _) → over holders → chunk_count (length blob) ≤ 65536 → HaveSlices grain gives mode blob holders
+
+-- the source that a holder is over
+abbrev pub source_of : {S : Type 0} → SourceAt S → S
+source_of holder = holder.0.now
 
 -- what a source gives as a slice: what is cut out of its bytes, where they are known, or nothing, since a read failed
 abbrev pub source_gives : {S : Type 0} → (S → Option (List ℕ)) → (S → Type 0) → S → ℕ → ℕ → List ℕ → Type 0

@@ -2,22 +2,24 @@ ghost use Rattle.std.specs.Prelude.{◌≡◌, IfOk, List, map, vec_items};
 ghost use Rattle.gather.specs.Encodings.{encoding};
 ghost use Rattle.gather.specs.Plains.{copy_of};
 
-use gather::{Encoded, Plain, copies_over, holders_over};
+use crate::holder::Encoded;
+use crate::plain::{Plain, copies_over};
+use crate::texts::holders_over;
 use std::alloc::{AllocError, Global};
 
-// What all workers ask, of which each has a list of holders of its own.
-pub(crate) trait Lists<H> {
+/// What all workers ask, of which each has a list of holders of its own.
+pub trait Lists<H> {
     // The holders are over it.
     ghost over: { Self → List H → Type 0 };
 
-    // One more list of holders over it.
+    /// One more list of holders over it. Refused where there is no memory for the list.
     fn list(&self, alloc: Global) -> Result<Vec<H>, AllocError>
         ensures { IfOk result (λ holders. over self.now holders.items) };
 }
 
-// Texts, each of which may be a combined encoding. They are not copied.
+/// Texts in memory, each of which may be a combined encoding. They are not copied.
 #[derive(Clone, Copy)]
-pub(crate) struct Texts<'a>(pub(crate) &'a [Vec<u8>]);
+pub struct Texts<'a>(pub &'a [Vec<u8>]);
 
 impl<'a> Lists<Encoded<'a>> for Texts<'a> {
     ghost over = { λ texts holders. map encoding holders ≡ map vec_items texts.0.now };
@@ -27,9 +29,9 @@ impl<'a> Lists<Encoded<'a>> for Texts<'a> {
     }
 }
 
-// Plain copies. Their bytes stay where they are.
+/// Plain copies in memory. Their bytes stay where they are.
 #[derive(Clone, Copy)]
-pub(crate) struct Copies<'a>(pub(crate) &'a [Vec<u8>]);
+pub struct Copies<'a>(pub &'a [Vec<u8>]);
 
 impl<'a> Lists<Plain<'a>> for Copies<'a> {
     ghost over = { λ copies holders. map copy_of holders ≡ map vec_items copies.0.now };

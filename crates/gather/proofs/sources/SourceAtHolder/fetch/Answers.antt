@@ -1,7 +1,7 @@
 use Rattle.std.proofs.Common.{arith, subst}
 use Rattle.std.specs.Prelude.{IsErrOf}
-use Rattle.crews.proofs.Lending.{lost_appends}
-use Rattle.crews.proofs.places.SourceAtHolder.fetch.Goals as goal
+use Rattle.gather.proofs.Lending.{lost_appends}
+use Rattle.gather.proofs.sources.SourceAtHolder.fetch.Goals as goal
 use Rattle.gather.specs.declared.holder.HolderFault.TheVariants.{Device}
 use Rattle.gather.specs.Holders.{Appends}
 use Rattle.gather.specs.Places.{IsCutAt}

@@ -1,5 +1,5 @@
 use Rattle.std.specs.Prelude.{◌≡◌, map, take}
-use Rattle.crews.proofs.places.sources_over.Given as goal
+use Rattle.gather.proofs.sources.sources_over.Given as goal
 
 abbrev pub invariant-loop-source : goal.invariant-loop-source
 invariant-loop-source g l = map (λ holder. holder.0.now) l.holders.items ≡ take l.source-index l.sources

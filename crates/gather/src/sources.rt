@@ -1,13 +1,15 @@
 ghost use Rattle.std.specs.Prelude.{◌≡◌, IfOk, length, map};
 
+use crate::encoded_at::EncodedAt;
+use crate::holder::{Holder, HolderFault};
 use crate::lists::Lists;
+use crate::plain_at::PlainAt;
 use bao_read::Source;
-use gather::{EncodedAt, Holder, HolderFault, PlainAt};
 use std::alloc::{AllocError, Global};
 
-// The holder over a source that may be a combined encoding. A read that fails gives nothing, and isn't counted.
+/// The holder over a source that may be a combined encoding. A read that fails gives nothing, and isn't counted.
 #[derive(Drop)]
-pub(crate) struct SourceAt<'a, S: Source>(&'a S);
+pub struct SourceAt<'a, S: Source>(&'a S);
 
 impl<'a, S: Source> Holder for SourceAt<'a, S> {
     ghost use Rattle.gather.specs.Places.{IsCutAt};
@@ -58,9 +60,9 @@ fn copies_at_over<'a, S: Source>(
     Ok(holders)
 }
 
-// Sources that are read at places, each of which may be a combined encoding.
+/// Sources that are read by position, each of which may be a combined encoding.
 #[derive(Drop)]
-pub(crate) struct Sources<'a, S: Source>(pub(crate) &'a [S]);
+pub struct Sources<'a, S: Source>(pub &'a [S]);
 
 impl<'a, S: Source> Lists<SourceAt<'a, S>> for Sources<'a, S> {
     ghost over = { λ sources holders. map (λ holder. holder.0.now) holders ≡ sources.0.now };
@@ -70,9 +72,9 @@ impl<'a, S: Source> Lists<SourceAt<'a, S>> for Sources<'a, S> {
     }
 }
 
-// Plain copies that are read at places.
+/// Plain copies that are read by position.
 #[derive(Drop)]
-pub(crate) struct CopiesAt<'a, S: Source>(pub(crate) &'a [S]);
+pub struct CopiesAt<'a, S: Source>(pub &'a [S]);
 
 impl<'a, S: Source> Lists<PlainAt<'a, S>> for CopiesAt<'a, S> {
     ghost over = { λ copies holders. length holders ≡ length copies.0.now };

@@ -1,30 +1,19 @@
 -- What is known of holders' lists by what they are over.
 use Rattle.std.proofs.Common.{◌≡◌, ℕ, ◌+◌, ◌-◌, ◌*◌, ◌^◌, ◌<◌, ◌≤◌, zero, suc, List, [], ◌∷◌, append-nil, length, map, slice_get, ◌⊎◌, IfErr, IfOk, MatchResult, Option, None, Some, option_map, Result, Vec, Ok, Err, refl, sym, ap, subst, ◌∙◌, arith, inl, inr}
-use Rattle.std.specs.Global.{Global}
-use Rattle.std.specs.Prelude.{IsErrOf}
 use Rattle.std.proofs.lemmas.Option.{slice_get-map}
 use Rattle.b3tree.specs.declared.mode.Mode.{Mode}
-use Rattle.b3tree.specs.declared.values.Hash.{Hash}
 use Rattle.bao_text.specs.Choice.{chunk_count}
 use Rattle.bao_text.specs.Texts.{combined_text, slice_text}
 use Rattle.bao_text.proofs.Laws.{cut_text-combined, length-combined_text}
-use Rattle.crews.specs.declared.fault.CrewsFault.{CrewsFault}
-use Rattle.crews.specs.declared.fault.CrewsFault.TheVariants.{Gather, Seat, Store}
-use Rattle.crews.specs.Closing.{IsExcused, IsKeptWhole, IsHandedOut}
-use Rattle.crews.specs.Lists.{IsCutOfSource, IsLent}
+use Rattle.gather.specs.Lists.{IsCutOfSource, IsLent}
 use Rattle.gather.specs.declared.holder.Encoded.{Encoded}
-use Rattle.gather.specs.declared.texts.GatherFault.TheVariants.{Capacity, Memory, NotTheRoot, Starved, TooLarge, Unfinished}
 use Rattle.gather.specs.declared.grain.Grain.{Grain}
 use Rattle.gather.specs.Available.{HasSlice, HasTrue, HaveSlices}
 use Rattle.gather.specs.Encodings.{IsCut, IsCutOf, encoding}
 use Rattle.gather.specs.Holders.{Appends}
-use Rattle.gather.specs.Large.{AreTheBlob, IsOfNone, fixed_as}
 use Rattle.gather.specs.Places.{IsCutAt}
-use Rattle.gather.proofs.Binding.{handed_cut, pair_wider}
-use Rattle.gather.proofs.Rooms.{blob_at, pair_at}
-use Rattle.store_core.specs.declared.fixed.Fixed.{Fixed}
+use Rattle.gather.proofs.Binding.{handed_cut}
 use Rattle.store_core.specs.declared.history.Piece.{Piece}
-use Rattle.store_core.specs.Laws.{IsBlob}
 
 -- holders over texts hand over what is cut out of the texts
 pub lent_cut : (texts : List (List ℕ)) (piece : Piece) → IsLent IsCut (λ (holders : List Encoded). map encoding holders ≡ texts) piece → IsCutOf texts piece
@@ -109,57 +98,3 @@ lost (Some s) faultless start len never = λ fits. inr (refl, never)
 pub lost_appends : (contents : Option (List ℕ)) (faultless : Type 0) (start len : ℕ) (old new : List ℕ) → new ≡ old → (faultless → ⊥)
     → Appends (IsCutAt contents faultless start len) old new
 lost_appends contents faultless start len old new same never = record { text = []; is = same ∙ sym (append-nil old); given = lost contents faultless start len never }
-
--- what is handed over is handed over by more
-pub out_wider : (handed wider : Piece → Type 0) → ((piece : Piece) → handed piece → wider piece) → (fixed : Fixed) (blob : List ℕ) (r : Result (List ℕ) CrewsFault)
-    → IsKeptWhole handed fixed blob r → IsKeptWhole wider fixed blob r
-out_wider handed wider more fixed blob r is = elim is [ inl same ↦ inl same | inr pair ↦ inr (pair_wider handed wider more fixed blob pair) ]
-
-pub found_wider : (handed wider : Piece → Type 0) → ((piece : Piece) → handed piece → wider piece) → (fixed : Fixed) (r : Result (List ℕ) CrewsFault)
-    → IfOk r (λ bytes. AreTheBlob handed fixed bytes) → IfOk r (λ bytes. AreTheBlob wider fixed bytes)
-found_wider handed wider more fixed (Ok bytes) found =
-    λ blob is. elim (found blob is) [ inl same ↦ inl same | inr pair ↦ inr (pair_wider handed wider more fixed blob pair) ]
-found_wider handed wider more fixed (Err fault) found = tt
-
--- a store that had room enough for what was gathered, whatever its capacity
-pub handed_anyway : (handed : Piece → Type 0) (root : Hash) (mode : Mode) (a b : ℕ) (blob : List ℕ) (r : Result (List ℕ) CrewsFault) → IsBlob (fixed_as root mode b) blob
-    → IfOk r (λ bytes. AreTheBlob handed (fixed_as root mode a) bytes) → (IsErrOf r (Gather NotTheRoot) → IsOfNone handed (fixed_as root mode a))
-    → (IsErrOf r (Gather TooLarge) → ⊥) → (IsErrOf r (Gather Unfinished) → ⊥) → IsKeptWhole handed (fixed_as root mode b) blob r
-handed_anyway handed root mode a b blob (Ok bytes) is found none large unfinished = elim (found blob (blob_at root mode b a blob is)) [
-  | inl same ↦ inl same
-  | inr pair ↦ inr (pair_at handed root mode a b blob pair)
-]
-handed_anyway handed root mode a b blob (Err Store) is found none large unfinished = inl tt
-handed_anyway handed root mode a b blob (Err Seat) is found none large unfinished = inl tt
-handed_anyway handed root mode a b blob (Err (Gather Capacity)) is found none large unfinished = inl tt
-handed_anyway handed root mode a b blob (Err (Gather TooLarge)) is found none large unfinished = absurd (large refl)
-handed_anyway handed root mode a b blob (Err (Gather Unfinished)) is found none large unfinished = absurd (unfinished refl)
-handed_anyway handed root mode a b blob (Err (Gather NotTheRoot)) is found none large unfinished =
-    inr (pair_at handed root mode a b blob (none refl blob (blob_at root mode b a blob is)))
-handed_anyway handed root mode a b blob (Err (Gather Memory)) is found none large unfinished = inl tt
-handed_anyway handed root mode a b blob (Err (Gather Starved)) is found none large unfinished = inl tt
-
--- what came out, in memory of its own
-pub in_memory_out : (handed : Piece → Type 0) (fixed : Fixed) (blob : List ℕ) (gathered : Result (List ℕ) CrewsFault) (r : Result (Vec ℕ Global) CrewsFault)
-    → IfOk r (λ (bytes : Vec ℕ Global). gathered ≡ Ok bytes.items) → IfErr r (λ fault. (gathered ≡ Err fault) ⊎ (fault ≡ Gather Memory))
-    → IsKeptWhole handed fixed blob gathered → IsHandedOut handed fixed blob r
-in_memory_out handed fixed blob gathered (Ok bytes) is fault (inl out) =
-    inl (subst (λ (g : Result (List ℕ) CrewsFault). MatchResult g (λ bytes. bytes ≡ blob) IsExcused) is out)
-in_memory_out handed fixed blob gathered (Err other) is (inl same) (inl out) =
-    inl (subst (λ (g : Result (List ℕ) CrewsFault). MatchResult g (λ bytes. bytes ≡ blob) IsExcused) same out)
-in_memory_out handed fixed blob gathered (Err other) is (inr memory) (inl out) = inl (subst IsExcused (sym memory) tt)
-in_memory_out handed fixed blob gathered r is fault (inr pair) = inr pair
-
--- and what did not
-pub in_memory_err : (gathered : Result (List ℕ) CrewsFault) (r : Result (Vec ℕ Global) CrewsFault) (fault : CrewsFault)
-    → IfErr r (λ fault. (gathered ≡ Err fault) ⊎ (fault ≡ Gather Memory)) → (fault ≡ Gather Memory → ⊥) → IsErrOf r fault → IsErrOf gathered fault
-in_memory_err gathered r fault told other e = elim (subst (λ (r : Result (Vec ℕ Global) CrewsFault). IfErr r (λ fault. (gathered ≡ Err fault) ⊎ (fault ≡ Gather Memory))) e told) [
-  | inl same ↦ same
-  | inr memory ↦ absurd (other memory)
-]
-
--- what is so of a blob in its store is so of its bytes in memory
-pub in_memory_ok : (P : List ℕ → Type 0) (gathered : Result (List ℕ) CrewsFault) (r : Result (Vec ℕ Global) CrewsFault)
-    → IfOk r (λ (bytes : Vec ℕ Global). gathered ≡ Ok bytes.items) → IfOk gathered P → IfOk r (λ (bytes : Vec ℕ Global). P bytes.items)
-in_memory_ok P gathered (Ok bytes) is all = subst (λ (g : Result (List ℕ) CrewsFault). IfOk g P) is all
-in_memory_ok P gathered (Err fault) is all = tt

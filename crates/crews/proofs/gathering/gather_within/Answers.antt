@@ -1,0 +1,73 @@
+use Rattle.std.proofs.Common.{◌≡◌, ℕ, ◌≤◌, List, length, sym, ap, arith, subst}
+use Rattle.std.proofs.lemmas.List.{with_items_is}
+use Rattle.std.specs.List.{All}
+use Rattle.bao_text.specs.Choice.{chunk_count}
+use Rattle.crews.specs.declared.crew.Crew.{Crew}
+use Rattle.crews.specs.Crews.{IsHandedTo}
+use Rattle.crews.specs.Joined.{AreCallsOf, AreClaimsOf, HasAllNamesOf, HaveAllNames}
+use Rattle.gather.specs.Lists.{HaveAll, IsLent}
+use Rattle.crews.specs.Seats.{BeginsAfter}
+use Rattle.crews.proofs.OfNone.{handed_wide, lent_all}
+use Rattle.crews.proofs.Summing.{all_each}
+use Rattle.crews.proofs.Whence.{left_to_one, no_faults, opening_all}
+use Rattle.crews.proofs.gathering.gather_within.Goals as goal
+use Rattle.gather.specs.HandedOut.{Gathers, IsHandedOut, own_bytes}
+use Rattle.gather.proofs.Reporting.{large_wider}
+use Rattle.store_core.specs.declared.fixed.Fixed.{Fixed}
+use Rattle.store_core.specs.declared.history.Piece.{Piece}
+use Rattle.store_core.specs.declared.view.SeatView.{SeatView}
+use Rattle.store_core.specs.Laws.{IsBlob}
+use Rattle.store_shared.specs.Seats.{IsSeatOf, fixed_of}
+use Rattle.store_core.specs.Knowledge.{opening_view}
+
+pub all_joined-seat-requires-clause-crews : goal.all_joined-seat-requires-clause-crews
+all_joined-seat-requires-clause-crews g c =
+    let put = with_items_is c.in_ok-crews.crews c.run-report.new.crews (omega (arith, c.run-report.ensures.each.len, c.as_mut_slice.ensures.len)) in
+    subst (λ (crews : List (Crew g.row.H.Denot)). All (λ (crew : Crew g.row.H.Denot). IsSeatOf c.in_ok-assembly.assembly crew.seat) crews) (sym put)
+    (all_each _ c.as_mut_slice.result.now c.run-report.new.crews (λ x y worked. worked.of) c.run-report.ensures.each)
+
+pub hand_out-requires-clause-left : goal.hand_out-requires-clause-left
+hand_out-requires-clause-left g c = λ _ _.
+    let put = with_items_is c.in_ok-crews.crews c.run-report.new.crews (omega (arith, c.run-report.ensures.each.len, c.as_mut_slice.ensures.len)) in
+    let over = g.L.Lists.over c.args.lists.now in
+    let given : SeatView = c.in_ok-assembly.seat.view in
+    let stays : SeatView = c.in_ok-crews.seat.view in
+    let joined : SeatView = c.all_joined-seat.result.view in
+    let opening : given ≡ opening_view (fixed_of c.in_ok-assembly.assembly) = c.in_ok-assembly.ensures.view in
+    let value = sym c.as_mut_slice.ensures.value in
+    let are : All (λ (crew : Crew g.row.H.Denot). over crew.holders.items) c.as_mut_slice.result.now =
+    subst (λ (all : List (Crew g.row.H.Denot)). All (λ (crew : Crew g.row.H.Denot). over crew.holders.items) all) value c.in_ok-crews.ensures.holders in
+    let begins : All (λ (crew : Crew g.row.H.Denot). BeginsAfter given crew.seat.view) c.as_mut_slice.result.now =
+    subst (λ (all : List (Crew g.row.H.Denot)). All (λ (crew : Crew g.row.H.Denot). BeginsAfter given crew.seat.view) all) value c.in_ok-crews.ensures.begin in
+    let all : HaveAllNames stays c.as_mut_slice.result.now =
+    subst (λ (crews : List (Crew g.row.H.Denot)). HaveAllNames stays crews) value (c.in_ok-crews.ensures.names (opening_all (fixed_of c.in_ok-assembly.assembly) given opening)) in
+    left_to_one _ g.H.Holder.gives g.H.Holder.count (IsLent g.H.Holder.gives over) c.in_ok-assembly.assembly given c.as_mut_slice.result.now c.run-report.new.crews
+    (ap (λ (v : SeatView). v.seen) opening) begins (lent_all g.H.Holder.gives over c.as_mut_slice.result.now are)
+    c.run-report.ensures.each stays joined c.in_ok-crews.ensures.keeps all
+    (λ h. c.all_joined-seat.ensures.names (subst (λ (crews : List (Crew g.row.H.Denot)). HaveAllNames stays crews) (sym put) h))
+    (subst (λ (crews : List (Crew g.row.H.Denot)). AreCallsOf stays crews joined) put c.all_joined-seat.ensures.calls)
+    (subst (λ (crews : List (Crew g.row.H.Denot)). HasAllNamesOf stays crews joined) put c.all_joined-seat.ensures.has)
+    (subst (λ (crews : List (Crew g.row.H.Denot)). AreClaimsOf stays crews joined) put c.all_joined-seat.ensures.claims)
+
+pub hand_out-requires-clause-failed : goal.hand_out-requires-clause-failed
+hand_out-requires-clause-failed g c = omega (arith, c.run-report.ensures.failed, no_faults g.H.Holder.count c.requires.quiet c.run-report.new.crews)
+
+pub hand_out-requires-clause-large : goal.hand_out-requires-clause-large
+hand_out-requires-clause-large g c = λ _ _ large.
+    let crews = c.as_mut_slice.result.now in
+    let gives = g.H.Holder.gives in
+    let over = g.L.Lists.over c.args.lists.now in
+    let are : All (λ (crew : Crew g.row.H.Denot). over crew.holders.items) crews =
+    subst (λ (all : List (Crew g.row.H.Denot)). All (λ (crew : Crew g.row.H.Denot). over crew.holders.items) all) (sym c.as_mut_slice.ensures.value) c.in_ok-crews.ensures.holders in
+    large_wider (IsHandedTo gives crews) (IsLent gives over) (handed_wide gives (IsLent gives over) crews (lent_all gives over crews are)) (fixed_of c.in_ok-assembly.assembly)
+    (c.run-report.ensures.too_large large)
+
+pub returns-clause-gathers : goal.returns-clause-gathers
+returns-clause-gathers g c =
+    subst (λ (f : Fixed). Gathers own_bytes (IsLent g.H.Holder.gives (g.L.Lists.over c.args.lists.now)) f c.hand_out.result) c.in_ok-assembly.ensures.fixed c.hand_out.ensures.gathers
+
+pub returns-clause-available : goal.returns-clause-available
+returns-clause-available g c =
+    let handed : Piece → Type 0 = IsLent g.H.Holder.gives (g.L.Lists.over c.args.lists.now) in
+    subst (λ (f : Fixed). (blob : List ℕ) → IsBlob f blob → chunk_count (length blob) ≤ f.capacity → HaveAll c.args.grain g.H.Holder.gives (g.L.Lists.over c.args.lists.now) f.mode blob
+    → IsHandedOut own_bytes handed f blob c.hand_out.result) c.in_ok-assembly.ensures.fixed c.hand_out.ensures.available
