@@ -1,9 +1,9 @@
 -- the numbers of the faults whose text has one
 use Rattle.std.specs.Prelude.{ℕ, Option, None}
-use Rattle.bao_decode.specs.Faults.{number_of as decode_number_of}
 use Rattle.bao_files.specs.Faults.{number_of as file_number_of}
-use Rattle.bao_gathered.specs.Faults.{number_of as gathered_number_of}
-use Rattle.bao_replay.specs.Faults.{number_of as rerun_number_of}
+use Rattle.bao_tasks.specs.DecodeFaults.{decode_number_of}
+use Rattle.bao_tasks.specs.GatheredFaults.{gathered_number_of}
+use Rattle.bao_tasks.specs.RerunFaults.{rerun_number_of}
 use Rattle.bao_command.specs.declared.fault.Fault.{Fault}
 use Rattle.bao_command.specs.declared.fault.Fault.TheVariants.{Word, Root, Key, KeyAndContext, OutputRange, TooManyFiles, OutIsOutput, File, Decode, Gather, Replay}
 

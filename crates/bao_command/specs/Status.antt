@@ -4,17 +4,16 @@ use Rattle.bao_command.specs.declared.fault.Fault.{Fault}
 use Rattle.bao_command.specs.declared.fault.Fault.TheVariants.{Word, Root, Key, KeyAndContext, OutputRange, TooManyFiles, OutIsOutput, File, Decode, Gather, Replay}
 use Rattle.bao_check.specs.declared.fault.CheckFault.{CheckFault}
 use Rattle.bao_check.specs.declared.fault.CheckFault.TheVariants as check
-use Rattle.bao_decode.specs.declared.fault.DecodeFault.{DecodeFault}
-use Rattle.bao_decode.specs.declared.fault.DecodeFault.TheVariants as decode
+use Rattle.bao_tasks.specs.declared.decode_fault.DecodeFault.{DecodeFault}
+use Rattle.bao_tasks.specs.declared.decode_fault.DecodeFault.TheVariants as decode
 use Rattle.bao_files.specs.declared.fault.FileFault.{FileFault}
 use Rattle.bao_files.specs.declared.fault.FileFault.TheVariants as file
-use Rattle.bao_gathered.specs.declared.fault.GatheredFault.{GatheredFault}
-use Rattle.bao_gathered.specs.declared.fault.GatheredFault.TheVariants as gathered
-use Rattle.bao_replay.specs.declared.fault.RerunFault.{RerunFault}
-use Rattle.bao_replay.specs.declared.fault.RerunFault.TheVariants as rerun
-use Rattle.crews.specs.declared.fault.CrewsFault.{CrewsFault}
-use Rattle.crews.specs.declared.fault.CrewsFault.TheVariants as crews
-use Rattle.gather.specs.declared.texts.GatherFault.TheVariants as gather
+use Rattle.bao_tasks.specs.declared.gathered_fault.GatheredFault.{GatheredFault}
+use Rattle.bao_tasks.specs.declared.gathered_fault.GatheredFault.TheVariants as gathered
+use Rattle.bao_tasks.specs.declared.rerun_fault.RerunFault.{RerunFault}
+use Rattle.bao_tasks.specs.declared.rerun_fault.RerunFault.TheVariants as rerun
+use Rattle.gather.specs.declared.fault.GatherFault.{GatherFault}
+use Rattle.gather.specs.declared.fault.GatherFault.TheVariants as gather
 use Rattle.bao_script.specs.declared.fault.ReplayScriptFault.{ReplayScriptFault}
 use Rattle.bao_script.specs.declared.fault.ReplayScriptFault.TheVariants as replay
 
@@ -36,15 +35,15 @@ abbrev pub decode_status_of : DecodeFault → ℕ
 decode_status_of (decode.File fault) = file_status_of fault
 decode_status_of (decode.Check fault) = check_status_of fault
 
-abbrev pub gather_status_of : CrewsFault → ℕ
-gather_status_of crews.Store = 4
-gather_status_of crews.Seat = 4
-gather_status_of (crews.Gather gather.Capacity) = 2
-gather_status_of (crews.Gather gather.TooLarge) = 1
-gather_status_of (crews.Gather gather.Unfinished) = 1
-gather_status_of (crews.Gather gather.NotTheRoot) = 1
-gather_status_of (crews.Gather gather.Memory) = 4
-gather_status_of (crews.Gather gather.Starved) = 4
+abbrev pub gather_status_of : GatherFault → ℕ
+gather_status_of gather.Store = 4
+gather_status_of gather.Seat = 4
+gather_status_of gather.Capacity = 2
+gather_status_of gather.TooLarge = 1
+gather_status_of gather.Unfinished = 1
+gather_status_of gather.NotTheRoot = 1
+gather_status_of gather.Memory = 4
+gather_status_of gather.Starved = 4
 
 abbrev pub gathered_status_of : GatheredFault → ℕ
 gathered_status_of (gathered.File fault) = file_status_of fault

@@ -12,10 +12,10 @@ use Rattle.bao_files.specs.declared.fault.FileFault.{FileFault}
 use Rattle.bao_files.specs.declared.fault.FileFault.TheVariants as file
 use Rattle.bao_files.specs.declared.kinds.Part.{Part}
 use Rattle.bao_files.specs.Printed.{AppendsBeginning, IsDigits, digits_line, ok_line}
-use Rattle.bao_decode.specs.Copies.{IsCopy}
-use Rattle.bao_decode.specs.Ranges.{IsPartText, written_count}
-use Rattle.bao_gathered.specs.Gathered.{HasOutline}
-use Rattle.bao_replay.specs.Replayed.{IsReplayOf}
+use Rattle.bao_tasks.specs.Copies.{IsCopy}
+use Rattle.bao_tasks.specs.Ranges.{IsPartText, written_count}
+use Rattle.bao_tasks.specs.Gathered.{HasOutline}
+use Rattle.bao_tasks.specs.Replayed.{IsReplayOf}
 use Rattle.bao_request.specs.declared.tasks.Request.{Request}
 use Rattle.bao_request.specs.declared.tasks.Task.{Task}
 use Rattle.bao_request.specs.declared.tasks.Task.TheVariants.{Hash, Encode, Decode, DecodeCopy, Gather, Replay}

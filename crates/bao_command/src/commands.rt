@@ -6,7 +6,7 @@ ghost use Rattle.clap.specs.Words.{kind_of};
 ghost use Rattle.hex.specs.Hex.{decode_of};
 ghost use Rattle.bao_request.specs.CommandLine.{IsHelp};
 ghost use Rattle.bao_files.specs.Printed.{IsDigits, digits_line, ok_line};
-ghost use Rattle.bao_gathered.specs.Gathered.{HasOutline, IsGathered};
+ghost use Rattle.bao_tasks.specs.Gathered.{HasOutline, IsGathered};
 ghost use Rattle.bao_command.specs.Outcome.{Begun, Done};
 ghost use Rattle.bao_command.specs.Printed.{Prints, told_of};
 ghost use Rattle.bao_command.specs.Tasks.{Answers, HasHash, HasManyFiles, HasRoot, IsBeside, IsDue, IsPastOutput, IsReplay, IsRight, IsRightCopy, IsRightPart, WritesApart, line_of, part_line};
@@ -16,15 +16,15 @@ use crate::fault::Fault;
 use crate::help::{show, shown_status};
 use crate::mode::mode_of;
 use b3tree::{Hash, Mode, xof_fits};
-use bao_decode::{decode_copy, decode_file};
 use bao_files::{
-    Encoding, FileFault, Once, Part, bytes_of_digits, encode_file, open_file, print_count,
-    print_digits, print_input, print_text, shared_len,
+    Encoding, FileFault, Once, Part, Progress, Shown, bytes_of_digits, encode_file, open_file,
+    print_count, print_digits, print_input, print_text, shared_len,
 };
-use bao_gathered::{Fate, GatheredFault, Gathering, Grain, Worth, gather_beside, gather_files};
-use bao_replay::replay_files;
 use bao_request::{Request, Task, parse};
-use bao_shown::{Progress, Shown};
+use bao_tasks::{
+    Fate, GatheredFault, Gathering, Grain, Worth, decode_copy, decode_file, gather_beside,
+    gather_files, replay_files,
+};
 use clap::error::ErrorKind;
 use std::alloc::Global;
 use std::fs::File;
@@ -230,6 +230,19 @@ fn grain_of(salvage: bool) -> Grain {
     if salvage { Grain::Chunk } else { Grain::Group }
 }
 
+// How a blob is gathered, as the arguments have it.
+fn how_of(workers: u32, capacity: u32, salvage: bool, encode: bool, verbose: bool) -> Gathering
+    ensures { result.capacity ≡ capacity }
+{
+    Gathering {
+        workers,
+        capacity,
+        encode,
+        count: verbose,
+        grain: grain_of(salvage),
+    }
+}
+
 // Gathers the blob out of the files, which are plain copies where an outboard encoding is named.
 fn gather_by<'a, R: Files<File = File> + AllocGlobal + Threads + Sync>(
     rt: &R,
@@ -360,24 +373,9 @@ fn serve_task<
             files,
             out: path,
         } => {
-            let how = Gathering {
-                workers: *workers,
-                capacity: *capacity,
-                encode: *encode,
-                count: *verbose,
-                grain: grain_of(*salvage),
-            };
-            gather(
-                rt,
-                mode,
-                root,
-                how,
-                *outboard,
-                files.as_slice(),
-                path,
-                out,
-                err,
-            )
+            let how = how_of(*workers, *capacity, *salvage, *encode, *verbose);
+            let files = files.as_slice();
+            gather(rt, mode, root, how, *outboard, files, path, out, err)
         }
         Task::Replay {
             root,

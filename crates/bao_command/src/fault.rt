@@ -3,12 +3,9 @@ ghost use Rattle.bao_command.specs.Numbers.{number_of};
 ghost use Rattle.bao_command.specs.Status.{check_status_of, decode_status_of, file_status_of, gather_status_of, gathered_status_of, replay_status_of, rerun_status_of, status_of};
 
 use bao_check::CheckFault;
-use bao_decode::DecodeFault;
 use bao_files::{FileFault, Once};
-use bao_gathered::GatheredFault;
-use bao_replay::RerunFault;
 use bao_script::ReplayScriptFault;
-use crews::CrewsFault;
+use bao_tasks::{DecodeFault, GatheredFault, RerunFault};
 use gather::GatherFault;
 use std::io::Write;
 use thiserror::Error;
@@ -84,16 +81,14 @@ fn decode_status(fault: DecodeFault<'_>) -> u8
 }
 
 // The exit status of a fault of workers.
-fn gather_status(fault: CrewsFault) -> u8
+fn gather_status(fault: GatherFault) -> u8
     ensures { result ≡ gather_status_of fault }
 {
     match fault {
-        CrewsFault::Store | CrewsFault::Seat => 4,
-        CrewsFault::Gather(fault) => match fault {
-            GatherFault::TooLarge | GatherFault::Unfinished | GatherFault::NotTheRoot => 1,
-            GatherFault::Capacity => 2,
-            GatherFault::Memory | GatherFault::Starved => 4,
-        },
+        GatherFault::TooLarge | GatherFault::Unfinished | GatherFault::NotTheRoot => 1,
+        GatherFault::Capacity => 2,
+        GatherFault::Store | GatherFault::Seat => 4,
+        GatherFault::Memory | GatherFault::Starved => 4,
     }
 }
 

@@ -5,7 +5,7 @@ ghost use Rattle.bao_command.specs.Outcome.{Ends};
 use crate::commands::command;
 use crate::fault::Fault;
 use crate::words::own_words;
-use bao_shown::Progress;
+use bao_files::Progress;
 use std::fs::File;
 use std::io::Write;
 use std::process::ExitCode;

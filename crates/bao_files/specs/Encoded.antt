@@ -21,7 +21,7 @@ encoding_text mode Outboard bytes = outboard_text mode bytes
 encoding_text mode (Slice start len) bytes = slice_text mode bytes start len
 
 -- this encoding of so many bytes was made, with their hash
-pub record IsMade (mode : Mode) (kind : Kind) (size : ℕ) (bytes answer text : List ℕ) : Type 0 where
+pub record IsMadeEncoding (mode : Mode) (kind : Kind) (size : ℕ) (bytes answer text : List ℕ) : Type 0 where
   pub hash_is : IsHashOf mode size bytes answer
   pub text_is : text ≡ encoding_text mode kind bytes
 

@@ -1,19 +1,26 @@
 //! Files and standard streams read and written: bytes hashed, encoded, printed as digits, each through a function over any
-//! reader or writer.
+//! reader or writer. How far a long read has come is shown while it goes on.
 #![tactic(auto)]
 
 pub use digits::{bytes_of_digits, print_count, print_digits, print_output, print_text};
 pub use fault::FileFault;
 pub use input::{ReadFault, open_file, read_file, read_input, read_sized, read_whole, shared_len};
 pub use kinds::{Encoding, Part};
+pub use meter::Meter;
 pub use once::Once;
 pub use output::{LateFile, encode_file, encode_input, write_encoding};
+pub use progress::Progress;
 pub use reading::{hash_reader, print_input, print_reader};
+pub use shown::Shown;
 
 mod digits;
 mod fault;
 mod input;
 mod kinds;
+mod meter;
 mod once;
 mod output;
+mod progress;
+mod progress_line;
 mod reading;
+mod shown;

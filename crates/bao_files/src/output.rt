@@ -3,15 +3,16 @@ ghost use Rattle.std.specs.Io.KnownBytes.{Appends};
 ghost use Rattle.b3tree.specs.Hashing.{hash};
 ghost use Rattle.bao_text.specs.Faults.{WroteOnly};
 ghost use Rattle.bao_text.specs.Texts.{joined};
-ghost use Rattle.bao_files.specs.Encoded.{Encodes, IsMade, answer_at_path, encoding_text};
+ghost use Rattle.bao_files.specs.Encoded.{Encodes, IsMadeEncoding, answer_at_path, encoding_text};
 ghost use Rattle.bao_files.specs.Printed.{IsQuiet, NamesPaths};
 
 use crate::fault::FileFault;
 use crate::input::{LEAST_SHARED_LEN, open_file, read_input, size_of};
 use crate::kinds::Encoding;
+use crate::progress::Progress;
+use crate::shown::Shown;
 use b3tree::{Hash, Mode};
 use bao_read::{Source, WORKERS, combined_source, outboard_source};
-use bao_shown::{Progress, Shown};
 use bao_text::{WriteFault, outboard, slice, write_combined, write_text, write_texts};
 use std::alloc::Global;
 use std::fs::File;
@@ -128,8 +129,8 @@ fn encoding_by_position<R: Threads + Sync, I: Source + Sync>(
     input: &I,
     size: u64,
 ) -> Option<(Hash, Vec<Vec<u8>>)>
-    ensures all { IfSome result (λ made. IfSome (I.contents input.now) (λ s. IsMade mode.now encoding size s made.0.0 (joined made.1.items))) }
-    ensures some { IfSome result (λ made. (bytes : List ℕ) × IsMade mode.now encoding size bytes made.0.0 (joined made.1.items)) }
+    ensures all { IfSome result (λ made. IfSome (I.contents input.now) (λ s. IsMadeEncoding mode.now encoding size s made.0.0 (joined made.1.items))) }
+    ensures some { IfSome result (λ made. (bytes : List ℕ) × IsMadeEncoding mode.now encoding size bytes made.0.0 (joined made.1.items)) }
 {
     if size < LEAST_SHARED_LEN {
         return None;

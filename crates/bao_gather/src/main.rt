@@ -1,7 +1,7 @@
 //! The program `bao_gather`: BLAKE3 hashes of files and their Bao encodings, written and checked.
 #![tactic(auto)]
 
-use bao_shown::Meter;
+use bao_files::Meter;
 use std::io::IsTerminal;
 use std::process::ExitCode;
 

@@ -1,7 +1,7 @@
 //! The program `bao_gather` again, for a stored run that ends with a status above 0: a text that is refused.
 #![tactic(auto)]
 
-use bao_shown::Meter;
+use bao_files::Meter;
 use std::io::IsTerminal;
 use std::process::ExitCode;
 

@@ -56,8 +56,8 @@ pub record Serves (start len : ℕ) (text : List ℕ) (old new : Gripped) : Type
   pub binds : SeatSliceBinds new.view start len text
 
 -- the bytes have the root of the store
-abbrev pub HasRoot : Fixed → List ℕ → Type 0
-HasRoot fixed bytes = hash fixed.mode bytes ≡ fixed.root.0
+abbrev pub HasStoresRoot : Fixed → List ℕ → Type 0
+HasStoresRoot fixed bytes = hash fixed.mode bytes ≡ fixed.root.0
 
 -- Two seats have met: both have seen one history, and claim what they claimed, of which no chunk is claimed by both.
 pub record HaveMet (first second first' second' : Gripped) : Type 0 where

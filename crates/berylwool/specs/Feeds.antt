@@ -4,18 +4,18 @@ use Rattle.bao_check.specs.declared.checking.Checking.{Checking}
 use Rattle.bao_check.specs.declared.fault.CheckFault.{CheckFault}
 use Rattle.bao_check.specs.Accepted.{slice_nodes}
 use Rattle.bao_check.specs.Checking.{HasTakenAs, IsNodeFault, wanted}
-use Rattle.bao_check.specs.Waiting.{Task}
+use Rattle.bao_check.specs.Waiting.{CheckTask}
 use Rattle.berylwool.specs.declared.held.Held.{Held}
 use Rattle.berylwool.specs.Handles.{HasFeed}
 use Rattle.berylwool.specs.Status.{IsRefused, IsStatusOf}
 
 -- the handle checks an encoding as that, and has taken these bytes of it, all of them good
-abbrev pub HasFed : Option Held → Task → List ℕ → Type 0
+abbrev pub HasFed : Option Held → CheckTask → List ℕ → Type 0
 HasFed held task taken = HasFeed (λ check. HasTakenAs check task taken) held
 
 -- this is so of whatever it checks an encoding as, and has taken of it
-abbrev pub OfTaken : (Task → List ℕ → Type 0) → Checking → Type 0
-OfTaken so check = (task : Task) (taken : List ℕ) → HasTakenAs check task taken → so task taken
+abbrev pub OfTaken : (CheckTask → List ℕ → Type 0) → Checking → Type 0
+OfTaken so check = (task : CheckTask) (taken : List ℕ) → HasTakenAs check task taken → so task taken
 
 -- how many bytes it wants next, as C is told: 0 where it wants none
 abbrev pub size_told : Option ℕ → ℕ
@@ -31,9 +31,9 @@ abbrev pub IsBelowNode : List ℕ → Checking → Type 0
 IsBelowNode rest check = IfSome (wanted check) (λ size. length rest < size)
 
 -- the status and the place are those of why the encoding's last node isn't taken
-abbrev pub IsNodeRefused : Task → List ℕ → ℕ → ℕ → Type 0
+abbrev pub IsNodeRefused : CheckTask → List ℕ → ℕ → ℕ → Type 0
 IsNodeRefused task text status at = (fault : CheckFault) × IsStatusOf fault status at × IsNodeFault task text fault
 
 -- the status and the place are those of the encoding's first fault
-abbrev pub IsTextRefused : Task → List ℕ → ℕ → ℕ → Type 0
+abbrev pub IsTextRefused : CheckTask → List ℕ → ℕ → ℕ → Type 0
 IsTextRefused task text status at = IsRefused task.mode task.root text (slice_nodes text task.start task.len) status at

@@ -37,7 +37,7 @@ HasSlices text seat blob = (start len : ℕ) → cut_text text start len ≡ sli
 -- A worker's round over one encoding: what the report gained is that of the seat's own calls, of slices that are cut out of the encoding; it claims
 -- nothing more; what it has seen held binds to each blob with the root; the blob is called too large only where such a slice certifies that
 -- it is; and where all slices of such a blob are in the encoding, a length is recorded, or memory was refused, or it is too large.
-pub record Gathers (text : List ℕ) (report report' : Report) (old new : Gripped) : Type 0 where
+pub record GathersOn (text : List ℕ) (report report' : Report) (old new : Gripped) : Type 0 where
   pub reports : Reports fixed_of GoneOn old new (IsOutOf text) (IsOutOf text) 0 0 report report'
   pub claimed : Among (claims_of old) (claims_of new)
   pub binds : SeenBinds new.view

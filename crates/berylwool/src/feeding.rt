@@ -1,7 +1,7 @@
 ghost use Rattle.std.specs.Prelude.{◌≡◌, ◌≢◌, ◌↔◌, ℕ, ◌-◌, ◌^◌, ◌<◌, ◌≤◌, List, [], ◌++◌, length, None};
 ghost use Rattle.bao_check.specs.declared.fault.CheckFault.TheVariants.{Short};
 ghost use Rattle.bao_check.specs.Checking.{HasTakenAs, wanted};
-ghost use Rattle.bao_check.specs.Waiting.{IsAcceptedAs, IsFaultAs, Task};
+ghost use Rattle.bao_check.specs.Waiting.{CheckTask, IsAcceptedAs, IsFaultAs};
 ghost use Rattle.berylwool.specs.Feeds.{HasFed, IsBelowNode, IsNextNode, IsNodeRefused, IsTextRefused, OfTaken, size_told};
 ghost use Rattle.berylwool.specs.Handles.{HasFeed};
 ghost use Rattle.berylwool.specs.Modes.{mode_of};
@@ -97,7 +97,7 @@ pub extern "C" fn bw_feed_wants(alloc: Global, feed: &mut BwHandle, size: &mut u
 
 // Takes a node, as `bw_feed_take` does.
 fn taken(check: &mut Checking, node: &[u8], at: &mut u64) -> u32
-    ensures taken { result ≡ 0 → (task : Task) (taken : List ℕ) → HasTakenAs check.old task taken → HasTakenAs check.new task (taken ++ node.now) }
+    ensures taken { result ≡ 0 → (task : CheckTask) (taken : List ℕ) → HasTakenAs check.old task taken → HasTakenAs check.new task (taken ++ node.now) }
     ensures fault { result ≢ 0 → result < 506 → OfTaken (λ task taken. IsNodeRefused task (taken ++ node.now) result at.new) check.old }
     ensures refused { result ≡ 502 → OfTaken (λ task taken. (more : List ℕ) → ¬ IsAcceptedAs task ((taken ++ node.now) ++ more)) check.old }
     ensures size { result ≡ 1212 ↔ (¬ IsNextNode node.now check.old) }
@@ -120,7 +120,7 @@ fn taken(check: &mut Checking, node: &[u8], at: &mut u64) -> u32
 /// wanted, and 1202 exactly where the handle has no check in pieces. The check is as it was then, and can take other bytes in their place.
 #[unsafe(no_mangle)]
 pub extern "C" fn bw_feed_take(alloc: Global, feed: &mut BwHandle, node: &[u8], at: &mut u64) -> u32
-    ensures taken { result ≡ 0 → (task : Task) (taken : List ℕ) → HasFed feed.old.held task taken → HasFed feed.new.held task (taken ++ node.now) }
+    ensures taken { result ≡ 0 → (task : CheckTask) (taken : List ℕ) → HasFed feed.old.held task taken → HasFed feed.new.held task (taken ++ node.now) }
     ensures fault { result ≢ 0 → result < 506 → HasFeed (OfTaken (λ task taken. IsNodeRefused task (taken ++ node.now) result at.new)) feed.old.held }
     ensures refused { result ≡ 502 → HasFeed (OfTaken (λ task taken. (more : List ℕ) → ¬ IsAcceptedAs task ((taken ++ node.now) ++ more))) feed.old.held }
     ensures size { result ≡ 1212 ↔ HasFeed (λ check. ¬ IsNextNode node.now check) feed.old.held }

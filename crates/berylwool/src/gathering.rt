@@ -1,6 +1,6 @@
 ghost use Rattle.std.specs.Prelude.{◌≡◌, ◌≢◌, ◌↔◌};
 ghost use Rattle.store_shared.specs.Seats.{IsSeatOf};
-ghost use Rattle.berylwool.specs.Gathering.{Gathers, report_of};
+ghost use Rattle.berylwool.specs.Gathering.{GathersOn, report_of};
 ghost use Rattle.berylwool.specs.Handles.{HasSeat, SeatDid};
 
 use crate::handle::{BwHandle, put, take};
@@ -66,7 +66,7 @@ fn gathered(
 ) -> BwReport
     requires { IsSeatOf store.now seat.old }
     ensures of { IsSeatOf store.now seat.new }
-    ensures gathers { Gathers text.now (report_of report.now) (report_of result) seat.old seat.new }
+    ensures gathers { GathersOn text.now (report_of report.now) (report_of result) seat.old seat.new }
 {
     let workers = workers.max(1);
     let place = Place {
@@ -101,7 +101,7 @@ pub extern "C" fn bw_gather(
     text: &[u8],
     report: &mut BwReport,
 ) -> u32
-    ensures gathers { result ≡ 0 → SeatDid (λ _ old new. Gathers text.now (report_of report.old) (report_of report.new) old new) seat.old.held seat.new.held }
+    ensures gathers { result ≡ 0 → SeatDid (λ _ old new. GathersOn text.now (report_of report.old) (report_of report.new) old new) seat.old.held seat.new.held }
     ensures has { result ≡ 0 ↔ HasSeat (λ _ _. Unit) seat.old.held }
     ensures status { result ≢ 0 → result ≡ 1202 }
     ensures same { result ≢ 0 → seat.new.held ≡ seat.old.held }

@@ -6,7 +6,7 @@ ghost use Rattle.store_shared.specs.Seats.{IsGroupOf, IsSeatOf, fixed_of};
 ghost use Rattle.store_core.specs.Knowledge.{ArePartsOf, Called, opening_view};
 ghost use Rattle.berylwool.specs.Handles.{HasSeat, SeatDid, SeatParts};
 ghost use Rattle.berylwool.specs.Modes.{mode_of};
-ghost use Rattle.berylwool.specs.Calls.{Commits, HasRoot, HasSettled, IsNoSliceOf, IsSliceOf, Reads, slice_piece};
+ghost use Rattle.berylwool.specs.Calls.{Commits, HasStoresRoot, HasSettled, IsNoSliceOf, IsSliceOf, Reads, slice_piece};
 
 use crate::checking::told;
 use crate::handle::{BwHandle, put, take};
@@ -397,7 +397,7 @@ pub extern "C" fn bw_seat_read(
 fn finished(store: &Assembly, seat: &mut Seat, out: &mut [u8], used: &mut usize) -> u32
     requires { IsSeatOf store.now seat.old }
     ensures of { IsSeatOf store.now seat.new }
-    ensures root { result ≡ 0 → HasRoot (fixed_of store.now) (take used.new out.new) }
+    ensures root { result ≡ 0 → HasStoresRoot (fixed_of store.now) (take used.new out.new) }
     ensures within { result ≡ 0 → used.new ≤ length out.new }
     ensures status { result ≢ 0 → result ≢ 901 → result ≢ 902 → result ≡ 1201 }
 {
@@ -429,7 +429,7 @@ pub extern "C" fn bw_seat_finish(
     out: &mut [u8],
     used: &mut usize,
 ) -> u32
-    ensures root { result ≡ 0 → SeatDid (λ store _ _. HasRoot (fixed_of store) (take used.new out.new)) seat.old.held seat.new.held }
+    ensures root { result ≡ 0 → SeatDid (λ store _ _. HasStoresRoot (fixed_of store) (take used.new out.new)) seat.old.held seat.new.held }
     ensures within { result ≡ 0 → used.new ≤ length out.new }
     ensures no_seat { result ≡ 1202 ↔ (¬ HasSeat (λ _ _. Unit) seat.old.held) }
     ensures status { result ≢ 0 → result ≢ 901 → result ≢ 902 → result ≢ 1202 → result ≡ 1201 }

@@ -8,6 +8,7 @@ ghost use Rattle.berylwool.specs.Modes.{mode_of};
 use crate::mode::BwMode;
 use crate::room::put;
 use crate::status::ROOM;
+use b3tree::Hash;
 use bao_text::{combined, cut_slice, encoded_len, outboard, outboard_len, slice};
 use std::alloc::Global;
 
@@ -31,6 +32,23 @@ pub extern "C" fn bw_outboard_len(len: u64) -> u64
     outboard_len(len) as u64
 }
 
+// Hands out an encoding, how long it is, and the hash of the bytes that it is of.
+fn handed(hash: &Hash, text: &[u8], out: &mut [u8], used: &mut usize, root: &mut [u8; 32]) -> u32
+    ensures text { result ≡ 0 → out.new ≡ text.now ++ drop used.new out.old }
+    ensures used { result ≡ 0 → used.new ≡ length text.now }
+    ensures root { result ≡ 0 → root.new ≡ hash.now.0 }
+    ensures room { result ≡ 1201 → length out.old < length text.now }
+    ensures status { result ≢ 0 → result ≡ 1201 }
+    ensures same { result ≢ 0 → out.new ≡ out.old }
+{
+    if !put(text, out) {
+        return ROOM;
+    }
+    *used = text.len();
+    *root = hash.0;
+    0
+}
+
 /// Writes the combined encoding of `bytes` to the start of `out`, how long it is to `used`, and the hash of `bytes` to `root`.
 ///
 /// 401 when out of memory, and 1201 where `out` has no room: then `out` is unchanged.
@@ -51,15 +69,7 @@ pub extern "C" fn bw_encode(
     ensures same { result ≢ 0 → out.new ≡ out.old }
 {
     match combined(alloc, &mode.get(), bytes) {
-        Ok((hash, text)) => {
-            if !put(text.as_slice(), out) {
-                return ROOM;
-            }
-            *used = text.len();
-            let digest = hash.0;
-            *root = digest;
-            0
-        }
+        Ok((hash, text)) => handed(&hash, text.as_slice(), out, used, root),
         Err(fault) => u32::from(fault.code()),
     }
 }
@@ -84,15 +94,7 @@ pub extern "C" fn bw_outboard(
     ensures same { result ≢ 0 → out.new ≡ out.old }
 {
     match outboard(alloc, &mode.get(), bytes) {
-        Ok((hash, text)) => {
-            if !put(text.as_slice(), out) {
-                return ROOM;
-            }
-            *used = text.len();
-            let digest = hash.0;
-            *root = digest;
-            0
-        }
+        Ok((hash, text)) => handed(&hash, text.as_slice(), out, used, root),
         Err(fault) => u32::from(fault.code()),
     }
 }
@@ -119,15 +121,7 @@ pub extern "C" fn bw_slice(
     ensures same { result ≢ 0 → out.new ≡ out.old }
 {
     match slice(alloc, &mode.get(), bytes, start, len) {
-        Ok((hash, text)) => {
-            if !put(text.as_slice(), out) {
-                return ROOM;
-            }
-            *used = text.len();
-            let digest = hash.0;
-            *root = digest;
-            0
-        }
+        Ok((hash, text)) => handed(&hash, text.as_slice(), out, used, root),
         Err(fault) => u32::from(fault.code()),
     }
 }

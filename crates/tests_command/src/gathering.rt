@@ -1,6 +1,6 @@
 use crate::streams::{Broken, blob, expect, failing, path};
 use b3tree::{Cv, Hash, Mode, cv, parent_input, root_hash, rooted, subtree_cv};
-use bao_gathered::{Gathering, Grain, write_gathered};
+use bao_tasks::{Gathering, Grain, write_gathered};
 use bao_text::combined;
 use std::alloc::Global;
 use std::io::ErrorKind;

@@ -1,8 +1,8 @@
 use crate::streams::{Broken, blob, failing};
 use b3tree::Mode;
 use bao_check::check_slice;
-use bao_decode::write_part;
 use bao_files::{Encoding, FileFault, Part, encode_input};
+use bao_tasks::write_part;
 use bao_text::{combined, outboard, slice};
 use std::io::ErrorKind;
 use std::test::Fail;

@@ -1,7 +1,7 @@
-use Rattle.std.proofs.Common.{◌≤◌, ℕ, List, length, OnOk, Result, Ok, Err, Bor, subst, sym}
+use Rattle.std.proofs.Common.{◌≤◌, ◌*◌, ℕ, List, length, OnOk, Result, Ok, Err, Bor, subst, sym}
 use Rattle.bao_command.specs.declared.fault.Fault.{Fault}
 use Rattle.bao_command.specs.Printed.{Prints}
-use Rattle.bao_command.specs.Tasks.{IsReplay, IsRight, line_of}
+use Rattle.bao_command.specs.Tasks.{HasHash, IsReplay, IsRight, line_of}
 use Rattle.bao_request.specs.declared.tasks.Task.{Task}
 use Rattle.bao_command.proofs.commands.serve_task.Goals as goal
 
@@ -16,11 +16,13 @@ returns-in-Gather-clause-prints g c =
     let old = g.O.Write.contents c.args.out.now in
     let new = g.O.Write.contents c.gather.new.out in
     let few : OnOk result (length c.in-Gather.files.items ≤ 64) =
-    subst (λ (files : List (Bor (List ℕ))). OnOk result (length files ≤ 64)) c.as_slice.ensures.value c.gather.ensures.few in
+    subst (λ (files : List (Bor (List ℕ))). OnOk result (length files ≤ 64)) c.as_slice-files.ensures.value c.gather.ensures.few in
     let answer = c.gather.ensures.answer in
+    let fits : OnOk result (HasHash mode c.in-Gather.root.now answer.0 × (length answer.0 ≤ 1024 * c.in-Gather.capacity)) =
+    subst (λ (n : ℕ). OnOk result (HasHash mode c.in-Gather.root.now answer.0 × (length answer.0 ≤ 1024 * n))) c.how_of-how.ensures answer.1 in
     let prints =
     subst (λ (task : Task). (bytes : List ℕ) × OnOk result (IsRight mode task bytes) × Prints (line_of mode task bytes) old new result) (sym c.in-Gather.is)
-    (answer.0, both _ _ result few (both _ _ result answer.1 c.gather.ensures.beside), answer.2) in
+    (answer.0, both _ _ result few (both _ _ result fits c.gather.ensures.beside), answer.2) in
     prints
 
 pub returns-in-Replay-clause-prints : goal.returns-in-Replay-clause-prints
@@ -33,7 +35,7 @@ returns-in-Replay-clause-prints g c =
     let right : OnOk result ((length c.in-Replay.files.items ≤ 64) × IsReplay mode c.in-Replay.root.now c.in-Replay.capacity (length c.in-Replay.files.items) answer.0) =
     subst
     (λ (files : List (Bor (List ℕ))). OnOk result ((length files ≤ 64) × IsReplay mode c.in-Replay.root.now c.in-Replay.capacity (length files) answer.0))
-    c.as_slice-in-Replay.ensures.value
+    c.as_slice.ensures.value
     (both _ _ result c.replay.ensures.few answer.1) in
     let prints =
     subst (λ (task : Task). (bytes : List ℕ) × OnOk result (IsRight mode task bytes) × Prints (line_of mode task bytes) old new result) (sym c.in-Replay.is)

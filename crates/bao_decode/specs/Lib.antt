@@ -1,3 +1,0 @@
-pub mod Ranges
-pub mod Faults
-pub mod Copies

@@ -1,6 +1,0 @@
-use Rattle.std.proofs.Common.{◌≤◌}
-use Rattle.bao_gathered.specs.Worth.{IsGoodPart, Refuses}
-use Rattle.bao_gathered.proofs.worth.worth_of_copy.Given as goal
-
-abbrev pub invariant-loop-group : goal.invariant-loop-group
-invariant-loop-group l = Refuses (IsGoodPart l.outline l.copy) l.group l.refused × (l.refused ≤ l.group)

@@ -1,6 +1,0 @@
-use Rattle.std.proofs.Common.{◌≤◌}
-use Rattle.bao_gathered.specs.Worth.{IsGoodCut, Refuses}
-use Rattle.bao_gathered.proofs.worth.worth_of_encoding.Given as goal
-
-abbrev pub invariant-loop-group : goal.invariant-loop-group
-invariant-loop-group l = Refuses (IsGoodCut l.mode l.root.0 l.text) l.group l.refused × (l.refused ≤ l.group)

@@ -1,4 +1,0 @@
-pub mod Gathered
-pub mod Faults
-pub mod Fates
-pub mod Worth

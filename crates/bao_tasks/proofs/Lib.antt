@@ -1,0 +1,3 @@
+pub mod Counting
+pub mod Parts
+pub mod Ranges

@@ -1,0 +1,78 @@
+-- what is written of a gathered blob
+use Rattle.std.specs.Borrow.{Bor}
+use Rattle.std.specs.Prelude.{◌≡◌, ◌⊎◌, ℕ, ◌*◌, ◌≤◌, Bool, if◌then◌else◌, List, MatchResult, Option, Result, length}
+use Rattle.std.specs.Io.KnownBytes.{Appends, Keeps}
+use Rattle.b3tree.specs.declared.mode.Mode.{Mode}
+use Rattle.b3tree.specs.Hashing.{hash}
+use Rattle.bao_text.specs.Texts.{combined_text}
+use Rattle.bao_check.specs.Accepted.{IsAccepted, outboard_nodes}
+use Rattle.bao_check.specs.declared.outline.Outline.{Outline}
+use Rattle.bao_check.specs.Outline.{outline_mode, outline_root}
+use Rattle.gather.specs.declared.fault.GatherFault.{GatherFault}
+use Rattle.gather.specs.declared.fault.GatherFault.TheVariants.{Memory}
+use Rattle.gather.specs.HandedOut.{IsExcused}
+use Rattle.gather.specs.Large.{HasCollision}
+use Rattle.store_core.specs.declared.fixed.Fixed.{Fixed}
+use Rattle.store_core.specs.declared.history.Piece.{Piece}
+use Rattle.bao_files.specs.declared.fault.FileFault.{FileFault}
+use Rattle.bao_files.specs.declared.fault.FileFault.TheVariants.{Encoding, Write}
+use Rattle.bao_tasks.specs.declared.gathered_fault.GatheredFault.{GatheredFault}
+use Rattle.bao_tasks.specs.declared.gathered_fault.GatheredFault.TheVariants.{File, Gather, Outboard}
+use Rattle.bao_tasks.specs.declared.gathering.Gathering.{Gathering}
+use Rattle.bao_files.specs.Printed.{AppendsBeginning}
+
+-- what is written of a gathered blob: its combined encoding, or its bytes
+abbrev pub gathered_text : Bool → Mode → List ℕ → List ℕ
+gathered_text encode mode blob = if encode then combined_text mode blob else blob
+
+-- the blob has this root, and no more bytes than as many chunks as the capacity
+abbrev pub IsGathered : Gathering → Mode → List ℕ → List ℕ → Type 0
+IsGathered how mode root blob = (hash mode blob ≡ root) × (length blob ≤ 1024 * how.capacity)
+
+-- there was no memory for the encoding, and nothing was written, or writing to this path failed, and a beginning of it was
+abbrev pub IsUnwritten : Bor (List ℕ) → List ℕ → Option (List ℕ) → Option (List ℕ) → FileFault → Type 0
+IsUnwritten path text old new fault = ((fault ≡ Encoding) × Keeps old new) ⊎ ((fault ≡ Write path) × AppendsBeginning old new text)
+
+-- there was no memory to read the blob from its store, or for its encoding, and nothing was written; or writing to this path failed, and
+-- a beginning of it was
+abbrev pub IsUnwrittenWhole : Bor (List ℕ) → List ℕ → Option (List ℕ) → Option (List ℕ) → GatheredFault → Type 0
+IsUnwrittenWhole path text old new fault =
+    ((fault ≡ Gather Memory) × Keeps old new) ⊎ ((fault ≡ File Encoding) × Keeps old new) ⊎ ((fault ≡ File (Write path)) × AppendsBeginning old new text)
+
+-- the text of such a blob of `count` bytes was written
+abbrev pub WritesBlob : Gathering → Mode → List ℕ → Option (List ℕ) → Option (List ℕ) → ℕ → Type 0
+WritesBlob how mode root old new count =
+    (blob : List ℕ) × IsGathered how mode root blob × (count ≡ length blob) × Appends old new (gathered_text how.encode mode blob)
+
+-- a beginning of that of such a blob was written
+abbrev pub BeginsBlob : Gathering → Mode → List ℕ → Option (List ℕ) → Option (List ℕ) → Type 0
+BeginsBlob how mode root old new = (blob : List ℕ) × IsGathered how mode root blob × AppendsBeginning old new (gathered_text how.encode mode blob)
+
+-- no blob was gathered, or there was no memory to read it from its store or to encode it, and nothing was written; or writing to this
+-- path failed
+abbrev pub LeavesBlob : Gathering → Mode → List ℕ → Bor (List ℕ) → Option (List ℕ) → Option (List ℕ) → GatheredFault → Type 0
+LeavesBlob how mode root path old new fault =
+    (((cause : GatherFault) × (fault ≡ Gather cause)) × Keeps old new)
+    ⊎ ((fault ≡ File Encoding) × Keeps old new)
+    ⊎ ((fault ≡ File (Write path)) × BeginsBlob how mode root old new)
+
+-- the fault isn't one of what was gathered from
+abbrev pub IsExcusedWrite : GatheredFault → Type 0
+IsExcusedWrite (File fault) = Unit {0}
+IsExcusedWrite (Outboard fault) = ⊥
+IsExcusedWrite (Gather fault) = IsExcused fault
+
+-- this blob's text was written, or the fault isn't one of what was gathered from, or a collision is exhibited from the blob and a piece
+-- that was handed over
+abbrev pub IsWrittenOut : (Piece → Type 0) → Fixed → Gathering → List ℕ → Option (List ℕ) → Option (List ℕ) → Result ℕ GatheredFault → Type 0
+IsWrittenOut handed fixed how blob old new result =
+    MatchResult result (λ count. (count ≡ length blob) × Appends old new (gathered_text how.encode fixed.mode blob)) IsExcusedWrite ⊎ HasCollision handed fixed blob
+
+-- an encoding was accepted as the outboard encoding of a blob with this root
+abbrev pub HasOutline : Mode → List ℕ → Type 0
+HasOutline mode root = (text : List ℕ) × IsAccepted mode root text (outboard_nodes text)
+
+-- the outline is of this root, in this mode
+pub record IsUnder (outline : Outline) (mode : Mode) (root : List ℕ) : Type 0 where
+  pub mode_is : outline_mode outline ≡ mode
+  pub root_is : outline_root outline ≡ root

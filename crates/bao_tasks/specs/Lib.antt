@@ -1,0 +1,9 @@
+pub mod Ranges
+pub mod Copies
+pub mod DecodeFaults
+pub mod Replayed
+pub mod RerunFaults
+pub mod Gathered
+pub mod Fates
+pub mod Worth
+pub mod GatheredFaults

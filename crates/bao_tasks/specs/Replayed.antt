@@ -1,0 +1,24 @@
+-- what is printed of a schedule
+use Rattle.std.specs.Prelude.{◌≡◌, ℕ, List, length}
+use Rattle.b3tree.specs.declared.mode.Mode.{Mode}
+use Rattle.b3tree.specs.declared.values.Hash.{Hash}
+use Rattle.bao_script.specs.declared.numbered.NumberedLine.{NumberedLine}
+use Rattle.bao_script.specs.Printouts.{IsPrinted, IsStopped}
+use Rattle.bao_script.specs.Scripts.{IsScript}
+
+-- the text is that of a run of the script over pieces of the files
+abbrev pub IsRun : Mode → Hash → ℕ → List ℕ → List (List ℕ) → List ℕ → Type 0
+IsRun mode root capacity script files text =
+    (lines : List NumberedLine) × IsScript (length files) script lines
+    × IsPrinted (record { root = root; mode = mode; capacity = capacity }) files lines text
+
+-- the run of the script stops at the line with this number
+abbrev pub IsStoppedRun : Mode → Hash → ℕ → List ℕ → List (List ℕ) → ℕ → Type 0
+IsStoppedRun mode root capacity script files number =
+    (lines : List NumberedLine) × IsScript (length files) script lines
+    × IsStopped (record { root = root; mode = mode; capacity = capacity }) files lines number
+
+-- it is that of some script and of so many files
+abbrev pub IsReplayOf : Mode → Hash → ℕ → ℕ → List ℕ → Type 0
+IsReplayOf mode root capacity count text =
+    (script : List ℕ) × ((files : List (List ℕ)) × (length files ≡ count) × IsRun mode root capacity script files text)

@@ -1,0 +1,83 @@
+ghost use Rattle.std.specs.Prelude.{◌≡◌, ◌<◌, IfErr, IfOk, OnErr, OnOk, length};
+ghost use Rattle.std.specs.Io.KnownBytes.{Appends};
+ghost use Rattle.bao_files.specs.Printed.{AppendsBeginning};
+ghost use Rattle.bao_tasks.specs.Gathered.{IsUnwrittenWhole, gathered_text};
+
+use crate::gathered_fault::GatheredFault;
+use crate::gathering::write_whole;
+use b3tree::Mode;
+use bao_files::FileFault;
+use bao_read::PIECE_LEN;
+use bao_text::{WriteFault, write_text};
+use crews::Whole;
+use gather::GatherFault;
+use std::alloc::Global;
+use std::io::Write;
+
+// Writes the bytes of a blob from its store, as many at a time as the part has room for.
+fn write_parts<W: Write>(blob: &mut Whole, part: &mut [u8], out: &mut W) -> Result<(), WriteFault>
+    requires room { 0 < length part.old }
+    ensures same { blob.new ≡ blob.old }
+    ensures text { OnOk result (Appends (W.contents out.old) (W.contents out.new) blob.old) }
+    ensures err { OnErr result (AppendsBeginning (W.contents out.old) (W.contents out.new) blob.old) }
+{
+    let mut at: u64 = 0;
+    'parts: while at < blob.len() {
+        let count = blob.read(at, part);
+        match write_text(&part[..count], out) {
+            Ok(()) => at += count as u64,
+            Err(fault) => return Err(fault),
+        }
+    }
+    Ok(())
+}
+
+// Writes a blob from its store to `out`, which is flushed, and answers how many bytes it has.
+fn write_in_parts<'a, W: Write>(
+    alloc: Global,
+    blob: &mut Whole,
+    path: &'a str,
+    out: &mut W,
+) -> Result<u64, GatheredFault<'a>>
+    ensures count { IfOk result (λ count. count ≡ length blob.old) }
+    ensures text { OnOk result (Appends (W.contents out.old) (W.contents out.new) blob.old) }
+    ensures fault { IfErr result (IsUnwrittenWhole path.entry blob.old (W.contents out.old) (W.contents out.new)) }
+{
+    let Ok(mut part) = vec![in alloc; 0u8; PIECE_LEN] else {
+        return Err(GatheredFault::Gather(GatherFault::Memory));
+    };
+    let unwritten = GatheredFault::File(FileFault::Write(path));
+    match write_parts(blob, part.as_mut_slice(), out) {
+        Ok(()) => {}
+        Err(_) => return Err(unwritten),
+    }
+    match out.flush() {
+        Ok(()) => Ok(blob.len()),
+        Err(_) => Err(unwritten),
+    }
+}
+
+// Writes a blob from its store, or its combined encoding, for which it is taken out of there, to `out`, which is flushed, and
+// answers how many bytes the blob has.
+pub(crate) fn write_found<'a, W: Write>(
+    alloc: Global,
+    mode: &Mode,
+    encode: bool,
+    blob: Whole,
+    path: &'a str,
+    out: &mut W,
+) -> Result<u64, GatheredFault<'a>>
+    ensures count { IfOk result (λ count. count ≡ length blob) }
+    ensures text { OnOk result (Appends (W.contents out.old) (W.contents out.new) (gathered_text encode mode.now blob)) }
+    ensures fault { IfErr result (IsUnwrittenWhole path.entry (gathered_text encode mode.now blob) (W.contents out.old) (W.contents out.new)) }
+{
+    let mut blob = blob;
+    if !encode {
+        return write_in_parts(alloc, &mut blob, path, out);
+    }
+    let Ok(bytes) = blob.to_vec(alloc) else {
+        return Err(GatheredFault::Gather(GatherFault::Memory));
+    };
+    drop(blob);
+    Ok(write_whole(alloc, mode, encode, bytes.as_slice(), path, out)?)
+}

@@ -1,0 +1,86 @@
+ghost use Rattle.std.specs.Borrow.{Bor};
+ghost use Rattle.std.specs.Prelude.{◌≡◌, ◌⊎◌, ℕ, List, IfErr, IfOk, IsErrOf, Some, length, map, slice_get};
+ghost use Rattle.bao_script.specs.Scripts.{IsFirstRefused};
+ghost use Rattle.bao_script.specs.declared.fault.ReplayScriptFault.TheVariants as replay;
+ghost use Rattle.bao_files.specs.declared.fault.FileFault.TheVariants as FileFault;
+ghost use Rattle.bao_tasks.specs.declared.rerun_fault.RerunFault.TheVariants as RerunFault;
+ghost use Rattle.bao_tasks.specs.Replayed.{IsStoppedRun, IsReplayOf, IsRun};
+
+use crate::rerun_fault::RerunFault;
+use b3tree::{Hash, Mode};
+use bao_files::{FileFault, read_file};
+use bao_script::{ScriptFault, parse, replay_script};
+use std::alloc::Global;
+use std::rt::Files;
+
+// The bytes of all files, in the order of the paths. The fault names the first that can't be read.
+fn read_all<'a, R: Files + AllocGlobal>(
+    rt: &R,
+    paths: &[&'a str],
+) -> Result<Vec<Vec<u8>>, FileFault<'a>>
+    ensures count { IfOk result (λ files. length files.items ≡ length paths.now) }
+    ensures paths { IfErr result (λ fault. (fault ≡ FileFault.Memory)
+        ⊎ ((i : ℕ) × (path : Bor (List ℕ)) × (slice_get paths.now i ≡ Some path) × (fault ≡ FileFault.Read path))) }
+{
+    let mut files = Vec::with_capacity(rt.alloc(), paths.len())?;
+    for path in paths {
+        files
+            .push(read_file(rt, path)?)
+            .map_err(|_| FileFault::Memory)?;
+    }
+    Ok(files)
+}
+
+/// What is printed of a run of the schedule whose text is `script` over pieces of the files, combined encodings, from an
+/// empty store with room for `capacity` chunks of the blob with this root: the replies, and how many chunks are held then.
+///
+/// Refuses the first line that has no form (`Script` with its number), a piece that isn't accepted and a step that isn't legal
+/// (`Replay`), and answers `File` with `Memory` out of memory.
+pub fn replay_text<'a>(
+    alloc: Global,
+    mode: &Mode,
+    root: &Hash,
+    capacity: u32,
+    script: &[u8],
+    files: &[Vec<u8>],
+) -> Result<Vec<u8>, RerunFault<'a>>
+    ensures answer { IfOk result (λ text. IsRun mode.now root.now capacity script.now (map (λ file. file.items) files.now) text.items) }
+    ensures script { (number : ℕ) → IsErrOf result (RerunFault.Script number) → IsFirstRefused (length files.now) script.now number }
+    ensures illegal { (number : ℕ) → IsErrOf result (RerunFault.Replay (replay.Illegal number))
+        → IsStoppedRun mode.now root.now capacity script.now (map (λ file. file.items) files.now) number }
+{
+    let script = match parse(alloc, script, files.len()) {
+        Ok(script) => script,
+        Err(ScriptFault::Line { number }) => return Err(RerunFault::Script(number)),
+        Err(ScriptFault::Memory) => return Err(RerunFault::File(FileFault::Memory)),
+    };
+    match replay_script(alloc, *root, *mode, capacity, &script, files) {
+        Ok(text) => Ok(text),
+        Err(fault) => Err(RerunFault::Replay(fault)),
+    }
+}
+
+/// Runs the schedule in the file `script` over pieces of the files, as `replay_text` says.
+///
+/// Refuses, in the order of the arguments, a file that can't be read (`File` with `Read`), before all else.
+pub fn replay_files<'a, R: Files + AllocGlobal>(
+    rt: &R,
+    mode: &Mode,
+    root: &Hash,
+    capacity: u32,
+    script: &'a str,
+    files: &[&'a str],
+) -> Result<Vec<u8>, RerunFault<'a>>
+    ensures { IfOk result (λ text. IsReplayOf mode.now root.now capacity (length files.now) text.items) }
+{
+    let text = read_file(rt, script)?;
+    let files = read_all(rt, files)?;
+    replay_text(
+        rt.alloc(),
+        mode,
+        root,
+        capacity,
+        text.as_slice(),
+        files.as_slice(),
+    )
+}
