@@ -1,5 +1,6 @@
-ghost use Rattle.std.specs.Prelude.{◌≡◌, ◌≢◌, true, false, ◌+◌, ◌-◌, ◌*◌, ◌^◌, ◌<◌, ◌≤◌, ℕ, List, length, map, string_bytes, IfErr, IfOk, IfSome, IsErrAnd, OnOk};
+ghost use Rattle.std.specs.Prelude.{◌≡◌, ◌≢◌, true, false, if◌then◌else◌, ◌+◌, ◌-◌, ◌*◌, ◌^◌, ◌<◌, ◌≤◌, ℕ, List, length, map, string_bytes, IfErr, IfOk, IfSome, IsErrAnd, OnOk};
 ghost use Rattle.bao_command.specs.declared.fault.Fault.TheVariants as Fault;
+ghost use Rattle.gather.specs.declared.grain.Grain.TheVariants as Grain;
 ghost use Rattle.std.specs.Io.KnownBytes.{Appends, Keeps};
 ghost use Rattle.b3tree.specs.Hashing.{hash as hash_of, stream};
 ghost use Rattle.clap.specs.Words.{kind_of};
@@ -226,13 +227,19 @@ fn tell<E: Write>(verbose: bool, files: &[&str], fates: &[Fate], err: &mut E) {
 }
 
 // The smallest part that the files are asked for.
-fn grain_of(salvage: bool) -> Grain {
+fn grain_of(salvage: bool) -> Grain
+    ensures { result ≡ (if salvage then Grain.Chunk else Grain.Group) }
+{
     if salvage { Grain::Chunk } else { Grain::Group }
 }
 
 // How a blob is gathered, as the arguments have it.
 fn how_of(workers: u32, capacity: u32, salvage: bool, encode: bool, verbose: bool) -> Gathering
-    ensures { result.capacity ≡ capacity }
+    ensures workers { result.workers ≡ workers }
+    ensures capacity { result.capacity ≡ capacity }
+    ensures encode { result.encode ≡ encode }
+    ensures count { result.count ≡ verbose }
+    ensures grain { result.grain ≡ (if salvage then Grain.Chunk else Grain.Group) }
 {
     Gathering {
         workers,

@@ -1,4 +1,4 @@
-ghost use Rattle.std.specs.Prelude.{◌≡◌, IfOk, length, map};
+ghost use Rattle.std.specs.Prelude.{◌≡◌, IfOk, map};
 
 use crate::encoded_at::EncodedAt;
 use crate::holder::{Holder, HolderFault};
@@ -51,7 +51,7 @@ fn copies_at_over<'a, S: Source>(
     alloc: Global,
     copies: &'a [S],
 ) -> Result<Vec<PlainAt<'a, S>>, AllocError>
-    ensures { IfOk result (λ holders. length holders.items ≡ length copies.now) }
+    ensures { IfOk result (λ holders. map (λ holder. holder.source.now) holders.items ≡ copies.now) }
 {
     let mut holders = Vec::with_capacity(alloc, copies.len())?;
     for copy in copies {
@@ -77,7 +77,7 @@ impl<'a, S: Source> Lists<SourceAt<'a, S>> for Sources<'a, S> {
 pub struct CopiesAt<'a, S: Source>(pub &'a [S]);
 
 impl<'a, S: Source> Lists<PlainAt<'a, S>> for CopiesAt<'a, S> {
-    ghost over = { λ copies holders. length holders ≡ length copies.0.now };
+    ghost over = { λ copies holders. map (λ holder. holder.source.now) holders ≡ copies.0.now };
 
     fn list(&self, alloc: Global) -> Result<Vec<PlainAt<'a, S>>, AllocError> {
         copies_at_over(alloc, self.0)

@@ -19,7 +19,7 @@ returns-in-Gather-clause-prints g c =
     subst (λ (files : List (Bor (List ℕ))). OnOk result (length files ≤ 64)) c.as_slice-files.ensures.value c.gather.ensures.few in
     let answer = c.gather.ensures.answer in
     let fits : OnOk result (HasHash mode c.in-Gather.root.now answer.0 × (length answer.0 ≤ 1024 * c.in-Gather.capacity)) =
-    subst (λ (n : ℕ). OnOk result (HasHash mode c.in-Gather.root.now answer.0 × (length answer.0 ≤ 1024 * n))) c.how_of-how.ensures answer.1 in
+    subst (λ (n : ℕ). OnOk result (HasHash mode c.in-Gather.root.now answer.0 × (length answer.0 ≤ 1024 * n))) c.how_of-how.ensures.capacity answer.1 in
     let prints =
     subst (λ (task : Task). (bytes : List ℕ) × OnOk result (IsRight mode task bytes) × Prints (line_of mode task bytes) old new result) (sym c.in-Gather.is)
     (answer.0, both _ _ result few (both _ _ result fits c.gather.ensures.beside), answer.2) in

@@ -1,7 +1,6 @@
-use Rattle.std.proofs.Common.{◌≡◌, ◌*◌, ◌≤◌, List, ℕ, Err, Ok, IfOk, IsTrue, Result, length, ap, arith, refl, sym, subst, ◌∙◌, inl, inr}
+use Rattle.std.proofs.Common.{◌≡◌, List, ℕ, Err, Ok, IfOk, Result, ap, arith, sym, subst, ◌∙◌}
 use Rattle.std.specs.Prelude.{IsErrOf}
 use Rattle.b3tree.specs.declared.mode.Mode.{Mode}
-use Rattle.b3tree.specs.Hashing.{hash}
 use Rattle.b3tree.specs.Valid.{IsKeyed}
 use Rattle.crews.proofs.HandingOut.{cuts, large_cut, unfinished_handed}
 use Rattle.crews.proofs.Rereading.{round_full}
@@ -15,7 +14,6 @@ use Rattle.gather.specs.declared.fault.GatherFault.TheVariants.{Starved}
 use Rattle.gather.specs.Finished.{BindsTo, IsFinished}
 use Rattle.gather.specs.HandedOut.{Gathers, IsHandedOut, own_bytes}
 use Rattle.gather.specs.Holders.{IsHanded}
-use Rattle.gather.specs.Large.{AreTheBlob, HasCollision, IsOfNone}
 use Rattle.gather.specs.Lists.{IsLent}
 use Rattle.gather.specs.Worked.{AreFrom}
 use Rattle.store_core.specs.declared.fixed.Fixed.{Fixed}

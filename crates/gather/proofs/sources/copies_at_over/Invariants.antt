@@ -1,5 +1,5 @@
-use Rattle.std.specs.Prelude.{◌≡◌, length}
+use Rattle.std.specs.Prelude.{◌≡◌, map, take}
 use Rattle.gather.proofs.sources.copies_at_over.Given as goal
 
 abbrev pub invariant-loop-copy : goal.invariant-loop-copy
-invariant-loop-copy g l = length l.holders.items ≡ l.copy-index
+invariant-loop-copy g l = map (λ holder. holder.source.now) l.holders.items ≡ take l.copy-index l.copies

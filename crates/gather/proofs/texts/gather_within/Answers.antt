@@ -1,4 +1,4 @@
-use Rattle.std.proofs.Common.{length, sym, ◌⊎◌, ◌<◌, ◌≤◌, inl, inr, arith, IsTrue, List, Ok, ℕ, map, ap, subst, refl, ◌∙◌, ◌≡◌, Err}
+use Rattle.std.proofs.Common.{length, sym, ◌<◌, ◌≤◌, inl, inr, arith, List, map, ap, subst, refl, ◌∙◌, ◌≡◌, Err}
 use Rattle.std.specs.Global.{Global}
 use Rattle.std.specs.Prelude.{vec_items}
 use Rattle.b3tree.specs.Valid.{IsKeyed}
@@ -9,18 +9,17 @@ use Rattle.gather.proofs.Binding.{handed_cut, of_blob, of_none}
 use Rattle.gather.proofs.Handing.{cause_handed, encoding_true, large_pair, none_failed, unfinished_pair}
 use Rattle.gather.proofs.Serving.{true_slices}
 use Rattle.gather.specs.declared.fault.FinishFault.{FinishFault}
-use Rattle.gather.specs.declared.fault.FinishFault.TheVariants as finishing
 use Rattle.gather.specs.declared.fault.GatherFault.{GatherFault}
-use Rattle.gather.specs.declared.fault.GatherFault.TheVariants.{Capacity, Starved}
+use Rattle.gather.specs.declared.fault.GatherFault.TheVariants.{Starved}
 use Rattle.gather.specs.declared.grain.Grain.TheVariants.{Group as ByGroup}
 use Rattle.gather.specs.declared.holder.Encoded.{Encoded}
 use Rattle.gather.specs.Available.{HaveSlices}
 use Rattle.gather.specs.Encodings.{IsCut, IsCutOf, encoding}
 use Rattle.gather.specs.Finished.{IsFinished}
-use Rattle.gather.specs.Faults.{cause_of, why_of}
-use Rattle.gather.specs.HandedOut.{Gathers, IsExcused, IsHandedOut}
+use Rattle.gather.specs.Faults.{why_of}
+use Rattle.gather.specs.HandedOut.{Gathers, IsHandedOut}
 use Rattle.gather.specs.Holders.{IsHanded}
-use Rattle.gather.specs.Large.{AreTheBlob, HasCollision, IsOfNone, IsTooLarge, fixed_as}
+use Rattle.gather.specs.Large.{HasCollision, IsTooLarge, fixed_as}
 use Rattle.store_core.specs.declared.fixed.Fixed.{Fixed}
 use Rattle.store_core.specs.Laws.{IsBlob}
 use Rattle.store_core.specs.Stores.{fixed_of, state_of}
