@@ -5,11 +5,11 @@ ghost use Rattle.bao_command.specs.Outcome.{Ends};
 use crate::commands::command;
 use crate::fault::Fault;
 use crate::words::own_words;
-use bao_files::Progress;
+use bao_files::{Meter, Progress};
 use std::fs::File;
-use std::io::Write;
+use std::io::{IsTerminal, Write};
 use std::process::ExitCode;
-use std::rt::{Env, Files};
+use std::rt::{Clock, Env, Files};
 use std::thread::Threads;
 
 /// Runs the program on the arguments that the process was given, with `out` and `err` as its standard output
@@ -32,4 +32,21 @@ pub fn run<
         Ok(words) => ExitCode::from(command(rt, words.as_slice(), out, err, progress)),
         Err(fault) => ExitCode::from(fault.report(err)),
     }
+}
+
+/// Runs the program as [`run`] does, and shows on `err` how far a long read has come where that is a terminal.
+pub fn run_shown<
+    R: Env + Files<File = File> + Clock + AllocGlobal + Threads + Sync,
+    O: Write,
+    E: Write + IsTerminal + Copy + Sync,
+>(rt: &R, out: &mut O, err: &mut E) -> ExitCode
+    ensures status { exit_status result ≤ 4 }
+    ensures outcome { (words : List (List ℕ)) × Ends words (O.contents out.old) (O.contents out.new) (exit_status result) }
+{
+    let meter = if err.is_terminal() {
+        Some(Meter::new(rt, *err))
+    } else {
+        None
+    };
+    run(rt, out, err, &meter)
 }

@@ -7,10 +7,10 @@ ghost use Rattle.berylwool.specs.Handles.{HasFeed};
 ghost use Rattle.berylwool.specs.Modes.{mode_of};
 
 use crate::checking::told;
-use crate::handle::{BwHandle, put, take};
+use crate::handle::{BwHandle, put, take, with_held};
 use crate::held::Held;
 use crate::mode::BwMode;
-use crate::status::{NO_HANDLE, NO_MEMORY, OTHER_SIZE};
+use crate::status::{NO_MEMORY, OTHER_SIZE};
 use b3tree::Hash;
 use bao_check::Checking;
 use std::alloc::Global;
@@ -83,16 +83,10 @@ pub extern "C" fn bw_feed_wants(alloc: Global, feed: &mut BwHandle, size: &mut u
     ensures same { feed.new.held ≡ feed.old.held }
     ensures no_size { result ≢ 0 → size.new ≡ size.old }
 {
-    let Some(held) = take(feed, alloc) else {
-        return NO_HANDLE;
-    };
-    let Held::Feed(check) = &*held else {
-        put(feed, held);
-        return NO_HANDLE;
-    };
-    *size = size_wanted(check);
-    put(feed, held);
-    0
+    with_held!(feed, alloc, Feed, |check| {
+        *size = size_wanted(check);
+        0
+    })
 }
 
 // Takes a node, as `bw_feed_take` does.
@@ -128,16 +122,7 @@ pub extern "C" fn bw_feed_take(alloc: Global, feed: &mut BwHandle, node: &[u8], 
     ensures status { 505 < result → result ≢ 1202 → result ≡ 1212 }
     ensures same { result ≢ 0 → feed.new.held ≡ feed.old.held }
 {
-    let Some(mut held) = take(feed, alloc) else {
-        return NO_HANDLE;
-    };
-    let Held::Feed(check) = &mut *held else {
-        put(feed, held);
-        return NO_HANDLE;
-    };
-    let status = taken(check, node, at);
-    put(feed, held);
-    status
+    with_held!(feed, alloc, Feed, |check| taken(check, node, at))
 }
 
 // Ends an encoding, as `bw_feed_finish` does.
@@ -176,14 +161,5 @@ pub extern "C" fn bw_feed_finish(
     ensures status { 505 < result → result ≢ 1202 → result ≡ 1212 }
     ensures same { feed.new.held ≡ feed.old.held }
 {
-    let Some(held) = take(feed, alloc) else {
-        return NO_HANDLE;
-    };
-    let Held::Feed(check) = &*held else {
-        put(feed, held);
-        return NO_HANDLE;
-    };
-    let status = finished(check, rest, at);
-    put(feed, held);
-    status
+    with_held!(feed, alloc, Feed, |check| finished(check, rest, at))
 }

@@ -3,9 +3,7 @@ ghost use Rattle.store_shared.specs.Seats.{IsSeatOf};
 ghost use Rattle.berylwool.specs.Gathering.{GathersOn, report_of};
 ghost use Rattle.berylwool.specs.Handles.{HasSeat, SeatDid};
 
-use crate::handle::{BwHandle, put, take};
-use crate::held::Held;
-use crate::status::NO_HANDLE;
+use crate::handle::{BwHandle, with_held};
 use crews::Shared;
 use gather::{Encoded, Place, Report, work};
 use std::alloc::Global;
@@ -107,24 +105,16 @@ pub extern "C" fn bw_gather(
     ensures same { result ≢ 0 → seat.new.held ≡ seat.old.held }
     ensures no_report { result ≢ 0 → report.new ≡ report.old }
 {
-    let Some(mut held) = take(seat, alloc) else {
-        return NO_HANDLE;
-    };
-    let status = match &mut *held {
-        Held::Seat(it) => {
-            *report = gathered(
-                alloc,
-                &it.store,
-                &mut it.seat,
-                number,
-                workers,
-                text,
-                report,
-            );
-            0
-        }
-        Held::Hasher(_) | Held::Feed(_) | Held::Gone => NO_HANDLE,
-    };
-    put(seat, held);
-    status
+    with_held!(seat, alloc, Seat, |it| {
+        *report = gathered(
+            alloc,
+            &it.store,
+            &mut it.seat,
+            number,
+            workers,
+            text,
+            report,
+        );
+        0
+    })
 }

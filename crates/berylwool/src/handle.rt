@@ -92,6 +92,24 @@ pub(crate) fn put(handle: &mut BwHandle, held: Box<Held, Global>)
     let _empty = mem::replace(handle, BwHandle::of(Loose::of(sent(held))));
 }
 
+// What a call answers of the value of this kind that a handle has, and keeps; 1202 where it has none.
+macro_rules! with_held {
+    ($handle:ident, $alloc:ident, $kind:ident, |$it:ident| $call:expr) => {{
+        let Some(mut held) = $crate::handle::take($handle, $alloc) else {
+            return $crate::status::NO_HANDLE;
+        };
+        let $crate::held::Held::$kind($it) = &mut *held else {
+            $crate::handle::put($handle, held);
+            return $crate::status::NO_HANDLE;
+        };
+        let status = $call;
+        $crate::handle::put($handle, held);
+        status
+    }};
+}
+
+pub(crate) use with_held;
+
 /// Frees what a handle owns, if it owns something. It is empty then.
 #[unsafe(no_mangle)]
 pub extern "C" fn bw_free(alloc: Global, handle: &mut BwHandle)

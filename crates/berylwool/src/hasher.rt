@@ -4,10 +4,10 @@ ghost use Rattle.b3tree.specs.Hashing.{hash, stream};
 ghost use Rattle.berylwool.specs.Handles.{HasHasher, HoldsIn};
 ghost use Rattle.berylwool.specs.Modes.{mode_of};
 
-use crate::handle::{BwHandle, put, take};
+use crate::handle::{BwHandle, put, take, with_held};
 use crate::held::Held;
 use crate::mode::BwMode;
-use crate::status::{NO_HANDLE, NO_MEMORY, PAST_OUTPUT};
+use crate::status::{NO_MEMORY, PAST_OUTPUT};
 use b3tree::{Hasher, xof_fits};
 use std::alloc::Global;
 
@@ -41,18 +41,10 @@ pub extern "C" fn bw_hasher_update(alloc: Global, hasher: &mut BwHandle, bytes: 
     ensures status { result ≢ 0 → result ≢ 1202 → result ≡ 201 }
     ensures same { result ≢ 0 → hasher.new.held ≡ hasher.old.held }
 {
-    let Some(mut held) = take(hasher, alloc) else {
-        return NO_HANDLE;
-    };
-    let status = match &mut *held {
-        Held::Hasher(it) => match it.update(bytes) {
-            Ok(()) => 0,
-            Err(fault) => u32::from(fault.code()),
-        },
-        Held::Feed(_) | Held::Seat(_) | Held::Gone => NO_HANDLE,
-    };
-    put(hasher, held);
-    status
+    with_held!(hasher, alloc, Hasher, |it| match it.update(bytes) {
+        Ok(()) => 0,
+        Err(fault) => u32::from(fault.code()),
+    })
 }
 
 /// The hash of the bytes taken in: 32 bytes, into `out`. The hasher can go on.
@@ -65,20 +57,12 @@ pub extern "C" fn bw_hasher_finish(alloc: Global, hasher: &mut BwHandle, out: &m
     ensures status { result ≢ 0 → result ≡ 1202 }
     ensures same { hasher.new.held ≡ hasher.old.held }
 {
-    let Some(held) = take(hasher, alloc) else {
-        return NO_HANDLE;
-    };
-    let status = match &*held {
-        Held::Hasher(it) => {
-            let hash = it.finalize();
-            let digest = hash.0;
-            *out = digest;
-            0
-        }
-        Held::Feed(_) | Held::Seat(_) | Held::Gone => NO_HANDLE,
-    };
-    put(hasher, held);
-    status
+    with_held!(hasher, alloc, Hasher, |it| {
+        let hash = it.finalize();
+        let digest = hash.0;
+        *out = digest;
+        0
+    })
 }
 
 /// Fills `out` with the extended output of the bytes taken in, from byte `at` on, as `bw_xof` does. The hasher can go on.
@@ -102,16 +86,8 @@ pub extern "C" fn bw_hasher_xof(
     if !xof_fits(at, out.len() as u64) {
         return PAST_OUTPUT;
     }
-    let Some(held) = take(hasher, alloc) else {
-        return NO_HANDLE;
-    };
-    let status = match &*held {
-        Held::Hasher(it) => {
-            it.finalize_xof(at, out);
-            0
-        }
-        Held::Feed(_) | Held::Seat(_) | Held::Gone => NO_HANDLE,
-    };
-    put(hasher, held);
-    status
+    with_held!(hasher, alloc, Hasher, |it| {
+        it.finalize_xof(at, out);
+        0
+    })
 }

@@ -9,7 +9,7 @@ ghost use Rattle.berylwool.specs.Modes.{mode_of};
 ghost use Rattle.berylwool.specs.Calls.{Commits, HasStoresRoot, HasSettled, IsNoSliceOf, IsSliceOf, Reads, slice_piece};
 
 use crate::checking::told;
-use crate::handle::{BwHandle, put, take};
+use crate::handle::{BwHandle, put, take, with_held};
 use crate::held::{Held, Seated};
 use crate::mode::BwMode;
 use crate::status::{
@@ -133,21 +133,18 @@ pub extern "C" fn bw_seat_take(
     ensures status { result ≢ 0 → result ≢ 1202 → result ≡ 803 }
     ensures same { result ≢ 0 → seat.new.held ≡ seat.old.held }
 {
-    let Some(mut held) = take(seat, alloc) else {
-        return NO_HANDLE;
-    };
-    let status = match &mut *held {
-        Held::Seat(it) => match it.store.take(&mut it.seat, group, want) {
+    with_held!(
+        seat,
+        alloc,
+        Seat,
+        |it| match it.store.take(&mut it.seat, group, want) {
             Ok(mask) => {
                 *granted = mask;
                 0
             }
             Err(fault) => u32::from(fault.code()),
-        },
-        Held::Hasher(_) | Held::Feed(_) | Held::Gone => NO_HANDLE,
-    };
-    put(seat, held);
-    status
+        }
+    )
 }
 
 /// Ends the seat's claims among the mask of a group, and answers the mask of those that it had in `given`: 0 for a group that isn't there.
@@ -166,18 +163,10 @@ pub extern "C" fn bw_seat_give(
     ensures status { result ≢ 0 → result ≡ 1202 }
     ensures same { result ≢ 0 → seat.new.held ≡ seat.old.held }
 {
-    let Some(mut held) = take(seat, alloc) else {
-        return NO_HANDLE;
-    };
-    let status = match &mut *held {
-        Held::Seat(it) => {
-            *given = it.store.give(&mut it.seat, group, mask);
-            0
-        }
-        Held::Hasher(_) | Held::Feed(_) | Held::Gone => NO_HANDLE,
-    };
-    put(seat, held);
-    status
+    with_held!(seat, alloc, Seat, |it| {
+        *given = it.store.give(&mut it.seat, group, mask);
+        0
+    })
 }
 
 // Commits an encoding to the seat's claims, as `bw_seat_commit` does.
@@ -234,11 +223,11 @@ pub extern "C" fn bw_seat_commit(
     ensures no_seat { result ≡ 1202 ↔ (¬ HasSeat (λ _ _. Unit) seat.old.held) }
     ensures same { result ≢ 0 → seat.new.held ≡ seat.old.held }
 {
-    let Some(mut held) = take(seat, alloc) else {
-        return NO_HANDLE;
-    };
-    let status = match &mut *held {
-        Held::Seat(it) => self::committed(
+    with_held!(
+        seat,
+        alloc,
+        Seat,
+        |it| self::committed(
             alloc,
             &it.store,
             &mut it.seat,
@@ -248,11 +237,8 @@ pub extern "C" fn bw_seat_commit(
             text,
             committed,
             at,
-        ),
-        Held::Hasher(_) | Held::Feed(_) | Held::Gone => NO_HANDLE,
-    };
-    put(seat, held);
-    status
+        )
+    )
 }
 
 // Settles the length by an encoding, as `bw_seat_settle` does.
@@ -308,15 +294,12 @@ pub extern "C" fn bw_seat_settle(
     ensures status { result ≢ 0 → 505 < result → result ≢ 805 → result ≢ 1202 → result ≢ 1205 → result ≡ 1206 }
     ensures same { result ≢ 0 → result ≢ 1206 → seat.new.held ≡ seat.old.held }
 {
-    let Some(mut held) = take(seat, alloc) else {
-        return NO_HANDLE;
-    };
-    let status = match &mut *held {
-        Held::Seat(it) => settled(alloc, &it.store, &mut it.seat, text, at),
-        Held::Hasher(_) | Held::Feed(_) | Held::Gone => NO_HANDLE,
-    };
-    put(seat, held);
-    status
+    with_held!(
+        seat,
+        alloc,
+        Seat,
+        |it| settled(alloc, &it.store, &mut it.seat, text, at)
+    )
 }
 
 /// The recorded length in bytes, in `len`.
@@ -330,21 +313,18 @@ pub extern "C" fn bw_seat_length(alloc: Global, seat: &mut BwHandle, len: &mut u
     ensures status { result ≢ 0 → result ≢ 901 → result ≡ 1202 }
     ensures same { result ≡ 1202 → seat.new.held ≡ seat.old.held }
 {
-    let Some(mut held) = take(seat, alloc) else {
-        return NO_HANDLE;
-    };
-    let status = match &mut *held {
-        Held::Seat(it) => match it.store.length(&mut it.seat) {
+    with_held!(
+        seat,
+        alloc,
+        Seat,
+        |it| match it.store.length(&mut it.seat) {
             Some(length) => {
                 *len = length;
                 0
             }
             None => UNFINISHED,
-        },
-        Held::Hasher(_) | Held::Feed(_) | Held::Gone => NO_HANDLE,
-    };
-    put(seat, held);
-    status
+        }
+    )
 }
 
 // Fills a buffer, as `bw_seat_read` does.
@@ -382,15 +362,12 @@ pub extern "C" fn bw_seat_read(
     ensures status { result ≢ 0 → result ≢ 1204 → result ≡ 1202 }
     ensures same { result ≡ 1202 → seat.new.held ≡ seat.old.held }
 {
-    let Some(mut held) = take(seat, alloc) else {
-        return NO_HANDLE;
-    };
-    let status = match &mut *held {
-        Held::Seat(it) => filled(&it.store, &mut it.seat, at, out, missing),
-        Held::Hasher(_) | Held::Feed(_) | Held::Gone => NO_HANDLE,
-    };
-    put(seat, held);
-    status
+    with_held!(
+        seat,
+        alloc,
+        Seat,
+        |it| filled(&it.store, &mut it.seat, at, out, missing)
+    )
 }
 
 // Puts the whole blob to the start of a buffer, as `bw_seat_finish` does.
@@ -435,13 +412,10 @@ pub extern "C" fn bw_seat_finish(
     ensures status { result ≢ 0 → result ≢ 901 → result ≢ 902 → result ≢ 1202 → result ≡ 1201 }
     ensures stays { HasSeat (λ _ _. Unit) seat.old.held → HasSeat (λ _ _. Unit) seat.new.held }
 {
-    let Some(mut held) = take(seat, alloc) else {
-        return NO_HANDLE;
-    };
-    let status = match &mut *held {
-        Held::Seat(it) => finished(&it.store, &mut it.seat, out, used),
-        Held::Hasher(_) | Held::Feed(_) | Held::Gone => NO_HANDLE,
-    };
-    put(seat, held);
-    status
+    with_held!(
+        seat,
+        alloc,
+        Seat,
+        |it| finished(&it.store, &mut it.seat, out, used)
+    )
 }

@@ -9,10 +9,9 @@ ghost use Rattle.berylwool.specs.Handles.{HasSeat, SeatDid};
 ghost use Rattle.berylwool.specs.CNodes.{node_of};
 
 use crate::checking::told;
-use crate::handle::{BwHandle, put, take};
-use crate::held::Held;
+use crate::handle::{BwHandle, with_held};
 use crate::room;
-use crate::status::{NO_HANDLE, ROOM};
+use crate::status::ROOM;
 use bao_check::check_slice;
 use bao_text::Node;
 use std::alloc::Global;
@@ -77,11 +76,11 @@ pub extern "C" fn bw_seat_commit_parents(
     ensures no_seat { result ≡ 1202 ↔ (¬ HasSeat (λ _ _. Unit) seat.old.held) }
     ensures same { result ≢ 0 → result ≢ 807 → seat.new.held ≡ seat.old.held }
 {
-    let Some(mut held) = take(seat, alloc) else {
-        return NO_HANDLE;
-    };
-    let status = match &mut *held {
-        Held::Seat(it) => self::stored(
+    with_held!(
+        seat,
+        alloc,
+        Seat,
+        |it| self::stored(
             alloc,
             &it.store,
             &mut it.seat,
@@ -91,11 +90,8 @@ pub extern "C" fn bw_seat_commit_parents(
             text,
             stored,
             at,
-        ),
-        Held::Hasher(_) | Held::Feed(_) | Held::Gone => NO_HANDLE,
-    };
-    put(seat, held);
-    status
+        )
+    )
 }
 
 /// A node of a blob's tree, as C has it: `kind` 0 is the parent whose right part begins at chunk `number`, and 1 is chunk `number`.
@@ -179,13 +175,10 @@ pub extern "C" fn bw_seat_serve_slice(
     ensures status { result ≢ 0 → result ≢ 808 → result ≢ 809 → result ≢ 810 → result ≢ 1202 → result ≡ 1201 }
     ensures same { result ≢ 0 → out.new ≡ out.old }
 {
-    let Some(mut held) = take(seat, alloc) else {
-        return NO_HANDLE;
-    };
-    let status = match &mut *held {
-        Held::Seat(it) => served(&it.store, &mut it.seat, start, len, out, used, lacking),
-        Held::Hasher(_) | Held::Feed(_) | Held::Gone => NO_HANDLE,
-    };
-    put(seat, held);
-    status
+    with_held!(
+        seat,
+        alloc,
+        Seat,
+        |it| served(&it.store, &mut it.seat, start, len, out, used, lacking)
+    )
 }

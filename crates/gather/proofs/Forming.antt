@@ -15,7 +15,7 @@ use Rattle.store_core.specs.Stores.{IsOf}
 use Rattle.gather.specs.declared.form.Form.{Form}
 use Rattle.gather.specs.declared.form.Form.TheVariants.{Slices, Bare}
 use Rattle.gather.specs.declared.form.Part.{Part}
-use Rattle.gather.specs.Forms.{AreSlices, IsChunk, IsEnd, IsGroup, IsMade, IsSliceCheck, made_of}
+use Rattle.gather.specs.Forms.{AreSlices, IsChunk, IsEnd, IsGroup, IsLengthOf, IsMade, IsSliceCheck, made_of}
 use Rattle.gather.specs.Holders.{GivesNoMore, IsGiven}
 use Rattle.store_core.specs.declared.fixed.Fixed.{Fixed}
 use Rattle.store_core.specs.declared.history.Piece.{Piece}
@@ -60,6 +60,10 @@ slice_group (Bare outline) group part are is = absurd are
 pub slice_chunk : (form : Form) (c : ℕ) (part : Part) → AreSlices form → IsChunk form c part → (part.start ≡ 1024 * c) × (part.len ≡ 1024)
 slice_chunk Slices c part are is = is
 slice_chunk (Bare outline) c part are is = absurd are
+
+pub slice_length : (form : Form) (len : ℕ) → AreSlices form → IsLengthOf form len
+slice_length Slices len are = tt
+slice_length (Bare outline) len are = absurd are
 
 -- the text that such a holder gave is the blob's slice
 pub slice_given : {H : Type 0} (form : Form) (gives : H → ℕ → ℕ → List ℕ → Type 0) (mode : Mode) (blob : List ℕ) (holder : H) (part : Part) (text given : List ℕ) → AreSlices form

@@ -51,9 +51,6 @@ pub fn salvage<S: Shelf, H: Holder>(
     let Some(length) = agree(alloc, form, shelf, seat, holders, &mut room, report) else {
         return;
     };
-    if !form.is_of(length) {
-        return;
-    }
     let chunks = chunk_count(length).min(u64::from(MAX_CAPACITY));
     for chunk in 0..chunks {
         let part = form.chunk(chunk);

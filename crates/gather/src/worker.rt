@@ -4,7 +4,7 @@ ghost use Rattle.bao_text.specs.Choice.{chunk_count};
 ghost use Rattle.store_core.specs.Masks.{in_mask};
 ghost use Rattle.gather.specs.Available.{GivesSlice, HasSlice, HaveSlices, IsFilled, IsServed, IsWanted, slice_of};
 ghost use Rattle.gather.specs.declared.grain.Grain.TheVariants.{Group as ByGroup};
-ghost use Rattle.gather.specs.Forms.{AreSlices, IsPart, made_of};
+ghost use Rattle.gather.specs.Forms.{AreSlices, IsLengthOf, IsPart, made_of};
 ghost use Rattle.store_core.specs.Pieces.{holds_chunk};
 ghost use Rattle.gather.specs.Counts.{Fits, HasFailed, IsFetch, Reports};
 ghost use Rattle.gather.specs.Large.{IsTooLarge};
@@ -104,8 +104,8 @@ fn ask_end<S: Shelf, H: Holder>(
     }
 }
 
-// The recorded length. If there is none, the holders are asked for it in order, until one is recorded or a
-// certified one is above what the store has room for.
+// The recorded length, if the form is of a blob of it. If there is none, the holders are asked for it in order, until one
+// is recorded or a certified one is above what the store has room for.
 pub(crate) fn agree<S: Shelf, H: Holder>(
     alloc: Global,
     form: &Form<'_>,
@@ -121,6 +121,7 @@ pub(crate) fn agree<S: Shelf, H: Holder>(
     ensures later { AreLater (made_of form.now H.gives) holders.old holders.new }
     ensures claims { Among (S.claims seat.old) (S.claims seat.new) }
     ensures records { IfSome result (λ l. S.records seat.new l) }
+    ensures of { IfSome result (λ l. IsLengthOf form.now l) }
     ensures agreed { AreSlices form.now → (blob : List ℕ) → IsServed (S.fixed_of seat.old) blob → HasSlice (made_of form.now H.gives) (S.fixed_of seat.old).mode blob (2 ^ 64 - 1) 1 holders.old
         → HasFailed report.new ⊎ IsTooLarge (IsHanded (made_of form.now H.gives) holders.old) (S.fixed_of seat.old) ⊎ IsSome result }
 {
@@ -129,12 +130,15 @@ pub(crate) fn agree<S: Shelf, H: Holder>(
     let mut too_large = false;
     for holder in holders.iter_mut() {
         if length.is_some() || too_large {
-            break;
+            continue;
         }
         too_large = ask_end(alloc, form, shelf, seat, holder, room, report);
         length = shelf.length(seat);
     }
-    length
+    match length {
+        Some(length) if form.is_of(length) => Some(length),
+        _ => None,
+    }
 }
 
 // Asks one holder for a part of a blob, commits what its text holds of a group's chunks that are left, stores the text's
@@ -302,9 +306,6 @@ pub fn work_as<S: Shelf, H: Holder>(
     let Some(length) = agree(alloc, form, shelf, seat, holders, &mut room, report) else {
         return;
     };
-    if !form.is_of(length) {
-        return;
-    }
     let chunks = chunk_count(length);
     let groups = chunks.div_ceil(GROUP_LEN).min(MAX_GROUPS);
     let first = u64::from(place.number) * groups / u64::from(place.workers);

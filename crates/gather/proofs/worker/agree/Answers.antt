@@ -1,17 +1,18 @@
-use Rattle.std.proofs.Common.{◌-◌, ◌^◌, ◌≡◌, ◌∙◌, ◌<◌, ℕ, Option, IsSome, get_or, length, sum_by, refl, sym, subst, arith, inl, inr}
+use Rattle.std.proofs.Common.{◌-◌, ◌^◌, ◌≡◌, ◌⊎◌, ◌∙◌, ◌<◌, ℕ, Option, IsSome, IsTrue, false, true, ap, get_or, length, slice_get, sum_by, refl, sym, subst, arith, inl, inr}
 use Rattle.std.proofs.lemmas.Bool.{cases_lt}
 use Rattle.std.proofs.lemmas.List.{set-get_or}
 use Rattle.std.proofs.lemmas.Option.{slice_get_within}
 use Rattle.gather.specs.Available.{GivesSlice, IsServed}
 use Rattle.gather.specs.Counts.{Reports}
-use Rattle.gather.specs.Holders.{IsHanded}
+use Rattle.gather.specs.Holders.{AreLater, IsHanded}
 use Rattle.gather.specs.Large.{IsTooLarge}
 use Rattle.store_core.specs.declared.fixed.Fixed.{Fixed}
 use Rattle.gather.proofs.Gaining.{among_onward}
 use Rattle.gather.proofs.Reporting.{among_holders, handed_here, large_wider, later_one, later_then, onward, onward_none}
 use Rattle.gather.proofs.Serving.{fails_on, get_set_after, known_some, slice_here}
-use Rattle.gather.proofs.worker.agree.Goals.{then-is_some-via-else-is_some+then-too_large, then-is_some-via-then-is_some}
 use Rattle.gather.specs.Forms.{made_of}
+use Rattle.gather.proofs.Forming.{slice_length}
+use Rattle.gather.proofs.worker.agree.Goals.{then-is_some-via-else-is_some+then-too_large, then-is_some-via-then-is_some}
 use Rattle.gather.proofs.worker.agree.Goals as goal
 
 pub loop-holder-preserved : goal.loop-holder-preserved
@@ -59,29 +60,46 @@ loop-holder-preserved g c =
       ],
     )
 
-pub returns-after-loop-holder-clause-records : goal.returns-after-loop-holder-clause-records
-returns-after-loop-holder-clause-records g c = c.loop-holder.invariant.5
-
-pub returns-after-loop-holder-clause-agreed : goal.returns-after-loop-holder-clause-agreed
-returns-after-loop-holder-clause-agreed g c = λ are blob served has.
-    c.loop-holder.invariant.7 are blob served has
-    (omega (arith, slice_get_within c.args.holders.now has.place has.holder has.there, c.loop-holder.invariant.3.len, c.loop-holder-test.false))
-
-pub returns-then-is_some-clause-records : goal.returns-then-is_some-clause-records
-returns-then-is_some-clause-records g c = c.loop-holder.invariant.5
-
-pub returns-then-is_some-clause-agreed : goal.returns-then-is_some-clause-agreed
-returns-then-is_some-clause-agreed g c = λ are blob served has. elim c.then-is_some.branch [
-  | then-is_some-via-then-is_some w ↦ inr (inr (sym w.if-is_some.ensures))
-  | then-is_some-via-else-is_some+then-too_large w ↦ inr (inl (c.loop-holder.invariant.6 w.if-too_large.true))
-]
-
-pub returns-then-is_some-clause-reports : goal.returns-then-is_some-clause-reports
-returns-then-is_some-clause-reports g c =
-    let back = set-get_or c.loop-holder.holders c.loop-holder.holder-index c.holder-item.result in
-    let same : c.then-is_some.holders ≡ c.loop-holder.holders = elim c.then-is_some.branch [
+pub loop-holder-preserved-then-is_some : goal.loop-holder-preserved-then-is_some
+loop-holder-preserved-then-is_some g c =
+    let x = c.loop-holder in
+    let G = made_of c.args.form.now g.H.Holder.gives in
+    let back = set-get_or x.holders x.holder-index c.holder-item.result in
+    let same : c.then-is_some.holders ≡ x.holders = elim c.then-is_some.branch [
       | then-is_some-via-then-is_some w ↦ w.holders-is ∙ back
       | then-is_some-via-else-is_some+then-too_large w ↦ w.holders-is ∙ back
     ] in
-    subst (λ holders. Reports g.S.Shelf.fixed_of g.S.Shelf.gained c.args.seat.now c.loop-holder.seat (IsHanded (made_of c.args.form.now g.H.Holder.gives) c.args.holders.now) (IsHanded (made_of c.args.form.now g.H.Holder.gives) holders)
-    (sum_by g.H.Holder.count c.args.holders.now) (sum_by g.H.Holder.count holders) c.args.report.now c.loop-holder.report) (sym same) c.loop-holder.invariant.1
+    let either : IsSome x.length ⊎ IsTrue x.too_large = elim c.then-is_some.branch [
+      | then-is_some-via-then-is_some w ↦ inl (sym w.if-is_some.ensures)
+      | then-is_some-via-else-is_some+then-too_large w ↦ inr w.if-too_large.true
+    ] in (
+      x.invariant.0,
+      subst (λ holders. Reports g.S.Shelf.fixed_of g.S.Shelf.gained c.args.seat.now x.seat (IsHanded G c.args.holders.now) (IsHanded G holders)
+          (sum_by g.H.Holder.count c.args.holders.now) (sum_by g.H.Holder.count holders) c.args.report.now x.report) (sym same) x.invariant.1,
+      x.invariant.2,
+      subst (λ holders. AreLater G c.args.holders.now holders) (sym same) x.invariant.3,
+      λ k after. ap (λ holders. slice_get holders k) same ∙ x.invariant.4 k (omega (arith, after)),
+      x.invariant.5,
+      x.invariant.6,
+      λ are blob served has before. elim (cases_lt has.place x.holder-index) [
+        | inl sooner ↦ x.invariant.7 are blob served has sooner
+        | inr not_sooner ↦ elim either [
+          | inl some ↦ inr (inr some)
+          | inr large ↦ inr (inl (x.invariant.6 large))
+        ]
+      ],
+    )
+
+pub returns-in_default-clause-agreed : goal.returns-in_default-clause-agreed
+returns-in_default-clause-agreed g c = λ are blob served has.
+    let met : IsTrue c.is_of.result = c.is_of.ensures.1 (slice_length c.args.form.now c.in-Some.length are) in
+    let no : false ≡ true = sym c.if-is_of.false ∙ met in cc
+
+pub returns-in_default-2-clause-agreed : goal.returns-in_default-2-clause-agreed
+returns-in_default-2-clause-agreed g c = λ are blob served has.
+    elim (c.loop-holder.invariant.7 are blob served has
+    (omega (arith, slice_get_within c.args.holders.now has.place has.holder has.there, c.loop-holder.invariant.3.len, c.loop-holder-test.false))) [
+      | inl failed ↦ inl failed
+      | inr (inl large) ↦ inr (inl large)
+      | inr (inr some) ↦ let no : false ≡ true = subst (λ (o : Option ℕ). IsSome o) c.in_default.is some in cc
+    ]
