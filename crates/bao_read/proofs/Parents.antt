@@ -14,7 +14,7 @@ use Rattle.bao_read.proofs.Parts.{GivenAt-append, IsHashOf-top}
 use Rattle.bao_text.specs.declared.choice.Choice.{Choice}
 use Rattle.bao_text.specs.Choice.{wants}
 use Rattle.bao_text.specs.Texts.{joined, length_text, parent_text, subtree_text}
-use Rattle.bao_text.proofs.Places.{parent_put}
+use Rattle.bao_text.proofs.ParentPut.{parent_put}
 use Rattle.bao_text.proofs.SubtreeText.{subtree_text-parent, subtree_text-unwanted}
 use Rattle.bao_read.specs.Encodings.{GainsText, IsTextOf}
 

@@ -1,13 +1,13 @@
 -- What a file is worth: how many of the groups of 64 chunks that it is asked for are refused.
 use Rattle.std.specs.Prelude.{◌≡◌, ℕ, ◌+◌, ◌-◌, ◌*◌, ◌/◌, ◌<◌, min, Bool, true, false, List, length, count_by, nat_lt, slice_index_or, if◌then◌else◌}
 use Rattle.b3tree.specs.declared.mode.Mode.{Mode}
+use Rattle.b3tree.specs.Pieces.{piece}
 use Rattle.bao_text.specs.Choice.{chunk_count}
 use Rattle.bao_text.specs.Cut.{claimed, cut_text}
 use Rattle.bao_check.specs.Accepted.{IsAccepted, slice_nodes}
 use Rattle.bao_check.specs.Bare.{AreBare}
 use Rattle.bao_check.specs.declared.outline.Outline.{Outline}
 use Rattle.bao_check.specs.Outline.{outline_claimed, outline_mode, outline_root, outline_text}
-use Rattle.gather.specs.Plains.{part_of}
 use Rattle.bao_tasks.specs.declared.worth.Worth.{Worth}
 
 -- how many groups a blob of n bytes has, as far as the capacity in chunks goes
@@ -37,7 +37,7 @@ group_bytes total g = min (total - 65536 * g) 65536
 abbrev pub IsGoodPart : Outline → List ℕ → ℕ → Type 0
 IsGoodPart outline copy g =
     AreBare (outline_mode outline) (outline_root outline) (outline_text outline) (64 * g) (group_chunks (outline_claimed outline) g)
-    (part_of copy (65536 * g) (group_bytes (outline_claimed outline) g))
+    (piece copy (65536 * g) (group_bytes (outline_claimed outline) g))
 
 -- a verdict of something: true is that it is refused, since it isn't so
 abbrev pub JudgesGroup : Bool → Type 0 → Type 0

@@ -1,12 +1,11 @@
 ghost use Rattle.std.specs.Prelude.{◌≡◌, ◌*◌, ◌<◌, if◌then◌else◌, IfOk};
 ghost use Rattle.bao_text.specs.Choice.{chunk_count};
 ghost use Rattle.bao_check.specs.Outline.{outline_claimed};
-ghost use Rattle.gather.specs.Plains.{part_of};
 ghost use Rattle.bao_tasks.specs.Worth.{IsGoodCut, IsGoodPart, IsWorth, JudgesGroup, groups_of, groups_within};
 
 use b3tree::{CHUNK_LEN, Hash, Mode};
 use bao_check::{GROUP_LEN, Outline, check_bare, check_slice};
-use bao_text::{LENGTH_LEN, Memory, chunk_count, claimed, cut_slice};
+use bao_text::{LENGTH_LEN, Memory, chunk_count, claimed, cut_slice, part_of};
 use std::alloc::Global;
 use store_core::GROUP_BYTES;
 
@@ -87,14 +86,6 @@ pub fn worth_of_encoding(
     Ok(Worth { groups, refused })
 }
 
-// So many bytes of a copy from a byte on, as far as it has them.
-fn part_of(copy: &[u8], start: u64, len: u64) -> &[u8]
-    ensures { result.now ≡ part_of copy.now start len }
-{
-    let rest = &copy[start.min(copy.len() as u64) as usize..];
-    &rest[..len.min(rest.len() as u64) as usize]
-}
-
 // Whether a group's part of a plain copy is refused beside the outline.
 fn refuses_part(outline: &Outline<'_>, copy: &[u8], group: u32) -> bool
     requires { 64 * group < chunk_count (outline_claimed outline.now) }
@@ -105,7 +96,12 @@ fn refuses_part(outline: &Outline<'_>, copy: &[u8], group: u32) -> bool
     let count = (chunk_count(total) - first).min(GROUP_LEN);
     let start = GROUP_BYTES * u64::from(group);
     let len = total.saturating_sub(start).min(GROUP_BYTES);
-    match check_bare(outline, first, count, part_of(copy, start, len)) {
+    match check_bare(
+        outline,
+        first,
+        count,
+        part_of(copy, u128::from(start), u128::from(len)),
+    ) {
         Ok(_) => false,
         Err(_) => true,
     }

@@ -68,28 +68,3 @@ cut_nodes-one text x = elim (cases_Bool (has text x)) [
   | inl there ↦ cut_nodes-cons text x [] there ∙ append-nil (take (size x) (drop x.source text)) ∙ rw there refl
   | inr gone ↦ cut_nodes-missing text x [] gone ∙ rw gone refl
 ]
-
--- a parent x and the nodes of its parts: the parent isn't wholly there
-pub none_whole : (text : List ℕ) (x : TreeNode) (xs ys : List TreeNode) → has text x ≡ false → has_all text (x ∷ (xs ++ ys)) ≡ false
-none_whole text x xs ys gone = has_all-missing text x (xs ++ ys) gone
-
-pub none_cut : (text : List ℕ) (x : TreeNode) (xs ys : List TreeNode) → has text x ≡ false → cut_nodes text (x ∷ (xs ++ ys)) ≡ drop x.source text
-none_cut text x xs ys gone = cut_nodes-missing text x (xs ++ ys) gone
-
--- the left part isn't
-pub left_whole : (text : List ℕ) (x : TreeNode) (xs ys : List TreeNode) → has text x ≡ true → has_all text xs ≡ false → has_all text (x ∷ (xs ++ ys)) ≡ false
-left_whole text x xs ys there short = has_all-cons text x (xs ++ ys) there ∙ has_all-append_short text xs ys short
-
-pub left_cut : (text : List ℕ) (x : TreeNode) (xs ys : List TreeNode) → has text x ≡ true → has_all text xs ≡ false
-    → cut_nodes text (x ∷ (xs ++ ys)) ≡ take (size x) (drop x.source text) ++ cut_nodes text xs
-left_cut text x xs ys there short =
-    cut_nodes-cons text x (xs ++ ys) there ∙ ap (λ (b : List ℕ). take (size x) (drop x.source text) ++ b) (cut_nodes-append_short text xs ys short)
-
--- both are there
-pub both_whole : (text : List ℕ) (x : TreeNode) (xs ys : List TreeNode) → has text x ≡ true → has_all text xs ≡ true → has_all text (x ∷ (xs ++ ys)) ≡ has_all text ys
-both_whole text x xs ys there all = has_all-cons text x (xs ++ ys) there ∙ has_all-append text xs ys all
-
-pub both_cut : (text : List ℕ) (x : TreeNode) (xs ys : List TreeNode) → has text x ≡ true → has_all text xs ≡ true
-    → cut_nodes text (x ∷ (xs ++ ys)) ≡ take (size x) (drop x.source text) ++ (cut_nodes text xs ++ cut_nodes text ys)
-both_cut text x xs ys there all =
-    cut_nodes-cons text x (xs ++ ys) there ∙ ap (λ (b : List ℕ). take (size x) (drop x.source text) ++ b) (cut_nodes-append text xs ys all)

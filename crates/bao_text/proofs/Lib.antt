@@ -2,10 +2,12 @@ pub mod Cutting
 pub mod Everything
 pub mod Laws
 pub mod PieceTexts
-pub mod Places
+pub mod ParentPut
 pub mod SubtreeNodes
 pub mod SubtreeText
 pub mod TextNodes
 pub mod Writing
 pub mod EightChunks
 pub mod NodeNaming
+pub mod Runs
+pub mod Cuts

@@ -1,5 +1,5 @@
 -- A slice's encoding cut out of the bytes of a combined encoding, unchecked.
-use Rattle.std.specs.Prelude.{ℕ, ◌+◌, List, [], ◌∷◌, ◌++◌, length, take, drop, nat_le, nat_lt, if◌then◌else◌, Bool, true, ◌&&◌}
+use Rattle.std.specs.Prelude.{◌≡◌, ℕ, ◌+◌, ◌<◌, ◌≤◌, List, [], ◌∷◌, ◌++◌, length, take, drop, nat_le, nat_lt, if◌then◌else◌, Bool, true, ◌&&◌, sum_by}
 use Rattle.std.specs.Int.{w64, from_le_bytes}
 use Rattle.bao_text.specs.Nodes.{TreeNode, nodes, size}
 
@@ -26,3 +26,14 @@ claimed text = from_le_bytes w64 (take 8 text)
 abbrev pub cut_text : List ℕ → ℕ → ℕ → List ℕ
 cut_text text start len =
     if nat_lt (length text) 8 then text else take 8 text ++ cut_nodes text (nodes (claimed text) start len)
+
+-- how many bytes the slice (start, len) of a blob of `total` bytes has
+abbrev pub slice_len : ℕ → ℕ → ℕ → ℕ
+slice_len total start len = 8 + sum_by size (nodes total start len)
+
+-- The nodes follow as they are cut out of the bytes, whichever these are, and it is told whether all were there, but of a
+-- tree over no byte; they are no more bytes than the nodes have.
+pub record Cuts (Holds : List ℕ → Type 0) (old new : List ℕ) (nodes : List TreeNode) (n : ℕ) (whole : Bool) : Type 0 where
+  pub cut : (bytes : List ℕ) → Holds bytes → new ≡ old ++ cut_nodes bytes nodes
+  pub all : (bytes : List ℕ) → Holds bytes → 0 < n → whole ≡ has_all bytes nodes
+  pub few : length new ≤ length old + sum_by size nodes

@@ -2,8 +2,9 @@
 #![tactic(auto)]
 
 pub use choice::Choice;
-pub use cut::{claimed, cut_slice};
+pub use cut::{append_cut, claimed, cut_slice};
 pub use fault::{Memory, WriteFault};
+pub use places::{Places, part_of};
 pub use sizes::{
     CV_LEN, EIGHT_LEN, LENGTH_LEN, PARENT_LEN, chunk_count, encoded_len, outboard_len, subtree_size,
 };
@@ -17,6 +18,7 @@ mod cut;
 mod eight;
 mod fault;
 mod pieces;
+mod places;
 mod sizes;
 mod slices;
 mod texts;

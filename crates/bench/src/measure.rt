@@ -5,9 +5,16 @@ use std::io;
 use std::rt::Clock;
 use std::thread::Threads;
 use std::time::{Duration, Instant};
+use store_core::GROUP_BYTES;
 
 // How often each way is taken. The ways take turns.
 const ROUNDS: u32 = 5;
+
+/// The bytes of a group of 64 chunks.
+pub const GROUP_LEN: usize = GROUP_BYTES as usize;
+
+/// The most bytes that a store has room for.
+pub const MOST: usize = 1 << 26;
 
 /// The ways, by the names of their lines.
 const WAYS: [(&str, Way); 6] = [

@@ -1,7 +1,7 @@
 ghost use Rattle.std.specs.Prelude.{IfOk};
 ghost use Rattle.store_shared.specs.Seats.{IsSeatOf};
 
-use crate::measure::print_row;
+use crate::measure::{MOST, print_row};
 use anyhow::{Context, Result, ensure};
 use b3tree::{CHUNK_LEN, Hash, Mode};
 use bao_check::{Checked, check_slice};
@@ -10,17 +10,11 @@ use gather::boundary_groups;
 use std::io;
 use std::rt::Clock;
 use std::time::{Duration, Instant};
-use store_core::MAX_CAPACITY;
+use store_core::{GROUP_BYTES, MAX_CAPACITY};
 use store_shared::{Assembly, Seat};
 
 // How often it is done.
 const ROUNDS: u32 = 5;
-
-// The most bytes that a store has room for.
-const MOST: usize = 1 << 26;
-
-// Bytes of a group.
-const GROUP_LEN: u64 = 64 * CHUNK_LEN as u64;
 
 // How long the parents of a piece take to be found and stored, and how many of them were not held before.
 fn timed_piece<R: Clock + AllocGlobal>(
@@ -65,15 +59,15 @@ fn timed_parents<R: Clock + AllocGlobal>(
     let (store, mut seat) = store_of(rt, root, encoding)?;
     let mut time = Duration::ZERO;
     let mut parents = 0u64;
-    for group in 0..(len as u64).div_ceil(GROUP_LEN) {
-        let at = GROUP_LEN * group;
-        let text = cut_slice(rt.alloc(), encoding, at, GROUP_LEN)?;
+    for group in 0..(len as u64).div_ceil(GROUP_BYTES) {
+        let at = GROUP_BYTES * group;
+        let text = cut_slice(rt.alloc(), encoding, at, GROUP_BYTES)?;
         let piece = check_slice(
             rt.alloc(),
             &Mode::hash(),
             root,
             at,
-            GROUP_LEN,
+            GROUP_BYTES,
             text.as_slice(),
         )?;
         let (taken, stored) = timed_piece(rt, &store, &mut seat, &piece)?;

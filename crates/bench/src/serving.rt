@@ -1,7 +1,7 @@
 ghost use Rattle.std.specs.Prelude.{IfOk};
 ghost use Rattle.store_shared.specs.Seats.{IsSeatOf};
 
-use crate::measure::print_row;
+use crate::measure::{GROUP_LEN, MOST, print_row};
 use anyhow::{Context, Result, ensure};
 use b3tree::{CHUNK_LEN, Hash, Mode};
 use bao_check::{Checked, check_combined};
@@ -18,12 +18,6 @@ const ROUNDS: u32 = 5;
 
 // How often a slice is served, or its bytes are read, each time.
 const TIMES: u32 = 16;
-
-// The most bytes that a store has room for.
-const MOST: usize = 1 << 26;
-
-// The bytes of a group of 64 chunks.
-const GROUP_LEN: usize = 64 * CHUNK_LEN;
 
 // The bytes of the blob that the slice is of.
 const SLICE_LEN: usize = 1 << 20;

@@ -3,9 +3,9 @@ ghost use Rattle.bench.specs.Shares.{IsSharedStill};
 ghost use Rattle.crews.specs.Crews.{Each};
 ghost use Rattle.store_shared.specs.Seats.{IsSeatOf};
 
-use crate::measure::print_row;
+use crate::measure::{GROUP_LEN, MOST, print_row};
 use anyhow::{Result, bail, ensure};
-use b3tree::{Hash, Mode};
+use b3tree::{CHUNK_LEN, Hash, Mode};
 use bao_check::{Checked, check_combined};
 use bao_text::combined;
 use std::alloc::Global;
@@ -20,14 +20,6 @@ use store_shared::{Assembly, Seat};
 
 // How often each is done.
 const ROUNDS: u32 = 5;
-
-// The most bytes that a store has room for.
-const MOST: usize = 1 << 26;
-
-// The bytes of a chunk, and of a group of 64.
-const CHUNK_LEN: usize = 1 << 10;
-
-const GROUP_LEN: usize = 1 << 16;
 
 // The words of a chunk's cell.
 const CELL_LEN: usize = 129;

@@ -1,4 +1,4 @@
-use crate::measure::print_row;
+use crate::measure::{GROUP_LEN, MOST, print_row};
 use anyhow::{Result, ensure};
 use b3tree::{Hash, Mode, hash};
 use bao_check::{Checked, check_combined};
@@ -12,12 +12,6 @@ use store_core::{MAX_CAPACITY, Store};
 
 // How often each is done.
 const ROUNDS: u32 = 5;
-
-// The most bytes that a store has room for.
-const MOST: usize = 1 << 26;
-
-// The bytes of a group of 64 chunks.
-const GROUP_LEN: usize = 1 << 16;
 
 const SEAT: u32 = 0;
 

@@ -1,6 +1,6 @@
 ghost use Rattle.std.specs.Prelude.{◌<◌, ◌≤◌};
 
-use crate::measure::print_row;
+use crate::measure::{MOST, print_row};
 use anyhow::{Result, ensure};
 use b3tree::{Hash, Mode};
 use bao_text::combined;
@@ -14,9 +14,6 @@ use store_shared::Assembly;
 
 // How often each is done.
 const ROUNDS: u32 = 5;
-
-// The most bytes that a store has room for.
-const MOST: usize = 1 << 26;
 
 /// The least times in which workers gather the bytes, the first 64 MiB of them at most, in one shared store.
 #[derive(Clone, Copy)]

@@ -72,7 +72,7 @@ fn gathered(
         workers,
     };
     let mut all = counts(report);
-    let mut holders = [Encoded::new(alloc, text)];
+    let mut holders = [Encoded::new(text)];
     // A law, so that the proof has what it says: nothing runs.
     store.mode().is_keyed();
     work(alloc, &Shared(store), seat, &mut holders, place, &mut all);

@@ -1,8 +1,8 @@
 -- What is known of a text that follows.
-use Rattle.std.proofs.Common.{◌≡◌, ◌⊎◌, ℕ, List, ◌++◌, length, take, drop, Option, None, Some, refl, sym, ap, ◌∙◌, inl}
+use Rattle.std.proofs.Common.{◌≡◌, ◌⊎◌, ℕ, List, ◌++◌, length, take, drop, Option, None, Some, refl, sym, ap, subst, ◌∙◌, inl}
 use Rattle.std.proofs.lemmas.List.{drop_at, take-append-drop}
 use Rattle.gather.specs.Holders.{Appends}
-use Rattle.gather.specs.Places.{IsLost, OfBytes}
+use Rattle.gather.specs.Places.{AreKnown, IsLost, OfBytes}
 
 pub Appends-known : (contents : Option (List ℕ)) (faultless : Type 0) (old new : List ℕ) (text_of : List ℕ → List ℕ) → take (length old) new ≡ old
     → OfBytes contents (λ s. new ≡ old ++ text_of s) → Appends (λ text. OfBytes contents (λ s. (text ≡ text_of s) ⊎ IsLost faultless text)) old new
@@ -16,3 +16,12 @@ Appends-known (Some s) faultless old new text_of kept is = record {
   is = sym (take-append-drop (length old) new) ∙ ap (λ (xs : List ℕ). xs ++ drop (length old) new) kept;
   given = λ fits. inl (ap (drop (length old)) (is fits) ∙ drop_at old (text_of s) (length old) refl);
 }
+
+-- what holds of the bytes that are known is said of the source's bytes
+pub of_known : (contents : Option (List ℕ)) (P : List ℕ → Type 0) → ((s : List ℕ) → AreKnown contents s → P s) → OfBytes contents P
+of_known None P known = tt
+of_known (Some s) P known = λ fits. known s (refl, fits)
+
+-- and the other way
+pub at_known : (contents : Option (List ℕ)) (P : List ℕ → Type 0) (s : List ℕ) → AreKnown contents s → OfBytes contents P → P s
+at_known contents P s known of = (subst (λ (o : Option (List ℕ)). OfBytes o P) known.0 of) known.1

@@ -14,7 +14,5 @@ pub mod Handing
 pub mod Answering
 pub mod Rooms
 pub mod Reading
-pub mod Runs
-pub mod Cuts
 pub mod Appending
 pub mod Lending

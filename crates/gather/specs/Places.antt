@@ -1,12 +1,15 @@
 -- What holders over a source that is read at places hand over.
-use Rattle.std.specs.Prelude.{◌≡◌, ◌⊎◌, ℕ, ◌+◌, ◌^◌, ◌<◌, List, [], length, Option, IfSome, sum_by}
+use Rattle.std.specs.Prelude.{◌≡◌, ◌⊎◌, ℕ, ◌^◌, ◌<◌, List, [], length, Option, Some, IfSome}
+use Rattle.b3tree.specs.Pieces.{piece}
 use Rattle.bao_text.specs.Cut.{cut_text}
-use Rattle.bao_text.specs.Nodes.{nodes, size}
-use Rattle.gather.specs.Plains.{part_of}
 
 -- What is said of a source's bytes, where they are known and no more than a file or a slice of memory can have.
 abbrev pub OfBytes : Option (List ℕ) → (List ℕ → Type 0) → Type 0
 OfBytes contents P = IfSome contents (λ bytes. length bytes < 2 ^ 63 → P bytes)
+
+-- these are the bytes, known and no more than a file or a slice of memory can have
+abbrev pub AreKnown : Option (List ℕ) → List ℕ → Type 0
+AreKnown contents bytes = (contents ≡ Some bytes) × (length bytes < 2 ^ 63)
 
 -- nothing, since a read failed
 abbrev pub IsLost : Type 0 → List ℕ → Type 0
@@ -18,8 +21,4 @@ IsCutAt contents faultless start len text = OfBytes contents (λ bytes. (text �
 
 -- so many of the bytes from one on, as far as they go
 abbrev pub IsPartAt : Option (List ℕ) → Type 0 → ℕ → ℕ → List ℕ → Type 0
-IsPartAt contents faultless start len text = OfBytes contents (λ bytes. (text ≡ part_of bytes start len) ⊎ IsLost faultless text)
-
--- how many bytes the slice (start, len) of a blob of `total` bytes has
-abbrev pub slice_len : ℕ → ℕ → ℕ → ℕ
-slice_len total start len = 8 + sum_by size (nodes total start len)
+IsPartAt contents faultless start len text = OfBytes contents (λ bytes. (text ≡ piece bytes start len) ⊎ IsLost faultless text)

@@ -1,12 +1,13 @@
 ghost use Rattle.std.specs.Prelude.{◌≡◌, ℕ, ◌+◌, ◌-◌, ◌^◌, ◌<◌, ◌≤◌, ◌++◌, length, IsErrOf, OnErr, OnOk};
-ghost use Rattle.bao_text.specs.Cut.{cut_text};
+ghost use Rattle.bao_text.specs.Cut.{cut_text, slice_len};
 ghost use Rattle.gather.specs.declared.holder.HolderFault.TheVariants.{Device};
 ghost use Rattle.gather.specs.Holders.{Appends, GivesNoMore};
-ghost use Rattle.gather.specs.Places.{IsCutAt, OfBytes, slice_len};
+ghost use Rattle.gather.specs.Places.{IsCutAt, OfBytes};
 
 use crate::holder::{Holder, HolderFault};
-use crate::places::{append_slice, taken_back};
+use crate::places::{Placed, taken_back};
 use bao_read::Source;
+use bao_text::append_cut;
 
 /// The holder over a combined encoding that is read at places, which nobody has checked. Its memory doesn't grow with the
 /// encoding. It keeps the source by reference.
@@ -48,7 +49,7 @@ impl<'a, S: Source> Holder for EncodedAt<'a, S> {
         ensures few { OnOk result ((total : ℕ) × (total < 2 ^ 64) × (length into.new.items ≤ length into.old.items + slice_len total start len)) }
     {
         let before = into.len();
-        match append_slice(self.source, start, len, into) {
+        match append_cut(&Placed(self.source), start, len, into) {
             Ok(()) => Ok(()),
             Err(fault) => taken_back(fault, before, &mut self.faults, into),
         }

@@ -2,8 +2,7 @@ ghost use Rattle.std.specs.Prelude.{◌≡◌, ℕ, List, ◌<◌, ◌≤◌, �
 ghost use Rattle.gather.specs.declared.holder.HolderFault.TheVariants.{Device};
 ghost use Rattle.gather.specs.Holders.{Appends, GivesNoMore};
 
-use bao_text::cut_slice;
-use std::alloc::Global;
+use bao_text::append_cut;
 use thiserror::Error;
 
 /// Why a holder gave no text.
@@ -46,7 +45,6 @@ pub trait Holder {
 /// The holder over the bytes of a combined encoding, which nobody has checked. It keeps them by reference.
 #[derive(Drop)]
 pub struct Encoded<'a> {
-    alloc: Global,
     text: &'a [u8],
 }
 
@@ -54,10 +52,10 @@ impl<'a> Encoded<'a> {
     ghost use Rattle.gather.specs.Encodings.{encoding};
 
     /// A holder of these bytes.
-    pub fn new(alloc: Global, text: &'a [u8]) -> Encoded<'a>
+    pub fn new(text: &'a [u8]) -> Encoded<'a>
         ensures { encoding result ≡ text.now }
     {
-        Encoded { alloc, text }
+        Encoded { text }
     }
 }
 
@@ -69,7 +67,7 @@ impl<'a> Holder for Encoded<'a> {
 
     ghost gives = { λ holder start len text. IsCut holder start len text };
 
-    /// Appends the slice as `cut_slice` cuts it out of the bytes. No device fails.
+    /// Appends the slice as `append_cut` cuts it out of the bytes. No device fails.
     fn fetch(&mut self, start: u64, len: u64, into: &mut Vec<u8>) -> Result<(), HolderFault>
         ensures appended { OnOk result (Appends (IsCut self.old start len) into.old.items into.new.items) }
         ensures no_more { GivesNoMore IsCut self.old self.new }
@@ -79,14 +77,12 @@ impl<'a> Holder for Encoded<'a> {
         ensures same { encoding self.new ≡ encoding self.old }
         ensures cut { OnOk result (into.new.items ≡ into.old.items ++ cut_text (encoding self.old) start len) }
     {
-        let text = cut_slice(self.alloc, self.text, start, len).map_err(|_| HolderFault::Memory)?;
-        if into.is_empty() {
-            // The vector itself is handed over: nothing is copied twice.
-            *into = text;
-            return Ok(());
+        let before = into.len();
+        if append_cut(&self.text, start, len, into).is_err() {
+            into.truncate(before);
+            return Err(HolderFault::Memory);
         }
-        into.extend_from_slice(text.as_slice())
-            .map_err(|_| HolderFault::Memory)
+        Ok(())
     }
 
     fn faults(&self) -> u64 {

@@ -1,16 +1,12 @@
-ghost use Rattle.std.specs.Prelude.{◌≡◌, ℕ, List, true, ◌+◌, ◌-◌, ◌*◌, ◌^◌, ◌<◌, ◌≤◌, ◌++◌, length, take, drop, nat_le, IfOk, IfSome, IsErrOf, OnOk};
-ghost use Rattle.bao_text.specs.Cut.{cut_text};
-ghost use Rattle.bao_text.specs.Nodes.{Side, subtree_nodes, subtree_size};
+ghost use Rattle.std.specs.Prelude.{◌≡◌, true, ◌+◌, ◌-◌, ◌^◌, ◌<◌, ◌≤◌, ◌++◌, length, take, nat_le, IfOk, IfSome, IsErrOf, OnOk};
+ghost use Rattle.b3tree.specs.Pieces.{piece};
 ghost use Rattle.gather.specs.declared.holder.HolderFault.TheVariants.{Device};
-ghost use Rattle.gather.specs.Places.{OfBytes, slice_len};
-ghost use Rattle.gather.specs.Plains.{part_of};
-ghost use Rattle.gather.specs.Reads.{Cuts, ReadFrom};
+ghost use Rattle.gather.specs.Places.{OfBytes};
+ghost use Rattle.gather.specs.Reads.{ReadFrom};
 
-use crate::form::CHUNK_LEN;
 use crate::holder::HolderFault;
-use b3tree::left_len;
 use bao_read::Source;
-use bao_text::{Choice, LENGTH_LEN, PARENT_LEN, claimed, subtree_size};
+use bao_text::Places;
 
 // No file and no slice of memory has a byte at this place or after it.
 const END: u128 = i64::MAX as u128;
@@ -55,7 +51,7 @@ pub(crate) fn append_part<S: Source>(
     into: &mut Vec<u8>,
 ) -> Result<bool, HolderFault>
     requires { at + len < 2 ^ 128 }
-    ensures part { OnOk result (OfBytes (S.contents source.now) (λ bytes. into.new.items ≡ into.old.items ++ part_of bytes at len)) }
+    ensures part { OnOk result (OfBytes (S.contents source.now) (λ bytes. into.new.items ≡ into.old.items ++ piece bytes at len)) }
     ensures whole { IfOk result (λ whole. OfBytes (S.contents source.now) (λ bytes. 0 < len → whole ≡ nat_le (at + len) (length bytes))) }
     ensures all { IfOk result (λ whole. whole ≡ true → length into.new.items ≡ length into.old.items + len) }
     ensures few { OnOk result (length into.new.items ≤ length into.old.items + len) }
@@ -78,70 +74,22 @@ pub(crate) fn append_part<S: Source>(
     Ok(true)
 }
 
-// Appends the wanted nodes of the subtree over `n` bytes from chunk `number` on, which begins at the place `at` of a combined
-// encoding, up to the first that isn't wholly there; answers whether all were. A subtree of which everything is wanted
-// is one part.
-fn append_subtree<S: Source>(
-    source: &S,
-    choice: &Choice,
-    number: u64,
-    n: u64,
-    at: u128,
-    into: &mut Vec<u8>,
-) -> Result<bool, HolderFault>
-    requires range { 1024 * number + n ≤ 2 ^ 64 - 1 }
-    requires room { at + subtree_size n < 2 ^ 128 }
-    requires chunks { choice.now.chunks ≡ true }
-    ensures cuts { (sides : List Side) → IfOk result (λ whole. Cuts (S.contents source.now) into.old.items into.new.items (subtree_nodes choice.now number n sides at) n whole) }
-    ensures kept { take (length into.old.items) into.new.items ≡ into.old.items }
-    ensures device { IsErrOf result Device → S.faultless source.now → ⊥ }
-{
-    let first = CHUNK_LEN * number;
-    if !choice.wants(first, n) {
-        return Ok(true);
-    }
-    if n <= CHUNK_LEN || choice.covers(first, n) {
-        return append_part(source, at, subtree_size(n), into);
-    }
-    if !append_part(source, at, PARENT_LEN as u128, into)? {
-        return Ok(false);
-    }
-    let left_len = left_len(n);
-    let left_at = at + PARENT_LEN as u128;
-    if !append_subtree(source, choice, number, left_len, left_at, into)? {
-        return Ok(false);
-    }
-    let right_at = left_at + subtree_size(left_len);
-    append_subtree(
-        source,
-        choice,
-        number + left_len / CHUNK_LEN,
-        n - left_len,
-        right_at,
-        into,
-    )
-}
+// What a source has, as bytes that lie at places.
+#[derive(Drop)]
+pub(crate) struct Placed<'a, S: Source>(pub(crate) &'a S);
 
-// Appends the slice as it is cut out of the combined encoding that the source has.
-pub(crate) fn append_slice<S: Source>(
-    source: &S,
-    start: u64,
-    len: u64,
-    into: &mut Vec<u8>,
-) -> Result<(), HolderFault>
-    ensures cut { OnOk result (OfBytes (S.contents source.now) (λ bytes. into.new.items ≡ into.old.items ++ cut_text bytes start len)) }
-    ensures few { OnOk result ((total : ℕ) × (total < 2 ^ 64) × (length into.new.items ≤ length into.old.items + slice_len total start len)) }
-    ensures kept { take (length into.old.items) into.new.items ≡ into.old.items }
-    ensures device { IsErrOf result Device → S.faultless source.now → ⊥ }
-{
-    let begin = into.len();
-    if !append_part(source, 0, LENGTH_LEN as u128, into)? {
-        return Ok(());
+impl<'a, S: Source> Places for Placed<'a, S> {
+    ghost use Rattle.gather.specs.Places.{AreKnown};
+
+    type Fault = HolderFault;
+
+    ghost holds = { λ placed bytes. AreKnown (S.contents placed.0.now) bytes };
+
+    ghost fails = { λ placed fault. fault ≡ Device → S.faultless placed.0.now → ⊥ };
+
+    fn append(&self, at: u128, len: u128, into: &mut Vec<u8>) -> Result<bool, HolderFault> {
+        append_part(self.0, at, len, into)
     }
-    let total = claimed(&into.as_slice()[begin..]);
-    let choice = Choice::of_slice(total, start, len);
-    append_subtree(source, &choice, 0, total, LENGTH_LEN as u128, into)?;
-    Ok(())
 }
 
 // A fault of a fetch, once it is counted and what the fetch appended is taken back. Where the count is full, a fault of

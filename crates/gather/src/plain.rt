@@ -1,9 +1,11 @@
 ghost use Rattle.std.specs.Prelude.{◌≡◌, ◌<◌, ◌≤◌, ◌++◌, IfOk, IsErrOf, OnErr, OnOk, map, vec_items};
+ghost use Rattle.b3tree.specs.Pieces.{piece};
 ghost use Rattle.gather.specs.declared.holder.HolderFault.TheVariants.{Device};
 ghost use Rattle.gather.specs.Holders.{Appends, GivesNoMore};
-ghost use Rattle.gather.specs.Plains.{IsPartOf, copy_of, part_of};
+ghost use Rattle.gather.specs.Plains.{IsPartOf, copy_of};
 
 use crate::holder::{Holder, HolderFault};
+use bao_text::part_of;
 use std::alloc::{AllocError, Global};
 
 /// The holder over a plain copy of a blob, which nobody has checked. It keeps the copy's bytes by reference.
@@ -35,10 +37,9 @@ impl<'a> Holder for Plain<'a> {
         ensures device { IsErrOf result Device → 0 < 0 }
         ensures counts { 0 ≤ 0 }
         ensures same { copy_of self.new ≡ copy_of self.old }
-        ensures part { OnOk result (into.new.items ≡ into.old.items ++ part_of (copy_of self.old) start len) }
+        ensures part { OnOk result (into.new.items ≡ into.old.items ++ piece (copy_of self.old) start len) }
     {
-        let rest = &self.copy[start.min(self.copy.len() as u64) as usize..];
-        let part = &rest[..len.min(rest.len() as u64) as usize];
+        let part = part_of(self.copy, u128::from(start), u128::from(len));
         into.extend_from_slice(part)
             .map_err(|_| HolderFault::Memory)
     }

@@ -1,8 +1,8 @@
 ghost use Rattle.std.specs.Prelude.{◌≡◌, ◌+◌, ◌-◌, ◌^◌, ◌<◌, ◌≤◌, ◌++◌, length, IsErrOf, OnErr, OnOk};
+ghost use Rattle.b3tree.specs.Pieces.{piece};
 ghost use Rattle.gather.specs.declared.holder.HolderFault.TheVariants.{Device};
 ghost use Rattle.gather.specs.Holders.{Appends, GivesNoMore};
 ghost use Rattle.gather.specs.Places.{IsPartAt, OfBytes};
-ghost use Rattle.gather.specs.Plains.{part_of};
 
 use crate::holder::{Holder, HolderFault};
 use crate::places::{append_part, taken_back};
@@ -43,7 +43,7 @@ impl<'a, S: Source> Holder for PlainAt<'a, S> {
         ensures counts { self.old.faults ≤ self.new.faults }
         ensures failed { IsErrOf result Device → S.faultless self.old.source.now → ⊥ }
         ensures same { self.new.source.now ≡ self.old.source.now }
-        ensures part { OnOk result (self.old.faults < 2 ^ 64 - 1 → OfBytes (S.contents self.old.source.now) (λ bytes. into.new.items ≡ into.old.items ++ part_of bytes start len)) }
+        ensures part { OnOk result (self.old.faults < 2 ^ 64 - 1 → OfBytes (S.contents self.old.source.now) (λ bytes. into.new.items ≡ into.old.items ++ piece bytes start len)) }
         ensures few { OnOk result (length into.new.items ≤ length into.old.items + len) }
     {
         let before = into.len();

@@ -21,7 +21,7 @@ pub fn holders_over<'a>(alloc: Global, texts: &'a [Vec<u8>]) -> Result<Vec<Encod
 {
     let mut holders = Vec::with_capacity(alloc, texts.len())?;
     for text in texts {
-        holders.push(Encoded::new(alloc, text.as_slice()))?;
+        holders.push(Encoded::new(text.as_slice()))?;
     }
     Ok(holders)
 }

@@ -94,8 +94,8 @@ fn two_workers_pass_at_once(rt: HostRuntime) -> Result<(), Fail> {
     let bytes = blob(rt.alloc(), 3000)?;
     let (root, whole) = combined(rt.alloc(), &Mode::hash(), bytes.as_slice())?;
     let (assembly, seat) = shared(rt.alloc(), root, 3)?;
-    let first = vec![in rt.alloc(); Encoded::new(rt.alloc(), whole.as_slice())]?;
-    let second = vec![in rt.alloc(); Encoded::new(rt.alloc(), whole.as_slice())]?;
+    let first = vec![in rt.alloc(); Encoded::new(whole.as_slice())]?;
+    let second = vec![in rt.alloc(); Encoded::new(whole.as_slice())]?;
     let gate = Meeting::of(2);
     let (mut seat, report) = run_lists(
         &rt,
@@ -125,7 +125,7 @@ fn two_workers_ask_at_once(rt: HostRuntime) -> Result<(), Fail> {
         let late = Late {
             meeting: &meeting,
             waits: true,
-            holder: Encoded::new(rt.alloc(), whole.as_slice()),
+            holder: Encoded::new(whole.as_slice()),
         };
         lists.push(vec![in rt.alloc(); late]?)?;
     }
@@ -181,7 +181,7 @@ fn a_device_that_fails(rt: HostRuntime) -> Result<(), Fail> {
     };
     let good = Peer {
         faults: 0,
-        whole: Some(Encoded::new(rt.alloc(), whole.as_slice())),
+        whole: Some(Encoded::new(whole.as_slice())),
     };
     let holders = vec![in rt.alloc(); broken, good]?;
     let (mut seat, report) = run_lists(

@@ -68,10 +68,7 @@ fn two_of_three_holders_are_bad(rt: HostRuntime) -> Result<(), Fail> {
     let fixed = fixed(root, 65_536);
     let mut store = store(&rt, &fixed)?;
     let cut = whole.as_slice().get(..1000).ok_or("cut")?;
-    let mut bad = [
-        Encoded::new(rt.alloc(), cut),
-        Encoded::new(rt.alloc(), shorter.as_slice()),
-    ];
+    let mut bad = [Encoded::new(cut), Encoded::new(shorter.as_slice())];
     let report = ample(run_one(rt.alloc(), &mut store, &mut bad))?;
     let nothing = Report {
         committed: 0,
@@ -85,9 +82,9 @@ fn two_of_three_holders_are_bad(rt: HostRuntime) -> Result<(), Fail> {
     assert_eq!(rt; report, nothing);
     assert_eq!(rt; finish_fault(&rt, &store)?, FinishFault::Unfinished);
     let mut holders = [
-        Encoded::new(rt.alloc(), cut),
-        Encoded::new(rt.alloc(), shorter.as_slice()),
-        Encoded::new(rt.alloc(), whole.as_slice()),
+        Encoded::new(cut),
+        Encoded::new(shorter.as_slice()),
+        Encoded::new(whole.as_slice()),
     ];
     let report = ample(run_one(rt.alloc(), &mut store, &mut holders))?;
     let all = Report {
@@ -165,8 +162,8 @@ fn texts_of_a_root_of_no_blob(rt: HostRuntime) -> Result<(), Fail> {
     let fixed = fixed(root, 65);
     let mut store = store(&rt, &fixed)?;
     let mut holders = [
-        Encoded::new(rt.alloc(), end_text.as_slice()),
-        Encoded::new(rt.alloc(), begin_text.as_slice()),
+        Encoded::new(end_text.as_slice()),
+        Encoded::new(begin_text.as_slice()),
     ];
     let report = ample(run_one(rt.alloc(), &mut store, &mut holders))?;
     assert_eq!(rt;
@@ -232,7 +229,7 @@ fn a_device_that_fails(rt: HostRuntime) -> Result<(), Fail> {
         (0, Kind::Starved, 0, 0, 2),
     ] {
         let mut store = store(&rt, &fixed(root, 3))?;
-        let good = Encoded::new(rt.alloc(), whole.as_slice());
+        let good = Encoded::new(whole.as_slice());
         let mut holders = [
             Peer { faults, kind },
             Peer {
@@ -276,7 +273,7 @@ fn a_growth_that_is_refused(rt: HostRuntime) -> Result<(), Fail> {
         }
     }
     let mut store = store(&rt, &fixed(root, 3))?;
-    let mut holders = [Encoded::new(rt.alloc(), whole_of(&texts)?)];
+    let mut holders = [Encoded::new(whole_of(&texts)?)];
     let report = run_one(rt.alloc(), &mut store, &mut holders);
     if report.committed < 3 {
         assert!(rt; report.memory > 0);

@@ -57,7 +57,7 @@ fn compare(rt: &HostRuntime, path: &str, text: &[u8]) -> Result<(), Fail> {
     let file = fs::open(rt, path)?;
     for (start, len) in RANGES {
         let got = appended(rt, &mut EncodedAt::new(&file), start, len)?;
-        let expected = appended(rt, &mut Encoded::new(rt.alloc(), text), start, len)?;
+        let expected = appended(rt, &mut Encoded::new(text), start, len)?;
         agree(got.as_slice(), expected.as_slice())?;
         let got = appended(rt, &mut PlainAt::new(&file), start, len)?;
         let expected = appended(rt, &mut Plain::new(text), start, len)?;
@@ -141,7 +141,7 @@ fn short_reads_give_the_same(rt: HostRuntime) -> Result<(), Fail> {
         for most in [63, 1000] {
             let source = Dealing::of(text.as_slice(), most);
             let got = appended(&rt, &mut EncodedAt::new(&source), start, len)?;
-            let mut holder = Encoded::new(rt.alloc(), text.as_slice());
+            let mut holder = Encoded::new(text.as_slice());
             let expected = appended(&rt, &mut holder, start, len)?;
             assert_eq!(rt; got.as_slice(), expected.as_slice(), "{start} {len} {most}");
             let got = appended(&rt, &mut PlainAt::new(&source), start, len)?;
@@ -191,7 +191,7 @@ fn a_read_fails(rt: HostRuntime) -> Result<(), Fail> {
 fn a_source_shrinks(rt: HostRuntime) -> Result<(), Fail> {
     let bytes = blob(&rt, LEN)?;
     let (_, text) = combined(rt.alloc(), &Mode::hash(), bytes.as_slice())?;
-    let mut holder = Encoded::new(rt.alloc(), text.as_slice());
+    let mut holder = Encoded::new(text.as_slice());
     let slice = appended(&rt, &mut holder, 131_072, 65_536)?;
     for (shrinks, left) in [
         (0, 0),

@@ -51,7 +51,7 @@ fn fed<R: Threads + Sync>(
     let (assembly, seat) = Assembly::new(alloc, root, Mode::hash(), 192)?;
     let third = Third {
         group,
-        whole: Encoded::new(alloc, whole),
+        whole: Encoded::new(whole),
     };
     let holders = vec![in alloc; third]?;
     let lists = vec![in alloc; holders]?;

@@ -56,7 +56,7 @@ fn a_holder_without_memory(rt: HostRuntime) -> Result<(), Fail> {
         let starving = Starving {
             fetches,
             refused: &refused,
-            holder: Encoded::new(rt.alloc(), whole.as_slice()),
+            holder: Encoded::new(whole.as_slice()),
         };
         let holders = vec![in rt.alloc(); starving]?;
         let lists = vec![in rt.alloc(); holders]?;
@@ -93,7 +93,7 @@ fn a_growth_that_is_refused(rt: HostRuntime) -> Result<(), Fail> {
     let texts = vec![in rt.alloc(); whole]?;
     let text = texts.first().ok_or("text")?.as_slice();
     let (assembly, seat) = shared(rt.alloc(), root, 3)?;
-    let holders = vec![in rt.alloc(); Encoded::new(rt.alloc(), text)]?;
+    let holders = vec![in rt.alloc(); Encoded::new(text)]?;
     let lists = vec![in rt.alloc(); holders]?;
     let (seat, report) = run_lists(&rt, rt.alloc(), &assembly, seat, lists, &Open)?;
     if report.memory > 1 {

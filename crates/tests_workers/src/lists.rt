@@ -77,7 +77,7 @@ pub fn run_texts<R: Threads + Sync>(
     for _ in 0..workers {
         let mut holders = Vec::with_capacity(alloc, texts.len())?;
         for text in texts {
-            holders.push(Encoded::new(alloc, text))?;
+            holders.push(Encoded::new(text))?;
         }
         lists.push(holders)?;
     }

@@ -7,7 +7,7 @@ use Rattle.bao_text.specs.Choice.{wants}
 use Rattle.bao_text.specs.EightText.{eight_text}
 use Rattle.bao_text.specs.Texts.{chunk_text, parent_text, subtree_text}
 use Rattle.bao_text.proofs.EightChunks.{text-eight, top-eight}
-use Rattle.bao_text.proofs.Places.{parent_put}
+use Rattle.bao_text.proofs.ParentPut.{parent_put}
 use Rattle.bao_text.proofs.SubtreeText.{subtree_text-leaf, subtree_text-parent, subtree_text-unwanted}
 use Rattle.bao_text.proofs.texts.+append_subtree.Goals as goal
 use Rattle.bao_text.proofs.texts.+append_subtree.Goals.{else-choice, then-choice+in_ok-extend}

@@ -1,7 +1,7 @@
 use Rattle.std.proofs.Common.{ℕ, List, subst}
+use Rattle.b3tree.specs.Pieces.{piece}
 use Rattle.gather.specs.Holders.{Appends}
 use Rattle.gather.specs.Places.{IsPartAt}
-use Rattle.gather.specs.Plains.{part_of}
 use Rattle.gather.proofs.Appending.{Appends-known}
 use Rattle.gather.proofs.plain_at.PlainAtHolder.fetch.Goals as goal
 
@@ -12,6 +12,6 @@ returns-in-Ok-clause-appended g c =
     let old : List ℕ = c.args.into.now.items in
     let new : List ℕ = c.append_part.new.into.items in
     let known : Appends (IsPartAt contents faultless c.from.result c.from-2.result) old new =
-    Appends-known contents faultless old new (λ (s : List ℕ). part_of s c.from.result c.from-2.result) c.in-Ok.ensures.kept c.in-Ok.ensures.part in
+    Appends-known contents faultless old new (λ (s : List ℕ). piece s c.from.result c.from-2.result) c.in-Ok.ensures.kept c.in-Ok.ensures.part in
     subst (λ (start : ℕ). Appends (IsPartAt contents faultless start c.args.len) old new) c.from.ensures
     (subst (λ (len : ℕ). Appends (IsPartAt contents faultless c.from.result len) old new) c.from-2.ensures known)
