@@ -8,23 +8,23 @@ use Rattle.bao_command.specs.declared.fault.Fault.TheVariants.{Word, Root, Key, 
 
 -- what a fault leaves of the line that was to be printed: a beginning where it is that of standard
 -- output, and nothing else
-abbrev pub Leaves : List ℕ → Option (List ℕ) → Option (List ℕ) → Fault → Type 0
-Leaves line old new Word = Keeps old new
-Leaves line old new Root = Keeps old new
-Leaves line old new Key = Keeps old new
-Leaves line old new KeyAndContext = Keeps old new
-Leaves line old new OutputRange = Keeps old new
-Leaves line old new TooManyFiles = Keeps old new
-Leaves line old new OutIsOutput = Keeps old new
-Leaves line old new (File fault) = file.Leaves line old new fault
-Leaves line old new (Decode fault) = Keeps old new
-Leaves line old new (Gather fault) = Keeps old new
-Leaves line old new (Replay fault) = Keeps old new
+abbrev pub CommandLeaves : List ℕ → Option (List ℕ) → Option (List ℕ) → Fault → Type 0
+CommandLeaves line old new Word = Keeps old new
+CommandLeaves line old new Root = Keeps old new
+CommandLeaves line old new Key = Keeps old new
+CommandLeaves line old new KeyAndContext = Keeps old new
+CommandLeaves line old new OutputRange = Keeps old new
+CommandLeaves line old new TooManyFiles = Keeps old new
+CommandLeaves line old new OutIsOutput = Keeps old new
+CommandLeaves line old new (File fault) = file.Leaves line old new fault
+CommandLeaves line old new (Decode fault) = Keeps old new
+CommandLeaves line old new (Gather fault) = Keeps old new
+CommandLeaves line old new (Replay fault) = Keeps old new
 
 -- the line was printed, or the fault leaves what it leaves
-abbrev pub Prints : List ℕ → Option (List ℕ) → Option (List ℕ) → Result Unit Fault → Type 0
-Prints line old new (Ok done) = Appends old new line
-Prints line old new (Err fault) = Leaves line old new fault
+abbrev pub CommandPrints : List ℕ → Option (List ℕ) → Option (List ℕ) → Result Unit Fault → Type 0
+CommandPrints line old new (Ok done) = Appends old new line
+CommandPrints line old new (Err fault) = CommandLeaves line old new fault
 
 -- the program's answer where that of printing is known
 abbrev pub told_of : Result Unit FileFault → Result Unit Fault

@@ -9,7 +9,7 @@ ghost use Rattle.bao_request.specs.CommandLine.{IsHelp};
 ghost use Rattle.bao_files.specs.Printed.{IsDigits, digits_line, ok_line};
 ghost use Rattle.bao_tasks.specs.Gathered.{HasOutline, IsGathered};
 ghost use Rattle.bao_command.specs.Outcome.{Begun, Done};
-ghost use Rattle.bao_command.specs.Printed.{Prints, told_of};
+ghost use Rattle.bao_command.specs.Printed.{CommandPrints, told_of};
 ghost use Rattle.bao_command.specs.Tasks.{Answers, HasHash, HasManyFiles, HasRoot, IsBeside, IsDue, IsPastOutput, IsReplay, IsRight, IsRightCopy, IsRightPart, WritesApart, line_of, part_line};
 ghost use Rattle.bao_command.specs.Told.{worth_line};
 
@@ -118,7 +118,7 @@ fn hash<'a, R: Files<File = File> + AllocGlobal + Threads + Sync, O: Write, P: P
     out: &mut O,
     progress: &P,
 ) -> Result<(), Fault<'a>>
-    ensures prints { (bytes : List ℕ) × Prints (digits_line (stream mode.now bytes at len)) (O.contents out.old) (O.contents out.new) result }
+    ensures prints { (bytes : List ℕ) × CommandPrints (digits_line (stream mode.now bytes at len)) (O.contents out.old) (O.contents out.new) result }
     ensures due { IfErr result (IsDue ⊥ (¬ (at + len ≤ 2 ^ 64 - 1)) ⊥ ⊥) }
 {
     if !xof_fits(at, u64::from(len)) {
@@ -143,7 +143,7 @@ fn encode<'a, R: Files<File = File> + AllocGlobal + Threads + Sync, O: Write, P:
     out: &mut O,
     progress: &P,
 ) -> Result<(), Fault<'a>>
-    ensures prints { (bytes : List ℕ) × Prints (digits_line (hash_of mode.now bytes)) (O.contents out.old) (O.contents out.new) result }
+    ensures prints { (bytes : List ℕ) × CommandPrints (digits_line (hash_of mode.now bytes)) (O.contents out.old) (O.contents out.new) result }
     ensures due { IfErr result (IsDue ⊥ ⊥ ⊥ ⊥) }
 {
     match encode_file(rt, mode, encoding, file, path, progress) {
@@ -163,7 +163,7 @@ fn decode<'a, R: Files<File = File> + AllocGlobal + Threads + Sync, O: Write>(
     out: &mut O,
 ) -> Result<(), Fault<'a>>
     ensures prints { (bytes : List ℕ) × OnOk result (IsRightPart mode.now digits.now part.now bytes)
-        × Prints (part_line part.now bytes) (O.contents out.old) (O.contents out.new) result }
+        × CommandPrints (part_line part.now bytes) (O.contents out.old) (O.contents out.new) result }
     ensures due { IfErr result (IsDue (¬ IsDigits digits.now) ⊥ ⊥ ⊥) }
 {
     let root = root_of(digits)?;
@@ -184,7 +184,7 @@ fn decode_beside<'a, R: Files + AllocGlobal, O: Write>(
     out: &mut O,
 ) -> Result<(), Fault<'a>>
     ensures prints { (bytes : List ℕ) × OnOk result (IsRightCopy mode.now digits.now bytes)
-        × Prints (ok_line (length bytes)) (O.contents out.old) (O.contents out.new) result }
+        × CommandPrints (ok_line (length bytes)) (O.contents out.old) (O.contents out.new) result }
     ensures due { IfErr result (IsDue (¬ IsDigits digits.now) ⊥ ⊥ ⊥) }
 {
     let root = root_of(digits)?;
@@ -284,7 +284,7 @@ fn gather<'a, R: Files<File = File> + AllocGlobal + Threads + Sync, O: Write, E:
 ) -> Result<(), Fault<'a>>
     ensures beside { OnOk result (IsBeside mode.now digits.now outboard.entry) }
     ensures answer { (blob : List ℕ) × OnOk result (HasHash mode.now digits.now blob × (length blob ≤ 1024 * how.capacity))
-        × Prints (ok_line (length blob)) (O.contents out.old) (O.contents out.new) result }
+        × CommandPrints (ok_line (length blob)) (O.contents out.old) (O.contents out.new) result }
     ensures few { OnOk result (length files.now ≤ 64) }
     ensures many { 64 < length files.now → IsErrAnd result (λ fault. fault ≡ Fault.TooManyFiles) }
     ensures due { IfErr result (IsDue (¬ IsDigits digits.now) ⊥ (64 < length files.now) ⊥) }
@@ -316,7 +316,7 @@ fn replay<'a, R: Files + AllocGlobal, O: Write>(
     out: &mut O,
 ) -> Result<(), Fault<'a>>
     ensures answer { (text : List ℕ) × OnOk result (IsReplay mode.now digits.now capacity (length files.now) text)
-        × Prints text (O.contents out.old) (O.contents out.new) result }
+        × CommandPrints text (O.contents out.old) (O.contents out.new) result }
     ensures few { OnOk result (length files.now ≤ 64) }
     ensures many { 64 < length files.now → IsErrAnd result (λ fault. fault ≡ Fault.TooManyFiles) }
     ensures due { IfErr result (IsDue (¬ IsDigits digits.now) ⊥ (64 < length files.now) ⊥) }
@@ -347,7 +347,7 @@ fn serve_task<
     progress: &P,
 ) -> Result<(), Fault<'a>>
     ensures prints { (bytes : List ℕ) × OnOk result (IsRight mode.now task.now bytes)
-        × Prints (line_of mode.now task.now bytes) (O.contents out.old) (O.contents out.new) result }
+        × CommandPrints (line_of mode.now task.now bytes) (O.contents out.old) (O.contents out.new) result }
     ensures due { IfErr result (IsDue (¬ HasRoot task.now) (IsPastOutput task.now) (HasManyFiles task.now) ⊥) }
 {
     match task {

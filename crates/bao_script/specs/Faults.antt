@@ -4,7 +4,7 @@ use Rattle.bao_check.specs.Faults.{number_of as check_number_of}
 use Rattle.bao_script.specs.declared.fault.ReplayScriptFault.{ReplayScriptFault}
 use Rattle.bao_script.specs.declared.fault.ReplayScriptFault.TheVariants.{Refused, Illegal, Capacity, Cutting, Replaying, Memory}
 
--- want of memory
+-- a growth was refused
 abbrev pub IsWant : ReplayScriptFault → Type 0
 IsWant (Refused line fault) = ⊥
 IsWant (Illegal line) = ⊥
@@ -32,10 +32,10 @@ IsLate Replaying = Unit {0}
 IsLate Memory = Unit {0}
 
 -- the number of the fault, where its text has one
-abbrev pub replay_number_of : ReplayScriptFault → Option ℕ
-replay_number_of (Refused line fault) = Some (check_number_of fault)
-replay_number_of (Illegal line) = Some 702
-replay_number_of Capacity = Some 802
-replay_number_of Cutting = Some 401
-replay_number_of Replaying = Some 701
-replay_number_of Memory = None
+abbrev pub script_number_of : ReplayScriptFault → Option ℕ
+script_number_of (Refused line fault) = Some (check_number_of fault)
+script_number_of (Illegal line) = Some 702
+script_number_of Capacity = Some 802
+script_number_of Cutting = Some 401
+script_number_of Replaying = Some 701
+script_number_of Memory = None

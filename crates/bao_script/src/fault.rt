@@ -7,7 +7,7 @@ use std::alloc::{AllocError, AllocFailed};
 use thiserror::Error;
 
 /// Why a script wasn't read. Neither fault has a number, and each is told by its text alone: the one is of what was
-/// written, and the other a want of memory of this crate's own.
+/// written, and the other a refused growth of this crate's own.
 #[derive(Clone, Copy, Debug, PartialEq, Eq, Error)]
 pub enum ScriptFault {
     /// The line with this number, counted from 1, has no form. It is the first such line.
@@ -45,7 +45,7 @@ impl<T: Drop> From<AllocFailed<T>> for ScriptFault {
     }
 }
 
-/// Why a script's run has no text. Each fault has the number of the call in which it came up; a want of memory of this
+/// Why a script's run has no text. Each fault has the number of the call in which it came up; a refused growth of this
 /// crate's own has none, and is told by its text alone.
 #[derive(Clone, Copy, Debug, PartialEq, Eq, Error)]
 pub enum ReplayScriptFault {
@@ -71,11 +71,11 @@ pub enum ReplayScriptFault {
 }
 
 impl ReplayScriptFault {
-    ghost use Rattle.bao_script.specs.Faults.{replay_number_of};
+    ghost use Rattle.bao_script.specs.Faults.{script_number_of};
 
     /// The fault's number, where it has one: 401, 501 to 503, 701, 702 or 802.
     pub fn code(&self) -> Option<u16>
-        ensures { result ≡ replay_number_of self.now }
+        ensures { result ≡ script_number_of self.now }
     {
         match self {
             ReplayScriptFault::Refused { fault, .. } => Some(fault.code()),

@@ -6,8 +6,6 @@ use Rattle.b3tree.specs.declared.mode.Mode.{Mode}
 use Rattle.b3tree.specs.Hashing.{hash}
 use Rattle.bao_text.specs.Texts.{combined_text}
 use Rattle.bao_check.specs.Accepted.{IsAccepted, outboard_nodes}
-use Rattle.bao_check.specs.declared.outline.Outline.{Outline}
-use Rattle.bao_check.specs.Outline.{outline_mode, outline_root}
 use Rattle.gather.specs.declared.fault.GatherFault.{GatherFault}
 use Rattle.gather.specs.declared.fault.GatherFault.TheVariants.{Memory}
 use Rattle.gather.specs.HandedOut.{IsExcused}
@@ -71,8 +69,3 @@ IsWrittenOut handed fixed how blob old new result =
 -- an encoding was accepted as the outboard encoding of a blob with this root
 abbrev pub HasOutline : Mode → List ℕ → Type 0
 HasOutline mode root = (text : List ℕ) × IsAccepted mode root text (outboard_nodes text)
-
--- the outline is of this root, in this mode
-pub record IsUnder (outline : Outline) (mode : Mode) (root : List ℕ) : Type 0 where
-  pub mode_is : outline_mode outline ≡ mode
-  pub root_is : outline_root outline ≡ root

@@ -10,7 +10,8 @@ ghost use Rattle.bao_text.specs.Faults.{WroteOnly};
 ghost use Rattle.bao_check.specs.Outline.{outline_claimed, outline_mode, outline_root};
 ghost use Rattle.bao_files.specs.declared.fault.FileFault.TheVariants as FileFault;
 ghost use Rattle.bao_tasks.specs.GatheredFaults.{IsQuietGathered, NamesBeside, NamesFirst};
-ghost use Rattle.bao_tasks.specs.Gathered.{HasOutline, IsGathered, IsUnder, IsUnwritten, IsWrittenOut, LeavesBlob, WritesBlob, gathered_text};
+ghost use Rattle.crews.specs.Beside.{IsUnder};
+ghost use Rattle.bao_tasks.specs.Gathered.{HasOutline, IsGathered, IsUnwritten, IsWrittenOut, LeavesBlob, WritesBlob, gathered_text};
 ghost use Rattle.bao_tasks.specs.Worth.{IsGoodCut, IsGoodPart, IsWorth, groups_of, groups_within};
 
 use crate::fate::Fate;

@@ -6,8 +6,10 @@ ghost use Rattle.gather.specs.Available.{HaveSlices};
 ghost use Rattle.gather.specs.Large.{fixed_as};
 ghost use Rattle.store_core.specs.Laws.{IsBlob};
 ghost use Rattle.bao_check.specs.Outline.{outline_mode, outline_root};
+ghost use Rattle.crews.specs.Beside.{IsUnder};
 ghost use Rattle.bao_tasks.specs.GatheredFaults.{IsQuietGathered, NamesFirst};
-ghost use Rattle.bao_tasks.specs.Gathered.{IsGathered, IsUnder, IsWrittenOut, LeavesBlob, WritesBlob};
+ghost use Rattle.crews.specs.Beside.{IsUnder};
+ghost use Rattle.bao_tasks.specs.Gathered.{IsGathered, IsWrittenOut, LeavesBlob, WritesBlob};
 
 use crate::fate::Fate;
 use crate::found::write_found;
@@ -18,19 +20,12 @@ use bao_check::Outline;
 use bao_files::{LateFile, open_file};
 use bao_read::Source;
 use crews::{gather_copies_at, gather_sources};
+use gather::chunks_within;
 use std::alloc::{AllocError, Global};
 use std::fs::{File, OpenFile};
 use std::io::Write;
 use std::rt::Files;
 use std::thread::Threads;
-
-// The least that a chunk takes of a combined encoding, with a parent for each chunk but one.
-const LEAST_LEN: u64 = 1_088;
-
-// How many chunks the blob of a combined encoding has at most that is no longer than so many bytes.
-fn most_chunks(len: u64) -> u32 {
-    u32::try_from(len / LEAST_LEN + 1).unwrap_or(u32::MAX)
-}
 
 /// As `write_gathered`, out of sources that are read by position, as files are: what they have takes no memory but for the
 /// slices that workers ask for. The store has room for `room` chunks at first, and for `capacity` where those are too few.
@@ -125,7 +120,7 @@ fn write_opened<'a, R: AllocGlobal + Threads + Sync, W: Write>(
     match outline {
         Some(outline) => write_copies(rt, outline, how, files, path, out),
         None => {
-            let room = most_chunks(opened.longest);
+            let room = u32::try_from(chunks_within(opened.longest)).unwrap_or(u32::MAX);
             write_sources(rt, mode, root, how, room, files, path, out)
         }
     }

@@ -4,7 +4,7 @@ use Rattle.std.specs.List.{sum_by}
 use Rattle.b3tree.specs.Valid.{IsKeyed}
 use Rattle.bao_check.proofs.Laws.{accepted_binds}
 use Rattle.crews.specs.Going.{goes}
-use Rattle.crews.specs.Lasting.{HoldsChunk, IsBusy, Records}
+use Rattle.crews.specs.Lasting.{IsUnsaid, RecordsOn}
 use Rattle.crews.specs.Seats.{GoneOn, SeenBinds, claims_of, fixed_of as fixed_at}
 use Rattle.gather.specs.declared.holder.Encoded.{Encoded}
 use Rattle.gather.specs.declared.report.Report.{Report}
@@ -45,7 +45,7 @@ pub gathers : (store : Assembly) (text : List ℕ) (holder : Encoded) (later : L
     → Reports fixed_at GoneOn old new (IsHanded IsCut (holder ∷ [])) (IsHanded IsCut later) (sum_by (λ (h : Encoded). 0) (holder ∷ [])) (sum_by (λ (h : Encoded). 0) later) report report'
     → Among (claims_of old) (claims_of new)
     → ((blob : List ℕ) → IsServed (fixed_at old) blob → HaveSlices ByGroup IsCut (fixed_at old).mode blob (holder ∷ [])
-    → HasFailed report' ⊎ IsTooLarge (IsHanded IsCut (holder ∷ [])) (fixed_at old) ⊎ IsFilled Records HoldsChunk IsBusy old new blob)
+    → HasFailed report' ⊎ IsTooLarge (IsHanded IsCut (holder ∷ [])) (fixed_at old) ⊎ IsFilled RecordsOn IsUnsaid IsUnsaid old new blob)
     → GathersOn text report report' old new
 gathers store text holder later report report' old new keyed is of of' reports claimed served =
     let holders : List Encoded = holder ∷ [] in

@@ -2,7 +2,7 @@
 use Rattle.std.specs.Prelude.{◌≡◌, ◌⊎◌, ℕ, List, [], ◌∷◌, IsTrue, not, nat_eq}
 use Rattle.bao_text.specs.Cut.{cut_text}
 use Rattle.bao_text.specs.Texts.{slice_text}
-use Rattle.crews.specs.Lasting.{Records}
+use Rattle.crews.specs.Lasting.{RecordsOn}
 use Rattle.crews.specs.Seats.{GoneOn, SeenBinds, claims_of, fixed_of}
 use Rattle.gather.specs.declared.report.Report.{Report}
 use Rattle.gather.specs.Available.{IsServed}
@@ -42,4 +42,4 @@ pub record GathersOn (text : List ℕ) (report report' : Report) (old new : Grip
   pub claimed : Among (claims_of old) (claims_of new)
   pub binds : SeenBinds new.view
   pub longer : IsTrue report'.too_large → IsTrue report.too_large ⊎ AreLonger (IsOutOf text) (fixed_of old)
-  pub served : (blob : List ℕ) → IsServed (fixed_of old) blob → HasSlices text old blob → HasFailed report' ⊎ IsTooLarge (IsOutOf text) (fixed_of old) ⊎ ((l : ℕ) × Records new l)
+  pub served : (blob : List ℕ) → IsServed (fixed_of old) blob → HasSlices text old blob → HasFailed report' ⊎ IsTooLarge (IsOutOf text) (fixed_of old) ⊎ ((l : ℕ) × RecordsOn new l)

@@ -8,7 +8,7 @@ use Rattle.bao_check.proofs.Lists.{All-first, All-from_members, All-member}
 use Rattle.bao_text.specs.Choice.{chunk_count}
 use Rattle.crews.specs.Closing.{CallsAreFrom, IsLeft}
 use Rattle.crews.specs.Going.{goes}
-use Rattle.crews.specs.Lasting.{Claims, HoldsOn, IsAlone, Records}
+use Rattle.crews.specs.Lasting.{Claims, HoldsOn, IsAlone, RecordsOn}
 use Rattle.crews.specs.Seats.{GoneOn, claims_of, fixed_of as fixed_at}
 use Rattle.crews.specs.Wholes.{OnlyReads, ReadOn, WasUnfinished}
 use Rattle.crews.proofs.Alone.{seen_own}
@@ -80,7 +80,7 @@ module _ (handed : Piece → Type 0) where
 
 -- a seat that filled its store from the blob doesn't find it unfinished, unless a collision is exhibited
 pub unfinished_pair : (handed : Piece → Type 0) (fixed : Fixed) (start seat : Gripped) (finished : SeatView) (blob : List ℕ) → seat.view.fixed ≡ fixed → IsKeyed fixed.mode
-    → IsBlob fixed blob → IsLegal fixed finished.seen → ((c : ℕ) → claims_of start c ≡ false) → IsFilled Records HoldsOn Claims start seat blob
+    → IsBlob fixed blob → IsLegal fixed finished.seen → ((c : ℕ) → claims_of start c ≡ false) → IsFilled RecordsOn HoldsOn Claims start seat blob
     → AreFrom handed finished.seen → WasUnfinished seat.view finished → HasCollision handed fixed blob
 unfinished_pair handed fixed start seat finished blob same keyed is legal unclaimed filled from was =
     let history : List Event = seat.view.seen ++ was.before in
@@ -123,7 +123,7 @@ module _ (H : Type 0) (gives : H → ℕ → ℕ → List ℕ → Type 0) (count
       → fixed.capacity ≤ 65536 → HaveSlices grain gives fixed.mode blob holders → IsLegal fixed finished.seen → report.failed ≡ 0
       → (IsTrue report.too_large → IsTooLarge handed fixed)
       → (IsServed start.view.fixed blob → HaveSlices grain gives start.view.fixed.mode blob holders
-      → HasFailed report' ⊎ IsTooLarge (IsHanded gives holders) start.view.fixed ⊎ IsFilled Records HoldsOn Claims start seat blob)
+      → HasFailed report' ⊎ IsTooLarge (IsHanded gives holders) start.view.fixed ⊎ IsFilled RecordsOn HoldsOn Claims start seat blob)
       → WasUnfinished seat.view finished → IsExcused (cause_of report') ⊎ HasCollision handed fixed blob
   unfinished_handed grain blob quiet keyed is room limit has legal no_fault before met unfinished =
       let P : Type 0 = HasCollision handed fixed blob in

@@ -2,7 +2,7 @@
 use Rattle.std.proofs.Common.{◌≡◌, ◌≢◌, ℕ, ◌/◌, ◌%◌, ◌==◌, true, ◌&&◌, List, [], ◌∷◌, ◌++◌, Option, None, Some, IfOk, IfSome, MatchResult, Ok, Err, Result, is_ok, refl, sym, ap, subst, ◌∙◌, inl, inr, eqb-true, eq-eqb}
 use Rattle.std.proofs.lemmas.Bool.{and_from, and_parts, cases_Bool}
 use Rattle.bao_check.specs.declared.checked.Checked.{Checked}
-use Rattle.crews.specs.Lasting.{Records}
+use Rattle.crews.specs.Lasting.{RecordsOn}
 use Rattle.crews.specs.Seats.{claims_of}
 use Rattle.crews.proofs.Finishing.{length_there}
 use Rattle.crews.proofs.Sharing.{claimed_there}
@@ -60,14 +60,14 @@ commit_all old new group piece (Err fault) (Ok committed) Q cases variant called
 commit_all old new group piece (Err fault) (Err other) Q cases variant called = tt
 
 -- what is recorded after all that was seen is so after whatever follows
-recorded_on : (seat : Gripped) (l : ℕ) → (state_after seat.view.seen).recorded ≡ Some l → Records seat l
+recorded_on : (seat : Gripped) (l : ℕ) → (state_after seat.view.seen).recorded ≡ Some l → RecordsOn seat l
 recorded_on seat l is more legal = record_lasts seat.view.fixed seat.view.seen more l legal is
 
-pub length_records : (old new : Gripped) (result : Option ℕ) → Called (Length result) old.view new.view → IfSome result (λ l. Records new l)
+pub length_records : (old new : Gripped) (result : Option ℕ) → Called (Length result) old.view new.view → IfSome result (λ l. RecordsOn new l)
 length_records old new None called = tt
 length_records old new (Some l) called = recorded_on new l (length_there old.view new.view (Some l) called)
 
-pub length_known : (old new : Gripped) (result : Option ℕ) → Called (Length result) old.view new.view → (l : ℕ) → Records old l → result ≡ Some l
+pub length_known : (old new : Gripped) (result : Option ℕ) → Called (Length result) old.view new.view → (l : ℕ) → RecordsOn old l → result ≡ Some l
 length_known old new result called l is =
     let legal = (legal-append new.view.fixed empty (old.view.seen ++ called.between) (event_of old.view (Length result) ∷ [])
     (subst (λ (h : List Event). IsLegal new.view.fixed h) called.goes_on.seen_is called.goes_on.legal)).0 in
@@ -82,7 +82,7 @@ recorded_then (Some k) l answer is = elim (cases_Bool (k == l)) [
   | inr other ↦ let differs : answer ≡ Differs = rw other at is in (k, subst (λ (a : Settling). recorded_after a l (Some k) ≡ Some k) (sym differs) refl)
 ]
 
-settled_there : (old new : Gripped) (piece : Piece) (answer : Settling) → Called (Settle piece answer) old.view new.view → (l : ℕ) × Records new l
+settled_there : (old new : Gripped) (piece : Piece) (answer : Settling) → Called (Settle piece answer) old.view new.view → (l : ℕ) × RecordsOn new l
 settled_there old new piece answer called =
     let before : State = state_after (old.view.seen ++ called.between) in
     let met = recorded_then before.recorded (length_of piece) answer (right_there (Settle piece answer) old.view new.view called).3 in
@@ -92,7 +92,7 @@ settled_there old new piece answer called =
     (met.0, recorded_on new met.0 (then ∙ met.1))
 
 pub settle_records : (fixed : Fixed) (old new : Gripped) (piece : Checked) (answer : Settling) → SeatSettles fixed old new piece answer → answer ≢ TooLarge → answer ≢ OtherRoot
-    → (l : ℕ) × Records new l
+    → (l : ℕ) × RecordsOn new l
 settle_records fixed old new piece Settled settles small same = settled_there old new (piece_of piece) Settled settles.1
 settle_records fixed old new piece Known settles small same = settled_there old new (piece_of piece) Known settles.1
 settle_records fixed old new piece Differs settles small same = settled_there old new (piece_of piece) Differs settles.1

@@ -18,15 +18,12 @@ abbrev pub IsFromNow : (State → Type 0) → Gripped → Type 0
 IsFromNow P seat = (more : List Event) → IsLegal seat.view.fixed (seat.view.seen ++ more) → P (state_after (seat.view.seen ++ more))
 
 -- the length is recorded
-abbrev pub Records : Gripped → ℕ → Type 0
-Records seat l = IsFromNow (λ (s : State). s.recorded ≡ Some l) seat
+abbrev pub RecordsOn : Gripped → ℕ → Type 0
+RecordsOn seat l = IsFromNow (λ (s : State). s.recorded ≡ Some l) seat
 
 -- nothing is said of which chunks are held or claimed by others
-abbrev pub HoldsChunk : Gripped → ℕ → Type 0
-HoldsChunk seat c = Unit {0}
-
-abbrev pub IsBusy : Gripped → ℕ → Type 0
-IsBusy seat c = Unit {0}
+abbrev pub IsUnsaid : Gripped → ℕ → Type 0
+IsUnsaid seat c = Unit {0}
 
 lasts_on : (P : State → Type 0) (handed : Piece → Type 0) (s t : Gripped) (n q : ℕ) → GoneOn handed s t n q → IsFromNow P s → IsFromNow P t
 lasts_on P handed s t n q gone is more legal =
@@ -35,10 +32,10 @@ lasts_on P handed s t n q gone is more legal =
     subst (λ (h : List Event). P (state_after h)) (sym same)
     (is (gone.more ++ more) (subst (λ (h : List Event). IsLegal s.view.fixed h) same (subst (λ fixed. IsLegal fixed (t.view.seen ++ more)) gone.fixed_is legal)))
 
-records_last : (handed : Piece → Type 0) (s t : Gripped) (n q l : ℕ) → GoneOn handed s t n q → Records s l → Records t l
+records_last : (handed : Piece → Type 0) (s t : Gripped) (n q l : ℕ) → GoneOn handed s t n q → RecordsOn s l → RecordsOn t l
 records_last handed s t n q l gone is = lasts_on (λ (x : State). x.recorded ≡ Some l) handed s t n q gone is
 
-pub lasts : Lasts GoneOn claims_of Records HoldsChunk IsBusy
+pub lasts : Lasts GoneOn claims_of RecordsOn IsUnsaid IsUnsaid
 lasts = record { length = records_last; chunk = λ handed s t n q c gone is. is; frees = λ handed s t n q c gone among busy. inl busy }
 
 -- The seat has all names that there are, and no other names than these made its calls.
@@ -57,5 +54,5 @@ Claims seat c = claims_of seat c ≡ true
 holds_last : (handed : Piece → Type 0) (s t : Gripped) (n q c : ℕ) → GoneOn handed s t n q → HoldsOn s c → HoldsOn t c
 holds_last handed s t n q c gone is = lasts_on (λ (x : State). is_held x c ≡ true) handed s t n q gone is
 
-pub lasts_alone : Lasts GoneOn claims_of Records HoldsOn Claims
+pub lasts_alone : Lasts GoneOn claims_of RecordsOn HoldsOn Claims
 lasts_alone = record { length = records_last; chunk = holds_last; frees = λ handed s t n q c gone among busy. inl (among c busy) }

@@ -6,7 +6,7 @@ ghost use Rattle.gather.specs.Claims.{Among};
 ghost use Rattle.gather.specs.Holders.{AreLater, IsHanded};
 ghost use Rattle.gather.specs.Large.{IsTooLarge};
 ghost use Rattle.store_shared.specs.Seats.{IsSeatOf};
-ghost use Rattle.crews.specs.Lasting.{Claims, HoldsOn, IsAlone, Records};
+ghost use Rattle.crews.specs.Lasting.{Claims, HoldsOn, IsAlone, RecordsOn};
 ghost use Rattle.crews.specs.Seats.{GoneOn, claims_of, fixed_of};
 
 use crate::shared::Shared;
@@ -23,7 +23,7 @@ struct Closing<'a>(&'a Assembly);
 impl Shelf for Closing<'_> {
     ghost use Rattle.store_shared.specs.Seats.{IsSeatOf};
     ghost use Rattle.crews.specs.Going.{goes};
-    ghost use Rattle.crews.specs.Lasting.{Claims, HoldsOn, IsAlone, Records, lasts_alone};
+    ghost use Rattle.crews.specs.Lasting.{Claims, HoldsOn, IsAlone, RecordsOn, lasts_alone};
     ghost use Rattle.crews.specs.Seats.{GoneOn, claims_of, fixed_of};
 
     type Seat = Seat;
@@ -38,7 +38,7 @@ impl Shelf for Closing<'_> {
 
     ghost goes = { goes };
 
-    ghost records = { λ seat l. Records seat l };
+    ghost records = { λ seat l. RecordsOn seat l };
 
     ghost holds = { λ seat c. HoldsOn seat c };
 
@@ -103,7 +103,7 @@ fn round_by_groups<H: Holder>(
     ensures later { AreLater H.gives holders.old holders.new }
     ensures claims { Among (claims_of seat.old) (claims_of seat.new) }
     ensures served { (blob : List ℕ) → IsServed (fixed_of seat.old) blob → HaveSlices ByGroup H.gives (fixed_of seat.old).mode blob holders.old
-        → HasFailed report.new ⊎ IsTooLarge (IsHanded H.gives holders.old) (fixed_of seat.old) ⊎ IsFilled Records HoldsOn Claims seat.old seat.new blob }
+        → HasFailed report.new ⊎ IsTooLarge (IsHanded H.gives holders.old) (fixed_of seat.old) ⊎ IsFilled RecordsOn HoldsOn Claims seat.old seat.new blob }
 {
     let place = Place {
         number: 0,
@@ -126,7 +126,7 @@ fn round_by_chunks<H: Holder>(
     ensures alone { IsAlone seat.new.view }
     ensures reports { Reports fixed_of GoneOn seat.old seat.new (IsHanded H.gives holders.old) (IsHanded H.gives holders.new) (sum_by H.count holders.old) (sum_by H.count holders.new) report.old report.new }
     ensures served { (blob : List ℕ) → IsServed (fixed_of seat.old) blob → HaveSlices ByChunk H.gives (fixed_of seat.old).mode blob holders.old
-        → HasFailed report.new ⊎ IsTooLarge (IsHanded H.gives holders.old) (fixed_of seat.old) ⊎ IsFilled Records HoldsOn Claims seat.old seat.new blob }
+        → HasFailed report.new ⊎ IsTooLarge (IsHanded H.gives holders.old) (fixed_of seat.old) ⊎ IsFilled RecordsOn HoldsOn Claims seat.old seat.new blob }
 {
     let closing = Closing(assembly);
     salvage(alloc, &Form::Slices, &closing, seat, holders, report);
@@ -147,7 +147,7 @@ pub(crate) fn closing_rounds<H: Holder>(
     ensures alone { IsAlone seat.new.view }
     ensures reports { Reports fixed_of GoneOn seat.old seat.new (IsHanded H.gives holders.old) (IsHanded H.gives holders.new) (sum_by H.count holders.old) (sum_by H.count holders.new) report.old report.new }
     ensures served { (blob : List ℕ) → IsServed (fixed_of seat.old) blob → HaveSlices grain H.gives (fixed_of seat.old).mode blob holders.old
-        → HasFailed report.new ⊎ IsTooLarge (IsHanded H.gives holders.old) (fixed_of seat.old) ⊎ IsFilled Records HoldsOn Claims seat.old seat.new blob }
+        → HasFailed report.new ⊎ IsTooLarge (IsHanded H.gives holders.old) (fixed_of seat.old) ⊎ IsFilled RecordsOn HoldsOn Claims seat.old seat.new blob }
 {
     round_by_groups(alloc, assembly, seat, holders, report);
     match grain {

@@ -48,8 +48,8 @@ fn run_as<R: Threads + Sync, H: Holder + Send, G: Gate + Sync>(
 /// what the store has room for. Then it goes once round the groups of 64 chunks that the length needs: with C crews and
 /// K groups the worker with the number w begins at group w * K / C. It takes a group's chunks, and asks its holders in
 /// order, each once, for those bytes, checks each text and commits from it, until none of the chunks granted is left;
-/// those that are it gives back. Once it has settled or committed from a text, it stores the text's parents, group after
-/// group, as far as the text claims the recorded length. After all workers ended, each crew in turn makes one more such
+/// those that are it gives back. Once it has settled or committed from an encoding, it stores the encoding's parents, group after
+/// group, as far as the encoding claims the recorded length. After all workers ended, each crew in turn makes one more such
 /// round, without the gate.
 ///
 /// It refuses nothing. Each worker's report, begun anew, stands in its crew, and the answer has their sums, which stay at
@@ -62,7 +62,7 @@ fn run_as<R: Threads + Sync, H: Holder + Send, G: Gate + Sync>(
 /// seen held is the blob's of that number, or a collision is exhibited, two different inputs with one chaining value, one of the
 /// blob's and one of the piece's by which it was committed.
 ///
-/// `failed` is at most what the holders' counts rose together, and `too_large` is set only where an accepted text
+/// `failed` is at most what the holders' counts rose together, and `too_large` is set only where an accepted encoding
 /// certifies a length above what the store has room for: each blob with the root is then longer, or such a collision is exhibited.
 pub fn run<R: Threads + Sync, H: Holder + Send, G: Gate + Sync>(
     rt: &R,

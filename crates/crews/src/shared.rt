@@ -10,7 +10,7 @@ pub struct Shared<'a>(pub &'a Assembly);
 impl Shelf for Shared<'_> {
     ghost use Rattle.store_shared.specs.Seats.{IsSeatOf};
     ghost use Rattle.crews.specs.Going.{goes};
-    ghost use Rattle.crews.specs.Lasting.{HoldsChunk, IsBusy, Records, lasts};
+    ghost use Rattle.crews.specs.Lasting.{IsUnsaid, RecordsOn, lasts};
     ghost use Rattle.crews.specs.Seats.{GoneOn, claims_of, fixed_of};
 
     type Seat = Seat;
@@ -25,11 +25,11 @@ impl Shelf for Shared<'_> {
 
     ghost goes = { goes };
 
-    ghost records = { λ seat l. Records seat l };
+    ghost records = { λ seat l. RecordsOn seat l };
 
-    ghost holds = { λ seat c. HoldsChunk seat c };
+    ghost holds = { λ seat c. IsUnsaid seat c };
 
-    ghost busy = { λ seat c. IsBusy seat c };
+    ghost busy = { λ seat c. IsUnsaid seat c };
 
     ghost lasts = { lasts };
 

@@ -17,7 +17,7 @@ use Rattle.store_core.specs.Histories.{AreLegalFrom, IsLegal, run}
 use Rattle.store_core.specs.Reached.{IsReached}
 use Rattle.store_core.specs.Stores.{fixed_of, state_of}
 use Rattle.gather.specs.declared.holder.Encoded.{Encoded}
-use Rattle.gather.specs.Encodings.{IsCut, IsCutOf, encoding}
+use Rattle.gather.specs.Encodings.{IsCut, IsCutOf, cut_gives, encoding}
 use Rattle.gather.specs.Holders.{IsHanded}
 use Rattle.gather.specs.Finished.{BindsNone, BindsTo, IsNamedIn}
 use Rattle.gather.specs.Large.{AreLonger, AreTheBlob, HasCollision, IsOfNone, IsTooLarge}
@@ -71,15 +71,20 @@ same_bytes blob bytes long each =
     let here : 0 + i ≡ i = omega arith in
     get_or_from_slice_get blob i (slice_index bytes i) 0 (subst (λ (k : ℕ). slice_get blob k ≡ Some (slice_index bytes i)) here (each i (omega (arith, below, long)))))
 
+-- what holders over some things hand over is what these give
+pub handed_over : {H S : Type 0} (f : H → S) (gives : S → ℕ → ℕ → List ℕ → Type 0) (holders : List H) (all : List S) → map f holders ≡ all → (piece : Piece)
+    → IsHanded (λ holder start len text. gives (f holder) start len text) holders piece → IsHanded gives all piece
+handed_over {H = H} {S = S} f gives holders all over piece from = record {
+  place = from.place;
+  holder = f from.holder;
+  there = subst (λ (xs : List S). slice_get xs from.place ≡ Some (f from.holder)) over
+      (slice_get-map f holders from.place ∙ ap (λ (o : Option H). option_map f o) from.there);
+  given = from.given;
+}
+
 -- what holders over texts hand over is cut out of the texts
 pub handed_cut : (holders : List Encoded) (texts : List (List ℕ)) → map encoding holders ≡ texts → (piece : Piece) → IsHanded IsCut holders piece → IsCutOf texts piece
-handed_cut holders texts over piece from = record {
-  place = from.place;
-  text = encoding from.holder;
-  there = subst (λ (all : List (List ℕ)). slice_get all from.place ≡ Some (encoding from.holder)) over
-      (slice_get-map encoding holders from.place ∙ ap (λ (o : Option Encoded). option_map encoding o) from.there);
-  cut = from.given;
-}
+handed_cut holders texts over piece from = handed_over encoding cut_gives holders texts over piece from
 
 pub pair_wider : (handed wider : Piece → Type 0) → ((piece : Piece) → handed piece → wider piece) → (fixed : Fixed) (blob : List ℕ) → HasCollision handed fixed blob
     → HasCollision wider fixed blob

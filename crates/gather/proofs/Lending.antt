@@ -1,18 +1,17 @@
 -- What is known of holders' lists by what they are over.
-use Rattle.std.proofs.Common.{◌≡◌, ℕ, ◌+◌, ◌-◌, ◌*◌, ◌^◌, ◌<◌, ◌≤◌, zero, suc, List, [], ◌∷◌, append-nil, length, map, slice_get, Option, None, Some, option_map, refl, sym, ap, subst, ◌∙◌, arith, inl, inr}
-use Rattle.std.proofs.lemmas.Option.{slice_get-map}
+use Rattle.std.proofs.Common.{◌≡◌, ℕ, ◌+◌, ◌-◌, ◌*◌, ◌^◌, ◌<◌, ◌≤◌, zero, suc, List, [], ◌∷◌, append-nil, length, map, slice_get, Option, None, Some, refl, sym, subst, ◌∙◌, arith, inl, inr}
 use Rattle.b3tree.specs.declared.mode.Mode.{Mode}
 use Rattle.bao_text.specs.Choice.{chunk_count}
 use Rattle.bao_text.specs.Texts.{combined_text, slice_text}
 use Rattle.bao_text.proofs.Laws.{cut_text-combined, length-combined_text}
-use Rattle.gather.specs.Lists.{IsCutOfSource, IsLent}
+use Rattle.gather.specs.Lists.{IsCutOfSource, IsLent, source_gives}
 use Rattle.gather.specs.declared.holder.Encoded.{Encoded}
 use Rattle.gather.specs.declared.grain.Grain.{Grain}
 use Rattle.gather.specs.Available.{HasSlice, HasTrue, HaveSlices}
 use Rattle.gather.specs.Encodings.{IsCut, IsCutOf, encoding}
 use Rattle.gather.specs.Holders.{Appends}
 use Rattle.gather.specs.Places.{IsCutAt}
-use Rattle.gather.proofs.Binding.{handed_cut}
+use Rattle.gather.proofs.Binding.{handed_cut, handed_over}
 use Rattle.store_core.specs.declared.history.Piece.{Piece}
 
 -- holders over texts hand over what is cut out of the texts
@@ -26,13 +25,8 @@ gives_of source_of contents faultless holder start len text = IsCutAt (contents 
 -- and what such holders hand over
 pub lent_source : {H S : Type 0} (source_of : H → S) (contents : S → Option (List ℕ)) (faultless : S → Type 0) (sources : List S) (piece : Piece)
     → IsLent (gives_of source_of contents faultless) (λ (holders : List H). map source_of holders ≡ sources) piece → IsCutOfSource contents faultless sources piece
-lent_source {H = H} {S = S} source_of contents faultless sources piece is = record {
-  place = is.handed.place;
-  source = source_of is.handed.holder;
-  there = subst (λ (all : List S). slice_get all is.handed.place ≡ Some (source_of is.handed.holder)) is.are
-      (slice_get-map source_of is.holders is.handed.place ∙ ap (λ (o : Option H). option_map source_of o) is.handed.there);
-  cut = is.handed.given;
-}
+lent_source source_of contents faultless sources piece is =
+    handed_over source_of (source_gives contents faultless) is.holders sources is.are piece is.handed
 
 some_is : {S : Type 0} (x y : S) → Some x ≡ Some y → x ≡ y
 some_is x y e = cc

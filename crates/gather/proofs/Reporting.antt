@@ -234,7 +234,7 @@ module _ {S : Type 0} (fixed_of : S → Fixed) (gained : (Piece → Type 0) → 
     too_large = λ is. inl is;
   }
 
-  -- a want of memory is counted beside
+  -- a refused growth is counted beside
   pub starved : (s t : S) (A B : Piece → Type 0) (a b : ℕ) (x y : Report) → Fits x → Reports fixed_of gained s t A B a b x y → Reports fixed_of gained s t A B a b x (memory_once y)
   starved s t A B a b x y fits one = record {
     chunks = one.chunks;

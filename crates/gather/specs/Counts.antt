@@ -29,7 +29,7 @@ failed_once report = record report { failed = plus report.failed 1 }
 abbrev pub memory_once : Report → Report
 memory_once report = record report { memory = plus report.memory 1 }
 
--- a text that a check refused, for want of memory or for another cause
+-- a text that a check refused, out of memory or for another cause
 abbrev pub checked_once : CheckFault → Report → Report
 checked_once (Short at) report = refused_once report
 checked_once (Mismatch at) report = refused_once report

@@ -1,7 +1,8 @@
 -- The bytes of a holder over a combined encoding, and what it hands over.
-use Rattle.std.specs.Prelude.{◌≡◌, ℕ, List, Some, slice_get}
+use Rattle.std.specs.Prelude.{◌≡◌, ℕ, List}
 use Rattle.bao_text.specs.Cut.{cut_text}
 use Rattle.gather.specs.declared.holder.Encoded.{Encoded}
+use Rattle.gather.specs.Holders.{IsHanded}
 use Rattle.store_core.specs.declared.history.Piece.{Piece}
 
 abbrev pub encoding : Encoded → List ℕ
@@ -16,8 +17,5 @@ abbrev pub cut_gives : List ℕ → ℕ → ℕ → List ℕ → Type 0
 cut_gives text start len given = given ≡ cut_text text start len
 
 -- the piece is a slice that is cut out of one of these texts
-pub record IsCutOf (texts : List (List ℕ)) (piece : Piece) : Type 0 where
-  pub place : ℕ
-  pub text : List ℕ
-  pub there : slice_get texts place ≡ Some text
-  pub cut : piece.text ≡ cut_text text piece.start piece.len
+abbrev pub IsCutOf : List (List ℕ) → Piece → Type 0
+IsCutOf texts = IsHanded cut_gives texts

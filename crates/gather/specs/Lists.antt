@@ -1,5 +1,5 @@
 -- Lists of holders, of which each worker has one over the same.
-use Rattle.std.specs.Prelude.{◌≡◌, ℕ, ◌≤◌, List, Option, Some, length, slice_get}
+use Rattle.std.specs.Prelude.{ℕ, ◌≤◌, List, Option, length}
 use Rattle.b3tree.specs.declared.mode.Mode.{Mode}
 use Rattle.bao_text.specs.Choice.{chunk_count}
 use Rattle.gather.specs.declared.grain.Grain.{Grain}
@@ -29,8 +29,5 @@ source_gives contents faultless source start len text = IsCutAt (contents source
 
 -- the piece is a slice that is cut out of the bytes of one of these sources, where they are known, or nothing, since a read
 -- failed
-pub record IsCutOfSource {S : Type 0} (contents : S → Option (List ℕ)) (faultless : S → Type 0) (sources : List S) (piece : Piece) : Type 0 where
-  pub place : ℕ
-  pub source : S
-  pub there : slice_get sources place ≡ Some source
-  pub cut : source_gives contents faultless source piece.start piece.len piece.text
+abbrev pub IsCutOfSource : {S : Type 0} → (S → Option (List ℕ)) → (S → Type 0) → List S → Piece → Type 0
+IsCutOfSource contents faultless sources = IsHanded (source_gives contents faultless) sources

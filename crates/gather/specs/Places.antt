@@ -1,4 +1,4 @@
--- What holders over a source that is read at places hand over.
+-- What holders over a source that is read by position hand over.
 use Rattle.std.specs.Prelude.{◌≡◌, ◌⊎◌, ℕ, ◌^◌, ◌<◌, List, [], length, Option, Some, IfSome}
 use Rattle.b3tree.specs.Pieces.{piece}
 use Rattle.bao_text.specs.Cut.{cut_text}

@@ -1,4 +1,4 @@
--- What reads at places append.
+-- What positional reads append.
 use Rattle.std.specs.Prelude.{◌≡◌, ℕ, List, ◌++◌, length, Option}
 use Rattle.bao_read.specs.Given.{GivenAt}
 

@@ -9,7 +9,7 @@ use crate::places::{Placed, taken_back};
 use bao_read::Source;
 use bao_text::append_cut;
 
-/// The holder over a combined encoding that is read at places, which nobody has checked. Its memory doesn't grow with the
+/// The holder over a combined encoding that is read by position, which nobody has checked. Its memory doesn't grow with the
 /// encoding. It keeps the source by reference.
 #[derive(Drop)]
 pub struct EncodedAt<'a, S: Source> {

@@ -117,7 +117,7 @@ impl GatherFault {
 }
 
 /// Why workers with this report left a blob unfinished: what they lacked first of memory, room and texts. It is 911
-/// `Starved` where they met a want of memory, else 805 `TooLarge` where they met a length above 1,024 times the
+/// `Starved` where they ran out of memory, else 805 `TooLarge` where they met a length above 1,024 times the
 /// capacity, else 901 `Unfinished`.
 pub fn cause(report: &Report) -> GatherFault
     ensures { result ≡ cause_of report.now }

@@ -13,7 +13,7 @@ pub use parents::boundary_groups;
 pub use plain::{Plain, copies_over};
 pub use plain_at::PlainAt;
 pub use report::Report;
-pub use room::{first_room, room_for};
+pub use room::{chunks_within, first_room, room_for};
 pub use salvaging::salvage;
 pub use shelf::Shelf;
 pub use sources::{CopiesAt, SourceAt, Sources};

@@ -98,24 +98,24 @@ impl Shelf for Alone {
 /// the length that it certifies, until one is recorded; it ends where none comes, or where one is above what the
 /// store has room for. Then it goes over the groups of 64 chunks that the length needs. It takes a group's chunks, and
 /// asks its holders in order, each once, for those bytes, checks each text and commits from it, until none of the
-/// chunks granted is left; those that are it gives back. Once it has settled or committed from a text, it stores the
-/// text's parents too. All this is done twice.
+/// chunks granted is left; those that are it gives back. Once it has settled or committed from an encoding, it stores the
+/// encoding's parents too. All this is done twice.
 ///
 /// It refuses nothing. Refused memory is counted in the report: where a take meets it the group is left, else the
 /// next holder is asked. Texts are checked under the store's root and in its mode.
 ///
 /// What the worker did is a history of its own calls, each with the right reply in its turn, of pieces that its holders
-/// may have given: so what is stored comes from such texts, accepted under the store's root. For each blob with that
+/// may have given: so what is stored comes from such encodings, accepted under the store's root. For each blob with that
 /// root, each chunk stored is the blob's of that number, or a collision is exhibited, two different inputs with one chaining value, one
-/// of the blob's and one of that text's. No claim is left that the worker took.
+/// of the blob's and one of that encoding's. No claim is left that the worker took.
 ///
 /// It is enough that, of a blob with the root for which the store has room, one of the holders gives the slice of the last
 /// byte, and for each group of its chunks one gives the group's slice, whatever they give as other slices. Where neither
-/// memory was refused nor a device failed, nor an accepted text certifies a length that is too large, a length is recorded
+/// memory was refused nor a device failed, nor an accepted encoding certifies a length that is too large, a length is recorded
 /// then, and if it is that blob's, each of its chunks is held, or was claimed by somebody before.
 ///
 /// The report's `committed` is the number of chunks stored and `parents` that of parents, `failed` is at most what
-/// the holders' counts rose together, and `too_large` is set only where an accepted text certifies a length above
+/// the holders' counts rose together, and `too_large` is set only where an accepted encoding certifies a length above
 /// what the store has room for: each blob with the root is then longer, or such a collision is exhibited.
 pub fn run_one<H: Holder>(alloc: Global, store: &mut Store, holders: &mut [H]) -> Report
     ensures worked { Gains (IsHanded H.gives holders.old) store.old store.new result }

@@ -8,7 +8,7 @@ use crate::holder::{Holder, HolderFault};
 use crate::places::{append_part, taken_back};
 use bao_read::Source;
 
-/// The holder over a plain copy of a blob that is read at places, which nobody has checked. Its memory doesn't grow with
+/// The holder over a plain copy of a blob that is read by position, which nobody has checked. Its memory doesn't grow with
 /// the copy. It keeps the source by reference.
 #[derive(Drop)]
 pub struct PlainAt<'a, S: Source> {

@@ -61,7 +61,7 @@ fn gather_within(
 ///
 /// 802 `Capacity` unless `capacity` is 1 to 65,536; 911 `Starved` where there is no memory for a list of the texts.
 /// Then the blob is answered only once its hash is the root: 902 `NotTheRoot` where it isn't, 903 `Memory` where there
-/// is no memory for the blob. An unfinished blob is 911 where the worker met a want of memory, else 805 `TooLarge`
+/// is no memory for the blob. An unfinished blob is 911 where the worker ran out of memory, else 805 `TooLarge`
 /// where it met a length above 1,024 times the capacity, else 901 `Unfinished`.
 ///
 /// Where one of the texts is the combined encoding of a blob with the root, of at most `capacity` chunks, that blob is

@@ -251,8 +251,8 @@ pub(crate) fn work_part<S: Shelf, H: Holder>(
 /// text certifies, until one is recorded; it ends where none comes, or where one is above what the store has room for.
 /// With K groups it begins at group number * K / workers. It takes a group's chunks, and asks its holders in order, each
 /// once, for those bytes, checks each text and commits from it, until none of the chunks granted is left; those that
-/// are it gives back. Once it has settled or committed from a text, it stores the text's parents, group after group,
-/// as far as the text claims the recorded length.
+/// are it gives back. Once it has settled or committed from an encoding, it stores the encoding's parents, group after group,
+/// as far as the encoding claims the recorded length.
 ///
 /// It refuses nothing. The report goes on from what it was: what the worker stored, asked and met is added to it.
 pub fn work<S: Shelf, H: Holder>(

@@ -3,3 +3,4 @@ pub mod Reading
 pub mod Serving
 pub mod StoredCells
 pub mod Parents
+pub mod Grips

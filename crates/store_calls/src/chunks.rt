@@ -6,16 +6,8 @@ ghost use Rattle.store_steps.specs.Words.{IsGripOf};
 
 use crate::cell::WORD_LEN;
 use b3tree::CHUNK_LEN;
+use store_core::put_bytes;
 use store_steps::{Grip, Words};
-
-// Writes the bytes into the buffer from index `from` on.
-#[inline(always)]
-pub(crate) fn put(out: &mut [u8], from: usize, bytes: &[u8])
-    requires { from + length bytes.now ≤ length out.old }
-    ensures { out.new ≡ take from out.old ++ (bytes.now ++ drop (from + length bytes.now) out.old) }
-{
-    out[from..from + bytes.len()].copy_from_slice(bytes);
-}
 
 // Copies `count` bytes of one word of a held chunk, or none: from the position of the buffer's index `from` on.
 fn copy_part(words: &Words, grip: &mut Grip, at: u64, out: &mut [u8], from: usize, count: usize)
@@ -35,7 +27,7 @@ fn copy_part(words: &Words, grip: &mut Grip, at: u64, out: &mut [u8], from: usiz
     let word = (position % CHUNK_LEN / WORD_LEN + 1) as u8;
     let bytes = words.copy(grip, chunk, word).to_le_bytes();
     let skip = position % WORD_LEN;
-    put(out, from, &bytes[skip..skip + count]);
+    put_bytes(out, from, &bytes[skip..skip + count]);
 }
 
 // Copies `count` whole words of a held chunk: from the position of the buffer's index `from` on.
@@ -53,7 +45,7 @@ fn copy_words(words: &Words, grip: &mut Grip, at: u64, out: &mut [u8], from: usi
     let first = position % CHUNK_LEN / WORD_LEN + 1;
     'words: for i in 0..count {
         let bytes = words.copy(grip, chunk, (first + i) as u8).to_le_bytes();
-        put(out, from + WORD_LEN * i, &bytes);
+        put_bytes(out, from + WORD_LEN * i, &bytes);
     }
 }
 

@@ -6,6 +6,7 @@ pub use committing::commit;
 pub use parents::commit_parents;
 pub use reading::read;
 pub use serving::serve_slice;
+pub use store_steps::{Grip, NewFault, Words};
 
 mod cell;
 mod chunks;

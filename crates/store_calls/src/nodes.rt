@@ -8,11 +8,11 @@ ghost use Rattle.store_core.specs.Knowledge.{Looked};
 ghost use Rattle.store_steps.specs.Words.{IsGripOf, fixed_of};
 
 use crate::cell::WORD_LEN;
-use crate::chunks::{copy_chunk, put};
+use crate::chunks::copy_chunk;
 use b3tree::CHUNK_LEN;
 use bao_text::{Node, PARENT_LEN};
 use std::alloc::AllocError;
-use store_core::PARENT_WORDS;
+use store_core::{PARENT_WORDS, put_bytes};
 use store_steps::{Grip, Words};
 
 // How many bytes a node has at most.
@@ -37,7 +37,7 @@ fn copy_parent(words: &Words, grip: &mut Grip, boundary: u32, out: &mut [u8])
 {
     'words: for word in 0..PARENT_WORDS {
         let bytes = words.copy_parent(grip, boundary, word).to_le_bytes();
-        put(out, WORD_LEN * usize::from(word), &bytes);
+        put_bytes(out, WORD_LEN * usize::from(word), &bytes);
     }
 }
 

@@ -2,6 +2,7 @@
 #![tactic(auto)]
 
 pub use bao_check::GROUP_BYTES;
+pub use bytes::put_bytes;
 pub use fault::{BadCapacity, Missing, ReplayFault, ServeFault, StepFault, StoreFault};
 pub use fixed::Fixed;
 pub use history::{Call, Event, Piece, Serving, Settling, Storing};

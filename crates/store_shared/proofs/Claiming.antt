@@ -18,10 +18,10 @@ use Rattle.store_core.specs.Stores.{ChunksBind}
 use Rattle.store_core.specs.Views.{names_of, seat_claims, split_first}
 use Rattle.store_core.proofs.Joining.{claims_continued, join_keeps, split_keeps}
 use Rattle.store_core.proofs.Tells.{claims_apart}
-use Rattle.store_steps.specs.Asks.{AreClaimed}
+use Rattle.store_calls.specs.Grips.{AreClaimed}
 use Rattle.store_core.specs.Knowledge.{AreMet, ArePartsOf, Did, IsMerged, KeepsClaims, NoneIsClaimedByBoth, opening_view}
 use Rattle.store_core.proofs.Bits.{and_small, has_bit-and, has_bit-not, has_bit-or, has_bit-zero}
-use Rattle.store_steps.proofs.WrittenWords.{left, put}
+use Rattle.std.proofs.lemmas.List.{get_or-set_other, get_or-set_same}
 use Rattle.store_shared.specs.Seats.{AreClaims}
 
 -- words of zeros, for a seat that claims nothing
@@ -50,9 +50,9 @@ claims_put old new claims group n kept same storing within here elsewhere =
       bits = λ c below. elim (cases_eq (c / 64) group) [
         | inl at ↦
             ap (λ (i : ℕ). has_bit (slice_index (set claims group n) i) (c % 64)) at
-            ∙ ap (λ (w : ℕ). has_bit w (c % 64)) (put claims group n (omega (arith, kept.count, within))) ∙ here c at
+            ∙ ap (λ (w : ℕ). has_bit w (c % 64)) (get_or-set_same claims group n 0 (omega (arith, kept.count, within))) ∙ here c at
         | inr other ↦
-            ap (λ (w : ℕ). has_bit w (c % 64)) (left claims group n (c / 64) other) ∙ kept.bits c (omega (arith, below, count)) ∙ sym (elsewhere c other)
+            ap (λ (w : ℕ). has_bit w (c % 64)) (get_or-set_other claims group (c / 64) n 0 other) ∙ kept.bits c (omega (arith, below, count)) ∙ sym (elsewhere c other)
       ];
       idle = storing ∙ kept.idle;
     }
@@ -218,10 +218,10 @@ put_more old others k masks mask so_far within is = record {
   count = length-set masks k mask ∙ so_far.count;
   below = λ i low. elim (cases_eq i k) [
     | inl at ↦
-        ap (λ (j : ℕ). slice_index (set masks k mask) j) at ∙ put masks k mask (omega (arith, within, so_far.count)) ∙ is
+        ap (λ (j : ℕ). slice_index (set masks k mask) j) at ∙ get_or-set_same masks k mask 0 (omega (arith, within, so_far.count)) ∙ is
         ∙ ap (λ (w : ℕ). bit_or w (slice_index others k)) (so_far.above k (omega arith))
         ∙ ap (λ (j : ℕ). bit_or (slice_index old j) (slice_index others j)) (sym at)
-    | inr other ↦ left masks k mask i other ∙ so_far.below i (omega (arith, low, other))
+    | inr other ↦ get_or-set_other masks k i mask 0 other ∙ so_far.below i (omega (arith, low, other))
   ];
-  above = λ i high. left masks k mask i (λ e. omega (arith, e, high)) ∙ so_far.above i (omega (arith, high));
+  above = λ i high. get_or-set_other masks k i mask 0 (λ e. omega (arith, e, high)) ∙ so_far.above i (omega (arith, high));
 }

@@ -6,8 +6,8 @@ use Rattle.store_core.specs.Machine.{groups}
 use Rattle.store_core.specs.Masks.{has_bit}
 use Rattle.store_core.specs.Views.{seat_claims}
 use Rattle.store_shared.specs.declared.assembly.Assembly.{Assembly}
-pub use Rattle.store_steps.specs.Grips.{Gripped}
-use Rattle.store_steps.specs.Words.{CoversGroup, IsGripOf, fixed_of as fixed_of_words}
+pub use Rattle.store_calls.specs.Grips.{Gripped}
+use Rattle.store_calls.specs.Grips.{CoversGroup, IsGripOf, fixed_of as fixed_of_words}
 
 -- one word a group, with the bits of exactly the chunks that the seat claims; and the seat is storing no parents
 pub record AreClaims (view : SeatView) (claims : List ℕ) : Type 0 where

@@ -6,9 +6,8 @@ use crate::seat::Seat;
 use b3tree::{CHUNK_LEN, Hash, Mode};
 use bao_check::{Checked, Tail};
 use std::alloc::Global;
-use store_calls::{commit, commit_parents, read, serve_slice};
+use store_calls::{NewFault, Words, commit, commit_parents, read, serve_slice};
 use store_core::{GROUP_LEN, MAX_CAPACITY, Missing, ServeFault, Settling, Storing};
-use store_steps::{NewFault, Words};
 
 /// A store of one blob's chunks, shared by reference: which are held, which seat claims which, and the blob's length once
 /// it is known. Nothing is taken on anybody's word: what it holds comes from encodings accepted under its root.

@@ -6,8 +6,8 @@ pub use assembly::Assembly;
 pub use fault::{NoGroup, OtherRoot, ParentsFault, SplitFault};
 pub use law::replies_are_the_stores;
 pub use seat::Seat;
+pub use store_calls::NewFault;
 pub use store_core::{Missing, ServeFault, Settling};
-pub use store_steps::NewFault;
 
 mod assembly;
 mod fault;

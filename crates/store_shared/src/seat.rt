@@ -1,5 +1,5 @@
 use std::marker::Model;
-use store_steps::Grip;
+use store_calls::Grip;
 
 /// A seat of a shared store: one thread's token, with which it makes its calls. Contracts see which store it is of and
 /// its view, what it knows. It keeps which chunks it claims, one word a group.
@@ -11,7 +11,7 @@ pub struct Seat {
 
 impl Model for Seat {
     ghost use Rattle.store_shared.specs.Seats.{AreClaims};
-    ghost use Rattle.store_steps.specs.Grips.{Gripped};
+    ghost use Rattle.store_calls.specs.Grips.{Gripped};
 
     ghost Value = { Gripped };
 

@@ -2,12 +2,12 @@ use Rattle.std.proofs.Common.{ℕ, List, IfErr, OnOk, Option, Result, Ok, Err, s
 use Rattle.bao_files.specs.Printed as file
 use Rattle.bao_files.specs.declared.fault.FileFault.{FileFault}
 use Rattle.bao_command.specs.declared.fault.Fault.{Fault}
-use Rattle.bao_command.specs.Printed.{Prints, told_of}
+use Rattle.bao_command.specs.Printed.{CommandPrints, told_of}
 use Rattle.bao_command.specs.Tasks.{IsDue, IsRightPart, part_line}
 use Rattle.bao_command.proofs.commands.decode.Goals as goal
 
 -- a line that was printed, as a fault of the program
-told_prints : (line : List ℕ) (old new : Option (List ℕ)) (printed : Result Unit FileFault) → file.Prints line old new printed → Prints line old new (told_of printed)
+told_prints : (line : List ℕ) (old new : Option (List ℕ)) (printed : Result Unit FileFault) → file.Prints line old new printed → CommandPrints line old new (told_of printed)
 told_prints line old new (Ok done) prints = prints
 told_prints line old new (Err fault) prints = prints
 
@@ -34,4 +34,4 @@ returns-in-Ok-clause-prints g c =
     let right : IsRightPart mode c.args.digits.now part bytes = (c.in_ok-root.root.0, (c.in_ok-root.ensures.ok, made.1)) in
     let printed = subst (λ (n : ℕ). file.Prints (file.ok_line n) old new c.print_count.result) made.2 c.print_count.ensures.prints in
     let told = told_prints (part_line part bytes) old new c.print_count.result printed in
-    (bytes, on_ok c.told.result right, subst (Prints (part_line part bytes) old new) (sym c.told.ensures.prints) told)
+    (bytes, on_ok c.told.result right, subst (CommandPrints (part_line part bytes) old new) (sym c.told.ensures.prints) told)

@@ -3,12 +3,12 @@ use Rattle.bao_files.specs.Printed as file
 use Rattle.bao_files.specs.Printed.{ok_line}
 use Rattle.bao_files.specs.declared.fault.FileFault.{FileFault}
 use Rattle.bao_command.specs.declared.fault.Fault.{Fault}
-use Rattle.bao_command.specs.Printed.{Prints, told_of}
+use Rattle.bao_command.specs.Printed.{CommandPrints, told_of}
 use Rattle.bao_command.specs.Tasks.{IsRightCopy}
 use Rattle.bao_command.proofs.commands.decode_beside.Goals as goal
 
 -- a line that was printed, as a fault of the program
-told_prints : (line : List ℕ) (old new : Option (List ℕ)) (printed : Result Unit FileFault) → file.Prints line old new printed → Prints line old new (told_of printed)
+told_prints : (line : List ℕ) (old new : Option (List ℕ)) (printed : Result Unit FileFault) → file.Prints line old new printed → CommandPrints line old new (told_of printed)
 told_prints line old new (Ok done) prints = prints
 told_prints line old new (Err fault) prints = prints
 
@@ -26,4 +26,4 @@ returns-in-Ok-clause-prints g c =
     let right : IsRightCopy mode c.args.digits.now bytes = (c.in_ok-root.root.0, (c.in_ok-root.ensures.ok, made.1)) in
     let printed = subst (λ (n : ℕ). file.Prints (file.ok_line n) old new c.print_count.result) made.2 c.print_count.ensures.prints in
     let told = told_prints (ok_line (length bytes)) old new c.print_count.result printed in
-    (bytes, on_ok c.told.result right, subst (Prints (ok_line (length bytes)) old new) (sym c.told.ensures.prints) told)
+    (bytes, on_ok c.told.result right, subst (CommandPrints (ok_line (length bytes)) old new) (sym c.told.ensures.prints) told)

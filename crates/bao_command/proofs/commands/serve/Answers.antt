@@ -4,7 +4,7 @@ use Rattle.bao_command.specs.declared.fault.Fault.{Fault}
 use Rattle.bao_command.specs.declared.fault.Fault.TheVariants.{Word, Root, Key, KeyAndContext, OutputRange, TooManyFiles, OutIsOutput, File, Decode, Gather, Replay}
 use Rattle.bao_files.specs.declared.fault.FileFault.TheVariants as file
 use Rattle.bao_request.specs.declared.tasks.Request.{Request}
-use Rattle.bao_command.specs.Printed.{Prints}
+use Rattle.bao_command.specs.Printed.{CommandPrints}
 use Rattle.std.specs.Option.{option_copied}
 use Rattle.bao_command.specs.ModeWords.{GivesMode}
 use Rattle.bao_command.specs.Tasks.{Answers, HasMode, IsRight, WritesApart, line_of}
@@ -12,7 +12,7 @@ use Rattle.bao_command.proofs.commands.serve.Goals as goal
 
 -- what was printed of the line in the request's mode answers the request
 answers : (request : Request) (mode : Mode) (bytes : List ℕ) (old new : Option (List ℕ)) (result : Result Unit Fault) →
-    HasMode request mode → WritesApart request.task → OnOk result (IsRight mode request.task bytes) → Prints (line_of mode request.task bytes) old new result → Answers request old new result
+    HasMode request mode → WritesApart request.task → OnOk result (IsRight mode request.task bytes) → CommandPrints (line_of mode request.task bytes) old new result → Answers request old new result
 answers request mode bytes old new (Ok done) has apart right prints = (mode, bytes, has, apart, right, prints)
 answers request mode bytes old new (Err Word) has apart right prints = prints
 answers request mode bytes old new (Err Root) has apart right prints = prints

@@ -1,6 +1,6 @@
 use Rattle.std.proofs.Common.{◌≤◌, ◌*◌, ℕ, List, length, OnOk, Result, Ok, Err, Bor, subst, sym}
 use Rattle.bao_command.specs.declared.fault.Fault.{Fault}
-use Rattle.bao_command.specs.Printed.{Prints}
+use Rattle.bao_command.specs.Printed.{CommandPrints}
 use Rattle.bao_command.specs.Tasks.{HasHash, IsReplay, IsRight, line_of}
 use Rattle.bao_request.specs.declared.tasks.Task.{Task}
 use Rattle.bao_command.proofs.commands.serve_task.Goals as goal
@@ -21,7 +21,7 @@ returns-in-Gather-clause-prints g c =
     let fits : OnOk result (HasHash mode c.in-Gather.root.now answer.0 × (length answer.0 ≤ 1024 * c.in-Gather.capacity)) =
     subst (λ (n : ℕ). OnOk result (HasHash mode c.in-Gather.root.now answer.0 × (length answer.0 ≤ 1024 * n))) c.how_of-how.ensures.capacity answer.1 in
     let prints =
-    subst (λ (task : Task). (bytes : List ℕ) × OnOk result (IsRight mode task bytes) × Prints (line_of mode task bytes) old new result) (sym c.in-Gather.is)
+    subst (λ (task : Task). (bytes : List ℕ) × OnOk result (IsRight mode task bytes) × CommandPrints (line_of mode task bytes) old new result) (sym c.in-Gather.is)
     (answer.0, both _ _ result few (both _ _ result fits c.gather.ensures.beside), answer.2) in
     prints
 
@@ -38,6 +38,6 @@ returns-in-Replay-clause-prints g c =
     c.as_slice.ensures.value
     (both _ _ result c.replay.ensures.few answer.1) in
     let prints =
-    subst (λ (task : Task). (bytes : List ℕ) × OnOk result (IsRight mode task bytes) × Prints (line_of mode task bytes) old new result) (sym c.in-Replay.is)
+    subst (λ (task : Task). (bytes : List ℕ) × OnOk result (IsRight mode task bytes) × CommandPrints (line_of mode task bytes) old new result) (sym c.in-Replay.is)
     (answer.0, right, answer.2) in
     prints

@@ -15,8 +15,8 @@ returns-clause-filled c =
     let skip : ℕ = (c.args.at + c.args.from) % 8 in
     let span : ℕ = skip + c.args.count - skip in
     let same : span ≡ c.args.count = omega arith in
-    part_filled grip.view.fixed grip.view.seen c.args.at c.args.from c.args.count skip _ _ c.copy.result c.args.out.now c.put.new.out _
+    part_filled grip.view.fixed grip.view.seen c.args.at c.args.from c.args.count skip _ _ c.copy.result c.args.out.now c.put_bytes.new.out _
     c.requires.of.knows.legal c.requires.held c.requires.word refl refl refl c.copy.ensures.word
     (part_size c.to_le_bytes-bytes.result c.copy.result skip span c.to_le_bytes-bytes.ensures (omega (arith, c.requires.word)) ∙ same)
     (λ k below. part_byte c.to_le_bytes-bytes.result c.copy.result skip span k c.to_le_bytes-bytes.ensures (omega (arith, below)))
-    c.requires.room c.put.ensures
+    c.requires.room c.put_bytes.ensures

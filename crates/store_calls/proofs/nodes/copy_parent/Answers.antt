@@ -13,11 +13,11 @@ words-preserved c =
     let part = c.to_le_bytes-bytes.result in (
       c.copy_parent.ensures.same ∙ c.words.invariant.0,
       subst (λ (g : Gripped). IsGripOf c.args.words.now g) (sym c.copy_parent.ensures.same) c.words.invariant.1,
-      parent_more grip.view.fixed grip.view.seen c.args.boundary c.words.word c.copy_parent.result c.args.out.now c.words.out c.put.new.out part
+      parent_more grip.view.fixed grip.view.seen c.args.boundary c.words.word c.copy_parent.result c.args.out.now c.words.out c.put_bytes.new.out part
           c.requires.of.knows.legal c.requires.held c.words-test.true
           (subst (λ (g : Gripped). FindsParentWord c.args.boundary c.words.word c.copy_parent.result g.view) c.words.invariant.0 c.copy_parent.ensures.word)
           c.to_le_bytes-bytes.ensures c.requires.room c.words.invariant.2
-          (subst (λ (w : ℕ). c.put.new.out ≡ take (8 * w) c.words.out ++ (part ++ drop (8 * w + length part) c.words.out)) c.from.ensures c.put.ensures),
+          (subst (λ (w : ℕ). c.put_bytes.new.out ≡ take (8 * w) c.words.out ++ (part ++ drop (8 * w + length part) c.words.out)) c.from.ensures c.put_bytes.ensures),
     )
 
 pub returns-clause-copied : goal.returns-clause-copied
