@@ -8,8 +8,8 @@ use Rattle.gather.specs.Large.{fixed_as}
 
 -- it was accepted under this root, in this mode
 pub record IsUnder (outline : Outline) (mode : Mode) (root : List ℕ) : Type 0 where
-  pub mode : outline_mode outline ≡ mode
-  pub root : outline_root outline ≡ root
+  pub mode_is : outline_mode outline ≡ mode
+  pub root_is : outline_root outline ≡ root
 
 -- under the store's
 abbrev pub IsOfStore : Fixed → Outline → Type 0
