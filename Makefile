@@ -16,7 +16,7 @@ CPU := $(if $(filter-out $(sort $(shell cat /proc/cpuinfo 2>/dev/null)),$(V3_NEE
 endif
 
 # Crates of which nothing goes into the program.
-ASIDE := bao_bind bao_refused bench berylwool text_scenarios store_scenarios program_scenarios tests_b3 tests_text tests_gather tests_shared tests_workers tests_crews tests_peers tests_ring tests_bare tests_placed tests_starved tests_files tests_command
+ASIDE := bao_bind bench berylwool text_scenarios store_scenarios crew_scenarios program_scenarios $(notdir $(wildcard crates/tests_* crates/determined_*))
 
 # The files and folders whose change asks for a new proof. With the folders, a file that was taken
 # away is seen too.
@@ -29,8 +29,8 @@ help:
 	@echo 'make sum                  prints the checksum of the built bao_gather'
 	@echo 'make install PREFIX=DIR   copies bao_gather to DIR/bin, its manual page and completions to DIR/share (PREFIX is /usr/local if left out; DESTDIR goes before it)'
 	@echo 'make dist                 makes the folder of a release, out/dist, of a commit: programs for both processor levels, manual page, completions, checksums'
-	@echo 'make test                 the gate: what make scenarios does, rt ci (every proof from nothing, the must-fail edits, the tests and the programs), then what make docs, make refuse and make c-test do'
-	@echo 'make wrong-bodies         tries the wrong bodies that the gate leaves out, of all crates or of CRATES="NAME .."'
+	@echo 'make test                 the gate: a look at laws and wrong bodies, what make scenarios does, rt ci (every proof from nothing, the must-fail edits, the tests and the programs), then what make docs, make refuse and make c-test do'
+	@echo 'make wrong-bodies         tries the wrong bodies, those that the gate leaves out too, of all crates or of CRATES="NAME .."'
 	@echo 'make docs                 runs the shell examples of README and docs/CLI.md and compares what they print, and compares the wanted figures of docs/BENCH.md with scripts/bench.py'
 	@echo 'make scenarios            holds what the programs of scenarios have to print to replies made by the definitions alone'
 	@echo 'make c-library            proves the C library and builds it, as out/libberylwool.a and out/libberylwool.so (needs cc and binutils)'
@@ -70,6 +70,7 @@ dist:
 
 # What rt ci leaves is the program that it proved, and the libraries that the C library is built over.
 test:
+	@python3 scripts/laws.py
 	@python3 scripts/wrong_bodies.py --read
 	@python3 scripts/scenarios.py
 	rt ci

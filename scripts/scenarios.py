@@ -114,6 +114,9 @@ class Texts:
         "503 503 trailing at 18446744073709551615",
         "504 504 memory",
         "505 505 reader",
+        "301 301 memory",
+        "311 311 memory",
+        "312 312 reader",
         "601 601 other root",
     ]
 
@@ -125,6 +128,7 @@ class Texts:
         kind, *numbers = form
         if kind == "outboard":
             return bao.outboard_nodes
+        # On threads, whose grain comes last, the answer is the slice's.
         start, count = (0, 2**64 - 1) if kind == "combined" else map(int, numbers[:2])
         return lambda length: bao.slice_nodes(length, start, count)
 
@@ -157,6 +161,24 @@ class Texts:
         last = max(chunks) == bao.chunks_of(length) - 1
         said = f"accepted: claims {length}, chunks {min(chunks)} to {max(chunks)}, {f'length {length}' if last else 'no length'}"
         return f"{said}, {len(text) - end} bytes left" if self.form[0] == "stream" else said
+
+    def until(self, text):
+        """The verdict on what a reader gives that fails after this text: on all that was asked for, or that it failed."""
+        said = self.verdict(text).partition(",")[0] if len(text) >= 8 else "501 short"
+        return "505 reader" if said.startswith("501 short") else said
+
+    def written(self, full):
+        """What comes of writing the combined encoding to a writer that fails after so many bytes, by each of three faults."""
+        text = bao.combined(self.mode, self.blob)
+        said = self.mode.hash(self.blob).hex() if full >= len(text) else f"402 writer failed after {full} bytes"
+        return [f"{said}: {told(text[:full])}"] * 3
+
+    def source(self, fails, size):
+        """The hash and the encodings of bytes that are read up to their end, unless they aren't as many as was said."""
+        if fails <= len(self.blob) or size != len(self.blob):
+            return [f"312 reader: {told(b'')}"] * 3
+        made = [b"", bao.combined(self.mode, self.blob), bao.outboard(self.mode, self.blob)]
+        return [f"{self.mode.hash(self.blob).hex()}: {told(it)}" for it in made]
 
     def unread(self, at, text):
         """How many bytes a reader has left after the node at this place, where a fault was found: each is read whole first."""
@@ -245,6 +267,12 @@ class Texts:
                 return [half_of(text, bao.checked(self.mode, self.root, text, bao.outboard_nodes)[1], numbers[0])]
             case "cuts":
                 return runs(self.verdict(text[:k]) for k in range(len(text)))
+            case "fails":
+                return runs([self.until(text[:k]) for k in range(len(text))] * 2)
+            case "write":
+                return self.written(numbers[1])
+            case "source":
+                return self.source(*numbers[2:])
             case "flips":
                 return runs(self.verdict(text[:k] + bytes([text[k] ^ 1]) + text[k + 1 :]) for k in range(len(text)))
             case "audit":
@@ -886,7 +914,315 @@ class Programs:
         return []
 
 
-SCENARIOS = {"text_scenarios": Texts, "store_scenarios": Stores, "program_scenarios": Programs}
+class Starved(Exception):
+    """A holder has no memory."""
+
+
+class Broken(Exception):
+    """A holder's device failed."""
+
+
+class Holder:
+    """Whom a worker asks: over a text, or a store that serves."""
+
+    def __init__(self, kind, text, only=None, starves=None, counted=0, serves=None):
+        self.kind, self.text, self.only, self.starves, self.faults, self.serves = kind, text, only, starves, counted, serves
+
+    def fetch(self, start, count):
+        """What it gives as the slice of a range."""
+        if self.starves is not None:
+            if self.starves == 0:
+                raise Starved
+            self.starves -= 1
+        if self.only is not None and start != 2**64 - 1 and start // (GROUP_LEN * bao.CHUNK_LEN) != self.only:
+            return b""
+        if self.text is None and self.serves is None:
+            if self.faults == 2**64 - 1:
+                return b""
+            self.faults += 1
+            raise Broken
+        if self.serves:
+            return self.serves(start, count)
+        return bao.cut(self.text, start, count) if self.kind.startswith("encoded") else self.text[start : start + count]
+
+
+class Gathering(Stores):
+    """A store, and one worker's work for it, which is all that several do together."""
+
+    def __init__(self, mode, root, capacity):
+        super().__init__()
+        self.of, self.root, self.capacity = mode, root, capacity
+        self.held, self.claims, self.length, self.parents = {}, {}, None, {}
+
+    def begin(self):
+        self.report = dict.fromkeys(["committed", "parents", "asked", "refused", "failed", "memory"], 0)
+        self.is_too_large = False
+
+    def asked(self, holder, outline, start, count):
+        """The piece that a holder's answer for a range is accepted as, if it is."""
+        self.report["asked"] += 1
+        made = object.__new__(Piece)
+        made.mode, made.root, made.start, made.count = self.of, self.root, start, count
+        try:
+            given = holder.fetch(start, count)
+            if outline:
+                first = start // bao.CHUNK_LEN
+                given = outline.beside(given, first, bao.chunks_of(count))[0]
+            made.read(given)
+            return made
+        except Broken:
+            self.report["failed"] += 1
+        except Starved:
+            self.report["memory"] += 1
+        except bao.Fault:
+            self.report["refused"] += 1
+        return None
+
+    def keep_parents(self, piece):
+        if piece.length == self.length:
+            new = {m: it for m, it in piece.parents.items() if m not in self.parents}
+            self.parents.update(new)
+            self.report["parents"] += len(new)
+
+    def range_of(self, outline, first, count):
+        """The bytes that are asked for so many chunks: beside an outline no byte after its blob's end."""
+        start, size = bao.CHUNK_LEN * first, bao.CHUNK_LEN * count
+        return start, min(size, outline.length - start) if outline else size
+
+    def round(self, holders, outline=None):
+        """One round of a worker: the length, and then group after group."""
+        for it in holders:
+            if self.length is not None or self.is_too_large:
+                break
+            end = self.range_of(outline, bao.chunks_of(outline.length) - 1, 1) if outline else (2**64 - 1, 1)
+            piece = self.asked(it, outline, *end)
+            if piece is None or not piece.is_last:
+                continue
+            if self.settle(piece) == "too large":
+                self.is_too_large = True
+            else:
+                self.keep_parents(piece)
+        self.is_to_go_on = self.length is not None and (outline is None or outline.length == self.length)
+        for group in range(-(-bao.chunks_of(self.length) // GROUP_LEN) if self.is_to_go_on else 0):
+            first = GROUP_LEN * group
+            left = [k for k in range(first, min(first + GROUP_LEN, bao.chunks_of(self.length))) if k not in self.held and k not in self.claims]
+            for it in holders:
+                if not left:
+                    break
+                piece = self.asked(it, outline, *self.range_of(outline, first, GROUP_LEN))
+                if piece is not None:
+                    stored = [k for k in left if k in piece.chunks]
+                    self.held.update((k, piece.chunks[k]) for k in stored)
+                    self.report["committed"] += len(stored)
+                    left = [k for k in left if k not in stored]
+                    self.keep_parents(piece)
+
+    def worked(self, holders, workers, outline=None):
+        """Both rounds. Several workers make no other difference than in what they ask."""
+        self.begin()
+        self.round(holders, outline)
+        too_large, self.is_too_large = self.is_too_large, False
+        self.round(holders, outline)
+        told_of = list(self.report) if workers == 1 else ["committed", "parents"]
+        said = ", ".join(f"{it} {self.report[it]}" for it in told_of)
+        return said + (", too large" if too_large or self.is_too_large else "")
+
+    def finished(self):
+        """The blob, or why there is none."""
+        if self.length is None:
+            return "901 unfinished"
+        blob = b"".join(self.held.get(k, b"") for k in range(bao.chunks_of(self.length)))
+        if any(k not in self.held for k in range(bao.chunks_of(self.length))) or len(blob) < self.length:
+            return "901 unfinished"
+        blob = blob[: self.length]
+        return told(blob) if self.of.hash(blob) == self.root else "902 not the root"
+
+    def served(self, start, count):
+        """What it serves another store: nothing where it lacks a node."""
+        made = (self.length or 0).to_bytes(8, "little")
+        for it in bao.slice_nodes(self.length, start, count) if self.length is not None else []:
+            held, at = (self.parents, boundary(it)) if it.is_parent else (self.held, it.number)
+            if at not in held:
+                return b""
+            made += held[at]
+        return made if self.length is not None else b""
+
+
+class Crews:
+    """Texts, holders over them, and the stores that they fill."""
+
+    FAULTS = [901, 902, 903, 801, 802, 805, 806, 901, 902, 903, 911]
+    WORDS = {801: "memory", 802: "capacity", 805: "too large", 806: "memory", 901: "unfinished", 902: "not the root", 903: "memory", 911: "memory"}
+    RANGES = [(0, 0), (0, 1), (2**64 - 1, 1), (0, 65536), (131072, 65536), (196608, 65536), (262144, 65536), (1023, 2), (130000, 2000), (199999, 1), (1, 2**64 - 1)]
+    # What a holder appends to.
+    BEFORE = bytes([1, 2])
+
+    def __init__(self):
+        self.mode, self.blob, self.root, self.texts, self.stores, self.alone = bao.Mode(), b"", bytes(32), {}, {}, None
+
+    def bytes_of(self, source):
+        """The bytes of a source by its word: none where each read fails."""
+        name, *options = source.split(":")
+        return b"" if "breaks" in options else self.texts[name]
+
+    def holder(self, word):
+        word, _, more = word.partition("/")
+        kind, _, rest = word.partition(":")
+        text = None if kind == "broken" or "breaks" in rest.split(":") else self.texts[rest.split(":")[0]]
+        options = {name: int(number) for name, _, number in [more.partition(":")] if name}
+        return Holder(kind, text, **options)
+
+    def fetched(self, word, start, count):
+        try:
+            return told(self.BEFORE + self.holder(word).fetch(start, count))
+        except Broken:
+            return "holder's device"
+        except Starved:
+            return "holder's memory"
+
+    def shrinking(self, name, source, start, count):
+        """A source that has less from some read on gives a beginning, and one that doesn't gives all."""
+        return "a beginning" if "shrinks" in source else "all"
+
+    def endless(self, start, count):
+        """Of a combined encoding that claims 2^64 - 1 bytes, the wanted nodes up to the first that lies where no place can name."""
+        length = 2**64 - 1
+        (first, after), size, todo = bao.range_of(length, start, count), 8, [(0, length, 8)]
+        while todo:
+            at, part, place = todo.pop()
+            if at >= after or first >= at + part:
+                continue
+            is_parent = part > bao.CHUNK_LEN
+            node = 64 if is_parent else part
+            if place + node >= 2**63:
+                break
+            size += node
+            if is_parent:
+                left = bao.left_len(part)
+                below = 64 * (left // bao.CHUNK_LEN - 1) + left
+                todo += [(at + left, part - left, place + 64 + below), (at, left, place + 64)]
+        return f"{size} bytes, in little room"
+
+    def gathered(self, capacity, grain, texts, outline=None):
+        if not 1 <= capacity <= MAX_CAPACITY:
+            return "802 capacity"
+        grains = [GROUP_LEN] if grain == "group" else [GROUP_LEN, 1]
+        blob = Programs().gathered(self.mode, self.root, capacity, outline, texts, grains)
+        return str(blob) if isinstance(blob, Refused) else told(blob)
+
+    def made(self, name, given):
+        mode, blob, texts = self.mode, self.blob, self.texts
+        match name, given:
+            case "combined", []:
+                return bao.combined(mode, blob)
+            case "outboard", []:
+                return bao.outboard(mode, blob)
+            case "slice", [start, count]:
+                return bao.slice_text(mode, blob, int(start), int(count))
+            case "copy", []:
+                return blob
+            case "value", [chunk]:
+                return mode.value(int(chunk), blob)
+            case "parent", [pair]:
+                return bao.node_value(mode.key, mode.flags, True, 0, False, texts[pair][:64])
+            case "zeros", [count]:
+                return bytes(int(count))
+            case "length", [length]:
+                return int(length).to_bytes(8, "little")
+            case "joined", names:
+                return b"".join(texts[it] for it in names)
+        sys.exit(f"scenarios: no command {name}")
+
+    def changed(self, name, text, word):
+        match name:
+            case "keep":
+                return text[: int(word)]
+            case "drop":
+                return text[int(word) :]
+            case "flip":
+                return text[: int(word)] + bytes([text[int(word)] ^ 1]) + text[int(word) + 1 :]
+            case "append":
+                return text + bytes.fromhex(word)
+            case "claim":
+                return int(word).to_bytes(8, "little") + text[8:]
+        return None
+
+    def make(self, name, called, *given):
+        text = self.changed(name, self.texts[called], *given) if called in self.texts and len(given) == 1 else None
+        self.texts[called] = self.made(name, list(given)) if text is None else text
+        return [told(self.texts[called])]
+
+    def call(self, name, store, words):
+        match name:
+            case "work":
+                return store.worked([self.holder(it) for it in words[1:]], int(words[0]))
+            case "beside":
+                outline = Outline(self.mode, self.root, self.texts[words[1]])
+                return store.worked([self.holder(it) for it in words[2:]], int(words[0]), outline)
+            case "over":
+                return store.worked([Holder("encoded", None, serves=self.stores[int(words[0])].served)], 1)
+            case "finish":
+                return store.finished()
+            case "free":
+                return f"free {sum(k not in store.held and k not in store.claims for k in range(store.capacity))}"
+            case "claims":
+                return store.take("gone", int(words[0]), 2 ** int(words[1]) - 1)
+            case "settle":
+                piece = object.__new__(Piece)
+                piece.mode, piece.root, piece.start, piece.count = self.mode, self.root, 2**64 - 1, 1
+                piece.read(self.texts[words[0]])
+                return f"settled {str(store.settle(piece) == 'settled').lower()}"
+            case "read":
+                return store.read(*map(int, words)).partition(",")[0]
+
+    def do(self, name, rest):
+        words = rest.split(" ") if rest else []
+        match name:
+            case "mode":
+                self.mode = mode_of(rest)
+            case "blob":
+                self.blob = blob_of(int(rest))
+                self.root = self.mode.hash(self.blob)
+            case "root":
+                self.root = bytes.fromhex(rest)
+            case "top":
+                self.root = bao.node_value(self.mode.key, self.mode.flags, True, 0, True, self.texts[rest][:64])
+            case "faults":
+                return [f"{it} {it} {self.WORDS[it]}" for it in self.FAULTS]
+            case "fetch":
+                return [self.fetched(words[0], int(words[1]), int(words[2]))]
+            case "ranges":
+                return [told(b"".join(self.BEFORE + self.holder(rest).fetch(*it) for it in self.RANGES))]
+            case "failing":
+                return ["each read fails once"]
+            case "shrinking":
+                return [self.shrinking(*words)]
+            case "endless":
+                return [self.endless(*map(int, words))]
+            case "gather":
+                return [self.gathered(int(words[1]), words[2], [self.texts[it] for it in words[3:]])]
+            case "sources":
+                return [self.gathered(int(words[1]), words[2], [self.bytes_of(it) for it in words[4:]])]
+            case "copies" | "copies_at":
+                outline = Outline(self.mode, self.root, self.texts[words[3]])
+                return [self.gathered(int(words[1]), words[2], [self.bytes_of(it) for it in words[4:]], outline)]
+            case "alone":
+                self.alone = Gathering(self.mode, self.root, int(rest))
+            case "one":
+                return [self.alone.worked([self.holder(it) for it in words], 1)]
+            case "ended":
+                return [self.alone.finished()]
+            case "store":
+                self.stores[int(words[0])] = Gathering(self.mode, self.root, int(words[1]))
+                return [f"groups {self.stores[int(words[0])].groups()}"]
+            case "work" | "beside" | "over" | "finish" | "free" | "claims" | "settle" | "read":
+                return [self.call(name, self.stores[int(words[0])], words[1:])]
+            case _:
+                return self.make(name, *words)
+        return []
+
+
+SCENARIOS = {"text_scenarios": Texts, "store_scenarios": Stores, "crew_scenarios": Crews, "program_scenarios": Programs}
 
 
 def replies(kind, script):

@@ -1,20 +1,23 @@
 #!/usr/bin/env python3
 """Tries the wrong bodies of crates that the gate leaves out: the prover has to refuse each.
 
-usage: python3 scripts/wrong_bodies.py [--jobs N] [--anew] [--all] [CRATE ..]
+usage: python3 scripts/wrong_bodies.py [--jobs N] [--anew] [CRATE ..]
        python3 scripts/wrong_bodies.py --read [--strict]
 
 At the top of the repository. A wrong body is a file crates/NAME/wrong-bodies/FUNCTION.WHAT.edit, in the form of those of
-crates/NAME/must-fail/, which the gate tries; with --all those of must-fail/ are tried too. With no CRATE it is all that
-crates.txt names. The crates below are proved first, where they aren't. Work is done on copies: first each crate is proved
+crates/NAME/must-fail/, which the gate tries; both are tried. With no CRATE it is all that crates.txt names.
+The crates below are proved first, where they aren't. Work is done on copies: first each crate is proved
 over what `rt check` kept of it, then N lanes try its edits, each over a copy of that. Edits of the bodies of different
 functions are tried together, up to BATCH of them: a function is proved from the contracts of those that it calls, so one
 that isn't proved, and for another reason than a callee without a proof, has its own edit to thank. What isn't refused so is
 tried without those that were, and then alone, at last from nothing, as `rt must-fail` does: so is an edit that changes anything but
 one function's body.
+A stored answer that no longer fits the changed code shows nothing of the contract. So each such answer is taken out, and the
+check is made again, until none is left: an edit counts as refused only where a goal stays open then, or where the reason is
+noted why it can't be tried so (REASONS).
 Prints a line for each edit and last 'N refused, M not refused'. The exit status is 1 where one isn't refused.
-A crate's file wrong-bodies/TRIED has a sum of the crate's text without its comments, and of each of these edits that was refused of
-that text its own sum and name. Those are not tried again, but with --anew or once the text has changed.
+A crate's file wrong-bodies/TRIED has a sum of the crate's text without its comments, and of each edit that was refused of
+that text its own sum and name, and the reason where there is one. Those are not tried again, but with --anew or once the text has changed.
 --read proves nothing and takes a second: it fails on an edit of either folder that can't be applied any more, or that
 stands in both, and names each crate on which they were never tried so, or that has changed since. With --strict it fails on those too.
 """
@@ -48,6 +51,14 @@ COMMENTS = {".rt": (RATTLE, "/*"), ".antt": (ANTT, "{-")}
 HEAD = re.compile(r"( *)(?:pub(?:\([^)]*\))? )?(?:(?:const|unsafe|final|extern \"C\") )*fn (\w+)")
 # What the prover says of a function that is not proved by itself, and of one that waits for another's proof.
 FAILS, WAITS = re.compile(r"not proved(?!; it calls)|no proof: expected answers"), re.compile(r"(no proof:|not proved;) it calls")
+# An error in a proof file, and the first line of a definition in one.
+ERROR = re.compile(r"(?:note: )?(?:\./)?(proofs/\S+\.antt):(\d+):\d+: error")
+DEFINITION = re.compile(r"(?:abbrev )?(?:pub )?(?:abbrev )?([^\s:(){}]+) :")
+# Why an edit can't be tried without the answers that no longer fit.
+REASONS = {
+    "definition": "it changes a definition or a contract, on which lemmas stand",
+    "lemma": "a lemma, an invariant or a proof by hand names what the edit changes",
+}
 
 
 def edits_of(crate, part):
@@ -88,10 +99,50 @@ def sums_of(edits):
     return sums
 
 
+HEADER = "refused without the answers that no longer fit, of the text with the sum"
+
+
 def tried_of(rt, folder, text):
-    """Returns the edits that wrong-bodies/TRIED says were refused of the crate's text with this sum: their sums by their names."""
-    of, *told = (rt.rtlib.text_of(f"{folder}/{OURS}/TRIED") or "").split("\n")[1:] or [""]
-    return {name: made for made, name in map(str.split, filter(None, told))} if of == text else {}
+    """Returns the edits that wrong-bodies/TRIED says were refused of the crate's text with this sum: their sums, with a reason
+    where there is one, by their names."""
+    head, of, *told = [*(rt.rtlib.text_of(f"{folder}/{OURS}/TRIED") or "").split("\n"), "", ""]
+    if not head.endswith(HEADER) or of != text:
+        return {}
+    lines = [it.split() for it in told if it]
+    return {name: (made, *why) for made, name, *why in lines}
+
+
+def definitions(text):
+    """Returns the parts of a proof file: each definition with its clauses, and what stands before the first."""
+    parts = [[]]
+    for line in text.split("\n"):
+        if DEFINITION.match(line):
+            parts.append([])
+        parts[-1].append(line)
+    return parts
+
+
+def without_answers(crate, texts, said, text_of):
+    """Returns the texts without the answers in which a check found an error, or None where it found none in an answer."""
+    wrong = {}
+    for line in said:
+        found = ERROR.match(line)
+        if found and found[1].endswith("/Answers.antt"):
+            wrong.setdefault(found[1], set()).add(int(found[2]))
+    if not wrong:
+        return None
+    made = dict(texts)
+    for file, lines in wrong.items():
+        kept, at = [], 1
+        for number, part in enumerate(definitions(made.get(file) or text_of(f"{crate.folder}/{file}"))):
+            if number == 0 or not any(at <= it < at + len(part) for it in lines):
+                kept += part
+            at += len(part)
+        # An error in the imports alone: nothing can be taken out.
+        if "\n".join(kept) == (made.get(file) or text_of(f"{crate.folder}/{file}")):
+            return None
+        made[file] = "\n".join(kept)
+    return made
 
 
 def read_alone(rt, crates, is_strict):
@@ -107,7 +158,8 @@ def read_alone(rt, crates, is_strict):
             if why:
                 print(f"{os.path.relpath(file)}: BAD EDIT: {why}")
                 unread += 1
-        if not sums_of(ours[0]).items() <= tried_of(rt, crate.folder, sum_of(rt, crate.folder)).items():
+        tried = tried_of(rt, crate.folder, sum_of(rt, crate.folder))
+        if any(tried.get(name, [""])[0] != made for name, made in sums_of(ours[0] + theirs[0]).items()):
             stale.append(crate.name)
     if stale:
         print(f"wrong bodies not tried on these crates as they stand: make wrong-bodies CRATES='{' '.join(stale)}'")
@@ -212,6 +264,18 @@ class Work:
         other = self.changes[other]
         return other is not None and other.place != change.place
 
+    def checked_honestly(self, texts, kept):
+        """Checks the crate with these texts, and again without each answer that no longer fits, until none is left. Returns
+        the last check and how many such answers' checks there were."""
+        for rounds in range(9):
+            ran = self.rt.checked(self.crate, texts, ["--jobs", "1"], kept)
+            said = ran.stdout.rstrip("\n").split("\n")
+            fewer = without_answers(self.crate, texts, said, self.rt.rtlib.text_of) if ran.returncode == 1 else None
+            if fewer is None:
+                break
+            texts = fewer
+        return ran, rounds
+
     def tried_together(self, edits, lane):
         """Returns those of these edits that were refused, with what to say of each, and those that wait for another's proof."""
         texts = {}
@@ -220,7 +284,7 @@ class Work:
             text = texts.setdefault(change.file, self.rt.rtlib.text_of(f"{self.crate.folder}/{change.file}").split("\n"))
             for number, line in change.lines.items():
                 text[number] = line
-        ran = self.rt.checked(self.crate, {it: "\n".join(text) for it, text in texts.items()}, ["--jobs", "1"], self.kept_of(lane))
+        ran, _ = self.checked_honestly({it: "\n".join(text) for it, text in texts.items()}, self.kept_of(lane))
         said = ran.stdout.rstrip("\n").split("\n")
         refused, waiting = {}, []
         if ran.returncode != 1 or not said[-1].startswith("logic=not-proved"):
@@ -229,7 +293,7 @@ class Work:
         for edit in edits:
             change, label = self.changes[edit], f"{self.crate.name}/{os.path.basename(edit)}"
             of = [(function, why) for function, why in told if change.is_of(self.crate, function)]
-            if len(of) == 1 and FAILS.match(of[0][1]):
+            if len(of) == 1 and FAILS.match(of[0][1]) and not self.is_lemmas_fault(said, change, of[0][0]):
                 first = next((it for it in said if self.speaks_of(it, change, of[0][0])), of[0][1])
                 refused[edit] = f"{label}: refused, as it must be: {first[:160]}"
             elif len(of) == 1 and WAITS.match(of[0][1]):
@@ -241,31 +305,50 @@ class Work:
         folder = "/".join(function.split("::")[1:])
         return re.match(rf"(note: [^ ]* ?(of )?)?(\./)?proofs/\+?{re.escape(folder)}/\S*", line) is not None
 
+    def is_lemmas_fault(self, said, change, function):
+        """Returns whether an error is left in a proof file of this function."""
+        return any(ERROR.match(it) and self.speaks_of(it, change, function) for it in said)
+
     def tried(self, edit, lane):
-        """Returns whether the edit, tried alone, was refused, and what to say."""
+        """Returns whether the edit, tried alone, was refused, what to say, and the reason where it can't be tried without the
+        answers that no longer fit."""
+        label = f"{self.crate.name}/{os.path.basename(edit)}"
         if not self.prove():
-            return False, f"{self.crate.name}/{os.path.basename(edit)}: NOT TRIED: the crate itself is not proved"
+            return False, f"{label}: NOT TRIED: the crate itself is not proved", None
         came_to, text = self.rt.must_fail(self.crate, edit, ["--jobs", "1"], self.kept_of(lane))
         if came_to not in self.counts:
             came_to, text = self.rt.must_fail(self.crate, edit, ["--jobs", "1"])
-        return came_to in self.counts, text.removeprefix("must-fail ")
+        text = text.removeprefix("must-fail ")
+        if came_to not in self.counts:
+            return False, text, None
+        if Change.of(self.rt, self.crate, edit) is None:
+            return True, text, "definition"
+        texts, _ = self.rt.read_edit(edit, self.crate.folder)
+        ran, rounds = self.checked_honestly(texts, self.kept_of(lane))
+        if not ran.returncode:
+            return False, f"{label}: NOT REFUSED: proved once {rounds} times stored answers were taken out that no longer fitted", None
+        said = ran.stdout.rstrip("\n").split("\n")
+        if any(map(ERROR.match, said)):
+            return True, text, "lemma"
+        return True, text, None
 
-    def ended(self, edit, is_refused):
+    def ended(self, edit, is_refused, why):
         """Counts an edit that was tried, and notes one that was refused in TRIED. After the last one it removes the copies."""
         name = os.path.basename(edit)
         with self.lock:
             self.left -= 1
-            if self.text and is_refused:
-                self.known[name] = self.sums[name]
-                told = "".join(f"{made} {name}\n" for name, made in sorted(self.known.items()))
+            if is_refused:
+                self.known[name] = (self.sums[name], why) if why else (self.sums[name],)
+                told = "".join(f"{' '.join([made, name, *why])}\n" for name, (made, *why) in sorted(self.known.items()))
+                os.makedirs(os.path.dirname(self.tried_file), exist_ok=True)
                 with open(self.tried_file, "w", encoding="utf-8") as it:
-                    it.write(f"{len(self.known)} refused, of the text with the sum\n{self.text}\n{told}")
+                    it.write(f"{len(self.known)} {HEADER}\n{self.text}\n{told}")
             if not self.left:
                 shutil.rmtree(self.room, ignore_errors=True)
 
 
-def try_all(rt, crates, parts, jobs, is_anew):
-    """Tries the edits of these folders, and returns how many were refused and how many weren't."""
+def try_all(rt, crates, jobs, is_anew):
+    """Tries the edits of both folders, and returns how many were refused and how many weren't."""
     todo, refused, failed, printing = queue.Queue(), [], [], threading.Lock()
 
     def lane(number):
@@ -290,7 +373,7 @@ def try_all(rt, crates, parts, jobs, is_anew):
             gone, waiting = {}, []
         each = (time.monotonic() - began) / max(1, len(gone))
         for edit, text in gone.items():
-            ended(work, edit, True, text, each)
+            ended(work, edit, True, text, None, each)
         if 1 < len(waiting) < len(edits):
             together(number, work, waiting)
         else:
@@ -301,29 +384,29 @@ def try_all(rt, crates, parts, jobs, is_anew):
 
     def alone(number, work, edit):
         began = time.monotonic()
+        why = None
         try:
-            is_refused, text = work.tried(edit, number)
+            is_refused, text, why = work.tried(edit, number)
         except Exception as error:
             is_refused, text = False, f"{work.crate.name}/{os.path.basename(edit)}: NOT TRIED: {error!r}"
-        ended(work, edit, is_refused, text, time.monotonic() - began)
+        ended(work, edit, is_refused, text, why, time.monotonic() - began)
 
-    def ended(work, edit, is_refused, text, seconds):
+    def ended(work, edit, is_refused, text, why, seconds):
         with printing:
-            print(f"{text} ({seconds:.0f} s)", flush=True)
+            print(f"{text}{f' [{REASONS[why]}]' if why else ''} ({seconds:.0f} s)", flush=True)
             (refused if is_refused else failed).append(edit)
-        work.ended(edit, is_refused)
+        work.ended(edit, is_refused, why)
 
     with tempfile.TemporaryDirectory(prefix="wrong-bodies-") as room:
         for crate in crates:
-            found = [edits_of(crate, it) for it in parts]
+            found = [edits_of(crate, it) for it in (OURS, GATES)]
             for it in [it for _, bad in found for it in bad]:
                 print(f"{os.path.relpath(it)}: BAD EDIT: an edit's name is of letters, digits, _, - and . and ends in .edit", flush=True)
                 failed.append(it)
             edits = [it for good, _ in found for it in good]
-            text = sum_of(rt, crate.folder) if parts == [OURS] else None
-            sums = sums_of(edits)
-            told = tried_of(rt, crate.folder, text) if text and not is_anew else {}
-            known = {name: made for name, made in told.items() if sums.get(name) == made}
+            text, sums = sum_of(rt, crate.folder), sums_of(edits)
+            told = {} if is_anew else tried_of(rt, crate.folder, text)
+            known = {name: it for name, it in told.items() if sums.get(name) == it[0]}
             edits = [it for it in edits if os.path.basename(it) not in known]
             if known:
                 print(f"{crate.name}: {len(known)} were refused of this text before")
@@ -345,7 +428,6 @@ def main():
     asked = argparse.ArgumentParser(description=__doc__, formatter_class=argparse.RawDescriptionHelpFormatter)
     asked.add_argument("--jobs", type=int, default=0, help="how many edits at a time (one a processor, and 2 GB of memory each)")
     asked.add_argument("--anew", action="store_true", help="also those that were refused of the same text before")
-    asked.add_argument("--all", action="store_true", help="all, those of must-fail/ too; TRIED is left as it is")
     asked.add_argument("--read", action="store_true", help="prove nothing: say which edits can't be applied, and which crates are to be tried")
     asked.add_argument("--strict", action="store_true", help="with --read: fail where a crate is to be tried")
     asked.add_argument("crates", nargs="*", metavar="CRATE")
@@ -361,7 +443,7 @@ def main():
     rt.rtlib.guarded()
     jobs = asked.jobs or max(1, min(rt.processors(), rt.free() // 2_000_000_000))
     chosen = [it for it in crates.values() if not asked.crates or it.name in asked.crates]
-    refused, failed = try_all(rt, chosen, [OURS, GATES] if asked.all else [OURS], jobs, asked.anew)
+    refused, failed = try_all(rt, chosen, jobs, asked.anew)
     print(f"{refused} refused, {failed} not refused")
     return 1 if failed else 0
 

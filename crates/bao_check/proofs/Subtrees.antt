@@ -1,22 +1,23 @@
 -- Walks through the parts of an encoding that is there as a whole.
-use Rattle.std.proofs.Common.{◌≡◌, ℕ, ◌+◌, ◌-◌, ◌*◌, ◌/◌, ◌<◌, ◌≤◌, List, [], ◌∷◌, ◌++◌, length, take, drop, min, Some, true, refl, sym, ap, subst, ◌∙◌, arith, length-append}
-use Rattle.std.proofs.lemmas.List.{append_assoc, drop_at, length-take-le, take-append-drop, take_at}
+use Rattle.std.proofs.Common.{◌≡◌, ℕ, ◌+◌, ◌-◌, ◌*◌, ◌/◌, ◌<◌, ◌≤◌, List, [], ◌∷◌, ◌++◌, length, take, drop, min, Some, true, refl, sym, ap, subst, ◌∙◌, arith, length-append, length-drop}
+use Rattle.std.proofs.lemmas.List.{append_assoc, drop-take, drop_at, length-take-le, take-append-drop, take_at}
 use Rattle.std.proofs.Math.Seq.{take-add}
 use Rattle.b3tree.specs.declared.mode.Mode.{Mode}
-use Rattle.b3tree.specs.Tree.{left_len}
+use Rattle.b3word.specs.declared.input.Input.{Input}
+use Rattle.b3tree.specs.Tree.{left_len, parent_input}
 use Rattle.bao_text.specs.declared.choice.Choice.{Choice}
 use Rattle.bao_text.specs.Choice.{of_slice, wants}
 use Rattle.bao_text.specs.Cut.{claimed}
 use Rattle.bao_text.specs.Nodes.{Side, left, right, subtree_nodes, subtree_size}
 use Rattle.bao_check.specs.declared.asked.Asked.{Asked}
 use Rattle.bao_check.specs.declared.fault.CheckFault.{CheckFault}
-use Rattle.bao_check.specs.declared.fault.CheckFault.TheVariants.{Trailing}
+use Rattle.bao_check.specs.declared.fault.CheckFault.TheVariants.{Short, Mismatch, Trailing, Memory, Reader}
 use Rattle.bao_check.specs.declared.form.Form.TheVariants.{Slice}
-use Rattle.bao_check.specs.Accepted.{IsAccepted, slice_nodes}
+use Rattle.bao_check.specs.Accepted.{IsAccepted, part_value, slice_nodes}
 use Rattle.bao_check.specs.Faults.{IsFirstFault, IsTrailingAt}
 use Rattle.bao_check.specs.Forms.{form_nodes}
 use Rattle.bao_check.specs.Subtree.{PassesIn, StopsIn}
-use Rattle.bao_check.specs.Walk.{Grows, Passes, PassesText, Stops, asked_root}
+use Rattle.bao_check.specs.Walk.{Grows, IsRefusedInput, Meets, Passes, PassesText, Stops, asked_root, parent_taken}
 use Rattle.bao_check.proofs.Lists.{nodes_size}
 use Rattle.bao_check.proofs.Parts.{below}
 use Rattle.bao_check.proofs.Walking.{TookParent, far_stops, near_stops, whole_passes}
@@ -184,3 +185,38 @@ module _ (mode : Mode) (root text : List ℕ) (start len total : ℕ) (choice : 
       (text_stops (λ _. ⊥) mode root (Slice start len) choice asked total (take 8 text) (take h.end text) (take (h.end - 8) (drop 8 text)) (Some (drop h.end text)) fault
       first_len (take_on 8 h.end text h.from) claims chosen asks
       (subst (λ (k : ℕ). Stops (λ _. ⊥) asked [] mode (take h.end text) (Some (drop h.end text)) k (subtree_nodes choice 0 total [] 8) fault) (sym first_len) (h.stops [] 8)))
+
+-- a parent that was taken where a subtree begins, or not
+module _ (asked : Asked) (mode : Mode) (text : List ℕ) (at : ℕ) (old new ahead rest : List ℕ) (inside : at ≤ length text)
+    (old_is : old ≡ take at text) (ahead_is : ahead ≡ drop at text) (grows : Grows old new (Some ahead) (Some rest)) where
+  up : TookUpTo text new rest
+  up = took_up_to text old new ahead rest at old_is ahead_is grows
+
+  begin_is : length old ≡ at
+  begin_is = ap length old_is ∙ length-take-le at text inside
+
+  abbrev standing : Input
+  standing = parent_input mode (part_value left (take 64 (drop at text))) (part_value right (take 64 (drop at text)))
+
+  parent_bytes : length new ≡ length old + 64 → drop (length old) new ≡ take 64 (drop at text)
+  parent_bytes size =
+      let end : length new ≡ at + 64 = omega (arith, size, begin_is) in
+      ap (λ (n : ℕ). drop n new) begin_is ∙ ap (drop at) (sym up.taken) ∙ ap (λ (n : ℕ). drop at (take n text)) end ∙ drop-take at 64 text
+
+  pub good_parent : length new ≡ length old + 64 → Meets asked (parent_taken mode old new) → (at + 64 ≤ length text) × Meets asked standing
+  good_parent size meets =
+      let same = parent_bytes size in
+      let input : parent_taken mode old new ≡ standing = (λ i. parent_input mode (part_value left (same i)) (part_value right (same i))) in
+      (omega (arith, up.within, size, begin_is), subst (Meets asked) input meets)
+
+  pub bad_parent : (fault : CheckFault) → IsRefusedInput (λ _. ⊥) asked (parent_taken mode old new) 64 old new (Some rest) fault → (at + 64 ≤ length text) × Meets asked standing → ⊥
+  bad_parent (Short k) h good =
+      let none : length (drop (length new) text) ≡ 0 = ap length (up.after ∙ h.2) in
+      omega (arith, none, length-drop (length new) text, h.1, begin_is, good.0)
+  bad_parent (Mismatch k) h good =
+      let same = parent_bytes h.1 in
+      let input : parent_taken mode old new ≡ standing = (λ i. parent_input mode (part_value left (same i)) (part_value right (same i))) in
+      h.2 (subst (Meets asked) (sym input) good.1)
+  bad_parent (Trailing k) h good = h
+  bad_parent Memory h good = h.0
+  bad_parent Reader h good = h.0

@@ -1,16 +1,18 @@
 -- What the check of a subtree of an encoding comes to, and how the checks of its two parts make it up.
 use Rattle.std.specs.Prelude.{◌≡◌, ℕ, ◌+◌, ◌-◌, ◌*◌, ◌<◌, ◌≤◌, List, length, take, drop, min, Some, true}
+use Rattle.b3word.specs.declared.input.Input.{Input}
 use Rattle.b3tree.specs.declared.mode.Mode.{Mode}
+use Rattle.b3tree.specs.Tree.{parent_input}
 use Rattle.bao_text.specs.declared.choice.Choice.{Choice}
 use Rattle.bao_text.specs.Choice.{chunk_count, wants}
-use Rattle.bao_text.specs.Nodes.{TreeNode, Side, subtree_nodes}
+use Rattle.bao_text.specs.Nodes.{TreeNode, Side, left, right, subtree_nodes}
 use Rattle.bao_check.specs.declared.asked.Asked.{Asked}
 use Rattle.bao_check.specs.declared.fault.CheckFault.{CheckFault}
 use Rattle.bao_check.specs.declared.fault.CheckFault.TheVariants.{Trailing}
 use Rattle.bao_check.specs.declared.subtree.Subtree.{Subtree}
-use Rattle.bao_check.specs.Accepted.{IsAccepted}
+use Rattle.bao_check.specs.Accepted.{IsAccepted, part_value}
 use Rattle.bao_check.specs.Faults.{IsFirstFault}
-use Rattle.bao_check.specs.Walk.{Passes, Stops}
+use Rattle.bao_check.specs.Walk.{Meets, Passes, Stops}
 
 -- The walk through the wanted nodes of the subtree over n bytes from chunk `number` on, which begin at the
 -- encoding's place `at`, ends well, at the place `end`.
@@ -52,6 +54,14 @@ WantsChunk it i =
 -- its top is a wanted parent
 abbrev pub HasParent : Subtree → Type 0
 HasParent it = (wants it.choice (1024 * it.number) it.len ≡ true) × (1024 < it.len)
+
+-- the last compression that 64 bytes where it begins make as a parent
+abbrev pub top_parent : Subtree → List ℕ → Input
+top_parent it text = parent_input it.mode (part_value left (take 64 (drop it.at text))) (part_value right (take 64 (drop it.at text)))
+
+-- the parent at its top is there, and has the value that is asked for
+abbrev pub HasGoodParent : Subtree → List ℕ → Type 0
+HasGoodParent it text = (it.at + 64 ≤ length text) × Meets it.asked (top_parent it text)
 
 -- Two smaller subtrees, whose checks tell what that of the whole comes to: it passes where both pass, and
 -- else a fault of the left one comes before those of the right one.

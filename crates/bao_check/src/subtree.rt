@@ -1,4 +1,4 @@
-ghost use Rattle.std.specs.Prelude.{ℕ, ◌↔◌, ◌+◌, ◌-◌, ◌*◌, ◌^◌, ◌<◌, ◌≤◌, length, IfErr, IfOk, MatchResult};
+ghost use Rattle.std.specs.Prelude.{ℕ, ◌↔◌, ◌+◌, ◌-◌, ◌*◌, ◌^◌, ◌<◌, ◌≤◌, length, IfErr, IfOk, IsErr, MatchResult};
 ghost use Rattle.bao_check.specs.declared.fault.CheckFault.{CheckFault};
 ghost use Rattle.bao_check.specs.Accepted.{IsAccepted, slice_nodes};
 ghost use Rattle.bao_check.specs.Faults.{IsFirstFault};
@@ -27,14 +27,14 @@ pub struct Subtree {
 }
 
 impl Subtree {
-    ghost use Rattle.bao_check.specs.Subtree.{BeginsIn, HasParent, IsSplit, IsTopOf, PassesTo, StopsWith, WantsChunk};
+    ghost use Rattle.bao_check.specs.Subtree.{BeginsIn, HasGoodParent, HasParent, IsSplit, IsTopOf, PassesTo, StopsWith, WantsChunk};
 
     /// All nodes of `text`, as the slice of `len` bytes from byte `start` on of the blob with the hash `root` in
     /// `mode`.
     ///
     /// The encoding is accepted where this subtree passes up to the encoding's end. Where it passes up to a place before
     /// that, something is trailing there (503), and else its first fault is the encoding's. Refused: 501 `Short` at 0
-    /// where the encoding ends within its length.
+    /// exactly where the encoding ends within its length.
     pub fn of_slice(
         mode: &Mode,
         root: &Hash,
@@ -43,6 +43,7 @@ impl Subtree {
         text: &[u8],
     ) -> Result<Subtree, CheckFault>
         ensures top { IfOk result (λ top. IsTopOf top mode.now root.now.0 text.now (slice_nodes text.now start len)) }
+        ensures refused { IsErr result ↔ (length text.now < 8) }
         ensures short { IfErr result (λ fault. IsFirstFault mode.now root.now.0 text.now (slice_nodes text.now start len) fault) }
 
         // Whatever the result: an encoding with a fault isn't accepted.
@@ -85,12 +86,13 @@ impl Subtree {
 
     /// Verifies the parent at its top, and answers its left and its right part, which are checked apart.
     ///
-    /// Refused: 501 `Short` where the encoding ends within the parent, 502 `Mismatch` where it hasn't the value that is
-    /// asked for; both are the subtree's first fault.
+    /// Refused exactly where that parent isn't there or isn't good: 501 `Short` where the encoding ends within it, 502
+    /// `Mismatch` where it hasn't the value that is asked for; both are the subtree's first fault.
     pub fn split(&self, text: &[u8]) -> Result<(Subtree, Subtree), CheckFault>
         requires begins { BeginsIn text.now self.now }
         requires parent { HasParent self.now }
-        ensures { MatchResult result (λ parts. IsSplit self.now parts.0 parts.1 text.now) (StopsWith self.now text.now) }
+        ensures parts { MatchResult result (λ parts. IsSplit self.now parts.0 parts.1 text.now) (StopsWith self.now text.now) }
+        ensures refused { IsErr result ↔ (¬ HasGoodParent self.now text.now) }
     {
         let mut source = Bytes::starting_at(text, self.at);
         let (left_value, right_value) = check_parent(&mut source, &self.mode, &self.asked)?;

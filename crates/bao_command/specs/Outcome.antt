@@ -1,13 +1,17 @@
 -- what standard output holds when the program ends, by the arguments
-use Rattle.std.specs.Prelude.{◌≡◌, ◌≢◌, ◌⊎◌, ℕ, List, Option, Result, Ok, Err}
+use Rattle.std.specs.Prelude.{◌≡◌, ◌≢◌, ◌⊎◌, ℕ, List, [], Option, Result, Ok, Err}
 use Rattle.std.specs.IoError.{error_kind}
 use Rattle.std.specs.declared.io.Error.{Error}
 use Rattle.std.specs.declared.io.ErrorKind.TheVariants.{BrokenPipe}
 use Rattle.std.specs.Io.KnownBytes.{Keeps}
-use Rattle.clap.specs.Words.{Text}
+use Rattle.clap.specs.Words.{Text, fault_of}
 use Rattle.bao_request.specs.declared.tasks.Request.{Request}
-use Rattle.bao_request.specs.CommandLine.{AsksFor, AsksForHelp}
+use Rattle.bao_request.specs.CommandLine.{AsksFor, AsksForHelp, program_app}
 use Rattle.bao_command.specs.Tasks.{PrintsBeginning, PrintsLine}
+
+-- clap finds a fault with the arguments, and it isn't that they ask for help or the version
+abbrev pub AreRefused : List Text → Type 0
+AreRefused words = (fault_of program_app words ≢ []) × ¬ AsksForHelp words
 
 -- at status 0: the line of what the arguments ask for, or they ask for help or the version
 abbrev pub Done : List Text → Option (List ℕ) → Option (List ℕ) → Type 0

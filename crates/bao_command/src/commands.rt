@@ -1,4 +1,4 @@
-ghost use Rattle.std.specs.Prelude.{◌≡◌, ◌≢◌, true, false, if◌then◌else◌, ◌+◌, ◌-◌, ◌*◌, ◌^◌, ◌<◌, ◌≤◌, ℕ, List, length, map, string_bytes, IfErr, IfOk, IfSome, IsErrAnd, OnOk};
+ghost use Rattle.std.specs.Prelude.{◌≡◌, ◌≢◌, ◌⊎◌, true, false, if◌then◌else◌, ◌+◌, ◌-◌, ◌*◌, ◌^◌, ◌<◌, ◌≤◌, ℕ, List, length, map, string_bytes, IfErr, IfOk, IfSome, IsErrAnd, OnOk};
 ghost use Rattle.bao_command.specs.declared.fault.Fault.TheVariants as Fault;
 ghost use Rattle.gather.specs.declared.grain.Grain.TheVariants as Grain;
 ghost use Rattle.std.specs.Io.KnownBytes.{Appends, Keeps};
@@ -8,7 +8,7 @@ ghost use Rattle.hex.specs.Hex.{decode_of};
 ghost use Rattle.bao_request.specs.CommandLine.{IsHelp};
 ghost use Rattle.bao_files.specs.Printed.{IsDigits, digits_line, ok_line};
 ghost use Rattle.bao_tasks.specs.Gathered.{HasOutline, IsGathered};
-ghost use Rattle.bao_command.specs.Outcome.{Begun, Done};
+ghost use Rattle.bao_command.specs.Outcome.{AreRefused, Begun, Done};
 ghost use Rattle.bao_command.specs.Printed.{CommandPrints, told_of};
 ghost use Rattle.bao_command.specs.Tasks.{Answers, HasHash, HasManyFiles, HasRoot, IsBeside, IsDue, IsPastOutput, IsReplay, IsRight, IsRightCopy, IsRightPart, WritesApart, line_of, part_line};
 ghost use Rattle.bao_command.specs.Told.{worth_line};
@@ -44,7 +44,7 @@ const MOST_FILES: usize = 64;
 ///
 /// At status 0 `out` has the line of the request that the arguments make, on the file's bytes or the gathered blob, or
 /// where they ask for it help or the version, or a beginning of that where its reader closed the pipe. At 3 it has a
-/// beginning at most, and after other faults nothing.
+/// beginning at most, and after other faults nothing. Arguments that `clap` refuses give 2, or 4 out of memory.
 pub fn command<
     R: Files<File = File> + AllocGlobal + Threads + Sync,
     O: Write,
@@ -55,6 +55,7 @@ pub fn command<
     ensures done { result ≡ 0 → Done (map string_bytes words.now) (O.contents out.old) (O.contents out.new) }
     ensures file_fault { result ≡ 3 → Begun (map string_bytes words.now) (O.contents out.old) (O.contents out.new) }
     ensures fault { result ≢ 0 → result ≢ 3 → Keeps (O.contents out.old) (O.contents out.new) }
+    ensures refused { AreRefused (map string_bytes words.now) → (result ≡ 2) ⊎ (result ≡ 4) }
 {
     match parse(rt.alloc(), words) {
         Ok(request) => match serve(rt, &request, out, err, progress) {
@@ -432,6 +433,7 @@ fn answer_clap<O: Write, E: Write>(
     ensures status { result ≤ 4 }
     ensures done { result ≡ 0 → IsHelp (kind_of error.now) }
     ensures file_fault { result ≡ 3 → IsHelp (kind_of error.now) }
+    ensures refused { ¬ IsHelp (kind_of error.now) → (result ≡ 2) ⊎ (result ≡ 4) }
     ensures fault { result ≢ 0 → result ≢ 3 → Keeps (O.contents out.old) (O.contents out.new) }
 {
     if error.kind() == ErrorKind::OutOfMemory {

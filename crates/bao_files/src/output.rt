@@ -42,7 +42,9 @@ impl<R: Files> Drop for LateFile<'_, R> {
 impl<'a, R: Files> LateFile<'a, R> {
     /// The file at `path`, which is not made yet.
     pub fn new(rt: &'a R, path: &'a str) -> LateFile<'a, R>
-        ensures { result.path ≡ path.entry }
+        ensures rt { result.rt ≡ rt.entry }
+        ensures path { result.path ≡ path.entry }
+        ensures unmade { result.file ≡ None }
     {
         LateFile {
             rt,

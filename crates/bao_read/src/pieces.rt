@@ -19,6 +19,7 @@ pub fn fill<S: Source>(source: &S, at: u64, buf: &mut [u8]) -> Result<(), ReadFa
     ensures given { OnOk result (GivenAt (S.contents source.now) at buf.new) }
     ensures fault { IfErr result (λ fault. fault ≡ ReadFault.Reader) }
     ensures lacks { IfErr result (λ _. Lacks (S.contents source.now) (S.faultless source.now) (at + length buf.old)) }
+    ensures some { IfErr result (λ _. 0 < length buf.old) }
 {
     let mut filled = 0;
     'reads: while filled < buf.len() {

@@ -1,14 +1,15 @@
 -- the command line: its subcommands, with their options and places, as clap's rules
-use Rattle.std.specs.Prelude.{◌≡◌, ◌⊎◌, List, [], ◌∷◌, Some, pos, codes, true, false}
-use Rattle.clap.specs.Words.{App, IsAmong, Rule, Text, app_of, fault_of, new_app, new_rule, subcommand_of, with_rule, with_subcommand}
+use Rattle.std.specs.Prelude.{◌≡◌, ◌⊎◌, List, [], ◌∷◌, Some, Result, Ok, Err, pos, codes, true, false}
+use Rattle.clap.specs.Words.{App, HasKind, IsAmong, Rule, Text, app_of, fault_of, kind_of, new_app, new_rule, subcommand_of, takes, with_rule, with_subcommand}
 use Rattle.clap.specs.declared.builder.command.Command.{Command}
 use Rattle.clap.specs.declared.builder.command.Command.TheViews.{out-Command}
 use Rattle.clap.specs.Lexer.{usize_max}
 use Rattle.clap.specs.declared.builder.action.ArgAction.TheVariants.{SetTrue}
 use Rattle.clap.specs.declared.builder.value_parser.ValueParser.{ValueParser}
 use Rattle.clap.specs.declared.builder.value_parser.ValueParser.TheVariants.{Signed, Unsigned}
+use Rattle.clap.specs.declared.error.Error.{Error}
 use Rattle.clap.specs.declared.error.kind.ErrorKind.{ErrorKind}
-use Rattle.clap.specs.declared.error.kind.ErrorKind.TheVariants.{DisplayHelp, DisplayVersion}
+use Rattle.clap.specs.declared.error.kind.ErrorKind.TheVariants.{DisplayHelp, DisplayVersion, MissingSubcommand}
 use Rattle.bao_request.specs.declared.tasks.Request.{Request}
 use Rattle.bao_request.specs.Requests.{GivesRequest}
 
@@ -161,3 +162,19 @@ IsHelp kind = (kind ≡ DisplayHelp) ⊎ (kind ≡ DisplayVersion)
 -- the arguments ask for help or the version
 abbrev pub AsksForHelp : List Text → Type 0
 AsksForHelp words = (kind : ErrorKind) × IsHelp kind × IsAmong kind (fault_of program_app words)
+
+-- Arguments with which clap finds no fault ask for no request all the same, and the answer is that a command is missing.
+pub record IsUnasked (words : List Text) (error : Error) : Type 0 where
+  pub kind : kind_of error ≡ MissingSubcommand
+  pub faultless : fault_of program_app words ≡ []
+  pub none : (request : Request) → ¬ AsksFor words request
+
+-- A request comes only of arguments with which clap finds no fault. They are refused with a fault that clap finds, or for
+-- want of memory; or they ask for nothing.
+abbrev pub IsRead : List Text → Result Request Error → Type 0
+IsRead words (Ok request) = fault_of program_app words ≡ []
+IsRead words (Err error) = HasKind (fault_of program_app words) error ⊎ IsUnasked words error
+
+-- clap takes the arguments, and they ask for a request
+abbrev pub AreGood : List Text → Type 0
+AreGood words = (takes program_app words ≡ true) × ((request : Request) × AsksFor words request)

@@ -1,8 +1,8 @@
 -- what the arguments ask for: a request, from the rows that clap has of a subcommand's arguments (an
 -- option's or a place's name, with its text)
-use Rattle.std.specs.Prelude.{◌≡◌, ◌↔◌, ℕ, Bool, true, List, Option, Some, None, codes, map}
+use Rattle.std.specs.Prelude.{◌≡◌, ◌↔◌, ◌<◌, ◌^◌, ℕ, Bool, true, List, Option, Some, None, codes, map}
 use Rattle.std.specs.Option.{option_copied}
-use Rattle.std.specs.Str.Parse.{digits_value, without_leading_plus}
+use Rattle.std.specs.Str.Parse.{IsNumeral, digits_value, without_leading_plus}
 use Rattle.std.specs.Borrow.{Bor}
 use Rattle.clap.specs.Words.{Row, Text, all_of, first_of, one_of}
 use Rattle.bao_files.specs.declared.kinds.Encoding.{Encoding}
@@ -13,6 +13,11 @@ use Rattle.bao_request.specs.declared.tasks.Request.{Request}
 use Rattle.bao_request.specs.declared.tasks.Task.{Task}
 use Rattle.bao_request.specs.declared.tasks.Task.TheVariants.{Hash, Encode, Decode, DecodeCopy, Gather, Replay}
 
+-- what is found is such a thing, and where nothing is found there is none
+abbrev pub Finds : {X : Type 0} → (X → Type 0) → Option X → Type 0
+Finds {X} gives (Some x) = gives x
+Finds {X} gives None = (x : X) → ¬ gives x
+
 -- the row of this name has this text
 abbrev pub GivesText : List Row → Text → Text → Type 0
 GivesText rows id text = first_of id rows ≡ Some text
@@ -21,9 +26,10 @@ GivesText rows id text = first_of id rows ≡ Some text
 abbrev pub GivesTexts : List Row → Text → List (Bor Text) → Type 0
 GivesTexts rows id texts = all_of id rows ≡ Some (map (λ text. text.now) texts)
 
--- the row of this name has decimal digits of this value
-abbrev pub GivesNumber : List Row → Text → ℕ → Type 0
-GivesNumber rows id n = (text : Text) × (one_of id rows ≡ Some text) × (n ≡ digits_value 10 (without_leading_plus text))
+-- the row of this name has decimal digits, of this value, which fits the bits
+abbrev pub GivesNumber : ℕ → List Row → Text → ℕ → Type 0
+GivesNumber bits rows id n =
+    (text : Text) × (one_of id rows ≡ Some text) × (n ≡ digits_value 10 (without_leading_plus text)) × IsNumeral 10 (without_leading_plus text) × (n < 2 ^ bits)
 
 -- the row of this name has the text `true`, or it hasn't
 abbrev pub GivesFlag : List Row → Text → Bool → Type 0
@@ -31,7 +37,7 @@ GivesFlag rows id flag = (flag ≡ true) ↔ (first_of id rows ≡ Some (codes "
 
 -- the rows START and LEN have these numbers
 abbrev pub GivesRange : List Row → ℕ → ℕ → Type 0
-GivesRange rows start len = GivesNumber rows (codes "START") start × GivesNumber rows (codes "LEN") len
+GivesRange rows start len = GivesNumber 64 rows (codes "START") start × GivesNumber 64 rows (codes "LEN") len
 
 -- the subcommand of this name asks for this encoding
 abbrev pub GivesEncoding : Text → List Row → Encoding → Type 0
@@ -48,7 +54,7 @@ GivesPart name rows (part.Slice start len) file =
 -- the subcommand of this name asks for this task
 abbrev pub GivesTask : Text → List Row → Task → Type 0
 GivesTask name rows (Hash at length file) =
-    (name ≡ codes "hash") × GivesNumber rows (codes "at") at × GivesNumber rows (codes "length") length × GivesText rows (codes "FILE") file.now
+    (name ≡ codes "hash") × GivesNumber 64 rows (codes "at") at × GivesNumber 32 rows (codes "length") length × GivesText rows (codes "FILE") file.now
 GivesTask name rows (Encode encoding file out) =
     GivesEncoding name rows encoding × GivesText rows (codes "FILE") file.now × GivesText rows (codes "OUT") out.now
 GivesTask name rows (Decode root part file out) =
@@ -56,9 +62,9 @@ GivesTask name rows (Decode root part file out) =
 GivesTask name rows (DecodeCopy root outboard copy out) =
     (name ≡ codes "decode") × GivesText rows (codes "outboard") outboard.now × GivesText rows (codes "ENC") copy.now × GivesText rows (codes "ROOT") root.now × GivesText rows (codes "OUT") out.now
 GivesTask name rows (Gather root workers capacity outboard salvage encode verbose files out) =
-    (name ≡ codes "gather") × GivesNumber rows (codes "workers") workers × GivesNumber rows (codes "capacity") capacity × (option_copied outboard ≡ first_of (codes "outboard") rows) × GivesFlag rows (codes "salvage") salvage × GivesFlag rows (codes "encode") encode × GivesFlag rows (codes "verbose") verbose × GivesText rows (codes "ROOT") root.now × GivesTexts rows (codes "FILE") files.items × GivesText rows (codes "OUT") out.now
+    (name ≡ codes "gather") × GivesNumber 32 rows (codes "workers") workers × GivesNumber 32 rows (codes "capacity") capacity × (option_copied outboard ≡ first_of (codes "outboard") rows) × GivesFlag rows (codes "salvage") salvage × GivesFlag rows (codes "encode") encode × GivesFlag rows (codes "verbose") verbose × GivesText rows (codes "ROOT") root.now × GivesTexts rows (codes "FILE") files.items × GivesText rows (codes "OUT") out.now
 GivesTask name rows (Replay root capacity script files) =
-    (name ≡ codes "replay") × GivesNumber rows (codes "capacity") capacity × GivesText rows (codes "ROOT") root.now × GivesText rows (codes "SCRIPT") script.now × GivesTexts rows (codes "FILE") files.items
+    (name ≡ codes "replay") × GivesNumber 32 rows (codes "capacity") capacity × GivesText rows (codes "ROOT") root.now × GivesText rows (codes "SCRIPT") script.now × GivesTexts rows (codes "FILE") files.items
 
 -- the subcommand's name and rows ask for this request
 abbrev pub GivesRequest : Option (Text × List Row) → Request → Type 0

@@ -1,8 +1,9 @@
-ghost use Rattle.std.specs.Prelude.{◌≡◌, IfErr, IfOk, IfSome, Some, codes, map, string_bytes};
+ghost use Rattle.std.specs.Prelude.{◌≡◌, IfErr, IfOk, List, codes, map, string_bytes, true, ℕ};
 ghost use Rattle.std.specs.Option.{option_copied};
-ghost use Rattle.clap.specs.Words.{first_of, found_of, kind_of, rows_of, subcommand_of, subcommand_rows_of};
-ghost use Rattle.bao_request.specs.CommandLine.{AsksFor, AsksForHelp, IsHelp, program_app};
-ghost use Rattle.bao_request.specs.Requests.{GivesEncoding, GivesFlag, GivesNumber, GivesRange, GivesRequest, GivesTask, GivesText, GivesTexts};
+ghost use Rattle.clap.specs.Words.{FailsBy, fault_of, first_of, found_of, kind_of, rows_of, subcommand_of, subcommand_rows_of, takes};
+ghost use Rattle.clap.specs.declared.error.kind.ErrorKind.TheVariants.{OutOfMemory};
+ghost use Rattle.bao_request.specs.CommandLine.{AreGood, AsksFor, AsksForHelp, IsHelp, IsRead, program_app};
+ghost use Rattle.bao_request.specs.Requests.{Finds, GivesEncoding, GivesFlag, GivesNumber, GivesRange, GivesRequest, GivesTask, GivesText, GivesTexts};
 
 use crate::rules::program;
 use crate::tasks::{Request, Task};
@@ -14,84 +15,96 @@ use std::alloc::{AllocError, Global};
 // The text of the argument `id`.
 fn text<'a>(words: &ArgMatches<'a>, id: &str) -> Option<&'a str>
     ensures value { option_copied result ≡ first_of id.now (rows_of (found_of words.now)) }
-    ensures some { IfSome result (λ text. GivesText (rows_of (found_of words.now)) id.now text.now) }
+    ensures found { Finds (λ text. GivesText (rows_of (found_of words.now)) id.now text.now) result }
 {
     words.get_str(id)
 }
 
 // The number of the argument `id`.
 fn number(words: &ArgMatches<'_>, id: &str) -> Option<u64>
-    ensures { IfSome result (GivesNumber (rows_of (found_of words.now)) id.now) }
+    ensures { Finds (GivesNumber 64 (rows_of (found_of words.now)) id.now) result }
 {
     words.get_one(id)
 }
 
 // The number of the argument `id`, where it has 32 bits.
 fn count(words: &ArgMatches<'_>, id: &str) -> Option<u32>
-    ensures { IfSome result (GivesNumber (rows_of (found_of words.now)) id.now) }
+    ensures { Finds (GivesNumber 32 (rows_of (found_of words.now)) id.now) result }
 {
     u32::try_from(number(words, id)?).ok()
 }
 
 // The range that the arguments START and LEN give.
 fn range(words: &ArgMatches<'_>) -> Option<(u64, u64)>
-    ensures { IfSome result (λ range. GivesRange (rows_of (found_of words.now)) range.0 range.1) }
+    ensures { Finds (λ range. GivesRange (rows_of (found_of words.now)) range.0 range.1) result }
 {
     Some((number(words, "START")?, number(words, "LEN")?))
 }
 
-// The encoding that the subcommand `name` asks for.
-fn encoding_of(name: &str, words: &ArgMatches<'_>) -> Option<Encoding>
-    ensures { IfSome result (GivesEncoding name.now (rows_of (found_of words.now))) }
+// The task of hashing.
+fn hash_of<'a>(words: &ArgMatches<'a>) -> Option<Task<'a>>
+    ensures { Finds (GivesTask (codes "hash") (rows_of (found_of words.now))) result }
 {
-    match name {
-        "encode" => Some(Encoding::Combined),
-        "outboard" => Some(Encoding::Outboard),
-        "slice" => {
-            let (start, len) = range(words)?;
-            Some(Encoding::Slice { start, len })
-        }
-        _ => None,
-    }
+    Some(Task::Hash {
+        at: number(words, "at")?,
+        length: count(words, "length")?,
+        file: text(words, "FILE")?,
+    })
+}
+
+// The task of writing this encoding.
+fn encode_of<'a>(encoding: Encoding, words: &ArgMatches<'a>) -> Option<Task<'a>>
+    ensures { (name : List ℕ) → GivesEncoding name (rows_of (found_of words.now)) encoding → Finds (GivesTask name (rows_of (found_of words.now))) result }
+{
+    Some(Task::Encode {
+        encoding,
+        file: text(words, "FILE")?,
+        out: text(words, "OUT")?,
+    })
+}
+
+// The task of writing a slice.
+fn slice_of<'a>(words: &ArgMatches<'a>) -> Option<Task<'a>>
+    ensures { Finds (GivesTask (codes "slice") (rows_of (found_of words.now))) result }
+{
+    let (start, len) = range(words)?;
+    encode_of(Encoding::Slice { start, len }, words)
 }
 
 // The check of a whole blob: of a combined encoding, or of a plain copy beside an outboard encoding.
-fn decode_whole<'a>(words: &ArgMatches<'a>) -> Option<Task<'a>>
-    ensures { IfSome result (GivesTask (codes "decode") (rows_of (found_of words.now))) }
+fn decode_of<'a>(words: &ArgMatches<'a>) -> Option<Task<'a>>
+    ensures { Finds (GivesTask (codes "decode") (rows_of (found_of words.now))) result }
 {
+    let root = text(words, "ROOT")?;
+    let file = text(words, "ENC")?;
+    let out = text(words, "OUT")?;
     match text(words, "outboard") {
         Some(outboard) => Some(Task::DecodeCopy {
-            root: text(words, "ROOT")?,
+            root,
             outboard,
-            copy: text(words, "ENC")?,
-            out: text(words, "OUT")?,
+            copy: file,
+            out,
         }),
         None => Some(Task::Decode {
-            root: text(words, "ROOT")?,
+            root,
             part: Part::Whole,
-            file: text(words, "ENC")?,
-            out: text(words, "OUT")?,
+            file,
+            out,
         }),
     }
 }
 
-// The check that the subcommand `name` asks for.
-fn decode_of<'a>(name: &str, words: &ArgMatches<'a>) -> Option<Task<'a>>
-    ensures { IfSome result (GivesTask name.now (rows_of (found_of words.now))) }
+// The check of a slice.
+fn decode_slice_of<'a>(words: &ArgMatches<'a>) -> Option<Task<'a>>
+    ensures { Finds (GivesTask (codes "decode-slice") (rows_of (found_of words.now))) result }
 {
-    match name {
-        "decode" => decode_whole(words),
-        "decode-slice" => {
-            let (start, len) = range(words)?;
-            Some(Task::Decode {
-                root: text(words, "ROOT")?,
-                part: Part::Slice { start, len },
-                file: text(words, "SLICE")?,
-                out: text(words, "OUT")?,
-            })
-        }
-        _ => None,
-    }
+    let (start, len) = range(words)?;
+    Some(Task::Decode {
+        root: text(words, "ROOT")?,
+        part: Part::Slice { start, len },
+        file: text(words, "SLICE")?,
+        out: text(words, "OUT")?,
+    })
 }
 
 // Whether the option `id`, which has no value, is given.
@@ -103,14 +116,14 @@ fn flag(words: &ArgMatches<'_>, id: &str) -> bool
 
 // The texts of the argument `id`, all of them.
 fn texts<'m, 'a>(words: &'m ArgMatches<'a>, id: &str) -> Option<&'m [&'a str]>
-    ensures { IfSome result (λ texts. GivesTexts (rows_of (found_of words.now)) id.now texts.now) }
+    ensures { Finds (λ texts. GivesTexts (rows_of (found_of words.now)) id.now texts.now) result }
 {
     words.get_strs(id)
 }
 
 // The task of gathering, where its arguments are all there.
 fn gather_of<'a>(alloc: Global, words: &ArgMatches<'a>) -> Result<Option<Task<'a>>, AllocError>
-    ensures { IfOk result (λ task. IfSome task (GivesTask (codes "gather") (rows_of (found_of words.now)))) }
+    ensures { IfOk result (Finds (GivesTask (codes "gather") (rows_of (found_of words.now)))) }
 {
     let (Some(root), Some(workers), Some(capacity), Some(files), Some(out)) = (
         text(words, "ROOT"),
@@ -136,7 +149,7 @@ fn gather_of<'a>(alloc: Global, words: &ArgMatches<'a>) -> Result<Option<Task<'a
 
 // The task of running a schedule, where its arguments are all there.
 fn replay_of<'a>(alloc: Global, words: &ArgMatches<'a>) -> Result<Option<Task<'a>>, AllocError>
-    ensures { IfOk result (λ task. IfSome task (GivesTask (codes "replay") (rows_of (found_of words.now)))) }
+    ensures { IfOk result (Finds (GivesTask (codes "replay") (rows_of (found_of words.now)))) }
 {
     let capacity = count(words, "capacity");
     let (Some(root), Some(capacity), Some(script), Some(files)) = (
@@ -156,39 +169,24 @@ fn replay_of<'a>(alloc: Global, words: &ArgMatches<'a>) -> Result<Option<Task<'a
     }))
 }
 
-// The task of a subcommand's arguments on one file, where they are all there.
-fn file_task_of<'a>(name: &str, words: &ArgMatches<'a>) -> Option<Task<'a>>
-    ensures { IfSome result (GivesTask name.now (rows_of (found_of words.now))) }
-{
-    if name == "hash" {
-        return Some(Task::Hash {
-            at: number(words, "at")?,
-            length: count(words, "length")?,
-            file: text(words, "FILE")?,
-        });
-    }
-    match encoding_of(name, words) {
-        Some(encoding) => Some(Task::Encode {
-            encoding,
-            file: text(words, "FILE")?,
-            out: text(words, "OUT")?,
-        }),
-        None => decode_of(name, words),
-    }
-}
-
 // The task of a subcommand's arguments, where they are all there.
 fn task_of<'a>(
     alloc: Global,
     name: &str,
     words: &ArgMatches<'a>,
 ) -> Result<Option<Task<'a>>, AllocError>
-    ensures { IfOk result (λ task. IfSome task (GivesTask name.now (rows_of (found_of words.now)))) }
+    ensures { IfOk result (Finds (GivesTask name.now (rows_of (found_of words.now)))) }
 {
     match name {
+        "hash" => Ok(hash_of(words)),
+        "encode" => Ok(encode_of(Encoding::Combined, words)),
+        "outboard" => Ok(encode_of(Encoding::Outboard, words)),
+        "slice" => Ok(slice_of(words)),
+        "decode" => Ok(decode_of(words)),
+        "decode-slice" => Ok(decode_slice_of(words)),
         "gather" => gather_of(alloc, words),
         "replay" => replay_of(alloc, words),
-        _ => Ok(file_task_of(name, words)),
+        _ => Ok(None),
     }
 }
 
@@ -197,7 +195,7 @@ fn request_of<'a>(
     alloc: Global,
     matches: &ArgMatches<'a>,
 ) -> Result<Option<Request<'a>>, AllocError>
-    ensures { IfOk result (λ request. IfSome request (GivesRequest (subcommand_rows_of matches.now))) }
+    ensures { IfOk result (Finds (GivesRequest (subcommand_rows_of matches.now))) }
 {
     let Some((name, words)) = matches.subcommand() else {
         return Ok(None);
@@ -215,7 +213,8 @@ fn request_of<'a>(
 // What `clap` finds in the arguments.
 fn matches_of<'a>(alloc: Global, words: &'a [String]) -> Result<ArgMatches<'a>, Error>
     ensures rows { IfOk result (λ matches. subcommand_rows_of matches ≡ subcommand_of program_app (map string_bytes words.entry.now)) }
-    ensures help { IfErr result (λ error. IsHelp (kind_of error) → AsksForHelp (map string_bytes words.entry.now)) }
+    ensures kinds { FailsBy (fault_of program_app (map string_bytes words.entry.now)) result }
+    ensures passes { IfErr result (λ error. takes program_app (map string_bytes words.entry.now) ≡ true → kind_of error ≡ OutOfMemory) }
 {
     let program = program(alloc)?;
     program.try_get_matches_from(words)
@@ -229,10 +228,12 @@ fn incomplete(alloc: Global) -> Result<Error, AllocError>
 }
 
 /// Reads the arguments, the program's name first. What `clap` refuses comes back as its error, as do
-/// asked-for help and version.
+/// asked-for help and version; nothing else is refused, but where memory runs out.
 pub fn parse<'a>(alloc: Global, words: &'a [String]) -> Result<Request<'a>, Error>
     ensures request { IfOk result (AsksFor (map string_bytes words.entry.now)) }
     ensures help { IfErr result (λ error. IsHelp (kind_of error) → AsksForHelp (map string_bytes words.entry.now)) }
+    ensures refused { IsRead (map string_bytes words.entry.now) result }
+    ensures good { IfErr result (λ error. AreGood (map string_bytes words.entry.now) → kind_of error ≡ OutOfMemory) }
 {
     let matches = matches_of(alloc, words)?;
     match request_of(alloc, &matches)? {

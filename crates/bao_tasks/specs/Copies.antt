@@ -19,8 +19,9 @@ abbrev pub IsCopy : Mode → List ℕ → List ℕ → Type 0
 IsCopy mode root bytes =
     (outline : List ℕ) × IsAccepted mode root outline (outboard_nodes outline) × AreBare mode root outline 0 (chunk_count (claimed outline)) bytes
 
--- the copy's first fault, and nothing was written; or writing to this path failed
+-- the copy's first fault, and nothing was written; or it is accepted, and writing to this path failed
 abbrev pub LeavesCopy : Outline → List ℕ → Bor (List ℕ) → Option (List ℕ) → Option (List ℕ) → DecodeFault → Type 0
-LeavesCopy outline copy path old new (File fault) = (fault ≡ Write path) × AppendsBeginning old new copy
+LeavesCopy outline copy path old new (File fault) =
+    AreBare (outline_mode outline) (outline_root outline) (outline_text outline) 0 (chunk_count (outline_claimed outline)) copy × (fault ≡ Write path) × AppendsBeginning old new copy
 LeavesCopy outline copy path old new (Check fault) =
     IsBareFault (outline_mode outline) (outline_root outline) (outline_text outline) 0 (chunk_count (outline_claimed outline)) copy fault × Keeps old new

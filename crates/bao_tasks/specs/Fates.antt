@@ -1,4 +1,5 @@
 -- what became of a file
+use Rattle.std.specs.Prelude.{List, ℕ, None, Option, Some, codes}
 use Rattle.bao_tasks.specs.declared.fate.Fate.{Fate}
 use Rattle.bao_tasks.specs.declared.fate.Fate.TheVariants.{Taken, Unread, Starved, Unopened}
 
@@ -8,3 +9,10 @@ IsTaken (Taken worth) = Unit {0}
 IsTaken Unread = ⊥
 IsTaken Starved = ⊥
 IsTaken Unopened = ⊥
+
+-- why it was left out
+abbrev pub reason_of : Fate → Option (List ℕ)
+reason_of (Taken worth) = None
+reason_of Unread = Some (codes "can't be read")
+reason_of Starved = Some (codes "no memory")
+reason_of Unopened = Some (codes "not opened")

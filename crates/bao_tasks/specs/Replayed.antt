@@ -2,9 +2,11 @@
 use Rattle.std.specs.Prelude.{◌≡◌, ℕ, List, length}
 use Rattle.b3tree.specs.declared.mode.Mode.{Mode}
 use Rattle.b3tree.specs.declared.values.Hash.{Hash}
+use Rattle.bao_check.specs.declared.fault.CheckFault.{CheckFault}
 use Rattle.bao_script.specs.declared.numbered.NumberedLine.{NumberedLine}
 use Rattle.bao_script.specs.Printouts.{IsPrinted, IsStopped}
 use Rattle.bao_script.specs.Scripts.{IsScript}
+use Rattle.bao_script.specs.Slices.{AreAccepted, IsRefusedSlice, slices_of}
 
 -- the text is that of a run of the script over pieces of the files
 abbrev pub IsRun : Mode → Hash → ℕ → List ℕ → List (List ℕ) → List ℕ → Type 0
@@ -17,6 +19,16 @@ abbrev pub IsStoppedRun : Mode → Hash → ℕ → List ℕ → List (List ℕ)
 IsStoppedRun mode root capacity script files number =
     (lines : List NumberedLine) × IsScript (length files) script lines
     × IsStopped (record { root = root; mode = mode; capacity = capacity }) files lines number
+
+-- the pieces that its lines name are all accepted
+abbrev pub IsAcceptedRun : Mode → Hash → List ℕ → List (List ℕ) → Type 0
+IsAcceptedRun mode root script files =
+    (lines : List NumberedLine) × IsScript (length files) script lines × AreAccepted mode root.0 (slices_of files lines)
+
+-- the piece of the line with this number is the first that isn't, with this fault
+abbrev pub IsRefusedRun : Mode → Hash → List ℕ → List (List ℕ) → ℕ → CheckFault → Type 0
+IsRefusedRun mode root script files number fault =
+    (lines : List NumberedLine) × IsScript (length files) script lines × IsRefusedSlice mode root.0 (slices_of files lines) number fault
 
 -- it is that of some script and of so many files
 abbrev pub IsReplayOf : Mode → Hash → ℕ → ℕ → List ℕ → Type 0

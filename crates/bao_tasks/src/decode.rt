@@ -1,4 +1,4 @@
-ghost use Rattle.std.specs.Prelude.{◌≡◌, ◌⊎◌, ◌-◌, ◌*◌, ◌^◌, ◌<◌, ◌≤◌, ℕ, List, [], IfErr, IfOk, IfSome, OnErr, OnOk, length, take, Ok, true, false};
+ghost use Rattle.std.specs.Prelude.{◌≡◌, ◌≢◌, ◌⊎◌, ◌-◌, ◌*◌, ◌^◌, ◌<◌, ◌≤◌, ℕ, List, [], IfErr, IfOk, IfSome, OnErr, OnOk, length, take, Ok, true, false};
 ghost use Rattle.std.specs.Borrow.{Bor};
 ghost use Rattle.std.specs.Io.KnownBytes.{Appends};
 ghost use Rattle.bao_check.specs.Checked.{IsPiece, piece_claimed, piece_text};
@@ -151,6 +151,7 @@ fn write_chunks<W: Write>(
 ) -> Result<(), WriteFault>
     ensures ok { OnOk result (Appends (W.contents out.old) (W.contents out.new) (certified_range piece.now first last from (after - from))) }
     ensures err { OnErr result (AppendsBeginning (W.contents out.old) (W.contents out.new) (certified_range piece.now first last from (after - from))) }
+    ensures no_memory { IfErr result (λ fault. fault ≢ WriteFault.Memory) }
 {
     let mut room = [0; ROOM_LEN];
     let mut next = from;
@@ -176,6 +177,7 @@ pub fn write_part<W: Write>(
     ensures text { (bytes : List ℕ) × IsCertifiedPart piece.now part.now bytes
         × OnOk result (Appends (W.contents out.old) (W.contents out.new) bytes)
         × OnErr result (AppendsBeginning (W.contents out.old) (W.contents out.new) bytes) }
+    ensures no_memory { IfErr result (λ fault. fault ≢ WriteFault.Memory) }
     ensures count { IfOk result (λ count. count ≡ last_written part.now (piece_claimed piece.now) - first_written part.now (piece_claimed piece.now)) }
 {
     let (first, last) = written_of(part, piece.claimed());

@@ -17,11 +17,14 @@ pub enum Fate {
 }
 
 impl Fate {
-    ghost use Rattle.bao_tasks.specs.Fates.{IsTaken};
+    ghost use Rattle.std.specs.Prelude.{◌≡◌};
+    ghost use Rattle.std.specs.Option.{option_copied};
+    ghost use Rattle.bao_tasks.specs.Fates.{IsTaken, reason_of};
 
     /// Why the file was left out, if it was.
     pub fn reason(self) -> Option<&'static str>
-        ensures { IsNone result ↔ IsTaken self }
+        ensures taken { IsNone result ↔ IsTaken self }
+        ensures text { option_copied result ≡ reason_of self }
     {
         match self {
             Fate::Taken(_) => None,

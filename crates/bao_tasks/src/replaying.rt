@@ -1,10 +1,11 @@
 ghost use Rattle.std.specs.Borrow.{Bor};
-ghost use Rattle.std.specs.Prelude.{◌≡◌, ◌⊎◌, ℕ, List, IfErr, IfOk, IsErrOf, Some, length, map, slice_get};
+ghost use Rattle.std.specs.Prelude.{◌≡◌, ◌⊎◌, ◌<◌, ◌≤◌, ℕ, List, IfErr, IfOk, IsErrOf, IsOk, Some, length, map, slice_get};
+ghost use Rattle.bao_check.specs.declared.fault.CheckFault.{CheckFault};
 ghost use Rattle.bao_script.specs.Scripts.{IsFirstRefused};
 ghost use Rattle.bao_script.specs.declared.fault.ReplayScriptFault.TheVariants as replay;
 ghost use Rattle.bao_files.specs.declared.fault.FileFault.TheVariants as FileFault;
 ghost use Rattle.bao_tasks.specs.declared.rerun_fault.RerunFault.TheVariants as RerunFault;
-ghost use Rattle.bao_tasks.specs.Replayed.{IsStoppedRun, IsReplayOf, IsRun};
+ghost use Rattle.bao_tasks.specs.Replayed.{IsAcceptedRun, IsRefusedRun, IsReplayOf, IsRun, IsStoppedRun};
 
 use crate::rerun_fault::RerunFault;
 use b3tree::{Hash, Mode};
@@ -34,8 +35,8 @@ fn read_all<'a, R: Files + AllocGlobal>(
 /// What is printed of a run of the schedule whose text is `script` over pieces of the files, combined encodings, from an
 /// empty store with room for `capacity` chunks of the blob with this root: the replies, and how many chunks are held then.
 ///
-/// Refuses the first line that has no form (`Script` with its number), a piece that isn't accepted and a step that isn't legal
-/// (`Replay`), and answers `File` with `Memory` out of memory.
+/// Refuses the first line that has no form (`Script` with its number), the first piece that isn't accepted, a capacity that no store
+/// has and the first step that isn't legal, in this order (`Replay`), and answers `File` with `Memory` out of memory.
 pub fn replay_text<'a>(
     alloc: Global,
     mode: &Mode,
@@ -48,6 +49,12 @@ pub fn replay_text<'a>(
     ensures script { (number : ℕ) → IsErrOf result (RerunFault.Script number) → IsFirstRefused (length files.now) script.now number }
     ensures illegal { (number : ℕ) → IsErrOf result (RerunFault.Replay (replay.Illegal number))
         → IsStoppedRun mode.now root.now capacity script.now (map (λ file. file.items) files.now) number }
+    ensures refused { (number : ℕ) (fault : CheckFault) → IsErrOf result (RerunFault.Replay (replay.Refused number fault))
+        → IsRefusedRun mode.now root.now script.now (map (λ file. file.items) files.now) number fault }
+    ensures capacity { IsErrOf result (RerunFault.Replay replay.Capacity) → ((capacity ≡ 0) ⊎ (65536 < capacity))
+        × IsAcceptedRun mode.now root.now script.now (map (λ file. file.items) files.now) }
+    ensures within { IsOk result → (0 < capacity) × (capacity ≤ 65536) }
+    ensures illegal_within { (number : ℕ) → IsErrOf result (RerunFault.Replay (replay.Illegal number)) → (0 < capacity) × (capacity ≤ 65536) }
 {
     let script = match parse(alloc, script, files.len()) {
         Ok(script) => script,

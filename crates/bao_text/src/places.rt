@@ -23,6 +23,7 @@ pub trait Places {
         requires { at + len < 2 ^ 128 }
         ensures part { (bytes : List ℕ) → holds self.now bytes → OnOk result (into.new.items ≡ into.old.items ++ piece bytes at len) }
         ensures whole { (bytes : List ℕ) → holds self.now bytes → IfOk result (λ whole. 0 < len → whole ≡ nat_le (at + len) (length bytes)) }
+        ensures none { IfOk result (λ whole. len ≡ 0 → whole ≡ true) }
         ensures all { IfOk result (λ whole. whole ≡ true → length into.new.items ≡ length into.old.items + len) }
         ensures few { OnOk result (length into.new.items ≤ length into.old.items + len) }
         ensures kept { take (length into.old.items) into.new.items ≡ into.old.items }

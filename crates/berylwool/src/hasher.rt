@@ -56,6 +56,7 @@ pub extern "C" fn bw_hasher_finish(alloc: Global, hasher: &mut BwHandle, out: &m
     ensures has { result ≡ 0 ↔ HasHasher hasher.old.held }
     ensures status { result ≢ 0 → result ≡ 1202 }
     ensures same { hasher.new.held ≡ hasher.old.held }
+    ensures unchanged { result ≢ 0 → out.new ≡ out.old }
 {
     with_held!(hasher, alloc, Hasher, |it| {
         let hash = it.finalize();
@@ -82,6 +83,7 @@ pub extern "C" fn bw_hasher_xof(
     ensures no_hasher { result ≡ 1202 → (¬ HasHasher hasher.old.held) }
     ensures status { result ≢ 0 → result ≢ 1208 → result ≡ 1202 }
     ensures same { hasher.new.held ≡ hasher.old.held }
+    ensures unchanged { result ≢ 0 → out.new ≡ out.old }
 {
     if !xof_fits(at, out.len() as u64) {
         return PAST_OUTPUT;

@@ -13,6 +13,7 @@ mod hasher;
 mod hashing;
 mod held;
 mod joining;
+mod laws;
 mod loose;
 mod mode;
 mod room;

@@ -15,7 +15,7 @@ use Rattle.bao_text.specs.Texts.{combined_text}
 use Rattle.bao_text.proofs.Laws.{cut_text-combined}
 use Rattle.gather.specs.Available.{HasTrue, IsFilled}
 use Rattle.gather.specs.declared.holder.Encoded.{Encoded}
-use Rattle.gather.specs.Encodings.{IsCut, encoding}
+use Rattle.gather.specs.Encodings.{IsCut, cut_gives, encoding}
 use Rattle.gather.specs.declared.report.Report.{Report}
 use Rattle.gather.specs.declared.fault.GatherFault.TheVariants.{Capacity, NotTheRoot, Starved, TooLarge, Unfinished}
 use Rattle.gather.specs.Faults.{cause_of}
@@ -105,6 +105,16 @@ encoding_true holders texts mode blob i over short is =
       there = there.1;
       gives_slices = λ start len text cut. cut ∙ ap (λ (xs : List ℕ). cut_text xs start len) there.2 ∙ cut_text-combined mode blob start len short;
     }
+
+-- and what is cut out of a blob's combined encoding are its slices
+pub text_true : (texts : List (List ℕ)) (mode : Mode) (blob : List ℕ) (i : ℕ) → length blob < 2 ^ 64 → slice_get texts i ≡ Some (combined_text mode blob)
+    → HasTrue cut_gives mode blob texts
+text_true texts mode blob i short is = record {
+  place = i;
+  holder = combined_text mode blob;
+  there = is;
+  gives_slices = λ start len text cut. cut ∙ cut_text-combined mode blob start len short;
+}
 
 -- why a report is called unfinished
 pub cause_handed : (report : Report) (P : Type 0) → ((report.memory ≡ 0) → (report.too_large ≡ true) → P) → ((report.memory ≡ 0) → (report.too_large ≡ false) → P)

@@ -1,4 +1,4 @@
-ghost use Rattle.std.specs.Prelude.{◌≡◌, ◌≢◌, ℕ, List, Err, IfOk, IsErrOf, Some};
+ghost use Rattle.std.specs.Prelude.{◌≡◌, ◌≢◌, ◌↔◌, ℕ, List, Err, IfErr, IfOk, IsErrOf, IsOk, Some};
 ghost use Rattle.b3tree.specs.Hashing.{hash};
 ghost use Rattle.store_core.specs.Reached.{IsReached};
 ghost use Rattle.store_core.specs.Stores.{fixed_of, state_of};
@@ -39,7 +39,9 @@ fn read_all(alloc: Global, store: &Store, end: u64) -> Result<Vec<u8>, FinishFau
 /// with the root, a collision is exhibited, two different inputs with one chaining value, one of the blob's and one of a piece's of which
 /// the store's history committed a chunk, or by which it settled the length.
 pub fn judge(fixed: &Fixed, hashed: Hash) -> Result<(), FinishFault>
-    ensures { (bytes : List ℕ) → hashed.0 ≡ hash fixed.now.mode bytes → Judges fixed.now bytes result }
+    ensures root { IsOk result ↔ (hashed.0 ≡ fixed.now.root.0) }
+    ensures fault { IfErr result (λ fault. fault ≡ NotTheRoot) }
+    ensures judges { (bytes : List ℕ) → hashed.0 ≡ hash fixed.now.mode bytes → Judges fixed.now bytes result }
 {
     // For the prover alone: the flags of a mode are apart from the tree's.
     fixed.mode.is_keyed();

@@ -53,6 +53,7 @@ pub(crate) fn append_part<S: Source>(
     requires { at + len < 2 ^ 128 }
     ensures part { OnOk result (OfBytes (S.contents source.now) (λ bytes. into.new.items ≡ into.old.items ++ piece bytes at len)) }
     ensures whole { IfOk result (λ whole. OfBytes (S.contents source.now) (λ bytes. 0 < len → whole ≡ nat_le (at + len) (length bytes))) }
+    ensures none { IfOk result (λ whole. len ≡ 0 → whole ≡ true) }
     ensures all { IfOk result (λ whole. whole ≡ true → length into.new.items ≡ length into.old.items + len) }
     ensures few { OnOk result (length into.new.items ≤ length into.old.items + len) }
     ensures kept { take (length into.old.items) into.new.items ≡ into.old.items }

@@ -3,7 +3,9 @@ ghost use Rattle.bao_text.specs.Choice.{chunk_count};
 ghost use Rattle.bao_text.specs.Texts.{combined_text};
 ghost use Rattle.gather.specs.HandedOut.{Gathers, IsHandedOut};
 ghost use Rattle.store_core.specs.Laws.{IsBlob};
-ghost use Rattle.gather.specs.Encodings.{IsCutOf, encoding};
+ghost use Rattle.gather.specs.Available.{HaveSlices};
+ghost use Rattle.gather.specs.declared.grain.Grain.TheVariants.{Group as ByGroup};
+ghost use Rattle.gather.specs.Encodings.{IsCutOf, cut_gives, encoding};
 ghost use Rattle.gather.specs.Large.{fixed_as};
 
 use crate::fault::{GatherFault, may_lack_room, why};
@@ -38,6 +40,9 @@ fn gather_within(
     ensures available { (blob : List ℕ) (i : ℕ) → IsBlob (fixed_as root mode capacity) blob → chunk_count (length blob) ≤ capacity
         → slice_get (map vec_items texts.now) i ≡ Some (combined_text mode blob)
         → IsHandedOut vec_items (IsCutOf (map vec_items texts.now)) (fixed_as root mode capacity) blob result }
+    ensures covered { (blob : List ℕ) → IsBlob (fixed_as root mode capacity) blob → chunk_count (length blob) ≤ capacity
+        → HaveSlices ByGroup cut_gives mode blob (map vec_items texts.now)
+        → IsHandedOut vec_items (IsCutOf (map vec_items texts.now)) (fixed_as root mode capacity) blob result }
 {
     // For the prover alone: the flags of a mode are apart from the tree's.
     mode.is_keyed();
@@ -65,7 +70,9 @@ fn gather_within(
 /// where it met a length above 1,024 times the capacity, else 901 `Unfinished`.
 ///
 /// Where one of the texts is the combined encoding of a blob with the root, of at most `capacity` chunks, that blob is
-/// answered, whatever the other texts are, or there was no memory, or such a collision as follows is exhibited.
+/// answered, whatever the other texts are, or there was no memory, or such a collision as follows is exhibited. Nor need any
+/// text be whole: it is enough that the slice of the last byte can be cut out of one, and for each group of the blob's chunks
+/// the group's slice out of one.
 ///
 /// What is answered is each blob with the root, at 805 each of them is longer than the capacity, and at 902 there is none;
 /// or a collision is exhibited, two different inputs with one chaining value, one of the blob's and one of a slice's that is
@@ -80,6 +87,9 @@ pub fn gather_texts(
     ensures gathers { Gathers vec_items (IsCutOf (map vec_items texts.now)) (fixed_as root mode capacity) result }
     ensures available { (blob : List ℕ) (i : ℕ) → IsBlob (fixed_as root mode capacity) blob → chunk_count (length blob) ≤ capacity
         → slice_get (map vec_items texts.now) i ≡ Some (combined_text mode blob)
+        → IsHandedOut vec_items (IsCutOf (map vec_items texts.now)) (fixed_as root mode capacity) blob result }
+    ensures covered { (blob : List ℕ) → IsBlob (fixed_as root mode capacity) blob → chunk_count (length blob) ≤ capacity
+        → HaveSlices ByGroup cut_gives mode blob (map vec_items texts.now)
         → IsHandedOut vec_items (IsCutOf (map vec_items texts.now)) (fixed_as root mode capacity) blob result }
 {
     if let Some(first) = first_room(room_for(texts, capacity), capacity) {

@@ -1,3 +1,4 @@
+pub mod AllParents
 pub mod Filling
 pub mod Holding
 pub mod Ending

@@ -93,7 +93,7 @@ module _ (group : ℕ) (piece : Piece) (old new : SeatView) (legal : IsLegal old
       (rw (length_holds is) (rw absent refl))
 
   -- no event stands at the load
-  only_seen : (state_after new.seen).recorded ≡ Some (length_of piece) → nat_lt group (groups old.fixed) ≡ true → Sees old new
+  pub only_seen : (state_after new.seen).recorded ≡ Some (length_of piece) → nat_lt group (groups old.fixed) ≡ true → Sees old new
   only_seen is within = sees_then old old new (unstored_events old group piece) (sees_none old legal) looked (rw (length_holds is) (rw within refl))
 
   -- parents are stored, of the boundaries that were claimed

@@ -1,13 +1,15 @@
 -- Parents on the way: which words a seat stored since a view, where nothing else of what it knows changed. And what those
 -- are that it has seen held.
-use Rattle.std.specs.Prelude.{◌≡◌, ◌≢◌, ◌⊎◌, ℕ, ◌+◌, ◌*◌, ◌/◌, ◌%◌, ◌<◌, true, List, Some}
+use Rattle.std.specs.Prelude.{◌≡◌, ◌≢◌, ◌⊎◌, ℕ, ◌+◌, ◌*◌, ◌/◌, ◌%◌, ◌<◌, true, not, ◌&&◌, List, Some, is_some}
 use Rattle.bao_check.specs.Parents.{parent_of}
 use Rattle.store_core.specs.declared.fixed.Fixed.{Fixed}
 use Rattle.store_core.specs.declared.history.Piece.{Piece}
+use Rattle.store_core.specs.declared.history.Storing.{Storing}
+use Rattle.store_core.specs.declared.history.Storing.TheVariants.{OtherLength, Stored}
 use Rattle.store_core.specs.declared.view.SeatView.{SeatView}
 use Rattle.store_core.specs.Histories.{state_after}
 use Rattle.store_core.specs.Laws.{IsBlob, CollisionFrom}
-use Rattle.store_core.specs.Masks.{in_mask}
+use Rattle.store_core.specs.Masks.{IsMaskOf, in_mask}
 use Rattle.store_core.specs.Pieces.{holds_parent, parent_bytes}
 use Rattle.store_core.specs.Views.{stored}
 use Rattle.store_steps.specs.Layout.{parent_word}
@@ -28,6 +30,12 @@ pub record HaveParentWords (group mask : ℕ) (piece : Piece) (end : ℕ) (old n
   pub rest : new ≡ record old { parent_words = new.parent_words }
   pub words : (m w : ℕ) (bytes : List ℕ) → in_mask group mask m ≡ true → m % 64 < end → parent_bytes piece m ≡ Some bytes → w < 8
       → stored new.parent_words (8 * m + w) ≡ Some (parent_word bytes w)
+
+-- Where a seat with all names that there are stores parents, they are all that the piece holds at boundaries of the group
+-- and that the seat has not seen held.
+abbrev pub AreAllParents : SeatView → ℕ → Piece → Storing → Type 0
+AreAllParents view group piece OtherLength = Unit {0}
+AreAllParents view group piece (Stored mask) = IsMaskOf group mask (λ m. holds_parent piece m && not (is_some ((state_after view.seen).parents m)))
 
 -- For each blob with the store's root: each parent that the seat has seen held is the blob's at that boundary, or a collision
 -- is exhibited from the blob and a piece of what it has seen.

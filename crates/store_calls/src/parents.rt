@@ -5,8 +5,8 @@ ghost use Rattle.store_core.specs.Masks.{IsMaskOf};
 ghost use Rattle.store_core.specs.Pieces.{holds_parent, piece_of};
 ghost use Rattle.store_core.specs.Stores.{IsOf};
 ghost use Rattle.store_core.specs.Views.{is_storing};
-ghost use Rattle.store_calls.specs.Parents.{AreParentsOf, HasParentWords, HaveParentWords, SeatParentsBind};
-ghost use Rattle.store_core.specs.Knowledge.{Called};
+ghost use Rattle.store_calls.specs.Parents.{AreAllParents, AreParentsOf, HasParentWords, HaveParentWords, SeatParentsBind};
+ghost use Rattle.store_core.specs.Knowledge.{AreAllNames, Called};
 ghost use Rattle.store_steps.specs.Words.{CoversGroup, IsGripOf, fixed_of};
 
 use crate::cell::{WORD_LEN, whole_word};
@@ -57,7 +57,7 @@ fn store_parents(words: &Words, grip: &mut Grip, group: u32, piece: &Checked<'_>
 
 /// Stores parents of a group of boundaries, those that the piece holds, and answers their mask: bit j stands for boundary
 /// 64 * group + j. Left out are those that are held already or that another grip is storing just then. Of a group that
-/// isn't there none is stored. `OtherLength` where the piece claims another length than the recorded one, or none is
+/// isn't there none is stored. A grip with all names that there are stores all that it has not seen held. `OtherLength` where the piece claims another length than the recorded one, or none is
 /// recorded.
 ///
 /// It is one event of the store, also where the mask is 0: of each parent 8 words are stored, and then one `fetch_or` on
@@ -74,6 +74,7 @@ pub fn commit_parents(words: &Words, grip: &mut Grip, group: u32, piece: &Checke
     requires none { grip.old.view.storing ≡ [] }
     ensures of { IsGripOf words.now grip.new }
     ensures called { Called (Parents group (piece_of piece.now) result) grip.old.view grip.new.view }
+    ensures alone { AreAllNames grip.old.view.names → AreAllParents grip.old.view group (piece_of piece.now) result }
     ensures absent { ¬ CoversGroup words.now group → (result ≡ OtherLength) ⊎ (result ≡ Stored 0) }
     ensures binds { SeatParentsBind grip.new.view }
 {

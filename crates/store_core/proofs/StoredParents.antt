@@ -1,9 +1,14 @@
 -- What a store stands for after parents of a piece were stored.
-use Rattle.std.proofs.Common.{◌≡◌, ℕ, ◌/◌, ◌%◌, ◌==◌, true, false, Bool, not, ◌&&◌, if◌then◌else◌, List, Option, None, Some, Result, Ok, Err, IfErr, is_some, refl, sym, ap, subst, ◌∙◌}
+use Rattle.std.proofs.Common.{◌≡◌, ℕ, ◌+◌, ◌*◌, ◌/◌, ◌%◌, ◌<◌, ◌≤◌, ◌==◌, true, false, Bool, not, ◌&&◌, if◌then◌else◌, List, [], lit<, w64, arith, Option, None, Some, Result, Ok, Err, IfErr, is_some, refl, sym, ap, subst, ◌∙◌}
 use Rattle.std.specs.Option.{option_eq}
 use Rattle.std.specs.Result.{IsErrAnd}
+use Rattle.std.specs.Int.{bit_at, trailing_zeros}
 use Rattle.std.proofs.Math.Dec.{eqb}
 use Rattle.std.proofs.lemmas.Bool.{and_parts, and_right, eqb-true}
+use Rattle.std.proofs.lemmas.Nat.Bits.{bit_at-trailing_zeros}
+use Rattle.bao_text.specs.Choice.{of_slice}
+use Rattle.bao_check.proofs.Finding.{parent_outside}
+use Rattle.bao_check.proofs.Parenting.{parent_in-some}
 use Rattle.bao_check.specs.declared.checked.Checked.{Checked}
 use Rattle.store_core.specs.declared.fault.StoreFault.{StoreFault}
 use Rattle.store_core.specs.declared.fault.StoreFault.TheVariants.{Memory}
@@ -14,13 +19,17 @@ use Rattle.store_core.specs.declared.history.Storing.TheVariants.{Stored}
 use Rattle.store_core.specs.declared.slot.Slot.{Slot}
 use Rattle.store_core.specs.declared.store.Store.{Store}
 use Rattle.store_core.specs.Events.{IsRightReply, after_call}
+use Rattle.store_core.specs.Machine.{groups}
 use Rattle.store_core.specs.Masks.{IsMaskOf, has_bit, in_mask}
 use Rattle.store_core.specs.Names.{Name}
-use Rattle.store_core.specs.Pieces.{IsAcceptedPiece, holds_parent, length_of, parent_bytes}
+use Rattle.store_core.specs.Pieces.{IsAcceptedPiece, holds_parent, length_of, parent_bytes, piece_of, places_in}
 use Rattle.store_core.specs.Slots.{parent_among, state_in, with_parents}
 use Rattle.store_core.specs.States.{State}
-use Rattle.store_core.specs.Stores.{IsSame, IsUnstored}
+use Rattle.store_core.specs.Stores.{IsSame, IsUnstored, StoresParent, state_of}
+use Rattle.store_core.specs.Reached.{IsReached}
 use Rattle.store_core.proofs.Bits.{has_bit-zero}
+use Rattle.store_core.proofs.BoundStore.{length_fits}
+use Rattle.store_core.proofs.Tells.{mask_unique}
 
 -- parents that are the same at each boundary make the same state
 pub same_parents : (s : State) (old new : List (Option (List ℕ))) → ((m : ℕ) → parent_among new m ≡ parent_among old m) → with_parents s new ≡ with_parents s old
@@ -78,6 +87,39 @@ store_none fixed slots o old seen group mask piece accepted length_is e none wan
           (subst (λ (ps : List (Option (List ℕ))). IsMaskOf group mask (λ m. holds_parent piece m && not (is_some (parent_among ps m)))) e wanted));
       after = λ who i. record s { parents = λ m. each m i };
     }
+
+-- a mask that isn't empty has a parent to store
+pub stores_parent : (store : Store) (group mask : ℕ) (piece : Checked) → 0 < mask → IsMaskOf group mask (λ m. holds_parent (piece_of piece) m && not (is_some ((state_of store).parents m)))
+    → StoresParent store group piece
+unfolding has_bit
+stores_parent store group mask piece some is =
+    let low = bit_at-trailing_zeros w64 mask some is.small in
+    let j : ℕ = trailing_zeros w64 mask in
+    let below : j < 64 = low.0 in
+    let place : (64 * group + j) / 64 ≡ group = omega arith in
+    let bit : (64 * group + j) % 64 ≡ j = omega arith in
+    let hit : (bit_at mask ((64 * group + j) % 64) == 1) ≡ true = ap (λ (k : ℕ). bit_at mask k == 1) bit ∙ ap (λ (b : ℕ). b == 1) low.1 in
+    let test = and_parts (holds_parent (piece_of piece) (64 * group + j)) (not (is_some ((state_of store).parents (64 * group + j)))) (sym (is.bits (64 * group + j) place) ∙ hit) in
+    record { boundary = 64 * group + j; place = place; holds = test.0; lacks = none_from ((state_of store).parents (64 * group + j)) test.1 }
+
+-- of a group that isn't there the piece holds none, since there is none past the blob's last chunk
+pub absent_none : (fixed : Fixed) (piece : Piece) (seen : List (Option (List ℕ))) (group : ℕ) → length_of piece ≤ 1024 * fixed.capacity → groups fixed ≤ group
+    → IsMaskOf group 0 (λ m. holds_parent piece m && not (is_some (parent_among seen m)))
+absent_none fixed piece seen group fits past = record {
+  small = lit< tt;
+  bits = λ m at.
+      let lacks : holds_parent piece m ≡ false = parent_in-some piece.text (places_in piece) m
+      ∙ ap (λ (o : Option ℕ). is_some o) (parent_outside (of_slice (length_of piece) piece.start piece.len) 0 (length_of piece) [] 8 8 m (λ w. omega (arith, w.0, w.1, fits, past, at))) in
+      has_bit-zero (m % 64) ∙ sym (rw lacks refl);
+}
+
+-- where there is a parent to store, the group is there
+pub is_there : (fixed : Fixed) (slots : List Slot) (o : Option ℕ) (old seen : List (Option (List ℕ))) (group mask : ℕ) (piece : Piece)
+    → ∥ IsReached fixed (with_parents (state_in slots o) old) ∥₁ → IsMaskOf group mask (λ m. holds_parent piece m && not (is_some (parent_among seen m))) → (mask ≡ 0 → ⊥)
+    → o ≡ Some (length_of piece) → groups fixed ≤ group → ⊥
+is_there fixed slots o old seen group mask piece reached is some length_is past =
+    some (mask_unique group mask 0 (λ m. holds_parent piece m && not (is_some (parent_among seen m))) is
+    (absent_none fixed piece seen group (length_fits fixed slots o old (length_of piece) reached length_is) past))
 
 not_not : (b : Bool) → not b ≡ false → b ≡ true
 not_not true h = refl

@@ -41,6 +41,12 @@ pub record IsIllegalFrom (fixed : Fixed) (pieces : List Checked) (m : Machine) (
 abbrev pub IsIllegalAt : Fixed → List Checked → List MicroStep → ℕ → Type 0
 IsIllegalAt fixed pieces steps index = IsIllegalFrom fixed pieces start steps index
 
+-- The first step is legal in the empty store.
+pub record BeginsLegally (fixed : Fixed) (pieces : List Checked) (steps : List MicroStep) : Type 0 where
+  pub step : MicroStep
+  pub is : slice_get steps 0 ≡ Some step
+  pub legal : IsLegalStep fixed pieces start step
+
 -- the piece is one of the list
 pub record IsListed (pieces : List Checked) (piece : Piece) : Type 0 where
   pub index : ℕ

@@ -16,7 +16,7 @@ use Rattle.store_core.specs.declared.history.Storing.{Storing}
 use Rattle.store_core.specs.declared.history.Storing.TheVariants as storing
 use Rattle.store_core.specs.declared.history.Settling.{Settling}
 use Rattle.store_core.specs.declared.history.Settling.TheVariants.{Settled, Known, Differs, OtherRoot, TooLarge}
-use Rattle.store_core.specs.Pieces.{chunk_bytes, length_of, piece_of}
+use Rattle.store_core.specs.Pieces.{chunk_bytes, holds_parent, length_of, piece_of}
 use Rattle.bao_check.specs.declared.checked.Checked.{Checked}
 use Rattle.store_core.specs.declared.fault.Missing.{Missing}
 use Rattle.store_core.specs.declared.store.Store.{Store}
@@ -70,6 +70,13 @@ Settles old new piece Differs = (who : List Name) → IsEvent old new who (Settl
 -- Parents of a piece that are stored, or another length that it claims, are an event of the store, anybody's.
 abbrev pub DidStore : Store → Store → ℕ → Checked → Storing → Type 0
 DidStore old new group piece answer = (who : List Name) → IsEvent old new who (Parents group (piece_of piece) answer)
+
+-- There is a parent for it to store: the piece holds one at a boundary of the group where the store holds none.
+pub record StoresParent (store : Store) (group : ℕ) (piece : Checked) : Type 0 where
+  pub boundary : ℕ
+  pub place : boundary / 64 ≡ group
+  pub holds : holds_parent (piece_of piece) boundary ≡ true
+  pub lacks : (state_of store).parents boundary ≡ None
 
 -- what refused parents say: another length alone is an event, and the store stands for the same
 abbrev pub IsUnstored : Store → Store → ℕ → Checked → StoreFault → Type 0

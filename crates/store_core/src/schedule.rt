@@ -1,9 +1,9 @@
 ghost use Rattle.std.specs.Prelude.{◌≡◌, ◌≢◌, ◌⊎◌, ◌↔◌, ℕ, ◌<◌, ◌≤◌, ◌==◌, if◌then◌else◌, List, ◌++◌, Some, option_map, option_to_list, IfOk, IsErrOf, IsOk, IsTrue, OnOk};
 ghost use Rattle.bao_check.specs.declared.checked.Checked.{Checked};
-ghost use Rattle.store_core.specs.declared.fault.ReplayFault.TheVariants.{Capacity, Illegal};
+ghost use Rattle.store_core.specs.declared.fault.ReplayFault.TheVariants.{Capacity, Illegal, Memory};
 ghost use Rattle.store_core.specs.Machine.{current_holds};
 ghost use Rattle.store_core.specs.Pieces.{piece_of};
-ghost use Rattle.store_core.specs.Replays.{IsIllegalAt, IsReplayed, ReplayBinds};
+ghost use Rattle.store_core.specs.Replays.{BeginsLegally, IsIllegalAt, IsReplayed, ReplayBinds};
 ghost use Rattle.store_core.specs.ScheduleRuns.{IsAllMarked, IsTakenPlayer, player_in};
 
 use crate::fault::{BadCapacity, ReplayFault, StepFault};
@@ -314,7 +314,8 @@ impl<'a> ScheduleRun<'a> {
 /// they leave. A seat is a number; it may have a current piece, words written from it, claims, and a read under way.
 ///
 /// 802 `Capacity` where the capacity isn't 1 to 65,536 chunks. Else, whichever it meets first: 702 `Illegal` with the
-/// least index, from 0, of a step that isn't legal, and 701 `Memory`. No store is handed out then.
+/// least index, from 0, of a step that isn't legal, and 701 `Memory` at a legal step, so never where the first one isn't
+/// legal. No store is handed out then.
 ///
 /// For each blob with the hash `root`, each chunk that the store holds is the blob's chunk of that number, and a recorded
 /// length is the blob's; or a collision is exhibited, two different inputs with one chaining value, one of the blob's and one of a piece of
@@ -330,6 +331,7 @@ pub fn replay(
     ensures capacity { IsErrOf result Capacity ↔ ((capacity ≡ 0) ⊎ (65536 < capacity)) }
     ensures ok { IfOk result (λ r. IsReplayed (record { root = root; mode = mode; capacity = capacity }) pieces.now steps.now r.0.items r.1) }
     ensures illegal { (i : ℕ) → IsErrOf result (Illegal i) → IsIllegalAt (record { root = root; mode = mode; capacity = capacity }) pieces.now steps.now i }
+    ensures memory { IsErrOf result Memory → BeginsLegally (record { root = root; mode = mode; capacity = capacity }) pieces.now steps.now }
     ensures binds { IfOk result (λ r. ReplayBinds (record { root = root; mode = mode; capacity = capacity }) pieces.now steps.now r.0.items r.1) }
 {
     let mut run = match ScheduleRun::new(alloc, root, mode, capacity) {

@@ -36,7 +36,7 @@ pub struct Store {
 
 impl Store {
     ghost use Rattle.store_core.specs.declared.history.Call.TheVariants.{Commit, Give, Length, Take};
-    ghost use Rattle.store_core.specs.declared.fault.StoreFault.TheVariants.{NoGroup, OtherLength, OtherRoot};
+    ghost use Rattle.store_core.specs.declared.fault.StoreFault.TheVariants.{Memory, NoGroup, OtherLength, OtherRoot};
     ghost use Rattle.store_core.specs.declared.fault.ServeFault.TheVariants.{NoLength};
     ghost use Rattle.store_core.specs.declared.history.Settling.TheVariants.{OtherRoot as RootIsOther};
     ghost use Rattle.store_core.specs.declared.history.Storing.TheVariants.{Stored};
@@ -48,7 +48,7 @@ impl Store {
     ghost use Rattle.store_core.specs.declared.history.Serving.TheVariants.{Text};
     ghost use Rattle.store_core.specs.Serves.{node_held};
     ghost use Rattle.store_core.specs.States.{claims, empty, held_count};
-    ghost use Rattle.store_core.specs.Stores.{ChunksBind, ClaimBinds, DidRead, DidServe, DidStore, GainsNode, IsEvent, IsNew, IsOf, IsSame, IsUnserved, IsUnstored, LengthBinds, ParentsBind, ReadBinds, Settles, SliceBinds, filled_count, fixed_of, missing_in, state_of};
+    ghost use Rattle.store_core.specs.Stores.{ChunksBind, ClaimBinds, DidRead, DidServe, DidStore, GainsNode, IsEvent, IsNew, IsOf, IsSame, IsUnserved, IsUnstored, LengthBinds, ParentsBind, ReadBinds, Settles, SliceBinds, StoresParent, filled_count, fixed_of, missing_in, state_of};
 
     /// A store that holds, claims and records nothing. It takes no memory.
     ///
@@ -154,6 +154,7 @@ impl Store {
     /// collision is exhibited, one input of the blob's and one of this piece's.
     pub fn settle(&mut self, tail: &Tail<'_>) -> Settling
         ensures event { Settles self.old self.new (tail_piece tail.now) result }
+        ensures other_root { (result ≡ RootIsOther) ↔ (¬ IsOf (fixed_of self.old) (tail_piece tail.now)) }
         ensures binds { result ≢ RootIsOther → ClaimBinds (fixed_of self.old) (piece_of (tail_piece tail.now)) }
     {
         // Laws, so that the proof has what they say: nothing runs.
@@ -285,7 +286,8 @@ impl Store {
     /// for the parent whose right part begins at chunk 64 * group + j. 0 for a group that isn't there.
     ///
     /// 804 `OtherRoot`, asked before all else, where the piece is of another root or mode, 807 `OtherLength` where the length
-    /// that it claims isn't the recorded one, or there is none, and 701 `Memory`. The store then stands for the same.
+    /// that it claims isn't the recorded one, or there is none, and 701 `Memory`, where there is a parent to store. The store
+    /// then stands for the same.
     ///
     /// For each blob with the store's root, each parent that is then held is the blob's parent there; or, whatever legal
     /// history led to the store, a collision is exhibited, one input of the blob's and one of a
@@ -296,6 +298,8 @@ impl Store {
         ensures other_root { IsErrOf result OtherRoot ↔ (¬ IsOf (fixed_of self.old) piece.now) }
         ensures other_length { IsErrOf result OtherLength ↔ (IsOf (fixed_of self.old) piece.now × ((state_of self.old).recorded ≢ Some (length_of (piece_of piece.now)))) }
         ensures refused { IfErr result (λ fault. IsUnstored self.old self.new group piece.now fault) }
+        ensures absent { IsOf (fixed_of self.old) piece.now → (state_of self.old).recorded ≡ Some (length_of (piece_of piece.now)) → groups (fixed_of self.old) ≤ group → result ≡ Ok 0 }
+        ensures memory { IsErrOf result Memory → StoresParent self.old group piece.now }
         ensures never { result ≢ Err NoGroup }
         ensures binds { IfOk result (λ _. ParentsBind self.new) }
     {

@@ -35,7 +35,7 @@ abbrev alone : (Name → ℕ) → Name → Name
 alone number name = number name ∷ []
 
 -- the state with these names in the place of the others
-abbrev mirrored : Numbering → State → State
+abbrev pub mirrored : Numbering → State → State
 mirrored number s = record s { claim = λ c. option_map (alone (number c)) (s.claim c) }
 
 some_same : (number : Name → ℕ) (o : Option Name) → is_some (option_map (alone number) o) ≡ is_some o
@@ -79,7 +79,7 @@ storing_mirrored number s group piece OtherLength h = h
 storing_mirrored number s group piece (Stored mask) h = h
 
 -- a right reply is right in the mirrored state too
-right_mirrored : (fixed : Fixed) (number : Numbering) (s : State) (who : List Name) (seat : ℕ) → IsSeat number s who seat → (call : Call)
+pub right_mirrored : (fixed : Fixed) (number : Numbering) (s : State) (who : List Name) (seat : ℕ) → IsSeat number s who seat → (call : Call)
     → IsRightReply fixed s who call → IsRightReply fixed (mirrored number s) (caller seat) call
 right_mirrored fixed number s who seat is (Take g w r) right =
     mask_same g r (λ c. has_bit w (c % 64) && is_free fixed s c) (λ c. has_bit w (c % 64) && is_free fixed (mirrored number s) c)
@@ -108,7 +108,7 @@ mapped number true new old put e = e
 mapped number false new old put e = refl
 
 -- and the state after the call mirrors the one after it
-after_mirrored : (number : Numbering) (s : State) (who : List Name) (seat : ℕ) → IsSeat number s who seat → (call : Call)
+pub after_mirrored : (number : Numbering) (s : State) (who : List Name) (seat : ℕ) → IsSeat number s who seat → (call : Call)
     → after_call (caller seat) call (mirrored number s) ≡ mirrored number (after_call who call s)
 after_mirrored number s who seat is (Take g w r) =
     same_state (after_call (caller seat) (Take g w r) (mirrored number s)) (mirrored number (after_call who (Take g w r) s)) refl (λ c. refl)

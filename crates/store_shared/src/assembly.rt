@@ -28,7 +28,7 @@ impl Assembly {
     ghost use Rattle.store_core.specs.declared.history.Call.TheVariants.{Commit, Give, Length, Parents, Serve, Take};
     ghost use Rattle.store_core.specs.declared.history.Serving.TheVariants.{Text};
     ghost use Rattle.store_core.specs.declared.history.Storing.TheVariants.{Stored};
-    ghost use Rattle.store_calls.specs.Parents.{SeatParentsBind};
+    ghost use Rattle.store_calls.specs.Parents.{AreAllParents, SeatParentsBind};
     ghost use Rattle.store_calls.specs.Serving.{SeatIsRefused, SeatSliceBinds};
     ghost use Rattle.store_core.specs.Machine.{groups};
     ghost use Rattle.store_core.specs.Pieces.{piece_of};
@@ -36,7 +36,7 @@ impl Assembly {
     ghost use Rattle.store_calls.specs.Reading.{SeatDidRead, SeatReadBinds};
     ghost use Rattle.store_shared.specs.Calls.{SeatIsUnstored, SeatSettles};
     ghost use Rattle.store_shared.specs.Seats.{IsGroupOf, IsSeatOf, fixed_of};
-    ghost use Rattle.store_core.specs.Knowledge.{AreMet, ArePartsOf, Called, IsMerged, KeepsClaims, LooksRound, NoneIsClaimedByBoth, opening_view};
+    ghost use Rattle.store_core.specs.Knowledge.{AreAllNames, AreMet, ArePartsOf, Called, IsMerged, KeepsClaims, LooksRound, NoneIsClaimedByBoth, opening_view};
 
     /// A store that holds, claims and records nothing, and its first seat, which has seen nothing. `capacity` is a number
     /// of chunks.
@@ -248,7 +248,8 @@ impl Assembly {
 
     /// Stores parents of the piece at boundaries of a group, and answers their mask: bit j stands for the parent whose right
     /// part begins at chunk 64 * group + j. They are parents that the piece holds, and that nobody holds or is storing
-    /// yet: 0 for a group that isn't there. It takes no memory.
+    /// yet: 0 for a group that isn't there. A seat with all names that there are stores all that it has not seen held. It
+    /// takes no memory.
     ///
     /// 804 `OtherRoot`, asked before all else, where the piece is of another root or mode: nothing is then asked. 807
     /// `OtherLength` where the length that it claims isn't the recorded one, or there is none.
@@ -267,6 +268,7 @@ impl Assembly {
         ensures root { IsErrOf result ParentsFault.OtherRoot ↔ (¬ IsOf (fixed_of self.now) piece.now) }
         ensures called { IfOk result (λ stored. Called (Parents group (piece_of piece.now) (Stored stored)) seat.old.view seat.new.view) }
         ensures refused { IfErr result (λ fault. SeatIsUnstored group piece.now fault seat.old seat.new) }
+        ensures alone { AreAllNames seat.old.view.names → IfOk result (λ stored. AreAllParents seat.old.view group (piece_of piece.now) (Stored stored)) }
         ensures absent { (¬ IsGroupOf self.now group) → IfOk result (λ stored. stored ≡ 0) }
         ensures binds { IfOk result (λ _. SeatParentsBind seat.new.view) }
     {

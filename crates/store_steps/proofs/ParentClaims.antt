@@ -1,5 +1,5 @@
 -- Boundaries are claimed: one or on their claim word.
-use Rattle.std.proofs.Common.{◌≡◌, ◌≢◌, ℕ, ◌+◌, ◌*◌, ◌/◌, ◌%◌, ◌^◌, ◌<◌, Bool, true, false, not, ◌&&◌, ◌||◌, if◌then◌else◌, List, [], ◌∷◌, Option, None, Some, is_some, set, slice_index, refl, sym, ap, subst, ◌∙◌, arith, inl, inr, ne_eqb, eq-eqb, eqb-true, ◌==◌}
+use Rattle.std.proofs.Common.{◌≡◌, ◌≢◌, ℕ, ◌+◌, ◌*◌, ◌/◌, ◌%◌, ◌^◌, ◌<◌, nat_lt, Bool, true, false, not, ◌&&◌, ◌||◌, if◌then◌else◌, List, [], ◌∷◌, Option, None, Some, is_some, set, slice_index, refl, sym, ap, subst, ◌∙◌, arith, inl, inr, ne_eqb, eq-eqb, eqb-true, ◌==◌}
 use Rattle.std.specs.Int.{w64, bit_not}
 use Rattle.std.specs.Int.Bits.{bit_and, bit_or}
 use Rattle.std.proofs.lemmas.Bool.{and_left, and_parts, cases_Bool, cases_eq, false≢true}
@@ -7,21 +7,30 @@ use mathlib.Core.Option.{some}
 use lib.ListN.{get_elem?}
 use Rattle.atomic_table.specs.Table.{State as Table}
 use Rattle.store_core.specs.declared.fixed.Fixed.{Fixed}
+use Rattle.store_core.specs.declared.history.Event.{Event}
+use Rattle.store_core.specs.Knowledge.{AreAllNames}
 use Rattle.store_core.specs.declared.view.Boundaries.{Boundaries}
 use Rattle.store_core.specs.declared.view.SeatView.{SeatView}
 use Rattle.store_core.specs.Histories.{state_after}
 use Rattle.store_core.specs.Machine.{groups}
-use Rattle.store_core.specs.Masks.{has_bit, in_mask}
+use Rattle.store_core.specs.Masks.{IsMaskOf, has_bit, in_mask}
 use Rattle.store_core.specs.Views.{is_boundary, is_storing}
 use Rattle.store_steps.specs.Layout.{parent_claim_place, parent_claim_word, parent_held_place, parent_word_place}
 use Rattle.store_steps.specs.Plays.{ClaimsParents}
 use Rattle.store_steps.specs.Rule.{FitsParents, RuleHolds, StandForParents, StoresAt}
-use Rattle.store_core.proofs.Bits.{has_bit-and, has_bit-not, has_bit-or}
+use Rattle.store_core.proofs.Bits.{and_small, has_bit-and, has_bit-not, has_bit-or}
 use Rattle.store_steps.proofs.Keeping.{Found, found, its}
 use Rattle.store_steps.proofs.ParentsAside.{aside_step}
 use Rattle.store_steps.proofs.WrittenWords.{left, put}
 use Rattle.store_steps.proofs.StepViews.{Steps}
-use Rattle.store_steps.proofs.Storers.{stores_new, stores_on}
+use Rattle.store_steps.proofs.Lists.{one_part}
+use Rattle.store_steps.proofs.Storers.{had, stores_new, stores_on}
+use Rattle.store_steps.proofs.Wholes.{alone, only_view, whole_history}
+
+-- a boundary that nobody is storing
+unstored : (held : Bool) (storer : Option (ℕ × ℕ)) → storer ≡ None → (held || is_some storer) ≡ held
+unstored true storer none = refl
+unstored false storer none = ap (λ (o : Option (ℕ × ℕ)). is_some o) none
 
 -- the bit of a boundary: held, being stored, or claimed now
 claimed_bit : (asked held : Bool) (storer : Option (ℕ × ℕ)) (place : ℕ × ℕ)
@@ -43,6 +52,23 @@ granted_free false held storer h = cc
 none_is : (o : Option (List ℕ)) → is_some o ≡ false → o ≡ None
 none_is None h = refl
 none_is (Some bytes) h = cc
+
+swapped : (a b c : Bool) → ((a && b) && c) ≡ (b && (a && c))
+swapped true b c = refl
+swapped false true c = refl
+swapped false false c = refl
+
+-- what is granted to a seat with all names, of what it wants
+pub granted_mask : (group below want free capacity : ℕ) (parents : ℕ → Option (List ℕ)) → IsMaskOf group below (λ m. nat_lt m capacity)
+    → ((m : ℕ) → m / 64 ≡ group → has_bit (bit_and (bit_and below want) free) (m % 64) ≡ (has_bit (bit_and below want) (m % 64) && not (is_some (parents m))))
+    → IsMaskOf group (bit_and (bit_and below want) free) (λ m. has_bit want (m % 64) && (nat_lt m capacity && not (is_some (parents m))))
+granted_mask group below want free capacity parents low is = record {
+  small = and_small (bit_and below want) free (and_small below want low.small);
+  bits = λ m at.
+      is m at
+      ∙ ap (λ (b : Bool). b && not (is_some (parents m))) (has_bit-and below want (m % 64) ∙ ap (λ (b : Bool). b && has_bit want (m % 64)) (low.bits m at))
+      ∙ swapped (nat_lt m capacity) (has_bit want (m % 64)) (not (is_some (parents m)));
+}
 
 module _ (fixed : Fixed) (s : Table Unit (List SeatView)) (k : RuleHolds fixed s) (id : ℕ) (view : SeatView) (seat : get_elem? s.views id ≡ some (view ∷ []))
     (group asked : ℕ) (there : group < groups fixed) (asks : (m : ℕ) → m / 64 ≡ group → has_bit asked (m % 64) ≡ true → m < fixed.capacity)
@@ -83,6 +109,11 @@ module _ (fixed : Fixed) (s : Table Unit (List SeatView)) (k : RuleHolds fixed s
   in_here m here =
       ap (λ (b : Bool). b && has_bit granted (m % 64)) (eq-eqb (m / 64) group here)
       ∙ has_bit-and asked (bit_not w64 found_word) (m % 64)
+      ∙ ap (λ (b : Bool). has_bit asked (m % 64) && b) (has_bit-not found_word (m % 64) small (omega arith) ∙ ap (λ (b : Bool). not b) (found_bit m here))
+
+  granted_bit : (m : ℕ) → m / 64 ≡ group → has_bit granted (m % 64) ≡ (has_bit asked (m % 64) && not (is_some (parents m) || is_some (storer m)))
+  granted_bit m here =
+      has_bit-and asked (bit_not w64 found_word) (m % 64)
       ∙ ap (λ (b : Bool). has_bit asked (m % 64) && b) (has_bit-not found_word (m % 64) small (omega arith) ∙ ap (λ (b : Bool). not b) (found_bit m here))
 
   in_other : (m : ℕ) → m / 64 ≢ group → in_mask group granted m ≡ false
@@ -164,10 +195,28 @@ module _ (fixed : Fixed) (s : Table Unit (List SeatView)) (k : RuleHolds fixed s
         let never : false ≡ true = sym (ap (λ (bs : List Boundaries). is_boundary bs m) none) ∙ h in absurd (false≢true never)) i j (k.parents.by m i j (rw miss at is))
   ]
 
+  -- where the seat has all names, nobody is storing a parent
+  none_storing : AreAllNames view.names → (m : ℕ) (o : Option (ℕ × ℕ)) → storer m ≡ o → o ≡ None
+  none_storing all m None is = refl
+  none_storing all m (Some place) is =
+      let s' = k.parents.by m place.0 place.1 is in
+      let same = only_view fixed s k id 0 view (its fixed s k id view new seat refl) all place.0 place.1 s'.view s'.has in
+      let one = one_part view s'.view place.1 (had s.views id (view ∷ []) place.0 place.1 s'.view seat (ap (λ (p : ℕ × ℕ). p.0) same) s'.has) in
+      let storing : is_storing view m ≡ true = subst (λ (v : SeatView). is_storing v m ≡ true) one.1 s'.storing in
+      let never : false ≡ true = sym (ap (λ (bs : List Boundaries). is_boundary bs m) none) ∙ storing in cc
+
+  free_alone : AreAllNames view.names → (m : ℕ) → m / 64 ≡ group
+      → has_bit granted (m % 64) ≡ (has_bit asked (m % 64) && not (is_some ((state_after view.seen).parents m)))
+  free_alone all m here =
+      granted_bit m here
+      ∙ ap (λ (b : Bool). has_bit asked (m % 64) && not b)
+      (unstored (is_some (parents m)) (storer m) (none_storing all m (storer m) refl)
+      ∙ ap (λ (h : List Event). is_some ((state_after h).parents m)) (whole_history fixed s k id 0 view (its fixed s k id view new seat refl) all))
+
   pub claim_parents_steps : Steps fixed s id place (bit_or found_word asked) (λ new. ClaimsParents group asked found_word view new)
   claim_parents_steps = record {
     new = new;
     kept = aside_step fixed s k id view seat place (bit_or found_word asked) (omega arith) storing view.parent_words
         (record { storer = storer_then; stand = stand; fit = λ i j v h. fit_from i j v (found fixed s k id view new seat refl i j v h); by = by_then });
-    told = refl;
+    told = record { stores = refl; own = alone fixed s k id 0 view (its fixed s k id view new seat refl); free = free_alone };
   }

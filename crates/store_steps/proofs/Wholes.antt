@@ -4,6 +4,7 @@ use Rattle.std.proofs.lemmas.Bool.{cases_Bool, cases_lt, false≢true, or_left}
 use mathlib.Core.Option.{some}
 use lib.ListN.{get_elem?}
 use Rattle.atomic_table.specs.Table.{State as Table, keeps, stepped}
+use Rattle.bao_check.proofs.Lists.{Contains-head}
 use Rattle.store_core.specs.declared.fixed.Fixed.{Fixed}
 use Rattle.store_core.specs.declared.history.Event.{Event}
 use Rattle.store_core.specs.declared.view.Named.{Named}
@@ -92,6 +93,40 @@ others_before names (e ∷ first) second h =
 callers_before : (first second : List Event) → HaveCallers (first ++ second) → HaveCallers first
 callers_before [] second h = tt
 callers_before (e ∷ first) second h = (h.0, callers_before first second h.1)
+
+others_later : (names : List Name) (first second : List Event) → AreOfOthers names (first ++ second) → AreOfOthers names second
+others_later names [] second h = h
+others_later names (e ∷ first) second h = others_later names first second (none_by names e (first ++ second) h).1
+
+callers_later : (first second : List Event) → HaveCallers (first ++ second) → HaveCallers second
+callers_later [] second h = h
+callers_later (e ∷ first) second h = callers_later first second h.1
+
+-- A view with all names has seen the whole history.
+pub whole_history : (fixed : Fixed) (s : Table Unit (List SeatView)) (k : RuleHolds fixed s) (seat part : ℕ) (view : SeatView) → HasView s.views seat part view
+    → AreAllNames view.names → k.history ≡ view.seen
+whole_history fixed s k seat part view here all =
+    let on = (k.views seat part view here).continues in
+    let own : events_of (plain view.names) on.between ≡ on.between =
+    all_own view.names on.between all (callers_later view.seen on.between (subst (λ (h : List Event). HaveCallers h) on.is k.names.callers)) (λ named among name later.
+    others_later (name ∷ []) view.seen on.between (subst (λ (h : List Event). AreOfOthers (name ∷ []) h) on.is
+    (k.names.new_to_calls named (record { seat = seat; part = part; view = view; has = here; among = among }) name later))) in
+    on.is ∙ ap (λ (xs : List Event). view.seen ++ xs) (sym own ∙ on.others) ∙ append-nil view.seen
+
+first_name : (names : List Named) → 0 < length names → (named : Named) × Contains names named × (has_name (plain names) named.name ≡ true)
+first_name [] many = absurd (omega (arith, many))
+first_name (named ∷ names) many = (named, Contains-head names named, or_left _ _ (same_name-refl named.name))
+
+-- There is no other view.
+pub only_view : (fixed : Fixed) (s : Table Unit (List SeatView)) (k : RuleHolds fixed s) (seat part : ℕ) (view : SeatView) → HasView s.views seat part view → AreAllNames view.names
+    → (i j : ℕ) (other : SeatView) → HasView s.views i j other → ◌≡◌ {A = ℕ × ℕ} (i, j) (seat, part)
+only_view fixed s k seat part view here all i j other there =
+    let f = first_name other.names (k.names.named i j other there) in
+    elim (covers view.names all f.0.name) [
+      | inl ours ↦ sym (k.names.owned i j other there f.0.name f.2) ∙ k.names.owned seat part view here f.0.name ours
+      | inr later ↦ absurd (k.names.new_to_views later.0 f.0 (record { seat = seat; part = part; view = view; has = here; among = later.1 })
+          (record { seat = i; part = j; view = other; has = there; among = f.1 }) later.2)
+    ]
 
 -- a view with all names has made all calls that it has seen
 pub alone : (fixed : Fixed) (s : Table Unit (List SeatView)) → RuleHolds fixed s → (seat part : ℕ) (view : SeatView) → HasView s.views seat part view

@@ -1,5 +1,5 @@
 -- What each kind of step tells, as the table asks it: of the step, the seat before, the number found and the seat after.
-use Rattle.std.specs.Prelude.{◌≡◌, ℕ, ◌+◌, ◌-◌, ◌*◌, ◌%◌, ◌==◌, Bool, if◌then◌else◌, List, [], ◌∷◌, Option, None, Some, is_some, bit_and}
+use Rattle.std.specs.Prelude.{◌≡◌, ℕ, ◌+◌, ◌-◌, ◌*◌, ◌/◌, ◌%◌, ◌==◌, Bool, not, ◌&&◌, if◌then◌else◌, List, [], ◌∷◌, Option, None, Some, is_some, bit_and}
 use Rattle.std.specs.Int.{w64, bit_not}
 use Rattle.atomic_table.specs.Table.{Me}
 use Rattle.bao_text.specs.declared.walk.Node.{Node}
@@ -12,11 +12,11 @@ use Rattle.store_core.specs.Histories.{state_after}
 use Rattle.store_core.specs.Masks.{has_bit}
 use Rattle.store_core.specs.Pieces.{length_of}
 use Rattle.store_core.specs.Serves.{node_held}
-use Rattle.store_core.specs.Views.{split_first, split_second}
-use Rattle.store_core.specs.Knowledge.{AreMet, ArePartsOf, Did, EndsStoring, IsMerged, Looked}
+use Rattle.store_core.specs.Views.{mine, split_first, split_second}
+use Rattle.store_core.specs.Knowledge.{AreAllNames, AreMet, ArePartsOf, Did, EndsStoring, IsMerged, Looked}
 use Rattle.store_steps.specs.Reads.{read_events}
 use Rattle.store_steps.specs.Slices.{node_events, node_number, unserved_events, unstored_events}
-use Rattle.store_steps.specs.Tells.{FindsHeld, FindsParentWord, FindsWord}
+use Rattle.store_steps.specs.Tells.{FindsHeld, FindsParentWord, FindsWord, IsStoringNow}
 
 -- a seat with one view has one afterwards, of which this is told
 abbrev pub OfOne : (SeatView → SeatView → Type 0) → Me Unit (List SeatView) → Me Unit (List SeatView) → Type 0
@@ -54,9 +54,13 @@ pub record CopiesParent (boundary w found : ℕ) (old new : SeatView) : Type 0 w
   pub finds : FindsParentWord boundary w found old
 
 -- The seat, which was storing no parents, is storing those of the boundaries asked for whose bit wasn't set. Nothing else
--- changes.
-abbrev pub ClaimsParents : ℕ → ℕ → ℕ → SeatView → SeatView → Type 0
-ClaimsParents group asked found old new = new ≡ record old { storing = record { group = group; mask = bit_and asked (bit_not w64 found) } ∷ [] }
+-- changes. Where it has all names that there are, each call that it has seen is its own, and the bits that were set are those
+-- of the boundaries whose parents it has seen held.
+pub record ClaimsParents (group asked found : ℕ) (old new : SeatView) : Type 0 where
+  pub stores : IsStoringNow group (bit_and asked (bit_not w64 found)) old new
+  pub own : AreAllNames old.names → mine old ≡ old.seen
+  pub free : AreAllNames old.names → (m : ℕ) → m / 64 ≡ group
+      → has_bit (bit_and asked (bit_not w64 found)) (m % 64) ≡ (has_bit asked (m % 64) && not (is_some ((state_after old.seen).parents m)))
 
 -- word w of the boundary's parent counts as stored
 abbrev pub StoresParent : ℕ → ℕ → ℕ → SeatView → SeatView → Type 0

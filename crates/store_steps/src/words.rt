@@ -1,4 +1,4 @@
-ghost use Rattle.std.specs.Prelude.{◌≡◌, [], Some, is_some, ◌+◌, ◌*◌, ◌/◌, ◌<◌, ◌≤◌, ℕ, true, IfErr, IfOk, IsErrOf, IsOk, OnErr};
+ghost use Rattle.std.specs.Prelude.{◌≡◌, [], Some, is_some, ◌+◌, ◌*◌, ◌/◌, ◌%◌, ◌<◌, ◌≤◌, ℕ, nat_lt, not, ◌&&◌, true, IfErr, IfOk, IsErrOf, IsOk, OnErr};
 ghost use Rattle.store_steps.specs.Layout.{word_count};
 
 use crate::fault::NewFault;
@@ -47,15 +47,15 @@ impl Words {
     ghost use Rattle.store_core.specs.declared.history.Call.TheVariants.{Commit, Give, Length, Parents, Settle, Take};
     ghost use Rattle.store_core.specs.Pieces.{length_of, piece_of};
     ghost use Rattle.store_core.specs.Stores.{IsOf};
-    ghost use Rattle.store_core.specs.Views.{is_storing, seat_claims};
+    ghost use Rattle.store_core.specs.Views.{is_storing, mine, seat_claims};
     ghost use Rattle.store_core.specs.declared.history.Storing.TheVariants.{Stored};
     ghost use Rattle.store_core.specs.Histories.{state_after};
     ghost use Rattle.store_steps.specs.Asks.{AreClaimed, AreHeldClaims, AreParentsWritten, AreWordsStored};
-    ghost use Rattle.store_core.specs.Knowledge.{AreMet, ArePartsOf, Did, EndsStoring, IsMerged, Looked, LooksRound, opening_view};
+    ghost use Rattle.store_core.specs.Knowledge.{AreAllNames, AreMet, ArePartsOf, Did, EndsStoring, IsMerged, Looked, LooksRound, opening_view};
     ghost use Rattle.store_steps.specs.Reads.{read_events};
     ghost use Rattle.store_core.specs.Serves.{node_held};
     ghost use Rattle.store_steps.specs.Slices.{node_events, node_number, unserved_events, unstored_events};
-    ghost use Rattle.store_core.specs.Masks.{has_bit};
+    ghost use Rattle.store_core.specs.Masks.{IsMaskOf, has_bit};
     ghost use Rattle.store_steps.specs.Plays.{StoresParent};
     ghost use Rattle.store_steps.specs.Tells.{FindsHeld, FindsParentWord, FindsWord, IsStoringNow, Stores};
     ghost use Rattle.store_steps.specs.Words.{CoversGroup, IsGripOf, fixed_of};
@@ -471,7 +471,7 @@ impl Words {
 
     /// Claims the wanted boundaries of a group that are below the capacity and whose parents are neither held nor being
     /// stored, and answers their mask: the grip, which stores no parents, is storing these. One `fetch_or` on the claim
-    /// word of boundaries.
+    /// word of boundaries. A grip with all names that there are gets all whose parents it has not seen held.
     pub fn claim_parents(&self, grip: &mut Grip, group: u32, want: u64) -> u64
         requires of { IsGripOf self.now grip.old }
         requires group { CoversGroup self.now group }
@@ -479,6 +479,8 @@ impl Words {
         ensures of { IsGripOf self.now grip.new }
         ensures claimed { IsStoringNow group result grip.old.view grip.new.view }
         ensures among { (j : ℕ) → has_bit result j ≡ true → has_bit want j ≡ true }
+        ensures alone { AreAllNames grip.old.view.names → IsMaskOf group result (λ m. has_bit want (m % 64) && (nat_lt m (fixed_of self.now).capacity && not (is_some ((state_after grip.old.view.seen).parents m)))) }
+        ensures own { AreAllNames grip.old.view.names → mine grip.old.view ≡ grip.old.view.seen }
     {
         self.claim_parents_asked::<Brand>(grip, group, want)
     }
@@ -491,6 +493,8 @@ impl Words {
         ensures of { IsGripOf self.now grip.new }
         ensures claimed { IsStoringNow group result grip.old.view grip.new.view }
         ensures among { (j : ℕ) → has_bit result j ≡ true → has_bit want j ≡ true }
+        ensures alone { AreAllNames grip.old.view.names → IsMaskOf group result (λ m. has_bit want (m % 64) && (nat_lt m (fixed_of self.now).capacity && not (is_some ((state_after grip.old.view.seen).parents m)))) }
+        ensures own { AreAllNames grip.old.view.names → mine grip.old.view ≡ grip.old.view.seen }
     {
         let wanted = mask_below(group, u64::from(self.fixed.capacity)) & want;
         let place = parent_claim_place(&self.fixed, group);

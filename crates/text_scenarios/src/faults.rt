@@ -2,6 +2,7 @@ use anyhow::Result;
 use b3tree::TooLong;
 use bao_bind::AuditFault;
 use bao_check::CheckFault;
+use bao_read::{ParFault, ReadFault};
 use bao_text::{Memory, WriteFault};
 use std::alloc::Global;
 use std::fmt::Display;
@@ -27,6 +28,10 @@ pub fn faults(alloc: Global) -> Result<String> {
         CheckFault::Memory,
         CheckFault::Reader,
     ] {
+        tell(&mut said, fault.code(), fault)?;
+    }
+    tell(&mut said, ParFault::Memory.code(), ParFault::Memory)?;
+    for fault in [ReadFault::Memory, ReadFault::Reader] {
         tell(&mut said, fault.code(), fault)?;
     }
     let fault = AuditFault::OtherRoot;

@@ -2,13 +2,17 @@ use crate::changes::{change, flip};
 use crate::faults::faults;
 use crate::held::{Held, audited, piece_of};
 use crate::line::{digest, mode, one, three, two};
-use crate::verdict::{Form, verdict};
+use crate::source::{Dealing, read};
+use crate::verdict::{Form, verdict, verdict_until};
+use crate::writing::written;
 use anyhow::{Context, Result, bail};
 use b3tree::{CHUNK_LEN, Hash, Hasher, Mode, hash, xof, xof_fits};
 use bao_bind::{Verdict, audit};
 use bao_check::{Checked, bare_fits, check_bare, check_outboard};
 use bao_text::{Node, Nodes, combined, cut_slice, encoded_len, outboard, outboard_len, slice};
 use std::alloc::Global;
+use std::io::ErrorKind;
+use std::thread::Threads;
 
 // How many bytes of a digest tell texts apart.
 const SHORT: usize = 8;
@@ -67,7 +71,12 @@ impl Scene {
     }
 
     // Does what a line says, and answers the reply, a line or several.
-    pub fn reply(&mut self, alloc: Global, line: &str) -> Result<String> {
+    pub fn reply<R: Threads + Sync>(
+        &mut self,
+        rt: &R,
+        alloc: Global,
+        line: &str,
+    ) -> Result<String> {
         if line.is_empty() || line.starts_with('#') {
             return Ok(String::new(alloc));
         }
@@ -80,7 +89,10 @@ impl Scene {
             "combined" | "outboard" | "slice" => self.make(alloc, name, words),
             "cut" | "part" => self.take(alloc, name, words),
             "hash" | "pieces" | "output" | "sizes" => self.figures(alloc, name, words),
-            "check" | "cuts" | "flips" => self.check(alloc, name, words),
+            "check" | "cuts" | "flips" => self.check(rt, alloc, name, words),
+            "fails" => self.fails(alloc),
+            "write" => self.write(alloc, words),
+            "source" => self.source(rt, alloc, words),
             "faults" => faults(alloc),
             "leaf" => self.leaf(alloc, words),
             "nodes" if !words.is_empty() => self.nodes(alloc, words),
@@ -169,42 +181,98 @@ impl Scene {
         listed(alloc, bao_text::nodes(length, start, len))
     }
 
-    fn check(&mut self, alloc: Global, name: &str, words: &str) -> Result<String> {
+    fn check<R: Threads + Sync>(
+        &mut self,
+        rt: &R,
+        alloc: Global,
+        name: &str,
+        words: &str,
+    ) -> Result<String> {
         match name {
             "check" => {
                 self.form = Form::read(alloc, words)?;
-                self.verdict_of(alloc, self.text.as_slice())
+                self.verdict_of(rt, alloc, self.text.as_slice())
             }
-            "cuts" => self.cuts(alloc),
-            _ => self.flips(alloc),
+            "cuts" => self.cuts(rt, alloc),
+            _ => self.flips(rt, alloc),
         }
     }
 
-    fn verdict_of(&self, alloc: Global, text: &[u8]) -> Result<String> {
+    fn verdict_of<R: Threads + Sync>(&self, rt: &R, alloc: Global, text: &[u8]) -> Result<String> {
         let outline = self.outline.as_slice();
-        verdict(alloc, &self.mode, &self.root, self.form, outline, text)
+        verdict(rt, alloc, &self.mode, &self.root, self.form, outline, text)
     }
 
     // The verdicts on the text cut after each number of bytes.
-    fn cuts(&self, alloc: Global) -> Result<String> {
+    fn cuts<R: Threads + Sync>(&self, rt: &R, alloc: Global) -> Result<String> {
         let mut runs = Runs::new(alloc);
         let text = self.text.as_slice();
         for len in 0..text.len() {
-            runs.add(self.verdict_of(alloc, &text[..len])?)?;
+            runs.add(self.verdict_of(rt, alloc, &text[..len])?)?;
         }
         runs.end()
     }
 
     // The verdicts on the text with the lowest bit of each byte changed.
-    fn flips(&self, alloc: Global) -> Result<String> {
+    fn flips<R: Threads + Sync>(&self, rt: &R, alloc: Global) -> Result<String> {
         let mut runs = Runs::new(alloc);
         let mut text = self.text.clone()?;
         for at in 0..text.len() {
             flip(text.as_mut_slice(), at)?;
-            runs.add(self.verdict_of(alloc, text.as_slice())?)?;
+            runs.add(self.verdict_of(rt, alloc, text.as_slice())?)?;
             flip(text.as_mut_slice(), at)?;
         }
         runs.end()
+    }
+
+    // The verdicts on the text through a reader that fails after each number of bytes, by each of two faults.
+    fn fails(&self, alloc: Global) -> Result<String> {
+        let mut runs = Runs::new(alloc);
+        let text = self.text.as_slice();
+        let (mode, root) = (&self.mode, &self.root);
+        for kind in [ErrorKind::TimedOut, ErrorKind::Interrupted] {
+            for until in 0..text.len() {
+                runs.add(verdict_until(alloc, mode, root, self.form, text, until, kind)?)?;
+            }
+        }
+        runs.end()
+    }
+
+    // Writes the blob's combined encoding, so many bytes a call, to a writer that fails by each of three faults after so many
+    // bytes.
+    fn write(&self, alloc: Global, words: &str) -> Result<String> {
+        let (most, full) = two(alloc, words)?;
+        let (blob, most) = (self.blob.as_slice(), most as usize);
+        let mut said = String::new(alloc);
+        for end in [
+            Some(ErrorKind::BrokenPipe),
+            Some(ErrorKind::Interrupted),
+            None,
+        ] {
+            let (reply, held) = written(alloc, &self.mode, blob, most, full as usize, end)?;
+            let bytes = told(alloc, held.as_slice())?;
+            write!(said, "{reply}: {bytes}\n")?;
+        }
+        Ok(said)
+    }
+
+    // The blob read by position, by so many threads, so many bytes a call, from a source that fails from a place on and is said to
+    // have so many bytes.
+    fn source<R: Threads + Sync>(&self, rt: &R, alloc: Global, words: &str) -> Result<String> {
+        let (workers, rest) = words.split_once(' ').context("threads")?;
+        let (most, fails, size) = three(alloc, rest)?;
+        let source = Dealing {
+            bytes: self.blob.as_slice(),
+            most: most as usize,
+            fails,
+        };
+        let workers = one(alloc, workers)? as usize;
+        let mut said = String::new(alloc);
+        for (reply, text) in read(rt, alloc, &self.mode, &source, size, workers)? {
+            let bytes = told(alloc, text.as_slice())?;
+            write!(said, "{reply}: {bytes}\n")?;
+        }
+        Ok(said)
     }
 
     // The piece that the text was checked as.

@@ -6,7 +6,10 @@ use bao_check::{
     CheckFault, Checked, bare_fits, check_bare, check_combined, check_outboard, check_slice,
     check_stream,
 };
+use bao_join::check_slice_join;
 use std::alloc::Global;
+use std::io::ErrorKind;
+use std::thread::Threads;
 
 // As which text bytes are checked.
 #[derive(Clone, Copy)]
@@ -14,6 +17,8 @@ pub enum Form {
     Combined,
     Outboard,
     Slice { start: u64, len: u64 },
+    // On threads, each of at most so many chunks.
+    Joined { start: u64, len: u64, grain: u64 },
     // Through a reader that gives at most so many bytes a call.
     Stream { start: u64, len: u64, most: u64 },
     // So many chunks from this one on, without parents: those are in the outline.
@@ -28,6 +33,10 @@ impl Form {
             Some(("slice", range)) => {
                 let (start, len) = two(alloc, range)?;
                 Ok(Form::Slice { start, len })
+            }
+            Some(("joined", range)) => {
+                let (start, len, grain) = three(alloc, range)?;
+                Ok(Form::Joined { start, len, grain })
             }
             Some(("stream", range)) => {
                 let (start, len, most) = three(alloc, range)?;
@@ -83,7 +92,8 @@ fn beside(
     }
 }
 
-pub fn verdict(
+pub fn verdict<R: Threads + Sync>(
+    rt: &R,
     alloc: Global,
     mode: &Mode,
     root: &Hash,
@@ -94,6 +104,13 @@ pub fn verdict(
     match form {
         Form::Combined => told(alloc, check_combined(alloc, mode, root, text)),
         Form::Slice { start, len } => told(alloc, check_slice(alloc, mode, root, start, len, text)),
+        Form::Joined { start, len, grain } => {
+            let grain = grain.max(1);
+            told(
+                alloc,
+                check_slice_join(rt, mode, root, start, len, text, grain),
+            )
+        }
         Form::Stream { start, len, most } => {
             let mut held = Vec::new(alloc);
             let mut reader = Trickle::new(text, most as usize);
@@ -111,4 +128,31 @@ pub fn verdict(
         },
         Form::Bare { first, count } => beside(alloc, mode, root, outline, first, count, text),
     }
+}
+
+// The verdict on what a reader gives that fails so after so many bytes, and whether it was read on then, or what was read is lost.
+pub fn verdict_until(
+    alloc: Global,
+    mode: &Mode,
+    root: &Hash,
+    form: Form,
+    text: &[u8],
+    until: usize,
+    kind: ErrorKind,
+) -> Result<String> {
+    let Form::Stream { start, len, most } = form else {
+        bail!("a stream");
+    };
+    let mut held = Vec::new(alloc);
+    let mut reader = Trickle::failing(text, most as usize, until, kind);
+    let checked = check_stream(alloc, mode, root, start, len, &mut reader, &mut held);
+    let said = told(alloc, checked)?;
+    let left = text.len().saturating_sub(reader.left.len());
+    if text.get(..left) != Some(held.as_slice()) {
+        return Ok(format!(in alloc; "{said}, and other bytes")?);
+    }
+    if left > until {
+        return Ok(format!(in alloc; "{said}, read on")?);
+    }
+    Ok(said)
 }

@@ -30,3 +30,6 @@ begun words request old new (Replay fault) asks leaves = inl leaves
 pub returns-in-Ok-clause-file_fault : goal.returns-in-Ok-clause-file_fault
 returns-in-Ok-clause-file_fault g c = λ _.
     begun (map string_bytes c.args.words.now) c.in-Ok.request (g.O.Write.contents c.args.out.now) (g.O.Write.contents c.serve.new.out) c.in-Err-serve.fault c.in-Ok.ensures.request c.in-Err-serve.ensures.answer
+
+pub returns-clause-refused : goal.returns-clause-refused
+returns-clause-refused g c = λ refused. c.answer_clap.ensures.refused (λ help. refused.1 (c.in-Err.ensures.help help))

@@ -20,7 +20,7 @@ returns-in_err-judge-clause-binds c =
     let s : State = state_after c.args.seat.now.view.seen in
     let hashed : c.root_hash.result.0 ≡ root_hash (rooted c.args.top.now) = rw (c.root_hash.ensures, c.rooted.ensures) refl in
     let judged : Judges fixed (read_bytes s 0 c.args.len) c.judge.result =
-    top_judged _ _ _ c.args.top.now _ c.judge.result (c.fixed-fixed.ensures ∙ c.requires.of.knows.fixed_is) hashed c.requires.top.top c.judge.ensures in
+    top_judged _ _ _ c.args.top.now _ c.judge.result (c.fixed-fixed.ensures ∙ c.requires.of.knows.fixed_is) hashed c.requires.top.top c.judge.ensures.judges in
     let legal = subst (λ (f : Fixed). IsLegal f c.args.seat.now.view.seen) c.requires.of.knows.fixed_is c.requires.of.knows.legal in
     verdict_binds _ fixed c.args.seat.now.view.seen _ c.judge.result c.from_residual.result judged legal (full_whole s c.args.len c.requires.full)
     c.from_residual.ensures.0 (λ fault e. grind arith)
@@ -31,7 +31,7 @@ returns-in_err-judge-clause-never c = λ e.
     let s : State = state_after c.args.seat.now.view.seen in
     let hashed : c.root_hash.result.0 ≡ root_hash (rooted c.args.top.now) = rw (c.root_hash.ensures, c.rooted.ensures) refl in
     let judged : Judges fixed (read_bytes s 0 c.args.len) c.judge.result =
-    top_judged _ _ _ c.args.top.now _ c.judge.result (c.fixed-fixed.ensures ∙ c.requires.of.knows.fixed_is) hashed c.requires.top.top c.judge.ensures in
+    top_judged _ _ _ c.args.top.now _ c.judge.result (c.fixed-fixed.ensures ∙ c.requires.of.knows.fixed_is) hashed c.requires.top.top c.judge.ensures.judges in
     let told : IsErrOf c.judge.result Unfinished = grind arith in
     let no : Unfinished ≡ NotTheRoot = (judged_fault _ _ c.judge.result Unfinished judged told).0 in
     cc
@@ -42,7 +42,7 @@ returns-clause-finished c =
     let s : State = state_after c.args.seat.now.view.seen in
     let hashed : c.root_hash.result.0 ≡ root_hash (rooted c.args.top.now) = rw (c.root_hash.ensures, c.rooted.ensures) refl in
     let judged : Judges fixed (read_bytes s 0 c.args.len) c.judge.result =
-    top_judged _ _ _ c.args.top.now _ c.judge.result (c.fixed-fixed.ensures ∙ c.requires.of.knows.fixed_is) hashed c.requires.top.top c.judge.ensures in
+    top_judged _ _ _ c.args.top.now _ c.judge.result (c.fixed-fixed.ensures ∙ c.requires.of.knows.fixed_is) hashed c.requires.top.top c.judge.ensures.judges in
     let legal : IsLegal fixed c.args.seat.now.view.seen = subst (λ (f : Fixed). IsLegal f c.args.seat.now.view.seen) c.requires.of.knows.fixed_is c.requires.of.knows.legal in
     let whole = full_whole s c.args.len c.requires.full in
     record {

@@ -28,13 +28,13 @@ returns-in_err-blob-clause-finishes c = record {
 pub returns-in_err-judge-clause-finishes : goal.returns-in_err-judge-clause-finishes
 returns-in_err-judge-clause-finishes c =
     let judged : Judges (fixed_of c.args.store.now) c.in_ok-blob.blob.items c.judge.result =
-    judged_at _ _ _ _ _ c.judge.result c.fixed-fixed.ensures c.as_slice.ensures.value c.hash.ensures.value c.judge.ensures in
+    judged_at _ _ _ _ _ c.judge.result c.fixed-fixed.ensures c.as_slice.ensures.value c.hash.ensures.value c.judge.ensures.judges in
     verdict_finishes _ _ _ _ c.judge.result c.from_residual-in_err-judge.result judged c.in_ok-blob.ensures.whole c.from_residual-in_err-judge.ensures.0 (λ fault e. grind arith)
 
 pub returns-in_err-judge-clause-binds : goal.returns-in_err-judge-clause-binds
 returns-in_err-judge-clause-binds c = λ by.
     let judged : Judges (fixed_of c.args.store.now) c.in_ok-blob.blob.items c.judge.result =
-    judged_at _ _ _ _ _ c.judge.result c.fixed-fixed.ensures c.as_slice.ensures.value c.hash.ensures.value c.judge.ensures in
+    judged_at _ _ _ _ _ c.judge.result c.fixed-fixed.ensures c.as_slice.ensures.value c.hash.ensures.value c.judge.ensures.judges in
     verdict_binds _ _ by.history _ c.judge.result c.from_residual-in_err-judge.result judged by.legal
     (subst (λ (s : State). IsWhole s c.in_ok-blob.blob.items) (sym by.is) c.in_ok-blob.ensures.whole) c.from_residual-in_err-judge.ensures.0 (λ fault e. grind arith)
 
@@ -43,7 +43,7 @@ returns-clause-finishes c =
     let store = c.args.store.now in
     let bytes = c.in_ok-blob.blob.items in
     let judged : Judges (fixed_of store) bytes c.judge.result =
-    judged_at _ _ _ _ _ c.judge.result c.fixed-fixed.ensures c.as_slice.ensures.value c.hash.ensures.value c.judge.ensures in
+    judged_at _ _ _ _ _ c.judge.result c.fixed-fixed.ensures c.as_slice.ensures.value c.hash.ensures.value c.judge.ensures.judges in
     let long : c.in-Some.length ≡ length bytes = some_same _ _ ((c.in-Some.ensures.event []).right ∙ c.in_ok-blob.ensures.whole.recorded) in
     finished _ (fixed_of store) (state_of store) c.in_ok-blob.blob (record {
       whole = c.in_ok-blob.ensures.whole;

@@ -6,7 +6,8 @@ use Rattle.bao_text.specs.Choice.{chunk_count}
 use Rattle.gather.proofs.texts.gather_within.Goals as goal
 use Rattle.gather.proofs.Answering.{gathers_none, gathers_wider, out_wider, certifies_none, certifies_ok, found_wider, gathers_ok, store_refused, why_gathers, why_out}
 use Rattle.gather.proofs.Binding.{handed_cut, of_blob, of_none}
-use Rattle.gather.proofs.Handing.{cause_handed, encoding_true, large_pair, none_failed, unfinished_pair}
+use Rattle.gather.proofs.Handing.{cause_handed, large_pair, none_failed, text_true, unfinished_pair}
+use Rattle.gather.proofs.Lending.{slices_mapped}
 use Rattle.gather.proofs.Serving.{true_slices}
 use Rattle.gather.specs.declared.fault.FinishFault.{FinishFault}
 use Rattle.gather.specs.declared.fault.GatherFault.{GatherFault}
@@ -14,7 +15,7 @@ use Rattle.gather.specs.declared.fault.GatherFault.TheVariants.{Starved}
 use Rattle.gather.specs.declared.grain.Grain.TheVariants.{Group as ByGroup}
 use Rattle.gather.specs.declared.holder.Encoded.{Encoded}
 use Rattle.gather.specs.Available.{HaveSlices}
-use Rattle.gather.specs.Encodings.{IsCut, IsCutOf, encoding}
+use Rattle.gather.specs.Encodings.{IsCut, IsCutOf, cut_gives, encoding}
 use Rattle.gather.specs.Finished.{IsFinished}
 use Rattle.gather.specs.Faults.{why_of}
 use Rattle.gather.specs.HandedOut.{Gathers, IsHandedOut}
@@ -40,6 +41,9 @@ returns-in-Ok-finish_one-clause-gathers c =
     (found_wider (IsHanded IsCut holders) (IsCutOf texts) (handed_cut holders texts over) fixed blob.items
     (of_blob (IsHanded IsCut holders) c.in_ok-store.store c.run_one-report.new.store fixed gains.chunks gains.parents blob.items
     made.fixed made.state gains.worked (λ by. (c.in-Ok-finish_one.ensures.binds by).found)))
+
+pub returns-in-Ok-finish_one-clause-covered : goal.returns-in-Ok-finish_one-clause-covered
+returns-in-Ok-finish_one-clause-covered c = λ blob is room have. (returns-in-Ok-finish_one-clause-gathers c).found blob is
 
 pub returns-in-Ok-finish_one-clause-available : goal.returns-in-Ok-finish_one-clause-available
 returns-in-Ok-finish_one-clause-available c = λ blob i is room there. (returns-in-Ok-finish_one-clause-gathers c).found blob is
@@ -72,8 +76,8 @@ returns-clause-gathers c =
     (λ e. of_none (IsHanded IsCut holders) c.in_ok-store.store c.run_one-report.new.store fixed gains.chunks gains.parents made.fixed made.state gains.worked
     (λ by. (c.in-Err-finish_one.ensures.binds by).none (ap (λ (f : FinishFault). Err f) e)))))
 
-pub returns-clause-available : goal.returns-clause-available
-returns-clause-available c = λ blob i is room there.
+pub returns-clause-covered : goal.returns-clause-covered
+returns-clause-covered c = λ blob is room have.
     let report = c.run_one-report.result in
     let holders = c.as_mut_slice.result.now in
     let texts = map vec_items c.args.texts.now in
@@ -82,9 +86,7 @@ returns-clause-available c = λ blob i is room there.
     let made = c.in_ok-store.ensures.made in
     let met = c.run_one-report.ensures in
     let gains = met.worked in
-    let small : c.args.capacity ≤ 65536 = subst (λ (f : Fixed). f.capacity ≤ 65536) made.fixed c.in_ok-store.store.limit in
-    let has : HaveSlices ByGroup IsCut c.args.mode blob holders =
-    true_slices ByGroup IsCut c.args.mode blob holders (encoding_true holders texts c.args.mode blob i over (omega (arith, room, small)) there) in
+    let has : HaveSlices ByGroup IsCut c.args.mode blob holders = slices_mapped encoding cut_gives ByGroup c.args.mode blob holders texts over have in
     let P = HasCollision (IsHanded IsCut holders) F blob in
     let longer : IsTooLarge (IsHanded IsCut holders) (fixed_of c.in_ok-store.store) → P = λ large.
     large_pair (IsHanded IsCut holders) F blob c.is_keyed.ensures is room (subst (λ (f : Fixed). IsTooLarge (IsHanded IsCut holders) f) made.fixed large) in
@@ -105,3 +107,10 @@ returns-clause-available c = λ blob i is room there.
           (subst (λ (f : Fixed). IsKeyed f.mode) (sym made.fixed) c.is_keyed.ensures) (subst (λ (f : Fixed). IsBlob f blob) (sym made.fixed) is) made.state gains.worked filled
           (c.in-Err-finish_one.ensures.finishes.unfinished (ap (λ (f : FinishFault). Err f) e)))
     ]))))
+
+pub returns-clause-available : goal.returns-clause-available
+returns-clause-available c = λ blob i is room there.
+    let texts = map vec_items c.args.texts.now in
+    let small : c.args.capacity ≤ 65536 = subst (λ (f : Fixed). f.capacity ≤ 65536) c.in_ok-store.ensures.made.fixed c.in_ok-store.store.limit in
+    returns-clause-covered c blob is room
+    (true_slices ByGroup cut_gives c.args.mode blob texts (text_true texts c.args.mode blob i (omega (arith, room, small)) there))

@@ -1,4 +1,4 @@
-use Rattle.std.proofs.Common.{◌≡◌, ℕ, nat_lt, true, false, Option, Some, sym, ap, subst, ◌∙◌, arith}
+use Rattle.std.proofs.Common.{◌≡◌, ℕ, ◌*◌, ◌%◌, ◌≤◌, nat_lt, true, false, not, ◌&&◌, List, Option, Some, is_some, sym, ap, subst, ◌∙◌, arith}
 use Rattle.std.proofs.lemmas.Bool.{le-ltb, lt-ltb}
 use Rattle.b3tree.specs.Valid.{IsKeyed}
 use Rattle.store_core.specs.declared.fixed.Fixed.{Fixed}
@@ -8,7 +8,15 @@ use Rattle.store_core.specs.Pieces.{length_of, piece_of}
 use Rattle.store_core.proofs.StoredParents.{recorded_is}
 use Rattle.store_steps.specs.Slices.{is_recorded}
 use Rattle.store_calls.specs.Parents.{AreParentsOf}
-use Rattle.store_calls.proofs.ParentsCommitting.{group_absent, length_differs, length_stays, other_is, parents_bind, parents_stored, words_written}
+use Rattle.store_core.specs.declared.history.Event.{Event}
+use Rattle.store_core.specs.declared.view.Named.{Named}
+use Rattle.store_core.specs.declared.view.SeatView.{SeatView}
+use Rattle.store_core.specs.Histories.{state_after}
+use Rattle.store_core.specs.Knowledge.{AreAllNames, Sees}
+use Rattle.store_core.specs.Masks.{IsMaskOf, has_bit}
+use Rattle.store_core.specs.Pieces.{holds_parent}
+use Rattle.store_calls.proofs.AllParents.{all_parents, none_absent, recorded_fits, saw_nothing}
+use Rattle.store_calls.proofs.ParentsCommitting.{group_absent, length_differs, length_stays, only_seen, other_is, parents_bind, parents_stored, words_written}
 use Rattle.store_calls.proofs.ParentsStoring.{claimed_parents}
 use Rattle.store_calls.proofs.parents.commit_parents.Goals as goal
 
@@ -80,3 +88,38 @@ pub returns-clause-binds : goal.returns-clause-binds
 returns-clause-binds c =
     parents_bind c.args.words.now c.publish_parents.new.grip (subst (λ (f : Fixed). IsKeyed f.mode) c.fixed-fixed.ensures c.is_keyed.ensures)
     c.publish_parents.ensures.of
+
+pub returns-then-group-div_ceil-clause-alone : goal.returns-then-group-div_ceil-clause-alone
+returns-then-group-div_ceil-clause-alone c = λ all.
+    let piece : Piece = piece_of c.args.piece.now in
+    let load = c.length_to_store-length in
+    let is : load.result ≡ Some (length_of piece) =
+    recorded_is load.result c.claimed.result c.ne.result c.ne.ensures c.if-ne.false ∙ ap (λ (l : ℕ). Some l) c.claimed.ensures in
+    let view : SeatView = load.new.grip.view in
+    let fits : length_of piece ≤ 1024 * view.fixed.capacity = recorded_fits view (length_of piece) load.ensures.of.knows.legal (sym load.ensures.recorded ∙ is) in
+    let count : c.fixed-fixed.result.capacity ≡ c.args.words.now.fixed.capacity = ap (λ (f : Fixed). f.capacity) c.fixed-fixed.ensures in
+    let same : view.fixed.capacity ≡ c.args.words.now.fixed.capacity = ap (λ (f : Fixed). f.capacity) load.ensures.of.knows.fixed_is in
+    none_absent c.args.words.now.fixed.capacity c.args.group piece (state_after c.args.grip.now.view.seen) (omega (arith, fits, same)) (omega (arith, count))
+
+pub returns-clause-alone : goal.returns-clause-alone
+returns-clause-alone c = λ all.
+    let piece : Piece = piece_of c.args.piece.now in
+    let load = c.length_to_store-length in
+    let old : SeatView = c.args.grip.now.view in
+    let view : SeatView = load.new.grip.view in
+    let is : load.result ≡ Some (length_of piece) =
+    recorded_is load.result c.claimed.result c.ne.result c.ne.ensures c.if-ne.false ∙ ap (λ (l : ℕ). Some l) c.claimed.ensures in
+    let there : (state_after view.seen).recorded ≡ Some (length_of piece) = sym load.ensures.recorded ∙ is in
+    let count : c.fixed-fixed.result.capacity ≡ c.args.words.now.fixed.capacity = ap (λ (f : Fixed). f.capacity) c.fixed-fixed.ensures in
+    let same : view.fixed.capacity ≡ c.args.words.now.fixed.capacity = ap (λ (f : Fixed). f.capacity) load.ensures.of.knows.fixed_is in
+    let within : nat_lt c.args.group (groups old.fixed) ≡ true =
+    ap (λ (f : Fixed). nat_lt c.args.group (groups f)) c.requires.of.knows.fixed_is ∙ lt-ltb c.args.group (groups c.args.words.now.fixed) (omega (arith, count)) in
+    let saw : Sees old view = only_seen c.args.group piece old view c.requires.of.knows.legal load.ensures.looked there within in
+    let whole : AreAllNames view.names = subst (λ (ns : List Named). AreAllNames ns) (sym saw.goes_on.names_are) all in
+    let seen : view.seen ≡ old.seen = saw_nothing old view saw (c.claim_parents-mask.ensures.own whole) in
+    let fits : length_of piece ≤ 1024 * c.args.words.now.fixed.capacity = omega (arith, same, recorded_fits view (length_of piece) load.ensures.of.knows.legal there) in
+    let wants : IsMaskOf c.args.group c.parents_in-want.result (λ m. nat_lt m c.args.words.now.fixed.capacity && holds_parent piece m) =
+    subst (λ (n : ℕ). IsMaskOf c.args.group c.parents_in-want.result (λ m. nat_lt m n && holds_parent piece m)) count c.parents_in-want.ensures in
+    all_parents c.args.words.now.fixed.capacity c.args.group c.parents_in-want.result c.claim_parents-mask.result piece (state_after old.seen) fits wants
+    (subst (λ (xs : List Event). IsMaskOf c.args.group c.claim_parents-mask.result (λ m. has_bit c.parents_in-want.result (m % 64)
+    && (nat_lt m c.args.words.now.fixed.capacity && not (is_some ((state_after xs).parents m))))) seen (c.claim_parents-mask.ensures.alone whole))

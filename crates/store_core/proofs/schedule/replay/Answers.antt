@@ -9,7 +9,7 @@ use Rattle.store_core.specs.declared.fault.StepFault.{StepFault}
 use Rattle.store_core.specs.Machine.{start}
 use Rattle.store_core.specs.Replays.{IsIllegalAt}
 use Rattle.store_core.specs.ScheduleRuns.{HasRun}
-use Rattle.store_core.proofs.Replaying.{run_illegal, run_more, same_index}
+use Rattle.store_core.proofs.Replaying.{begins_legally, run_illegal, run_more, same_index, stepped_legally}
 use Rattle.store_core.proofs.schedule.replay.Goals as goal
 
 pub loop-i-init : goal.loop-i-init
@@ -36,6 +36,18 @@ returns-in-Err-Illegal-clause-illegal c = λ i same.
     (run_illegal fixed c.args.pieces.now c.args.steps.now c.loop-i.i c.loop-i.replies.items c.loop-i.run (get_or c.args.steps.now c.loop-i.i (Claim 0 0 0))
     (slice_get-get_or c.args.steps.now c.loop-i.i (Claim 0 0 0) c.loop-i-test.true) c.loop-i.invariant
     (c.in-Err-Illegal.ensures.illegal (ap (λ (f : StepFault). Err f) c.in-Err-Illegal.field-0-is)))
+
+pub returns-in-Err-Memory-clause-memory : goal.returns-in-Err-Memory-clause-memory
+returns-in-Err-Memory-clause-memory c = λ out.
+    begins_legally (record { root = c.args.root; mode = c.args.mode; capacity = c.args.capacity }) c.args.pieces.now c.args.steps.now c.loop-i.i c.loop-i.replies.items c.loop-i.run (get_or c.args.steps.now c.loop-i.i (Claim 0 0 0))
+    (slice_get-get_or c.args.steps.now c.loop-i.i (Claim 0 0 0) c.loop-i-test.true) c.loop-i.invariant
+    (c.in-Err-Memory.ensures.memory (ap (λ (f : StepFault). Err f) c.in-Err-Memory.field-0-is))
+
+pub returns-in_err-add-in-Ok-step-clause-memory : goal.returns-in_err-add-in-Ok-step-clause-memory
+returns-in_err-add-in-Ok-step-clause-memory c = λ out.
+    stepped_legally (record { root = c.args.root; mode = c.args.mode; capacity = c.args.capacity }) c.args.pieces.now c.args.steps.now c.loop-i.i c.loop-i.replies.items c.loop-i.run c.step.new.self
+    (get_or c.args.steps.now c.loop-i.i (Claim 0 0 0)) c.in-Ok-step.reply
+    (slice_get-get_or c.args.steps.now c.loop-i.i (Claim 0 0 0) c.loop-i-test.true) c.loop-i.invariant c.in-Ok-step.ensures.ok
 
 pub returns-clause-ok : goal.returns-clause-ok
 returns-clause-ok c =

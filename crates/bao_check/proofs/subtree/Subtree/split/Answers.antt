@@ -1,4 +1,4 @@
-use Rattle.std.proofs.Common.{◌≡◌, ℕ, ◌+◌, ◌<◌, ◌≤◌, List, length, take, drop, min, Some, false, sym, ap, subst, ◌∙◌, arith}
+use Rattle.std.proofs.Common.{◌≡◌, ℕ, ◌+◌, ◌<◌, ◌≤◌, List, length, take, drop, min, Some, false, true, refl, sym, ap, subst, ◌∙◌, arith}
 use Rattle.std.proofs.lemmas.List.{length-take-le}
 use Rattle.std.proofs.lemmas.Result.{err_from_is_err_and}
 use Rattle.bao_text.specs.Nodes.{Side, left, right, subtree_nodes}
@@ -7,12 +7,12 @@ use Rattle.bao_check.specs.declared.subtree.Subtree.{Subtree}
 use Rattle.bao_check.specs.Sources.{bytes_ahead, bytes_taken}
 use Rattle.bao_check.proofs.Lists.{nodes_size}
 use Rattle.bao_check.proofs.Parts.{below}
-use Rattle.bao_check.proofs.Subtrees.{TookUpTo, both_pass, far_part_stops, near_part_stops, stops_in, took_up_to}
+use Rattle.bao_check.proofs.Subtrees.{TookUpTo, bad_parent, both_pass, far_part_stops, good_parent, near_part_stops, stops_in, took_up_to}
 use Rattle.bao_check.proofs.Walking.{Grows-from_Takes, TookParent, parent_stops}
 use Rattle.bao_check.proofs.subtree.Subtree.split.Goals as goal
 
-pub returns-in_err-left_value : goal.returns-in_err-left_value
-returns-in_err-left_value c =
+pub returns-in_err-left_value-clause-parts : goal.returns-in_err-left_value-clause-parts
+returns-in_err-left_value-clause-parts c =
     let p = err_from_is_err_and c.from_residual.result c.from_residual.ensures.1 in
     let it : Subtree = c.args.self.now in
     let text : List ℕ = c.args.text.now in
@@ -27,8 +27,8 @@ returns-in_err-left_value c =
     parent_stops it.asked it.choice it.mode it.number it.len sides source c.requires.parent.0 c.requires.parent.1 (λ _. ⊥) old new c.check_parent.ensures.takes.bytes (Some rest)
     c.check_parent.ensures.takes.grown c.in_err-left_value.field-0.0 c.in_err-left_value.ensures.err))
 
-pub returns : goal.returns
-returns c =
+pub returns-clause-parts : goal.returns-clause-parts
+returns-clause-parts c =
     let it : Subtree = c.args.self.now in
     let text : List ℕ = c.args.text.now in
     let old : List ℕ = bytes_taken c.starting_at-source.result in
@@ -70,3 +70,31 @@ returns c =
       right_stops = far_part_stops it.asked asked_near asked_far it.mode it.choice it.number it.len l text it.at at_near at_far old new c.requires.parent.0 c.requires.parent.1 c.left_len-left_len.ensures.value
           begin after near_at new_is took is_near is_far far_is;
     }
+
+pub returns-in_err-left_value-clause-refused : goal.returns-in_err-left_value-clause-refused
+returns-in_err-left_value-clause-refused c =
+    let p = err_from_is_err_and c.from_residual.result c.from_residual.ensures.1 in
+    let it : Subtree = c.args.self.now in
+    let text : List ℕ = c.args.text.now in
+    let old : List ℕ = bytes_taken c.starting_at-source.result in
+    let new : List ℕ = bytes_taken c.check_parent.new.source in
+    let ahead : List ℕ = bytes_ahead c.starting_at-source.result in
+    let rest : List ℕ = bytes_ahead c.check_parent.new.source in
+    rw p.1 (
+      (λ _. bad_parent it.asked it.mode text it.at old new ahead rest c.requires.begins c.starting_at-source.ensures.taken c.starting_at-source.ensures.ahead
+          (Grows-from_Takes 64 old new (Some ahead) (Some rest) c.check_parent.ensures.takes) c.in_err-left_value.field-0.0 c.in_err-left_value.ensures.err),
+      λ _. refl,
+    )
+
+pub returns-clause-refused : goal.returns-clause-refused
+returns-clause-refused c =
+    let it : Subtree = c.args.self.now in
+    let text : List ℕ = c.args.text.now in
+    let old : List ℕ = bytes_taken c.starting_at-source.result in
+    let new : List ℕ = bytes_taken c.check_parent.new.source in
+    let ahead : List ℕ = bytes_ahead c.starting_at-source.result in
+    let rest : List ℕ = bytes_ahead c.check_parent.new.source in (
+      λ never. absurd (let no : false ≡ true = never in cc),
+      λ bad. absurd (bad (good_parent it.asked it.mode text it.at old new ahead rest c.requires.begins c.starting_at-source.ensures.taken c.starting_at-source.ensures.ahead
+          (Grows-from_Takes 64 old new (Some ahead) (Some rest) c.check_parent.ensures.takes) c.in_ok-left_value.ensures.ok c.in_ok-left_value.ensures.meets)),
+    )

@@ -1,13 +1,14 @@
-use Rattle.std.proofs.Common.{◌≡◌, ℕ, Option, List, Some, [], refl, ap, ◌∙◌, arith}
+use Rattle.std.proofs.Common.{◌≡◌, ℕ, ◌&&◌, not, is_some, Option, List, Some, [], refl, ap, subst, ◌∙◌, arith}
 use Rattle.std.specs.Vec.{with_items}
 use Rattle.std.proofs.lemmas.List.{with_items_is}
 use Rattle.store_core.specs.declared.history.Call.TheVariants.{Parents}
 use Rattle.store_core.specs.declared.history.Storing.TheVariants.{Stored}
-use Rattle.store_core.specs.Pieces.{IsAcceptedPiece, length_of, piece_of}
-use Rattle.store_core.specs.Slots.{state_in, with_parents}
+use Rattle.store_core.specs.Masks.{IsMaskOf}
+use Rattle.store_core.specs.Pieces.{IsAcceptedPiece, holds_parent, length_of, piece_of}
+use Rattle.store_core.specs.Slots.{parent_among, state_in, with_parents}
 use Rattle.store_core.proofs.BoundStore.{parents_bind}
 use Rattle.store_core.proofs.SlotStates.{accepted_piece, reached_by, reached_same}
-use Rattle.store_core.proofs.StoredParents.{recorded_is, same_parents, store_at, store_none, unstored_memory}
+use Rattle.store_core.proofs.StoredParents.{is_there, recorded_is, same_parents, store_at, store_none, stores_parent, unstored_memory}
 use Rattle.store_core.proofs.store.Store.commit_parents.Goals as goal
 
 pub returns-then-mask-eq0-clause-ok : goal.returns-then-mask-eq0-clause-ok
@@ -40,6 +41,26 @@ returns-in_err-make_room-clause-refused c =
     let s = c.args.self.now in
     unstored_memory _ _ c.args.group c.args.piece.now c.from_residual.result c.from_residual.ensures.1
     (record { fixed = refl; state = same_parents (state_in s.slots.items s.recorded) s.parents.items c.make_room.new.parents.items c.make_room.ensures.same })
+
+pub returns-in_err-make_room-clause-absent : goal.returns-in_err-make_room-clause-absent
+returns-in_err-make_room-clause-absent c = λ of length_is past.
+    let s = c.args.self.now in
+    absurd (is_there s.fixed s.slots.items s.recorded s.parents.items c.as_slice.result.now c.args.group c.wanted-mask.result (piece_of c.args.piece.now) s.reached
+    c.wanted-mask.ensures c.if-mask-eq0.false length_is past)
+
+pub returns-in_err-make_room-clause-memory : goal.returns-in_err-make_room-clause-memory
+returns-in_err-make_room-clause-memory c = λ out.
+    let s = c.args.self.now in
+    let piece = c.args.piece.now in
+    let test : IsMaskOf c.args.group c.wanted-mask.result (λ m. holds_parent (piece_of piece) m && not (is_some (parent_among s.parents.items m))) =
+    subst (λ (ps : List (Option (List ℕ))). IsMaskOf c.args.group c.wanted-mask.result (λ m. holds_parent (piece_of piece) m && not (is_some (parent_among ps m)))) c.as_slice.ensures.value c.wanted-mask.ensures in
+    stores_parent s c.args.group c.wanted-mask.result piece (omega (arith, c.if-mask-eq0.false)) test
+
+pub returns-clause-absent : goal.returns-clause-absent
+returns-clause-absent c = λ of length_is past.
+    let s = c.args.self.now in
+    absurd (is_there s.fixed s.slots.items s.recorded s.parents.items c.as_slice.result.now c.args.group c.wanted-mask.result (piece_of c.args.piece.now) s.reached
+    c.wanted-mask.ensures c.if-mask-eq0.false length_is past)
 
 pub invariant_of-self-2 : goal.invariant_of-self-2
 invariant_of-self-2 c =

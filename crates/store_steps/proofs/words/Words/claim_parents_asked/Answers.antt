@@ -1,15 +1,17 @@
-use Rattle.std.proofs.Common.{[], ap, arith, bit_or, ltb-true, subst, sym, nat_lt, true, ℕ, ◌%◌, ◌-◌, ◌/◌, ◌<◌, ◌∙◌, ◌≡◌}
+use Rattle.std.proofs.Common.{[], ap, arith, bit_or, ltb-true, subst, sym, is_some, nat_lt, not, true, ◌&&◌, ℕ, ◌%◌, ◌-◌, ◌/◌, ◌<◌, ◌∙◌, ◌≡◌}
 use Rattle.std.proofs.lemmas.Bool.{and_parts}
 use Rattle.std.specs.Int.Bits.{bit_and}
 use Rattle.store_core.specs.declared.fixed.Fixed.{Fixed}
 use Rattle.store_core.specs.declared.view.SeatView.{SeatView}
+use Rattle.store_core.specs.Histories.{state_after}
+use Rattle.store_core.specs.Knowledge.{AreAllNames}
 use Rattle.store_core.specs.Machine.{groups}
-use Rattle.store_core.specs.Masks.{has_bit}
+use Rattle.store_core.specs.Masks.{IsMaskOf, has_bit}
 use Rattle.store_steps.specs.Grips.{Gripped, first_of}
 use Rattle.store_steps.specs.Layout.{parent_claim_place}
 use Rattle.store_steps.specs.Plays.{ClaimsParents}
 use Rattle.store_core.proofs.Bits.{has_bit-and}
-use Rattle.store_steps.proofs.ParentClaims.{claim_parents_steps}
+use Rattle.store_steps.proofs.ParentClaims.{claim_parents_steps, granted_mask}
 use Rattle.store_steps.proofs.StepViews.{at_code}
 use Rattle.store_steps.proofs.words.Words.claim_parents_asked.Goals as goal
 
@@ -43,3 +45,18 @@ returns-clause-among g c = λ j is.
     let free : ℕ = 18446744073709551615 - c.fetch_or-before.result in
     let granted = and_parts (has_bit mask j) (has_bit free j) (sym (has_bit-and mask free j) ∙ is) in
     (and_parts (has_bit c.mask_below.result j) (has_bit c.args.want j) (sym (has_bit-and c.mask_below.result c.args.want j) ∙ granted.0)).1
+
+pub returns-clause-alone : goal.returns-clause-alone
+returns-clause-alone g c = λ all.
+    let fixed : Fixed = c.args.self.now.fixed in
+    let seat = c.grip.inside.seat in
+    let view : SeatView = first_of seat.me.0 in
+    let its : view ≡ c.args.grip.now.view = ap (λ (x : Gripped). x.view) c.grip.view_is in
+    let told = (c.fetch_or-before.ensures.2 view c.grip.invariant.0).3 in
+    let same : g.A.Asked.group ≡ c.args.group = c.requires.asked in
+    let below : IsMaskOf c.args.group c.mask_below.result (λ m. nat_lt m fixed.capacity) =
+    subst (λ (end : ℕ). IsMaskOf c.args.group c.mask_below.result (λ m. nat_lt m end)) c.from.ensures c.mask_below.ensures in
+    subst (λ (v : SeatView). IsMaskOf c.args.group (bit_and (bit_and c.mask_below.result c.args.want) (18446744073709551615 - c.fetch_or-before.result)) (λ m. has_bit c.args.want (m % 64)
+    && (nat_lt m fixed.capacity && not (is_some ((state_after v.seen).parents m))))) its
+    (granted_mask c.args.group c.mask_below.result c.args.want (18446744073709551615 - c.fetch_or-before.result) fixed.capacity (state_after view.seen).parents below
+    (λ m here. told.free (subst (λ (v : SeatView). AreAllNames v.names) (sym its) all) m (here ∙ sym same)))

@@ -1,0 +1,2 @@
+pub mod Subcommands
+mod Missing

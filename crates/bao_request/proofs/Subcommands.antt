@@ -1,0 +1,67 @@
+-- What kind of task a subcommand asks for.
+use Rattle.std.proofs.Common.{◌≡◌, ◌∙◌, ◌==◌, ℕ, ◌+◌, ◌*◌, List, length, slice_index, codes, if◌then◌else◌, ap, refl}
+use Rattle.clap.specs.Words.{Row, Text}
+use Rattle.bao_files.specs.declared.kinds.Encoding.{Encoding}
+use Rattle.bao_files.specs.declared.kinds.Encoding.TheVariants.{Combined, Outboard, Slice}
+use Rattle.bao_files.specs.declared.kinds.Part.{Part}
+use Rattle.bao_files.specs.declared.kinds.Part.TheVariants as part
+use Rattle.bao_request.specs.declared.tasks.Task.{Task}
+use Rattle.bao_request.specs.declared.tasks.Task.TheVariants.{Hash, Encode, Decode, DecodeCopy, Gather, Replay}
+use Rattle.bao_request.specs.Requests.{GivesEncoding, GivesPart, GivesTask}
+
+-- the subcommand of an encoding, and of a part
+abbrev pub encoding_name : Encoding → Text
+encoding_name Combined = codes "encode"
+encoding_name Outboard = codes "outboard"
+encoding_name (Slice start len) = codes "slice"
+
+abbrev pub part_name : Part → Text
+part_name part.Whole = codes "decode"
+part_name (part.Slice start len) = codes "decode-slice"
+
+pub encoding_named : (name : Text) (rows : List Row) (e : Encoding) → GivesEncoding name rows e → name ≡ encoding_name e
+encoding_named name rows Combined a = a
+encoding_named name rows Outboard a = a
+encoding_named name rows (Slice start len) a = a.0
+
+pub part_named : (name : Text) (rows : List Row) (p : Part) (f : Text) → GivesPart name rows p f → name ≡ part_name p
+part_named name rows part.Whole f a = a.0
+part_named name rows (part.Slice s l) f a = a.0
+
+-- a number for each name, by its length and its first two letters
+abbrev pub letters : Text → ℕ
+letters name = 65536 * length name + (256 * slice_index name 0 + slice_index name 1)
+
+-- what kind of task a subcommand asks for, by its first letter
+abbrev pub class : Text → ℕ
+class name =
+    if slice_index name 0 == 103 then 3
+    else if slice_index name 0 == 104 then 0 else if slice_index name 0 == 114 then 4 else if slice_index name 0 == 100 then 2 else 1
+
+abbrev pub task_class : Task → ℕ
+task_class (Hash at size file) = 0
+task_class (Encode encoding file out) = 1
+task_class (Decode root part file out) = 2
+task_class (DecodeCopy root outboard copy out) = 2
+task_class (Gather root workers capacity outboard salvage encode verbose files out) = 3
+task_class (Replay root capacity script files) = 4
+
+encoding_class : (e : Encoding) → class (encoding_name e) ≡ 1
+encoding_class Combined = refl
+encoding_class Outboard = refl
+encoding_class (Slice s l) = refl
+
+part_class : (p : Part) → class (part_name p) ≡ 2
+part_class part.Whole = refl
+part_class (part.Slice s l) = refl
+
+pub writes : (name : Text) (rows : List Row) (e : Encoding) → GivesEncoding name rows e → class name ≡ 1
+writes name rows e a = ap class (encoding_named name rows e a) ∙ encoding_class e
+
+pub class_is : (name : Text) (rows : List Row) (t : Task) → GivesTask name rows t → class name ≡ task_class t
+class_is name rows (Hash at size file) a = ap class a.0
+class_is name rows (Encode encoding file out) a = writes name rows encoding a.0
+class_is name rows (Decode root part file out) a = ap class (part_named name rows part file.now a.0) ∙ part_class part
+class_is name rows (DecodeCopy root outboard copy out) a = ap class a.0
+class_is name rows (Gather root workers capacity outboard salvage encode verbose files out) a = ap class a.0
+class_is name rows (Replay root capacity script files) a = ap class a.0

@@ -1,0 +1,232 @@
+// That the contracts of the calls without a store determine what they answer: each function here asks one of them twice,
+// of the same, and what it ensures is that both answers are the same. Nobody calls them.
+
+ghost use Rattle.std.specs.Prelude.{◌≡◌, ◌↔◌, ◌⊎◌, ℕ, List};
+ghost use Rattle.b3tree.specs.declared.mode.Mode.{Mode};
+ghost use Rattle.berylwool.specs.Handles.{HoldsIn};
+
+use crate::checking::{bw_check_combined, bw_check_outboard, bw_check_slice};
+use crate::handle::BwHandle;
+use crate::hasher::{bw_hasher_finish, bw_hasher_update};
+use crate::hashing::{bw_derive_key, bw_hash, bw_xof};
+use crate::mode::BwMode;
+use crate::writing::{
+    bw_cut_slice, bw_encode, bw_encoded_len, bw_outboard, bw_outboard_len, bw_slice,
+};
+use std::alloc::Global;
+
+pub fn hash_determined(mode: &BwMode, bytes: &[u8], ours: &mut [u8; 32], theirs: &mut [u8; 32])
+    ensures { ours.new ≡ theirs.new }
+{
+    bw_hash(mode, bytes, ours);
+    bw_hash(mode, bytes, theirs);
+}
+
+pub fn xof_determined(
+    mode: &BwMode,
+    bytes: &[u8],
+    at: u64,
+    ours: &mut [u8],
+    theirs: &mut [u8],
+) -> (u32, u32)
+    requires { ours.old ≡ theirs.old }
+    ensures status { result.0 ≡ result.1 }
+    ensures output { ours.new ≡ theirs.new }
+{
+    (
+        bw_xof(mode, bytes, at, ours),
+        bw_xof(mode, bytes, at, theirs),
+    )
+}
+
+pub fn derive_key_determined(
+    context: &[u8],
+    material: &[u8],
+    ours: &mut [u8],
+    theirs: &mut [u8],
+) -> (u32, u32)
+    requires { ours.old ≡ theirs.old }
+    ensures status { result.0 ≡ result.1 }
+    ensures key { ours.new ≡ theirs.new }
+{
+    (
+        bw_derive_key(context, material, ours),
+        bw_derive_key(context, material, theirs),
+    )
+}
+
+pub fn encoded_len_determined(len: u64) -> (u64, u64)
+    ensures { result.0 ≡ result.1 }
+{
+    (bw_encoded_len(len), bw_encoded_len(len))
+}
+
+pub fn outboard_len_determined(len: u64) -> (u64, u64)
+    ensures { result.0 ≡ result.1 }
+{
+    (bw_outboard_len(len), bw_outboard_len(len))
+}
+
+// Of an encoding that is written: one call may be out of memory (401).
+pub fn encode_determined(
+    alloc: Global,
+    mode: &BwMode,
+    bytes: &[u8],
+    ours: &mut [u8],
+    theirs: &mut [u8],
+    used: &mut usize,
+    also: &mut usize,
+    root: &mut [u8; 32],
+    its: &mut [u8; 32],
+) -> (u32, u32)
+    requires { ours.old ≡ theirs.old }
+    ensures status { (result.0 ≡ result.1) ⊎ (result.0 ≡ 401) ⊎ (result.1 ≡ 401) }
+    ensures text { result.0 ≡ result.1 → ours.new ≡ theirs.new }
+    ensures used { result.0 ≡ 0 → result.1 ≡ 0 → (used.new ≡ also.new) × (root.new ≡ its.new) }
+{
+    let one = bw_encode(alloc, mode, bytes, ours, used, root);
+    let other = bw_encode(alloc, mode, bytes, theirs, also, its);
+    (one, other)
+}
+
+pub fn outboard_determined(
+    alloc: Global,
+    mode: &BwMode,
+    bytes: &[u8],
+    ours: &mut [u8],
+    theirs: &mut [u8],
+    used: &mut usize,
+    also: &mut usize,
+    root: &mut [u8; 32],
+    its: &mut [u8; 32],
+) -> (u32, u32)
+    requires { ours.old ≡ theirs.old }
+    ensures status { (result.0 ≡ result.1) ⊎ (result.0 ≡ 401) ⊎ (result.1 ≡ 401) }
+    ensures text { result.0 ≡ result.1 → ours.new ≡ theirs.new }
+    ensures used { result.0 ≡ 0 → result.1 ≡ 0 → (used.new ≡ also.new) × (root.new ≡ its.new) }
+{
+    let one = bw_outboard(alloc, mode, bytes, ours, used, root);
+    let other = bw_outboard(alloc, mode, bytes, theirs, also, its);
+    (one, other)
+}
+
+pub fn slice_determined(
+    alloc: Global,
+    mode: &BwMode,
+    bytes: &[u8],
+    start: u64,
+    len: u64,
+    ours: &mut [u8],
+    theirs: &mut [u8],
+    used: &mut usize,
+    also: &mut usize,
+    root: &mut [u8; 32],
+    its: &mut [u8; 32],
+) -> (u32, u32)
+    requires { ours.old ≡ theirs.old }
+    ensures status { (result.0 ≡ result.1) ⊎ (result.0 ≡ 401) ⊎ (result.1 ≡ 401) }
+    ensures text { result.0 ≡ result.1 → ours.new ≡ theirs.new }
+    ensures used { result.0 ≡ 0 → result.1 ≡ 0 → (used.new ≡ also.new) × (root.new ≡ its.new) }
+{
+    let one = bw_slice(alloc, mode, bytes, start, len, ours, used, root);
+    let other = bw_slice(alloc, mode, bytes, start, len, theirs, also, its);
+    (one, other)
+}
+
+pub fn cut_slice_determined(
+    alloc: Global,
+    text: &[u8],
+    start: u64,
+    len: u64,
+    ours: &mut [u8],
+    theirs: &mut [u8],
+    used: &mut usize,
+    also: &mut usize,
+) -> (u32, u32)
+    requires { ours.old ≡ theirs.old }
+    ensures status { (result.0 ≡ result.1) ⊎ (result.0 ≡ 401) ⊎ (result.1 ≡ 401) }
+    ensures text { result.0 ≡ result.1 → ours.new ≡ theirs.new }
+    ensures used { result.0 ≡ 0 → result.1 ≡ 0 → used.new ≡ also.new }
+{
+    let one = bw_cut_slice(alloc, text, start, len, ours, used);
+    let other = bw_cut_slice(alloc, text, start, len, theirs, also);
+    (one, other)
+}
+
+// Whether an encoding is accepted. That its first fault is one is a law of the checks.
+pub fn check_slice_determined(
+    alloc: Global,
+    mode: &BwMode,
+    root: &[u8; 32],
+    start: u64,
+    len: u64,
+    text: &[u8],
+    at: &mut u64,
+    place: &mut u64,
+) -> (u32, u32)
+    ensures { result.0 ≡ 0 ↔ result.1 ≡ 0 }
+{
+    let one = bw_check_slice(alloc, mode, root, start, len, text, at);
+    let other = bw_check_slice(alloc, mode, root, start, len, text, place);
+    (one, other)
+}
+
+pub fn check_combined_determined(
+    alloc: Global,
+    mode: &BwMode,
+    root: &[u8; 32],
+    text: &[u8],
+    at: &mut u64,
+    place: &mut u64,
+) -> (u32, u32)
+    ensures { result.0 ≡ 0 ↔ result.1 ≡ 0 }
+{
+    let one = bw_check_combined(alloc, mode, root, text, at);
+    let other = bw_check_combined(alloc, mode, root, text, place);
+    (one, other)
+}
+
+pub fn check_outboard_determined(
+    alloc: Global,
+    mode: &BwMode,
+    root: &[u8; 32],
+    text: &[u8],
+    at: &mut u64,
+    place: &mut u64,
+) -> (u32, u32)
+    ensures { result.0 ≡ 0 ↔ result.1 ≡ 0 }
+{
+    let one = bw_check_outboard(alloc, mode, root, text, at);
+    let other = bw_check_outboard(alloc, mode, root, text, place);
+    (one, other)
+}
+
+// Of two hashers that took in the same bytes in the same mode.
+pub fn hasher_update_determined(
+    alloc: Global,
+    a: &mut BwHandle,
+    b: &mut BwHandle,
+    bytes: &[u8],
+) -> (u32, u32)
+    ensures { (mode : Mode) (s : List ℕ) → HoldsIn a.old.held mode s → HoldsIn b.old.held mode s → (result.0 ≡ 201 ↔ result.1 ≡ 201) }
+{
+    (
+        bw_hasher_update(alloc, a, bytes),
+        bw_hasher_update(alloc, b, bytes),
+    )
+}
+
+pub fn hasher_finish_determined(
+    alloc: Global,
+    a: &mut BwHandle,
+    b: &mut BwHandle,
+    ours: &mut [u8; 32],
+    theirs: &mut [u8; 32],
+) -> (u32, u32)
+    ensures { (mode : Mode) (s : List ℕ) → HoldsIn a.old.held mode s → HoldsIn b.old.held mode s → ours.new ≡ theirs.new }
+{
+    (
+        bw_hasher_finish(alloc, a, ours),
+        bw_hasher_finish(alloc, b, theirs),
+    )
+}

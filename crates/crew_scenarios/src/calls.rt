@@ -1,0 +1,147 @@
+use crate::dealing::Dealing;
+use crate::holder::source_of;
+use crate::line::short;
+use crate::texts::{Texts, told};
+use anyhow::{Context, Result, bail};
+use bao_check::check_outboard;
+use crews::{gather_copies, gather_copies_at, gather_sources, gather_texts};
+use gather::{GatherFault, Grain};
+use std::alloc::Global;
+use std::thread::Threads;
+
+fn blob_or(alloc: Global, gathered: Result<Vec<u8>, GatherFault>) -> Result<String> {
+    match gathered {
+        Ok(blob) => told(alloc, blob.as_slice()),
+        Err(fault) => Ok(format!(in alloc; "{fault}")?),
+    }
+}
+
+fn grain(word: &str) -> Result<Grain> {
+    match word {
+        "group" => Ok(Grain::Group),
+        "chunk" => Ok(Grain::Chunk),
+        _ => bail!("a grain"),
+    }
+}
+
+// The bytes of these texts.
+fn bytes_of(alloc: Global, texts: &Texts, names: &[&str]) -> Result<Vec<Vec<u8>>> {
+    let mut all = Vec::new(alloc);
+    for name in names {
+        all.push(texts.get(name)?.to_vec(alloc)?)?;
+    }
+    Ok(all)
+}
+
+fn sources_of<'a>(alloc: Global, texts: &'a Texts, words: &[&str]) -> Result<Vec<Dealing<'a>>> {
+    let mut all = Vec::new(alloc);
+    for word in words {
+        all.push(source_of(alloc, texts, word)?)?;
+    }
+    Ok(all)
+}
+
+// The blob by so many workers and of at most so many chunks, out of texts, and by one worker alone.
+fn by_texts<R: Threads + Sync>(
+    rt: &R,
+    alloc: Global,
+    texts: &Texts,
+    workers: u32,
+    capacity: u32,
+    grain: Grain,
+    names: &[&str],
+) -> Result<String> {
+    let given = bytes_of(alloc, texts, names)?;
+    let given = given.as_slice();
+    let (root, mode) = (texts.root, texts.mode);
+    let said = blob_or(
+        alloc,
+        gather_texts(rt, alloc, root, mode, capacity, workers, grain, given),
+    )?;
+    if grain == Grain::Group {
+        let alone = gather::gather_texts(alloc, root, mode, capacity, given);
+        let alone = blob_or(alloc, alone)?;
+        if alone.as_str() != said.as_str() {
+            return Ok(format!(in alloc; "{alone} alone, {said} together")?);
+        }
+    }
+    Ok(said)
+}
+
+// The same out of sources, with a first room.
+fn by_sources<R: Threads + Sync>(
+    rt: &R,
+    alloc: Global,
+    texts: &Texts,
+    workers: u32,
+    capacity: u32,
+    grain: Grain,
+    words: &[&str],
+) -> Result<String> {
+    let (room, words) = words.split_first().context("a room")?;
+    let sources = sources_of(alloc, texts, words)?;
+    let (root, mode, room) = (texts.root, texts.mode, short(room)?);
+    let gathered = gather_sources(
+        rt,
+        alloc,
+        root,
+        mode,
+        capacity,
+        room,
+        workers,
+        grain,
+        sources.as_slice(),
+    );
+    match gathered {
+        Ok(mut whole) => told(alloc, whole.to_vec(alloc)?.as_slice()),
+        Err(fault) => Ok(format!(in alloc; "{fault}")?),
+    }
+}
+
+// The same out of plain copies beside an outboard encoding, in memory or read by position.
+fn by_copies<R: Threads + Sync>(
+    rt: &R,
+    alloc: Global,
+    texts: &Texts,
+    name: &str,
+    workers: u32,
+    capacity: u32,
+    grain: Grain,
+    words: &[&str],
+) -> Result<String> {
+    let (outline, words) = words.split_first().context("an outboard encoding")?;
+    let outline = check_outboard(alloc, &texts.mode, &texts.root, texts.get(outline)?)?;
+    if name == "copies" {
+        let copies = bytes_of(alloc, texts, words)?;
+        let copies = copies.as_slice();
+        return blob_or(
+            alloc,
+            gather_copies(rt, alloc, &outline, capacity, workers, grain, copies),
+        );
+    }
+    let copies = sources_of(alloc, texts, words)?;
+    let copies = copies.as_slice();
+    match gather_copies_at(rt, alloc, &outline, capacity, workers, grain, copies) {
+        Ok(mut whole) => told(alloc, whole.to_vec(alloc)?.as_slice()),
+        Err(fault) => Ok(format!(in alloc; "{fault}")?),
+    }
+}
+
+// Gathers the blob with the root by one call: `gather`, `sources`, `copies` or `copies_at`, with workers, a capacity and a grain.
+pub fn gathered<R: Threads + Sync>(
+    rt: &R,
+    alloc: Global,
+    texts: &Texts,
+    name: &str,
+    words: &[&str],
+) -> Result<String> {
+    let (workers, rest) = words.split_first().context("workers")?;
+    let (capacity, rest) = rest.split_first().context("a capacity")?;
+    let (grained, rest) = rest.split_first().context("a grain")?;
+    let (workers, capacity, grain) = (short(workers)?, short(capacity)?, grain(grained)?);
+    match name {
+        "gather" => by_texts(rt, alloc, texts, workers, capacity, grain, rest),
+        "sources" => by_sources(rt, alloc, texts, workers, capacity, grain, rest),
+        _ => by_copies(rt, alloc, texts, name, workers, capacity, grain, rest),
+    }
+}

@@ -1,0 +1,164 @@
+ghost use Rattle.std.specs.Prelude.{All, IfOk};
+ghost use Rattle.store_shared.specs.Seats.{IsSeatOf};
+
+use anyhow::{Context, Result, bail};
+use b3tree::{Hash, Mode};
+use bao_check::{Checked, check_outboard};
+use crews::{Crew, Open, Peer, finish, run, run_bare};
+use gather::{FinishFault, Holder, Report};
+use std::alloc::Global;
+use std::marker::Model;
+use std::thread::Threads;
+use store_core::{Missing, Settling};
+use store_shared::{Assembly, NewFault, Seat};
+
+// A crew for each list of holders, with a seat that is split off this one, which stays.
+fn crews_of<H: Holder + Drop>(
+    alloc: Global,
+    assembly: &Assembly,
+    mut seat: Seat,
+    lists: Vec<Vec<H>>,
+) -> Result<(Seat, Vec<Crew<H>>)>
+    requires { IsSeatOf assembly.now seat }
+    ensures seat { IfOk result (λ made. IsSeatOf assembly.now made.0) }
+    ensures crews { IfOk result (λ made. All (λ crew. IsSeatOf assembly.now crew.seat) made.1.items) }
+{
+    let mut crews = Vec::with_capacity(alloc, lists.len())?;
+    for holders in lists {
+        let (stays, new) = split(assembly, seat)?;
+        seat = stays;
+        crews.push(Crew::new(new, holders))?;
+    }
+    Ok((seat, crews))
+}
+
+// A second seat, split off this one.
+fn split(assembly: &Assembly, seat: Seat) -> Result<(Seat, Seat)>
+    requires { IsSeatOf assembly.now seat }
+    ensures { IfOk result (λ seats. IsSeatOf assembly.now seats.0 × IsSeatOf assembly.now seats.1) }
+{
+    match assembly.split(seat) {
+        Ok(seats) => Ok(seats),
+        Err(_) => bail!("a second seat"),
+    }
+}
+
+// How many chunks a seat can take, which it then gives back.
+fn free(assembly: &Assembly, seat: &mut Seat) -> u32
+    requires { IsSeatOf assembly.now seat.old }
+    ensures { IsSeatOf assembly.now seat.new }
+{
+    let mut taken = 0u32;
+    for group in 0..assembly.groups() {
+        if let Ok(granted) = assembly.take(seat, group, u64::MAX) {
+            taken = taken.saturating_add(granted.count_ones());
+            assembly.give(seat, group, granted);
+        }
+    }
+    taken
+}
+
+// A shared store, and a seat of it. Contracts see the store.
+#[derive(Drop)]
+pub struct Place {
+    assembly: Assembly,
+    seat: Seat,
+}
+
+impl Model for Place {
+    ghost use Rattle.store_shared.specs.Seats.{IsSeatOf};
+    ghost use Rattle.store_shared.specs.declared.assembly.Assembly.{Assembly};
+
+    ghost Value = { Assembly };
+
+    ghost view = { λ place. place.assembly };
+
+    ghost invariant = { λ place. IsSeatOf place.assembly place.seat };
+}
+
+impl Place {
+    pub fn new(alloc: Global, root: Hash, mode: Mode, capacity: u32) -> Result<Place, NewFault> {
+        let (assembly, seat) = Assembly::new(alloc, root, mode, capacity)?;
+        Ok(Place { assembly, seat })
+    }
+
+    pub fn groups(&self) -> u32 {
+        self.assembly.groups()
+    }
+
+    // Each list is of one worker's holders.
+    pub fn work<R: Threads + Sync, H: Holder + Drop + Send>(
+        self,
+        rt: &R,
+        alloc: Global,
+        lists: Vec<Vec<H>>,
+    ) -> Result<(Place, Report)> {
+        let Place { assembly, seat } = self;
+        let (seat, mut crews) = crews_of(alloc, &assembly, seat, lists)?;
+        if crews.is_empty() || crews.len() > 64 {
+            bail!("1 to 64 workers");
+        }
+        let report = run(rt, alloc, &assembly, crews.as_mut_slice(), &Open);
+        Ok((Place { assembly, seat }, report))
+    }
+
+    // The same with holders of plain copies beside this outboard encoding.
+    pub fn work_beside<R: Threads + Sync, H: Holder + Drop + Send>(
+        self,
+        rt: &R,
+        alloc: Global,
+        outline: &[u8],
+        lists: Vec<Vec<H>>,
+    ) -> Result<(Place, Report)> {
+        let Place { assembly, seat } = self;
+        let (seat, mut crews) = crews_of(alloc, &assembly, seat, lists)?;
+        if crews.is_empty() || crews.len() > 64 {
+            bail!("1 to 64 workers");
+        }
+        let (root, mode) = (assembly.root(), assembly.mode());
+        let outline = check_outboard(alloc, &mode, &root, outline)?;
+        let report = run_bare(rt, alloc, &assembly, &outline, crews.as_mut_slice(), &Open);
+        Ok((Place { assembly, seat }, report))
+    }
+
+    // The same of one worker whose one holder is a peer over another store.
+    pub fn work_over<R: Threads + Sync>(
+        self,
+        rt: &R,
+        alloc: Global,
+        other: Place,
+    ) -> Result<(Place, Place, Report)> {
+        let Place { assembly, seat } = other;
+        let (seat, lent) = split(&assembly, seat)?;
+        let holders = vec![in alloc; Peer::new(&assembly, lent)]?;
+        let (ours, report) = self.work(rt, alloc, vec![in alloc; holders]?)?;
+        Ok((ours, Place { assembly, seat }, report))
+    }
+
+    pub fn finish(&mut self, alloc: Global) -> Result<Vec<u8>, FinishFault> {
+        finish(alloc, &self.assembly, &mut self.seat)
+    }
+
+    // How many chunks a seat can take.
+    pub fn free(&mut self) -> u32 {
+        free(&self.assembly, &mut self.seat)
+    }
+
+    // Another seat takes chunks of a group, and is gone.
+    pub fn claim(self, group: u32, want: u64) -> Result<(Place, u64)> {
+        let Place { assembly, seat } = self;
+        let (seat, mut other) = split(&assembly, seat)?;
+        let granted = assembly.take(&mut other, group, want).ok();
+        Ok((Place { assembly, seat }, granted.context("a group")?))
+    }
+
+    // The piece settles the length.
+    pub fn settle(&mut self, piece: &Checked<'_>) -> Result<Settling> {
+        let tail = piece.tail().context("the last chunk")?;
+        Ok(self.assembly.settle(&mut self.seat, &tail))
+    }
+
+    pub fn read(&mut self, at: u64, out: &mut [u8]) -> Result<(), Missing> {
+        self.assembly.read(&mut self.seat, at, out)
+    }
+}

@@ -1,0 +1,61 @@
+// `b3word`.
+
+ghost use Rattle.std.specs.Prelude.{◌≡◌, ℕ, ◌/◌, ◌%◌, ◌^◌, ◌<◌, slice_index};
+ghost use Rattle.b3word.specs.Lanes.{lane8, lane16};
+
+use b3word::{Input, compress, cv, cv_lanes, cv8, joined, transposed};
+use std::simd::u32x8;
+
+pub fn compress_determined(input: &Input) -> ([u32; 16], [u32; 16])
+    ensures { result.0 ≡ result.1 }
+{
+    (compress(input), compress(input))
+}
+
+pub fn cv_determined(input: &Input) -> ([u32; 8], [u32; 8])
+    ensures { result.0 ≡ result.1 }
+{
+    (cv(input), cv(input))
+}
+
+pub fn cv8_determined(inputs: &[Input; 8]) -> ([[u32; 8]; 8], [[u32; 8]; 8])
+    ensures { result.0 ≡ result.1 }
+{
+    (cv8(inputs), cv8(inputs))
+}
+
+pub fn cv_lanes_determined(
+    h: &[u32x8; 8],
+    m: &[u32x8; 16],
+    t_low: u32x8,
+    t_high: u32x8,
+    b: u32x8,
+    d: u32x8,
+    ours: &mut [u32x8; 8],
+    theirs: &mut [u32x8; 8],
+)
+    ensures { (j t : ℕ) → j < 8 → slice_index t_low j ≡ t % 2 ^ 32 → slice_index t_high j ≡ t / 2 ^ 32
+        → lane8 j ours.new ≡ lane8 j theirs.new }
+{
+    *ours = cv_lanes(h, m, t_low, t_high, b, d);
+    *theirs = cv_lanes(h, m, t_low, t_high, b, d);
+}
+
+pub fn transposed_determined(rows: &[u32x8; 8], ours: &mut [u32x8; 8], theirs: &mut [u32x8; 8])
+    ensures { (j : ℕ) → j < 8 → lane8 j ours.new ≡ lane8 j theirs.new }
+{
+    *ours = transposed(rows);
+    *theirs = transposed(rows);
+}
+
+pub fn joined_determined(
+    front: &[u32x8; 8],
+    back: &[u32x8; 8],
+    ours: &mut [u32x8; 16],
+    theirs: &mut [u32x8; 16],
+)
+    ensures { (j : ℕ) → j < 8 → lane16 j ours.new ≡ lane16 j theirs.new }
+{
+    *ours = joined(front, back);
+    *theirs = joined(front, back);
+}

@@ -1,0 +1,9 @@
+pub mod OneFault
+pub mod Spans
+pub mod OneText
+pub mod Fed
+pub mod Ends
+pub mod Same
+pub mod Offsets
+pub mod Left
+pub mod Audited

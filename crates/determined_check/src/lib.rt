@@ -1,0 +1,11 @@
+//! That the contracts of `bao_check`, `bao_bind` and `bao_join` determine what their functions answer: each function here asks one
+//! of theirs twice, of the same, and what it ensures is that both answers are equal.
+#![tactic(auto)]
+
+mod audits;
+mod checks;
+mod feeding;
+mod joins;
+mod pieces;
+mod streams;
+mod subtrees;

@@ -1,0 +1,3 @@
+pub mod Contents
+pub mod Readers
+pub mod Writers

@@ -1,0 +1,34 @@
+-- Answers to the same question: they are the same.
+use Rattle.std.specs.Prelude.{◌≡◌, ◌⊎◌, ℕ, List, Option, Result, Ok, Err}
+use Rattle.bao_files.specs.declared.fault.FileFault.{FileFault}
+use Rattle.bao_files.specs.declared.fault.FileFault.TheVariants.{Read, Write, Output, Encoding}
+use Rattle.bao_files.specs.declared.fault.FileFault.TheVariants as file
+use Rattle.bao_read.specs.declared.fault.ReadFault.{ReadFault}
+use Rattle.bao_read.specs.declared.fault.ReadFault.TheVariants.{Memory}
+
+-- Both have done it, or both have one fault, but for the faults that may come at any time: ours are told by the one test,
+-- theirs by the other.
+abbrev pub AgreeUnless : {X E : Type 0} → (X → X → Type 0) → (E → Type 0) → (E → Type 0) → Result X E → Result X E → Type 0
+AgreeUnless Same Ours Theirs (Ok x) (Ok y) = Same x y
+AgreeUnless Same Ours Theirs (Ok x) (Err f) = Theirs f
+AgreeUnless Same Ours Theirs (Err e) (Ok y) = Ours e
+AgreeUnless Same Ours Theirs (Err e) (Err f) = (e ≡ f) ⊎ Ours e ⊎ Theirs f
+
+-- of a source a fault may come at any time, but where it never fails only the want of memory
+abbrev pub MayCome : Type 0 → ReadFault → Type 0
+MayCome faultless fault = faultless → fault ≡ Memory
+
+-- What two writers hold is the same, where all that was to be written was, and where both have a fault that comes before anything is.
+abbrev pub SameWritten : {X E : Type 0} → (E → Type 0) → Option (List ℕ) → Option (List ℕ) → Result X E → Result X E → Type 0
+SameWritten IsEarly a b (Ok x) (Ok y) = a ≡ b
+SameWritten IsEarly a b (Ok x) (Err f) = Unit {0}
+SameWritten IsEarly a b (Err e) (Ok y) = Unit {0}
+SameWritten IsEarly a b (Err e) (Err f) = IsEarly e → IsEarly f → a ≡ b
+
+-- the fault isn't one of writing
+abbrev pub IsBeforeWriting : FileFault → Type 0
+IsBeforeWriting (Read path) = Unit {0}
+IsBeforeWriting (Write path) = ⊥
+IsBeforeWriting Output = ⊥
+IsBeforeWriting Encoding = Unit {0}
+IsBeforeWriting file.Memory = Unit {0}

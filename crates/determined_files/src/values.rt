@@ -1,0 +1,81 @@
+// What is known of values: numbers of faults, digits, and what is made over a clock, a path or a source.
+
+ghost use Rattle.std.specs.Prelude.{◌≡◌};
+
+use bao_files::{FileFault, LateFile, Meter, Progress, Shown, bytes_of_digits};
+use bao_read::{ParFault, ReadFault};
+use std::io::Write;
+use std::rt::{Clock, Files};
+
+pub fn pool_code_determined(a: &ParFault, b: &ParFault) -> (u16, u16)
+    ensures { result.0 ≡ result.1 }
+{
+    (a.code(), b.code())
+}
+
+pub fn source_code_determined(fault: &ReadFault) -> (u16, u16)
+    ensures { result.0 ≡ result.1 }
+{
+    (fault.code(), fault.code())
+}
+
+pub fn file_code_determined(fault: &FileFault<'_>) -> (Option<u16>, Option<u16>)
+    ensures { result.0 ≡ result.1 }
+{
+    (fault.code(), fault.code())
+}
+
+pub fn reader_code_determined(
+    a: &bao_files::ReadFault,
+    b: &bao_files::ReadFault,
+) -> (Option<u16>, Option<u16>)
+    ensures { result.0 ≡ result.1 }
+{
+    (a.code(), b.code())
+}
+
+pub fn bytes_of_digits_determined(text: &str) -> (Option<[u8; 32]>, Option<[u8; 32]>)
+    ensures { result.0 ≡ result.1 }
+{
+    (bytes_of_digits(text), bytes_of_digits(text))
+}
+
+// How far its work has come isn't told by the contract: it lies in cells.
+pub fn meter_determined<'a, C: Clock, E: Write + Copy>(
+    clock: &'a C,
+    terminal: E,
+) -> (Meter<'a, C, E>, Meter<'a, C, E>)
+    ensures clock { result.0.clock ≡ result.1.clock }
+    ensures terminal { result.0.terminal ≡ result.1.terminal }
+{
+    let one = Meter::new(clock, terminal);
+    let other = Meter::new(clock, terminal);
+    (one, other)
+}
+
+pub fn late_file_determined<'a, R: Files>(
+    rt: &'a R,
+    path: &'a str,
+) -> (LateFile<'a, R>, LateFile<'a, R>)
+    ensures rt { result.0.rt ≡ result.1.rt }
+    ensures path { result.0.path ≡ result.1.path }
+    ensures file { result.0.file ≡ result.1.file }
+{
+    let one = LateFile::new(rt, path);
+    let other = LateFile::new(rt, path);
+    (one, other)
+}
+
+pub fn over_determined<'a, S, P: Progress>(
+    ours: S,
+    theirs: S,
+    len: Option<u64>,
+    progress: &'a P,
+) -> (Shown<'a, S, P>, Shown<'a, S, P>)
+    requires { ours ≡ theirs }
+    ensures { result.0.source ≡ result.1.source }
+{
+    let one = Shown::over(ours, len, progress);
+    let other = Shown::over(theirs, len, progress);
+    (one, other)
+}

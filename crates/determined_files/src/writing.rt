@@ -1,0 +1,66 @@
+// Encodings that `bao_files` writes to writers that hold the same.
+
+ghost use Rattle.std.specs.Prelude.{◌≡◌, IfOk, IfSome, Some};
+ghost use Rattle.determined_files.specs.Agreeing.{IsBeforeWriting, SameWritten};
+
+use b3tree::{Hash, Mode};
+use bao_files::{Encoding, FileFault, encode_input, write_encoding};
+use bao_read::Source;
+use bao_text::WriteFault;
+use std::alloc::Global;
+use std::io::{Read, Write};
+use std::thread::Threads;
+
+// Memory may run out and a writer may fail at any time. After a fault the writers hold the same where it has the same count.
+pub fn write_encoding_determined<V: Write, W: Write>(
+    alloc: Global,
+    mode: &Mode,
+    encoding: Encoding,
+    bytes: &[u8],
+    ours: &mut V,
+    theirs: &mut W,
+) -> (Result<Hash, WriteFault>, Result<Hash, WriteFault>)
+    requires { V.contents ours.old ≡ W.contents theirs.old }
+    ensures hash { IfOk result.0 (λ a. IfOk result.1 (λ b. a ≡ b)) }
+    ensures written { IfSome (V.contents ours.old) (λ _. result.0 ≡ result.1 → V.contents ours.new ≡ W.contents theirs.new) }
+{
+    (
+        write_encoding(alloc, mode, encoding, bytes, ours),
+        write_encoding(alloc, mode, encoding, bytes, theirs),
+    )
+}
+
+// The input stands at its beginning. Any of the faults may come at any time; whether it is read on several threads has no part in
+// the answer.
+pub fn encode_input_determined<
+    'a,
+    R: Threads + Sync + AllocGlobal,
+    I: Read + Source + Sync,
+    J: Read + Source + Sync,
+    V: Write,
+    W: Write,
+>(
+    rt: &R,
+    mode: &Mode,
+    encoding: Encoding,
+    a: &mut I,
+    b: &mut J,
+    size: u64,
+    other_size: u64,
+    file: &'a str,
+    ours: &mut V,
+    theirs: &mut W,
+    path: &'a str,
+) -> (Result<Hash, FileFault<'a>>, Result<Hash, FileFault<'a>>)
+    requires contents { I.contents a.old ≡ J.contents b.old }
+    requires left { I.remaining a.old ≡ J.remaining b.old }
+    requires same { V.contents ours.old ≡ W.contents theirs.old }
+    ensures hash { IfSome (I.contents a.old) (λ s. I.remaining a.old ≡ Some s → IfOk result.0 (λ x. IfOk result.1 (λ y. x ≡ y))) }
+    ensures written { IfSome (I.contents a.old) (λ s. I.remaining a.old ≡ Some s → IfSome (V.contents ours.old) (λ _.
+        SameWritten IsBeforeWriting (V.contents ours.new) (W.contents theirs.new) result.0 result.1)) }
+{
+    (
+        encode_input(rt, mode, encoding, a, size, file, ours, path),
+        encode_input(rt, mode, encoding, b, other_size, file, theirs, path),
+    )
+}

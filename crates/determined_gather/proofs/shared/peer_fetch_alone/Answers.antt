@@ -1,0 +1,19 @@
+use Rattle.std.proofs.Common.{◌≡◌, ap, subst, sym, ◌∙◌}
+use Rattle.store_core.specs.Knowledge.{AreAllNames, LooksRound}
+use Rattle.store_core.specs.Views.{mine}
+use Rattle.store_shared.specs.Seats.{Gripped}
+use Rattle.determined_gather.proofs.Fetched.{both_fetch}
+use Rattle.determined_gather.proofs.shared.peer_fetch_alone.Goals as goal
+
+pub returns-clause-text : goal.returns-clause-text
+returns-clause-text c =
+    let one = c.new-one.result.seat.view in
+    let other = c.new-other.result.seat.view in
+    let same : one ≡ other =
+    ap (λ (s : Gripped). s.view) c.new-one.ensures.seat ∙ c.requires.same ∙ sym (ap (λ (s : Gripped). s.view) c.new-other.ensures.seat) in
+    both_fetch one c.fetch-fetched.new.self.seat.view c.look_round.new.seat.view other c.fetch-also.new.self.seat.view c.look_round-2.new.seat.view c.args.start c.args.len
+    c.args.ours.now.items c.fetch-fetched.new.into.items c.args.theirs.now.items c.fetch-also.new.into.items c.fetch-fetched.result c.fetch-also.result
+    (subst (λ (s : Gripped). AreAllNames s.view.names) (sym c.new-one.ensures.seat) c.requires.all)
+    (subst (λ (s : Gripped). mine s.view ≡ s.view.seen) (sym c.new-one.ensures.seat) c.requires.alone) same c.requires.buffers
+    c.fetch-fetched.ensures.fetches (subst (λ (s : Gripped). LooksRound s.view c.look_round.new.seat.view) c.into_seat-seat.ensures.seat c.look_round.ensures.looked)
+    c.fetch-also.ensures.fetches (subst (λ (s : Gripped). LooksRound s.view c.look_round-2.new.seat.view) c.into_seat-next.ensures.seat c.look_round-2.ensures.looked)

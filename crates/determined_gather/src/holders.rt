@@ -1,0 +1,115 @@
+// Holders, and what they append. Memory alone may refuse it, and a device: where both calls append, they append the same.
+
+ghost use Rattle.std.specs.Prelude.{◌≡◌, ◌-◌, ◌^◌, ◌<◌, IfErr, OnOk, Err};
+ghost use Rattle.gather.specs.declared.holder.HolderFault.TheVariants.{Memory};
+ghost use Rattle.gather.specs.Encodings.{encoding};
+ghost use Rattle.gather.specs.Places.{OfBytes};
+ghost use Rattle.gather.specs.Plains.{copy_of};
+
+use bao_read::Source;
+use gather::{Encoded, EncodedAt, Holder, HolderFault, Plain, PlainAt};
+
+pub fn encoded_determined<'a>(text: &'a [u8]) -> (Encoded<'a>, Encoded<'a>)
+    ensures { encoding result.0 ≡ encoding result.1 }
+{
+    let one = Encoded::new(text);
+    let other = Encoded::new(text);
+    (one, other)
+}
+
+pub fn encoded_fetch_determined(
+    a: &mut Encoded<'_>,
+    b: &mut Encoded<'_>,
+    start: u64,
+    len: u64,
+    ours: &mut Vec<u8>,
+    theirs: &mut Vec<u8>,
+) -> (Result<(), HolderFault>, Result<(), HolderFault>)
+    requires same { encoding a.old ≡ encoding b.old }
+    requires buffers { ours.old.items ≡ theirs.old.items }
+    ensures text { OnOk result.0 (OnOk result.1 (ours.new.items ≡ theirs.new.items)) }
+    ensures memory { IfErr result.0 (λ fault. fault ≡ Memory) }
+    ensures same { encoding a.new ≡ encoding b.new }
+{
+    (a.fetch(start, len, ours), b.fetch(start, len, theirs))
+}
+
+pub fn encoded_faults_determined(a: &Encoded<'_>, b: &Encoded<'_>) -> (u64, u64)
+    ensures { result.0 ≡ result.1 }
+{
+    (a.faults(), b.faults())
+}
+
+pub fn plain_determined<'a>(copy: &'a [u8]) -> (Plain<'a>, Plain<'a>)
+    ensures { copy_of result.0 ≡ copy_of result.1 }
+{
+    let one = Plain::new(copy);
+    let other = Plain::new(copy);
+    (one, other)
+}
+
+pub fn plain_fetch_determined(
+    a: &mut Plain<'_>,
+    b: &mut Plain<'_>,
+    start: u64,
+    len: u64,
+    ours: &mut Vec<u8>,
+    theirs: &mut Vec<u8>,
+) -> (Result<(), HolderFault>, Result<(), HolderFault>)
+    requires same { copy_of a.old ≡ copy_of b.old }
+    requires buffers { ours.old.items ≡ theirs.old.items }
+    ensures text { OnOk result.0 (OnOk result.1 (ours.new.items ≡ theirs.new.items)) }
+    ensures memory { IfErr result.0 (λ fault. fault ≡ Memory) }
+    ensures same { copy_of a.new ≡ copy_of b.new }
+{
+    (a.fetch(start, len, ours), b.fetch(start, len, theirs))
+}
+
+pub fn plain_faults_determined(a: &Plain<'_>, b: &Plain<'_>) -> (u64, u64)
+    ensures { result.0 ≡ result.1 }
+{
+    (a.faults(), b.faults())
+}
+
+// The bytes of a source are known, its count of faults isn't full, and it has no more bytes than a file can have.
+pub fn encoded_at_fetch_determined<S: Source>(
+    source: &S,
+    start: u64,
+    len: u64,
+    ours: &mut Vec<u8>,
+    theirs: &mut Vec<u8>,
+) -> (Result<(), HolderFault>, Result<(), HolderFault>)
+    requires { ours.old.items ≡ theirs.old.items }
+    ensures text { OfBytes (S.contents source.now) (λ _. OnOk result.0 (OnOk result.1 (ours.new.items ≡ theirs.new.items))) }
+    ensures memory { S.faultless source.now → IfErr result.0 (λ fault. fault ≡ Memory) }
+{
+    let mut a = EncodedAt::new(source);
+    let mut b = EncodedAt::new(source);
+    (a.fetch(start, len, ours), b.fetch(start, len, theirs))
+}
+
+pub fn plain_at_fetch_determined<S: Source>(
+    source: &S,
+    start: u64,
+    len: u64,
+    ours: &mut Vec<u8>,
+    theirs: &mut Vec<u8>,
+) -> (Result<(), HolderFault>, Result<(), HolderFault>)
+    requires { ours.old.items ≡ theirs.old.items }
+    ensures text { OfBytes (S.contents source.now) (λ _. OnOk result.0 (OnOk result.1 (ours.new.items ≡ theirs.new.items))) }
+    ensures memory { S.faultless source.now → IfErr result.0 (λ fault. fault ≡ Memory) }
+{
+    let mut a = PlainAt::new(source);
+    let mut b = PlainAt::new(source);
+    (a.fetch(start, len, ours), b.fetch(start, len, theirs))
+}
+
+// No fault is counted yet.
+pub fn new_faults_determined<S: Source>(source: &S) -> (u64, u64)
+    ensures { result.0 ≡ result.1 }
+{
+    (
+        EncodedAt::new(source).faults(),
+        PlainAt::new(source).faults(),
+    )
+}

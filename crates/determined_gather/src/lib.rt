@@ -1,0 +1,17 @@
+//! That the contracts of `gather` and `crews` determine what their functions answer, as far as they do: each function
+//! here asks one of theirs twice, of the same, and what it ensures is that both answers are the same.
+//!
+//! Which texts a worker asks for, and so all counts of its report but those that its contract names, is in no
+//! contract: tests alone show it.
+#![tactic(auto)]
+
+mod copies;
+mod faults;
+mod finishing;
+mod holders;
+mod lists;
+mod rooms;
+mod shared;
+mod texts;
+mod wholes;
+mod workers;

@@ -1,0 +1,41 @@
+-- Two requests that are the same: the same task with the same texts, numbers and options.
+use Rattle.std.specs.Prelude.{◌≡◌, ◌⊎◌, [], ◌∷◌, Result, Ok, Err, map}
+use Rattle.std.specs.Option.{option_copied}
+use Rattle.clap.specs.Words.{IsAmong, Kinds, kind_of}
+use Rattle.clap.specs.declared.error.Error.{Error}
+use Rattle.clap.specs.declared.error.kind.ErrorKind.{ErrorKind}
+use Rattle.clap.specs.declared.error.kind.ErrorKind.TheVariants.{DisplayHelp, InvalidSubcommand, OutOfMemory, UnknownArgument}
+use Rattle.bao_request.specs.declared.tasks.Request.{Request}
+use Rattle.bao_request.specs.declared.tasks.Task.{Task}
+use Rattle.bao_request.specs.declared.tasks.Task.TheVariants.{Hash, Encode, Decode, DecodeCopy, Gather, Replay}
+
+abbrev pub SameTask : Task → Task → Type 0
+SameTask (Hash at length file) (Hash at' length' file') = (at ≡ at') × (length ≡ length') × (file.now ≡ file'.now)
+SameTask (Encode encoding file out) (Encode encoding' file' out') = (encoding ≡ encoding') × (file.now ≡ file'.now) × (out.now ≡ out'.now)
+SameTask (Decode root part file out) (Decode root' part' file' out') = (root.now ≡ root'.now) × (part ≡ part') × (file.now ≡ file'.now) × (out.now ≡ out'.now)
+SameTask (DecodeCopy root outboard copy out) (DecodeCopy root' outboard' copy' out') =
+    (root.now ≡ root'.now) × (outboard.now ≡ outboard'.now) × (copy.now ≡ copy'.now) × (out.now ≡ out'.now)
+SameTask (Gather root workers capacity outboard salvage encode verbose files out) (Gather root' workers' capacity' outboard' salvage' encode' verbose' files' out') =
+    (root.now ≡ root'.now) × (workers ≡ workers') × (capacity ≡ capacity') × (option_copied outboard ≡ option_copied outboard')
+    × (salvage ≡ salvage') × (encode ≡ encode') × (verbose ≡ verbose')
+    × (map (λ text. text.now) files.items ≡ map (λ text. text.now) files'.items) × (out.now ≡ out'.now)
+SameTask (Replay root capacity script files) (Replay root' capacity' script' files') =
+    (root.now ≡ root'.now) × (capacity ≡ capacity') × (script.now ≡ script'.now) × (map (λ text. text.now) files.items ≡ map (λ text. text.now) files'.items)
+SameTask one other = ⊥
+
+abbrev pub SameRequest : Request → Request → Type 0
+SameRequest a b = SameTask a.task b.task × (option_copied a.key ≡ option_copied b.key) × (option_copied a.context ≡ option_copied b.context)
+
+-- two kinds of fault that are one, or that both are among the two that clap's contract leaves open: for `help`, and for a word that no place takes
+abbrev pub AreBoth : Kinds → ErrorKind → ErrorKind → Type 0
+AreBoth kinds a b = IsAmong a kinds × IsAmong b kinds
+
+abbrev pub SameKind : ErrorKind → ErrorKind → Type 0
+SameKind a b = (a ≡ b) ⊎ (AreBoth (DisplayHelp ∷ InvalidSubcommand ∷ []) a b ⊎ AreBoth (UnknownArgument ∷ InvalidSubcommand ∷ []) a b)
+
+-- the same request, or the same kind of fault; or memory ran out
+abbrev pub SameAnswer : Result Request Error → Result Request Error → Type 0
+SameAnswer (Ok a) (Ok b) = SameRequest a b
+SameAnswer (Ok a) (Err f) = kind_of f ≡ OutOfMemory
+SameAnswer (Err e) (Ok b) = kind_of e ≡ OutOfMemory
+SameAnswer (Err e) (Err f) = SameKind (kind_of e) (kind_of f) ⊎ (kind_of e ≡ OutOfMemory) ⊎ (kind_of f ≡ OutOfMemory)

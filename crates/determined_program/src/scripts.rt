@@ -1,0 +1,60 @@
+// Scripts.
+
+ghost use Rattle.std.specs.Prelude.{◌≡◌, length};
+ghost use Rattle.bao_script.specs.Slices.{NameFiles};
+ghost use Rattle.determined_program.specs.Scripts.{SameReading, SameRun};
+
+use b3tree::{Hash, Mode};
+use bao_script::{NumberedLine, ReplayScriptFault, Script, ScriptFault, parse, replay_script};
+use std::alloc::Global;
+
+pub fn script_code_determined(a: &ScriptFault, b: &ScriptFault) -> (Option<u16>, Option<u16>)
+    ensures { result.0 ≡ result.1 }
+{
+    (a.code(), b.code())
+}
+
+pub fn replay_code_determined(fault: &ReplayScriptFault) -> (Option<u16>, Option<u16>)
+    ensures { result.0 ≡ result.1 }
+{
+    (fault.code(), fault.code())
+}
+
+pub fn lines_determined<'a>(script: &'a Script) -> (&'a [NumberedLine], &'a [NumberedLine])
+    ensures { result.0.now ≡ result.1.now }
+{
+    (script.lines(), script.lines())
+}
+
+// Memory may run out at either.
+pub fn parse_determined(
+    alloc: Global,
+    text: &[u8],
+    files: usize,
+) -> (Result<Script, ScriptFault>, Result<Script, ScriptFault>)
+    ensures { SameReading result.0 result.1 }
+{
+    let one = parse(alloc, text, files);
+    let other = parse(alloc, text, files);
+    (one, other)
+}
+
+// Memory may run out at either, and then one of three faults says for what.
+pub fn replay_script_determined(
+    alloc: Global,
+    root: Hash,
+    mode: Mode,
+    capacity: u32,
+    script: &Script,
+    files: &[Vec<u8>],
+) -> (
+    Result<Vec<u8>, ReplayScriptFault>,
+    Result<Vec<u8>, ReplayScriptFault>,
+)
+    requires { NameFiles (length files.now) script.now }
+    ensures { SameRun (λ text. text.items) result.0 result.1 }
+{
+    let one = replay_script(alloc, root, mode, capacity, script, files);
+    let other = replay_script(alloc, root, mode, capacity, script, files);
+    (one, other)
+}

@@ -1,0 +1,428 @@
+// Steps on a store's words, and calls of many steps, made with a grip that is alone: what a store's seat asks is made of
+// them. Where a law isn't here, docs/PROMISES.md says why.
+
+ghost use Rattle.std.specs.Prelude.{◌≡◌, ◌*◌, ◌<◌, ◌≤◌, [], IfOk, IsOk, Some, true, is_some};
+ghost use Rattle.bao_check.specs.Checked.{piece_claimed};
+ghost use Rattle.bao_check.specs.Tail.{tail_piece};
+ghost use Rattle.determined_shared.specs.Alone.{AgreeOrLack, AreAlike};
+ghost use Rattle.store_calls.specs.Grips.{CoversGroup, IsGripOf, fixed_of};
+ghost use Rattle.store_core.specs.declared.fault.ServeFault.TheVariants as unserved;
+ghost use Rattle.store_core.specs.Histories.{state_after};
+ghost use Rattle.store_core.specs.Masks.{IsMaskOf};
+ghost use Rattle.store_core.specs.Pieces.{length_of, piece_of};
+ghost use Rattle.store_core.specs.Stores.{IsOf};
+ghost use Rattle.store_core.specs.Views.{is_storing, seat_claims};
+ghost use Rattle.store_steps.specs.Asks.{AreClaimed, AreHeldClaims, AreParentsWritten, AreWordsStored};
+
+use b3tree::{Hash, Mode};
+use bao_check::{Checked, Tail};
+use std::alloc::Global;
+use store_calls::{commit, commit_parents, read, serve_slice};
+use store_core::{Fixed, Missing, ServeFault, Settling, Storing};
+use store_steps::{Grip, NewFault, Words};
+
+pub fn words_new_determined(
+    alloc: Global,
+    root: Hash,
+    mode: Mode,
+    capacity: u32,
+) -> (
+    Result<(Words, Grip), NewFault>,
+    Result<(Words, Grip), NewFault>,
+)
+    requires { (0 < capacity) × (capacity ≤ 65536) }
+    ensures { IfOk result.0 (λ x. IfOk result.1 (λ y. (fixed_of x.0 ≡ fixed_of y.0) × (x.1.view ≡ y.1.view))) }
+{
+    let one = Words::new(alloc, root, mode, capacity);
+    let other = Words::new(alloc, root, mode, capacity);
+    (one, other)
+}
+
+pub fn words_fixed_determined(a: &Words, b: &Words) -> (Fixed, Fixed)
+    requires { fixed_of a.now ≡ fixed_of b.now }
+    ensures { result.0 ≡ result.1 }
+{
+    (a.fixed(), b.fixed())
+}
+
+pub fn words_take_alone(
+    a: &Words,
+    b: &Words,
+    first: &mut Grip,
+    second: &mut Grip,
+    group: u32,
+    want: u64,
+) -> (u64, u64)
+    requires first { IsGripOf a.now first.old }
+    requires second { IsGripOf b.now second.old }
+    requires alike { AreAlike first.old.view second.old.view }
+    requires groups { CoversGroup a.now group × CoversGroup b.now group }
+    ensures { (result.0 ≡ result.1) × AreAlike first.new.view second.new.view }
+{
+    let ours = a.take(first, group, want);
+    a.look_round(first);
+    let theirs = b.take(second, group, want);
+    b.look_round(second);
+    (ours, theirs)
+}
+
+pub fn words_settle_alone(
+    a: &Words,
+    b: &Words,
+    first: &mut Grip,
+    second: &mut Grip,
+    tail: &Tail<'_>,
+) -> (Settling, Settling)
+    requires first { IsGripOf a.now first.old }
+    requires second { IsGripOf b.now second.old }
+    requires alike { AreAlike first.old.view second.old.view }
+    requires piece { IsOf (fixed_of a.now) (tail_piece tail.now) × IsOf (fixed_of b.now) (tail_piece tail.now) }
+    requires fits { (piece_claimed (tail_piece tail.now) ≤ 1024 * (fixed_of a.now).capacity) × (piece_claimed (tail_piece tail.now) ≤ 1024 * (fixed_of b.now).capacity) }
+    ensures { (result.0 ≡ result.1) × AreAlike first.new.view second.new.view }
+{
+    let ours = a.settle(first, tail);
+    a.look_round(first);
+    let theirs = b.settle(second, tail);
+    b.look_round(second);
+    (ours, theirs)
+}
+
+pub fn words_length_alone(
+    a: &Words,
+    b: &Words,
+    first: &mut Grip,
+    second: &mut Grip,
+) -> (Option<u64>, Option<u64>)
+    requires first { IsGripOf a.now first.old }
+    requires second { IsGripOf b.now second.old }
+    requires alike { AreAlike first.old.view second.old.view }
+    ensures { (result.0 ≡ result.1) × AreAlike first.new.view second.new.view }
+{
+    let ours = a.length(first);
+    a.look_round(first);
+    let theirs = b.length(second);
+    b.look_round(second);
+    (ours, theirs)
+}
+
+pub fn words_store_determined(
+    a: &Words,
+    b: &Words,
+    first: &mut Grip,
+    second: &mut Grip,
+    chunk: u32,
+    word: u8,
+    value: u64,
+)
+    requires first { IsGripOf a.now first.old }
+    requires second { IsGripOf b.now second.old }
+    requires same { first.old.view ≡ second.old.view }
+    requires claimed { (seat_claims first.old.view chunk ≡ true) × (seat_claims second.old.view chunk ≡ true) }
+    requires word { word < 129 }
+    ensures { first.new.view ≡ second.new.view }
+{
+    a.store(first, chunk, word, value);
+    b.store(second, chunk, word, value);
+}
+
+// A word of a cell that the grip has not seen held is whatever a store may be writing there.
+pub fn words_copy_determined(
+    a: &Words,
+    b: &Words,
+    first: &mut Grip,
+    second: &mut Grip,
+    chunk: u32,
+    word: u8,
+) -> (u64, u64)
+    requires first { IsGripOf a.now first.old }
+    requires second { IsGripOf b.now second.old }
+    requires same { first.old.view ≡ second.old.view }
+    requires chunk { (chunk < (fixed_of a.now).capacity) × (chunk < (fixed_of b.now).capacity) }
+    requires word { word < 129 }
+    requires held { is_some ((state_after first.old.view.seen).held chunk) ≡ true }
+    ensures { result.0 ≡ result.1 }
+{
+    (a.copy(first, chunk, word), b.copy(second, chunk, word))
+}
+
+pub fn words_copy_parent_determined(
+    a: &Words,
+    b: &Words,
+    first: &mut Grip,
+    second: &mut Grip,
+    boundary: u32,
+    word: u8,
+) -> (u64, u64)
+    requires first { IsGripOf a.now first.old }
+    requires second { IsGripOf b.now second.old }
+    requires same { first.old.view ≡ second.old.view }
+    requires boundary { (boundary < (fixed_of a.now).capacity) × (boundary < (fixed_of b.now).capacity) }
+    requires word { word < 8 }
+    requires held { is_some ((state_after first.old.view.seen).parents boundary) ≡ true }
+    ensures { result.0 ≡ result.1 }
+{
+    (
+        a.copy_parent(first, boundary, word),
+        b.copy_parent(second, boundary, word),
+    )
+}
+
+pub fn words_store_parent_determined(
+    a: &Words,
+    b: &Words,
+    first: &mut Grip,
+    second: &mut Grip,
+    boundary: u32,
+    word: u8,
+    value: u64,
+)
+    requires first { IsGripOf a.now first.old }
+    requires second { IsGripOf b.now second.old }
+    requires same { first.old.view ≡ second.old.view }
+    requires storing { (is_storing first.old.view boundary ≡ true) × (is_storing second.old.view boundary ≡ true) }
+    requires boundary { (boundary < (fixed_of a.now).capacity) × (boundary < (fixed_of b.now).capacity) }
+    requires word { word < 8 }
+    ensures { first.new.view ≡ second.new.view }
+{
+    a.store_parent(first, boundary, word, value);
+    b.store_parent(second, boundary, word, value);
+}
+
+pub fn words_give_alone(
+    a: &Words,
+    b: &Words,
+    first: &mut Grip,
+    second: &mut Grip,
+    group: u32,
+    mask: u64,
+    given: u64,
+)
+    requires first { IsGripOf a.now first.old }
+    requires second { IsGripOf b.now second.old }
+    requires alike { AreAlike first.old.view second.old.view }
+    requires groups { CoversGroup a.now group × CoversGroup b.now group }
+    requires given { AreClaimed first.old.view group mask given × AreClaimed second.old.view group mask given }
+    ensures { AreAlike first.new.view second.new.view }
+{
+    a.give(first, group, mask, given);
+    a.look_round(first);
+    b.give(second, group, mask, given);
+    b.look_round(second);
+}
+
+pub fn words_give_none_alone(
+    a: &Words,
+    b: &Words,
+    first: &mut Grip,
+    second: &mut Grip,
+    group: u32,
+    mask: u64,
+)
+    requires first { IsGripOf a.now first.old }
+    requires second { IsGripOf b.now second.old }
+    requires alike { AreAlike first.old.view second.old.view }
+    requires groups { (¬ CoversGroup a.now group) × (¬ CoversGroup b.now group) }
+    ensures { AreAlike first.new.view second.new.view }
+{
+    a.give_none(first, group, mask);
+    a.look_round(first);
+    b.give_none(second, group, mask);
+    b.look_round(second);
+}
+
+pub fn words_publish_alone(
+    a: &Words,
+    b: &Words,
+    first: &mut Grip,
+    second: &mut Grip,
+    group: u32,
+    piece: &Checked<'_>,
+    mask: u64,
+)
+    requires first { IsGripOf a.now first.old }
+    requires second { IsGripOf b.now second.old }
+    requires alike { AreAlike first.old.view second.old.view }
+    requires groups { CoversGroup a.now group × CoversGroup b.now group }
+    requires piece { IsOf (fixed_of a.now) piece.now × IsOf (fixed_of b.now) piece.now }
+    requires mask { AreHeldClaims first.old.view group (piece_of piece.now) mask × AreHeldClaims second.old.view group (piece_of piece.now) mask }
+    requires written { AreWordsStored first.old.view.written group mask (piece_of piece.now) × AreWordsStored second.old.view.written group mask (piece_of piece.now) }
+    ensures { AreAlike first.new.view second.new.view }
+{
+    a.publish(first, group, piece, mask);
+    a.look_round(first);
+    b.publish(second, group, piece, mask);
+    b.look_round(second);
+}
+
+pub fn words_publish_none_alone(
+    a: &Words,
+    b: &Words,
+    first: &mut Grip,
+    second: &mut Grip,
+    group: u32,
+    piece: &Checked<'_>,
+)
+    requires first { IsGripOf a.now first.old }
+    requires second { IsGripOf b.now second.old }
+    requires alike { AreAlike first.old.view second.old.view }
+    requires groups { (¬ CoversGroup a.now group) × (¬ CoversGroup b.now group) }
+    requires piece { IsOf (fixed_of a.now) piece.now × IsOf (fixed_of b.now) piece.now }
+    ensures { AreAlike first.new.view second.new.view }
+{
+    a.publish_none(first, group, piece);
+    a.look_round(first);
+    b.publish_none(second, group, piece);
+    b.look_round(second);
+}
+
+pub fn words_publish_parents_alone(
+    a: &Words,
+    b: &Words,
+    first: &mut Grip,
+    second: &mut Grip,
+    group: u32,
+    piece: &Checked<'_>,
+    mask: u64,
+)
+    requires first { IsGripOf a.now first.old }
+    requires second { IsGripOf b.now second.old }
+    requires alike { AreAlike first.old.view second.old.view }
+    requires groups { CoversGroup a.now group × CoversGroup b.now group }
+    requires piece { IsOf (fixed_of a.now) piece.now × IsOf (fixed_of b.now) piece.now }
+    requires length { ((state_after first.old.view.seen).recorded ≡ Some (length_of (piece_of piece.now))) × ((state_after second.old.view.seen).recorded ≡ Some (length_of (piece_of piece.now))) }
+    requires written { AreParentsWritten first.old.view group mask (piece_of piece.now) × AreParentsWritten second.old.view group mask (piece_of piece.now) }
+    ensures { AreAlike first.new.view second.new.view }
+{
+    a.publish_parents(first, group, piece, mask);
+    a.look_round(first);
+    b.publish_parents(second, group, piece, mask);
+    b.look_round(second);
+}
+
+// What it then knows is the same but for what it counts as stored.
+pub fn words_claim_parents_alone(
+    a: &Words,
+    b: &Words,
+    first: &mut Grip,
+    second: &mut Grip,
+    group: u32,
+    want: u64,
+) -> (u64, u64)
+    requires first { IsGripOf a.now first.old }
+    requires second { IsGripOf b.now second.old }
+    requires alike { AreAlike first.old.view second.old.view }
+    requires groups { CoversGroup a.now group × CoversGroup b.now group }
+    requires none { (first.old.view.storing ≡ []) × (second.old.view.storing ≡ []) }
+    ensures { (result.0 ≡ result.1) × AreAlike first.new.view second.new.view × (first.new.view.storing ≡ second.new.view.storing) }
+{
+    let ours = a.claim_parents(first, group, want);
+    let theirs = b.claim_parents(second, group, want);
+    (ours, theirs)
+}
+
+pub fn words_part_determined(
+    a: &Words,
+    b: &Words,
+    first: Grip,
+    second: Grip,
+) -> (Result<(Grip, Grip), Grip>, Result<(Grip, Grip), Grip>)
+    requires first { IsGripOf a.now first }
+    requires second { IsGripOf b.now second }
+    requires same { first.view ≡ second.view }
+    ensures ok { IsOk result.0 × IsOk result.1 }
+    ensures parts { IfOk result.0 (λ x. IfOk result.1 (λ y. (x.0.view ≡ y.0.view) × (x.1.view ≡ y.1.view))) }
+{
+    let one = a.part(first);
+    let other = b.part(second);
+    (one, other)
+}
+
+pub fn calls_commit_alone(
+    a: &Words,
+    b: &Words,
+    first: &mut Grip,
+    second: &mut Grip,
+    group: u32,
+    piece: &Checked<'_>,
+    claimed: u64,
+) -> (u64, u64)
+    requires first { IsGripOf a.now first.old }
+    requires second { IsGripOf b.now second.old }
+    requires alike { AreAlike first.old.view second.old.view }
+    requires groups { CoversGroup a.now group × CoversGroup b.now group }
+    requires piece { IsOf (fixed_of a.now) piece.now × IsOf (fixed_of b.now) piece.now }
+    requires claimed { IsMaskOf group claimed (λ c. seat_claims first.old.view c) × IsMaskOf group claimed (λ c. seat_claims second.old.view c) }
+    ensures { (result.0 ≡ result.1) × AreAlike first.new.view second.new.view }
+{
+    let ours = commit(a, first, group, piece, claimed);
+    a.look_round(first);
+    let theirs = commit(b, second, group, piece, claimed);
+    b.look_round(second);
+    (ours, theirs)
+}
+
+pub fn calls_commit_parents_alone(
+    a: &Words,
+    b: &Words,
+    first: &mut Grip,
+    second: &mut Grip,
+    group: u32,
+    piece: &Checked<'_>,
+) -> (Storing, Storing)
+    requires first { IsGripOf a.now first.old }
+    requires second { IsGripOf b.now second.old }
+    requires alike { AreAlike first.old.view second.old.view }
+    requires piece { IsOf (fixed_of a.now) piece.now × IsOf (fixed_of b.now) piece.now }
+    requires none { (first.old.view.storing ≡ []) × (second.old.view.storing ≡ []) }
+    ensures { (result.0 ≡ result.1) × AreAlike first.new.view second.new.view }
+{
+    let ours = commit_parents(a, first, group, piece);
+    a.look_round(first);
+    let theirs = commit_parents(b, second, group, piece);
+    b.look_round(second);
+    (ours, theirs)
+}
+
+pub fn calls_read_alone(
+    a: &Words,
+    b: &Words,
+    first: &mut Grip,
+    second: &mut Grip,
+    at: u64,
+    ours: &mut [u8],
+    theirs: &mut [u8],
+) -> (Result<(), Missing>, Result<(), Missing>)
+    requires first { IsGripOf a.now first.old }
+    requires second { IsGripOf b.now second.old }
+    requires alike { AreAlike first.old.view second.old.view }
+    requires buffers { ours.old ≡ theirs.old }
+    ensures { (result.0 ≡ result.1) × (ours.new ≡ theirs.new) × AreAlike first.new.view second.new.view }
+{
+    let one = read(a, first, at, ours);
+    a.look_round(first);
+    let other = read(b, second, at, theirs);
+    b.look_round(second);
+    (one, other)
+}
+
+// Memory may run out for the one alone, as at a store's `serve_slice`.
+pub fn calls_serve_slice_alone(
+    alloc: Global,
+    a: &Words,
+    b: &Words,
+    first: &mut Grip,
+    second: &mut Grip,
+    start: u64,
+    len: u64,
+) -> (Result<Vec<u8>, ServeFault>, Result<Vec<u8>, ServeFault>)
+    requires first { IsGripOf a.now first.old }
+    requires second { IsGripOf b.now second.old }
+    requires alike { AreAlike first.old.view second.old.view }
+    ensures { AgreeOrLack unserved.Memory (λ x y. x.items ≡ y.items) result.0 result.1 (AreAlike first.new.view second.new.view) }
+{
+    let ours = serve_slice(alloc, a, first, start, len);
+    a.look_round(first);
+    let theirs = serve_slice(alloc, b, second, start, len);
+    b.look_round(second);
+    (ours, theirs)
+}

@@ -1,0 +1,4 @@
+pub mod Agreeing
+pub mod Bits
+pub mod Replayed
+pub mod Running

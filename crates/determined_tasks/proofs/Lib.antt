@@ -1,0 +1,9 @@
+pub mod Blobs
+pub mod Copies
+pub mod Files
+pub mod Parts
+pub mod Pieces
+pub mod Replays
+pub mod Runs
+pub mod Scripts
+pub mod Verdicts

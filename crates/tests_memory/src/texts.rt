@@ -1,0 +1,130 @@
+use crate::bytes::blob;
+use b3tree::{Hash, Mode, hash};
+use bao_check::{CheckFault, check_combined, check_outboard, check_slice, check_stream};
+use bao_join::{check_combined_join, check_slice_join};
+use bao_text::{Memory, WriteFault, combined, cut_slice, outboard, slice, write_combined};
+use std::test::Fail;
+
+// The published hash of the 2049 bytes i mod 251.
+const ROOT: Hash = Hash([
+    0x5f, 0x4d, 0x72, 0xf4, 0x0d, 0x7a, 0x5f, 0x82, 0xb1, 0x5c, 0xa2, 0xb2, 0xe4, 0x4b, 0x1d, 0xe3,
+    0xc2, 0xef, 0x86, 0xc4, 0x26, 0xc9, 0x5c, 0x1a, 0xf0, 0xb6, 0x87, 0x95, 0x22, 0x56, 0x30, 0x30,
+]);
+
+// The hashes of encodings of the 2049 bytes i mod 251, of 2,185 and 136 bytes, and of the slice (1000, 100), of 2,184:
+// by the program in Python.
+const COMBINED: Hash = Hash([
+    0xc1, 0x76, 0x71, 0x21, 0x60, 0x0f, 0xa5, 0x3e, 0x33, 0xc6, 0xc6, 0x38, 0xd0, 0xd2, 0x43, 0xa1,
+    0x64, 0xc4, 0x1a, 0xf7, 0xdc, 0xdd, 0x65, 0x5b, 0xde, 0xe4, 0x28, 0x76, 0x51, 0xe7, 0xad, 0xe2,
+]);
+
+const OUTBOARD: Hash = Hash([
+    0x64, 0x59, 0x52, 0x3b, 0x46, 0x59, 0xbe, 0x60, 0xef, 0x29, 0x10, 0x18, 0xe0, 0x35, 0x80, 0x51,
+    0x77, 0x1a, 0x8c, 0x35, 0xac, 0x97, 0x08, 0x2b, 0x06, 0x89, 0x6e, 0xa4, 0x66, 0x70, 0x31, 0x33,
+]);
+
+const SLICE: Hash = Hash([
+    0x9d, 0x89, 0xf2, 0xf1, 0x4f, 0xf1, 0x27, 0x36, 0x89, 0xe7, 0x3b, 0x05, 0x9a, 0x0e, 0xba, 0x6c,
+    0xb5, 0x4a, 0xd0, 0x67, 0x1c, 0x6a, 0x5b, 0x1f, 0xe0, 0x94, 0xd7, 0x99, 0xe0, 0xcd, 0x4e, 0x38,
+]);
+
+// Where memory is refused, that is told, and a second call has the text.
+#[test]
+fn texts(rt: HostRuntime) -> Result<(), Fail> {
+    let mode = Mode::hash();
+    let bytes = blob(rt.alloc(), 2049)?;
+    let bytes = bytes.as_slice();
+    let (root, whole) = match combined(rt.alloc(), &mode, bytes) {
+        Err(Memory) => combined(rt.alloc(), &mode, bytes)?,
+        Ok(made) => made,
+    };
+    assert_eq!(rt; root, ROOT);
+    assert_eq!(rt; hash(&mode, whole.as_slice()), COMBINED);
+    let (root, text) = match outboard(rt.alloc(), &mode, bytes) {
+        Err(Memory) => outboard(rt.alloc(), &mode, bytes)?,
+        Ok(made) => made,
+    };
+    assert_eq!(rt; root, ROOT);
+    assert_eq!(rt; hash(&mode, text.as_slice()), OUTBOARD);
+    let (root, text) = match slice(rt.alloc(), &mode, bytes, 1000, 100) {
+        Err(Memory) => slice(rt.alloc(), &mode, bytes, 1000, 100)?,
+        Ok(made) => made,
+    };
+    assert_eq!(rt; root, ROOT);
+    assert_eq!(rt; hash(&mode, text.as_slice()), SLICE);
+    let cut = match cut_slice(rt.alloc(), whole.as_slice(), 1000, 100) {
+        Err(Memory) => cut_slice(rt.alloc(), whole.as_slice(), 1000, 100)?,
+        Ok(cut) => cut,
+    };
+    assert_eq!(rt; cut.as_slice(), text.as_slice());
+    Ok(())
+}
+
+// The vector takes the text, and refuses it where memory is refused to it: that is a fault of the writer, after the bytes
+// that it holds. Where it is refused to the call, nothing was written.
+#[test]
+fn a_text_for_a_vector(rt: HostRuntime) -> Result<(), Fail> {
+    let mode = Mode::hash();
+    let bytes = blob(rt.alloc(), 2049)?;
+    let mut out = Vec::new(rt.alloc());
+    let root = match write_combined(rt.alloc(), &mode, bytes.as_slice(), &mut out) {
+        Err(WriteFault::Writer { written }) => {
+            assert_eq!(rt; written, out.len() as u128);
+            out.clear();
+            write_combined(rt.alloc(), &mode, bytes.as_slice(), &mut out)?
+        }
+        Err(WriteFault::Memory) => {
+            assert!(rt; out.is_empty());
+            write_combined(rt.alloc(), &mode, bytes.as_slice(), &mut out)?
+        }
+        Ok(root) => root,
+    };
+    assert_eq!(rt; root, ROOT);
+    assert_eq!(rt; hash(&mode, out.as_slice()), COMBINED);
+    Ok(())
+}
+
+// A check takes no memory but for what a reader gives, and for threads, without which it goes on.
+#[test]
+fn checks(rt: HostRuntime) -> Result<(), Fail> {
+    let mode = Mode::hash();
+    let bytes = blob(rt.alloc(), 2049)?;
+    let bytes = bytes.as_slice();
+    let (_, whole) = combined(rt.alloc(), &mode, bytes)?;
+    let (_, bare) = outboard(rt.alloc(), &mode, bytes)?;
+    let (_, text) = slice(rt.alloc(), &mode, bytes, 1000, 100)?;
+    let text = text.as_slice();
+    let second = bytes.get(1024..2048);
+    let piece = check_slice(rt.alloc(), &mode, &ROOT, 1000, 100, text)?;
+    assert_eq!(rt; piece.chunk(1), second);
+    let piece = check_slice_join(&rt, &mode, &ROOT, 1000, 100, text, 1)?;
+    assert_eq!(rt; piece.chunk(1), second);
+    let piece = check_combined(rt.alloc(), &mode, &ROOT, whole.as_slice())?;
+    assert_eq!(rt; piece.chunk(1), second);
+    let piece = check_combined_join(&rt, &mode, &ROOT, whole.as_slice(), 1)?;
+    assert_eq!(rt; piece.chunk(1), second);
+    let outline = check_outboard(rt.alloc(), &mode, &ROOT, bare.as_slice())?;
+    assert_eq!(rt; outline.claimed(), 2049);
+    Ok(())
+}
+
+// The same of a check from a reader, after which the vector holds what was read.
+#[test]
+fn a_check_from_a_reader(rt: HostRuntime) -> Result<(), Fail> {
+    let mode = Mode::hash();
+    let bytes = blob(rt.alloc(), 2049)?;
+    let (_, text) = slice(rt.alloc(), &mode, bytes.as_slice(), 1000, 100)?;
+    let mut reader = text.as_slice();
+    let mut held = Vec::new(rt.alloc());
+    match check_stream(rt.alloc(), &mode, &ROOT, 1000, 100, &mut reader, &mut held) {
+        Ok(piece) => assert_eq!(rt; piece.chunk(1), bytes.as_slice().get(1024..2048)),
+        Err(fault) => {
+            assert_eq!(rt; fault, CheckFault::Memory);
+            let mut reader = text.as_slice();
+            let mut held = Vec::new(rt.alloc());
+            let piece = check_stream(rt.alloc(), &mode, &ROOT, 1000, 100, &mut reader, &mut held)?;
+            assert_eq!(rt; piece.chunk(1), bytes.as_slice().get(1024..2048));
+        }
+    }
+    Ok(())
+}

@@ -1,5 +1,0 @@
-//! Tests of workers without memory: `crews`.
-#![tactic(auto)]
-
-#[cfg(test)]
-mod memory;
