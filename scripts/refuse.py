@@ -118,8 +118,12 @@ class Case:
         self.memory = {f"bao_gather: {it} memory\n".encode() for it in own} | {PLAIN}
         # What gathers no blob out of FILEs as they lie opens them again, and reads them whole.
         self.is_tried_again = words[0] == "gather" and "--verbose" not in words
+        # Of several workers another may do what one has no memory for: what comes then depends on the system.
+        is_shared = words[0] == "gather" and not re.search(r"--workers 1\b", " ".join(words))
         # A long file is encoded in another way where there is no memory for the first.
-        self.needed = {PLAIN} if is_avoidable else self.memory - ({b"bao_gather: 911 memory\n"} if self.is_tried_again else set())
+        self.needed = self.memory - ({b"bao_gather: 911 memory\n"} if self.is_tried_again else set())
+        if is_avoidable or is_shared:
+            self.needed = {PLAIN}
         self.name = " ".join(it if len(it) < 64 else f"{it[:6]}.." for it in words)
 
     @functools.lru_cache(maxsize=None)
