@@ -12,6 +12,4 @@ mod pair;
 mod parents;
 mod part;
 mod search;
-#[cfg(test)]
-mod tests_walk;
 mod verdict;

@@ -65,37 +65,88 @@ fn reads(alloc: Global, kind: &str, source: &Dealing<'_>, start: u64, len: u64) 
     Ok(source.reads())
 }
 
+// Whether a holder of which one read fails refuses a fetch, with nothing appended, and appends what is expected at the next one.
+fn recovers(
+    alloc: Global,
+    mut holder: Asked<'_>,
+    start: u64,
+    len: u64,
+    expected: &[u8],
+) -> Result<bool> {
+    let mut text = vec![in alloc; 1, 2]?;
+    let refused = holder.fetch(start, len, &mut text);
+    if refused != Err(HolderFault::Device) || text.as_slice() != [1, 2].as_slice() {
+        return Ok(false);
+    }
+    let again = appended(alloc, &mut holder, start, len)?;
+    Ok(again.as_slice() == expected && holder.faults() == 1)
+}
+
+// What a holder that is never refused appends.
+fn unharmed(
+    alloc: Global,
+    texts: &Texts,
+    kind: &str,
+    word: &str,
+    start: u64,
+    len: u64,
+) -> Result<Vec<u8>> {
+    let mut holder = placed(kind, source_of(alloc, texts, word)?)?;
+    appended(alloc, &mut holder, start, len)
+}
+
+// A holder of which the read with this number fails.
+fn failing_at<'a>(
+    alloc: Global,
+    texts: &'a Texts,
+    kind: &str,
+    word: &str,
+    fails: u64,
+) -> Result<Asked<'a>> {
+    let mut source = source_of(alloc, texts, word)?;
+    source.fails = fails;
+    placed(kind, source)
+}
+
+// How many of so many reads each fail once.
+fn failed(
+    alloc: Global,
+    texts: &Texts,
+    kind: &str,
+    word: &str,
+    count: u64,
+    start: u64,
+    len: u64,
+) -> Result<u64> {
+    let expected = unharmed(alloc, texts, kind, word, start, len)?;
+    let mut right = 0u64;
+    for fails in 0..count {
+        let holder = failing_at(alloc, texts, kind, word, fails)?;
+        if recovers(alloc, holder, start, len, expected.as_slice())? {
+            right = right.saturating_add(1);
+        }
+    }
+    Ok(right)
+}
+
 // A fetch of which one read fails, each of them in turn: that is a fault of the device, and nothing is appended. The next one goes
 // well.
 fn failing(alloc: Global, texts: &Texts, word: &str, start: u64, len: u64) -> Result<String> {
     let (kind, word) = word.split_once(':').context("a source")?;
-    let whole = source_of(alloc, texts, word)?;
-    let count = reads(alloc, kind, &whole, start, len)?;
-    let mut right = 0u64;
-    for fails in 0..count {
-        let mut source = source_of(alloc, texts, word)?;
-        source.fails = fails;
-        let mut holder = placed(kind, source)?;
-        let mut text = vec![in alloc; 1, 2]?;
-        let refused = holder.fetch(start, len, &mut text);
-        if refused == Err(HolderFault::Device) && text.as_slice() == [1, 2].as_slice() {
-            let again = appended(alloc, &mut holder, start, len)?;
-            let expected = appended(
-                alloc,
-                &mut placed(kind, source_of(alloc, texts, word)?)?,
-                start,
-                len,
-            )?;
-            if again.as_slice() == expected.as_slice() && holder.faults() == 1 {
-                right = right.saturating_add(1);
-            }
-        }
-    }
+    let count = reads(alloc, kind, &source_of(alloc, texts, word)?, start, len)?;
+    let right = failed(alloc, texts, kind, word, count, start, len)?;
     if count > 1 && right == count {
         Ok(String::from_str(alloc, "each read fails once")?)
     } else {
         Ok(format!(in alloc; "{right} of {count} reads")?)
     }
+}
+
+// What a holder over an encoding at places appends, and how many faults it then counts.
+fn encoded(alloc: Global, source: &Dealing<'_>, start: u64, len: u64) -> Result<(Vec<u8>, u64)> {
+    let mut holder = EncodedAt::new(source);
+    let text = appended(alloc, &mut holder, start, len)?;
+    Ok((text, holder.faults()))
 }
 
 // What comes of a source that shrinks while it is read, beside what it has whole.
@@ -104,19 +155,14 @@ fn shrinking(alloc: Global, texts: &Texts, words: &[&str]) -> Result<String> {
         bail!("a text, a source and a range")
     };
     let (start, len) = (number(start)?, number(len)?);
-    let whole = Dealing::of(texts.get(text)?);
-    let expected = appended(alloc, &mut EncodedAt::new(&whole), start, len)?;
-    let source = source_of(alloc, texts, word)?;
-    let mut holder = EncodedAt::new(&source);
-    let got = appended(alloc, &mut holder, start, len)?;
-    let is_beginning = expected.as_slice().starts_with(got.as_slice());
-    let said = match (
-        is_beginning && holder.faults() == 0,
-        got.len() < expected.len(),
-    ) {
-        (false, _) => "other bytes",
-        (true, true) => "a beginning",
-        (true, false) => "all",
+    let (expected, _) = encoded(alloc, &Dealing::of(texts.get(text)?), start, len)?;
+    let (got, faults) = encoded(alloc, &source_of(alloc, texts, word)?, start, len)?;
+    let said = if !expected.as_slice().starts_with(got.as_slice()) || faults != 0 {
+        "other bytes"
+    } else if got.len() < expected.len() {
+        "a beginning"
+    } else {
+        "all"
     };
     Ok(String::from_str(alloc, said)?)
 }

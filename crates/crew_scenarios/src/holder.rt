@@ -1,3 +1,6 @@
+ghost use Rattle.std.specs.Prelude.{◌≡◌, OnErr, OnOk};
+ghost use Rattle.gather.specs.Holders.{Appends};
+
 use crate::dealing::Dealing;
 use crate::line::number;
 use crate::texts::Texts;
@@ -16,6 +19,35 @@ pub enum Kind<'a> {
     Plain(Plain<'a>),
     PlainAt(Dealing<'a>),
     Peer(Peer<'a>),
+}
+
+// What any holder appends, of which nothing is known.
+fn fetched<H: Holder>(
+    holder: &mut H,
+    start: u64,
+    len: u64,
+    into: &mut Vec<u8>,
+) -> Result<(), HolderFault>
+    ensures appended { OnOk result (Appends (λ _. Unit {0}) into.old.items into.new.items) }
+    ensures unchanged { OnErr result (into.new.items ≡ into.old.items) }
+{
+    holder.fetch(start, len, into)
+}
+
+impl Kind<'_> {
+    fn fetch(&mut self, start: u64, len: u64, into: &mut Vec<u8>) -> Result<(), HolderFault>
+        ensures appended { OnOk result (Appends (λ _. Unit {0}) into.old.items into.new.items) }
+        ensures unchanged { OnErr result (into.new.items ≡ into.old.items) }
+    {
+        match self {
+            Kind::Broken => Err(HolderFault::Device),
+            Kind::Encoded(holder) => fetched(holder, start, len, into),
+            Kind::EncodedAt(source) => { fetched(&mut EncodedAt::new(&*source), start, len, into) }
+            Kind::Plain(holder) => fetched(holder, start, len, into),
+            Kind::PlainAt(source) => fetched(&mut PlainAt::new(&*source), start, len, into),
+            Kind::Peer(holder) => fetched(holder, start, len, into),
+        }
+    }
 }
 
 // A holder that has memory for so many fetches. Where there is one group it has that alone, and the blob's end.
@@ -53,15 +85,7 @@ impl Holder for Asked<'_> {
                 return Ok(());
             }
         }
-        let gone = match &mut self.kind {
-            Kind::Broken => Err(HolderFault::Device),
-            Kind::Encoded(holder) => holder.fetch(start, len, into),
-            Kind::EncodedAt(source) => EncodedAt::new(&*source).fetch(start, len, into),
-            Kind::Plain(holder) => holder.fetch(start, len, into),
-            Kind::PlainAt(source) => PlainAt::new(&*source).fetch(start, len, into),
-            Kind::Peer(holder) => holder.fetch(start, len, into),
-        };
-        match gone {
+        match self.kind.fetch(start, len, into) {
             Ok(()) => Ok(()),
             Err(HolderFault::Memory) => Err(HolderFault::Memory),
             Err(HolderFault::Device) => {
@@ -79,42 +103,57 @@ impl Holder for Asked<'_> {
     }
 }
 
+// Does what a pair of words says of a source.
+fn deal(source: &mut Dealing<'_>, pair: &[&str]) -> Result<()> {
+    match pair {
+        ["most", most] => source.most = number(most)? as usize,
+        ["fails", at] => source.fails = number(at)?,
+        ["breaks", _] => source.breaks = true,
+        ["shrinks", at] => source.shrinks = number(at)?,
+        ["left", left] => source.left = number(left)? as usize,
+        _ => bail!("of a source"),
+    }
+    Ok(())
+}
+
 // A source over a text, with what is said of it: most, fails, breaks.
 pub fn source_of<'a>(alloc: Global, texts: &'a Texts, word: &str) -> Result<Dealing<'a>> {
     let parts: Vec<&str> = word.split(':').collect(alloc)?;
-    let mut source = Dealing::of(texts.get(parts.first().context("a text")?)?);
-    for pair in parts.as_slice().get(1..).context("options")?.chunks(2) {
-        match pair {
-            ["most", most] => source.most = number(most)? as usize,
-            ["fails", at] => source.fails = number(at)?,
-            ["breaks", _] => source.breaks = true,
-            ["shrinks", at] => source.shrinks = number(at)?,
-            ["left", left] => source.left = number(left)? as usize,
-            _ => bail!("of a source"),
-        }
+    let (text, pairs) = parts.as_slice().split_first().context("a text")?;
+    let mut source = Dealing::of(texts.get(text)?);
+    for pair in pairs.chunks(2) {
+        deal(&mut source, pair)?;
     }
     Ok(source)
 }
 
-// The holder that a word says: its kind, its text, and what is said of it.
-pub fn holder_of<'a>(alloc: Global, texts: &'a Texts, word: &str) -> Result<Asked<'a>> {
-    let (word, more) = word.split_once('/').unwrap_or((word, ""));
+// What the kind and the text say.
+fn kind_of<'a>(alloc: Global, texts: &'a Texts, word: &str) -> Result<Kind<'a>> {
     let (kind, rest) = word.split_once(':').unwrap_or((word, ""));
-    let kind = match kind {
+    Ok(match kind {
         "broken" => Kind::Broken,
         "encoded" => Kind::Encoded(Encoded::new(texts.get(rest)?)),
         "encoded_at" => Kind::EncodedAt(source_of(alloc, texts, rest)?),
         "plain" => Kind::Plain(Plain::new(texts.get(rest)?)),
         "plain_at" => Kind::PlainAt(source_of(alloc, texts, rest)?),
         _ => bail!("a holder"),
-    };
-    let mut asked = Asked::of(kind);
-    match more.split_once(':') {
-        None => {}
-        Some(("only", group)) => asked.only = Some(number(group)?),
-        Some(("starves", fetches)) => asked.fetches = number(fetches)?,
-        Some(("counted", faults)) => asked.faults = number(faults)?,
+    })
+}
+
+// The holder that a word says: its kind, its text, and what is said of it.
+pub fn holder_of<'a>(alloc: Global, texts: &'a Texts, word: &str) -> Result<Asked<'a>> {
+    let (word, more) = word.split_once('/').unwrap_or((word, ""));
+    let (fetches, only, faults) = match more.split_once(':') {
+        None => (u64::MAX, None, 0),
+        Some(("only", group)) => (u64::MAX, Some(number(group)?), 0),
+        Some(("starves", fetches)) => (number(fetches)?, None, 0),
+        Some(("counted", faults)) => (u64::MAX, None, number(faults)?),
         Some(_) => bail!("of a holder"),
-    }
-    Ok(asked)
+    };
+    Ok(Asked {
+        kind: kind_of(alloc, texts, word)?,
+        fetches,
+        only,
+        faults,
+    })
 }

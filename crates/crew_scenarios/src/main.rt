@@ -20,6 +20,15 @@ use std::io;
 use std::io::{BufRead, BufReader, BufWriter, Write};
 use std::thread::Threads;
 
+// A line with its reply below it.
+fn tell<W: Write>(out: &mut W, line: &str, said: &str) -> io::Result<()> {
+    writeln!(out, "{line}")?;
+    for reply in said.lines() {
+        writeln!(out, "    {reply}")?;
+    }
+    Ok(())
+}
+
 fn run<R: Input + Print + AllocGlobal + Threads + Sync>(rt: &R) -> Result<()> {
     let mut scene = Scene::new(rt.alloc())?;
     let mut out = BufWriter::new(rt.alloc(), io::writer(rt))?;
@@ -28,10 +37,7 @@ fn run<R: Input + Print + AllocGlobal + Threads + Sync>(rt: &R) -> Result<()> {
         let said = scene
             .reply(rt, rt.alloc(), line.as_str())
             .context(format_args!("{line}"))?;
-        writeln!(out, "{line}")?;
-        for reply in said.as_str().lines() {
-            writeln!(out, "    {reply}")?;
-        }
+        tell(&mut out, line.as_str(), said.as_str())?;
     }
     out.flush()?;
     Ok(())

@@ -1,6 +1,7 @@
 ghost use Rattle.std.specs.Prelude.{All, IfOk};
 ghost use Rattle.store_shared.specs.Seats.{IsSeatOf};
 
+use crate::holder::{Asked, Kind};
 use anyhow::{Context, Result, bail};
 use b3tree::{Hash, Mode};
 use bao_check::{Checked, check_outboard};
@@ -41,6 +42,36 @@ fn split(assembly: &Assembly, seat: Seat) -> Result<(Seat, Seat)>
         Ok(seats) => Ok(seats),
         Err(_) => bail!("a second seat"),
     }
+}
+
+// One list of one holder, a peer with this seat.
+fn peers<'a>(alloc: Global, assembly: &'a Assembly, seat: Seat) -> Result<Vec<Vec<Asked<'a>>>>
+    requires { IsSeatOf assembly.now seat }
+{
+    let peer = Kind::Peer(Peer::new(assembly, seat));
+    let holders = vec![in alloc; Asked::of(peer)]?;
+    Ok(vec![in alloc; holders]?)
+}
+
+// Has 1 to 64 crews work.
+fn worked<R: Threads + Sync, H: Holder + Send>(
+    rt: &R,
+    alloc: Global,
+    assembly: &Assembly,
+    outline: Option<&[u8]>,
+    crews: &mut [Crew<H>],
+) -> Result<Report>
+    requires { All (λ crew. IsSeatOf assembly.now crew.seat) crews.old }
+{
+    if crews.is_empty() || crews.len() > 64 {
+        bail!("1 to 64 workers");
+    }
+    let Some(outline) = outline else {
+        return Ok(run(rt, alloc, assembly, crews, &Open));
+    };
+    let (root, mode) = (assembly.root(), assembly.mode());
+    let outline = check_outboard(alloc, &mode, &root, outline)?;
+    Ok(run_bare(rt, alloc, assembly, &outline, crews, &Open))
 }
 
 // How many chunks a seat can take, which it then gives back.
@@ -86,38 +117,17 @@ impl Place {
         self.assembly.groups()
     }
 
-    // Each list is of one worker's holders.
+    // Each list is of one worker's holders, of plain copies where there is an outboard encoding.
     pub fn work<R: Threads + Sync, H: Holder + Drop + Send>(
         self,
         rt: &R,
         alloc: Global,
+        outline: Option<&[u8]>,
         lists: Vec<Vec<H>>,
     ) -> Result<(Place, Report)> {
         let Place { assembly, seat } = self;
         let (seat, mut crews) = crews_of(alloc, &assembly, seat, lists)?;
-        if crews.is_empty() || crews.len() > 64 {
-            bail!("1 to 64 workers");
-        }
-        let report = run(rt, alloc, &assembly, crews.as_mut_slice(), &Open);
-        Ok((Place { assembly, seat }, report))
-    }
-
-    // The same with holders of plain copies beside this outboard encoding.
-    pub fn work_beside<R: Threads + Sync, H: Holder + Drop + Send>(
-        self,
-        rt: &R,
-        alloc: Global,
-        outline: &[u8],
-        lists: Vec<Vec<H>>,
-    ) -> Result<(Place, Report)> {
-        let Place { assembly, seat } = self;
-        let (seat, mut crews) = crews_of(alloc, &assembly, seat, lists)?;
-        if crews.is_empty() || crews.len() > 64 {
-            bail!("1 to 64 workers");
-        }
-        let (root, mode) = (assembly.root(), assembly.mode());
-        let outline = check_outboard(alloc, &mode, &root, outline)?;
-        let report = run_bare(rt, alloc, &assembly, &outline, crews.as_mut_slice(), &Open);
+        let report = worked(rt, alloc, &assembly, outline, crews.as_mut_slice())?;
         Ok((Place { assembly, seat }, report))
     }
 
@@ -130,8 +140,8 @@ impl Place {
     ) -> Result<(Place, Place, Report)> {
         let Place { assembly, seat } = other;
         let (seat, lent) = split(&assembly, seat)?;
-        let holders = vec![in alloc; Peer::new(&assembly, lent)]?;
-        let (ours, report) = self.work(rt, alloc, vec![in alloc; holders]?)?;
+        let lists = peers(alloc, &assembly, lent)?;
+        let (ours, report) = self.work(rt, alloc, None, lists)?;
         Ok((ours, Place { assembly, seat }, report))
     }
 
@@ -144,12 +154,12 @@ impl Place {
         free(&self.assembly, &mut self.seat)
     }
 
-    // Another seat takes chunks of a group, and is gone.
-    pub fn claim(self, group: u32, want: u64) -> Result<(Place, u64)> {
+    // Another seat takes chunks of a group, if there is one with this number, and is gone.
+    pub fn claim(self, group: u32, want: u64) -> Result<(Place, Option<u64>)> {
         let Place { assembly, seat } = self;
         let (seat, mut other) = split(&assembly, seat)?;
         let granted = assembly.take(&mut other, group, want).ok();
-        Ok((Place { assembly, seat }, granted.context("a group")?))
+        Ok((Place { assembly, seat }, granted))
     }
 
     // The piece settles the length.

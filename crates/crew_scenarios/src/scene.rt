@@ -77,6 +77,55 @@ fn lists<'a>(
     Ok(lists)
 }
 
+// A store's number, and the words after it.
+fn store_of<'a, 'b>(words: &'b [&'a str]) -> Result<(usize, &'b [&'a str])> {
+    let (first, rest) = words.split_first().context("a store")?;
+    Ok((short(first)? as usize, rest))
+}
+
+// The outboard encoding beside which workers are to work, where they are, and the words after it.
+fn beside<'a, 'b, 'c>(
+    texts: &'a Texts,
+    name: &str,
+    words: &'b [&'c str],
+) -> Result<(Option<&'a [u8]>, &'b [&'c str])> {
+    if name == "work" {
+        return Ok((None, words));
+    }
+    let (outline, rest) = words.split_first().context("an outboard encoding")?;
+    Ok((Some(texts.get(outline)?), rest))
+}
+
+// What so many workers do, with the holders that these words say.
+fn worked<R: Threads + Sync>(
+    rt: &R,
+    alloc: Global,
+    texts: &Texts,
+    name: &str,
+    place: Place,
+    count: u64,
+    words: &[&str],
+) -> Result<(Place, Report)> {
+    let (outline, words) = beside(texts, name, words)?;
+    let lists = lists(alloc, texts, count, words)?;
+    place.work(rt, alloc, outline, lists)
+}
+
+fn settled(alloc: Global, texts: &Texts, place: &mut Place, text: &str) -> Result<String> {
+    let (mode, root) = (texts.mode, texts.root);
+    let piece = check_slice(alloc, &mode, &root, u64::MAX, 1, texts.get(text)?)?;
+    let settled = place.settle(&piece)? == Settling::Settled;
+    Ok(format!(in alloc; "settled {settled}")?)
+}
+
+fn read(alloc: Global, place: &mut Place, at: u64, len: u64) -> Result<String> {
+    let mut out = vec![in alloc; 9u8; len.min(MOST_READ) as usize]?;
+    match place.read(at, out.as_mut_slice()) {
+        Ok(()) => told(alloc, out.as_slice()),
+        Err(Missing(position)) => Ok(format!(in alloc; "missing {position}")?),
+    }
+}
+
 impl Scene {
     pub fn new(alloc: Global) -> Result<Scene> {
         Ok(Scene {
@@ -98,7 +147,18 @@ impl Scene {
         }
         let (name, rest) = line.split_once(' ').unwrap_or((line, ""));
         let said = words(alloc, rest)?;
-        let said = said.as_slice();
+        self.done(rt, alloc, name, rest, said.as_slice())
+    }
+
+    // What a name and its words ask for.
+    fn done<R: Threads + Sync>(
+        &mut self,
+        rt: &R,
+        alloc: Global,
+        name: &str,
+        rest: &str,
+        said: &[&str],
+    ) -> Result<String> {
         match name {
             "mode" | "blob" | "root" | "top" => self.set(alloc, name, rest),
             "faults" => faults(alloc),
@@ -108,20 +168,14 @@ impl Scene {
             "gather" | "sources" | "copies" | "copies_at" => {
                 gathered(rt, alloc, &self.texts, name, said)
             }
-            "alone" | "one" | "ended" => self.one(alloc, name, said),
-            "store"
-            | "work"
-            | "beside"
-            | "over"
-            | "finish"
-            | "free"
-            | "claims"
-            | "settle"
-            | "read" => {
-                let (number, rest) = said.split_first().context("a store")?;
-                self.call(rt, alloc, name, short(number)? as usize, rest)
-            }
-            _ => self.texts.make(alloc, name, rest),
+            "alone" => self.open_one(alloc, said),
+            "one" | "ended" => self.one(alloc, name, said),
+            "store" => self.open(alloc, said),
+            "work" | "beside" => self.work(rt, alloc, name, said),
+            "over" => self.over(rt, alloc, said),
+            "claims" => self.claims(alloc, said),
+            "finish" | "free" | "settle" | "read" => self.ask(alloc, name, said),
+            _ => self.texts.make(alloc, name, said),
         }
     }
 
@@ -135,14 +189,16 @@ impl Scene {
         Ok(String::new(alloc))
     }
 
-    // The store of one thread: a new one, one worker's run, or its blob.
+    // A new store of one thread.
+    fn open_one(&mut self, alloc: Global, words: &[&str]) -> Result<String> {
+        let capacity = short(words.first().context("a capacity")?)?;
+        let (root, mode) = (self.texts.root, self.texts.mode);
+        self.alone = Some(Store::new(alloc, root, mode, capacity)?);
+        Ok(String::new(alloc))
+    }
+
+    // One worker's run of that store, or its blob.
     fn one(&mut self, alloc: Global, name: &str, words: &[&str]) -> Result<String> {
-        if name == "alone" {
-            let capacity = short(words.first().context("a capacity")?)?;
-            let (root, mode) = (self.texts.root, self.texts.mode);
-            self.alone = Some(Store::new(alloc, root, mode, capacity)?);
-            return Ok(String::new(alloc));
-        }
         let store = self.alone.as_mut().context("a store")?;
         if name == "ended" {
             return finished(alloc, finish_one(alloc, store));
@@ -163,100 +219,77 @@ impl Scene {
         Ok(())
     }
 
-    // A call of a shared store.
-    fn call<R: Threads + Sync>(
-        &mut self,
-        rt: &R,
-        alloc: Global,
-        name: &str,
-        number: usize,
-        words: &[&str],
-    ) -> Result<String> {
-        if name == "store" {
-            let capacity = short(words.first().context("a capacity")?)?;
-            return match Place::new(alloc, self.texts.root, self.texts.mode, capacity) {
-                Ok(place) => {
-                    let groups = place.groups();
-                    self.put(number, place)?;
-                    Ok(format!(in alloc; "groups {groups}")?)
-                }
-                Err(fault) => Ok(format!(in alloc; "{fault}")?),
-            };
+    // A new shared store.
+    fn open(&mut self, alloc: Global, words: &[&str]) -> Result<String> {
+        let (store, words) = store_of(words)?;
+        let capacity = short(words.first().context("a capacity")?)?;
+        match Place::new(alloc, self.texts.root, self.texts.mode, capacity) {
+            Ok(place) => {
+                let groups = place.groups();
+                self.put(store, place)?;
+                Ok(format!(in alloc; "groups {groups}")?)
+            }
+            Err(fault) => Ok(format!(in alloc; "{fault}")?),
         }
-        let place = self.taken(number)?;
-        let (place, said) = match name {
-            "work" | "beside" | "over" => self.run(rt, alloc, name, place, words)?,
-            _ => self.ask(alloc, name, place, words)?,
-        };
-        self.put(number, place)?;
-        Ok(said)
     }
 
-    // Workers, each with the same list of holders; beside an outboard encoding; or one over another store.
-    fn run<R: Threads + Sync>(
+    // Workers, each with the same list of holders, beside an outboard encoding or not.
+    fn work<R: Threads + Sync>(
         &mut self,
         rt: &R,
         alloc: Global,
         name: &str,
-        place: Place,
         words: &[&str],
-    ) -> Result<(Place, String)> {
-        let (first, rest) = words.split_first().context("a number")?;
+    ) -> Result<String> {
+        let (store, words) = store_of(words)?;
+        let (first, words) = words.split_first().context("a number")?;
         let count = number(first)?;
-        if name == "over" {
-            let other = self.taken(count as usize)?;
-            let (place, other, report) = place.work_over(rt, alloc, other)?;
-            self.put(count as usize, other)?;
-            return Ok((place, reported(alloc, report, 1)?));
-        }
-        let texts = &self.texts;
-        let (place, report) = if name == "work" {
-            place.work(rt, alloc, lists(alloc, texts, count, rest)?)?
-        } else {
-            let (outline, rest) = rest.split_first().context("an outboard encoding")?;
-            let outline = texts.get(outline)?;
-            place.work_beside(rt, alloc, outline, lists(alloc, texts, count, rest)?)?
+        let place = self.taken(store)?;
+        let (place, report) = worked(rt, alloc, &self.texts, name, place, count, words)?;
+        self.put(store, place)?;
+        reported(alloc, report, count)
+    }
+
+    // One worker over another store.
+    fn over<R: Threads + Sync>(&mut self, rt: &R, alloc: Global, words: &[&str]) -> Result<String> {
+        let (store, words) = store_of(words)?;
+        let (first, _) = store_of(words)?;
+        let place = self.taken(store)?;
+        let other = self.taken(first)?;
+        let (place, other, report) = place.work_over(rt, alloc, other)?;
+        self.put(first, other)?;
+        self.put(store, place)?;
+        reported(alloc, report, 1)
+    }
+
+    // Another seat's claims.
+    fn claims(&mut self, alloc: Global, words: &[&str]) -> Result<String> {
+        let [store, group, count] = words else {
+            bail!("a store, a group and a count")
         };
-        Ok((place, reported(alloc, report, count)?))
+        let (store, group) = (short(store)? as usize, short(group)?);
+        let want = u64::MAX >> (64 - number(count)?.clamp(1, 64));
+        let place = self.taken(store)?;
+        let (place, granted) = place.claim(group, want)?;
+        self.put(store, place)?;
+        let granted = granted.context("a group")?;
+        Ok(format!(in alloc; "granted {granted:x}")?)
     }
 
     // What is asked of a store.
-    fn ask(
-        &self,
-        alloc: Global,
-        name: &str,
-        mut place: Place,
-        words: &[&str],
-    ) -> Result<(Place, String)> {
-        let said = match (name, words) {
-            ("finish", []) => finished(alloc, place.finish(alloc))?,
+    fn ask(&mut self, alloc: Global, name: &str, words: &[&str]) -> Result<String> {
+        let (store, words) = store_of(words)?;
+        let place = self.places.get_mut(store).context("a store")?;
+        let place = place.as_mut().context("a store that is there")?;
+        match (name, words) {
+            ("finish", []) => finished(alloc, place.finish(alloc)),
             ("free", []) => {
                 let free = place.free();
-                format!(in alloc; "free {free}")?
+                Ok(format!(in alloc; "free {free}")?)
             }
-            ("claims", [group, count]) => {
-                let want = u64::MAX >> (64 - number(count)?.clamp(1, 64));
-                let group = short(group)?;
-                let (place, granted) = place.claim(group, want)?;
-                return Ok((place, format!(in alloc; "granted {granted:x}")?));
-            }
-            ("settle", [text]) => {
-                let (mode, root) = (self.texts.mode, self.texts.root);
-                let text = self.texts.get(text)?;
-                let piece = check_slice(alloc, &mode, &root, u64::MAX, 1, text)?;
-                let settled = place.settle(&piece)? == Settling::Settled;
-                format!(in alloc; "settled {settled}")?
-            }
-            ("read", [at, len]) => {
-                let at = number(at)?;
-                let mut out = vec![in alloc; 9u8; number(len)?.min(MOST_READ) as usize]?;
-                match place.read(at, out.as_mut_slice()) {
-                    Ok(()) => told(alloc, out.as_slice())?,
-                    Err(Missing(position)) => format!(in alloc; "missing {position}")?,
-                }
-            }
+            ("settle", [text]) => settled(alloc, &self.texts, place, text),
+            ("read", [at, len]) => read(alloc, place, number(at)?, number(len)?),
             _ => bail!("a command"),
-        };
-        Ok((place, said))
+        }
     }
 }

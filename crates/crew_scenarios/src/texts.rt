@@ -1,4 +1,4 @@
-use crate::line::{number, short, words};
+use crate::line::{number, short};
 use anyhow::{Context, Result, bail};
 use b3tree::{Cv, Hash, Mode, cv, hash, parent_input, root_hash, rooted, subtree_cv};
 use bao_text::{combined, outboard, slice};
@@ -58,6 +58,12 @@ fn value_of(mode: &Mode, first: u32, bytes: &[u8]) -> Result<Cv> {
     Ok(subtree_cv(mode, u64::from(first), bytes))
 }
 
+// The chaining value of the parent with the two values that the text begins with.
+fn parent_of(mode: &Mode, text: &[u8]) -> Result<Cv> {
+    let input = parent_input(mode, &value_at(text, 0)?, &value_at(text, 32)?);
+    Ok(Cv(cv(&input)))
+}
+
 impl Texts {
     pub fn new(alloc: Global) -> Texts {
         Texts {
@@ -88,6 +94,15 @@ impl Texts {
         Ok(())
     }
 
+    // The bytes of these texts, one after another.
+    fn joined(&self, alloc: Global, names: &[&str]) -> Result<Vec<u8>> {
+        let mut bytes = Vec::new(alloc);
+        for name in names {
+            bytes.extend_from_slice(self.get(name)?)?;
+        }
+        Ok(bytes)
+    }
+
     // The bytes of a text that is made so.
     fn made(&self, alloc: Global, name: &str, given: &[&str]) -> Result<Vec<u8>> {
         let (mode, blob) = (&self.mode, self.blob.as_slice());
@@ -101,19 +116,12 @@ impl Texts {
                 value.to_bytes().as_slice().to_vec(alloc)?
             }
             ("parent", [pair]) => {
-                let text = self.get(pair)?;
-                let input = parent_input(mode, &value_at(text, 0)?, &value_at(text, 32)?);
-                Cv(cv(&input)).to_bytes().as_slice().to_vec(alloc)?
+                let value = parent_of(mode, self.get(pair)?)?;
+                value.to_bytes().as_slice().to_vec(alloc)?
             }
             ("zeros", [count]) => vec![in alloc; 0u8; number(count)?.min(MOST_BYTES) as usize]?,
             ("length", [length]) => number(length)?.to_le_bytes().as_slice().to_vec(alloc)?,
-            ("joined", names) => {
-                let mut bytes = Vec::new(alloc);
-                for name in names {
-                    bytes.extend_from_slice(self.get(name)?)?;
-                }
-                bytes
-            }
+            ("joined", names) => self.joined(alloc, names)?,
             _ => bail!("a command"),
         })
     }
@@ -144,23 +152,49 @@ impl Texts {
         Ok(true)
     }
 
-    // Makes or changes a text, and tells it.
-    pub fn make(&mut self, alloc: Global, name: &str, rest: &str) -> Result<String> {
-        let given = words(alloc, rest)?;
-        let (called, given) = given.as_slice().split_first().context("a name")?;
-        if let [word] = given {
-            let found = self.texts.iter_mut().find(|it| it.name.as_str() == *called);
-            if let Some(text) = found {
-                if Texts::change(alloc, name, word, &mut text.bytes)? {
-                    return told(alloc, text.bytes.as_slice());
-                }
-            }
+    // Changes a text that is there, and tells it, where the name is of a change.
+    fn changed(
+        &mut self,
+        alloc: Global,
+        name: &str,
+        called: &str,
+        word: &str,
+    ) -> Result<Option<String>> {
+        let found = self.texts.iter_mut().find(|it| it.name.as_str() == called);
+        let Some(text) = found else {
+            return Ok(None);
+        };
+        if Texts::change(alloc, name, word, &mut text.bytes)? {
+            Ok(Some(told(alloc, text.bytes.as_slice())?))
+        } else {
+            Ok(None)
         }
-        let bytes = self.made(alloc, name, given)?;
-        let said = told(alloc, bytes.as_slice())?;
-        self.texts.retain(|it| it.name.as_str() != *called);
+    }
+
+    // Keeps a text in the place of one with its name.
+    fn keep(&mut self, alloc: Global, called: &str, bytes: Vec<u8>) -> Result<()> {
+        self.texts.retain(|it| it.name.as_str() != called);
         let name = String::from_str(alloc, called)?;
         self.texts.push(Text { name, bytes })?;
+        Ok(())
+    }
+
+    // A new text, which is told.
+    fn renew(&mut self, alloc: Global, name: &str, called: &str, given: &[&str]) -> Result<String> {
+        let bytes = self.made(alloc, name, given)?;
+        let said = told(alloc, bytes.as_slice())?;
+        self.keep(alloc, called, bytes)?;
         Ok(said)
+    }
+
+    // Makes or changes a text, and tells it.
+    pub fn make(&mut self, alloc: Global, name: &str, words: &[&str]) -> Result<String> {
+        let (called, given) = words.split_first().context("a name")?;
+        if let [word] = given {
+            if let Some(said) = self.changed(alloc, name, called, word)? {
+                return Ok(said);
+            }
+        }
+        self.renew(alloc, name, called, given)
     }
 }

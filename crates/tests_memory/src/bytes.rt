@@ -12,6 +12,15 @@ pub(crate) fn blob(alloc: Global, len: usize) -> Result<Vec<u8>, Fail> {
     Ok(bytes)
 }
 
+// The same in an array, which takes no memory.
+pub(crate) fn array<const N: usize>() -> [u8; N] {
+    let mut bytes = [0; N];
+    for (i, byte) in bytes.iter_mut().enumerate() {
+        *byte = (i % 251) as u8;
+    }
+    bytes
+}
+
 // Bytes that have to be read, so that room for a piece of them is asked for too.
 #[derive(Drop)]
 pub(crate) struct InPieces<'a>(pub &'a [u8]);

@@ -1,42 +1,65 @@
-use crate::bytes::blob;
-use b3tree::Mode;
+use crate::bytes::array;
+use b3tree::{Hash, Mode};
 use bao_text::{combined, slice};
 use gather::{
     Encoded, EncodedAt, GatherFault, Holder, HolderFault, PlainAt, finish_one, gather_texts,
     run_one,
 };
 use std::alloc::Global;
+use std::process::Abort;
 use std::test::Fail;
 use store_core::Store;
 
-// Where a growth is refused, that is told, and a second call gives the blob.
-#[test]
-fn one_worker(rt: HostRuntime) -> Result<(), Fail> {
-    let mode = Mode::hash();
-    let bytes = blob(rt.alloc(), 3000)?;
-    let (root, whole) = combined(rt.alloc(), &mode, bytes.as_slice())?;
-    let texts = vec![in rt.alloc(); whole]?;
-    match gather_texts(rt.alloc(), root, mode, 3, texts.as_slice()) {
-        Ok(gathered) => assert_eq!(rt; gathered.as_slice(), bytes.as_slice()),
+// What the texts give, if need be at the second call.
+fn gathered<R: AllocGlobal + Abort>(
+    rt: &R,
+    root: Hash,
+    texts: &[Vec<u8>],
+) -> Result<Vec<u8>, GatherFault> {
+    match gather_texts(rt.alloc(), root, Mode::hash(), 3, texts) {
         Err(fault) => {
             assert!(rt; matches!(fault, GatherFault::Memory | GatherFault::Starved));
-            let gathered = gather_texts(rt.alloc(), root, mode, 3, texts.as_slice())?;
-            assert_eq!(rt; gathered.as_slice(), bytes.as_slice());
+            gather_texts(rt.alloc(), root, Mode::hash(), 3, texts)
         }
+        gathered => gathered,
     }
-    let mut store = Store::new(rt.alloc(), root, mode, 3)?;
-    let mut holders = [Encoded::new(whole_of(&texts)?)];
-    let report = run_one(rt.alloc(), &mut store, &mut holders);
+}
+
+// Has a worker store all, if need be at the second call.
+fn fill<R: AllocGlobal + Abort>(rt: &R, store: &mut Store, whole: &[u8]) -> Result<(), Fail> {
+    let mut holders = [Encoded::new(whole)];
+    let report = run_one(rt.alloc(), store, &mut holders);
     if report.committed < 3 {
         assert!(rt; report.memory > 0);
-        let again = run_one(rt.alloc(), &mut store, &mut holders);
+        let again = run_one(rt.alloc(), store, &mut holders);
         if again.memory > 0 {
             return Err(Fail::from("a growth was refused"));
         }
         assert_eq!(rt; again.committed, 3 - report.committed);
     }
-    let gathered = finish_one(rt.alloc(), &store)?;
-    assert_eq!(rt; gathered.as_slice(), bytes.as_slice());
+    Ok(())
+}
+
+fn by_one_worker<R: AllocGlobal + Abort>(
+    rt: &R,
+    root: Hash,
+    whole: &[u8],
+) -> Result<Vec<u8>, Fail> {
+    let mut store = Store::new(rt.alloc(), root, Mode::hash(), 3)?;
+    fill(rt, &mut store, whole)?;
+    Ok(finish_one(rt.alloc(), &store)?)
+}
+
+// Where a growth is refused, that is told, and a second call gives the blob.
+#[test]
+fn one_worker(rt: HostRuntime) -> Result<(), Fail> {
+    let bytes = array::<3000>();
+    let (root, whole) = combined(rt.alloc(), &Mode::hash(), &bytes)?;
+    let texts = vec![in rt.alloc(); whole]?;
+    let blob = gathered(&rt, root, texts.as_slice())?;
+    assert_eq!(rt; blob.as_slice(), bytes.as_slice());
+    let blob = by_one_worker(&rt, root, whole_of(&texts)?)?;
+    assert_eq!(rt; blob.as_slice(), bytes.as_slice());
     Ok(())
 }
 
@@ -57,13 +80,18 @@ fn appended_at_last<H: Holder>(alloc: Global, holder: &mut H, start: u64) -> Res
 }
 
 #[test]
-fn holders_at_places(rt: HostRuntime) -> Result<(), Fail> {
-    let mode = Mode::hash();
-    let bytes = blob(rt.alloc(), 3000)?;
-    let (_, text) = combined(rt.alloc(), &mode, bytes.as_slice())?;
-    let (_, expected) = slice(rt.alloc(), &mode, bytes.as_slice(), 1024, 1)?;
+fn holders_of_encodings_at_places(rt: HostRuntime) -> Result<(), Fail> {
+    let bytes = array::<3000>();
+    let (_, text) = combined(rt.alloc(), &Mode::hash(), &bytes)?;
+    let (_, expected) = slice(rt.alloc(), &Mode::hash(), &bytes, 1024, 1)?;
     let got = appended_at_last(rt.alloc(), &mut EncodedAt::new(&text.as_slice()), 1024)?;
     assert_eq!(rt; got.as_slice(), expected.as_slice());
+    Ok(())
+}
+
+#[test]
+fn holders_of_copies_at_places(rt: HostRuntime) -> Result<(), Fail> {
+    let bytes = array::<3000>();
     let got = appended_at_last(rt.alloc(), &mut PlainAt::new(&bytes.as_slice()), 255)?;
     assert_eq!(rt; got.as_slice(), [4].as_slice());
     Ok(())

@@ -1,9 +1,12 @@
-use crate::bytes::blob;
+use crate::bytes::array;
 use b3tree::{Hash, Mode, hash};
 use bao_check::{CheckFault, check_combined, check_outboard, check_slice, check_stream};
 use bao_join::{check_combined_join, check_slice_join};
 use bao_text::{Memory, WriteFault, combined, cut_slice, outboard, slice, write_combined};
+use std::alloc::Global;
+use std::process::Abort;
 use std::test::Fail;
+use std::thread::Threads;
 
 // The published hash of the 2049 bytes i mod 251.
 const ROOT: Hash = Hash([
@@ -28,34 +31,55 @@ const SLICE: Hash = Hash([
     0xb5, 0x4a, 0xd0, 0x67, 0x1c, 0x6a, 0x5b, 0x1f, 0xe0, 0x94, 0xd7, 0x99, 0xe0, 0xcd, 0x4e, 0x38,
 ]);
 
-// Where memory is refused, that is told, and a second call has the text.
-#[test]
-fn texts(rt: HostRuntime) -> Result<(), Fail> {
+// The combined encoding, if need be at the second call.
+fn whole_of<R: AllocGlobal + Abort>(rt: &R, bytes: &[u8]) -> Result<Vec<u8>, Memory> {
     let mode = Mode::hash();
-    let bytes = blob(rt.alloc(), 2049)?;
-    let bytes = bytes.as_slice();
-    let (root, whole) = match combined(rt.alloc(), &mode, bytes) {
+    let (root, text) = match combined(rt.alloc(), &mode, bytes) {
         Err(Memory) => combined(rt.alloc(), &mode, bytes)?,
         Ok(made) => made,
     };
     assert_eq!(rt; root, ROOT);
-    assert_eq!(rt; hash(&mode, whole.as_slice()), COMBINED);
+    assert_eq!(rt; hash(&mode, text.as_slice()), COMBINED);
+    Ok(text)
+}
+
+fn outboard_is_made<R: AllocGlobal + Abort>(rt: &R, bytes: &[u8]) -> Result<(), Memory> {
+    let mode = Mode::hash();
     let (root, text) = match outboard(rt.alloc(), &mode, bytes) {
         Err(Memory) => outboard(rt.alloc(), &mode, bytes)?,
         Ok(made) => made,
     };
     assert_eq!(rt; root, ROOT);
     assert_eq!(rt; hash(&mode, text.as_slice()), OUTBOARD);
+    Ok(())
+}
+
+fn slice_of<R: AllocGlobal + Abort>(rt: &R, bytes: &[u8]) -> Result<Vec<u8>, Memory> {
+    let mode = Mode::hash();
     let (root, text) = match slice(rt.alloc(), &mode, bytes, 1000, 100) {
         Err(Memory) => slice(rt.alloc(), &mode, bytes, 1000, 100)?,
         Ok(made) => made,
     };
     assert_eq!(rt; root, ROOT);
     assert_eq!(rt; hash(&mode, text.as_slice()), SLICE);
-    let cut = match cut_slice(rt.alloc(), whole.as_slice(), 1000, 100) {
-        Err(Memory) => cut_slice(rt.alloc(), whole.as_slice(), 1000, 100)?,
-        Ok(cut) => cut,
-    };
+    Ok(text)
+}
+
+fn cut_of(alloc: Global, whole: &[u8]) -> Result<Vec<u8>, Memory> {
+    match cut_slice(alloc, whole, 1000, 100) {
+        Err(Memory) => cut_slice(alloc, whole, 1000, 100),
+        cut => cut,
+    }
+}
+
+// Where memory is refused, that is told, and a second call has the text.
+#[test]
+fn texts(rt: HostRuntime) -> Result<(), Fail> {
+    let bytes = array::<2049>();
+    outboard_is_made(&rt, &bytes)?;
+    let whole = whole_of(&rt, &bytes)?;
+    let text = slice_of(&rt, &bytes)?;
+    let cut = cut_of(rt.alloc(), whole.as_slice())?;
     assert_eq!(rt; cut.as_slice(), text.as_slice());
     Ok(())
 }
@@ -65,17 +89,17 @@ fn texts(rt: HostRuntime) -> Result<(), Fail> {
 #[test]
 fn a_text_for_a_vector(rt: HostRuntime) -> Result<(), Fail> {
     let mode = Mode::hash();
-    let bytes = blob(rt.alloc(), 2049)?;
+    let bytes = array::<2049>();
     let mut out = Vec::new(rt.alloc());
-    let root = match write_combined(rt.alloc(), &mode, bytes.as_slice(), &mut out) {
+    let root = match write_combined(rt.alloc(), &mode, &bytes, &mut out) {
         Err(WriteFault::Writer { written }) => {
             assert_eq!(rt; written, out.len() as u128);
             out.clear();
-            write_combined(rt.alloc(), &mode, bytes.as_slice(), &mut out)?
+            write_combined(rt.alloc(), &mode, &bytes, &mut out)?
         }
         Err(WriteFault::Memory) => {
             assert!(rt; out.is_empty());
-            write_combined(rt.alloc(), &mode, bytes.as_slice(), &mut out)?
+            write_combined(rt.alloc(), &mode, &bytes, &mut out)?
         }
         Ok(root) => root,
     };
@@ -84,47 +108,79 @@ fn a_text_for_a_vector(rt: HostRuntime) -> Result<(), Fail> {
     Ok(())
 }
 
+fn check_whole<R: AllocGlobal + Threads + Sync + Abort>(
+    rt: &R,
+    text: &[u8],
+    second: Option<&[u8]>,
+) -> Result<(), CheckFault> {
+    let mode = Mode::hash();
+    let piece = check_combined(rt.alloc(), &mode, &ROOT, text)?;
+    assert_eq!(rt; piece.chunk(1), second);
+    let piece = check_combined_join(rt, &mode, &ROOT, text, 1)?;
+    assert_eq!(rt; piece.chunk(1), second);
+    Ok(())
+}
+
+fn check_part<R: AllocGlobal + Threads + Sync + Abort>(
+    rt: &R,
+    text: &[u8],
+    second: Option<&[u8]>,
+) -> Result<(), CheckFault> {
+    let mode = Mode::hash();
+    let piece = check_slice(rt.alloc(), &mode, &ROOT, 1000, 100, text)?;
+    assert_eq!(rt; piece.chunk(1), second);
+    let piece = check_slice_join(rt, &mode, &ROOT, 1000, 100, text, 1)?;
+    assert_eq!(rt; piece.chunk(1), second);
+    Ok(())
+}
+
+fn check_bare<R: AllocGlobal + Abort>(rt: &R, text: &[u8]) -> Result<(), CheckFault> {
+    let outline = check_outboard(rt.alloc(), &Mode::hash(), &ROOT, text)?;
+    assert_eq!(rt; outline.claimed(), 2049);
+    Ok(())
+}
+
 // A check takes no memory but for what a reader gives, and for threads, without which it goes on.
 #[test]
 fn checks(rt: HostRuntime) -> Result<(), Fail> {
     let mode = Mode::hash();
-    let bytes = blob(rt.alloc(), 2049)?;
-    let bytes = bytes.as_slice();
-    let (_, whole) = combined(rt.alloc(), &mode, bytes)?;
-    let (_, bare) = outboard(rt.alloc(), &mode, bytes)?;
-    let (_, text) = slice(rt.alloc(), &mode, bytes, 1000, 100)?;
-    let text = text.as_slice();
+    let bytes = array::<2049>();
     let second = bytes.get(1024..2048);
-    let piece = check_slice(rt.alloc(), &mode, &ROOT, 1000, 100, text)?;
-    assert_eq!(rt; piece.chunk(1), second);
-    let piece = check_slice_join(&rt, &mode, &ROOT, 1000, 100, text, 1)?;
-    assert_eq!(rt; piece.chunk(1), second);
-    let piece = check_combined(rt.alloc(), &mode, &ROOT, whole.as_slice())?;
-    assert_eq!(rt; piece.chunk(1), second);
-    let piece = check_combined_join(&rt, &mode, &ROOT, whole.as_slice(), 1)?;
-    assert_eq!(rt; piece.chunk(1), second);
-    let outline = check_outboard(rt.alloc(), &mode, &ROOT, bare.as_slice())?;
-    assert_eq!(rt; outline.claimed(), 2049);
+    let (_, text) = combined(rt.alloc(), &mode, &bytes)?;
+    check_whole(&rt, text.as_slice(), second)?;
+    let (_, text) = outboard(rt.alloc(), &mode, &bytes)?;
+    check_bare(&rt, text.as_slice())?;
+    let (_, text) = slice(rt.alloc(), &mode, &bytes, 1000, 100)?;
+    check_part(&rt, text.as_slice(), second)?;
     Ok(())
+}
+
+// Whether a check from a reader has this chunk.
+fn reads(alloc: Global, text: &[u8], second: Option<&[u8]>) -> Result<bool, CheckFault> {
+    let mut reader = text;
+    let mut held = Vec::new(alloc);
+    let piece = check_stream(
+        alloc,
+        &Mode::hash(),
+        &ROOT,
+        1000,
+        100,
+        &mut reader,
+        &mut held,
+    )?;
+    Ok(piece.chunk(1) == second)
 }
 
 // The same of a check from a reader, after which the vector holds what was read.
 #[test]
 fn a_check_from_a_reader(rt: HostRuntime) -> Result<(), Fail> {
-    let mode = Mode::hash();
-    let bytes = blob(rt.alloc(), 2049)?;
-    let (_, text) = slice(rt.alloc(), &mode, bytes.as_slice(), 1000, 100)?;
-    let mut reader = text.as_slice();
-    let mut held = Vec::new(rt.alloc());
-    match check_stream(rt.alloc(), &mode, &ROOT, 1000, 100, &mut reader, &mut held) {
-        Ok(piece) => assert_eq!(rt; piece.chunk(1), bytes.as_slice().get(1024..2048)),
-        Err(fault) => {
-            assert_eq!(rt; fault, CheckFault::Memory);
-            let mut reader = text.as_slice();
-            let mut held = Vec::new(rt.alloc());
-            let piece = check_stream(rt.alloc(), &mode, &ROOT, 1000, 100, &mut reader, &mut held)?;
-            assert_eq!(rt; piece.chunk(1), bytes.as_slice().get(1024..2048));
-        }
-    }
+    let bytes = array::<2049>();
+    let second = bytes.get(1024..2048);
+    let (_, text) = slice(rt.alloc(), &Mode::hash(), &bytes, 1000, 100)?;
+    let is_same = match reads(rt.alloc(), text.as_slice(), second) {
+        Err(CheckFault::Memory) => reads(rt.alloc(), text.as_slice(), second)?,
+        is_same => is_same?,
+    };
+    assert!(rt; is_same);
     Ok(())
 }

@@ -51,3 +51,8 @@ pub(crate) fn failing(alloc: Global, room: usize, kind: ErrorKind) -> Broken {
         stuck: false,
     }
 }
+
+// A writer that takes all.
+pub(crate) fn taking(alloc: Global) -> Broken {
+    failing(alloc, usize::MAX, ErrorKind::Other)
+}

@@ -4,6 +4,7 @@ use bao_read::{ReadFault, outboard_source};
 use bao_text::{WriteFault, combined, write_combined};
 use std::io;
 use std::io::{ErrorKind, Write};
+use std::process::Abort;
 use std::test::Fail;
 
 // The hashes of the bytes i mod 251, 200,000 of them, and of their combined encoding as the Python program
@@ -18,18 +19,22 @@ const LARGE_ENCODING_HASH: [u8; 32] = [
     0x6f, 0xe3, 0xd9, 0x04, 0xf4, 0x13, 0xde, 0x89, 0x5f, 0xc9, 0x91, 0xef, 0xd6, 0x3b, 0x14, 0xcf,
 ];
 
+// The bytes before the fault, `full` in number, are the text's first.
+fn fails_after<R: AllocGlobal + Abort>(rt: &R, bytes: &[u8], text: &[u8], full: usize) {
+    let mut out = failing(rt.alloc(), full, ErrorKind::BrokenPipe);
+    let result = write_combined(rt.alloc(), &Mode::hash(), bytes, &mut out);
+    let written = full as u128;
+    assert_eq!(rt; result, Err(WriteFault::Writer { written }));
+    assert_eq!(rt; Some(out.held.as_slice()), text.get(..full));
+}
+
 #[test]
 fn a_write_fails_after_each_number_of_bytes(rt: HostRuntime) -> Result<(), Fail> {
-    let mode = Mode::hash();
     let bytes = blob(rt.alloc(), 2049)?;
-    let (_, text) = combined(rt.alloc(), &mode, bytes.as_slice())?;
+    let (_, text) = combined(rt.alloc(), &Mode::hash(), bytes.as_slice())?;
     assert_eq!(rt; text.len(), 2185);
     for full in 0..text.len() {
-        let mut out = failing(rt.alloc(), full, ErrorKind::BrokenPipe);
-        let result = write_combined(rt.alloc(), &mode, bytes.as_slice(), &mut out);
-        let written = full as u128;
-        assert_eq!(rt; result, Err(WriteFault::Writer { written }));
-        assert_eq!(rt; Some(out.held.as_slice()), text.get(..full));
+        fails_after(&rt, bytes.as_slice(), text.as_slice(), full);
     }
     Ok(())
 }

@@ -1,14 +1,29 @@
-use crate::bytes::{Broken, blob, failing};
+use crate::bytes::{Broken, blob, failing, taking};
+use crate::inputs::encoded;
 use b3tree::Mode;
-use bao_check::check_slice;
-use bao_files::{Encoding, FileFault, Part, encode_input};
+use bao_check::{Checked, check_slice};
+use bao_files::{Encoding, FileFault, Part};
 use bao_tasks::write_part;
 use bao_text::{combined, outboard, slice};
 use std::io::ErrorKind;
+use std::process::Abort;
 use std::test::Fail;
+use std::thread::Threads;
 
 // How many bytes i mod 251: enough for threads.
 const LEN: usize = 4_200_001;
+
+// The range goes to a writer that takes all, and its first bytes to one that fails.
+fn part_is_written<R: AllocGlobal + Abort>(rt: &R, piece: &Checked<'_>, part: &Part, bytes: &[u8]) {
+    let mut out = taking(rt.alloc());
+    assert_eq!(rt; write_part(piece, part, &mut out), Ok(100));
+    assert_eq!(rt; Some(out.held.as_slice()), bytes.get(1000..1100));
+    for room in [0, 10, 24, 90] {
+        let mut out: Broken = failing(rt.alloc(), room, ErrorKind::Interrupted);
+        assert!(rt; write_part(piece, part, &mut out).is_err());
+        assert_eq!(rt; Some(out.held.as_slice()), bytes.get(1000..1000 + room));
+    }
+}
 
 // A writer that fails, after a beginning of the range.
 #[test]
@@ -21,14 +36,24 @@ fn parts_to_writers(rt: HostRuntime) -> Result<(), Fail> {
         start: 1000,
         len: 100,
     };
-    let mut out = Vec::new(rt.alloc());
-    assert_eq!(rt; write_part(&piece, &part, &mut out), Ok(100));
-    assert_eq!(rt; Some(out.as_slice()), bytes.get(1000..1100));
-    for room in [0, 10, 24, 90] {
-        let mut out: Broken = failing(rt.alloc(), room, ErrorKind::Interrupted);
-        assert!(rt; write_part(&piece, &part, &mut out).is_err());
-        assert_eq!(rt; Some(out.held.as_slice()), bytes.get(1000..1000 + room));
-    }
+    part_is_written(&rt, &piece, &part, bytes.as_slice());
+    Ok(())
+}
+
+fn first_bytes_are_written<R: AllocGlobal + Threads + Sync + Abort>(
+    rt: &R,
+    encoding: Encoding,
+    bytes: &[u8],
+    size: usize,
+    text: &[u8],
+) -> Result<(), Fail> {
+    let mut input = bytes;
+    let mut out = failing(rt.alloc(), 200_000, ErrorKind::Interrupted);
+    let Err(FileFault::Write(path)) = encoded(rt, encoding, &mut input, size, &mut out) else {
+        return Err("a fault of writing".into());
+    };
+    assert_eq!(rt; path, "out");
+    assert_eq!(rt; Some(out.held.as_slice()), text.get(..200_000));
     Ok(())
 }
 
@@ -36,32 +61,14 @@ fn parts_to_writers(rt: HostRuntime) -> Result<(), Fail> {
 #[test]
 fn a_write_that_fails_is_the_last(rt: HostRuntime) -> Result<(), Fail> {
     let bytes = blob(rt.alloc(), LEN)?;
-    let mode = Mode::hash();
-    let (_, whole) = combined(rt.alloc(), &mode, bytes.as_slice())?;
-    let (_, parents) = outboard(rt.alloc(), &mode, bytes.as_slice())?;
-    for (encoding, text) in [
-        (Encoding::Combined, whole.as_slice()),
-        (Encoding::Outboard, parents.as_slice()),
-    ] {
-        for size in [0, LEN] {
-            let mut input = bytes.as_slice();
-            let mut out = failing(rt.alloc(), 200_000, ErrorKind::Interrupted);
-            let got = encode_input(
-                &rt,
-                &mode,
-                encoding,
-                &mut input,
-                size as u64,
-                "file",
-                &mut out,
-                "out",
-            );
-            let Err(FileFault::Write(path)) = got else {
-                return Err("a fault of writing".into());
-            };
-            assert_eq!(rt; path, "out");
-            assert_eq!(rt; Some(out.held.as_slice()), text.get(..200_000));
-        }
+    let bytes = bytes.as_slice();
+    let (_, text) = combined(rt.alloc(), &Mode::hash(), bytes)?;
+    for size in [0, LEN] {
+        first_bytes_are_written(&rt, Encoding::Combined, bytes, size, text.as_slice())?;
+    }
+    let (_, text) = outboard(rt.alloc(), &Mode::hash(), bytes)?;
+    for size in [0, LEN] {
+        first_bytes_are_written(&rt, Encoding::Outboard, bytes, size, text.as_slice())?;
     }
     Ok(())
 }

@@ -1,4 +1,4 @@
-use crate::bytes::failing;
+use crate::bytes::{Broken, failing, taking};
 use bao_command::{command, own_words};
 use std::alloc::Global;
 use std::env::FillError;
@@ -9,8 +9,6 @@ use std::rt::{Env, Files};
 use std::test::Fail;
 use std::thread::Threads;
 use std::{fs, process, str};
-
-const ABC: &str = "6437b3ac38465133ffb63b75273a8db548c558465d79db03fd359c6cd5bd9d85\n";
 
 // The words of a process: its name, and then the byte FF.
 #[derive(Drop)]
@@ -51,6 +49,17 @@ fn words(alloc: Global, given: &[&str]) -> Result<Vec<String>, Fail> {
     Ok(words)
 }
 
+// Runs the program with these two streams, and answers its status.
+fn ran<R: Files<File = File> + AllocGlobal + Threads + Sync>(
+    rt: &R,
+    given: &[&str],
+    out: &mut Broken,
+    err: &mut Broken,
+) -> Result<u8, Fail> {
+    let words = words(rt.alloc(), given)?;
+    Ok(command(rt, words.as_slice(), out, err, &()))
+}
+
 // Runs the program, and asserts its status and what it prints on its two streams.
 pub(crate) fn expect<R: Files<File = File> + AllocGlobal + Threads + Sync + Abort>(
     rt: &R,
@@ -59,13 +68,12 @@ pub(crate) fn expect<R: Files<File = File> + AllocGlobal + Threads + Sync + Abor
     out: &str,
     err: &str,
 ) -> Result<(), Fail> {
-    let words = words(rt.alloc(), given)?;
-    let mut printed = Vec::new(rt.alloc());
-    let mut faults = Vec::new(rt.alloc());
-    let got = command(rt, words.as_slice(), &mut printed, &mut faults, &());
+    let mut printed = taking(rt.alloc());
+    let mut faults = taking(rt.alloc());
+    let got = ran(rt, given, &mut printed, &mut faults)?;
     assert_eq!(rt; got, status, "{given:?}");
-    assert_eq!(rt; printed.as_slice(), out.as_bytes(), "{given:?}");
-    assert_eq!(rt; faults.as_slice(), err.as_bytes(), "{given:?}");
+    assert_eq!(rt; printed.held.as_slice(), out.as_bytes());
+    assert_eq!(rt; faults.held.as_slice(), err.as_bytes());
     Ok(())
 }
 
@@ -74,74 +82,109 @@ pub(crate) fn path(alloc: Global, process: u32, name: &str) -> Result<String, Fa
     Ok(format!(in alloc; "/tmp/bao_gather-{process}-{name}")?)
 }
 
-// A file whose size the metadata doesn't tell.
+// A file with what /proc/version has, whose size the metadata doesn't tell.
+fn copy_version<R: Files<File = File> + AllocGlobal + Abort>(
+    rt: &R,
+    file: &str,
+) -> Result<(), Fail> {
+    let told = fs::metadata(rt, "/proc/version")?.len();
+    assert_eq!(rt; told, 0);
+    let version = fs::read(rt, "/proc/version")?;
+    assert!(rt; !version.is_empty());
+    fs::write(rt, file, version.as_slice())?;
+    Ok(())
+}
+
+// The program has one hash for both.
+fn version_has_hash_of<R: Files<File = File> + AllocGlobal + Threads + Sync + Abort>(
+    rt: &R,
+    file: &str,
+) -> Result<(), Fail> {
+    let mut line = taking(rt.alloc());
+    let mut faults = taking(rt.alloc());
+    assert_eq!(rt; ran(rt, &["hash", file], &mut line, &mut faults)?, 0);
+    let line = str::from_utf8(line.held.as_slice())?;
+    expect(rt, &["hash", "/proc/version"], 0, line, "")
+}
+
 #[test]
 fn a_file_of_no_size_is_read_whole(rt: HostRuntime) -> Result<(), Fail> {
     let file = path(rt.alloc(), process::id(rt.process()), "whole")?;
-    let file = file.as_str();
-    let told = fs::metadata(&rt, "/proc/version")?.len();
-    assert_eq!(rt; told, 0);
-    let version = fs::read(&rt, "/proc/version")?;
-    assert!(rt; !version.is_empty());
-    fs::write(&rt, file, version.as_slice())?;
-    let words = words(rt.alloc(), &["hash", file])?;
-    let mut line = Vec::new(rt.alloc());
-    let mut faults = Vec::new(rt.alloc());
-    assert_eq!(rt;
-        command(&rt, words.as_slice(), &mut line, &mut faults, &()),
-        0
-    );
-    expect(
-        &rt,
-        &["hash", "/proc/version"],
-        0,
-        str::from_utf8(line.as_slice())?,
-        "",
-    )?;
-    fs::remove_file(&rt, file)?;
+    copy_version(&rt, file.as_str())?;
+    version_has_hash_of(&rt, file.as_str())?;
+    fs::remove_file(&rt, file.as_str())?;
     Ok(())
+}
+
+const OUTPUT: &str = "bao_gather: cannot write output\n";
+
+// Standard output fails after `text`, which ends the run so.
+fn output_fails<R: Files<File = File> + AllocGlobal + Threads + Sync + Abort>(
+    rt: &R,
+    given: &[&str],
+    kind: ErrorKind,
+    text: &[u8],
+    status: u8,
+    told: &str,
+) -> Result<(), Fail> {
+    let mut out = failing(rt.alloc(), text.len(), kind);
+    let mut faults = taking(rt.alloc());
+    assert_eq!(rt; ran(rt, given, &mut out, &mut faults)?, status);
+    assert_eq!(rt; faults.held.as_slice(), told.as_bytes());
+    assert_eq!(rt; out.held.as_slice(), text);
+    Ok(())
+}
+
+// Standard output can't be flushed.
+fn output_is_stuck<R: Files<File = File> + AllocGlobal + Threads + Sync + Abort>(
+    rt: &R,
+    given: &[&str],
+) -> Result<(), Fail> {
+    let mut out = taking(rt.alloc());
+    out.stuck = true;
+    let mut faults = taking(rt.alloc());
+    assert_eq!(rt; ran(rt, given, &mut out, &mut faults)?, 3);
+    assert_eq!(rt; faults.held.as_slice(), OUTPUT.as_bytes());
+    Ok(())
+}
+
+// A pipe that its reader closed is no fault of help.
+fn outputs_fail<R: Files<File = File> + AllocGlobal + Threads + Sync + Abort>(
+    rt: &R,
+    file: &str,
+) -> Result<(), Fail> {
+    let (none, some) = (b"".as_slice(), b"6437b3ac38".as_slice());
+    for kind in [ErrorKind::BrokenPipe, ErrorKind::Interrupted] {
+        output_fails(rt, &["hash", file], kind, none, 3, OUTPUT)?;
+        output_fails(rt, &["hash", file], kind, some, 3, OUTPUT)?;
+    }
+    let (help, begins) = (["help", "hash"], b"Prints the".as_slice());
+    output_fails(rt, &help, ErrorKind::BrokenPipe, begins, 0, "")?;
+    output_fails(rt, &help, ErrorKind::Interrupted, begins, 3, OUTPUT)?;
+    output_is_stuck(rt, &["hash", file])?;
+    output_is_stuck(rt, &help)
 }
 
 #[test]
 fn faults_of_streams(rt: HostRuntime) -> Result<(), Fail> {
     let file = path(rt.alloc(), process::id(rt.process()), "streams")?;
-    let file = file.as_str();
-    fs::write(&rt, file, "abc")?;
-    let output = "bao_gather: cannot write output\n";
-    // A pipe that its reader closed is no fault of help.
-    for (kind, of_help, told) in [
-        (ErrorKind::BrokenPipe, 0, ""),
-        (ErrorKind::Interrupted, 3, output),
-    ] {
-        for room in [0, 10] {
-            let words = words(rt.alloc(), &["hash", file])?;
-            let mut faults = Vec::new(rt.alloc());
-            let mut out = failing(rt.alloc(), room, kind);
-            let status = command(&rt, words.as_slice(), &mut out, &mut faults, &());
-            assert_eq!(rt; status, 3);
-            assert_eq!(rt; faults.as_slice(), output.as_bytes());
-            assert_eq!(rt; Some(out.held.as_slice()), ABC.as_bytes().get(..room));
-        }
-        let words = words(rt.alloc(), &["help", "hash"])?;
-        let mut faults = Vec::new(rt.alloc());
-        let mut out = failing(rt.alloc(), 10, kind);
-        let status = command(&rt, words.as_slice(), &mut out, &mut faults, &());
-        assert_eq!(rt; status, of_help);
-        assert_eq!(rt; faults.as_slice(), told.as_bytes());
-        assert_eq!(rt; out.held.as_slice(), b"Prints the".as_slice());
-    }
-    for given in [["hash", file], ["help", "hash"]] {
-        let words = words(rt.alloc(), given.as_slice())?;
-        let mut faults = Vec::new(rt.alloc());
-        let mut out = failing(rt.alloc(), usize::MAX, ErrorKind::Other);
-        out.stuck = true;
-        assert_eq!(rt;
-            command(&rt, words.as_slice(), &mut out, &mut faults, &()),
-            3
-        );
-        assert_eq!(rt; faults.as_slice(), output.as_bytes());
-    }
-    fs::remove_file(&rt, file)?;
+    fs::write(&rt, file.as_str(), "abc")?;
+    outputs_fail(&rt, file.as_str())?;
+    fs::remove_file(&rt, file.as_str())?;
+    Ok(())
+}
+
+fn error_fails<R: Files<File = File> + AllocGlobal + Threads + Sync + Abort>(
+    rt: &R,
+    given: &[&str],
+    kind: ErrorKind,
+    status: u8,
+) -> Result<(), Fail> {
+    let mut printed = taking(rt.alloc());
+    let mut err = failing(rt.alloc(), 5, kind);
+    assert_eq!(rt; ran(rt, given, &mut printed, &mut err)?, status);
+    assert!(rt; printed.held.is_empty());
+    assert_eq!(rt; err.held.len(), 5);
     Ok(())
 }
 
@@ -149,15 +192,8 @@ fn faults_of_streams(rt: HostRuntime) -> Result<(), Fail> {
 #[test]
 fn faults_of_standard_error(rt: HostRuntime) -> Result<(), Fail> {
     for kind in [ErrorKind::BrokenPipe, ErrorKind::Interrupted] {
-        for (given, status) in [(["hash", "/tmp/missing/file"], 3), (["hash", "--no"], 2)] {
-            let words = words(rt.alloc(), given.as_slice())?;
-            let mut printed = Vec::new(rt.alloc());
-            let mut err = failing(rt.alloc(), 5, kind);
-            let got = command(&rt, words.as_slice(), &mut printed, &mut err, &());
-            assert_eq!(rt; got, status);
-            assert!(rt; printed.is_empty());
-            assert_eq!(rt; err.held.len(), 5);
-        }
+        error_fails(&rt, &["hash", "/tmp/missing/file"], kind, 3)?;
+        error_fails(&rt, &["hash", "--no"], kind, 2)?;
     }
     Ok(())
 }

@@ -1,9 +1,12 @@
-use crate::bytes::blob;
+use crate::bytes::{Broken, blob, taking};
 use b3tree::Mode;
 use bao_files::{FileFault, ReadFault, print_input, print_reader, read_whole};
+use std::alloc::Global;
 use std::io;
 use std::io::{ErrorKind, Read};
+use std::process::Abort;
 use std::test::Fail;
+use std::thread::Threads;
 
 // The hash of the bytes i mod 251, 2^20 + 1 of them, by `b3sum` 1.2.0.
 const LARGE: &str = "2f053cd7472cf0cd2f9adaf45c1180255b91b9a865404a63671a0ee5f792ed33\n";
@@ -43,29 +46,54 @@ impl Read for Dealing<'_> {
     }
 }
 
+// What a reader gives is hashed, and the digits printed.
+fn printed(
+    alloc: Global,
+    reader: &mut Dealing<'_>,
+    out: &mut Broken,
+) -> Result<(), FileFault<'static>> {
+    print_reader(alloc, &Mode::hash(), reader, "file", 0, 32, out)
+}
+
+fn digits_are_printed<R: AllocGlobal + Abort>(rt: &R, bytes: &[u8], most: usize) {
+    let mut reader = Dealing {
+        rest: bytes,
+        most,
+        before: usize::MAX,
+        kind: None,
+    };
+    let mut out = taking(rt.alloc());
+    assert!(rt; printed(rt.alloc(), &mut reader, &mut out).is_ok());
+    assert_eq!(rt; out.held.as_slice(), LARGE.as_bytes(), "{most}");
+}
+
 #[test]
 fn digits_of_all_that_a_reader_gives(rt: HostRuntime) -> Result<(), Fail> {
     let bytes = blob(rt.alloc(), 1_048_577)?;
     for most in [1, 3, 1000, usize::MAX] {
-        let mut reader = Dealing {
-            rest: bytes.as_slice(),
-            most,
-            before: usize::MAX,
-            kind: None,
-        };
-        let mut printed = Vec::new(rt.alloc());
-        let got = print_reader(
-            rt.alloc(),
-            &Mode::hash(),
-            &mut reader,
-            "file",
-            0,
-            32,
-            &mut printed,
-        );
-        assert!(rt; got.is_ok());
-        assert_eq!(rt; printed.as_slice(), LARGE.as_bytes(), "{most}");
+        digits_are_printed(&rt, bytes.as_slice(), most);
     }
+    Ok(())
+}
+
+fn nothing_is_printed<R: AllocGlobal + Abort>(
+    rt: &R,
+    bytes: &[u8],
+    before: usize,
+    kind: ErrorKind,
+) -> Result<(), Fail> {
+    let mut reader = Dealing {
+        rest: bytes,
+        most: 300_000,
+        before,
+        kind: Some(kind),
+    };
+    let mut out = taking(rt.alloc());
+    let Err(FileFault::Read(path)) = printed(rt.alloc(), &mut reader, &mut out) else {
+        return Err("a fault of reading".into());
+    };
+    assert_eq!(rt; path, "file");
+    assert!(rt; out.held.is_empty());
     Ok(())
 }
 
@@ -75,30 +103,18 @@ fn nothing_is_printed_after_a_fault_of_reading(rt: HostRuntime) -> Result<(), Fa
     let bytes = blob(rt.alloc(), 1_048_577)?;
     for kind in [ErrorKind::Other, ErrorKind::Interrupted] {
         for before in [0, 1, 1000, 1_048_576, 1_048_577] {
-            let mut reader = Dealing {
-                rest: bytes.as_slice(),
-                most: 300_000,
-                before,
-                kind: Some(kind),
-            };
-            let mut printed = Vec::new(rt.alloc());
-            let got = print_reader(
-                rt.alloc(),
-                &Mode::hash(),
-                &mut reader,
-                "file",
-                0,
-                32,
-                &mut printed,
-            );
-            let Err(FileFault::Read(path)) = got else {
-                return Err("a fault of reading".into());
-            };
-            assert_eq!(rt; path, "file");
-            assert!(rt; printed.is_empty());
+            nothing_is_printed(&rt, bytes.as_slice(), before, kind)?;
         }
     }
     Ok(())
+}
+
+fn all_is_hashed<R: AllocGlobal + Threads + Sync + Abort>(rt: &R, bytes: &[u8], len: Option<u64>) {
+    let mut input = bytes;
+    let mut out = taking(rt.alloc());
+    let got = print_input(rt, &Mode::hash(), &mut input, len, "file", 0, 32, &mut out);
+    assert!(rt; got.is_ok());
+    assert_eq!(rt; out.held.as_slice(), LARGE.as_bytes(), "{len:?}");
 }
 
 // An input that hasn't the length that it was said to have is read on one thread.
@@ -112,20 +128,7 @@ fn digits_of_all_that_an_input_has(rt: HostRuntime) -> Result<(), Fail> {
         Some(1_048_577),
         Some(u64::MAX),
     ] {
-        let mut input = bytes.as_slice();
-        let mut printed = Vec::new(rt.alloc());
-        let got = print_input(
-            &rt,
-            &Mode::hash(),
-            &mut input,
-            len,
-            "file",
-            0,
-            32,
-            &mut printed,
-        );
-        assert!(rt; got.is_ok());
-        assert_eq!(rt; printed.as_slice(), LARGE.as_bytes(), "{len:?}");
+        all_is_hashed(&rt, bytes.as_slice(), len);
     }
     Ok(())
 }

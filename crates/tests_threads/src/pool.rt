@@ -1,8 +1,11 @@
+ghost use Rattle.std.specs.Prelude.{◌≤◌};
+
 use crate::meeting::Meeting;
 use crate::stores::blob;
-use b3tree::{Mode, hash};
+use b3tree::{Hash, Mode, hash};
 use bao_read::{Open, ParFault, hash_join, hash_pool, hash_pooled};
 use std::test::Fail;
+use std::thread::Threads;
 
 // Threads are run to their end; that the two agree for every input is proved.
 #[test]
@@ -55,24 +58,33 @@ const JOBS: [(usize, usize); 11] = [
     (1_000_000, 16),
 ];
 
+// What so many workers make of the bytes: the hash, how many jobs there are, and what the gate saw.
+fn seen_of<R: AllocGlobal + Threads + Sync>(
+    rt: &R,
+    bytes: &[u8],
+    workers: usize,
+) -> Result<(Hash, usize, (u64, u64, u64)), Fail>
+    requires { (1 ≤ workers) × (workers ≤ 64) }
+{
+    let gate = Meeting::of(0);
+    let pooled = hash_pooled(rt, rt.alloc(), &Mode::hash(), bytes, workers, &gate)?;
+    if pooled.answered != pooled.jobs {
+        return Err("a job that no worker answered for".into());
+    }
+    Ok((pooled.hash, pooled.jobs, gate.seen()))
+}
+
 // Each job is answered for by a worker, and each worker passes the gate once, with its own number, though there are
 // fewer jobs than workers. A worker that doesn't pass fails this, and so does one that passes and takes no job.
 #[test]
 fn workers_answer_for_all_jobs(rt: HostRuntime) -> Result<(), Fail> {
-    let mode = Mode::hash();
     for (len, jobs) in JOBS {
         let bytes = blob(rt.alloc(), len)?;
-        let whole = hash(&mode, bytes.as_slice());
+        let whole = hash(&Mode::hash(), bytes.as_slice());
         for (workers, numbers) in [(1, 0b1), (2, 0b11), (7, 0b111_1111), (64, u64::MAX)] {
-            let gate = Meeting::of(0);
-            let pooled = hash_pooled(&rt, rt.alloc(), &mode, bytes.as_slice(), workers, &gate)?;
-            assert_eq!(rt; pooled.hash, whole, "{len} {workers}");
-            assert_eq!(rt; pooled.jobs, jobs, "{len} {workers}");
-            if pooled.answered != jobs {
-                return Err("a job that no worker answered for".into());
-            }
+            let seen = seen_of(&rt, bytes.as_slice(), workers)?;
             let all = workers as u64;
-            assert_eq!(rt; gate.seen(), (all, numbers, all), "{len} {workers}");
+            assert_eq!(rt; seen, (whole, jobs, (all, numbers, all)), "{len} {workers}");
         }
     }
     Ok(())

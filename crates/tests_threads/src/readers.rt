@@ -97,22 +97,29 @@ fn read_right(
         }
     };
     let (read, rest) = out.split_at_checked(count)?;
-    let right = Some(read) == range.get(..count) && rest.iter().all(|byte| *byte == UNREAD);
-    right.then_some(count)
+    for byte in rest {
+        if *byte != UNREAD {
+            return None;
+        }
+    }
+    (Some(read) == range.get(..count)).then_some(count)
 }
 
 // Whether each of many reads of two ranges is right, and none reads less than one before it.
 fn watch<R: Wait>(
     rt: &R,
+    alloc: Global,
     assembly: &Assembly,
     mut seat: Seat,
-    mut out: Vec<u8>,
     bytes: &[u8],
     barriers: &[Barrier],
 ) -> (Seat, bool)
     requires { IsSeatOf assembly.now seat }
     ensures { IsSeatOf assembly.now result.0 }
 {
+    let Ok(mut out) = vec![in alloc; 0; bytes.len()] else {
+        return (seat, false);
+    };
     let Some(middle) = bytes.get(FROM..TO) else {
         return (seat, false);
     };
@@ -163,8 +170,8 @@ fn commit_both<R: Threads + Wait + Sync>(
 fn watch_both<R: Threads + Wait + Sync>(
     rt: &R,
     assembly: &Assembly,
-    one: (Seat, Vec<u8>),
-    two: (Seat, Vec<u8>),
+    one: (Seat, Global),
+    two: (Seat, Global),
     bytes: &[u8],
     barriers: &[Barrier],
 ) -> ((Seat, bool), (Seat, bool))
@@ -177,11 +184,11 @@ fn watch_both<R: Threads + Wait + Sync>(
         move || -> (Seat, bool)
             requires { IsSeatOf assembly.now one.0 }
             ensures { IsSeatOf assembly.entry.now result.0 }
-        { watch(rt, assembly, one.0, one.1, bytes, barriers) },
+        { watch(rt, one.1, assembly, one.0, bytes, barriers) },
         move || -> (Seat, bool)
             requires { IsSeatOf assembly.now two.0 }
             ensures { IsSeatOf assembly.entry.now result.0 }
-        { watch(rt, assembly, two.0, two.1, bytes, barriers) },
+        { watch(rt, two.1, assembly, two.0, bytes, barriers) },
     )
 }
 
@@ -190,7 +197,7 @@ fn commit_and_watch<R: Threads + Wait + Sync>(
     rt: &R,
     assembly: &Assembly,
     writers: ((Seat, Global), (Seat, Global)),
-    readers: ((Seat, Vec<u8>), (Seat, Vec<u8>)),
+    readers: ((Seat, Global), (Seat, Global)),
     encoding: &[u8],
     bytes: &[u8],
     barriers: &[Barrier],
@@ -234,6 +241,30 @@ fn read_both(
     (of_first, of_second)
 }
 
+// The seats of a writer and of both readers, which meet, where the threads did what they have to.
+fn met(
+    assembly: &Assembly,
+    written: ((Seat, Option<u32>), (Seat, Option<u32>)),
+    watched: ((Seat, bool), (Seat, bool)),
+) -> Result<(Seat, Seat, Seat), Fail>
+    requires written { IsSeatOf assembly.now written.0.0 × IsSeatOf assembly.now written.1.0 }
+    requires watched { IsSeatOf assembly.now watched.0.0 × IsSeatOf assembly.now watched.1.0 }
+    ensures { IfOk result (λ seats. IsSeatOf assembly.now seats.0 × IsSeatOf assembly.now seats.1 × IsSeatOf assembly.now seats.2) }
+{
+    let ((mut writer, by_one), (mut other, by_two)) = written;
+    let ((mut first, first_right), (mut second, second_right)) = watched;
+    assembly.meet(&mut writer, &mut other);
+    assembly.meet(&mut writer, &mut first);
+    assembly.meet(&mut first, &mut second);
+    if !first_right || !second_right {
+        return Err(Fail::from("a reader read something else"));
+    }
+    if by_one.unwrap_or(0).saturating_add(by_two.unwrap_or(0)) != 147 {
+        return Err(Fail::from("other chunks were committed"));
+    }
+    Ok((writer, first, second))
+}
+
 // Has two threads commit the first three parts while two read, and answers the seats of a writer and of both readers,
 // which have met. All four begin each part together, so that the readers read while it is committed.
 fn read_beside_commits<R: AllocGlobal + Threads + Wait + Sync>(
@@ -250,47 +281,34 @@ fn read_beside_commits<R: AllocGlobal + Threads + Wait + Sync>(
     let (one, two) = split(assembly, writers)?;
     let (first, second) = split(assembly, readers)?;
     let writers = ((one, rt.alloc()), (two, rt.alloc()));
-    let out = vec![in rt.alloc(); 0; 200_000]?;
-    let other_out = vec![in rt.alloc(); 0; 200_000]?;
-    let readers = ((first, out), (second, other_out));
+    let readers = ((first, rt.alloc()), (second, rt.alloc()));
     let barriers = [Barrier::new(4), Barrier::new(4), Barrier::new(4)];
     let (written, watched) = commit_and_watch(
         rt, assembly, writers, readers, whole, bytes, &barriers,
     );
-    let ((mut writer, by_one), (mut other, by_two)) = written;
-    let ((mut first, first_right), (mut second, second_right)) = watched;
-    if !first_right || !second_right {
-        return Err(Fail::from("a reader read something else"));
-    }
-    if by_one.unwrap_or(0).saturating_add(by_two.unwrap_or(0)) != 147 {
-        return Err(Fail::from("other chunks were committed"));
-    }
-    assembly.meet(&mut writer, &mut other);
-    assembly.meet(&mut writer, &mut first);
-    assembly.meet(&mut first, &mut second);
-    Ok((writer, first, second))
+    met(assembly, written, watched)
 }
 
-// The last part is committed after both readers read the others.
-#[test]
-fn two_readers_beside_two_writers(rt: HostRuntime) -> Result<(), Fail> {
-    let bytes = blob(rt.alloc(), 200_000)?;
-    let bytes = bytes.as_slice();
-    let (_, whole) = combined(rt.alloc(), &Mode::hash(), bytes)?;
-    let whole = whole.as_slice();
+// What both readers read of the blob beside the commits, how many chunks a writer commits then, the last part, and what both
+// read after it.
+fn read_before_and_after<R: AllocGlobal + Threads + Wait + Sync>(
+    rt: &R,
+    out: &mut [u8],
+    whole: &[u8],
+    bytes: &[u8],
+) -> Result<
+    (
+        (Option<usize>, Option<usize>),
+        Option<u32>,
+        (Option<usize>, Option<usize>),
+    ),
+    Fail,
+> {
     let (assembly, seat) = store(rt.alloc(), ROOT, 196)?;
-    let (writer, mut first, mut second) = read_beside_commits(&rt, &assembly, seat, whole, bytes)?;
-    let mut out = vec![in rt.alloc(); 0; 200_000]?;
-    let read = read_both(
-        &assembly,
-        &mut first,
-        &mut second,
-        out.as_mut_slice(),
-        bytes,
-    );
-    assert_eq!(rt; read, (Some(150_528), Some(150_528)));
+    let (writer, mut first, mut second) = read_beside_commits(rt, &assembly, seat, whole, bytes)?;
+    let before = read_both(&assembly, &mut first, &mut second, out, bytes);
     let (mut writer, last) = commit_chunks(
-        &rt,
+        rt,
         rt.alloc(),
         &assembly,
         writer,
@@ -298,16 +316,26 @@ fn two_readers_beside_two_writers(rt: HostRuntime) -> Result<(), Fail> {
         (147, 196),
         &[],
     );
-    assert_eq!(rt; last, Some(49));
     assembly.meet(&mut writer, &mut first);
     assembly.meet(&mut first, &mut second);
-    let read = read_both(
-        &assembly,
-        &mut first,
-        &mut second,
+    let after = read_both(&assembly, &mut first, &mut second, out, bytes);
+    Ok((before, last, after))
+}
+
+// The last part is committed after both readers read the others.
+#[test]
+fn two_readers_beside_two_writers(rt: HostRuntime) -> Result<(), Fail> {
+    let bytes = blob(rt.alloc(), 200_000)?;
+    let (_, whole) = combined(rt.alloc(), &Mode::hash(), bytes.as_slice())?;
+    let mut out = vec![in rt.alloc(); 0; 200_000]?;
+    let (before, last, after) = read_before_and_after(
+        &rt,
         out.as_mut_slice(),
-        bytes,
-    );
-    assert_eq!(rt; read, (Some(200_000), Some(200_000)));
+        whole.as_slice(),
+        bytes.as_slice(),
+    )?;
+    assert_eq!(rt; before, (Some(150_528), Some(150_528)));
+    assert_eq!(rt; last, Some(49));
+    assert_eq!(rt; after, (Some(200_000), Some(200_000)));
     Ok(())
 }
