@@ -4,7 +4,9 @@
 usage: python3 scripts/laws.py [--list]
 
 At the top of the repository. A law is a public function of a crate determined_*: it asks a call twice of the same, and ensures
-that both answers are equal. A function without one is named, with the reason, in the table of docs/PROMISES.md under HEADING.
+that both answers are equal. A function without one is named, with the reason, in the table of docs/PROMISES.md under HEADING:
+a method there as TYPE::NAME. A function counts as asked where a law calls it; a method, where a law calls one of its name and
+names its type.
 Fails where a public function of a library has neither, or both, or where the table names one that isn't there.
 --list prints the functions of each crate that have a law. It proves nothing and takes a second.
 """
@@ -34,7 +36,9 @@ PUBLIC = re.compile(r'^( *)pub (?:(?:const|unsafe|final|extern "C") )*fn (\w+)(?
 # The type of which an impl's functions are.
 IMPL = re.compile(r"^impl(?:<[^{]*?>)? (?:[^{;]*? for )?&?(?:'\w+ )?(\w+)", re.M)
 LAW = re.compile(r"^pub fn (\w+)", re.M)
-CALL = re.compile(r"\b(\w+)(?:::<[^>]*>)?\(")
+# A call, with the type or module before it, or the dot.
+CALL = re.compile(r"(?:\b(\w+)(?:::<[^>]*>)?::|(\.))?\b(\w+)(?:::<[^>]*>)?\(")
+CLAUSES = re.compile(r"\n    (?:requires|ensures)\b")
 COMMENT = re.compile(r"//[^\n]*")
 
 
@@ -62,7 +66,7 @@ def exported(crate):
 
 
 def public_of(crate):
-    """Returns the names of a crate's public functions: those that its root hands out, and the methods of types that it hands out."""
+    """Returns a crate's public functions: those that its root hands out, and as TYPE::NAME the methods of types that it hands out."""
     out, found = exported(crate), set()
     for file in sources_of(crate):
         text, root = COMMENT.sub("", text_of(file)), file.endswith("src/lib.rt")
@@ -72,21 +76,25 @@ def public_of(crate):
             of = [*IMPL.findall(text[: it.start()])][-1:] if indent else []
             is_out = root or module or (of[0] in out if of else name in out or 'extern "C"' in it[0])
             if is_out and not any(empty) and not name.endswith("_determined"):
-                found.add(name)
+                found.add("::".join([*of, name]))
     return found
 
 
 def laws_of(crate):
-    """Returns the laws of a crate of laws, each with the names that it calls and the crates that its file uses of those that
-    it may be of."""
+    """Returns of each law of a crate of laws the crates that its file uses of those that it may be of, and what it calls: functions,
+    methods by name alone, and the words that it has."""
     for text in sources(crate):
         of = [it for it in OF[crate] if it == crate or re.search(rf"\b{it}::", text)]
         heads = [it for it in LAW.finditer(text) if not crate in of or it[1].endswith("_determined")]
         for head, end in zip(heads, [it.start() for it in heads[1:]] + [len(text)]):
-            # (its body: the law's own head calls nothing)
-            body = text[head.start() : end].split("\n{", 1)[-1]
+            clauses, body = text[head.start() : end].split("\n{", 1)
+            # (without its clauses, whose words are no types, and its own name, which it doesn't call)
+            law = CLAUSES.split(clauses)[0] + body
+            calls = CALL.findall(body)
+            functions = {f"{of}::{name}" if of[:1].isupper() else name for of, dot, name in calls if not dot}
             # An iterator's `next` is called by a `for`.
-            yield head[1], of, {*CALL.findall(body), *(["next"] if re.search(r"^\s*for ", body, re.M) else [])}
+            methods = {name for _, dot, name in calls if dot} | ({"next"} if re.search(r"^\s*for ", law, re.M) else set())
+            yield of, functions, methods, set(re.findall(r"\w+", law))
 
 
 def excused():
@@ -98,17 +106,23 @@ def excused():
     for line in section[1].split("\n## ", 1)[0].split("\n"):
         cells = [it.strip() for it in line.strip().strip("|").split("|")]
         if line.startswith("| `") and len(cells) == 3:
-            rows.setdefault(cells[0].strip("`"), set()).update(re.findall(r"`(\w+)`", cells[1]))
+            rows.setdefault(cells[0].strip("`"), set()).update(re.findall(r"`([\w:]+)`", cells[1]))
     return rows
+
+
+def is_asked(function, laws):
+    """Whether one of the laws asks the function."""
+    of, _, name = function.rpartition("::")
+    return any(function in functions or of and name in methods and of in words for functions, methods, words in laws)
 
 
 def main():
     crates = [it.split(":")[0].split()[0] for it in text_of("crates.txt").split("\n") if it.strip() and not it.startswith("#")]
     why, called = excused(), {}
     for laws in OF:
-        for _, of, names in laws_of(laws):
+        for of, *law in laws_of(laws):
             for crate in of:
-                called.setdefault(crate, set()).update(names)
+                called.setdefault(crate, []).append(law)
     bad = 0
     for crate in sorted({it for it in crates if it.startswith("determined_")} ^ (OF.keys() - {"berylwool"})):
         print(f"{crate}: scripts/laws.py doesn't say of whose calls it has laws, or crates.txt doesn't list it")
@@ -117,9 +131,12 @@ def main():
         if ASIDE.match(crate):
             continue
         public = public_of(crate)
-        has, told = called.get(crate, set()) & public, why.pop(crate, set())
+        has, told = {it for it in public if is_asked(it, called.get(crate, []))}, why.pop(crate, set())
         for name in sorted(public - has - told):
             print(f"{crate}: {name} has no law, and docs/PROMISES.md doesn't say why")
+            bad += 1
+        for name in sorted(has & told):
+            print(f"{crate}: {name} has a law, and docs/PROMISES.md says why not")
             bad += 1
         for name in sorted(told - public):
             print(f"{crate}: docs/PROMISES.md names {name}, which is no public function of it")

@@ -10,6 +10,16 @@ use bao_check::Checked;
 use bao_text::Node;
 use store_steps::{Grip, Words};
 
+pub fn words_look_round_alone(a: &Words, b: &Words, first: &mut Grip, second: &mut Grip)
+    requires first { IsGripOf a.now first.old }
+    requires second { IsGripOf b.now second.old }
+    requires alike { AreAlike first.old.view second.old.view }
+    ensures { AreAlike first.new.view second.new.view }
+{
+    a.look_round(first);
+    b.look_round(second);
+}
+
 pub fn words_load_alone(
     a: &Words,
     b: &Words,
