@@ -1,5 +1,5 @@
 -- A seat with all names stores all parents that the piece holds and that it has not seen held.
-use Rattle.std.proofs.Common.{◌≡◌, ℕ, ◌+◌, ◌*◌, ◌/◌, ◌%◌, ◌≤◌, nat_lt, true, false, Bool, not, ◌&&◌, List, [], ◌∷◌, ◌++◌, filter, length, Option, Some, is_some, lit<, refl, sym, ap, ◌∙◌, arith, inl, inr, append-nil, length-append, ltb-false}
+use Rattle.std.proofs.Common.{◌≡◌, ℕ, ◌+◌, ◌*◌, ◌/◌, ◌%◌, ◌≤◌, nat_lt, true, false, Bool, not, ◌&&◌, List, [], ◌∷◌, ◌++◌, filter, length, Option, is_some, lit<, refl, sym, ap, ◌∙◌, arith, inl, inr, append-nil, length-append, ltb-false}
 use Rattle.std.proofs.lemmas.Bool.{cases_Bool}
 use Rattle.bao_check.proofs.Finding.{parent_outside}
 use Rattle.bao_check.proofs.Parenting.{parent_in-some}
@@ -7,14 +7,13 @@ use Rattle.bao_text.specs.Choice.{of_slice}
 use Rattle.store_core.specs.declared.history.Event.{Event}
 use Rattle.store_core.specs.declared.history.Piece.{Piece}
 use Rattle.store_core.specs.declared.view.SeatView.{SeatView}
-use Rattle.store_core.specs.Histories.{IsLegal, is_by, state_after}
+use Rattle.store_core.specs.Histories.{is_by}
 use Rattle.store_core.specs.Knowledge.{Sees}
 use Rattle.store_core.specs.Masks.{IsMaskOf, has_bit}
 use Rattle.store_core.specs.Pieces.{holds_parent, length_of, places_in}
 use Rattle.store_core.specs.States.{State}
 use Rattle.store_core.specs.Views.{mine, names_of}
 use Rattle.store_core.proofs.Bits.{has_bit-zero}
-use Rattle.store_core.proofs.Origins.{record_is_settled}
 
 filter_le : (p : Event → Bool) (xs : List Event) → length (filter p xs) ≤ length xs
 filter_le p [] = omega arith
@@ -46,10 +45,6 @@ saw_nothing old new saw own =
       length-append (mine old) [],
     ) in
     long ∙ append-nil (old.seen ++ saw.between) ∙ ap (λ (xs : List Event). old.seen ++ xs) (nothing saw.between size) ∙ append-nil old.seen
-
--- the recorded length is one that the store has room for
-pub recorded_fits : (view : SeatView) (l : ℕ) → IsLegal view.fixed view.seen → (state_after view.seen).recorded ≡ Some l → l ≤ 1024 * view.fixed.capacity
-recorded_fits view l legal is = let s = record_is_settled view.fixed view.seen l legal is in omega (arith, s.fits, s.is)
 
 -- the piece holds no parent past the blob's last chunk
 holds_none : (capacity : ℕ) (piece : Piece) (m : ℕ) → length_of piece ≤ 1024 * capacity → capacity ≤ m → holds_parent piece m ≡ false

@@ -33,7 +33,7 @@ pub held_valid : (fixed : Fixed) (history : List Event) (c : ℕ) (bytes : List 
     → AreBytes bytes × (length bytes ≤ 1024)
 held_valid fixed history c bytes legal has =
     let k : IsCommitted fixed history c bytes = held_is_committed fixed history c bytes legal has in
-    (chunk_valid k.piece.text (places_in k.piece) c bytes k.accepted.bytes k.has, chunk_fits fixed k.piece c bytes k.accepted k.has)
+    (chunk_valid k.piece.text (places_in k.piece) (k.piece.base + c) bytes k.accepted.bytes k.has, chunk_fits fixed k.piece c bytes k.accepted k.has)
 
 size_of : (s : State) (c : ℕ) (bytes : List ℕ) → s.held c ≡ Some bytes → held_size s c ≡ length bytes
 size_of s c bytes has = ap (λ (o : Option (List ℕ)). length (unwrap_or o [])) has

@@ -24,13 +24,13 @@ use Rattle.store_core.specs.declared.history.Serving.TheVariants.{Lacking, NoLen
 use Rattle.store_core.specs.declared.view.SeatView.{SeatView}
 use Rattle.store_core.specs.Events.{IsRightReply}
 use Rattle.store_core.specs.Histories.{AreLegalFrom, IsLegal, run, state_after}
-use Rattle.store_core.specs.Laws.{IsSettled, IsSound}
+use Rattle.store_core.specs.Laws.{IsSound}
 use Rattle.store_core.specs.Serves.{after_bytes, node_and, node_held, served, serving, serving_of}
 use Rattle.store_core.specs.States.{State, empty}
 use Rattle.store_core.specs.Stores.{GainsNode}
 use Rattle.store_core.specs.Views.{names_of as calls_as}
 use Rattle.store_core.proofs.Lasting.{held_from, legal-append, legal_is_sound, recorded_from, run-append}
-use Rattle.store_core.proofs.Origins.{record_is_settled}
+use Rattle.store_core.proofs.HasRoom.{recorded_fits}
 use Rattle.store_core.proofs.ParentOrigins.{parents_from}
 use Rattle.store_core.proofs.ServingLaws.{served_binds}
 use Rattle.store_steps.specs.Slices.{node_events, node_number, unserved_events}
@@ -256,10 +256,9 @@ All-map P (place ∷ places) all = (all.0, All-map P places all.1)
 pub names_below : (fixed : Fixed) (history : List Event) (l start len : ℕ) → IsLegal fixed history → (state_after history).recorded ≡ Some l → 0 < fixed.capacity
     → AllByRecursion (λ node. node_number node < fixed.capacity) (slice_names l start len)
 names_below fixed history l start len legal some capacity =
-    let k : IsSettled fixed history l = record_is_settled fixed history l legal some in
     let choice : Choice = of_slice l start len in
     let all : List TreeNode = nodes l start len in
-    let fits : chunk_count l ≤ fixed.capacity = omega (arith, k.fits, k.is, capacity) in
+    let fits : chunk_count l ≤ fixed.capacity = omega (arith, recorded_fits fixed history l legal some, capacity) in
     All-map (λ node. node_number node < fixed.capacity) all
     (All-from_members (λ place. node_number (name place) < fixed.capacity) all (λ x h. elim (cases_Bool x.is_chunk) [
       | inl chunk ↦

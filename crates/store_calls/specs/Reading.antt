@@ -1,5 +1,5 @@
 -- A read of a shared store: an event of its history.
-use Rattle.std.specs.Prelude.{◌≡◌, ◌⊎◌, ℕ, ◌+◌, ◌<◌, ◌++◌, List, length, drop, Option, Some, slice_get, slice_index}
+use Rattle.std.specs.Prelude.{◌≡◌, ◌⊎◌, ℕ, ◌+◌, ◌*◌, ◌<◌, ◌++◌, List, length, drop, Option, Some, slice_get, slice_index}
 use Rattle.store_core.specs.declared.history.Call.TheVariants.{Read}
 use Rattle.store_core.specs.declared.view.SeatView.{SeatView}
 use Rattle.store_core.specs.Laws.{ByteFrom, IsBlob, CollidesWith}
@@ -14,9 +14,9 @@ pub record SeatDidRead (old new : SeatView) (at : ℕ) (before after : List ℕ)
   pub filled : after ≡ bytes ++ drop (length bytes) before
   pub answer : AnswersRead at (length before) bytes missing
 
--- Each byte filled in is the byte there of each blob with the store's root; or it is one of a chunk that a Commit, in
+-- Each byte filled in is the byte there, counted from the store's first, of each blob with the store's root; or it is one of a chunk that a Commit, in
 -- what the seat has seen, took from its piece, and a collision is exhibited from the blob and that piece.
 abbrev pub SeatReadBinds : SeatView → ℕ → List ℕ → ℕ → Type 0
 SeatReadBinds view at bytes count = (blob : List ℕ) → IsBlob view.fixed blob → (i : ℕ) → i < count
-    → (slice_get blob (at + i) ≡ Some (slice_index bytes i))
+    → (slice_get blob (1024 * view.fixed.base + (at + i)) ≡ Some (slice_index bytes i))
     ⊎ ((from : ByteFrom view.fixed view.seen (at + i) (slice_index bytes i)) × CollidesWith view.fixed blob from.chunk.piece)

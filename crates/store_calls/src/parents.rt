@@ -16,7 +16,7 @@ use store_steps::{Grip, Words};
 
 // The mask of the group's boundaries below the capacity of which the piece holds the parent.
 fn parents_in(piece: &Checked<'_>, group: u32, capacity: u32) -> u64
-    ensures { IsMaskOf group result (λ m. nat_lt m capacity && holds_parent (piece_of piece.now) m) }
+    ensures { IsMaskOf group result (λ m. nat_lt m capacity && holds_parent (piece_of 0 piece.now) m) }
 {
     mask_below(group, u64::from(capacity)) & piece.parents_of(u64::from(group))
 }
@@ -41,9 +41,9 @@ fn store_parents(words: &Words, grip: &mut Grip, group: u32, piece: &Checked<'_>
     requires of { IsGripOf words.now grip.old }
     requires group { CoversGroup words.now group }
     requires storing { grip.old.view.storing ≡ record { group = group; mask = mask } ∷ [] }
-    requires mask { AreParentsOf (fixed_of words.now) group mask (piece_of piece.now) }
+    requires mask { AreParentsOf (fixed_of words.now) group mask (piece_of (fixed_of words.now).base piece.now) }
     ensures of { IsGripOf words.now grip.new }
-    ensures stored { HaveParentWords group mask (piece_of piece.now) 64 grip.old.view grip.new.view }
+    ensures stored { HaveParentWords group mask (piece_of (fixed_of words.now).base piece.now) 64 grip.old.view grip.new.view }
 {
     let start = GROUP_LEN as u64 * u64::from(group);
     for j in 0..GROUP_LEN {
@@ -73,8 +73,8 @@ pub fn commit_parents(words: &Words, grip: &mut Grip, group: u32, piece: &Checke
     requires piece { IsOf (fixed_of words.now) piece.now }
     requires none { grip.old.view.storing ≡ [] }
     ensures of { IsGripOf words.now grip.new }
-    ensures called { Called (Parents group (piece_of piece.now) result) grip.old.view grip.new.view }
-    ensures alone { AreAllNames grip.old.view.names → AreAllParents grip.old.view group (piece_of piece.now) result }
+    ensures called { Called (Parents group (piece_of (fixed_of words.now).base piece.now) result) grip.old.view grip.new.view }
+    ensures alone { AreAllNames grip.old.view.names → AreAllParents grip.old.view group (piece_of (fixed_of words.now).base piece.now) result }
     ensures absent { ¬ CoversGroup words.now group → (result ≡ OtherLength) ⊎ (result ≡ Stored 0) }
     ensures binds { SeatParentsBind grip.new.view }
 {

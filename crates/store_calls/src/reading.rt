@@ -69,8 +69,8 @@ fn read_event(words: &Words, grip: &mut Grip, at: u64, out: &mut [u8]) -> Result
 /// The read is an event of the store at its last load of a held word, and right there: what was copied before is held
 /// there too, with the same bytes. The grip claims what it claimed before, and all that it had seen it still has.
 ///
-/// For each blob with the store's root, each byte filled in is the blob's byte there; or a collision is
-/// exhibited, one input of the blob's and one of a piece's that was committed.
+/// For each blob with the store's root, each byte filled in is the blob's byte there, counted from the store's first; or a
+/// collision is exhibited, one input of the blob's and one of a piece's that was committed.
 pub fn read(words: &Words, grip: &mut Grip, at: u64, out: &mut [u8]) -> Result<(), Missing>
     requires of { IsGripOf words.now grip.old }
     ensures of { IsGripOf words.now grip.new }

@@ -51,11 +51,11 @@ bit_of group mask j test is below =
 
 -- a mask of a piece's parents, as a check tells it
 pub parents_marked : (piece : Checked) (group mask : ℕ) → mask < 2 ^ 64 → IsParentMask (piece_text piece) (piece_places piece) group mask
-    → IsMaskOf group mask (λ m. holds_parent (piece_of piece) m)
+    → IsMaskOf group mask (λ m. holds_parent (piece_of 0 piece) m)
 unfolding has_bit
 parents_marked piece group mask small marked = record {
   small = small;
-  bits = λ m at. let place : 64 * group + m % 64 ≡ m = omega (arith, at) in marked (m % 64) (omega arith) ∙ ap (holds_parent (piece_of piece)) place;
+  bits = λ m at. let place : 64 * group + m % 64 ≡ m = omega (arith, at) in marked (m % 64) (omega arith) ∙ ap (holds_parent (piece_of 0 piece)) place;
 }
 
 -- the chunks of the group's mask whose bits are below j have the slots of their bits, and all others those they had
@@ -102,20 +102,20 @@ slot_left (x ∷ xs) ys zero below = refl
 slot_left (x ∷ xs) ys (suc k) below = slot_left xs ys k (omega arith)
 
 -- one more slot of the mask
-pub copies_more : (piece : Checked) (group mask n : ℕ) (xs ys : List Slot) (slot : Slot) → AreCopies piece group mask n xs
-    → (has_bit mask n ≡ true → IsSlotCopy piece (64 * group + n) slot) → ys ≡ xs ++ slot ∷ [] → AreCopies piece group mask (n + 1) ys
-copies_more piece group mask n xs ys slot copies here is = record {
+pub copies_more : (base : ℕ) (piece : Checked) (group mask n : ℕ) (xs ys : List Slot) (slot : Slot) → AreCopies base piece group mask n xs
+    → (has_bit mask n ≡ true → IsSlotCopy base piece (64 * group + n) slot) → ys ≡ xs ++ slot ∷ [] → AreCopies base piece group mask (n + 1) ys
+copies_more base piece group mask n xs ys slot copies here is = record {
   count = ap length is ∙ length-append xs (slot ∷ []) ∙ omega (arith, copies.count);
   each = λ k below bit. elim (cases_eq k n) [
     | inl at ↦
         let last : slot_at (xs ++ slot ∷ []) (length xs + 0) ≡ slot = get_or-append-add xs (slot ∷ []) 0 Free in
         let place : length xs + 0 ≡ k = omega (arith, copies.count, at) in
         let found : slot ≡ slot_at ys k = sym last ∙ ap (λ (i : ℕ). slot_at (xs ++ slot ∷ []) i) place ∙ ap (λ (zs : List Slot). slot_at zs k) (sym is) in
-        subst (λ (s : Slot). IsSlotCopy piece (64 * group + k) s) found
-        (subst (λ (i : ℕ). IsSlotCopy piece (64 * group + i) slot) (sym at) (here (subst (λ (i : ℕ). has_bit mask i ≡ true) at bit)))
+        subst (λ (s : Slot). IsSlotCopy base piece (64 * group + k) s) found
+        (subst (λ (i : ℕ). IsSlotCopy base piece (64 * group + i) slot) (sym at) (here (subst (λ (i : ℕ). has_bit mask i ≡ true) at bit)))
     | inr other ↦
         let inside : k < length xs = omega (arith, copies.count, below, other) in
         let found : slot_at xs k ≡ slot_at ys k = sym (slot_left xs (slot ∷ []) k inside) ∙ ap (λ (zs : List Slot). slot_at zs k) (sym is) in
-        subst (λ (s : Slot). IsSlotCopy piece (64 * group + k) s) found (copies.each k (omega (arith, below, other)) bit)
+        subst (λ (s : Slot). IsSlotCopy base piece (64 * group + k) s) found (copies.each k (omega (arith, below, other)) bit)
   ];
 }

@@ -4,6 +4,7 @@ pub mod Choosing
 pub mod Lasting
 pub mod Determined
 pub mod Origins
+pub mod HasRoom
 pub mod Adding
 pub mod ReadLaws
 pub mod Bound

@@ -24,103 +24,103 @@ use Rattle.store_core.specs.States.{State}
 use Rattle.store_core.proofs.Bound.{held_binds, record_binds}
 
 -- each seat's current piece is one of the list
-abbrev AreListed : List Checked → Machine → Type 0
-AreListed pieces m = (n : ℕ) (piece : Piece) → (m.seat n).piece ≡ Some piece → IsListed pieces piece
+abbrev AreListed : Fixed → List Checked → Machine → Type 0
+AreListed fixed pieces m = (n : ℕ) (piece : Piece) → (m.seat n).piece ≡ Some piece → IsListed fixed pieces piece
 
 -- the piece that an event commits or settles a length by is one of the list
-abbrev IsCallOf : List Checked → Call → Type 0
-IsCallOf pieces (Take group want granted) = Unit {0}
-IsCallOf pieces (Give group mask given) = Unit {0}
-IsCallOf pieces (Commit group piece committed) = IsListed pieces piece
-IsCallOf pieces (SettleCall piece answer) = IsListed pieces piece
-IsCallOf pieces (Read at len bytes) = Unit {0}
-IsCallOf pieces (LengthCall recorded) = Unit {0}
-IsCallOf pieces (Parents group piece answer) = Unit {0}
-IsCallOf pieces (Serve at len answer) = Unit {0}
+abbrev IsCallOf : Fixed → List Checked → Call → Type 0
+IsCallOf fixed pieces (Take group want granted) = Unit {0}
+IsCallOf fixed pieces (Give group mask given) = Unit {0}
+IsCallOf fixed pieces (Commit group piece committed) = IsListed fixed pieces piece
+IsCallOf fixed pieces (SettleCall piece answer) = IsListed fixed pieces piece
+IsCallOf fixed pieces (Read at len bytes) = Unit {0}
+IsCallOf fixed pieces (LengthCall recorded) = Unit {0}
+IsCallOf fixed pieces (Parents group piece answer) = Unit {0}
+IsCallOf fixed pieces (Serve at len answer) = Unit {0}
 
-abbrev IsEventOf : List Checked → Event → Type 0
-IsEventOf pieces e = IsCallOf pieces e.call
+abbrev IsEventOf : Fixed → List Checked → Event → Type 0
+IsEventOf fixed pieces e = IsCallOf fixed pieces e.call
 
-start_listed : (pieces : List Checked) → AreListed pieces start
-start_listed pieces n piece h = let none : None ≡ Some piece = h in cc
+start_listed : (fixed : Fixed) (pieces : List Checked) → AreListed fixed pieces start
+start_listed fixed pieces n piece h = let none : None ≡ Some piece = h in cc
 
 -- the piece that a Hash makes current
-hash_listed : (pieces : List Checked) (i : ℕ) (o : Option Checked) (piece : Piece) → slice_get pieces i ≡ o → option_map piece_of o ≡ Some piece → IsListed pieces piece
-hash_listed pieces i None piece e h = let none : None ≡ Some piece = h in cc
-hash_listed pieces i (Some checked) piece e h =
-    let some : Some (piece_of checked) ≡ Some piece = h in
-    let same : piece ≡ piece_of checked = cc in
+hash_listed : (fixed : Fixed) (pieces : List Checked) (i : ℕ) (o : Option Checked) (piece : Piece) → slice_get pieces i ≡ o → option_map (piece_of fixed.base) o ≡ Some piece → IsListed fixed pieces piece
+hash_listed fixed pieces i None piece e h = let none : None ≡ Some piece = h in cc
+hash_listed fixed pieces i (Some checked) piece e h =
+    let some : Some (piece_of fixed.base checked) ≡ Some piece = h in
+    let same : piece ≡ piece_of fixed.base checked = cc in
     record { index = i; checked = checked; there = e; is = same }
 
 -- a seat that is changed
-seat_listed : (pieces : List Checked) (m : Machine) (n : ℕ) (seat : MachineSeat) → AreListed pieces m → ((piece : Piece) → seat.piece ≡ Some piece → IsListed pieces piece)
-    → AreListed pieces (with_seat m n seat)
-seat_listed pieces m n seat are its k piece h = elim (cases_Bool (k == n)) [
+seat_listed : (fixed : Fixed) (pieces : List Checked) (m : Machine) (n : ℕ) (seat : MachineSeat) → AreListed fixed pieces m → ((piece : Piece) → seat.piece ≡ Some piece → IsListed fixed pieces piece)
+    → AreListed fixed pieces (with_seat m n seat)
+seat_listed fixed pieces m n seat are its k piece h = elim (cases_Bool (k == n)) [
   | inl hit ↦ its piece (rw hit at h)
   | inr miss ↦ are k piece (rw miss at h)
 ]
 
-step_listed : (fixed : Fixed) (pieces : List Checked) (m : Machine) (step : MicroStep) (reply : Option Reply) → AreListed pieces m
-    → AreListed pieces (after_step fixed pieces m step reply)
+step_listed : (fixed : Fixed) (pieces : List Checked) (m : Machine) (step : MicroStep) (reply : Option Reply) → AreListed fixed pieces m
+    → AreListed fixed pieces (after_step fixed pieces m step reply)
 step_listed fixed pieces m (Claim n group want) reply are = are
 step_listed fixed pieces m (Hash n i) reply are =
-    seat_listed pieces m n (record (m.seat n) { piece = option_map piece_of (slice_get pieces i); written = λ c w. false }) are
-    (λ piece h. hash_listed pieces i (slice_get pieces i) piece refl h)
-step_listed fixed pieces m (Write n c w) reply are = seat_listed pieces m n _ are (are n)
+    seat_listed fixed pieces m n (record (m.seat n) { piece = option_map (piece_of fixed.base) (slice_get pieces i); written = λ c w. false }) are
+    (λ piece h. hash_listed fixed pieces i (slice_get pieces i) piece refl h)
+step_listed fixed pieces m (Write n c w) reply are = seat_listed fixed pieces m n _ are (are n)
 step_listed fixed pieces m (Publish n group) reply are = are
-step_listed fixed pieces m (GiveBack n group mask) reply are = seat_listed pieces m n _ are (are n)
-step_listed fixed pieces m (Load n at len) reply are = seat_listed pieces m n _ are (are n)
+step_listed fixed pieces m (GiveBack n group mask) reply are = seat_listed fixed pieces m n _ are (are n)
+step_listed fixed pieces m (Load n at len) reply are = seat_listed fixed pieces m n _ are (are n)
 step_listed fixed pieces m (Settle n) reply are = are
 step_listed fixed pieces m (Length n) reply are = are
 
 -- the events of a Publish, of a Settle and of a Load
-commit_listed : (pieces : List Checked) (n group mask : ℕ) (o : Option Piece) → ((piece : Piece) → o ≡ Some piece → IsListed pieces piece)
-    → AllByRecursion (IsEventOf pieces) (commit_by n group o mask)
-commit_listed pieces n group mask None are = tt
-commit_listed pieces n group mask (Some piece) are = (are piece refl, tt)
+commit_listed : (fixed : Fixed) (pieces : List Checked) (n group mask : ℕ) (o : Option Piece) → ((piece : Piece) → o ≡ Some piece → IsListed fixed pieces piece)
+    → AllByRecursion (IsEventOf fixed pieces) (commit_by n group o mask)
+commit_listed fixed pieces n group mask None are = tt
+commit_listed fixed pieces n group mask (Some piece) are = (are piece refl, tt)
 
-settle_listed : (pieces : List Checked) (n : ℕ) (o : Option Piece) (answer : Answer) → ((piece : Piece) → o ≡ Some piece → IsListed pieces piece)
-    → AllByRecursion (IsEventOf pieces) (settle_by n o answer)
-settle_listed pieces n None answer are = tt
-settle_listed pieces n (Some piece) Settled are = (are piece refl, tt)
-settle_listed pieces n (Some piece) Known are = (are piece refl, tt)
-settle_listed pieces n (Some piece) Differs are = (are piece refl, tt)
-settle_listed pieces n (Some piece) OtherRoot are = (are piece refl, tt)
-settle_listed pieces n (Some piece) TooLarge are = tt
+settle_listed : (fixed : Fixed) (pieces : List Checked) (n : ℕ) (o : Option Piece) (answer : Answer) → ((piece : Piece) → o ≡ Some piece → IsListed fixed pieces piece)
+    → AllByRecursion (IsEventOf fixed pieces) (settle_by n o answer)
+settle_listed fixed pieces n None answer are = tt
+settle_listed fixed pieces n (Some piece) Settled are = (are piece refl, tt)
+settle_listed fixed pieces n (Some piece) Known are = (are piece refl, tt)
+settle_listed fixed pieces n (Some piece) Differs are = (are piece refl, tt)
+settle_listed fixed pieces n (Some piece) OtherRoot are = (are piece refl, tt)
+settle_listed fixed pieces n (Some piece) TooLarge are = tt
 
-read_listed : (pieces : List Checked) (last : Bool) (n at len : ℕ) (bytes : List ℕ)
-    → AllByRecursion (IsEventOf pieces) (if last then event_by n (Read at len bytes) else [])
-read_listed pieces true n at len bytes = (tt, tt)
-read_listed pieces false n at len bytes = tt
+read_listed : (fixed : Fixed) (pieces : List Checked) (last : Bool) (n at len : ℕ) (bytes : List ℕ)
+    → AllByRecursion (IsEventOf fixed pieces) (if last then event_by n (Read at len bytes) else [])
+read_listed fixed pieces true n at len bytes = (tt, tt)
+read_listed fixed pieces false n at len bytes = tt
 
-events_listed : (fixed : Fixed) (pieces : List Checked) (m : Machine) (step : MicroStep) (reply : Option Reply) → AreListed pieces m
-    → AllByRecursion (IsEventOf pieces) (step_events fixed m step reply)
+events_listed : (fixed : Fixed) (pieces : List Checked) (m : Machine) (step : MicroStep) (reply : Option Reply) → AreListed fixed pieces m
+    → AllByRecursion (IsEventOf fixed pieces) (step_events fixed m step reply)
 events_listed fixed pieces m (Claim n group want) reply are = (tt, tt)
 events_listed fixed pieces m (Hash n i) reply are = tt
 events_listed fixed pieces m (Write n c w) reply are = tt
-events_listed fixed pieces m (Publish n group) reply are = commit_listed pieces n group (mask_in reply) (m.seat n).piece (are n)
+events_listed fixed pieces m (Publish n group) reply are = commit_listed fixed pieces n group (mask_in reply) (m.seat n).piece (are n)
 events_listed fixed pieces m (GiveBack n group mask) reply are = (tt, tt)
-events_listed fixed pieces m (Load n at len) reply are = read_listed pieces (is_last_load fixed m n at len) n at len (read_after fixed m n at len).bytes
-events_listed fixed pieces m (Settle n) reply are = settle_listed pieces n (m.seat n).piece (settle_answer fixed m n) (are n)
+events_listed fixed pieces m (Load n at len) reply are = read_listed fixed pieces (is_last_load fixed m n at len) n at len (read_after fixed m n at len).bytes
+events_listed fixed pieces m (Settle n) reply are = settle_listed fixed pieces n (m.seat n).piece (settle_answer fixed m n) (are n)
 events_listed fixed pieces m (Length n) reply are = (tt, tt)
 
 runs_listed : (fixed : Fixed) (pieces : List Checked) (m : Machine) (steps : List MicroStep) (replies : List Reply) (history : List Event) (last : Machine)
-    → AreListed pieces m → Runs fixed pieces m steps replies history last → AllByRecursion (IsEventOf pieces) history
-runs_listed fixed pieces m [] replies history last are runs = subst (λ (h : List Event). AllByRecursion (IsEventOf pieces) h) (sym runs.1) tt
+    → AreListed fixed pieces m → Runs fixed pieces m steps replies history last → AllByRecursion (IsEventOf fixed pieces) history
+runs_listed fixed pieces m [] replies history last are runs = subst (λ (h : List Event). AllByRecursion (IsEventOf fixed pieces) h) (sym runs.1) tt
 runs_listed fixed pieces m (step ∷ steps) replies history last are runs =
-    subst (λ (h : List Event). AllByRecursion (IsEventOf pieces) h) (sym runs.6)
-    (All-append (IsEventOf pieces) (step_events fixed m step runs.0) runs.2 (events_listed fixed pieces m step runs.0 are)
+    subst (λ (h : List Event). AllByRecursion (IsEventOf fixed pieces) h) (sym runs.6)
+    (All-append (IsEventOf fixed pieces) (step_events fixed m step runs.0) runs.2 (events_listed fixed pieces m step runs.0 are)
     (runs_listed fixed pieces (after_step fixed pieces m step runs.0) steps runs.1 runs.2 last (step_listed fixed pieces m step runs.0 are) runs.7))
 
 pub replay_binds : (fixed : Fixed) (pieces : List Checked) (steps : List MicroStep) (replies : List Reply) (store : Store) → IsKeyed fixed.mode
     → ReplayBinds fixed pieces steps replies store
 replay_binds fixed pieces steps replies store keyed blob is by =
-    let all : AllByRecursion (IsEventOf pieces) by.history = runs_listed fixed pieces start steps replies by.history by.last (start_listed pieces) by.runs in (
+    let all : AllByRecursion (IsEventOf fixed pieces) by.history = runs_listed fixed pieces start steps replies by.history by.last (start_listed fixed pieces) by.runs in (
       λ c bytes h. elim (held_binds fixed by.history blob c bytes keyed is by.legal (subst (λ (s : State). s.held c ≡ Some bytes) by.events h)) [
         | inl same ↦ inl same
         | inr named ↦ inr (record {
           committed = named.0;
-          listed = All-member (IsEventOf pieces) by.history all (record { who = named.0.who; call = Commit named.0.group named.0.piece named.0.mask }) named.0.there;
+          listed = All-member (IsEventOf fixed pieces) by.history all (record { who = named.0.who; call = Commit named.0.group named.0.piece named.0.mask }) named.0.there;
           pair = named.1;
         })
       ],
@@ -128,7 +128,7 @@ replay_binds fixed pieces steps replies store keyed blob is by =
         | inl same ↦ inl same
         | inr named ↦ inr (record {
           settled = named.0;
-          listed = All-member (IsEventOf pieces) by.history all (record { who = named.0.who; call = SettleCall named.0.piece Settled }) named.0.there;
+          listed = All-member (IsEventOf fixed pieces) by.history all (record { who = named.0.who; call = SettleCall named.0.piece Settled }) named.0.there;
           pair = named.1;
         })
       ],

@@ -40,7 +40,7 @@ chunk_valid text (place ∷ places) c bytes valid there = elim (cases_Bool (plac
 ]
 
 pub chunk_fits : (fixed : Fixed) (piece : Piece) (c : ℕ) (bytes : List ℕ) → IsAcceptedPiece fixed piece → chunk_bytes piece c ≡ Some bytes → length bytes ≤ 1024
-chunk_fits fixed piece c bytes accepted there = (certified fixed.mode fixed.root.0 piece.text piece.start piece.len accepted.accepted c bytes there).size
+chunk_fits fixed piece c bytes accepted there = (certified fixed.mode fixed.root.0 piece.text piece.start piece.len accepted.accepted (piece.base + c) bytes there).size
 
 -- bytes of the words and of the store that they stand for
 pub shown_is : (m : Machine) (q : ℕ) → shown_byte m q ≡ byte_at (store_of m) q

@@ -34,7 +34,7 @@ use Rattle.store_core.proofs.Tells.{masked}
 -- Players. What is taken stands for the seat.
 pub taken_seat : (fixed : Fixed) (was : Option Player) (player : Player) (seat : MachineSeat) → StandsForSeat fixed was seat → IsTakenPlayer was player → IsPlayer fixed player seat
 taken_seat fixed None player seat is taken = record {
-  piece = is.0 ∙ sym (ap (λ (o : Option Checked). option_map piece_of o) taken.0);
+  piece = is.0 ∙ sym (ap (λ (o : Option Checked). option_map (piece_of fixed.base) o) taken.0);
   reading = is.1 ∙ sym (ap (λ o. option_map reading_of o) taken.1);
   of = λ piece there. let none : None ≡ Some piece = sym taken.0 ∙ there in cc;
 }
@@ -106,13 +106,13 @@ claims_at s m n c is = ap (λ (x : State). claims (caller n) x c) is ∙ claims_
 
 -- the current piece, in the list and in the words
 pub current : (fixed : Fixed) (o : Option Player) (player : Player) (seat : MachineSeat) (piece : Checked) → StandsForSeat fixed o seat → IsTakenPlayer o player → player.piece ≡ Some piece
-    → seat.piece ≡ Some (piece_of piece)
+    → seat.piece ≡ Some (piece_of fixed.base piece)
 current fixed o player seat piece is taken there =
-    (taken_seat fixed o player seat is taken).piece ∙ ap (λ (x : Option Checked). option_map piece_of x) there
+    (taken_seat fixed o player seat is taken).piece ∙ ap (λ (x : Option Checked). option_map (piece_of fixed.base) x) there
 
 pub no_current : (fixed : Fixed) (o : Option Player) (player : Player) (seat : MachineSeat) → StandsForSeat fixed o seat → IsTakenPlayer o player → player.piece ≡ None → seat.piece ≡ None
 no_current fixed o player seat is taken there =
-    (taken_seat fixed o player seat is taken).piece ∙ ap (λ (x : Option Checked). option_map piece_of x) there
+    (taken_seat fixed o player seat is taken).piece ∙ ap (λ (x : Option Checked). option_map (piece_of fixed.base) x) there
 
 -- a chunk that a seat claims is claimed in the state
 seat_claimed : (m : Machine) (n c : ℕ) → seat_has m n c ≡ true → is_claimed (store_of m) c ≡ true
@@ -238,12 +238,12 @@ stepped fixed pieces steps replies history m step reply old new has same bytes n
 pub may_publish : (fixed : Fixed) (pieces : List Checked) (s : State) (old : List Player) (written : List Bool) (m : Machine) (n group : ℕ) (player : Player) (piece : Checked)
     → IsSoundMachine fixed m → StandsFor fixed s old written m → group < ((fixed.capacity + 63) / 64)
     → IsTakenPlayer (player_in old n) player → player.piece ≡ Some piece
-    → ((c w : ℕ) → c / 64 ≡ group → claims (caller n) s c ≡ true → holds_chunk (piece_of piece) c ≡ true → w < 129 → is_marked written c w ≡ true)
+    → ((c w : ℕ) → c / 64 ≡ group → claims (caller n) s c ≡ true → holds_chunk (piece_of fixed.base piece) c ≡ true → w < 129 → is_marked written c w ≡ true)
     → IsLegalStep fixed pieces m (Publish n group)
 may_publish fixed pieces s old written m n group player piece served is there taken has filled =
-    let seat_piece : (m.seat n).piece ≡ Some (piece_of piece) = current fixed (player_in old n) player (m.seat n) piece (is.seats n) taken has in
+    let seat_piece : (m.seat n).piece ≡ Some (piece_of fixed.base piece) = current fixed (player_in old n) player (m.seat n) piece (is.seats n) taken has in
     let wrote : IsWritten m n group = λ c w of_group ours holds below.
-    let held : holds_chunk (piece_of piece) c ≡ true = sym (ap (λ (o : Option Piece). current_holds o c) seat_piece) ∙ holds in
+    let held : holds_chunk (piece_of fixed.base piece) c ≡ true = sym (ap (λ (o : Option Piece). current_holds o c) seat_piece) ∙ holds in
     is.wrote n c w below (claimed_hidden fixed m n c served.sound ours)
     ∙ and_from _ _ ours (filled c w of_group (claims_at s m n c is.state ∙ ours) held below) in
     (there, ap (λ (o : Option Piece). is_some o) seat_piece, wrote)
@@ -251,17 +251,17 @@ may_publish fixed pieces s old written m n group player piece served is there ta
 pub publish_next : (fixed : Fixed) (pieces : List Checked) (s t : State) (old mid new : List Player) (written : List Bool) (m : Machine) (n group mask : ℕ) (player : Player) (piece : Checked)
     → IsSoundMachine fixed m → StandsFor fixed s old written m → group < ((fixed.capacity + 63) / 64)
     → IsTakenPlayer (player_in old n) player → player.piece ≡ Some piece
-    → ((c w : ℕ) → c / 64 ≡ group → claims (caller n) s c ≡ true → holds_chunk (piece_of piece) c ≡ true → w < 129 → is_marked written c w ≡ true)
-    → IsRightReply fixed s (caller n) (Commit group (piece_of piece) mask)
-    → t ≡ run s (record { who = caller n; call = Commit group (piece_of piece) mask } ∷ [])
+    → ((c w : ℕ) → c / 64 ≡ group → claims (caller n) s c ≡ true → holds_chunk (piece_of fixed.base piece) c ≡ true → w < 129 → is_marked written c w ≡ true)
+    → IsRightReply fixed s (caller n) (Commit group (piece_of fixed.base piece) mask)
+    → t ≡ run s (record { who = caller n; call = Commit group (piece_of fixed.base piece) mask } ∷ [])
     → ((k : ℕ) → k ≢ n → player_in mid k ≡ player_in old k) → ((k : ℕ) → player_in new k ≡ (if player.number == k then Some player else player_in mid k)) → player.number ≡ n
     → IsNext fixed pieces t new written m (Publish n group) (Some (Committed mask))
 publish_next fixed pieces s t old mid new written m n group mask player piece served is there taken has filled done after others put number =
-    let seat_piece : (m.seat n).piece ≡ Some (piece_of piece) = current fixed (player_in old n) player (m.seat n) piece (is.seats n) taken has in
+    let seat_piece : (m.seat n).piece ≡ Some (piece_of fixed.base piece) = current fixed (player_in old n) player (m.seat n) piece (is.seats n) taken has in
     let test : ℕ → Bool = λ c. seat_has m n c && current_holds (m.seat n).piece c in
     let chosen : IsMaskOf group mask test =
-    mask_same group mask (λ c. claims (caller n) s c && holds_chunk (piece_of piece) c) test
-    (λ c of_group. ap (λ (b : Bool). b && holds_chunk (piece_of piece) c) (claims_at s m n c is.state)
+    mask_same group mask (λ c. claims (caller n) s c && holds_chunk (piece_of fixed.base piece) c) test
+    (λ c of_group. ap (λ (b : Bool). b && holds_chunk (piece_of fixed.base piece) c) (claims_at s m n c is.state)
     ∙ ap (λ (o : Option Piece). seat_has m n c && current_holds o c) (sym seat_piece)) done.1 in
     let right : IsReply fixed m (Publish n group) (Some (Committed mask)) = (mask, refl, chosen) in
     let legal : IsLegalStep fixed pieces m (Publish n group) = may_publish fixed pieces s old written m n group player piece served is there taken has filled in
@@ -286,9 +286,9 @@ publish_next fixed pieces s t old mid new written m n group mask player piece se
 -- a legal Publish is of a seat with a current piece, all of whose words are marked
 pub publish_filled : (fixed : Fixed) (pieces : List Checked) (s : State) (old : List Player) (written : List Bool) (m : Machine) (n group : ℕ) (player : Player) (piece : Checked)
     → IsSoundMachine fixed m → StandsFor fixed s old written m → IsTakenPlayer (player_in old n) player → player.piece ≡ Some piece → IsLegalStep fixed pieces m (Publish n group)
-    → (c w : ℕ) → c / 64 ≡ group → claims (caller n) s c ≡ true → holds_chunk (piece_of piece) c ≡ true → w < 129 → is_marked written c w ≡ true
+    → (c w : ℕ) → c / 64 ≡ group → claims (caller n) s c ≡ true → holds_chunk (piece_of fixed.base piece) c ≡ true → w < 129 → is_marked written c w ≡ true
 publish_filled fixed pieces s old written m n group player piece served is taken has legal c w of_group ours holds below =
-    let seat_piece : (m.seat n).piece ≡ Some (piece_of piece) = current fixed (player_in old n) player (m.seat n) piece (is.seats n) taken has in
+    let seat_piece : (m.seat n).piece ≡ Some (piece_of fixed.base piece) = current fixed (player_in old n) player (m.seat n) piece (is.seats n) taken has in
     let mine : seat_has m n c ≡ true = sym (claims_at s m n c is.state) ∙ ours in
     let wrote : (m.seat n).written c w ≡ true = legal.2 c w of_group mine (ap (λ (o : Option Piece). current_holds o c) seat_piece ∙ holds) below in
     (and_parts (seat_has m n c) (is_marked written c w) (sym (is.wrote n c w below (claimed_hidden fixed m n c served.sound mine)) ∙ wrote)).1
@@ -304,9 +304,9 @@ pub hash_next : (fixed : Fixed) (pieces : List Checked) (s : State) (old mid new
     → ((k : ℕ) → k ≢ n → player_in mid k ≡ player_in old k) → ((k : ℕ) → player_in new k ≡ (if player.number == k then Some player else player_in mid k))
     → IsNext fixed pieces s new cleared m (Hash n i) None
 hash_next fixed pieces s old mid new written cleared m n i was player piece served is found of_store clear taken now read number others put =
-    let seat : MachineSeat = record (m.seat n) { piece = option_map piece_of (slice_get pieces i); written = λ c w. false } in
-    let mapped : option_map piece_of (slice_get pieces i) ≡ option_map piece_of player.piece =
-    ap (λ (o : Option Checked). option_map piece_of o) found ∙ sym (ap (λ (o : Option Checked). option_map piece_of o) now) in
+    let seat : MachineSeat = record (m.seat n) { piece = option_map (piece_of fixed.base) (slice_get pieces i); written = λ c w. false } in
+    let mapped : option_map (piece_of fixed.base) (slice_get pieces i) ≡ option_map (piece_of fixed.base) player.piece =
+    ap (λ (o : Option Checked). option_map (piece_of fixed.base) o) found ∙ sym (ap (λ (o : Option Checked). option_map (piece_of fixed.base) o) now) in
     let old_seat : IsPlayer fixed was (m.seat n) = taken_seat fixed (player_in old n) was (m.seat n) (is.seats n) taken in
     let new_seat : IsPlayer fixed player seat = record {
       piece = mapped;
@@ -347,14 +347,14 @@ hash_next fixed pieces s old mid new written cleared m n i was player piece serv
 
 -- Write. It is legal of a chunk that the player's piece holds and the seat claims.
 pub may_write : (fixed : Fixed) (pieces : List Checked) (s : State) (old : List Player) (written : List Bool) (m : Machine) (n c w : ℕ) (player : Player)
-    → StandsFor fixed s old written m → w < 129 → claims (caller n) s c ≡ true → current_holds (option_map piece_of player.piece) c ≡ true
+    → StandsFor fixed s old written m → w < 129 → claims (caller n) s c ≡ true → current_holds (option_map (piece_of fixed.base) player.piece) c ≡ true
     → IsTakenPlayer (player_in old n) player → IsLegalStep fixed pieces m (Write n c w)
 may_write fixed pieces s old written m n c w player is fits ours holds taken =
     let was : IsPlayer fixed player (m.seat n) = taken_seat fixed (player_in old n) player (m.seat n) (is.seats n) taken in
     (fits, sym (claims_at s m n c is.state) ∙ ours, ap (λ (o : Option Piece). current_holds o c) was.piece ∙ holds)
 
 pub write_next : (fixed : Fixed) (pieces : List Checked) (s : State) (old mid new : List Player) (written marked : List Bool) (m : Machine) (n c w : ℕ) (player : Player)
-    → IsSoundMachine fixed m → StandsFor fixed s old written m → w < 129 → claims (caller n) s c ≡ true → current_holds (option_map piece_of player.piece) c ≡ true
+    → IsSoundMachine fixed m → StandsFor fixed s old written m → w < 129 → claims (caller n) s c ≡ true → current_holds (option_map (piece_of fixed.base) player.piece) c ≡ true
     → ((d v : ℕ) → v < 129 → is_marked marked d v ≡ ((d == c) && (v == w) || is_marked written d v))
     → IsTakenPlayer (player_in old n) player → player.number ≡ n
     → ((k : ℕ) → k ≢ n → player_in mid k ≡ player_in old k) → ((k : ℕ) → player_in new k ≡ (if player.number == k then Some player else player_in mid k))
@@ -400,7 +400,7 @@ write_next fixed pieces s old mid new written marked m n c w player served is fi
 -- a legal Write is of a chunk that the player's piece holds and the seat claims
 pub write_legal : (fixed : Fixed) (pieces : List Checked) (s : State) (old : List Player) (written : List Bool) (m : Machine) (n c w : ℕ) (player : Player)
     → StandsFor fixed s old written m → IsTakenPlayer (player_in old n) player → IsLegalStep fixed pieces m (Write n c w)
-    → (claims (caller n) s c ≡ true) × (current_holds (option_map piece_of player.piece) c ≡ true)
+    → (claims (caller n) s c ≡ true) × (current_holds (option_map (piece_of fixed.base) player.piece) c ≡ true)
 write_legal fixed pieces s old written m n c w player is taken legal =
     let was : IsPlayer fixed player (m.seat n) = taken_seat fixed (player_in old n) player (m.seat n) (is.seats n) taken in
     (claims_at s m n c is.state ∙ legal.1, sym (ap (λ (o : Option Piece). current_holds o c) was.piece) ∙ legal.2)

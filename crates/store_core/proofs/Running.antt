@@ -13,7 +13,7 @@ use Rattle.store_core.specs.declared.micro.MicroStep.{MicroStep}
 use Rattle.store_core.specs.declared.micro.MicroStep.TheVariants.{Claim, Hash, Write, Publish, GiveBack, Load, Settle, Length}
 use Rattle.store_core.specs.declared.micro.Reply.{Reply}
 use Rattle.store_core.specs.declared.micro.Reply.TheVariants.{Committed}
-use Rattle.store_core.specs.Events.{recorded_after, settling}
+use Rattle.store_core.specs.Events.{has_room, recorded_after, settling}
 use Rattle.store_core.specs.Histories.{AreLegalFrom, run}
 use Rattle.store_core.specs.Laws.{IsSound, RunsAreLegal}
 use Rattle.store_core.specs.Machine.{Machine, ReadUnderWay, MachineSeat, copied, current_bytes, current_holds, seat_has, is_over, is_whole, loaded, loaded_group, position, read_of, shown_byte, start, store_of, with_seat}
@@ -210,13 +210,13 @@ settle_at : (fixed : Fixed) (m : Machine) (n : ℕ) (o : Option Piece) → IsSou
     → IsStep fixed m (record m { recorded = recorded_after (length_answer fixed m.recorded (current_length o)) (current_length o) m.recorded })
     (settle_by n o (length_answer fixed m.recorded (current_length o)))
 settle_at fixed m n None served is ends = absurd ends
-settle_at fixed m n (Some piece) served is ends = elim (cases_Bool (nat_le (length_of piece) (1024 * fixed.capacity))) [
+settle_at fixed m n (Some piece) served is ends = elim (cases_Bool (has_room fixed (length_of piece))) [
   | inl fits ↦
       let answer : Answer = settling m.recorded (length_of piece) in
       rw fits (subst (λ (events : List Event). IsStep fixed m (record m { recorded = recorded_after answer (length_of piece) m.recorded }) events)
       (sym (settle_event n piece answer (settling_fits m.recorded (length_of piece))))
       (keeps fixed m (record m { recorded = recorded_after answer (length_of piece) m.recorded }) (event_by n (SettleCall piece answer)) served
-      ((served.kept.accepted n piece is, ends, leb-true (length_of piece) (1024 * fixed.capacity) fits, refl), tt)
+      ((served.kept.accepted n piece is, ends, fits, refl), tt)
       (same_state _ _ refl (λ c. refl) (λ c. refl) refl)
       (record { known = served.kept.known; cells = served.kept.cells; accepted = served.kept.accepted })
       (λ k. refl)))

@@ -1,5 +1,5 @@
 -- A parent that a store holds is the blob's, and an encoding that it serves is the blob's slice, or a collision is exhibited.
-use Rattle.std.proofs.Common.{◌≡◌, ◌⊎◌, ℕ, List, [], ◌∷◌, ◌++◌, length, map, Option, None, Some, refl, sym, subst, ◌∙◌, inl, inr}
+use Rattle.std.proofs.Common.{◌≡◌, ◌⊎◌, ℕ, ◌+◌, List, [], ◌∷◌, ◌++◌, length, map, Option, None, Some, refl, sym, subst, ◌∙◌, arith, inl, inr}
 use Rattle.std.specs.Prelude.{Contains}
 use Rattle.std.specs.List.{flat_map}
 use Rattle.std.proofs.lemmas.Bool.{cases_Bool}
@@ -25,6 +25,7 @@ use Rattle.store_core.specs.Pieces.{length_of}
 use Rattle.store_core.specs.Serves.{after_bytes, node_and, node_held, served, serving_of}
 use Rattle.store_core.specs.States.{State}
 use Rattle.store_core.proofs.Bound.{held_binds, record_binds}
+use Rattle.store_core.proofs.HasRoom.{base_recorded}
 use Rattle.store_core.proofs.ParentOrigins.{parent_is_stored}
 
 pub parent_held_binds : ParentHeldBinds
@@ -51,14 +52,17 @@ module _ (fixed : Fixed) (history : List Event) (blob : List ℕ) (keyed : IsKey
   s = state_after history
 
   -- what is held of a node is the blob's
-  node_binds : (start len : ℕ) (node : TreeNode) (bytes : List ℕ) → Contains (nodes (length blob) start len) node → node_held s (name node) ≡ Some bytes
+  node_binds : fixed.base ≡ 0 → (start len : ℕ) (node : TreeNode) (bytes : List ℕ) → Contains (nodes (length blob) start len) node → node_held s (name node) ≡ Some bytes
       → (bytes ≡ node_text fixed.mode blob node) ⊎ CollisionFrom fixed history blob
-  node_binds start len node bytes there h = elim (cases_Bool node.is_chunk) [
+  node_binds whole start len node bytes there h = elim (cases_Bool node.is_chunk) [
     | inl chunk ↦
         let held : s.held node.number ≡ Some bytes = rw chunk at h in
         let own : chunk_of blob node.number ≡ Some (node_text fixed.mode blob node) = chunk_of-node fixed.mode blob (of_slice (length blob) start len) node there chunk in
         elim (held_binds fixed history blob node.number bytes keyed is legal held) [
-          | inl same ↦ let e : Some bytes ≡ Some (node_text fixed.mode blob node) = sym same ∙ own in inl (cc)
+          | inl same ↦
+              let place : fixed.base + node.number ≡ node.number = omega (arith, whole) in
+              let here : chunk_of blob node.number ≡ Some bytes = subst (λ (n : ℕ). chunk_of blob n ≡ Some bytes) place same in
+              let e : Some bytes ≡ Some (node_text fixed.mode blob node) = sym here ∙ own in inl (cc)
           | inr named ↦ inr (of_chunk node.number bytes named.0 named.1)
         ]
     | inr parent ↦
@@ -72,14 +76,14 @@ module _ (fixed : Fixed) (history : List Event) (blob : List ℕ) (keyed : IsKey
   ]
 
   -- and so are the bytes of several
-  one_binds : (start len : ℕ) (node : TreeNode) (rest : List TreeNode) (text : List ℕ) (o : Option (List ℕ)) → Contains (nodes (length blob) start len) node
+  one_binds : fixed.base ≡ 0 → (start len : ℕ) (node : TreeNode) (rest : List TreeNode) (text : List ℕ) (o : Option (List ℕ)) → Contains (nodes (length blob) start len) node
       → ((more : List ℕ) → served s (map name rest) ≡ Text more → (more ≡ flat_map (node_text fixed.mode blob) rest) ⊎ CollisionFrom fixed history blob)
       → node_held s (name node) ≡ o → node_and (name node) o (served s (map name rest)) ≡ Text text
       → (text ≡ flat_map (node_text fixed.mode blob) (node ∷ rest)) ⊎ CollisionFrom fixed history blob
-  one_binds start len node rest text None there further e got = cc
-  one_binds start len node rest text (Some bytes) there further e got =
+  one_binds whole start len node rest text None there further e got = cc
+  one_binds whole start len node rest text (Some bytes) there further e got =
       let w = after_text bytes text (served s (map name rest)) got in
-      elim (node_binds start len node bytes there e) [
+      elim (node_binds whole start len node bytes there e) [
         | inr named ↦ inr named
         | inl same ↦
             elim (further w.0 w.1.0) [
@@ -88,12 +92,12 @@ module _ (fixed : Fixed) (history : List Event) (blob : List ℕ) (keyed : IsKey
             ]
       ]
 
-  nodes_bind : (start len : ℕ) (some : List TreeNode) (text : List ℕ) → ((node : TreeNode) → Contains some node → Contains (nodes (length blob) start len) node)
+  nodes_bind : fixed.base ≡ 0 → (start len : ℕ) (some : List TreeNode) (text : List ℕ) → ((node : TreeNode) → Contains some node → Contains (nodes (length blob) start len) node)
       → served s (map name some) ≡ Text text → (text ≡ flat_map (node_text fixed.mode blob) some) ⊎ CollisionFrom fixed history blob
-  nodes_bind start len [] text among h = inl (cc)
-  nodes_bind start len (node ∷ rest) text among h =
-      one_binds start len node rest text (node_held s (name node)) (among node (Contains-head rest node))
-      (λ more got. nodes_bind start len rest more (λ x there. among x (Contains-tail rest node x there)) got) refl h
+  nodes_bind whole start len [] text among h = inl (cc)
+  nodes_bind whole start len (node ∷ rest) text among h =
+      one_binds whole start len node rest text (node_held s (name node)) (among node (Contains-head rest node))
+      (λ more got. nodes_bind whole start len rest more (λ x there. among x (Contains-tail rest node x there)) got) refl h
 
   slice_binds : (o : Option ℕ) → s.recorded ≡ o → (start len : ℕ) (text : List ℕ) → serving_of o s start len ≡ Text text
       → (text ≡ slice_text fixed.mode blob start len) ⊎ CollisionFrom fixed history blob
@@ -103,7 +107,7 @@ module _ (fixed : Fixed) (history : List Event) (blob : List ℕ) (keyed : IsKey
     | inl whole ↦
         let w = after_text (length_text l) text (served s (slice_names l start len)) h in
         let got : served s (map name (nodes (length blob) start len)) ≡ Text w.0 = subst (λ (n : ℕ). served s (slice_names n start len) ≡ Text w.0) whole w.1.0 in
-        elim (nodes_bind start len (nodes (length blob) start len) w.0 (λ x h. h) got) [
+        elim (nodes_bind (base_recorded fixed history l legal e) start len (nodes (length blob) start len) w.0 (λ x h. h) got) [
           | inr named ↦ inr named
           | inl same ↦
               inl (w.1.1 ∙ (λ i. length_text (whole i) ++ same i) ∙ sym (chosen_text-nodes (of_slice (length blob) start len) fixed.mode blob))

@@ -21,7 +21,7 @@ use Rattle.store_core.specs.declared.history.Call.TheVariants.{Take, Give, Commi
 use Rattle.store_core.specs.declared.history.Event.{Event}
 use Rattle.store_core.specs.declared.slot.Slot.{Slot}
 use Rattle.store_core.specs.declared.slot.Slot.TheVariants.{Free, Claimed, Held}
-use Rattle.store_core.specs.Events.{IsRightReply, after_call, is_free, settling}
+use Rattle.store_core.specs.Events.{IsRightReply, after_call, has_room, is_free, settling}
 use Rattle.store_core.specs.Machine.{groups}
 use Rattle.store_core.specs.Masks.{IsMaskOf, has_bit, in_mask}
 use Rattle.store_core.specs.Names.{Name}
@@ -246,11 +246,12 @@ same_hash one other same = λ i. record { 0 = same i }
 
 -- what a piece of the store's root and mode carries is that it is accepted under them
 pub accepted_piece : (fixed : Fixed) (piece : Checked) → AreBytes (piece_text piece) → IsAccepted (piece_mode piece) (piece_root piece) (piece_text piece) (piece_nodes piece)
-    → IsOf fixed piece → IsAcceptedPiece fixed (piece_of piece)
+    → IsOf fixed piece → IsAcceptedPiece fixed (piece_of fixed.base piece)
 accepted_piece fixed piece bytes accepted is = record {
   bytes = bytes;
   accepted = subst (λ (m : Mode). IsAccepted m fixed.root.0 (piece_text piece) (piece_nodes piece)) is.mode
       (subst (λ (r : Hash). IsAccepted piece.mode r.0 (piece_text piece) (piece_nodes piece)) is.root accepted);
+  base = refl;
 }
 
 -- what is asked of a piece's root and mode
@@ -273,10 +274,10 @@ pub settling_differs : (o : Option ℕ) (m l : ℕ) → o ≡ Some m → (m ≡ 
 settling_differs o m l e other = rw e (rw (ne_eqb m l other) refl)
 
 -- a right Settle
-pub settle_right : (fixed : Fixed) (slots : List Slot) (o : Option ℕ) (piece : Checked) (l : ℕ) (answer : Settling) → IsAcceptedPiece fixed (piece_of piece) → HoldsLast piece
-    → l ≡ piece_claimed piece → l ≤ 1024 * fixed.capacity → answer ≡ settling o l → (who : List Name) → IsRightReply fixed (state_in slots o) who (Settle (piece_of piece) answer)
+pub settle_right : (fixed : Fixed) (slots : List Slot) (o : Option ℕ) (piece : Checked) (l : ℕ) (answer : Settling) → IsAcceptedPiece fixed (piece_of fixed.base piece) → HoldsLast piece
+    → l ≡ piece_claimed piece → has_room fixed l ≡ true → answer ≡ settling o l → (who : List Name) → IsRightReply fixed (state_in slots o) who (Settle (piece_of fixed.base piece) answer)
 settle_right fixed slots o piece l answer accepted last is fits same who =
-    (accepted, last, subst (λ (n : ℕ). n ≤ 1024 * fixed.capacity) is fits, same ∙ ap (λ (n : ℕ). settling o n) is)
+    (accepted, last, subst (λ (n : ℕ). has_room fixed n ≡ true) is fits, same ∙ ap (λ (n : ℕ). settling o n) is)
 
 and_assoc : (a b c : Bool) → (a && (b && c)) ≡ ((a && b) && c)
 and_assoc true b c = refl
@@ -297,65 +298,65 @@ commit_test slots o seat piece c =
     ∙ ap (λ (b : Bool). b && holds_chunk piece c) (claims_test slots o seat c))
 
 -- the copy of a chunk of the mask
-copy_at : (group mask : ℕ) (piece : Checked) (ready : List Slot) (c : ℕ) → AreCopies piece group mask 64 ready → in_mask group mask c ≡ true → IsSlotCopy piece c (slot_at ready (c % 64))
-copy_at group mask piece ready c copies hit =
+copy_at : (base group mask : ℕ) (piece : Checked) (ready : List Slot) (c : ℕ) → AreCopies base piece group mask 64 ready → in_mask group mask c ≡ true → IsSlotCopy base piece c (slot_at ready (c % 64))
+copy_at base group mask piece ready c copies hit =
     let parts = and_parts (c / 64 == group) (has_bit mask (c % 64)) hit in
     let of_group : c / 64 ≡ group = eqb-true (c / 64) group parts.0 in
     let place : 64 * group + c % 64 ≡ c = omega (arith, of_group) in
-    subst (λ (n : ℕ). IsSlotCopy piece n (slot_at ready (c % 64))) place (copies.each (c % 64) (omega arith) parts.1)
+    subst (λ (n : ℕ). IsSlotCopy base piece n (slot_at ready (c % 64))) place (copies.each (c % 64) (omega arith) parts.1)
 
 -- copies that were put are what stands after a Commit
-pub put_committed : (old ready new : List Slot) (o : Option ℕ) (seat group mask : ℕ) (piece : Checked) → AreCopies piece group mask 64 ready
+pub put_committed : (base : ℕ) (old ready new : List Slot) (o : Option ℕ) (seat group mask : ℕ) (piece : Checked) → AreCopies base piece group mask 64 ready
     → ((c : ℕ) → slot_at new c ≡ (if in_mask group mask c then slot_at ready (c % 64) else slot_at old c))
-    → state_in new o ≡ after_call (caller seat) (Commit group (piece_of piece) mask) (state_in old o)
-put_committed old ready new o seat group mask piece copies put = same_state (state_in new o) (after_call (caller seat) (Commit group (piece_of piece) mask) (state_in old o)) refl
+    → state_in new o ≡ after_call (caller seat) (Commit group (piece_of base piece) mask) (state_in old o)
+put_committed base old ready new o seat group mask piece copies put = same_state (state_in new o) (after_call (caller seat) (Commit group (piece_of base piece) mask) (state_in old o)) refl
     (λ c. elim (cases_Bool (in_mask group mask c)) [
-      | inl hit ↦ rw hit (ap held_in (rw hit at (put c)) ∙ (copy_at group mask piece ready c copies hit).bytes)
+      | inl hit ↦ rw hit (ap held_in (rw hit at (put c)) ∙ (copy_at base group mask piece ready c copies hit).bytes)
       | inr miss ↦ rw miss (ap held_in (rw miss at (put c)))
     ])
     (λ c. elim (cases_Bool (in_mask group mask c)) [
-      | inl hit ↦ rw hit (ap claim_in (rw hit at (put c)) ∙ (copy_at group mask piece ready c copies hit).unclaimed)
+      | inl hit ↦ rw hit (ap claim_in (rw hit at (put c)) ∙ (copy_at base group mask piece ready c copies hit).unclaimed)
       | inr miss ↦ rw miss (ap claim_in (rw miss at (put c)))
     ])
     refl
 
-pub commit_done : (fixed : Fixed) (old ready new : List Slot) (o : Option ℕ) (seat group mask : ℕ) (piece : Checked) → IsAcceptedPiece fixed (piece_of piece)
-    → IsMaskOf group mask (λ c. has_bit 18446744073709551615 (c % 64) && (nat_lt c (length old) && (is_of seat (slot_at old c) && holds_chunk (piece_of piece) c)))
-    → AreCopies piece group mask 64 ready → ((c : ℕ) → slot_at new c ≡ (if in_mask group mask c then slot_at ready (c % 64) else slot_at old c))
-    → IsDone fixed old new o (caller seat) (Commit group (piece_of piece) mask)
+pub commit_done : (fixed : Fixed) (old ready new : List Slot) (o : Option ℕ) (seat group mask : ℕ) (piece : Checked) → IsAcceptedPiece fixed (piece_of fixed.base piece)
+    → IsMaskOf group mask (λ c. has_bit 18446744073709551615 (c % 64) && (nat_lt c (length old) && (is_of seat (slot_at old c) && holds_chunk (piece_of fixed.base piece) c)))
+    → AreCopies fixed.base piece group mask 64 ready → ((c : ℕ) → slot_at new c ≡ (if in_mask group mask c then slot_at ready (c % 64) else slot_at old c))
+    → IsDone fixed old new o (caller seat) (Commit group (piece_of fixed.base piece) mask)
 commit_done fixed old ready new o seat group mask piece accepted chosen copies put = record {
   right = (
     accepted,
     mask_same group mask
-        (λ c. has_bit 18446744073709551615 (c % 64) && (nat_lt c (length old) && (is_of seat (slot_at old c) && holds_chunk (piece_of piece) c)))
-        (λ c. claims (caller seat) (state_in old o) c && holds_chunk (piece_of piece) c)
-        (λ c of_group. commit_test old o seat (piece_of piece) c) chosen,
+        (λ c. has_bit 18446744073709551615 (c % 64) && (nat_lt c (length old) && (is_of seat (slot_at old c) && holds_chunk (piece_of fixed.base piece) c)))
+        (λ c. claims (caller seat) (state_in old o) c && holds_chunk (piece_of fixed.base piece) c)
+        (λ c of_group. commit_test old o seat (piece_of fixed.base piece) c) chosen,
   );
-  after = put_committed old ready new o seat group mask piece copies put;
+  after = put_committed fixed.base old ready new o seat group mask piece copies put;
 }
 
-pub commit_at : (fixed : Fixed) (old seen written copied ready new : List Slot) (o : Option ℕ) (seat group mask : ℕ) (piece : Checked) → IsAcceptedPiece fixed (piece_of piece)
+pub commit_at : (fixed : Fixed) (old seen written copied ready new : List Slot) (o : Option ℕ) (seat group mask : ℕ) (piece : Checked) → IsAcceptedPiece fixed (piece_of fixed.base piece)
     → seen ≡ old → written ≡ old → copied ≡ ready
-    → IsMaskOf group mask (λ c. has_bit 18446744073709551615 (c % 64) && (nat_lt c (length seen) && (is_of seat (slot_at seen c) && holds_chunk (piece_of piece) c)))
-    → AreCopies piece group mask 64 ready → ((c : ℕ) → slot_at new c ≡ (if in_mask group mask c then slot_at copied (c % 64) else slot_at written c))
-    → IsDone fixed old new o (caller seat) (Commit group (piece_of piece) mask)
+    → IsMaskOf group mask (λ c. has_bit 18446744073709551615 (c % 64) && (nat_lt c (length seen) && (is_of seat (slot_at seen c) && holds_chunk (piece_of fixed.base piece) c)))
+    → AreCopies fixed.base piece group mask 64 ready → ((c : ℕ) → slot_at new c ≡ (if in_mask group mask c then slot_at copied (c % 64) else slot_at written c))
+    → IsDone fixed old new o (caller seat) (Commit group (piece_of fixed.base piece) mask)
 commit_at fixed old seen written copied ready new o seat group mask piece accepted e f g chosen copies put =
     commit_done fixed old ready new o seat group mask piece accepted
-    (subst (λ (xs : List Slot). IsMaskOf group mask (λ c. has_bit 18446744073709551615 (c % 64) && (nat_lt c (length xs) && (is_of seat (slot_at xs c) && holds_chunk (piece_of piece) c)))) e chosen)
+    (subst (λ (xs : List Slot). IsMaskOf group mask (λ c. has_bit 18446744073709551615 (c % 64) && (nat_lt c (length xs) && (is_of seat (slot_at xs c) && holds_chunk (piece_of fixed.base piece) c)))) e chosen)
     copies
     (subst (λ (xs : List Slot). (c : ℕ) → slot_at new c ≡ (if in_mask group mask c then slot_at ready (c % 64) else slot_at xs c)) f
     (subst (λ (xs : List Slot). (c : ℕ) → slot_at new c ≡ (if in_mask group mask c then slot_at xs (c % 64) else slot_at written c)) g put))
 
 -- a group that isn't there
-pub commit_none : (fixed : Fixed) (slots : List Slot) (o : Option ℕ) (seat group : ℕ) (piece : Checked) → IsAcceptedPiece fixed (piece_of piece)
-    → length slots ≤ fixed.capacity → groups fixed ≤ group → IsDone fixed slots slots o (caller seat) (Commit group (piece_of piece) 0)
+pub commit_none : (fixed : Fixed) (slots : List Slot) (o : Option ℕ) (seat group : ℕ) (piece : Checked) → IsAcceptedPiece fixed (piece_of fixed.base piece)
+    → length slots ≤ fixed.capacity → groups fixed ≤ group → IsDone fixed slots slots o (caller seat) (Commit group (piece_of fixed.base piece) 0)
 commit_none fixed slots o seat group piece accepted fits absent = record {
   right = (
     accepted,
-    no_mask group (λ c. claims (caller seat) (state_in slots o) c && holds_chunk (piece_of piece) c)
+    no_mask group (λ c. claims (caller seat) (state_in slots o) c && holds_chunk (piece_of fixed.base piece) c)
         (λ c of_group. and_left _ _ (sym (claims_test slots o seat c) ∙ and_left _ _ (le-ltb c (length slots) (omega (arith, of_group, absent, fits))))),
   );
-  after = same_state (state_in slots o) (after_call (caller seat) (Commit group (piece_of piece) 0) (state_in slots o)) refl
+  after = same_state (state_in slots o) (after_call (caller seat) (Commit group (piece_of fixed.base piece) 0) (state_in slots o)) refl
       (λ c. rw (and_right (c / 64 == group) (has_bit 0 (c % 64)) (has_bit-zero (c % 64))) refl)
       (λ c. rw (and_right (c / 64 == group) (has_bit 0 (c % 64)) (has_bit-zero (c % 64))) refl)
       refl;

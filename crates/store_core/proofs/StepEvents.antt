@@ -1,5 +1,5 @@
 -- Each step of a schedule as an event of the store.
-use Rattle.std.proofs.Common.{◌≡◌, ℕ, ◌/◌, ◌%◌, nat_lt, ◌==◌, Bool, true, false, not, ◌&&◌, ◌||◌, if◌then◌else◌, List, [], ◌∷◌, slice_get, Option, None, Some, is_some, option_map, refl, sym, ap, subst, ◌∙◌, inl, inr, eqb-true, eq-eqb}
+use Rattle.std.proofs.Common.{◌≡◌, ℕ, ◌+◌, ◌/◌, ◌%◌, nat_lt, ◌==◌, Bool, true, false, not, ◌&&◌, ◌||◌, if◌then◌else◌, List, [], ◌∷◌, slice_get, Option, None, Some, is_some, option_map, refl, sym, ap, subst, ◌∙◌, inl, inr, eqb-true, eq-eqb}
 use Rattle.std.proofs.lemmas.Bool.{and_parts, both_ways, cases_Bool, or_cases, or_right, or_parts, not-true}
 use Rattle.b3tree.specs.declared.mode.Mode.{Mode}
 use Rattle.bao_check.specs.Accepted.{IsAccepted}
@@ -90,20 +90,20 @@ accepted_seat fixed m n seat here others k piece is = elim (cases_Bool (k == n))
 
 -- Hash
 listed_accepted : (fixed : Fixed) (pieces : List Checked) (n i : ℕ) (piece : Piece) → TakesBytes pieces (Hash n i) → HasPiece fixed pieces i
-    → option_map piece_of (slice_get pieces i) ≡ Some piece → IsAcceptedPiece fixed piece
+    → option_map (piece_of fixed.base) (slice_get pieces i) ≡ Some piece → IsAcceptedPiece fixed piece
 listed_accepted fixed pieces n i piece bytes has is =
-    let found : Some (piece_of has.piece) ≡ Some piece = ap (λ (o : Option Checked). option_map piece_of o) (sym has.is) ∙ is in
-    let same : piece_of has.piece ≡ piece = cc in
-    let mode : IsAccepted fixed.mode has.piece.root.0 (piece_text has.piece) (nodes_of (piece_of has.piece)) =
-    subst (λ (mode : Mode). IsAccepted mode has.piece.root.0 (piece_text has.piece) (nodes_of (piece_of has.piece))) has.mode has.piece.accepted in
-    let root : IsAccepted fixed.mode fixed.root.0 (piece_text has.piece) (nodes_of (piece_of has.piece)) =
-    subst (λ (root : List ℕ). IsAccepted fixed.mode root (piece_text has.piece) (nodes_of (piece_of has.piece))) has.root mode in
-    subst (λ (p : Piece). IsAcceptedPiece fixed p) same (record { bytes = bytes has.piece has.is; accepted = root })
+    let found : Some (piece_of fixed.base has.piece) ≡ Some piece = ap (λ (o : Option Checked). option_map (piece_of fixed.base) o) (sym has.is) ∙ is in
+    let same : piece_of fixed.base has.piece ≡ piece = cc in
+    let mode : IsAccepted fixed.mode has.piece.root.0 (piece_text has.piece) (nodes_of (piece_of fixed.base has.piece)) =
+    subst (λ (mode : Mode). IsAccepted mode has.piece.root.0 (piece_text has.piece) (nodes_of (piece_of fixed.base has.piece))) has.mode has.piece.accepted in
+    let root : IsAccepted fixed.mode fixed.root.0 (piece_text has.piece) (nodes_of (piece_of fixed.base has.piece)) =
+    subst (λ (root : List ℕ). IsAccepted fixed.mode root (piece_text has.piece) (nodes_of (piece_of fixed.base has.piece))) has.root mode in
+    subst (λ (p : Piece). IsAcceptedPiece fixed p) same (record { bytes = bytes has.piece has.is; accepted = root; base = refl })
 
 pub hash_step : (fixed : Fixed) (pieces : List Checked) (m : Machine) (n i : ℕ) → TakesBytes pieces (Hash n i) → IsSoundMachine fixed m → HasPiece fixed pieces i
     → IsStep fixed m (after_step fixed pieces m (Hash n i) None) []
 hash_step fixed pieces m n i bytes served has =
-    let seat : MachineSeat = record (m.seat n) { piece = option_map piece_of (slice_get pieces i); written = λ c w. false } in
+    let seat : MachineSeat = record (m.seat n) { piece = option_map (piece_of fixed.base) (slice_get pieces i); written = λ c w. false } in
     keeps fixed m (with_seat m n seat) [] served tt refl
     (record {
       known = λ k c w wrote dark. elim (cases_Bool (k == n)) [
@@ -236,7 +236,7 @@ publish_step fixed pieces m n group mask piece served current wrote_all is =
     let holds : holds_chunk piece c ≡ true = sym (ap (λ (o : Option Piece). current_holds o c) current) ∙ parts.1 in
     some_is (chunk_bytes piece c) (Some (cell_bytes (m.cell c))) holds (λ bytes there.
     let bytes_are : current_bytes (m.seat n).piece c ≡ bytes = ap (λ (o : Option Piece). current_bytes o c) current ∙ ap bytes_or_none there in
-    ap (λ (xs : List ℕ). Some xs) (sym (cell_is (m.cell c) bytes (chunk_valid piece.text (places_in piece) c bytes accepted.bytes there) (chunk_fits fixed piece c bytes accepted there)
+    ap (λ (xs : List ℕ). Some xs) (sym (cell_is (m.cell c) bytes (chunk_valid piece.text (places_in piece) (piece.base + c) bytes accepted.bytes there) (chunk_fits fixed piece c bytes accepted there)
     (λ w below. served.kept.cells n c w (wrote_all c w of_group parts.0 parts.1 below) parts.0 ∙ ap (λ (xs : List ℕ). cell_word xs w) bytes_are)))) in
     keeps fixed m next (event_by n (Commit group piece mask)) served
     (right, tt)

@@ -25,7 +25,7 @@ use Rattle.store_core.specs.Names.{Name}
 use Rattle.store_core.specs.Pieces.{IsAcceptedPiece, holds_parent, length_of, parent_bytes, piece_of, places_in}
 use Rattle.store_core.specs.Slots.{parent_among, state_in, with_parents}
 use Rattle.store_core.specs.States.{State}
-use Rattle.store_core.specs.Stores.{IsSame, IsUnstored, StoresParent, state_of}
+use Rattle.store_core.specs.Stores.{IsSame, IsUnstored, StoresParent, fixed_of, state_of}
 use Rattle.store_core.specs.Reached.{IsReached}
 use Rattle.store_core.proofs.Bits.{has_bit-zero}
 use Rattle.store_core.proofs.BoundStore.{length_fits}
@@ -89,7 +89,7 @@ store_none fixed slots o old seen group mask piece accepted length_is e none wan
     }
 
 -- a mask that isn't empty has a parent to store
-pub stores_parent : (store : Store) (group mask : ℕ) (piece : Checked) → 0 < mask → IsMaskOf group mask (λ m. holds_parent (piece_of piece) m && not (is_some ((state_of store).parents m)))
+pub stores_parent : (store : Store) (group mask : ℕ) (piece : Checked) → 0 < mask → IsMaskOf group mask (λ m. holds_parent (piece_of (fixed_of store).base piece) m && not (is_some ((state_of store).parents m)))
     → StoresParent store group piece
 unfolding has_bit
 stores_parent store group mask piece some is =
@@ -99,7 +99,7 @@ stores_parent store group mask piece some is =
     let place : (64 * group + j) / 64 ≡ group = omega arith in
     let bit : (64 * group + j) % 64 ≡ j = omega arith in
     let hit : (bit_at mask ((64 * group + j) % 64) == 1) ≡ true = ap (λ (k : ℕ). bit_at mask k == 1) bit ∙ ap (λ (b : ℕ). b == 1) low.1 in
-    let test = and_parts (holds_parent (piece_of piece) (64 * group + j)) (not (is_some ((state_of store).parents (64 * group + j)))) (sym (is.bits (64 * group + j) place) ∙ hit) in
+    let test = and_parts (holds_parent (piece_of (fixed_of store).base piece) (64 * group + j)) (not (is_some ((state_of store).parents (64 * group + j)))) (sym (is.bits (64 * group + j) place) ∙ hit) in
     record { boundary = 64 * group + j; place = place; holds = test.0; lacks = none_from ((state_of store).parents (64 * group + j)) test.1 }
 
 -- of a group that isn't there the piece holds none, since there is none past the blob's last chunk

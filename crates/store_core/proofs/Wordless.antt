@@ -1,6 +1,6 @@
 -- What a run stands for after the steps that change no word: Settle, Load and Length.
 use Rattle.std.proofs.Common.{◌≡◌, ◌≢◌, ℕ, ◌*◌, ◌/◌, ◌≤◌, nat_le, ◌==◌, Bool, ◌||◌, if◌then◌else◌, List, [], Option, None, Some, IfSome, option_map, sym, ap, subst, ◌∙◌, inl, inr, eqb-true}
-use Rattle.std.proofs.lemmas.Bool.{cases_Bool, lt-leb, le-leb}
+use Rattle.std.proofs.lemmas.Bool.{cases_Bool}
 use Rattle.bao_check.specs.declared.checked.Checked.{Checked}
 use Rattle.bao_check.specs.Checked.{HoldsLast}
 use Rattle.store_core.specs.declared.fixed.Fixed.{Fixed}
@@ -31,16 +31,16 @@ use Rattle.store_core.proofs.RunSteps.{IsNext, current, kept_seats, put_seats, t
 -- Settle
 record IsSettling (from to : Store) (piece : Checked) (answer : Answer) : Type 0 where
   fixed_is : fixed_of to ≡ fixed_of from
-  answer_is : answer ≡ length_answer (fixed_of from) (state_of from).recorded (length_of (piece_of piece))
-  after : state_of to ≡ record (state_of from) { recorded = recorded_after answer (length_of (piece_of piece)) (state_of from).recorded }
+  answer_is : answer ≡ length_answer (fixed_of from) (state_of from).recorded (length_of (piece_of (fixed_of from).base piece))
+  after : state_of to ≡ record (state_of from) { recorded = recorded_after answer (length_of (piece_of (fixed_of from).base piece)) (state_of from).recorded }
 
-by_event : (from to : Store) (piece : Checked) (answer : Answer) → ((who : List Name) → IsEvent from to who (SettleCall (piece_of piece) answer)) → IsSettling from to piece answer
+by_event : (from to : Store) (piece : Checked) (answer : Answer) → ((who : List Name) → IsEvent from to who (SettleCall (piece_of (fixed_of from).base piece) answer)) → IsSettling from to piece answer
 by_event from to piece answer each =
-    let e : IsEvent from to [] (SettleCall (piece_of piece) answer) = each [] in
+    let e : IsEvent from to [] (SettleCall (piece_of (fixed_of from).base piece) answer) = each [] in
     record {
       fixed_is = e.fixed;
-      answer_is = e.right.3 ∙ sym (ap (λ (b : Bool). if b then settling (state_of from).recorded (length_of (piece_of piece)) else TooLarge)
-          (le-leb (length_of (piece_of piece)) (1024 * (fixed_of from).capacity) e.right.2));
+      answer_is = e.right.3 ∙ sym (ap (λ (b : Bool). if b then settling (state_of from).recorded (length_of (piece_of (fixed_of from).base piece)) else TooLarge)
+          e.right.2);
       after = e.after;
     }
 
@@ -48,8 +48,8 @@ settle_is : (from to : Store) (piece : Checked) (answer : Answer) → IsOf (fixe
 settle_is from to piece OtherRoot of_store h = absurd (h.0 of_store)
 settle_is from to piece TooLarge of_store h = record {
   fixed_is = h.2.fixed;
-  answer_is = sym (ap (λ (b : Bool). if b then settling (state_of from).recorded (length_of (piece_of piece)) else TooLarge)
-      (lt-leb (length_of (piece_of piece)) (1024 * (fixed_of from).capacity) h.1));
+  answer_is = sym (ap (λ (b : Bool). if b then settling (state_of from).recorded (length_of (piece_of (fixed_of from).base piece)) else TooLarge)
+      h.1);
   after = h.2.state;
 }
 settle_is from to piece Settled of_store h = by_event from to piece Settled h
@@ -77,9 +77,9 @@ pub settle_next : (pieces : List Checked) (from to : Store) (old mid new : List 
 settle_next pieces from to old mid new written m n player piece answer is taken has last settles others put number =
     let fixed : Fixed = fixed_of from in
     let was : IsPlayer fixed player (m.seat n) = taken_seat fixed (player_in old n) player (m.seat n) (is.seats n) taken in
-    let seat_piece : (m.seat n).piece ≡ Some (piece_of piece) = current fixed (player_in old n) player (m.seat n) piece (is.seats n) taken has in
+    let seat_piece : (m.seat n).piece ≡ Some (piece_of (fixed_of from).base piece) = current fixed (player_in old n) player (m.seat n) piece (is.seats n) taken has in
     let done : IsSettling from to piece answer = settle_is from to piece answer (was.of piece has) settles in
-    let l : ℕ = length_of (piece_of piece) in
+    let l : ℕ = length_of (piece_of (fixed_of from).base piece) in
     let reply : answer ≡ settle_answer fixed m n =
     done.answer_is ∙ ap (λ (x : State). length_answer fixed x.recorded l) is.state
     ∙ ap (λ (o : Option Piece). length_answer fixed m.recorded (current_length o)) (sym seat_piece) in
@@ -140,7 +140,7 @@ load_next fixed pieces s old mid new written m n at len was player before after 
     ∙ sym (over_same fixed m (read_before m n at len) served.sound first.part) in
     let seat : MachineSeat = record (m.seat n) { reading = if is_last_load fixed m n at len then None else Some (read_after fixed m n at len) } in
     let new_seat : IsPlayer fixed player seat = record {
-      piece = old_seat.piece ∙ sym (ap (λ (o : Option Checked). option_map piece_of o) piece);
+      piece = old_seat.piece ∙ sym (ap (λ (o : Option Checked). option_map (piece_of fixed.base) o) piece);
       reading = sym (read ∙ ap (λ (x : Bool). if x then None else Some after) l
           ∙ ap (λ (r : ReadUnderWay). if is_last_load fixed m n at len then None else Some r) a);
       of = λ p there. old_seat.of p (sym piece ∙ there);

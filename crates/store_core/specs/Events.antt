@@ -1,5 +1,5 @@
 -- The events of a store: for each call which reply is right, and the state after it.
-use Rattle.std.specs.Prelude.{◌≡◌, ℕ, ◌*◌, ◌%◌, ◌≤◌, nat_lt, ◌==◌, ◌≢◌, Bool, true, not, ◌&&◌, ◌||◌, if◌then◌else◌, List, Option, None, Some}
+use Rattle.std.specs.Prelude.{◌≡◌, ℕ, ◌*◌, ◌%◌, nat_le, nat_lt, ◌==◌, ◌≢◌, Bool, true, not, ◌&&◌, ◌||◌, if◌then◌else◌, List, Option, None, Some}
 use Rattle.store_core.specs.declared.fixed.Fixed.{Fixed}
 use Rattle.store_core.specs.declared.history.Call.{Call}
 use Rattle.store_core.specs.declared.history.Call.TheVariants.{Take, Give, Commit, Settle, Read, Length, Parents, Serve}
@@ -18,6 +18,10 @@ use Rattle.store_core.specs.States.{State, claims, is_claimed, is_held, read_byt
 -- whether a chunk may be granted: it is below the capacity, and neither held nor claimed
 abbrev pub is_free : Fixed → State → ℕ → Bool
 is_free fixed s c = nat_lt c fixed.capacity && not (is_held s c || is_claimed s c)
+
+-- whether a blob of this length has room, from its first chunk on
+abbrev pub has_room : Fixed → ℕ → Bool
+has_room fixed l = (fixed.base == 0) && nat_le l (1024 * fixed.capacity)
 
 -- what a settled length meets
 abbrev pub settling : Option ℕ → ℕ → Settling
@@ -47,7 +51,7 @@ IsRightReply fixed s who (Give group mask given) = IsMaskOf group given (λ c. h
 IsRightReply fixed s who (Commit group piece committed) =
     IsAcceptedPiece fixed piece × IsMaskOf group committed (λ c. claims who s c && holds_chunk piece c)
 IsRightReply fixed s who (Settle piece answer) =
-    IsAcceptedPiece fixed piece × EndsBlob piece × (length_of piece ≤ 1024 * fixed.capacity) × (answer ≡ settling s.recorded (length_of piece))
+    IsAcceptedPiece fixed piece × EndsBlob piece × (has_room fixed (length_of piece) ≡ true) × (answer ≡ settling s.recorded (length_of piece))
 IsRightReply fixed s who (Read at len bytes) = bytes ≡ read_bytes s at len
 IsRightReply fixed s who (Length recorded) = recorded ≡ s.recorded
 IsRightReply fixed s who (Parents group piece answer) = IsAcceptedPiece fixed piece × IsStoring s group piece answer

@@ -15,7 +15,7 @@ use Rattle.store_core.specs.declared.history.Piece.{Piece}
 use Rattle.store_core.specs.declared.history.Settling.TheVariants.{Settled}
 use Rattle.store_core.specs.declared.history.Serving.TheVariants.{NoLength, Text}
 use Rattle.store_core.specs.declared.history.Storing.TheVariants.{OtherLength, Stored}
-use Rattle.store_core.specs.Events.{IsRightReply}
+use Rattle.store_core.specs.Events.{IsRightReply, has_room}
 use Rattle.store_core.specs.Histories.{AreOfOthers, IsLegal, events_of, state_after}
 use Rattle.store_core.specs.Masks.{in_mask}
 use Rattle.store_core.specs.Names.{Name, has_name, share_name}
@@ -139,7 +139,7 @@ pub record IsSettled (fixed : Fixed) (history : List Event) (l : ℕ) : Type 0 w
   pub there : Contains history (record { who = who; call = Settle piece Settled })
   pub accepted : IsAcceptedPiece fixed piece
   pub ends : EndsBlob piece
-  pub fits : length_of piece ≤ 1024 * fixed.capacity
+  pub fits : has_room fixed (length_of piece) ≡ true
   pub is : length_of piece ≡ l
 
 abbrev pub HeldIsCommitted : Type 0
@@ -176,13 +176,13 @@ pub record IsBlob (fixed : Fixed) (blob : List ℕ) : Type 0 where
 abbrev pub CollidesWith : Fixed → List ℕ → Piece → Type 0
 CollidesWith fixed blob piece = NamesCollision fixed.mode blob piece.text (places_in piece)
 
--- For each blob with the root: a chunk that is held is the blob's chunk of that number, a byte that is held is the
--- blob's byte there, and a recorded length is the blob's; or a collision is exhibited from that blob and from the committed
+-- For each blob with the root: a chunk that is held is the blob's chunk of that number, counted from the store's first, a byte
+-- that is held is the blob's byte there, and a recorded length is the blob's; or a collision is exhibited from that blob and from the committed
 -- or settled piece that it comes from.
 abbrev pub HeldBinds : Type 0
 HeldBinds = (fixed : Fixed) (history : List Event) (blob : List ℕ) (c : ℕ) (bytes : List ℕ) → IsKeyed fixed.mode → IsBlob fixed blob
     → IsLegal fixed history → (state_after history).held c ≡ Some bytes
-    → (chunk_of blob c ≡ Some bytes) ⊎ ((from : IsCommitted fixed history c bytes) × CollidesWith fixed blob from.piece)
+    → (chunk_of blob (fixed.base + c) ≡ Some bytes) ⊎ ((from : IsCommitted fixed history c bytes) × CollidesWith fixed blob from.piece)
 
 -- A collision is exhibited from the blob and a piece that a history committed, settled a length by, or stored parents of.
 pub data CollisionFrom (fixed : Fixed) (history : List Event) (blob : List ℕ) : Type 0 where
@@ -211,7 +211,7 @@ pub record ByteFrom (fixed : Fixed) (history : List Event) (q x : ℕ) : Type 0 
 abbrev pub ByteBinds : Type 0
 ByteBinds = (fixed : Fixed) (history : List Event) (blob : List ℕ) (q x : ℕ) → IsKeyed fixed.mode → IsBlob fixed blob
     → IsLegal fixed history → byte_at (state_after history) q ≡ Some x
-    → (slice_get blob q ≡ Some x) ⊎ ((from : ByteFrom fixed history q x) × CollidesWith fixed blob from.chunk.piece)
+    → (slice_get blob (1024 * fixed.base + q) ≡ Some x) ⊎ ((from : ByteFrom fixed history q x) × CollidesWith fixed blob from.chunk.piece)
 
 abbrev pub RecordBinds : Type 0
 RecordBinds = (fixed : Fixed) (history : List Event) (blob : List ℕ) (l : ℕ) → IsKeyed fixed.mode → IsBlob fixed blob

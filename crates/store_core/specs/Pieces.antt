@@ -1,5 +1,5 @@
 -- Pieces: accepted encodings, what chunks they hold, and the length that the last of them certifies.
-use Rattle.std.specs.Prelude.{◌≡◌, ℕ, ◌-◌, List, Bool, true, Option, is_some}
+use Rattle.std.specs.Prelude.{◌≡◌, ℕ, ◌+◌, ◌-◌, List, Bool, true, Option, is_some}
 use Rattle.b3tree.specs.Valid.{AreBytes}
 use Rattle.bao_text.specs.Choice.{chunk_count}
 use Rattle.bao_text.specs.Cut.{claimed}
@@ -21,14 +21,15 @@ abbrev pub places_in : Piece → List (ℕ × TreeNode)
 places_in piece = places_of (nodes_of piece)
 
 -- The encoding of a piece is one of bytes, accepted under the store's root and in its mode: nothing is taken on
--- anybody's word.
+-- anybody's word. Its chunks are counted as the store's are.
 pub record IsAcceptedPiece (fixed : Fixed) (piece : Piece) : Type 0 where
   pub bytes : AreBytes piece.text
   pub accepted : IsAccepted fixed.mode fixed.root.0 piece.text (nodes_of piece)
+  pub base : piece.base ≡ fixed.base
 
--- the bytes of chunk c, if the piece holds it
+-- the bytes of chunk c of the store, which is that many chunks of the blob after the store's first, if the piece holds it
 abbrev pub chunk_bytes : Piece → ℕ → Option (List ℕ)
-chunk_bytes piece c = chunk_in piece.text (places_in piece) c
+chunk_bytes piece c = chunk_in piece.text (places_in piece) (piece.base + c)
 
 abbrev pub holds_chunk : Piece → ℕ → Bool
 holds_chunk piece c = is_some (chunk_bytes piece c)
@@ -47,8 +48,8 @@ length_of piece = claimed piece.text
 -- The piece holds the last chunk of that length, so that its certificate goes to the right at every parent and
 -- the length is 1024 times the chunk's number and its size.
 abbrev pub EndsBlob : Piece → Type 0
-EndsBlob piece = holds_chunk piece (chunk_count (length_of piece) - 1) ≡ true
+EndsBlob piece = is_some (chunk_in piece.text (places_in piece) (chunk_count (length_of piece) - 1)) ≡ true
 
--- the piece that a checked encoding is
-abbrev pub piece_of : Checked → Piece
-piece_of checked = record { start = piece_start checked; len = piece_len checked; text = piece_text checked }
+-- the piece that a checked encoding is to a store whose first chunk is this one of the blob
+abbrev pub piece_of : ℕ → Checked → Piece
+piece_of base checked = record { base = base; start = piece_start checked; len = piece_len checked; text = piece_text checked }

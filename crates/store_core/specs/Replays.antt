@@ -1,5 +1,5 @@
 -- What the replay of a schedule answers.
-use Rattle.std.specs.Prelude.{◌≡◌, ◌⊎◌, ℕ, List, Some, length, slice_get, take}
+use Rattle.std.specs.Prelude.{◌≡◌, ◌⊎◌, ℕ, ◌+◌, List, Some, length, slice_get, take}
 use Rattle.bao_check.specs.declared.checked.Checked.{Checked}
 use Rattle.bao_check.specs.Pieces.{chunk_of}
 use Rattle.store_core.specs.declared.fixed.Fixed.{Fixed}
@@ -48,22 +48,22 @@ pub record BeginsLegally (fixed : Fixed) (pieces : List Checked) (steps : List M
   pub legal : IsLegalStep fixed pieces start step
 
 -- the piece is one of the list
-pub record IsListed (pieces : List Checked) (piece : Piece) : Type 0 where
+pub record IsListed (fixed : Fixed) (pieces : List Checked) (piece : Piece) : Type 0 where
   pub index : ℕ
   pub checked : Checked
   pub there : slice_get pieces index ≡ Some checked
-  pub is : piece ≡ piece_of checked
+  pub is : piece ≡ piece_of fixed.base checked
 
 -- A collision is exhibited from a blob and the piece of which a run committed chunk c with these bytes, one of the list.
 pub record CollisionOfChunk (fixed : Fixed) (pieces : List Checked) (history : List Event) (blob : List ℕ) (c : ℕ) (bytes : List ℕ) : Type 0 where
   pub committed : IsCommitted fixed history c bytes
-  pub listed : IsListed pieces committed.piece
+  pub listed : IsListed fixed pieces committed.piece
   pub pair : CollidesWith fixed blob committed.piece
 
 -- or from the one by which it settled the length
 pub record CollisionOfLength (fixed : Fixed) (pieces : List Checked) (history : List Event) (blob : List ℕ) (l : ℕ) : Type 0 where
   pub settled : IsSettled fixed history l
-  pub listed : IsListed pieces settled.piece
+  pub listed : IsListed fixed pieces settled.piece
   pub pair : CollidesWith fixed blob settled.piece
 
 -- For each blob with the store's root and each run of the steps: a chunk that the store holds is the blob's chunk of that
@@ -71,7 +71,7 @@ pub record CollisionOfLength (fixed : Fixed) (pieces : List Checked) (history : 
 -- this run committed the chunk, or by which it settled the length.
 abbrev pub ReplayBinds : Fixed → List Checked → List MicroStep → List Reply → Store → Type 0
 ReplayBinds fixed pieces steps replies store = (blob : List ℕ) → IsBlob fixed blob → (by : IsReplayed fixed pieces steps replies store)
-    → ((c : ℕ) (bytes : List ℕ) → (state_of store).held c ≡ Some bytes → (chunk_of blob c ≡ Some bytes) ⊎ CollisionOfChunk fixed pieces by.history blob c bytes)
+    → ((c : ℕ) (bytes : List ℕ) → (state_of store).held c ≡ Some bytes → (chunk_of blob (fixed.base + c) ≡ Some bytes) ⊎ CollisionOfChunk fixed pieces by.history blob c bytes)
     × ((l : ℕ) → (state_of store).recorded ≡ Some l → (l ≡ length blob) ⊎ CollisionOfLength fixed pieces by.history blob l)
 
 -- the store is that of a replay of the steps that the run took, which ends at the machine that the run stands for

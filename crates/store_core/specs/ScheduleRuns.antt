@@ -38,7 +38,7 @@ IsCleared test old new = (c w : ℕ) → w < 129 → is_marked new c w ≡ (if t
 
 -- of each chunk of the group that the seat claims and the piece holds, all words are marked
 abbrev pub IsAllMarked : Store → List Bool → ℕ → ℕ → Checked → Type 0
-IsAllMarked store written n group piece = (c w : ℕ) → c / 64 ≡ group → claims (caller n) (state_of store) c ≡ true → holds_chunk (piece_of piece) c ≡ true
+IsAllMarked store written n group piece = (c w : ℕ) → c / 64 ≡ group → claims (caller n) (state_of store) c ≡ true → holds_chunk (piece_of (fixed_of store).base piece) c ≡ true
     → w < 129 → is_marked written c w ≡ true
 
 abbrev pub reading_of : Reading → ReadUnderWay
@@ -52,7 +52,7 @@ carried_on fixed s r = record r {
 
 -- a player stands for the seat, but for the words written; its piece is of the store's root and mode
 pub record IsPlayer (fixed : Fixed) (player : Player) (seat : MachineSeat) : Type 0 where
-  pub piece : seat.piece ≡ option_map piece_of player.piece
+  pub piece : seat.piece ≡ option_map (piece_of fixed.base) player.piece
   pub reading : seat.reading ≡ option_map reading_of player.reading
   pub of : (piece : Checked) → player.piece ≡ Some piece → IsOf fixed piece
 

@@ -1,5 +1,5 @@
 -- The steps of schedules: where each is legal, what it answers, what it changes, and which event of the store it is.
-use Rattle.std.specs.Prelude.{◌≡◌, ℕ, ◌*◌, ◌/◌, ◌%◌, ◌<◌, ◌≤◌, nat_le, nat_lt, ◌==◌, Bool, true, false, not, ◌&&◌, ◌||◌, if◌then◌else◌, List, [], ◌∷◌, ◌++◌, Option, None, Some, is_some, option_map, option_to_list, bit_or, slice_get, IfSome}
+use Rattle.std.specs.Prelude.{◌≡◌, ℕ, ◌/◌, ◌%◌, ◌<◌, ◌≤◌, nat_lt, ◌==◌, Bool, true, false, not, ◌&&◌, ◌||◌, if◌then◌else◌, List, [], ◌∷◌, ◌++◌, Option, None, Some, is_some, option_map, option_to_list, bit_or, slice_get, IfSome}
 use Rattle.b3tree.specs.Valid.{AreBytes}
 use Rattle.bao_check.specs.declared.checked.Checked.{Checked}
 use Rattle.bao_check.specs.Checked.{piece_text}
@@ -15,7 +15,7 @@ use Rattle.store_core.specs.declared.micro.MicroStep.TheVariants.{Claim, Hash, W
 use Rattle.store_core.specs.declared.micro.Reply.{Reply}
 use Rattle.store_core.specs.declared.micro.Reply.TheVariants.{Granted, Committed, Given, Bytes, NotHeld, Settling, LengthIs}
 use Rattle.store_core.specs.Cells.{cell_word}
-use Rattle.store_core.specs.Events.{recorded_after, settling}
+use Rattle.store_core.specs.Events.{has_room, recorded_after, settling}
 use Rattle.store_core.specs.Machine.{Machine, ReadUnderWay, current_bytes, current_holds, groups, is_over, is_shown, is_whole, loaded, loaded_group, position, read_of, seat_has, with_seat}
 use Rattle.store_core.specs.Masks.{IsMaskOf, has_bit, in_mask}
 use Rattle.store_core.specs.Pieces.{EndsBlob, length_of, piece_of}
@@ -65,7 +65,7 @@ end_reply r = if is_whole r then Bytes r.bytes else NotHeld (position r)
 
 -- what a length meets that the current piece settles
 abbrev pub length_answer : Fixed → Option ℕ → ℕ → Answer
-length_answer fixed recorded l = if nat_le l (1024 * fixed.capacity) then settling recorded l else TooLarge
+length_answer fixed recorded l = if has_room fixed l then settling recorded l else TooLarge
 
 abbrev pub current_length : Option Piece → ℕ
 current_length None = 0
@@ -102,7 +102,7 @@ abbrev pub after_step : Fixed → List Checked → Machine → MicroStep → Opt
 after_step fixed pieces m (Claim n group want) reply =
     record m { claim = λ c. if in_mask group (mask_in reply) c then Some n else m.claim c }
 after_step fixed pieces m (Hash n i) reply =
-    with_seat m n (record (m.seat n) { piece = option_map piece_of (slice_get pieces i); written = λ c w. false })
+    with_seat m n (record (m.seat n) { piece = option_map (piece_of fixed.base) (slice_get pieces i); written = λ c w. false })
 after_step fixed pieces m (Write n c w) reply =
     record (with_seat m n (record (m.seat n) { written = λ d v. ((d == c) && (v == w)) || (m.seat n).written d v })) {
       cell = λ d v. if (d == c) && (v == w) then cell_word (current_bytes (m.seat n).piece c) w else m.cell d v;

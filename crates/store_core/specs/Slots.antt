@@ -57,19 +57,20 @@ is_free_slot (Held bytes) = false
 abbrev pub picks : Pick → ℕ → Slot → Bool
 picks kinds.Free c slot = is_free_slot slot
 picks (kinds.Claimed seat) c slot = is_of seat slot
-picks (kinds.InPiece seat piece) c slot = is_of seat slot && holds_chunk (piece_of piece) c
+picks (kinds.InPiece seat base piece) c slot = is_of seat slot && holds_chunk (piece_of base piece) c
 
 -- the place of a chunk that this seat claims, or none
 abbrev pub claimed_slot : Option ℕ → Slot
 claimed_slot None = Free
 claimed_slot (Some seat) = Claimed seat
 
--- the slot is that of chunk c of the piece: with its bytes where the piece holds it, and free otherwise
-pub record IsSlotCopy (piece : Checked) (c : ℕ) (slot : Slot) : Type 0 where
-  pub bytes : held_in slot ≡ chunk_bytes (piece_of piece) c
+-- the slot is that of chunk c of a store whose first chunk is chunk `base` of the blob: with its bytes where the piece holds
+-- it, and free otherwise
+pub record IsSlotCopy (base : ℕ) (piece : Checked) (c : ℕ) (slot : Slot) : Type 0 where
+  pub bytes : held_in slot ≡ chunk_bytes (piece_of base piece) c
   pub unclaimed : claim_in slot ≡ None
 
 -- there are n slots, and those of the mask's bits are of the group's chunks
-pub record AreCopies (piece : Checked) (group mask n : ℕ) (ready : List Slot) : Type 0 where
+pub record AreCopies (base : ℕ) (piece : Checked) (group mask n : ℕ) (ready : List Slot) : Type 0 where
   pub count : length ready ≡ n
-  pub each : (j : ℕ) → j < n → has_bit mask j ≡ true → IsSlotCopy piece (64 * group + j) (slot_at ready j)
+  pub each : (j : ℕ) → j < n → has_bit mask j ≡ true → IsSlotCopy base piece (64 * group + j) (slot_at ready j)

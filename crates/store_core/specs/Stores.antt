@@ -1,7 +1,5 @@
 -- What a store stands for, and what a call does to it.
 use Rattle.std.specs.Prelude.{◌≡◌, ℕ, ◌*◌, ◌/◌, ◌<◌, List, ◌+◌, ◌++◌, length, drop, Option, None, Some, Result, Ok, Err, ◌⊎◌, ◌-◌, slice_get, slice_index, Bool, true, false}
-use Rattle.b3tree.specs.declared.mode.Mode.{Mode}
-use Rattle.b3tree.specs.declared.values.Hash.{Hash}
 use Rattle.store_core.specs.declared.fixed.Fixed.{Fixed}
 use Rattle.store_core.specs.declared.history.Call.{Call}
 use Rattle.store_core.specs.declared.history.Event.{Event}
@@ -20,7 +18,7 @@ use Rattle.store_core.specs.Pieces.{chunk_bytes, holds_parent, length_of, piece_
 use Rattle.bao_check.specs.declared.checked.Checked.{Checked}
 use Rattle.store_core.specs.declared.fault.Missing.{Missing}
 use Rattle.store_core.specs.declared.store.Store.{Store}
-use Rattle.store_core.specs.Events.{IsRightReply, after_call}
+use Rattle.store_core.specs.Events.{IsRightReply, after_call, has_room}
 use Rattle.store_core.specs.Laws.{IsBlob, IsCommitted, IsSettled, CollisionFrom, CollidesWith}
 use Rattle.bao_text.specs.Texts.{slice_text}
 use Rattle.store_core.specs.Reached.{IsReached}
@@ -38,9 +36,9 @@ fixed_of store = store.fixed
 abbrev pub state_of : Store → State
 state_of store = with_parents (state_in store.slots.items store.recorded) store.parents.items
 
--- it has this root, mode and capacity, and nothing is held, claimed or recorded
-pub record IsNew (store : Store) (root : Hash) (mode : Mode) (capacity : ℕ) : Type 0 where
-  pub fixed : fixed_of store ≡ record { root = root; mode = mode; capacity = capacity }
+-- it has this root, mode, capacity and first chunk, and nothing is held, claimed or recorded
+pub record IsNew (store : Store) (fixed : Fixed) : Type 0 where
+  pub fixed_is : fixed_of store ≡ fixed
   pub state : state_of store ≡ empty
 
 -- it stands for the same
@@ -62,20 +60,20 @@ pub record IsOf (fixed : Fixed) (piece : Checked) : Type 0 where
 -- what a settled length meets, and what stands after it; the call names no seat, so it is anybody's event
 abbrev pub Settles : Store → Store → Checked → Settling → Type 0
 Settles old new piece OtherRoot = (¬ IsOf (fixed_of old) piece) × IsSame old new
-Settles old new piece TooLarge = IsOf (fixed_of old) piece × (1024 * (fixed_of old).capacity < length_of (piece_of piece)) × IsSame old new
-Settles old new piece Settled = (who : List Name) → IsEvent old new who (Settle (piece_of piece) Settled)
-Settles old new piece Known = (who : List Name) → IsEvent old new who (Settle (piece_of piece) Known)
-Settles old new piece Differs = (who : List Name) → IsEvent old new who (Settle (piece_of piece) Differs)
+Settles old new piece TooLarge = IsOf (fixed_of old) piece × (has_room (fixed_of old) (length_of (piece_of (fixed_of old).base piece)) ≡ false) × IsSame old new
+Settles old new piece Settled = (who : List Name) → IsEvent old new who (Settle (piece_of (fixed_of old).base piece) Settled)
+Settles old new piece Known = (who : List Name) → IsEvent old new who (Settle (piece_of (fixed_of old).base piece) Known)
+Settles old new piece Differs = (who : List Name) → IsEvent old new who (Settle (piece_of (fixed_of old).base piece) Differs)
 
 -- Parents of a piece that are stored, or another length that it claims, are an event of the store, anybody's.
 abbrev pub DidStore : Store → Store → ℕ → Checked → Storing → Type 0
-DidStore old new group piece answer = (who : List Name) → IsEvent old new who (Parents group (piece_of piece) answer)
+DidStore old new group piece answer = (who : List Name) → IsEvent old new who (Parents group (piece_of (fixed_of old).base piece) answer)
 
 -- There is a parent for it to store: the piece holds one at a boundary of the group where the store holds none.
 pub record StoresParent (store : Store) (group : ℕ) (piece : Checked) : Type 0 where
   pub boundary : ℕ
   pub place : boundary / 64 ≡ group
-  pub holds : holds_parent (piece_of piece) boundary ≡ true
+  pub holds : holds_parent (piece_of (fixed_of store).base piece) boundary ≡ true
   pub lacks : (state_of store).parents boundary ≡ None
 
 -- what refused parents say: another length alone is an event, and the store stands for the same
@@ -123,7 +121,7 @@ filled_count at len (Some p) = p - at
 -- byte there, or a collision is exhibited from the blob and the piece of which this history committed the byte's chunk.
 abbrev pub ReadBinds : Store → ℕ → List ℕ → ℕ → Type 0
 ReadBinds store at bytes count = (blob : List ℕ) → IsBlob (fixed_of store) blob → (by : IsReached (fixed_of store) (state_of store)) → (i : ℕ) → i < count
-    → (slice_get blob (at + i) ≡ Some (slice_index bytes i)) ⊎ CollisionCommitted (fixed_of store) by.history blob ((at + i) / 1024)
+    → (slice_get blob (1024 * (fixed_of store).base + (at + i)) ≡ Some (slice_index bytes i)) ⊎ CollisionCommitted (fixed_of store) by.history blob ((at + i) / 1024)
 
 -- and a recorded length is the length of each, or a collision is exhibited from the blob and the piece by which it settled it
 abbrev pub LengthBinds : Store → ℕ → Type 0
@@ -131,10 +129,10 @@ LengthBinds store l = (blob : List ℕ) → IsBlob (fixed_of store) blob → (by
     → (l ≡ length blob) ⊎ CollisionSettled (fixed_of store) by.history blob l
 
 -- For each blob with the store's root, each chunk of the group's mask that the piece has is the blob's chunk of that
--- number, or a collision is exhibited from the blob and the piece.
+-- number, counted from the store's first, or a collision is exhibited from the blob and the piece.
 abbrev pub ChunksBind : Fixed → Piece → ℕ → ℕ → Type 0
 ChunksBind fixed piece group mask = (blob : List ℕ) → IsBlob fixed blob → (c : ℕ) (bytes : List ℕ) → in_mask group mask c ≡ true
-    → chunk_bytes piece c ≡ Some bytes → (chunk_of blob c ≡ Some bytes) ⊎ CollidesWith fixed blob piece
+    → chunk_bytes piece c ≡ Some bytes → (chunk_of blob (fixed.base + c) ≡ Some bytes) ⊎ CollidesWith fixed blob piece
 
 -- For each blob with the store's root, the length that the piece claims is the blob's, or a collision is exhibited from the blob and
 -- the piece.

@@ -4,7 +4,8 @@ use bao_text::Node;
 use std::alloc::AllocError;
 use thiserror::Error;
 
-/// A store has room for 1 to 65,536 chunks, and another capacity was asked for. Number 802.
+/// A store has room for 1 to 65,536 chunks, from one of the blob's on whose number is at most 2^54, and another was asked for.
+/// Number 802.
 #[derive(Clone, Copy, Debug, PartialEq, Eq, Error)]
 #[error("802 capacity")]
 pub struct BadCapacity;

@@ -3,9 +3,11 @@ use std::collections::LinkedList;
 
 // The types of histories. Contracts and views speak of their values; no program makes one.
 
-/// An encoding and the slice (start, len) as which it is accepted, under the root and in the mode of a store.
+/// An encoding and the slice (start, len) as which it is accepted, under the root and in the mode of a store; and the chunk
+/// of the blob that is the store's chunk 0.
 #[derive(Drop)]
 pub struct Piece {
+    pub base: u64,
     pub start: u64,
     pub len: u64,
     pub text: LinkedList<u8>,

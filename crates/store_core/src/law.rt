@@ -36,9 +36,9 @@ pub fn read_means()
     ensures { ReadMeans }
 {}
 
-/// For each blob with the root of a store: a chunk that the store holds is the blob's chunk of that number, a
-/// byte that it holds is the blob's byte there, and a recorded length is the blob's; or a collision is exhibited,
-/// one input of the blob's and one of the piece's that was committed or settled.
+/// For each blob with the root of a store: a chunk that the store holds is the blob's chunk of that number, and a byte that
+/// it holds is the blob's byte there, both counted from the store's first chunk, and a recorded length is the blob's; or a
+/// collision is exhibited, one input of the blob's and one of the piece's that was committed or settled.
 /// A law: nothing runs.
 pub fn held_binds()
     ensures chunk { HeldBinds }

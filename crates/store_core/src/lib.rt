@@ -13,7 +13,7 @@ pub use law::{
 pub use masks::{CELL_WORDS, GROUP_LEN, PARENT_WORDS, has_bit, mask_below, with_bit};
 pub use micro::{MicroStep, ReadBytes, Reply};
 pub use schedule::{ScheduleRun, replay};
-pub use store::{MAX_CAPACITY, Store};
+pub use store::{MAX_BASE, MAX_CAPACITY, Store};
 pub use view::{Boundaries, Named, SeatView, StoredWord};
 
 mod bytes;

@@ -27,14 +27,14 @@ fn is_held(parents: &[Option<[u8; 64]>], m: usize) -> bool
 
 // The mask of the group's boundaries of which the piece holds the parent.
 fn held_in(piece: &Checked<'_>, group: u32) -> u64
-    ensures { IsMaskOf group result (λ m. holds_parent (piece_of piece.now) m) }
+    ensures { IsMaskOf group result (λ m. holds_parent (piece_of 0 piece.now) m) }
 {
     piece.parents_of(u64::from(group))
 }
 
 // The mask of the group's boundaries of which the piece holds the parent and none is held yet.
 pub(crate) fn wanted(parents: &[Option<[u8; 64]>], group: u32, piece: &Checked<'_>) -> u64
-    ensures { IsMaskOf group result (λ m. holds_parent (piece_of piece.now) m && not (is_some (parent_among parents.now m))) }
+    ensures { IsMaskOf group result (λ m. holds_parent (piece_of 0 piece.now) m && not (is_some (parent_among parents.now m))) }
 {
     let first = GROUP_LEN as u64 * u64::from(group);
     let has = held_in(piece, group);
@@ -61,7 +61,7 @@ pub(crate) fn make_room(parents: &mut Vec<Option<[u8; 64]>>, len: usize) -> Resu
 
 // The parent of the piece at a boundary, if it holds it.
 fn copy(piece: &Checked<'_>, m: u64) -> Option<[u8; 64]>
-    ensures { result ≡ parent_bytes (piece_of piece.now) m }
+    ensures { result ≡ parent_bytes (piece_of 0 piece.now) m }
 {
     match piece.parent(m) {
         Some(bytes) => {
@@ -81,7 +81,7 @@ pub(crate) fn put_parents(
     piece: &Checked<'_>,
 )
     requires within { (m : ℕ) → in_mask group mask m ≡ true → m < length parents.old }
-    ensures { (m : ℕ) → parent_among parents.new m ≡ (if in_mask group mask m then parent_bytes (piece_of piece.now) m else parent_among parents.old m) }
+    ensures { (m : ℕ) → parent_among parents.new m ≡ (if in_mask group mask m then parent_bytes (piece_of 0 piece.now) m else parent_among parents.old m) }
 {
     let first = GROUP_LEN as u64 * u64::from(group);
     for j in 0..64u32 {

@@ -4,12 +4,14 @@ ghost use Rattle.store_core.specs.declared.fault.ReplayFault.TheVariants.{Capaci
 ghost use Rattle.store_core.specs.Machine.{current_holds};
 ghost use Rattle.store_core.specs.Pieces.{piece_of};
 ghost use Rattle.store_core.specs.Replays.{BeginsLegally, IsIllegalAt, IsReplayed, ReplayBinds};
+ghost use Rattle.store_core.specs.Stores.{fixed_of};
 ghost use Rattle.store_core.specs.ScheduleRuns.{IsAllMarked, IsTakenPlayer, player_in};
 
 use crate::fault::{BadCapacity, ReplayFault, StepFault};
 use crate::masks::{CELL_WORDS, GROUP_LEN};
 use crate::micro::{MicroStep, Reply};
 use crate::reading::Reading;
+use crate::slot::is_in;
 use crate::store::Store;
 use crate::written::{is_written, mark, unmark_claims, unmark_group};
 use b3tree::{Hash, Mode};
@@ -75,12 +77,12 @@ fn add(replies: &mut Vec<Reply>, reply: Option<Reply>) -> Result<(), AllocError>
     Ok(())
 }
 
-// Whether the player's current piece holds the chunk.
-fn does_hold(player: &Player<'_>, chunk: u32) -> bool
-    ensures { result ≡ current_holds (option_map piece_of player.now.piece) chunk }
+// Whether the player's current piece holds the chunk of the store.
+fn does_hold(store: &Store, player: &Player<'_>, chunk: u32) -> bool
+    ensures { result ≡ current_holds (option_map (piece_of (fixed_of store.now).base) player.now.piece) chunk }
 {
     match player.piece {
-        Some(piece) => piece.chunk(u64::from(chunk)).is_some(),
+        Some(piece) => is_in(&piece, store.fixed().base, u64::from(chunk)),
         None => false,
     }
 }
@@ -102,7 +104,7 @@ impl<'a> ScheduleRun<'a> {
         capacity: u32,
     ) -> Result<ScheduleRun<'a>, BadCapacity>
         ensures fits { IsOk result ↔ ((0 < capacity) × (capacity ≤ 65536)) }
-        ensures fresh { IfOk result (IsFresh (record { root = root; mode = mode; capacity = capacity })) }
+        ensures fresh { IfOk result (IsFresh (record { root = root; mode = mode; capacity = capacity; base = 0 })) }
     {
         Ok(ScheduleRun {
             alloc,
@@ -172,7 +174,7 @@ impl<'a> ScheduleRun<'a> {
         ensures memory { (pieces : List Checked) → IsErrOf result StepFault.Memory → IsLegalFor pieces self.old (MicroStep.Write seat chunk word) }
     {
         let player = take_player(&mut self.players, seat);
-        let holds = does_hold(&player, chunk);
+        let holds = does_hold(&self.store, &player, chunk);
         if word >= CELL_WORDS || !holds || !self.store.has_claim(seat, chunk) {
             return Err(StepFault::Illegal);
         }
@@ -207,10 +209,11 @@ impl<'a> ScheduleRun<'a> {
         requires { group < 1024 }
         ensures { IsTrue result ↔ IsAllMarked self.now.store self.now.written.items seat group piece.now }
     {
+        let base = self.store.fixed().base;
         for j in 0..64u32 {
             let chunk = GROUP_LEN * group + j;
             if self.store.has_claim(seat, chunk)
-                && piece.chunk(u64::from(chunk)).is_some()
+                && is_in(piece, base, u64::from(chunk))
                 && !is_written(self.written.as_slice(), chunk)
             {
                 return false;
@@ -329,10 +332,10 @@ pub fn replay(
     steps: &[MicroStep],
 ) -> Result<(Vec<Reply>, Store), ReplayFault>
     ensures capacity { IsErrOf result Capacity ↔ ((capacity ≡ 0) ⊎ (65536 < capacity)) }
-    ensures ok { IfOk result (λ r. IsReplayed (record { root = root; mode = mode; capacity = capacity }) pieces.now steps.now r.0.items r.1) }
-    ensures illegal { (i : ℕ) → IsErrOf result (Illegal i) → IsIllegalAt (record { root = root; mode = mode; capacity = capacity }) pieces.now steps.now i }
-    ensures memory { IsErrOf result Memory → BeginsLegally (record { root = root; mode = mode; capacity = capacity }) pieces.now steps.now }
-    ensures binds { IfOk result (λ r. ReplayBinds (record { root = root; mode = mode; capacity = capacity }) pieces.now steps.now r.0.items r.1) }
+    ensures ok { IfOk result (λ r. IsReplayed (record { root = root; mode = mode; capacity = capacity; base = 0 }) pieces.now steps.now r.0.items r.1) }
+    ensures illegal { (i : ℕ) → IsErrOf result (Illegal i) → IsIllegalAt (record { root = root; mode = mode; capacity = capacity; base = 0 }) pieces.now steps.now i }
+    ensures memory { IsErrOf result Memory → BeginsLegally (record { root = root; mode = mode; capacity = capacity; base = 0 }) pieces.now steps.now }
+    ensures binds { IfOk result (λ r. ReplayBinds (record { root = root; mode = mode; capacity = capacity; base = 0 }) pieces.now steps.now r.0.items r.1) }
 {
     let mut run = match ScheduleRun::new(alloc, root, mode, capacity) {
         Ok(run) => run,

@@ -1,4 +1,4 @@
-ghost use Rattle.std.specs.Prelude.{◌≡◌, ℕ, ◌<◌, ◌≤◌, ◌%◌, max, is_some, IfOk, OnOk, length, true, nat_lt, ◌&&◌, if◌then◌else◌};
+ghost use Rattle.std.specs.Prelude.{◌≡◌, ℕ, ◌+◌, ◌^◌, ◌<◌, ◌≤◌, ◌%◌, max, is_some, IfOk, OnOk, length, true, nat_lt, ◌&&◌, if◌then◌else◌};
 ghost use Rattle.store_core.specs.Masks.{IsMaskOf, has_bit, in_mask};
 ghost use Rattle.store_core.specs.Pieces.{holds_chunk, piece_of};
 ghost use Rattle.std.specs.Option.{option_copied};
@@ -15,7 +15,7 @@ pub(crate) enum Slot {
     Free,
     /// Claimed by the seat with this number.
     Claimed(u32),
-    /// Held with these bytes.
+    /// Held with these bytes: those of the blob's chunk base + c, in the place of chunk c of a store with that base.
     Held(Vec<u8>),
 }
 
@@ -25,8 +25,8 @@ pub(crate) enum Pick<'a> {
     Free,
     /// Those that the seat claims.
     Claimed(u32),
-    /// Those that the seat claims and the piece holds.
-    InPiece(u32, Checked<'a>),
+    /// Those that the seat claims and the piece holds, in a store whose first chunk is this one of the blob.
+    InPiece(u32, u64, Checked<'a>),
 }
 
 impl Slot {
@@ -41,12 +41,14 @@ impl Slot {
     }
 }
 
-// Whether the piece holds the chunk: it is among its numbers, so nothing of its tree is walked.
-fn is_in(piece: &Checked<'_>, chunk: u64) -> bool
-    ensures { result ≡ holds_chunk (piece_of piece.now) chunk }
+// Whether the piece holds the chunk, which is counted from this one of the blob: it is among its numbers, so nothing of its
+// tree is walked.
+pub(crate) fn is_in(piece: &Checked<'_>, base: u64, chunk: u64) -> bool
+    ensures { result ≡ holds_chunk (piece_of base piece.now) chunk }
 {
     let (first, after) = piece.chunks();
-    first <= chunk && chunk < after
+    let number = base.saturating_add(chunk);
+    first <= number && number < after
 }
 
 impl Pick<'_> {
@@ -56,7 +58,7 @@ impl Pick<'_> {
         match self {
             Pick::Free => matches!(slot, Slot::Free),
             Pick::Claimed(seat) => slot.is_of(*seat),
-            Pick::InPiece(seat, piece) => slot.is_of(*seat) && is_in(piece, chunk),
+            Pick::InPiece(seat, base, piece) => slot.is_of(*seat) && is_in(piece, *base, chunk),
         }
     }
 }
@@ -140,11 +142,12 @@ pub(crate) fn grow(slots: &mut Vec<Slot>, len: usize) -> Result<(), AllocError>
     Ok(())
 }
 
-// What chunk `chunk` of the piece is in a store, if the piece holds it.
-fn copy(alloc: Global, piece: &Checked<'_>, chunk: u64) -> Result<Slot, AllocError>
-    ensures { IfOk result (λ slot. IsSlotCopy piece.now chunk slot) }
+// What chunk `chunk` is in a store whose first chunk is this one of the blob, if the piece holds it.
+fn copy(alloc: Global, piece: &Checked<'_>, base: u64, chunk: u64) -> Result<Slot, AllocError>
+    requires { base + chunk < 2 ^ 64 }
+    ensures { IfOk result (λ slot. IsSlotCopy base piece.now chunk slot) }
 {
-    match piece.chunk(chunk) {
+    match piece.chunk(base + chunk) {
         Some(bytes) => Ok(Slot::Held(bytes.to_vec(alloc)?)),
         None => Ok(Slot::Free),
     }
@@ -154,17 +157,19 @@ fn copy(alloc: Global, piece: &Checked<'_>, chunk: u64) -> Result<Slot, AllocErr
 pub(crate) fn copies(
     alloc: Global,
     piece: &Checked<'_>,
+    base: u64,
     group: u32,
     mask: u64,
 ) -> Result<Vec<Slot>, AllocError>
-    requires { group < 1024 }
-    ensures { IfOk result (λ ready. AreCopies piece.now group mask 64 ready.items) }
+    requires group { group < 1024 }
+    requires low { base ≤ 2 ^ 54 }
+    ensures { IfOk result (λ ready. AreCopies base piece.now group mask 64 ready.items) }
 {
     let first = GROUP_LEN as u64 * u64::from(group);
     let mut ready = Vec::new(alloc);
     for j in 0..64u32 {
         let slot = if has_bit(mask, j) {
-            copy(alloc, piece, first + u64::from(j))?
+            copy(alloc, piece, base, first + u64::from(j))?
         } else {
             Slot::Free
         };

@@ -1,4 +1,4 @@
-ghost use Rattle.std.specs.Prelude.{◌≡◌, ◌≢◌, ◌↔◌, ◌*◌, ℕ, ◌<◌, ◌≤◌, IfErr, IfOk, IfSome, IsOk, IsErrOf, IsTrue, MatchResult, None, OnErr, List, is_some, length, not, ◌&&◌};
+ghost use Rattle.std.specs.Prelude.{◌≡◌, ◌≢◌, ◌↔◌, ◌*◌, ◌^◌, ℕ, ◌<◌, ◌≤◌, IfErr, IfOk, IfSome, IsOk, IsErrOf, IsTrue, MatchResult, None, OnErr, List, is_some, length, not, ◌&&◌};
 ghost use Rattle.store_core.specs.Slots.{caller, state_in, with_parents};
 ghost use Rattle.store_core.specs.Reached.{IsReached};
 
@@ -19,8 +19,14 @@ use std::alloc::{AllocError, Global};
 /// The most chunks that a store has room for.
 pub const MAX_CAPACITY: u32 = 65_536;
 
+/// The greatest base of a store. A tree has at most 2^54 chunks, so that a store with this base stays empty.
+pub const MAX_BASE: u64 = 1 << 54;
+
 /// A store of one blob's chunks, for one thread: which are held, which seat claims which, and the blob's length
 /// once it is known. Nothing is taken on anybody's word: what it holds comes from encodings accepted under its root.
+///
+/// Chunk c of the store is chunk base + c of the blob, and position q is the blob's byte 1,024 * base + q. In a store that
+/// [`new`](Store::new) makes the base is 0, and in one of [`from_chunk`](Store::from_chunk) it is that chunk.
 #[derive(Drop)]
 pub struct Store {
     fixed: Fixed,
@@ -30,6 +36,7 @@ pub struct Store {
     // The parents by boundary, as far as any was stored.
     parents: Vec<Option<[u8; 64]>>,
     ghost limit: { fixed.capacity ≤ 65536 },
+    ghost low: { fixed.base ≤ 2 ^ 54 },
     ghost within: { length slots.items ≤ fixed.capacity },
     ghost reached: { ∥ IsReached fixed (with_parents (state_in slots.items recorded) parents.items) ∥₁ },
 }
@@ -50,14 +57,32 @@ impl Store {
     ghost use Rattle.store_core.specs.States.{claims, empty, held_count};
     ghost use Rattle.store_core.specs.Stores.{ChunksBind, ClaimBinds, DidRead, DidServe, DidStore, GainsNode, IsEvent, IsNew, IsOf, IsSame, IsUnserved, IsUnstored, LengthBinds, ParentsBind, ReadBinds, Settles, SliceBinds, StoresParent, filled_count, fixed_of, missing_in, state_of};
 
-    /// A store that holds, claims and records nothing. It takes no memory.
+    /// A store of a whole blob that holds, claims and records nothing. It takes no memory.
     ///
     /// 802 unless `capacity`, a number of chunks, is 1 to 65,536.
     pub fn new(alloc: Global, root: Hash, mode: Mode, capacity: u32) -> Result<Store, BadCapacity>
         ensures fits { IsOk result ↔ ((0 < capacity) × (capacity ≤ 65536)) }
-        ensures made { IfOk result (λ store. IsNew store root mode capacity) }
+        ensures made { IfOk result (λ store. IsNew store (record { root = root; mode = mode; capacity = capacity; base = 0 })) }
     {
-        if capacity == 0 || capacity > MAX_CAPACITY {
+        Store::from_chunk(alloc, root, mode, 0, capacity)
+    }
+
+    /// A store of a part of a blob, of the `capacity` chunks from chunk `base` of the blob on: it counts chunks, groups and
+    /// positions from there. It holds, claims and records nothing, and takes no memory. A blob's length is recorded by a store
+    /// of its first chunks alone, so where `base` isn't 0 no parents are stored and no slices served.
+    ///
+    /// 802 unless `capacity`, a number of chunks, is 1 to 65,536, and `base` at most 2^54: no blob has a chunk with that number.
+    pub fn from_chunk(
+        alloc: Global,
+        root: Hash,
+        mode: Mode,
+        base: u64,
+        capacity: u32,
+    ) -> Result<Store, BadCapacity>
+        ensures fits { IsOk result ↔ ((0 < capacity) × (capacity ≤ 65536) × (base ≤ 2 ^ 54)) }
+        ensures made { IfOk result (λ store. IsNew store (record { root = root; mode = mode; capacity = capacity; base = base })) }
+    {
+        if capacity == 0 || capacity > MAX_CAPACITY || base > MAX_BASE {
             return Err(BadCapacity);
         }
         Ok(Store {
@@ -65,6 +90,7 @@ impl Store {
                 root,
                 mode,
                 capacity,
+                base,
             },
             alloc,
             slots: Vec::new(alloc),
@@ -73,7 +99,7 @@ impl Store {
         })
     }
 
-    /// The root, the mode and the capacity in chunks, which never change.
+    /// The root, the mode, the capacity in chunks and the first chunk, which never change.
     pub fn fixed(&self) -> Fixed
         ensures { result ≡ fixed_of self.now }
     {
@@ -148,14 +174,14 @@ impl Store {
     /// changes nothing and says whether the same was recorded, `Known`, or another, `Differs`. It takes no memory.
     ///
     /// 804 `OtherRoot`, asked before all else, where the piece is of another root or mode, and 805 `TooLarge` where the
-    /// length is above 1,024 times the capacity. The store is then unchanged.
+    /// length is above 1,024 times the capacity, or the store's first chunk isn't the blob's. The store is then unchanged.
     ///
     /// For each blob with the store's root, the length of a piece that isn't `OtherRoot` is the blob's; or a
     /// collision is exhibited, one input of the blob's and one of this piece's.
     pub fn settle(&mut self, tail: &Tail<'_>) -> Settling
         ensures event { Settles self.old self.new (tail_piece tail.now) result }
         ensures other_root { (result ≡ RootIsOther) ↔ (¬ IsOf (fixed_of self.old) (tail_piece tail.now)) }
-        ensures binds { result ≢ RootIsOther → ClaimBinds (fixed_of self.old) (piece_of (tail_piece tail.now)) }
+        ensures binds { result ≢ RootIsOther → ClaimBinds (fixed_of self.old) (piece_of (fixed_of self.old).base (tail_piece tail.now)) }
     {
         // Laws, so that the proof has what they say: nothing runs.
         self.fixed.mode.is_keyed();
@@ -164,7 +190,7 @@ impl Store {
             return Settling::OtherRoot;
         }
         let length = tail.length();
-        if length > CHUNK_LEN as u64 * u64::from(self.fixed.capacity) {
+        if !self.fixed.has_room(length) {
             return Settling::TooLarge;
         }
         match self.recorded {
@@ -182,7 +208,7 @@ impl Store {
         }
     }
 
-    /// The recorded length in bytes, if there is one. It takes no memory.
+    /// The recorded length in bytes, if there is one: there is none where the store's base isn't 0. It takes no memory.
     ///
     /// For each blob with the store's root it is the blob's length; or, whatever legal history led to the store, a
     /// collision is exhibited, one input of the blob's and one of the piece's by which that history
@@ -191,6 +217,7 @@ impl Store {
         ensures event { (who : List Name) → IsEvent self.now self.now who (Length result) }
         ensures binds { IfSome result (λ l. LengthBinds self.now l) }
         ensures fits { IfSome result (λ l. l ≤ 1024 * (fixed_of self.now).capacity) }
+        ensures whole { IfSome result (λ l. (fixed_of self.now).base ≡ 0) }
     {
         // A law, so that the proof has what it says: nothing runs.
         self.fixed.mode.is_keyed();
@@ -221,16 +248,16 @@ impl Store {
     /// 804 `OtherRoot`, asked before all else, where the piece is of another root or mode, and 701 `Memory`. The store
     /// is then unchanged.
     ///
-    /// For each blob with the store's root, each chunk stored is the blob's chunk of that number; or a
-    /// collision is exhibited, one input of the blob's and one of the piece's.
+    /// For each blob with the store's root, each chunk stored is the blob's chunk of that number, counted from the store's
+    /// first; or a collision is exhibited, one input of the blob's and one of the piece's.
     pub fn commit(&mut self, seat: u32, group: u32, piece: &Checked<'_>) -> Result<u64, StoreFault>
-        ensures ok { IfOk result (λ committed. IsEvent self.old self.new (caller seat) (Commit group (piece_of piece.now) committed)) }
+        ensures ok { IfOk result (λ committed. IsEvent self.old self.new (caller seat) (Commit group (piece_of (fixed_of self.old).base piece.now) committed)) }
         ensures err { OnErr result (IsSame self.old self.new) }
         ensures other_root { IsErrOf result OtherRoot ↔ (¬ IsOf (fixed_of self.old) piece.now) }
         ensures absent { IsOf (fixed_of self.old) piece.now → groups (fixed_of self.old) ≤ group → result ≡ Ok 0 }
         ensures never { result ≢ Err NoGroup }
         ensures never_length { result ≢ Err OtherLength }
-        ensures binds { IfOk result (λ committed. ChunksBind (fixed_of self.old) (piece_of piece.now) group committed) }
+        ensures binds { IfOk result (λ committed. ChunksBind (fixed_of self.old) (piece_of (fixed_of self.old).base piece.now) group committed) }
     {
         // Laws, so that the proof has what they say: nothing runs.
         self.fixed.mode.is_keyed();
@@ -241,9 +268,10 @@ impl Store {
         if group >= self.groups() {
             return Ok(0);
         }
-        let pick = Pick::InPiece(seat, *piece);
+        let base = self.fixed.base;
+        let pick = Pick::InPiece(seat, base, *piece);
         let committed = chosen(self.slots.as_slice(), group, u64::MAX, &pick);
-        let mut ready = copies(self.alloc, piece, group, committed)?;
+        let mut ready = copies(self.alloc, piece, base, group, committed)?;
         put_ready(
             self.slots.as_mut_slice(),
             group,
@@ -259,8 +287,8 @@ impl Store {
     /// rest of `out` is unchanged. A position is held if its chunk is and has more bytes than come before it there;
     /// none at or above 1,024 times the capacity is. An empty buffer is Ok.
     ///
-    /// For each blob with the store's root, each byte filled in is the blob's byte there; or, whatever legal history led
-    /// to the store, a collision is exhibited, one input of the blob's and one of the piece's of
+    /// For each blob with the store's root, each byte filled in is the blob's byte there, counted from the store's first; or,
+    /// whatever legal history led to the store, a collision is exhibited, one input of the blob's and one of the piece's of
     /// which that history committed the byte's chunk.
     pub fn read(&self, at: u64, out: &mut [u8]) -> Result<(), Missing>
         ensures event { DidRead self.now at out.old out.new (missing_in result) }
@@ -294,11 +322,11 @@ impl Store {
     /// piece's that this history committed, settled or stored parents of.
     pub fn commit_parents(&mut self, group: u32, piece: &Checked<'_>) -> Result<u64, StoreFault>
         ensures ok { IfOk result (λ mask. DidStore self.old self.new group piece.now (Stored mask)) }
-        ensures all { IfOk result (λ mask. IsMaskOf group mask (λ m. holds_parent (piece_of piece.now) m && not (is_some ((state_of self.old).parents m)))) }
+        ensures all { IfOk result (λ mask. IsMaskOf group mask (λ m. holds_parent (piece_of (fixed_of self.old).base piece.now) m && not (is_some ((state_of self.old).parents m)))) }
         ensures other_root { IsErrOf result OtherRoot ↔ (¬ IsOf (fixed_of self.old) piece.now) }
-        ensures other_length { IsErrOf result OtherLength ↔ (IsOf (fixed_of self.old) piece.now × ((state_of self.old).recorded ≢ Some (length_of (piece_of piece.now)))) }
+        ensures other_length { IsErrOf result OtherLength ↔ (IsOf (fixed_of self.old) piece.now × ((state_of self.old).recorded ≢ Some (length_of (piece_of (fixed_of self.old).base piece.now)))) }
         ensures refused { IfErr result (λ fault. IsUnstored self.old self.new group piece.now fault) }
-        ensures absent { IsOf (fixed_of self.old) piece.now → (state_of self.old).recorded ≡ Some (length_of (piece_of piece.now)) → groups (fixed_of self.old) ≤ group → result ≡ Ok 0 }
+        ensures absent { IsOf (fixed_of self.old) piece.now → (state_of self.old).recorded ≡ Some (length_of (piece_of (fixed_of self.old).base piece.now)) → groups (fixed_of self.old) ≤ group → result ≡ Ok 0 }
         ensures memory { IsErrOf result Memory → StoresParent self.old group piece.now }
         ensures never { result ≢ Err NoGroup }
         ensures binds { IfOk result (λ _. ParentsBind self.new) }

@@ -1,20 +1,20 @@
--- What a settled length meets is one of the answers of the store.
-use Rattle.std.proofs.Common.{◌≡◌, ℕ, ◌==◌, List, [], ◌∷◌, ◌++◌, Option, None, Some, inl, inr, subst}
+-- What stands where a call does, and that what a settled length meets is one of the answers of the store.
+use Rattle.std.proofs.Common.{◌≡◌, ℕ, ◌==◌, List, [], ◌∷◌, ◌++◌, Option, None, Some, inl, inr, refl, sym, ap, subst, ◌∙◌}
 use Rattle.std.proofs.lemmas.Bool.{cases_Bool}
 use Rattle.bao_check.specs.declared.checked.Checked.{Checked}
 use Rattle.store_core.specs.declared.fixed.Fixed.{Fixed}
 use Rattle.store_core.specs.declared.history.Call.{Call}
-use Rattle.store_core.specs.declared.history.Call.TheVariants.{Settle}
+use Rattle.store_core.specs.declared.history.Call.TheVariants.{Length, Settle}
 use Rattle.store_core.specs.declared.history.Event.{Event}
 use Rattle.store_core.specs.declared.history.Settling.{Settling}
 use Rattle.store_core.specs.declared.history.Settling.TheVariants.{Settled, Known, Differs, OtherRoot, TooLarge}
 use Rattle.store_core.specs.declared.view.SeatView.{SeatView}
-use Rattle.store_core.specs.Events.{IsRightReply, settling}
+use Rattle.store_core.specs.Events.{IsRightReply, after_call, settling}
 use Rattle.store_core.specs.Histories.{IsLegal, state_after}
 use Rattle.store_core.specs.Pieces.{length_of, piece_of}
-use Rattle.store_core.specs.States.{empty}
+use Rattle.store_core.specs.States.{State, empty}
 use Rattle.store_core.specs.Views.{names_of}
-use Rattle.store_core.proofs.Lasting.{legal-append}
+use Rattle.store_core.proofs.Lasting.{legal-append, run-append}
 use Rattle.store_shared.specs.Seats.{Gripped}
 use Rattle.store_core.specs.Knowledge.{Called, Did, event_of}
 use Rattle.store_shared.specs.Calls.{MaySettle, SeatSettles}
@@ -27,6 +27,17 @@ pub right_there : (call : Call) (old new : SeatView) (d : Called call old new) �
 right_there call old new d =
     (legal-append new.fixed empty (old.seen ++ d.between) (event_of old call ∷ [])
     (subst (λ (h : List Event). IsLegal new.fixed h) d.goes_on.seen_is d.goes_on.legal)).1.0
+
+-- a call that changes nothing leaves the state in which it stands
+pub same_there : (call : Call) (old new : SeatView) (called : Called call old new) → ((s : State) → after_call (names_of old) call s ≡ s)
+    → state_after new.seen ≡ state_after (old.seen ++ called.between)
+same_there call old new called same =
+    ap state_after called.goes_on.seen_is ∙ run-append empty (old.seen ++ called.between) (event_of old call ∷ [])
+    ∙ same (state_after (old.seen ++ called.between))
+
+pub length_there : (old new : SeatView) (recorded : Option ℕ) → Called (Length recorded) old new → (state_after new.seen).recorded ≡ recorded
+length_there old new recorded called =
+    ap (λ (s : State). s.recorded) (same_there (Length recorded) old new called (λ s. refl)) ∙ sym (right_there (Length recorded) old new called)
 
 never_other : (o : Option ℕ) (l : ℕ) → OtherRoot ≡ settling o l → ⊥
 never_other None l e = cc
@@ -43,11 +54,11 @@ never_large (Some m) l e = elim (cases_Bool (m == l)) [
 ]
 
 pub settled : (fixed : Fixed) (old new : Gripped) (piece : Checked) (answer : Settling) → MaySettle fixed piece
-    → Called (Settle (piece_of piece) answer) old.view new.view → SeatSettles fixed old new piece answer
+    → Called (Settle (piece_of fixed.base piece) answer) old.view new.view → SeatSettles fixed old new piece answer
 settled fixed old new piece Settled may did = (may, did)
 settled fixed old new piece Known may did = (may, did)
 settled fixed old new piece Differs may did = (may, did)
 settled fixed old new piece OtherRoot may did =
-    absurd (never_other (state_after (old.view.seen ++ did.between)).recorded (length_of (piece_of piece)) (right_there (Settle (piece_of piece) OtherRoot) old.view new.view did).3)
+    absurd (never_other (state_after (old.view.seen ++ did.between)).recorded (length_of (piece_of fixed.base piece)) (right_there (Settle (piece_of fixed.base piece) OtherRoot) old.view new.view did).3)
 settled fixed old new piece TooLarge may did =
-    absurd (never_large (state_after (old.view.seen ++ did.between)).recorded (length_of (piece_of piece)) (right_there (Settle (piece_of piece) TooLarge) old.view new.view did).3)
+    absurd (never_large (state_after (old.view.seen ++ did.between)).recorded (length_of (piece_of fixed.base piece)) (right_there (Settle (piece_of fixed.base piece) TooLarge) old.view new.view did).3)

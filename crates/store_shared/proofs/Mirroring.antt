@@ -240,4 +240,4 @@ same_replies fixed number s history store (calls seat call ∷ rest) sound legal
 
 pub replies_are_the_stores : RepliesAreTheStores
 replies_are_the_stores fixed history number store asked legal new asks answers =
-    same_replies fixed (λ c. number) empty history store asked (sound_empty fixed) legal new.fixed new.state asks answers
+    same_replies fixed (λ c. number) empty history store asked (sound_empty fixed) legal new.fixed_is new.state asks answers

@@ -63,7 +63,7 @@ calls_in (moves group from to ∷ rest) = calls_in rest
 -- Served with the calls of a legal history in its order, a new one-thread store gives the history's replies.
 abbrev pub RepliesAreTheStores : Type 0
 RepliesAreTheStores = (fixed : Fixed) (history : List Event) (number : Name → ℕ) (store : Store) (asked : List AskedOfStore) → IsLegal fixed history
-    → IsNew store fixed.root fixed.mode fixed.capacity → AskTheSame (λ c. number) empty history asked → AnswersInTurn store asked
+    → IsNew store fixed → AskTheSame (λ c. number) empty history asked → AnswersInTurn store asked
     → calls_in asked ≡ map (λ e. e.call) history
 
 -- the numbering after the claims of all groups below n moved

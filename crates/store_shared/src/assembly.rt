@@ -1,19 +1,20 @@
-ghost use Rattle.std.specs.Prelude.{◌≡◌, ◌↔◌, ◌<◌, ◌≤◌, ◌*◌, IfErr, IfOk, IsOk, IsErrOf, OnErr, length};
+ghost use Rattle.std.specs.Prelude.{◌≡◌, ◌↔◌, ◌^◌, ◌<◌, ◌≤◌, ◌*◌, IfErr, IfOk, IfSome, IsOk, IsErrOf, OnErr, length};
 
 use crate::fault::{NoGroup, OtherRoot, ParentsFault, SplitFault};
 use crate::masks::put_masks;
 use crate::seat::Seat;
-use b3tree::{CHUNK_LEN, Hash, Mode};
+use b3tree::{Hash, Mode};
 use bao_check::{Checked, Tail};
 use std::alloc::Global;
 use store_calls::{NewFault, Words, commit, commit_parents, read, serve_slice};
-use store_core::{GROUP_LEN, MAX_CAPACITY, Missing, ServeFault, Settling, Storing};
+use store_core::{GROUP_LEN, MAX_BASE, MAX_CAPACITY, Missing, ServeFault, Settling, Storing};
 
 /// A store of one blob's chunks, shared by reference: which are held, which seat claims which, and the blob's length once
 /// it is known. Nothing is taken on anybody's word: what it holds comes from encodings accepted under its root.
 ///
 /// A seat that is handed to a call is one of this store's. A mask is of the chunks of a group: bit j stands for chunk
-/// 64 * group + j.
+/// 64 * group + j. Chunk c of the store is chunk base + c of the blob, and position q is the blob's byte 1,024 * base + q. In a
+/// store that [`new`](Assembly::new) makes the base is 0, and in one of [`from_chunk`](Assembly::from_chunk) it is that chunk.
 ///
 /// Each call that is not refused is an event of one history of the store, legal at its place. A seat has seen a history
 /// that begins with all that it had seen before, and in which each of its own calls stands once.
@@ -38,8 +39,8 @@ impl Assembly {
     ghost use Rattle.store_shared.specs.Seats.{IsGroupOf, IsSeatOf, fixed_of};
     ghost use Rattle.store_core.specs.Knowledge.{AreAllNames, AreMet, ArePartsOf, Called, IsMerged, KeepsClaims, LooksRound, NoneIsClaimedByBoth, opening_view};
 
-    /// A store that holds, claims and records nothing, and its first seat, which has seen nothing. `capacity` is a number
-    /// of chunks.
+    /// A store of a whole blob that holds, claims and records nothing, and its first seat, which has seen nothing. `capacity`
+    /// is a number of chunks.
     ///
     /// 802 `Capacity` unless it is 1 to 65,536, asked before all else, and 801 `Memory`. Nothing is left behind.
     pub fn new(
@@ -49,14 +50,35 @@ impl Assembly {
         capacity: u32,
     ) -> Result<(Assembly, Seat), NewFault>
         ensures capacity { IsErrOf result NewFault.Capacity ↔ (¬ ((0 < capacity) × (capacity ≤ 65536))) }
-        ensures fixed { IfOk result (λ made. fixed_of made.0 ≡ record { root = root; mode = mode; capacity = capacity }) }
+        ensures fixed { IfOk result (λ made. fixed_of made.0 ≡ record { root = root; mode = mode; capacity = capacity; base = 0 }) }
         ensures of { IfOk result (λ made. IsSeatOf made.0 made.1) }
         ensures view { IfOk result (λ made. made.1.view ≡ opening_view (fixed_of made.0)) }
     {
-        if capacity == 0 || capacity > MAX_CAPACITY {
+        Assembly::from_chunk(alloc, root, mode, 0, capacity)
+    }
+
+    /// A store of a part of a blob, of the `capacity` chunks from chunk `base` of the blob on, and its first seat: it counts
+    /// chunks, groups and positions from there. A blob's length is recorded by a store of its first chunks alone, so where `base`
+    /// isn't 0 no parents are stored and no slices served.
+    ///
+    /// 802 `Capacity` unless `capacity` is 1 to 65,536 and `base` at most 2^54, asked before all else, and 801 `Memory`.
+    /// Nothing is left behind.
+    pub fn from_chunk(
+        alloc: Global,
+        root: Hash,
+        mode: Mode,
+        base: u64,
+        capacity: u32,
+    ) -> Result<(Assembly, Seat), NewFault>
+        ensures capacity { IsErrOf result NewFault.Capacity ↔ (¬ ((0 < capacity) × (capacity ≤ 65536) × (base ≤ 2 ^ 54))) }
+        ensures fixed { IfOk result (λ made. fixed_of made.0 ≡ record { root = root; mode = mode; capacity = capacity; base = base }) }
+        ensures of { IfOk result (λ made. IsSeatOf made.0 made.1) }
+        ensures view { IfOk result (λ made. made.1.view ≡ opening_view (fixed_of made.0)) }
+    {
+        if capacity == 0 || capacity > MAX_CAPACITY || base > MAX_BASE {
             return Err(NewFault::Capacity);
         }
-        let (words, grip) = Words::new(alloc, root, mode, capacity)?;
+        let (words, grip) = Words::new(alloc, root, mode, base, capacity)?;
         let claims = vec![in alloc; 0u64; capacity.div_ceil(GROUP_LEN) as usize]?;
         Ok((Assembly { words, alloc }, Seat { grip, claims }))
     }
@@ -80,6 +102,13 @@ impl Assembly {
         ensures { result ≡ (fixed_of self.now).capacity }
     {
         self.words.fixed().capacity
+    }
+
+    /// The chunk of the blob that is the store's chunk 0.
+    pub fn base(&self) -> u64
+        ensures { result ≡ (fixed_of self.now).base }
+    {
+        self.words.fixed().base
     }
 
     /// How many groups of 64 chunks there are; the last may have less.
@@ -203,15 +232,15 @@ impl Assembly {
     ///
     /// 804 `OtherRoot`, asked before all else, where the piece is of another root or mode. Nothing is then asked.
     ///
-    /// For each blob with the store's root, each chunk stored is the blob's chunk of that number; or a
-    /// collision is exhibited, one input of the blob's and one of the piece's.
+    /// For each blob with the store's root, each chunk stored is the blob's chunk of that number, counted from the store's
+    /// first; or a collision is exhibited, one input of the blob's and one of the piece's.
     pub fn commit(&self, seat: &mut Seat, group: u32, piece: &Checked<'_>) -> Result<u64, OtherRoot>
         requires of { IsSeatOf self.now seat.old }
         ensures of { IsSeatOf self.now seat.new }
         ensures root { IsOk result ↔ IsOf (fixed_of self.now) piece.now }
-        ensures called { IfOk result (λ committed. Called (Commit group (piece_of piece.now) committed) seat.old.view seat.new.view) }
+        ensures called { IfOk result (λ committed. Called (Commit group (piece_of (fixed_of self.now).base piece.now) committed) seat.old.view seat.new.view) }
         ensures same { OnErr result (seat.new ≡ seat.old) }
-        ensures binds { IfOk result (λ committed. ChunksBind (fixed_of self.now) (piece_of piece.now) group committed) }
+        ensures binds { IfOk result (λ committed. ChunksBind (fixed_of self.now) (piece_of (fixed_of self.now).base piece.now) group committed) }
     {
         if !self.words.fixed().is_of(&piece.root(), &piece.mode()) {
             return Err(OtherRoot);
@@ -230,7 +259,7 @@ impl Assembly {
     /// says whether the same was recorded, `Known`, or another, `Differs`. It takes no memory.
     ///
     /// 804 `OtherRoot`, asked before all else, where the piece is of another root or mode, and 805 `TooLarge` where the
-    /// length is above 1,024 times the capacity. Nothing is then asked.
+    /// length is above 1,024 times the capacity, or the store's first chunk isn't the blob's. Nothing is then asked.
     pub fn settle(&self, seat: &mut Seat, tail: &Tail<'_>) -> Settling
         requires of { IsSeatOf self.now seat.old }
         ensures of { IsSeatOf self.now seat.new }
@@ -240,7 +269,7 @@ impl Assembly {
         if !fixed.is_of(&tail.root(), &tail.mode()) {
             return Settling::OtherRoot;
         }
-        if tail.length() > CHUNK_LEN as u64 * u64::from(fixed.capacity) {
+        if !fixed.has_room(tail.length()) {
             return Settling::TooLarge;
         }
         self.words.settle(&mut seat.grip, tail)
@@ -266,9 +295,9 @@ impl Assembly {
         requires of { IsSeatOf self.now seat.old }
         ensures of { IsSeatOf self.now seat.new }
         ensures root { IsErrOf result ParentsFault.OtherRoot ↔ (¬ IsOf (fixed_of self.now) piece.now) }
-        ensures called { IfOk result (λ stored. Called (Parents group (piece_of piece.now) (Stored stored)) seat.old.view seat.new.view) }
-        ensures refused { IfErr result (λ fault. SeatIsUnstored group piece.now fault seat.old seat.new) }
-        ensures alone { AreAllNames seat.old.view.names → IfOk result (λ stored. AreAllParents seat.old.view group (piece_of piece.now) (Stored stored)) }
+        ensures called { IfOk result (λ stored. Called (Parents group (piece_of (fixed_of self.now).base piece.now) (Stored stored)) seat.old.view seat.new.view) }
+        ensures refused { IfErr result (λ fault. SeatIsUnstored (fixed_of self.now) group piece.now fault seat.old seat.new) }
+        ensures alone { AreAllNames seat.old.view.names → IfOk result (λ stored. AreAllParents seat.old.view group (piece_of (fixed_of self.now).base piece.now) (Stored stored)) }
         ensures absent { (¬ IsGroupOf self.now group) → IfOk result (λ stored. stored ≡ 0) }
         ensures binds { IfOk result (λ _. SeatParentsBind seat.new.view) }
     {
@@ -300,11 +329,12 @@ impl Assembly {
         serve_slice(self.alloc, &self.words, &mut seat.grip, start, len)
     }
 
-    /// The recorded length in bytes, if there is one. It takes no memory.
+    /// The recorded length in bytes, if there is one: there is none where the store's base isn't 0. It takes no memory.
     pub fn length(&self, seat: &mut Seat) -> Option<u64>
         requires of { IsSeatOf self.now seat.old }
         ensures of { IsSeatOf self.now seat.new }
         ensures called { Called (Length result) seat.old.view seat.new.view }
+        ensures whole { IfSome result (λ l. (fixed_of self.now).base ≡ 0) }
     {
         self.words.length(&mut seat.grip)
     }
@@ -315,8 +345,8 @@ impl Assembly {
     /// rest of `out` is unchanged. A position is held if its chunk is and has more bytes than come before it there;
     /// none at or above 1,024 times the capacity is. An empty buffer is Ok.
     ///
-    /// For each blob with the store's root, each byte filled in is the blob's byte there; or a collision
-    /// is exhibited, one input of the blob's and one of a piece's that was committed.
+    /// For each blob with the store's root, each byte filled in is the blob's byte there, counted from the store's first; or a
+    /// collision is exhibited, one input of the blob's and one of a piece's that was committed.
     pub fn read(&self, seat: &mut Seat, at: u64, out: &mut [u8]) -> Result<(), Missing>
         requires of { IsSeatOf self.now seat.old }
         ensures of { IsSeatOf self.now seat.new }

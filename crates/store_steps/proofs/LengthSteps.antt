@@ -1,6 +1,5 @@
 -- Settle and Length are the machine's.
 use Rattle.std.proofs.Common.{◌≡◌, ℕ, ◌+◌, ◌*◌, ◌/◌, ◌%◌, ◌==◌, if◌then◌else◌, List, Option, Some, refl, sym, ap, subst, ◌∙◌, arith}
-use Rattle.std.proofs.lemmas.Bool.{le-leb, lt-leb}
 use prog.Atomic.{either}
 use Rattle.store_core.specs.declared.history.Piece.{Piece}
 use Rattle.store_core.specs.declared.history.Settling.{Settling as Answer}
@@ -38,7 +37,7 @@ settle_is_settle fixed pieces s m id piece view new here current ends fits did =
     let length_is : current_length (m.seat id).piece ≡ len = ap (λ (o : Option Piece). current_length o) current in
     let answer : settle_answer fixed m id ≡ settling m.recorded len =
     ap (λ (l : ℕ). length_answer fixed m.recorded l) length_is
-    ∙ ap (λ b. if b then settling m.recorded len else TooLarge) (le-leb len (1024 * fixed.capacity) fits) in
+    ∙ ap (λ b. if b then settling m.recorded len else TooLarge) fits in
     let legal : IsLegalStep fixed pieces m step = subst (λ (o : Option Piece). HasTail o) (sym current) ends in
     let right : IsReply fixed m step reply =
     ap (λ (a : Answer). Some (Settling a)) (ap (λ (o : Option ℕ). settling o len) recorded ∙ sym answer) in
@@ -81,7 +80,7 @@ pub look_is_too_large : LookIsTooLarge
 look_is_too_large fixed pieces s m id place piece view new events here current ends large looked =
     let answer : settle_answer fixed m id ≡ TooLarge =
     ap (λ (l : ℕ). length_answer fixed m.recorded l) (ap (λ (o : Option Piece). current_length o) current)
-    ∙ ap (λ b. if b then settling m.recorded (length_of piece) else TooLarge) (lt-leb (length_of piece) (1024 * fixed.capacity) large) in
+    ∙ ap (λ b. if b then settling m.recorded (length_of piece) else TooLarge) large in
     let next : settled_machine m (settle_answer fixed m id) (current_length (m.seat id).piece) ≡ m =
     ap (λ (a : Answer). settled_machine m a (current_length (m.seat id).piece)) answer in
     record {

@@ -121,7 +121,7 @@ module _ (fixed : Fixed) (pieces : List Checked) (s : Table Unit (List SeatView)
   bytes_are c bytes h =
       let low : c < fixed.capacity = sound.held_below c (ap (λ (o : Option (List ℕ)). is_some o) h) in
       let from : IsCommitted fixed new.seen c bytes = held_is_committed fixed new.seen c bytes legal_seen h in
-      cell_is (m.cell c) bytes (chunk_valid from.piece.text (places_in from.piece) c bytes from.accepted.bytes from.has) (chunk_fits fixed from.piece c bytes from.accepted from.has)
+      cell_is (m.cell c) bytes (chunk_valid from.piece.text (places_in from.piece) (from.piece.base + c) bytes from.accepted.bytes from.has) (chunk_fits fixed from.piece c bytes from.accepted from.has)
       (λ w cell.
       sym (here.stands.cells c w low cell) ∙ ap (λ (words : List ℕ). cell_at fixed words (129 * c + w)) (sym words_same)
       ∙ after.words.cells c w bytes (held_now c bytes h) cell)

@@ -1,5 +1,5 @@
 -- Settle: one exchange on the length word.
-use Rattle.std.proofs.Common.{◌≡◌, ℕ, ◌+◌, ◌*◌, ◌/◌, ◌≤◌, ◌==◌, true, false, List, [], ◌∷◌, Option, None, Some, slice_index, set, refl, sym, ap, ◌∙◌, arith, inl, inr, ne_eqb}
+use Rattle.std.proofs.Common.{◌≡◌, ℕ, ◌+◌, ◌/◌, ◌==◌, true, false, List, [], ◌∷◌, Option, None, Some, slice_index, set, refl, sym, ap, ◌∙◌, arith, inl, inr, ne_eqb}
 use Rattle.std.proofs.lemmas.Bool.{cases_Bool}
 use prog.Atomic.{either}
 use mathlib.Core.Option.{some}
@@ -10,7 +10,7 @@ use Rattle.store_core.specs.declared.history.Call.TheVariants.{Settle}
 use Rattle.store_core.specs.declared.history.Piece.{Piece}
 use Rattle.store_core.specs.declared.history.Settling.{Settling}
 use Rattle.store_core.specs.declared.view.SeatView.{SeatView}
-use Rattle.store_core.specs.Events.{recorded_after, settling}
+use Rattle.store_core.specs.Events.{has_room, recorded_after, settling}
 use Rattle.store_core.specs.Histories.{state_after}
 use Rattle.store_core.specs.Laws.{IsSound}
 use Rattle.store_core.specs.Pieces.{EndsBlob, IsAcceptedPiece, length_of}
@@ -33,7 +33,7 @@ word_then (Some m) l =
     elim (cases_Bool (m == l)) [ inl same ↦ rw (some, same) refl | inr other ↦ rw (some, other) refl ]
 
 module _ (fixed : Fixed) (s : Table Unit (List SeatView)) (k : RuleHolds fixed s) (id : ℕ) (view : SeatView) (seat : get_elem? s.views id ≡ some (view ∷ []))
-    (piece : Piece) (accepted : IsAcceptedPiece fixed piece) (ends : EndsBlob piece) (fits : length_of piece ≤ 1024 * fixed.capacity) where
+    (piece : Piece) (accepted : IsAcceptedPiece fixed piece) (ends : EndsBlob piece) (fits : has_room fixed (length_of piece) ≡ true) where
   abbrev state : State
   state = state_after k.history
 

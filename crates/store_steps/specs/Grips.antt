@@ -11,7 +11,7 @@ pub record Gripped : Type 0 where
 
 -- a view that nobody has
 abbrev pub no_view : SeatView
-no_view = record { fixed = record { root = record { 0 = [] }; mode = plain; capacity = 0 }; names = []; seen = []; written = []; storing = []; parent_words = [] }
+no_view = record { fixed = record { root = record { 0 = [] }; mode = plain; capacity = 0; base = 0 }; names = []; seen = []; written = []; storing = []; parent_words = [] }
 
 -- the first of a seat's views
 abbrev pub first_of : List SeatView → SeatView

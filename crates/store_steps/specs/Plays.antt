@@ -25,7 +25,7 @@ OfOne Told me later = (view : SeatView) → me.0 ≡ view ∷ []
 
 -- a piece that nobody has
 abbrev pub no_piece : Piece
-no_piece = record { start = 0; len = 0; text = [] }
+no_piece = record { base = 0; start = 0; len = 0; text = [] }
 
 -- `asked` are the wanted chunks below the capacity, of which those are granted whose bit wasn't set
 abbrev pub TakesChunks : ℕ → ℕ → ℕ → ℕ → SeatView → SeatView → Type 0

@@ -1,5 +1,5 @@
 -- Each step on the words is the machine's step of its name, and what is no step of the machine leaves it.
-use Rattle.std.specs.Prelude.{◌≡◌, ◌⊎◌, ℕ, ◌+◌, ◌*◌, ◌%◌, ◌^◌, ◌<◌, ◌≤◌, nat_lt, ◌==◌, true, ◌&&◌, List, [], ◌∷◌, Option, None, Some, bit_and, bit_or, ◌++◌, replicate, slice_index, slice_set, if◌then◌else◌}
+use Rattle.std.specs.Prelude.{◌≡◌, ◌⊎◌, ℕ, ◌+◌, ◌*◌, ◌%◌, ◌^◌, ◌<◌, nat_lt, ◌==◌, true, false, ◌&&◌, List, [], ◌∷◌, Option, None, Some, bit_and, bit_or, ◌++◌, replicate, slice_index, slice_set, if◌then◌else◌}
 use Rattle.std.specs.Int.{bit_not, w64}
 use prog.Atomic.{either}
 use Rattle.atomic_table.specs.Table.{State as Table, keeps, opening, stepped}
@@ -14,7 +14,7 @@ use Rattle.store_core.specs.declared.micro.Reply.{Reply}
 use Rattle.store_core.specs.declared.micro.Reply.TheVariants.{Committed, Given, Granted, LengthIs, Settling}
 use Rattle.store_core.specs.declared.view.SeatView.{SeatView}
 use Rattle.store_core.specs.Cells.{cell_word}
-use Rattle.store_core.specs.Events.{settling}
+use Rattle.store_core.specs.Events.{has_room, settling}
 use Rattle.store_core.specs.Histories.{state_after}
 use Rattle.store_core.specs.Machine.{Machine, current_bytes, current_holds, groups, loaded_group, start}
 use Rattle.store_core.specs.Masks.{IsMaskOf, has_bit}
@@ -65,7 +65,7 @@ PublishIsPublish = (fixed : Fixed) (pieces : List Checked) (table : Table Unit (
 -- Settle, by the seat's current piece, whose length the store has room for: an exchange of the length word where it is 0.
 abbrev pub SettleIsSettle : Type 0
 SettleIsSettle = (fixed : Fixed) (pieces : List Checked) (table : Table Unit (List SeatView)) (m : Machine) (seat : ℕ) (piece : Piece) (view new : SeatView)
-    → IsAtMachine fixed pieces table m seat view → (m.seat seat).piece ≡ Some piece → EndsBlob piece → length_of piece ≤ 1024 * fixed.capacity
+    → IsAtMachine fixed pieces table m seat view → (m.seat seat).piece ≡ Some piece → EndsBlob piece → has_room fixed (length_of piece) ≡ true
     → SettlesLength piece (length_word fixed table.words) view new
     → IsMachineStep fixed pieces table (length_place fixed)
     (either (length_word fixed table.words == 0) (length_of piece + 1) (length_word fixed table.words)) seat new m
@@ -116,7 +116,7 @@ LookStays = (fixed : Fixed) (pieces : List Checked) (table : Table Unit (List Se
 abbrev pub LookIsTooLarge : Type 0
 LookIsTooLarge = (fixed : Fixed) (pieces : List Checked) (table : Table Unit (List SeatView)) (m : Machine) (seat place : ℕ) (piece : Piece) (view new : SeatView)
     (events : State → List Event) → IsAtMachine fixed pieces table m seat view → (m.seat seat).piece ≡ Some piece → EndsBlob piece
-    → 1024 * fixed.capacity < length_of piece → Looked events view new
+    → has_room fixed (length_of piece) ≡ false → Looked events view new
     → IsMachineStep fixed pieces table place (slice_index table.words place) seat new m (Settle seat) (Some (Settling TooLarge))
 
 -- A copy leaves the machine, and finds its word.

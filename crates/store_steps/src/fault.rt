@@ -9,7 +9,8 @@ pub enum NewFault {
     /// Out of memory. Number 801.
     #[error("801 memory")]
     Memory,
-    /// A store has room for 1 to 65,536 chunks, and another capacity was asked for. Number 802.
+    /// A store has room for 1 to 65,536 chunks, from one of the blob's on whose number is at most 2^54, and another was asked for.
+    /// Number 802.
     #[error("802 capacity")]
     Capacity,
 }

@@ -1,4 +1,4 @@
-ghost use Rattle.std.specs.Prelude.{◌≡◌, [], Some, is_some, ◌+◌, ◌*◌, ◌/◌, ◌%◌, ◌<◌, ◌≤◌, ℕ, nat_lt, not, ◌&&◌, true, IfErr, IfOk, IsErrOf, IsOk, OnErr};
+ghost use Rattle.std.specs.Prelude.{◌≡◌, [], Some, is_some, ◌+◌, ◌*◌, ◌/◌, ◌%◌, ◌^◌, ◌<◌, ◌≤◌, ℕ, nat_lt, not, ◌&&◌, true, IfErr, IfOk, IsErrOf, IsOk, OnErr};
 ghost use Rattle.store_steps.specs.Layout.{word_count};
 
 use crate::fault::NewFault;
@@ -39,12 +39,14 @@ pub struct Words {
     ghost count: { table.shared.table_id.words ≡ word_count fixed },
     ghost some: { 0 < fixed.capacity },
     ghost limit: { fixed.capacity ≤ 65536 },
+    ghost low: { fixed.base ≤ 2 ^ 54 },
 }
 
 impl Words {
     ghost use Rattle.bao_check.specs.Checked.{piece_claimed};
     ghost use Rattle.bao_check.specs.Tail.{tail_piece};
     ghost use Rattle.store_core.specs.declared.history.Call.TheVariants.{Commit, Give, Length, Parents, Settle, Take};
+    ghost use Rattle.store_core.specs.Events.{has_room};
     ghost use Rattle.store_core.specs.Pieces.{length_of, piece_of};
     ghost use Rattle.store_core.specs.Stores.{IsOf};
     ghost use Rattle.store_core.specs.Views.{is_storing, mine, seat_claims};
@@ -60,19 +62,21 @@ impl Words {
     ghost use Rattle.store_steps.specs.Tells.{FindsHeld, FindsParentWord, FindsWord, IsStoringNow, Stores};
     ghost use Rattle.store_steps.specs.Words.{CoversGroup, IsGripOf, fixed_of};
 
-    /// Words of which none is held, claimed or recorded, and their first grip, which has seen nothing. `capacity` is a
-    /// number of chunks.
+    /// Words of which none is held, claimed or recorded, and their first grip, which has seen nothing. They are of `capacity`
+    /// chunks, from chunk `base` of the blob on.
     ///
     /// 801 `Memory` where there was none. Nothing is left behind.
     pub fn new(
         alloc: Global,
         root: Hash,
         mode: Mode,
+        base: u64,
         capacity: u32,
     ) -> Result<(Words, Grip), NewFault>
-        requires { (0 < capacity) × (capacity ≤ 65536) }
+        requires some { (0 < capacity) × (capacity ≤ 65536) }
+        requires low { base ≤ 2 ^ 54 }
         ensures of { IfOk result (λ made. IsGripOf made.0 made.1) }
-        ensures fixed { IfOk result (λ made. fixed_of made.0 ≡ record { root = root; mode = mode; capacity = capacity }) }
+        ensures fixed { IfOk result (λ made. fixed_of made.0 ≡ record { root = root; mode = mode; capacity = capacity; base = base }) }
         ensures view { IfOk result (λ made. made.1.view ≡ opening_view (fixed_of made.0)) }
         ensures memory { OnErr result (IsErrOf result NewFault.Memory) }
     {
@@ -80,18 +84,28 @@ impl Words {
             root,
             mode,
             capacity,
+            base,
         };
         let zeros = vec![in alloc; 0u64; word_count(&fixed)]?;
         let (table, seat) = Table::of_words(alloc, zeros.as_slice(), &fixed)?;
         Ok((Words { table, fixed }, Grip { seat }))
     }
 
-    /// The root, the mode and the capacity in chunks, which never change.
+    /// The root, the mode, the capacity in chunks and the first chunk, which never change.
     pub fn fixed(&self) -> Fixed
         ensures { result ≡ fixed_of self.now }
     {
         let Words { fixed, .. } = self;
         *fixed
+    }
+
+    /// The chunk of the blob that is chunk 0 here.
+    pub fn base(&self) -> u64
+        ensures value { result ≡ (fixed_of self.now).base }
+        ensures low { result ≤ 2 ^ 54 }
+    {
+        let Words { fixed, .. } = self;
+        fixed.base
     }
 
     // Each step stands twice. What it is asked for beside its operands, as the piece of a commit, reaches what it tells by
@@ -205,10 +219,10 @@ impl Words {
         requires of { IsGripOf self.now grip.old }
         requires group { CoversGroup self.now group }
         requires piece { IsOf (fixed_of self.now) piece.now }
-        requires mask { AreHeldClaims grip.old.view group (piece_of piece.now) mask }
-        requires written { AreWordsStored grip.old.view.written group mask (piece_of piece.now) }
+        requires mask { AreHeldClaims grip.old.view group (piece_of (fixed_of self.now).base piece.now) mask }
+        requires written { AreWordsStored grip.old.view.written group mask (piece_of (fixed_of self.now).base piece.now) }
         ensures of { IsGripOf self.now grip.new }
-        ensures did { Did (Commit group (piece_of piece.now) mask) grip.old.view grip.new.view }
+        ensures did { Did (Commit group (piece_of (fixed_of self.now).base piece.now) mask) grip.old.view grip.new.view }
     {
         self.publish_asked::<Brand>(grip, group, piece, mask);
     }
@@ -217,11 +231,11 @@ impl Words {
         requires of { IsGripOf self.now grip.old }
         requires group { CoversGroup self.now group }
         requires piece { IsOf (fixed_of self.now) piece.now }
-        requires mask { AreHeldClaims grip.old.view group (piece_of piece.now) mask }
-        requires written { AreWordsStored grip.old.view.written group mask (piece_of piece.now) }
-        requires asked { (A.group ≡ group) × (A.piece ≡ piece_of piece.now) }
+        requires mask { AreHeldClaims grip.old.view group (piece_of (fixed_of self.now).base piece.now) mask }
+        requires written { AreWordsStored grip.old.view.written group mask (piece_of (fixed_of self.now).base piece.now) }
+        requires asked { (A.group ≡ group) × (A.piece ≡ piece_of (fixed_of self.now).base piece.now) }
         ensures of { IsGripOf self.now grip.new }
-        ensures did { Did (Commit group (piece_of piece.now) mask) grip.old.view grip.new.view }
+        ensures did { Did (Commit group (piece_of (fixed_of self.now).base piece.now) mask) grip.old.view grip.new.view }
     {
         // A law, so that the proof has what it says: nothing runs.
         piece.is_accepted();
@@ -237,7 +251,7 @@ impl Words {
         requires group { ¬ CoversGroup self.now group }
         requires piece { IsOf (fixed_of self.now) piece.now }
         ensures of { IsGripOf self.now grip.new }
-        ensures did { Did (Commit group (piece_of piece.now) 0) grip.old.view grip.new.view }
+        ensures did { Did (Commit group (piece_of (fixed_of self.now).base piece.now) 0) grip.old.view grip.new.view }
     {
         self.publish_none_asked::<Brand>(grip, group, piece);
     }
@@ -246,9 +260,9 @@ impl Words {
         requires of { IsGripOf self.now grip.old }
         requires group { ¬ CoversGroup self.now group }
         requires piece { IsOf (fixed_of self.now) piece.now }
-        requires asked { (A.group ≡ group) × (A.piece ≡ piece_of piece.now) }
+        requires asked { (A.group ≡ group) × (A.piece ≡ piece_of (fixed_of self.now).base piece.now) }
         ensures of { IsGripOf self.now grip.new }
-        ensures did { Did (Commit group (piece_of piece.now) 0) grip.old.view grip.new.view }
+        ensures did { Did (Commit group (piece_of (fixed_of self.now).base piece.now) 0) grip.old.view grip.new.view }
     {
         // A law, so that the proof has what it says: nothing runs.
         piece.is_accepted();
@@ -310,9 +324,9 @@ impl Words {
     pub fn settle(&self, grip: &mut Grip, tail: &Tail<'_>) -> Settling
         requires of { IsGripOf self.now grip.old }
         requires piece { IsOf (fixed_of self.now) (tail_piece tail.now) }
-        requires fits { piece_claimed (tail_piece tail.now) ≤ 1024 * (fixed_of self.now).capacity }
+        requires fits { has_room (fixed_of self.now) (piece_claimed (tail_piece tail.now)) ≡ true }
         ensures of { IsGripOf self.now grip.new }
-        ensures did { Did (Settle (piece_of (tail_piece tail.now)) result) grip.old.view grip.new.view }
+        ensures did { Did (Settle (piece_of (fixed_of self.now).base (tail_piece tail.now)) result) grip.old.view grip.new.view }
     {
         self.settle_asked::<Brand>(grip, tail)
     }
@@ -320,10 +334,10 @@ impl Words {
     fn settle_asked<A: Asked>(&self, grip: &mut Grip, tail: &Tail<'_>) -> Settling
         requires of { IsGripOf self.now grip.old }
         requires piece { IsOf (fixed_of self.now) (tail_piece tail.now) }
-        requires fits { piece_claimed (tail_piece tail.now) ≤ 1024 * (fixed_of self.now).capacity }
-        requires asked { A.piece ≡ piece_of (tail_piece tail.now) }
+        requires fits { has_room (fixed_of self.now) (piece_claimed (tail_piece tail.now)) ≡ true }
+        requires asked { A.piece ≡ piece_of (fixed_of self.now).base (tail_piece tail.now) }
         ensures of { IsGripOf self.now grip.new }
-        ensures did { Did (Settle (piece_of (tail_piece tail.now)) result) grip.old.view grip.new.view }
+        ensures did { Did (Settle (piece_of (fixed_of self.now).base (tail_piece tail.now)) result) grip.old.view grip.new.view }
     {
         // A law, so that the proof has what it says: nothing runs.
         tail.is_last();
@@ -440,7 +454,7 @@ impl Words {
         requires of { IsGripOf self.now grip.old }
         requires piece { IsOf (fixed_of self.now) piece.now }
         ensures of { IsGripOf self.now grip.new }
-        ensures looked { Looked (unstored_events grip.old.view group (piece_of piece.now)) grip.old.view grip.new.view }
+        ensures looked { Looked (unstored_events grip.old.view group (piece_of (fixed_of self.now).base piece.now)) grip.old.view grip.new.view }
         ensures recorded { result ≡ (state_after grip.new.view.seen).recorded }
     {
         self.length_to_store_asked::<Brand>(grip, group, piece)
@@ -454,9 +468,9 @@ impl Words {
     ) -> Option<u64>
         requires of { IsGripOf self.now grip.old }
         requires piece { IsOf (fixed_of self.now) piece.now }
-        requires asked { (A.group ≡ group) × (A.piece ≡ piece_of piece.now) }
+        requires asked { (A.group ≡ group) × (A.piece ≡ piece_of (fixed_of self.now).base piece.now) }
         ensures of { IsGripOf self.now grip.new }
-        ensures looked { Looked (unstored_events grip.old.view group (piece_of piece.now)) grip.old.view grip.new.view }
+        ensures looked { Looked (unstored_events grip.old.view group (piece_of (fixed_of self.now).base piece.now)) grip.old.view grip.new.view }
         ensures recorded { result ≡ (state_after grip.new.view.seen).recorded }
     {
         // A law, so that the proof has what it says: nothing runs.
@@ -539,10 +553,10 @@ impl Words {
         requires of { IsGripOf self.now grip.old }
         requires group { CoversGroup self.now group }
         requires piece { IsOf (fixed_of self.now) piece.now }
-        requires length { (state_after grip.old.view.seen).recorded ≡ Some (length_of (piece_of piece.now)) }
-        requires written { AreParentsWritten grip.old.view group mask (piece_of piece.now) }
+        requires length { (state_after grip.old.view.seen).recorded ≡ Some (length_of (piece_of (fixed_of self.now).base piece.now)) }
+        requires written { AreParentsWritten grip.old.view group mask (piece_of (fixed_of self.now).base piece.now) }
         ensures of { IsGripOf self.now grip.new }
-        ensures called { EndsStoring (Parents group (piece_of piece.now) (Stored mask)) grip.old.view grip.new.view }
+        ensures called { EndsStoring (Parents group (piece_of (fixed_of self.now).base piece.now) (Stored mask)) grip.old.view grip.new.view }
         ensures written { grip.new.view.written ≡ grip.old.view.written }
     {
         self.publish_parents_asked::<Brand>(grip, group, piece, mask);
@@ -558,11 +572,11 @@ impl Words {
         requires of { IsGripOf self.now grip.old }
         requires group { CoversGroup self.now group }
         requires piece { IsOf (fixed_of self.now) piece.now }
-        requires length { (state_after grip.old.view.seen).recorded ≡ Some (length_of (piece_of piece.now)) }
-        requires written { AreParentsWritten grip.old.view group mask (piece_of piece.now) }
-        requires asked { (A.group ≡ group) × (A.piece ≡ piece_of piece.now) }
+        requires length { (state_after grip.old.view.seen).recorded ≡ Some (length_of (piece_of (fixed_of self.now).base piece.now)) }
+        requires written { AreParentsWritten grip.old.view group mask (piece_of (fixed_of self.now).base piece.now) }
+        requires asked { (A.group ≡ group) × (A.piece ≡ piece_of (fixed_of self.now).base piece.now) }
         ensures of { IsGripOf self.now grip.new }
-        ensures called { EndsStoring (Parents group (piece_of piece.now) (Stored mask)) grip.old.view grip.new.view }
+        ensures called { EndsStoring (Parents group (piece_of (fixed_of self.now).base piece.now) (Stored mask)) grip.old.view grip.new.view }
         ensures written { grip.new.view.written ≡ grip.old.view.written }
     {
         // A law, so that the proof has what it says: nothing runs.

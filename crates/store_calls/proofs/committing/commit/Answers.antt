@@ -13,11 +13,11 @@ use Rattle.store_calls.proofs.committing.commit.Goals as goal
 
 pub store_cells-requires-clause-mask : goal.store_cells-requires-clause-mask
 store_cells-requires-clause-mask c =
-    held_claims c.args.grip.now.view c.args.group c.args.claimed c.held_in.result (piece_of c.args.piece.now) c.requires.claimed c.held_in.ensures
+    held_claims c.args.grip.now.view c.args.group c.args.claimed c.held_in.result (piece_of c.args.words.now.fixed.base c.args.piece.now) c.requires.claimed c.held_in.ensures
 
 pub publish-requires-clause-mask : goal.publish-requires-clause-mask
 publish-requires-clause-mask c =
-    let piece : Piece = piece_of c.args.piece.now in
+    let piece : Piece = piece_of c.args.words.now.fixed.base c.args.piece.now in
     let mask : ℕ = bit_and c.args.claimed c.held_in.result in
     subst (λ (v : SeatView). AreHeldClaims v c.args.group piece mask) (sym c.store_cells.ensures.stored.rest)
     (held_claims c.args.grip.now.view c.args.group c.args.claimed c.held_in.result piece c.requires.claimed c.held_in.ensures)
@@ -25,7 +25,7 @@ publish-requires-clause-mask c =
 pub returns-clause-binds : goal.returns-clause-binds
 returns-clause-binds c =
     let fixed : Fixed = fixed_of c.args.words.now in
-    let piece : Piece = piece_of c.args.piece.now in
+    let piece : Piece = piece_of c.args.words.now.fixed.base c.args.piece.now in
     let accepted : IsAcceptedPiece fixed piece = accepted_piece fixed c.args.piece.now c.is_accepted.ensures.bytes c.is_accepted.ensures.accepted c.requires.piece in
     let keyed : IsKeyed fixed.mode = subst (λ (f : Fixed). IsKeyed f.mode) c.fixed.ensures c.is_keyed.ensures in
     piece_binds fixed piece c.args.group (bit_and c.args.claimed c.held_in.result) keyed accepted

@@ -13,16 +13,17 @@ use Rattle.store_calls.proofs.committing.store_cells.Goals.{then-has_bit, else-h
 
 pub unwrap-bytes-requires : goal.unwrap-bytes-requires
 unwrap-bytes-requires c =
-    let piece : Piece = piece_of c.args.piece.now in
+    let piece : Piece = piece_of c.args.words.now.fixed.base c.args.piece.now in
     let chunk : ℕ = 64 * c.from.result + c.loop-j.j in
     let both = claimed_held c.args.grip.now.view c.args.group c.args.mask piece c.loop-j.j chunk c.requires.mask (omega arith) c.loop-j-test.true
     (sym c.if-has_bit.ensures) in
-    there c.chunk.result (chunk_bytes piece chunk) c.chunk.ensures.value both.1
+    there c.chunk.result (chunk_bytes piece chunk)
+    (subst (λ (base : ℕ). option_copied c.chunk.result ≡ chunk_bytes (piece_of base c.args.piece.now) chunk) c.base-base.ensures.value c.chunk.ensures.value) both.1
 
 pub loop-j-preserved : goal.loop-j-preserved
 loop-j-preserved c =
     let group : ℕ = c.args.group in
-    let piece : Piece = piece_of c.args.piece.now in
+    let piece : Piece = piece_of c.args.words.now.fixed.base c.args.piece.now in
     let j : ℕ = c.loop-j.j in
     let chunk : ℕ = 64 * c.from.result + j in
     let old : SeatView = c.args.grip.now.view in
@@ -30,7 +31,8 @@ loop-j-preserved c =
     elim c.if-has_bit.branch [
       | then-has_bit w ↦
           let has : chunk_bytes piece chunk ≡ Some w.unwrap-bytes.result.now =
-          sym w.chunk.ensures.value ∙ ap (λ (o : Option (Bor (List ℕ))). option_copied o) w.unwrap-bytes.ensures in
+          sym (subst (λ (base : ℕ). option_copied w.chunk.result ≡ chunk_bytes (piece_of base c.args.piece.now) chunk) c.base-base.ensures.value w.chunk.ensures.value)
+          ∙ ap (λ (o : Option (Bor (List ℕ))). option_copied o) w.unwrap-bytes.ensures in
           subst (λ (g : Gripped). IsGripOf c.args.words.now g × HasCells group c.args.mask piece (j + 1) old g.view) (sym w.grip-is) (
             w.store_cell.ensures.of,
             cells_more group c.args.mask piece j chunk w.unwrap-bytes.result.now old new w.store_cell.new.grip.view c.loop-j.invariant.1 (omega arith) c.loop-j-test.true has

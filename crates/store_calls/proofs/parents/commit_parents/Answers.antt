@@ -15,14 +15,15 @@ use Rattle.store_core.specs.Histories.{state_after}
 use Rattle.store_core.specs.Knowledge.{AreAllNames, Sees}
 use Rattle.store_core.specs.Masks.{IsMaskOf, has_bit}
 use Rattle.store_core.specs.Pieces.{holds_parent}
-use Rattle.store_calls.proofs.AllParents.{all_parents, none_absent, recorded_fits, saw_nothing}
+use Rattle.store_core.proofs.HasRoom.{recorded_fits}
+use Rattle.store_calls.proofs.AllParents.{all_parents, none_absent, saw_nothing}
 use Rattle.store_calls.proofs.ParentsCommitting.{group_absent, length_differs, length_stays, only_seen, other_is, parents_bind, parents_stored, words_written}
 use Rattle.store_calls.proofs.ParentsStoring.{claimed_parents}
 use Rattle.store_calls.proofs.parents.commit_parents.Goals as goal
 
 pub returns-then-ne-clause-called : goal.returns-then-ne-clause-called
 returns-then-ne-clause-called c =
-    let piece : Piece = piece_of c.args.piece.now in
+    let piece : Piece = piece_of c.args.words.now.fixed.base c.args.piece.now in
     let load = c.length_to_store-length in
     let differs : is_recorded load.result (length_of piece) ≡ false =
     ap (λ (l : ℕ). is_recorded load.result l) (sym c.claimed.ensures) ∙ other_is load.result c.claimed.result c.ne.result c.ne.ensures c.if-ne.true in
@@ -36,7 +37,7 @@ returns-then-ne-clause-binds c =
 
 pub returns-then-group-div_ceil-clause-called : goal.returns-then-group-div_ceil-clause-called
 returns-then-group-div_ceil-clause-called c =
-    let piece : Piece = piece_of c.args.piece.now in
+    let piece : Piece = piece_of c.args.words.now.fixed.base c.args.piece.now in
     let load = c.length_to_store-length in
     let is : load.result ≡ Some (length_of piece) =
     recorded_is load.result c.claimed.result c.ne.result c.ne.ensures c.if-ne.false ∙ ap (λ (l : ℕ). Some l) c.claimed.ensures in
@@ -52,13 +53,13 @@ returns-then-group-div_ceil-clause-binds c =
 
 pub store_parents-requires-clause-mask : goal.store_parents-requires-clause-mask
 store_parents-requires-clause-mask c =
-    let piece : Piece = piece_of c.args.piece.now in
+    let piece : Piece = piece_of c.args.words.now.fixed.base c.args.piece.now in
     subst (λ (f : Fixed). AreParentsOf f c.args.group c.claim_parents-mask.result piece) c.fixed-fixed.ensures
     (claimed_parents c.fixed-fixed.result c.args.group c.parents_in-want.result c.claim_parents-mask.result piece c.parents_in-want.ensures c.claim_parents-mask.ensures.among)
 
 pub publish_parents-requires-clause-length : goal.publish_parents-requires-clause-length
 publish_parents-requires-clause-length c =
-    let piece : Piece = piece_of c.args.piece.now in
+    let piece : Piece = piece_of c.args.words.now.fixed.base c.args.piece.now in
     let load = c.length_to_store-length in
     length_stays c.args.group c.claim_parents-mask.result piece load.new.grip.view c.claim_parents-mask.new.grip.view c.store_parents.new.grip.view
     c.claim_parents-mask.ensures.claimed c.store_parents.ensures.stored
@@ -66,14 +67,14 @@ publish_parents-requires-clause-length c =
 
 pub publish_parents-requires-clause-written : goal.publish_parents-requires-clause-written
 publish_parents-requires-clause-written c =
-    let piece : Piece = piece_of c.args.piece.now in
+    let piece : Piece = piece_of c.args.words.now.fixed.base c.args.piece.now in
     words_written c.args.group c.claim_parents-mask.result piece c.length_to_store-length.new.grip.view c.claim_parents-mask.new.grip.view c.store_parents.new.grip.view
     c.claim_parents-mask.ensures.claimed c.store_parents.ensures.stored c.fixed-fixed.result
     (claimed_parents c.fixed-fixed.result c.args.group c.parents_in-want.result c.claim_parents-mask.result piece c.parents_in-want.ensures c.claim_parents-mask.ensures.among)
 
 pub returns-clause-called : goal.returns-clause-called
 returns-clause-called c =
-    let piece : Piece = piece_of c.args.piece.now in
+    let piece : Piece = piece_of c.args.words.now.fixed.base c.args.piece.now in
     let load = c.length_to_store-length in
     let is : load.result ≡ Some (length_of piece) =
     recorded_is load.result c.claimed.result c.ne.result c.ne.ensures c.if-ne.false ∙ ap (λ (l : ℕ). Some l) c.claimed.ensures in
@@ -91,19 +92,19 @@ returns-clause-binds c =
 
 pub returns-then-group-div_ceil-clause-alone : goal.returns-then-group-div_ceil-clause-alone
 returns-then-group-div_ceil-clause-alone c = λ all.
-    let piece : Piece = piece_of c.args.piece.now in
+    let piece : Piece = piece_of c.args.words.now.fixed.base c.args.piece.now in
     let load = c.length_to_store-length in
     let is : load.result ≡ Some (length_of piece) =
     recorded_is load.result c.claimed.result c.ne.result c.ne.ensures c.if-ne.false ∙ ap (λ (l : ℕ). Some l) c.claimed.ensures in
     let view : SeatView = load.new.grip.view in
-    let fits : length_of piece ≤ 1024 * view.fixed.capacity = recorded_fits view (length_of piece) load.ensures.of.knows.legal (sym load.ensures.recorded ∙ is) in
+    let fits : length_of piece ≤ 1024 * view.fixed.capacity = recorded_fits view.fixed view.seen (length_of piece) load.ensures.of.knows.legal (sym load.ensures.recorded ∙ is) in
     let count : c.fixed-fixed.result.capacity ≡ c.args.words.now.fixed.capacity = ap (λ (f : Fixed). f.capacity) c.fixed-fixed.ensures in
     let same : view.fixed.capacity ≡ c.args.words.now.fixed.capacity = ap (λ (f : Fixed). f.capacity) load.ensures.of.knows.fixed_is in
     none_absent c.args.words.now.fixed.capacity c.args.group piece (state_after c.args.grip.now.view.seen) (omega (arith, fits, same)) (omega (arith, count))
 
 pub returns-clause-alone : goal.returns-clause-alone
 returns-clause-alone c = λ all.
-    let piece : Piece = piece_of c.args.piece.now in
+    let piece : Piece = piece_of c.args.words.now.fixed.base c.args.piece.now in
     let load = c.length_to_store-length in
     let old : SeatView = c.args.grip.now.view in
     let view : SeatView = load.new.grip.view in
@@ -117,7 +118,7 @@ returns-clause-alone c = λ all.
     let saw : Sees old view = only_seen c.args.group piece old view c.requires.of.knows.legal load.ensures.looked there within in
     let whole : AreAllNames view.names = subst (λ (ns : List Named). AreAllNames ns) (sym saw.goes_on.names_are) all in
     let seen : view.seen ≡ old.seen = saw_nothing old view saw (c.claim_parents-mask.ensures.own whole) in
-    let fits : length_of piece ≤ 1024 * c.args.words.now.fixed.capacity = omega (arith, same, recorded_fits view (length_of piece) load.ensures.of.knows.legal there) in
+    let fits : length_of piece ≤ 1024 * c.args.words.now.fixed.capacity = omega (arith, same, recorded_fits view.fixed view.seen (length_of piece) load.ensures.of.knows.legal there) in
     let wants : IsMaskOf c.args.group c.parents_in-want.result (λ m. nat_lt m c.args.words.now.fixed.capacity && holds_parent piece m) =
     subst (λ (n : ℕ). IsMaskOf c.args.group c.parents_in-want.result (λ m. nat_lt m n && holds_parent piece m)) count c.parents_in-want.ensures in
     all_parents c.args.words.now.fixed.capacity c.args.group c.parents_in-want.result c.claim_parents-mask.result piece (state_after old.seen) fits wants

@@ -14,7 +14,7 @@ use Rattle.store_calls.proofs.parents.store_parents.Goals.{then-has_bit, else-ha
 pub unwrap-bytes-requires : goal.unwrap-bytes-requires
 unwrap-bytes-requires c =
     let boundary : ℕ = 64 * c.from.result + c.loop-j.j in
-    there c.parent.result (parent_bytes (piece_of c.args.piece.now) boundary) c.parent.ensures.value
+    there c.parent.result (parent_bytes (piece_of c.args.words.now.fixed.base c.args.piece.now) boundary) c.parent.ensures.value
     (c.requires.mask.held boundary (boundary_in c.args.group c.args.mask c.loop-j.j boundary (omega arith) c.loop-j-test.true (sym c.if-has_bit.ensures)))
 
 pub store_parent-requires-clause-boundary : goal.store_parent-requires-clause-boundary
@@ -31,7 +31,7 @@ store_parent-requires-clause-storing c =
 pub loop-j-preserved : goal.loop-j-preserved
 loop-j-preserved c =
     let group : ℕ = c.args.group in
-    let piece : Piece = piece_of c.args.piece.now in
+    let piece : Piece = piece_of c.args.words.now.fixed.base c.args.piece.now in
     let j : ℕ = c.loop-j.j in
     let boundary : ℕ = 64 * c.from.result + j in
     let old : SeatView = c.args.grip.now.view in

@@ -4,4 +4,4 @@ use Rattle.store_calls.specs.Parents.{HaveParentWords}
 use Rattle.store_calls.proofs.parents.store_parents.Given as goal
 
 abbrev pub invariant-loop-j : goal.invariant-loop-j
-invariant-loop-j l = IsGripOf l.words l.grip × HaveParentWords l.group l.mask (piece_of l.piece) l.j l.initial.grip.view l.grip.view
+invariant-loop-j l = IsGripOf l.words l.grip × HaveParentWords l.group l.mask (piece_of l.words.fixed.base l.piece) l.j l.initial.grip.view l.grip.view

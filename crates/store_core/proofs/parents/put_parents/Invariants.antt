@@ -5,4 +5,4 @@ use Rattle.store_core.proofs.parents.put_parents.Given as goal
 
 abbrev pub invariant-loop-j : goal.invariant-loop-j
 invariant-loop-j l =
-    IsPutBelow (Option (List ℕ)) None l.group l.mask l.j (λ j. parent_bytes (piece_of l.piece) (64 * l.group + j)) l.initial.parents l.parents
+    IsPutBelow (Option (List ℕ)) None l.group l.mask l.j (λ j. parent_bytes (piece_of 0 l.piece) (64 * l.group + j)) l.initial.parents l.parents

@@ -13,7 +13,7 @@ pub loop-j-preserved : goal.loop-j-preserved
 loop-j-preserved c =
     let g : ℕ = c.args.group in
     let j : ℕ = c.loop-j.j in
-    let holds : ℕ → Bool = λ m. holds_parent (piece_of c.args.piece.now) m in
+    let holds : ℕ → Bool = λ m. holds_parent (piece_of 0 c.args.piece.now) m in
     let held : ℕ → Bool = λ m. is_some (parent_among c.args.parents.now m) in
     let test : ℕ → Bool = λ m. holds m && not (held m) in
     let place : 64 * c.from.result + c.from-in-loop-j.result ≡ 64 * g + j = omega arith in

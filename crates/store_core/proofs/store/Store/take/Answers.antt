@@ -23,6 +23,7 @@ invariant_of-self-2 c =
     let done : IsDone s.fixed s.slots.items new s.recorded (caller c.args.seat) call = subst (λ (xs : List Slot). IsDone s.fixed s.slots.items xs s.recorded (caller c.args.seat) call) (sym put) d in
     record {
       limit = s.limit;
+      low = s.low;
       within = omega (arith, c.grow.ensures.most, s.within, c.min-end.ensures, c.put_claims.auto.slots, c.as_mut_slice.ensures.len, ap length put, ap length c.as_mut_slice.ensures.value);
       reached = reached_by s.fixed (with_parents (state_in s.slots.items s.recorded) s.parents.items) (with_parents (state_in new s.recorded) s.parents.items) (caller c.args.seat) call done.right (ap (λ (t : State). with_parents t s.parents.items) done.after) s.reached;
     }

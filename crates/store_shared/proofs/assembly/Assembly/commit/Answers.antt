@@ -8,7 +8,7 @@ use Rattle.store_shared.proofs.Claiming.{claims_ended, none_bind}
 use Rattle.store_shared.proofs.assembly.Assembly.commit.Goals as goal
 
 pub returns-then-group-groups-clause-binds : goal.returns-then-group-groups-clause-binds
-returns-then-group-groups-clause-binds c = none_bind c.args.self.now.words.fixed (piece_of c.args.piece.now) c.args.group
+returns-then-group-groups-clause-binds c = none_bind c.args.self.now.words.fixed (piece_of c.args.self.now.words.fixed.base c.args.piece.now) c.args.group
 
 pub invariant_of-seat-2 : goal.invariant_of-seat-2
 invariant_of-seat-2 c =

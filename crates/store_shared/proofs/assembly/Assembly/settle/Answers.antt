@@ -1,7 +1,8 @@
-use Rattle.std.proofs.Common.{◌*◌, ◌≤◌, ℕ, subst, arith}
+use Rattle.std.proofs.Common.{◌≡◌, ◌∙◌, ℕ, true, subst, sym}
 use Rattle.bao_check.specs.declared.checked.Checked.{Checked}
 use Rattle.bao_check.specs.Tail.{tail_piece}
 use Rattle.store_core.specs.declared.fixed.Fixed.{Fixed}
+use Rattle.store_core.specs.Events.{has_room}
 use Rattle.store_core.proofs.SlotStates.{is_of_piece}
 use Rattle.store_shared.specs.Seats.{Gripped}
 use Rattle.store_shared.specs.Calls.{MaySettle, SeatSettles}
@@ -15,7 +16,7 @@ returns-clause-settles c =
     let is = c.is_of.ensures.0 c.if-not-is_of.false in
     let may : MaySettle fixed piece = record {
       of = is_of_piece fixed piece c.root.result c.mode.result c.root.ensures c.mode.ensures is.0 is.1;
-      fits = subst (λ (n : ℕ). n ≤ 1024 * fixed.capacity) c.length.ensures.value (omega (arith, c.if-length-from.false, c.from.ensures));
+      fits = subst (λ (n : ℕ). has_room fixed n ≡ true) c.length.ensures.value (sym c.has_room.ensures ∙ c.if-not-has_room.false);
     } in
     subst (λ (old : Gripped). SeatSettles c.args.self.now.words.fixed old c.settle.new.grip piece c.settle.result) c.seat.view_is
     (settled c.args.self.now.words.fixed c.seat.inside.grip c.settle.new.grip piece c.settle.result

@@ -18,7 +18,7 @@ load-found-requires g c =
     let seat = c.grip.inside.seat in
     let view : SeatView = first_of seat.me.0 in
     let group : ℕ = c.args.group in
-    let piece : Piece = piece_of c.args.piece.now in
+    let piece : Piece = piece_of c.args.self.now.fixed.base c.args.piece.now in
     let accepted : IsAcceptedPiece fixed piece = accepted_piece fixed c.args.piece.now c.is_accepted.ensures.bytes c.is_accepted.ensures.accepted c.requires.piece in (
       ap (λ (x : Gripped). x.table_id) c.grip.view_is ∙ c.requires.of.table_is,
       omega (arith, c.length_place-place.ensures.within, words.count),

@@ -22,7 +22,7 @@ fetch_or-requires g c =
     let view : SeatView = first_of seat.me.0 in
     let its : view ≡ c.args.grip.now.view = ap (λ (x : Gripped). x.view) c.grip.view_is in
     let group : ℕ = c.args.group in
-    let piece : Piece = piece_of c.args.piece.now in
+    let piece : Piece = piece_of c.args.self.now.fixed.base c.args.piece.now in
     let accepted : IsAcceptedPiece fixed piece = accepted_piece fixed c.args.piece.now c.is_accepted.ensures.bytes c.is_accepted.ensures.accepted c.requires.piece in
     let known : (state_after view.seen).recorded ≡ Some (length_of piece) =
     subst (λ (v : SeatView). (state_after v.seen).recorded ≡ Some (length_of piece)) (sym its) c.requires.length in

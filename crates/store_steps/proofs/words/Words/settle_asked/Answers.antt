@@ -25,7 +25,7 @@ compare_exchange-found-requires g c =
     let seat = c.grip.inside.seat in
     let view : SeatView = first_of seat.me.0 in
     let its : view ≡ c.args.grip.now.view = ap (λ (x : Gripped). x.view) c.grip.view_is in
-    let piece : Piece = piece_of (tail_piece c.args.tail.now) in
+    let piece : Piece = piece_of c.args.self.now.fixed.base (tail_piece c.args.tail.now) in
     let accepted : IsAcceptedPiece fixed piece = accepted_piece fixed (tail_piece c.args.tail.now) c.is_last.ensures.bytes c.is_last.ensures.accepted c.requires.piece in (
       ap (λ (x : Gripped). x.table_id) c.grip.view_is ∙ c.requires.of.table_is,
       omega (arith, c.length_place-place.ensures.within, words.count),
@@ -44,7 +44,7 @@ returns-clause-did g c =
     let seat = c.grip.inside.seat in
     let later = c.compare_exchange-found.new.seat in
     let found : ℕ = c.compare_exchange-found.result in
-    let piece : Piece = piece_of (tail_piece c.args.tail.now) in
+    let piece : Piece = piece_of c.args.self.now.fixed.base (tail_piece c.args.tail.now) in
     let t = c.compare_exchange-found.ensures.2 (first_of seat.me.0) c.grip.invariant.0 in
     let answer : c.settling.result ≡ settling (length_in found) (length_of piece) =
     c.settling.ensures ∙ ap (λ (o : Option ℕ). settling o c.length-length.result) c.length_in.ensures
