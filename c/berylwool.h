@@ -239,7 +239,8 @@ bw_status bw_feed_finish(bw_handle *feed, const uint8_t *rest, size_t rest_len, 
 
 /* --- The store that threads share: each thread has a seat of its own, and the store lives until its last seat is freed. Nothing is taken on
  * anybody's word: what is stored comes from encodings accepted under the store's root. Chunks are in groups of 64, and a mask is of a group:
- * bit j stands for chunk 64 * group + j. Each call can answer BW_NO_HANDLE. */
+ * bit j stands for chunk 64 * group + j. Chunks, groups and the positions of a read are counted from the store's first chunk, and what a slice
+ * is asked by from the blob's: in a store of bw_store_new these are the same chunk. Each call can answer BW_NO_HANDLE. */
 
 /* A store of at most `capacity` chunks, 1 to 65,536, and its first seat; what the handle owned is freed. BW_CAPACITY, BW_STORE_MEMORY,
  * BW_MEMORY: the handle is empty then. */

@@ -1,5 +1,5 @@
 -- What is printed of a script's run, and where it stops.
-use Rattle.std.specs.Prelude.{◌≡◌, ◌⊎◌, ℕ, List, ◌++◌, length, Some}
+use Rattle.std.specs.Prelude.{◌≡◌, ◌⊎◌, ℕ, ◌+◌, List, ◌++◌, length, Some}
 use Rattle.bao_check.specs.declared.checked.Checked.{Checked}
 use Rattle.bao_check.specs.Pieces.{chunk_of}
 use Rattle.store_core.specs.declared.fixed.Fixed.{Fixed}
@@ -18,14 +18,14 @@ use Rattle.bao_script.specs.Slices.{ArePieces, slices_of}
 -- A collision is exhibited from a blob and a piece of the list that holds chunk c with these bytes.
 pub record CollisionOfHolder (fixed : Fixed) (pieces : List Checked) (blob : List ℕ) (c : ℕ) (bytes : List ℕ) : Type 0 where
   pub piece : Piece
-  pub listed : IsListed pieces piece
+  pub listed : IsListed fixed pieces piece
   pub has : chunk_bytes piece c ≡ Some bytes
   pub pair : CollidesWith fixed blob piece
 
 -- or from one that holds the last chunk of this length
 pub record CollisionOfEnd (fixed : Fixed) (pieces : List Checked) (blob : List ℕ) (l : ℕ) : Type 0 where
   pub piece : Piece
-  pub listed : IsListed pieces piece
+  pub listed : IsListed fixed pieces piece
   pub ends : EndsBlob piece
   pub is : length_of piece ≡ l
   pub pair : CollidesWith fixed blob piece
@@ -34,7 +34,7 @@ pub record CollisionOfEnd (fixed : Fixed) (pieces : List Checked) (blob : List �
 -- the blob's; or a collision is exhibited from the blob and the piece, one of the list, that it comes from.
 abbrev pub EndBinds : Fixed → List Checked → Machine → Type 0
 EndBinds fixed pieces last = (blob : List ℕ) → IsBlob fixed blob
-    → ((c : ℕ) (bytes : List ℕ) → (store_of last).held c ≡ Some bytes → (chunk_of blob c ≡ Some bytes) ⊎ CollisionOfHolder fixed pieces blob c bytes)
+    → ((c : ℕ) (bytes : List ℕ) → (store_of last).held c ≡ Some bytes → (chunk_of blob (fixed.base + c) ≡ Some bytes) ⊎ CollisionOfHolder fixed pieces blob c bytes)
     × ((l : ℕ) → (store_of last).recorded ≡ Some l → (l ≡ length blob) ⊎ CollisionOfEnd fixed pieces blob l)
 
 -- The text is of the replies of the script's run from the empty store, over the pieces that its lines name, and of how

@@ -34,9 +34,9 @@ pub fn replay_script(
     files: &[Vec<u8>],
 ) -> Result<Vec<u8>, ReplayScriptFault>
     requires { NameFiles (length files.now) script.now }
-    ensures printed { IfOk result (λ text. IsPrinted (record { root = root; mode = mode; capacity = capacity }) (map (λ file. file.items) files.now) script.now text.items) }
+    ensures printed { IfOk result (λ text. IsPrinted (record { root = root; mode = mode; capacity = capacity; base = 0 }) (map (λ file. file.items) files.now) script.now text.items) }
     ensures illegal { (number : ℕ) → IsErrOf result (Illegal number)
-        → IsStopped (record { root = root; mode = mode; capacity = capacity }) (map (λ file. file.items) files.now) script.now number }
+        → IsStopped (record { root = root; mode = mode; capacity = capacity; base = 0 }) (map (λ file. file.items) files.now) script.now number }
     ensures refused { (number : ℕ) (fault : CheckFault) → IsErrOf result (Refused number fault)
         → IsRefusedSlice mode root.0 (slices_of (map (λ file. file.items) files.now) script.now) number fault }
     ensures capacity { IsErrOf result Capacity → ((capacity ≡ 0) ⊎ (65536 < capacity)) × AreAccepted mode root.0 (slices_of (map (λ file. file.items) files.now) script.now) }

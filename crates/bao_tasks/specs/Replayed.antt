@@ -12,13 +12,13 @@ use Rattle.bao_script.specs.Slices.{AreAccepted, IsRefusedSlice, slices_of}
 abbrev pub IsRun : Mode → Hash → ℕ → List ℕ → List (List ℕ) → List ℕ → Type 0
 IsRun mode root capacity script files text =
     (lines : List NumberedLine) × IsScript (length files) script lines
-    × IsPrinted (record { root = root; mode = mode; capacity = capacity }) files lines text
+    × IsPrinted (record { root = root; mode = mode; capacity = capacity; base = 0 }) files lines text
 
 -- the run of the script stops at the line with this number
 abbrev pub IsStoppedRun : Mode → Hash → ℕ → List ℕ → List (List ℕ) → ℕ → Type 0
 IsStoppedRun mode root capacity script files number =
     (lines : List NumberedLine) × IsScript (length files) script lines
-    × IsStopped (record { root = root; mode = mode; capacity = capacity }) files lines number
+    × IsStopped (record { root = root; mode = mode; capacity = capacity; base = 0 }) files lines number
 
 -- the pieces that its lines name are all accepted
 abbrev pub IsAcceptedRun : Mode → Hash → List ℕ → List (List ℕ) → Type 0

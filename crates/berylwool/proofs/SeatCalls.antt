@@ -17,10 +17,10 @@ use Rattle.berylwool.specs.Calls.{Commits, Serves, slice_piece}
 use Rattle.berylwool.proofs.Texts.{piece_is}
 
 pub commits : (store : Assembly) (group : ℕ) (piece : Checked) (mode : Mode) (root : List ℕ) (start len : ℕ) (text : List ℕ) (mask : ℕ) (old new : Gripped)
-    → IsPiece piece mode root start len text → Called (Commit group (piece_of piece) mask) old.view new.view → ChunksBind (fixed_of store) (piece_of piece) group mask
-    → Commits store group (slice_piece text start len) mask old new
+    → IsPiece piece mode root start len text → Called (Commit group (piece_of (fixed_of store).base piece) mask) old.view new.view → ChunksBind (fixed_of store) (piece_of (fixed_of store).base piece) group mask
+    → Commits store group (slice_piece (fixed_of store).base text start len) mask old new
 commits store group piece mode root start len text mask old new of called binds =
-    subst (λ (p : Piece). Commits store group p mask old new) (piece_is piece mode root start len text of) (record { called = called; binds = binds })
+    subst (λ (p : Piece). Commits store group p mask old new) (piece_is (fixed_of store).base piece mode root start len text of) (record { called = called; binds = binds })
 
 -- the start of the buffer is the encoding
 pub serves : (start len : ℕ) (text there rest out : List ℕ) (n : ℕ) (old new : Gripped) → there ≡ text → n ≡ length there → out ≡ there ++ rest

@@ -39,5 +39,5 @@ pub collided : (first second ours theirs : Input) → ours ≡ first → theirs 
 collided first second ours theirs is_first is_second = λ i. Collision (sym is_first i) (sym is_second i)
 
 -- the piece that an accepted encoding is, by what C named
-pub piece_is : (piece : Checked) (mode : Mode) (root : List ℕ) (start len : ℕ) (text : List ℕ) → IsPiece piece mode root start len text → piece_of piece ≡ slice_piece text start len
-piece_is piece mode root start len text of = λ i. record { start = of.start_is i; len = of.len_is i; text = of.text_is i }
+pub piece_is : (base : ℕ) (piece : Checked) (mode : Mode) (root : List ℕ) (start len : ℕ) (text : List ℕ) → IsPiece piece mode root start len text → piece_of base piece ≡ slice_piece base text start len
+piece_is base piece mode root start len text of = λ i. record { base = base; start = of.start_is i; len = of.len_is i; text = of.text_is i }

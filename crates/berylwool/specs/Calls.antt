@@ -18,9 +18,9 @@ use Rattle.store_shared.specs.Seats.{Gripped, fixed_of}
 use Rattle.store_core.specs.Knowledge.{AreMet, Called, KeepsClaims, NoneIsClaimedByBoth}
 use Rattle.berylwool.specs.Status.{IsRefused}
 
--- the piece that an encoding is as the slice of `len` bytes from byte `start` on
-abbrev pub slice_piece : List ℕ → ℕ → ℕ → Piece
-slice_piece text start len = record { start = start; len = len; text = text }
+-- the piece that an encoding is, as the slice of `len` bytes from byte `start` on, to a store from this chunk of the blob on
+abbrev pub slice_piece : ℕ → List ℕ → ℕ → ℕ → Piece
+slice_piece base text start len = record { base = base; start = start; len = len; text = text }
 
 -- the encoding is accepted as this slice, under the store's root
 abbrev pub IsSliceOf : Assembly → List ℕ → ℕ → ℕ → Type 0

@@ -65,7 +65,7 @@ HasSeat so (Some Gone) = ⊥
 abbrev pub HaveSeats : Option Held → Option Held → Type 0
 HaveSeats first second = HasSeat (λ _ _. HasSeat (λ _ _. Unit) second) first
 
--- their stores have one root, mode and capacity
+-- their stores have one root, mode, capacity and first chunk
 abbrev pub AreAlike : Option Held → Option Held → Type 0
 AreAlike first second = HasSeat (λ store _. HasSeat (λ other _. fixed_of store ≡ fixed_of other) second) first
 

@@ -20,15 +20,19 @@ fn fixed(store: &Assembly) -> Fixed
         root: store.root(),
         mode: store.mode(),
         capacity: store.capacity(),
+        base: store.base(),
     }
 }
 
-// Whether two stores have one root, mode and capacity.
+// Whether two stores have one root, mode, capacity and first chunk.
 fn are_alike(one: &Assembly, other: &Assembly) -> bool
     ensures { IsTrue result ↔ (fixed_of one.now ≡ fixed_of other.now) }
 {
     let fixed = fixed(one);
     if fixed.capacity != other.capacity() {
+        return false;
+    }
+    if fixed.base != other.base() {
         return false;
     }
     fixed.is_of(&other.root(), &other.mode())

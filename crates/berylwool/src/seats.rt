@@ -1,7 +1,8 @@
-ghost use Rattle.std.specs.Prelude.{◌≡◌, ◌≢◌, ◌↔◌, ◌<◌, ◌≤◌, ◌*◌, ◌-◌, ◌^◌, None, Some, length, take};
+ghost use Rattle.std.specs.Prelude.{◌≡◌, ◌≢◌, ◌↔◌, ◌<◌, ◌≤◌, ◌*◌, ◌-◌, ◌^◌, false, None, Some, length, take};
 ghost use Rattle.store_core.specs.declared.history.Call.TheVariants.{Give, Length, Settle, Take};
 ghost use Rattle.store_core.specs.declared.history.Settling.TheVariants.{Differs};
 ghost use Rattle.store_core.specs.Pieces.{EndsBlob, length_of};
+ghost use Rattle.store_core.specs.Events.{has_room};
 ghost use Rattle.store_shared.specs.Seats.{IsGroupOf, IsSeatOf, fixed_of};
 ghost use Rattle.store_core.specs.Knowledge.{ArePartsOf, Called, opening_view};
 ghost use Rattle.berylwool.specs.Handles.{HasSeat, SeatDid, SeatParts};
@@ -35,7 +36,7 @@ pub extern "C" fn bw_store_new(
     capacity: u32,
     seat: &mut BwHandle,
 ) -> u32
-    ensures fixed { result ≡ 0 → HasSeat (λ store _. fixed_of store ≡ record { root = record { 0 = root.now }; mode = mode_of mode.now; capacity = capacity }) seat.new.held }
+    ensures fixed { result ≡ 0 → HasSeat (λ store _. fixed_of store ≡ record { root = record { 0 = root.now }; mode = mode_of mode.now; capacity = capacity; base = 0 }) seat.new.held }
     ensures view { result ≡ 0 → HasSeat (λ store first. first.view ≡ opening_view (fixed_of store)) seat.new.held }
     ensures capacity { result ≡ 802 ↔ (¬ ((0 < capacity) × (capacity ≤ 65536))) }
     ensures status { result ≢ 0 → result ≢ 801 → result ≢ 802 → result ≡ 1203 }
@@ -185,7 +186,7 @@ fn committed(
     ensures of { IsSeatOf store.now seat.new }
     ensures accepted { result ≡ 0 ↔ IsSliceOf store.now text.now start len }
     ensures fault { result ≢ 0 → IsNoSliceOf store.now text.now start len result at.new }
-    ensures commits { result ≡ 0 → Commits store.now group (slice_piece text.now start len) committed.new seat.old seat.new }
+    ensures commits { result ≡ 0 → Commits store.now group (slice_piece (fixed_of store.now).base text.now start len) committed.new seat.old seat.new }
     ensures same { result ≢ 0 → seat.new ≡ seat.old }
     ensures low { result < 506 }
 {
@@ -217,7 +218,7 @@ pub extern "C" fn bw_seat_commit(
     committed: &mut u64,
     at: &mut u64,
 ) -> u32
-    ensures commits { result ≡ 0 → SeatDid (λ store old new. Commits store group (slice_piece text.now start len) committed.new old new) seat.old.held seat.new.held }
+    ensures commits { result ≡ 0 → SeatDid (λ store old new. Commits store group (slice_piece (fixed_of store).base text.now start len) committed.new old new) seat.old.held seat.new.held }
     ensures accepted { result ≡ 0 ↔ HasSeat (λ store _. IsSliceOf store text.now start len) seat.old.held }
     ensures fault { result ≢ 0 → result ≢ 1202 → HasSeat (λ store _. IsNoSliceOf store text.now start len result at.new) seat.old.held }
     ensures no_seat { result ≡ 1202 ↔ (¬ HasSeat (λ _ _. Unit) seat.old.held) }
@@ -245,13 +246,13 @@ pub extern "C" fn bw_seat_commit(
 fn settled(alloc: Global, store: &Assembly, seat: &mut Seat, text: &[u8], at: &mut u64) -> u32
     requires { IsSeatOf store.now seat.old }
     ensures of { IsSeatOf store.now seat.new }
-    ensures settled { result ≡ 0 → HasSettled (slice_piece text.now (2 ^ 64 - 1) 1) seat.old.view seat.new.view }
-    ensures differs { result ≡ 1206 → Called (Settle (slice_piece text.now (2 ^ 64 - 1) 1) Differs) seat.old.view seat.new.view }
-    ensures large { result ≡ 805 → 1024 * (fixed_of store.now).capacity < length_of (slice_piece text.now (2 ^ 64 - 1) 1) }
+    ensures settled { result ≡ 0 → HasSettled (slice_piece (fixed_of store.now).base text.now (2 ^ 64 - 1) 1) seat.old.view seat.new.view }
+    ensures differs { result ≡ 1206 → Called (Settle (slice_piece (fixed_of store.now).base text.now (2 ^ 64 - 1) 1) Differs) seat.old.view seat.new.view }
+    ensures large { result ≡ 805 → has_room (fixed_of store.now) (length_of (slice_piece (fixed_of store.now).base text.now (2 ^ 64 - 1) 1)) ≡ false }
     ensures fault { result ≢ 0 → result < 506 → IsNoSliceOf store.now text.now (2 ^ 64 - 1) 1 result at.new }
     ensures accepted { result ≡ 0 → IsSliceOf store.now text.now (2 ^ 64 - 1) 1 }
     ensures same { result ≢ 0 → result ≢ 1206 → seat.new ≡ seat.old }
-    ensures no_tail { result ≡ 1205 → (¬ EndsBlob (slice_piece text.now (2 ^ 64 - 1) 1)) }
+    ensures no_tail { result ≡ 1205 → (¬ EndsBlob (slice_piece 0 text.now (2 ^ 64 - 1) 1)) }
     ensures status { result ≢ 0 → 505 < result → result ≢ 805 → result ≢ 1205 → result ≡ 1206 }
 {
     match check_slice(alloc, &store.mode(), &store.root(), u64::MAX, 1, text) {
@@ -284,10 +285,10 @@ pub extern "C" fn bw_seat_settle(
     text: &[u8],
     at: &mut u64,
 ) -> u32
-    ensures settled { result ≡ 0 → SeatDid (λ _ old new. HasSettled (slice_piece text.now (2 ^ 64 - 1) 1) old.view new.view) seat.old.held seat.new.held }
-    ensures differs { result ≡ 1206 → SeatDid (λ _ old new. Called (Settle (slice_piece text.now (2 ^ 64 - 1) 1) Differs) old.view new.view) seat.old.held seat.new.held }
-    ensures large { result ≡ 805 → HasSeat (λ store _. 1024 * (fixed_of store).capacity < length_of (slice_piece text.now (2 ^ 64 - 1) 1)) seat.old.held }
-    ensures no_tail { result ≡ 1205 → (¬ EndsBlob (slice_piece text.now (2 ^ 64 - 1) 1)) }
+    ensures settled { result ≡ 0 → SeatDid (λ store old new. HasSettled (slice_piece (fixed_of store).base text.now (2 ^ 64 - 1) 1) old.view new.view) seat.old.held seat.new.held }
+    ensures differs { result ≡ 1206 → SeatDid (λ store old new. Called (Settle (slice_piece (fixed_of store).base text.now (2 ^ 64 - 1) 1) Differs) old.view new.view) seat.old.held seat.new.held }
+    ensures large { result ≡ 805 → HasSeat (λ store _. has_room (fixed_of store) (length_of (slice_piece (fixed_of store).base text.now (2 ^ 64 - 1) 1)) ≡ false) seat.old.held }
+    ensures no_tail { result ≡ 1205 → (¬ EndsBlob (slice_piece 0 text.now (2 ^ 64 - 1) 1)) }
     ensures accepted { result ≡ 0 → HasSeat (λ store _. IsSliceOf store text.now (2 ^ 64 - 1) 1) seat.old.held }
     ensures fault { result ≢ 0 → result < 506 → HasSeat (λ store _. IsNoSliceOf store text.now (2 ^ 64 - 1) 1 result at.new) seat.old.held }
     ensures no_seat { result ≡ 1202 ↔ (¬ HasSeat (λ _ _. Unit) seat.old.held) }

@@ -2,7 +2,7 @@ ghost use Rattle.std.specs.Prelude.{◌≡◌, ◌≢◌, ◌↔◌, ◌<◌, �
 ghost use Rattle.store_core.specs.declared.history.Call.TheVariants.{Parents, Serve};
 ghost use Rattle.store_core.specs.declared.history.Serving.TheVariants.{Lacking, NoLength};
 ghost use Rattle.store_core.specs.declared.history.Storing.TheVariants.{OtherLength};
-ghost use Rattle.store_shared.specs.Seats.{IsSeatOf};
+ghost use Rattle.store_shared.specs.Seats.{IsSeatOf, fixed_of};
 ghost use Rattle.store_core.specs.Knowledge.{Called, Sees};
 ghost use Rattle.berylwool.specs.Calls.{IsNoSliceOf, IsSliceOf, Serves, StoresParents, slice_piece};
 ghost use Rattle.berylwool.specs.Handles.{HasSeat, SeatDid};
@@ -31,8 +31,8 @@ fn stored(
 ) -> u32
     requires { IsSeatOf store.now seat.old }
     ensures of { IsSeatOf store.now seat.new }
-    ensures stores { result ≡ 0 → StoresParents group (slice_piece text.now start len) stored.new seat.old seat.new }
-    ensures other_length { result ≡ 807 → Called (Parents group (slice_piece text.now start len) OtherLength) seat.old.view seat.new.view }
+    ensures stores { result ≡ 0 → StoresParents group (slice_piece (fixed_of store.now).base text.now start len) stored.new seat.old seat.new }
+    ensures other_length { result ≡ 807 → Called (Parents group (slice_piece (fixed_of store.now).base text.now start len) OtherLength) seat.old.view seat.new.view }
     ensures fault { result ≢ 0 → result ≢ 807 → IsNoSliceOf store.now text.now start len result at.new }
     ensures accepted { result ≡ 0 → IsSliceOf store.now text.now start len }
     ensures same { result ≢ 0 → result ≢ 807 → seat.new ≡ seat.old }
@@ -69,8 +69,8 @@ pub extern "C" fn bw_seat_commit_parents(
     stored: &mut u64,
     at: &mut u64,
 ) -> u32
-    ensures stores { result ≡ 0 → SeatDid (λ _ old new. StoresParents group (slice_piece text.now start len) stored.new old new) seat.old.held seat.new.held }
-    ensures other_length { result ≡ 807 → SeatDid (λ _ old new. Called (Parents group (slice_piece text.now start len) OtherLength) old.view new.view) seat.old.held seat.new.held }
+    ensures stores { result ≡ 0 → SeatDid (λ store old new. StoresParents group (slice_piece (fixed_of store).base text.now start len) stored.new old new) seat.old.held seat.new.held }
+    ensures other_length { result ≡ 807 → SeatDid (λ store old new. Called (Parents group (slice_piece (fixed_of store).base text.now start len) OtherLength) old.view new.view) seat.old.held seat.new.held }
     ensures accepted { result ≡ 0 → HasSeat (λ store _. IsSliceOf store text.now start len) seat.old.held }
     ensures fault { result ≢ 0 → result ≢ 807 → result ≢ 1202 → HasSeat (λ store _. IsNoSliceOf store text.now start len result at.new) seat.old.held }
     ensures no_seat { result ≡ 1202 ↔ (¬ HasSeat (λ _ _. Unit) seat.old.held) }

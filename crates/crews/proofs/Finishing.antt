@@ -1,35 +1,22 @@
 -- What finishing a blob found, in the state after all that its seat has seen.
-use Rattle.std.proofs.Common.{◌≡◌, ℕ, ◌+◌, ◌*◌, ◌≤◌, List, [], ◌∷◌, ◌++◌, append_assoc, length, Option, None, Some, refl, sym, ap, subst, ◌∙◌, arith, inr}
+use Rattle.std.proofs.Common.{◌≡◌, ℕ, ◌+◌, List, [], ◌∷◌, ◌++◌, append_assoc, length, Option, None, Some, refl, sym, ap, subst, ◌∙◌, arith, inr}
 use Rattle.crews.specs.Finished.{Asks}
 use Rattle.gather.proofs.Finishing.{filled_whole}
 use Rattle.gather.specs.Finished.{IsWhole, LacksByte}
-use Rattle.store_core.specs.declared.fixed.Fixed.{Fixed}
 use Rattle.store_core.specs.declared.history.Call.{Call}
 use Rattle.store_core.specs.declared.history.Call.TheVariants.{Length, Read}
 use Rattle.store_core.specs.declared.history.Event.{Event}
 use Rattle.store_core.specs.declared.view.SeatView.{SeatView}
 use Rattle.store_core.specs.Events.{after_call}
 use Rattle.store_core.specs.Histories.{IsLegal, state_after}
-use Rattle.store_core.specs.Laws.{IsRead, IsSettled}
+use Rattle.store_core.specs.Laws.{IsRead}
 use Rattle.store_core.specs.States.{State, empty, read_bytes}
 use Rattle.store_core.specs.Views.{names_of}
 use Rattle.store_core.proofs.Lasting.{record_lasts, run-append}
-use Rattle.store_core.proofs.Origins.{record_is_settled}
 use Rattle.store_core.proofs.ReadLaws.{read_means}
 use Rattle.store_calls.specs.Reading.{SeatDidRead}
 use Rattle.store_core.specs.Knowledge.{Called, event_of}
-use Rattle.store_shared.proofs.Asking.{right_there}
-
--- a call that changes nothing leaves the state in which it stands
-same_there : (call : Call) (old new : SeatView) (called : Called call old new) → ((s : State) → after_call (names_of old) call s ≡ s)
-    → state_after new.seen ≡ state_after (old.seen ++ called.between)
-same_there call old new called same =
-    ap state_after called.goes_on.seen_is ∙ run-append empty (old.seen ++ called.between) (event_of old call ∷ [])
-    ∙ same (state_after (old.seen ++ called.between))
-
-pub length_there : (old new : SeatView) (recorded : Option ℕ) → Called (Length recorded) old new → (state_after new.seen).recorded ≡ recorded
-length_there old new recorded called =
-    ap (λ (s : State). s.recorded) (same_there (Length recorded) old new called (λ s. refl)) ∙ sym (right_there (Length recorded) old new called)
+use Rattle.store_shared.proofs.Asking.{length_there, right_there, same_there}
 
 pub read_there : (old new : SeatView) (at len : ℕ) (bytes : List ℕ) → Called (Read at len bytes) old new → bytes ≡ read_bytes (state_after new.seen) at len
 read_there old new at len bytes called =
@@ -72,10 +59,3 @@ pub asks_both : (old then new : SeatView) (before after : List ℕ) (l : ℕ) (m
     → SeatDidRead then new 0 before after missing → Asks old new
 asks_both old then new before after l missing long asked read =
     inr (record { len = l; then = then; length = asked; bytes = read.bytes; read = subst (λ (k : ℕ). Called (Read 0 k read.bytes) then new) long read.called })
-
--- a recorded length is no longer than what the store has room for
-pub recorded_fits : (fixed : Fixed) (history : List Event) (bytes : List ℕ) → IsLegal fixed history → IsWhole (state_after history) bytes
-    → length bytes ≤ 1024 * fixed.capacity
-recorded_fits fixed history bytes legal whole =
-    let settled : IsSettled fixed history (length bytes) = record_is_settled fixed history (length bytes) legal whole.recorded in
-    subst (λ (l : ℕ). l ≤ 1024 * fixed.capacity) settled.is settled.fits

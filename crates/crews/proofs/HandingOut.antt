@@ -119,20 +119,20 @@ module _ (H : Type 0) (gives : H → ℕ → ℕ → List ℕ → Type 0) (count
         (large_wider (IsHanded gives holders) handed wide start.view.fixed is)
   ]
 
-  pub unfinished_handed : (grain : Grain) (blob : List ℕ) → ((holder : H) → count holder ≡ 0) → IsKeyed fixed.mode → IsBlob fixed blob → chunk_count (length blob) ≤ fixed.capacity
+  pub unfinished_handed : (grain : Grain) (blob : List ℕ) → ((holder : H) → count holder ≡ 0) → IsKeyed fixed.mode → IsBlob fixed blob → fixed.base ≡ 0 → chunk_count (length blob) ≤ fixed.capacity
       → fixed.capacity ≤ 65536 → HaveSlices grain gives fixed.mode blob holders → IsLegal fixed finished.seen → report.failed ≡ 0
       → (IsTrue report.too_large → IsTooLarge handed fixed)
       → (IsServed start.view.fixed blob → HaveSlices grain gives start.view.fixed.mode blob holders
       → HasFailed report' ⊎ IsTooLarge (IsHanded gives holders) start.view.fixed ⊎ IsFilled RecordsOn HoldsOn Claims start seat blob)
       → WasUnfinished seat.view finished → IsExcused (cause_of report') ⊎ HasCollision handed fixed blob
-  unfinished_handed grain blob quiet keyed is room limit has legal no_fault before met unfinished =
+  unfinished_handed grain blob quiet keyed is first room limit has legal no_fault before met unfinished =
       let P : Type 0 = HasCollision handed fixed blob in
-      let slices : IsServed fixed blob = served fixed blob keyed is room limit in
+      let slices : IsServed fixed blob = served fixed blob keyed is first room limit in
       let more : IsTooLarge (IsHanded gives holders) start.view.fixed → P =
       (λ large.
-      large_pair handed fixed blob keyed is room (subst (λ (f : Fixed). IsTooLarge handed f) of_start
+      large_pair handed fixed blob keyed is first room (subst (λ (f : Fixed). IsTooLarge handed f) of_start
       (large_wider (IsHanded gives holders) handed wide start.view.fixed large))) in
-      cause_handed report' P (λ none large. large_pair handed fixed blob keyed is room (large_cut before large)) (λ none not_large.
+      cause_handed report' P (λ none large. large_pair handed fixed blob keyed is first room (large_cut before large)) (λ none not_large.
       elim (met (subst (λ (f : Fixed). IsServed f blob) (sym of_start) slices) (subst (λ (f : Fixed). HaveSlices grain gives f.mode blob holders) (sym of_start) has)) [
         | inl (inl memory) ↦ absurd (omega (arith, memory, none))
         | inl (inr failed) ↦ absurd (omega (arith, failed, reports.failed, no_fault, none_failed count quiet later))

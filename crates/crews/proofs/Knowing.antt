@@ -4,7 +4,6 @@ use Rattle.std.proofs.lemmas.Bool.{and_from, and_parts, cases_Bool}
 use Rattle.bao_check.specs.declared.checked.Checked.{Checked}
 use Rattle.crews.specs.Lasting.{RecordsOn}
 use Rattle.crews.specs.Seats.{claims_of}
-use Rattle.crews.proofs.Finishing.{length_there}
 use Rattle.crews.proofs.Sharing.{claimed_there}
 use Rattle.gather.specs.Available.{IsWanted}
 use Rattle.store_core.specs.declared.fault.StoreFault.{StoreFault}
@@ -23,7 +22,7 @@ use Rattle.store_core.proofs.Lasting.{legal-append, record_lasts, run-append}
 use Rattle.store_shared.specs.declared.fault.NoGroup.{NoGroup}
 use Rattle.store_shared.specs.declared.fault.OtherRoot.{OtherRoot as OtherRootFault}
 use Rattle.store_shared.specs.Calls.{SeatSettles}
-use Rattle.store_shared.proofs.Asking.{right_there}
+use Rattle.store_shared.proofs.Asking.{length_there, right_there}
 use Rattle.store_shared.specs.Seats.{Gripped}
 use Rattle.store_core.specs.Knowledge.{Called, event_of}
 
@@ -93,8 +92,8 @@ settled_there old new piece answer called =
 
 pub settle_records : (fixed : Fixed) (old new : Gripped) (piece : Checked) (answer : Settling) → SeatSettles fixed old new piece answer → answer ≢ TooLarge → answer ≢ OtherRoot
     → (l : ℕ) × RecordsOn new l
-settle_records fixed old new piece Settled settles small same = settled_there old new (piece_of piece) Settled settles.1
-settle_records fixed old new piece Known settles small same = settled_there old new (piece_of piece) Known settles.1
-settle_records fixed old new piece Differs settles small same = settled_there old new (piece_of piece) Differs settles.1
+settle_records fixed old new piece Settled settles small same = settled_there old new (piece_of fixed.base piece) Settled settles.1
+settle_records fixed old new piece Known settles small same = settled_there old new (piece_of fixed.base piece) Known settles.1
+settle_records fixed old new piece Differs settles small same = settled_there old new (piece_of fixed.base piece) Differs settles.1
 settle_records fixed old new piece OtherRoot settles small same = absurd (same refl)
 settle_records fixed old new piece TooLarge settles small same = absurd (small refl)

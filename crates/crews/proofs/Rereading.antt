@@ -10,7 +10,8 @@ use Rattle.b3tree.specs.Hashing.{hash, root_hash, rooted}
 use Rattle.b3tree.specs.Tree.{parent_input, subtree_cv, top_input}
 use Rattle.bao_check.proofs.Lists.{Contains-cons_cases}
 use Rattle.crews.specs.Wholes.{HasBytes, IsFull, OnlyReads, IsTopRead, LackedByte, ReadOn, WasUnfinished}
-use Rattle.crews.proofs.Finishing.{length_there, read_there}
+use Rattle.crews.proofs.Finishing.{read_there}
+use Rattle.store_shared.proofs.Asking.{length_there}
 use Rattle.gather.proofs.Finishing.{filled_whole, judged_at}
 use Rattle.crews.proofs.Uniting.{merge_has, merged_calls, names_same, split_all}
 use Rattle.gather.specs.declared.fault.FinishFault.{FinishFault}

@@ -111,17 +111,17 @@ given old new group mask result called c is =
 still : (old new : Gripped) (piece : Piece) (answer : Settling) → Called (Settle piece answer) old.view new.view → Still (GoneOn (IsIt piece)) claims_of old new
 still old new piece answer called = (goes_on (IsIt piece) old new (Settle piece answer) refl called, λ c is. sym (called.claims_are c) ∙ is)
 
-pub settles_still : (fixed : Fixed) (old new : Gripped) (piece : Checked) (answer : Settling) → SeatSettles fixed old new piece answer → Still (GoneOn (IsIt (piece_of piece))) claims_of old new
-settles_still fixed old new piece Settled settles = still old new (piece_of piece) Settled settles.1
-settles_still fixed old new piece Known settles = still old new (piece_of piece) Known settles.1
-settles_still fixed old new piece Differs settles = still old new (piece_of piece) Differs settles.1
-settles_still fixed old new piece OtherRoot settles = (stays_same (IsIt (piece_of piece)) old new settles.1, among_same old new settles.1)
-settles_still fixed old new piece TooLarge settles = (stays_same (IsIt (piece_of piece)) old new settles.2, among_same old new settles.2)
+pub settles_still : (fixed : Fixed) (old new : Gripped) (piece : Checked) (answer : Settling) → SeatSettles fixed old new piece answer → Still (GoneOn (IsIt (piece_of fixed.base piece))) claims_of old new
+settles_still fixed old new piece Settled settles = still old new (piece_of fixed.base piece) Settled settles.1
+settles_still fixed old new piece Known settles = still old new (piece_of fixed.base piece) Known settles.1
+settles_still fixed old new piece Differs settles = still old new (piece_of fixed.base piece) Differs settles.1
+settles_still fixed old new piece OtherRoot settles = (stays_same (IsIt (piece_of fixed.base piece)) old new settles.1, among_same old new settles.1)
+settles_still fixed old new piece TooLarge settles = (stays_same (IsIt (piece_of fixed.base piece)) old new settles.2, among_same old new settles.2)
 
 -- the piece of a tail that is too large is an accepted one of the store's root and mode, with the last chunk
 pub settles_large : (fixed : Fixed) (old new : Gripped) (piece : Checked) (answer : Settling) → AreBytes (piece_text piece)
     → IsAccepted (piece_mode piece) (piece_root piece) (piece_text piece) (piece_nodes piece) → HoldsLast piece → SeatSettles fixed old new piece answer → answer ≡ TooLarge
-    → EndsTooFar fixed (piece_of piece)
+    → EndsTooFar fixed (piece_of fixed.base piece)
 settles_large fixed old new piece Settled bytes accepted last settles is = let no : Settled ≡ TooLarge = is in cc
 settles_large fixed old new piece Known bytes accepted last settles is = let no : Known ≡ TooLarge = is in cc
 settles_large fixed old new piece Differs bytes accepted last settles is = let no : Differs ≡ TooLarge = is in cc
@@ -131,6 +131,7 @@ settles_large fixed old new piece TooLarge bytes accepted last settles is = reco
     bytes = bytes;
     accepted = subst (λ (mode : Mode). IsAccepted mode fixed.root.0 (piece_text piece) (piece_nodes piece)) settles.0.mode
         (subst (λ (root : Hash). IsAccepted (piece_mode piece) root.0 (piece_text piece) (piece_nodes piece)) settles.0.root accepted);
+    base = refl;
   };
   ends = last;
   above = settles.1;
@@ -152,26 +153,30 @@ commit_gains old new group piece (Err fault) (Ok committed) Q cases variant call
 commit_gains old new group piece (Err fault) (Err other) Q cases variant called same = stays_same (IsIt piece) old new same
 
 -- parents that weren't stored
-unstored_gains : (old new : Gripped) (group : ℕ) (piece : Checked) (fault : ParentsFault) → SeatIsUnstored group piece fault old new → GoneOn (IsIt (piece_of piece)) old new 0 0
-unstored_gains old new group piece unstored.OtherRoot same = stays_same (IsIt (piece_of piece)) old new same
-unstored_gains old new group piece unstored.OtherLength called = goes_on (IsIt (piece_of piece)) old new (Parents group (piece_of piece) storing.OtherLength) refl called
+unstored_gains : (fixed : Fixed) (old new : Gripped) (group : ℕ) (piece : Checked) (fault : ParentsFault) → SeatIsUnstored fixed group piece fault old new
+    → GoneOn (IsIt (piece_of fixed.base piece)) old new 0 0
+unstored_gains fixed old new group piece unstored.OtherRoot same = stays_same (IsIt (piece_of fixed.base piece)) old new same
+unstored_gains fixed old new group piece unstored.OtherLength called =
+    goes_on (IsIt (piece_of fixed.base piece)) old new (Parents group (piece_of fixed.base piece) storing.OtherLength) refl called
 
-unstored_claims : (old new : Gripped) (group : ℕ) (piece : Checked) (fault : ParentsFault) → SeatIsUnstored group piece fault old new → Among (claims_of old) (claims_of new)
-unstored_claims old new group piece unstored.OtherRoot same = among_same old new same
-unstored_claims old new group piece unstored.OtherLength called = λ c is. sym (called.claims_are c) ∙ is
+unstored_claims : (fixed : Fixed) (old new : Gripped) (group : ℕ) (piece : Checked) (fault : ParentsFault) → SeatIsUnstored fixed group piece fault old new → Among (claims_of old) (claims_of new)
+unstored_claims fixed old new group piece unstored.OtherRoot same = among_same old new same
+unstored_claims fixed old new group piece unstored.OtherLength called = λ c is. sym (called.claims_are c) ∙ is
 
-pub parents_gain : (old new : Gripped) (group : ℕ) (piece : Checked) (result : Result ℕ ParentsFault) (answer : Result ℕ StoreFault) (Q : ParentsFault → Type 0)
+pub parents_gain : (fixed : Fixed) (old new : Gripped) (group : ℕ) (piece : Checked) (result : Result ℕ ParentsFault) (answer : Result ℕ StoreFault) (Q : ParentsFault → Type 0)
     → MatchResult result (λ stored. answer ≡ Ok stored) Q → is_ok answer ≡ is_ok result
-    → IfOk result (λ stored. Called (Parents group (piece_of piece) (storing.Stored stored)) old.view new.view) → IfErr result (λ fault. SeatIsUnstored group piece fault old new)
-    → MatchResult answer (λ stored. GoneOn (IsIt (piece_of piece)) old new 0 (count_ones stored)) (λ _. GoneOn (IsIt (piece_of piece)) old new 0 0)
-parents_gain old new group piece (Ok stored) answer Q cases variant called refused =
-    subst (λ (r : Result ℕ StoreFault). MatchResult r (λ stored. GoneOn (IsIt (piece_of piece)) old new 0 (count_ones stored)) (λ _. GoneOn (IsIt (piece_of piece)) old new 0 0)) (sym cases)
-    (goes_on (IsIt (piece_of piece)) old new (Parents group (piece_of piece) (storing.Stored stored)) refl called)
-parents_gain old new group piece (Err fault) (Ok stored) Q cases variant called refused = cc
-parents_gain old new group piece (Err fault) (Err other) Q cases variant called refused = unstored_gains old new group piece fault refused
+    → IfOk result (λ stored. Called (Parents group (piece_of fixed.base piece) (storing.Stored stored)) old.view new.view)
+    → IfErr result (λ fault. SeatIsUnstored fixed group piece fault old new)
+    → MatchResult answer (λ stored. GoneOn (IsIt (piece_of fixed.base piece)) old new 0 (count_ones stored)) (λ _. GoneOn (IsIt (piece_of fixed.base piece)) old new 0 0)
+parents_gain fixed old new group piece (Ok stored) answer Q cases variant called refused =
+    let P = IsIt (piece_of fixed.base piece) in
+    subst (λ (r : Result ℕ StoreFault). MatchResult r (λ stored. GoneOn P old new 0 (count_ones stored)) (λ _. GoneOn P old new 0 0)) (sym cases)
+    (goes_on P old new (Parents group (piece_of fixed.base piece) (storing.Stored stored)) refl called)
+parents_gain fixed old new group piece (Err fault) (Ok stored) Q cases variant called refused = cc
+parents_gain fixed old new group piece (Err fault) (Err other) Q cases variant called refused = unstored_gains fixed old new group piece fault refused
 
-pub parents_claims : (old new : Gripped) (group : ℕ) (piece : Checked) (result : Result ℕ ParentsFault)
-    → IfOk result (λ stored. Called (Parents group (piece_of piece) (storing.Stored stored)) old.view new.view) → IfErr result (λ fault. SeatIsUnstored group piece fault old new)
-    → Among (claims_of old) (claims_of new)
-parents_claims old new group piece (Ok stored) called refused = λ c is. sym (called.claims_are c) ∙ is
-parents_claims old new group piece (Err fault) called refused = unstored_claims old new group piece fault refused
+pub parents_claims : (fixed : Fixed) (old new : Gripped) (group : ℕ) (piece : Checked) (result : Result ℕ ParentsFault)
+    → IfOk result (λ stored. Called (Parents group (piece_of fixed.base piece) (storing.Stored stored)) old.view new.view)
+    → IfErr result (λ fault. SeatIsUnstored fixed group piece fault old new) → Among (claims_of old) (claims_of new)
+parents_claims fixed old new group piece (Ok stored) called refused = λ c is. sym (called.claims_are c) ∙ is
+parents_claims fixed old new group piece (Err fault) called refused = unstored_claims fixed old new group piece fault refused

@@ -1,5 +1,5 @@
 -- A worker's seat of a shared store: what it claims, and how what it has seen goes on.
-use Rattle.std.specs.Prelude.{◌≡◌, ◌⊎◌, ℕ, Bool, false, List, ◌++◌, Some}
+use Rattle.std.specs.Prelude.{◌≡◌, ◌⊎◌, ℕ, ◌+◌, Bool, false, List, ◌++◌, Some}
 use Rattle.std.specs.List.{AllByRecursion}
 use Rattle.bao_check.specs.Pieces.{chunk_of}
 use Rattle.store_core.specs.declared.history.Piece.{Piece}
@@ -12,7 +12,7 @@ use Rattle.store_core.specs.Laws.{IsBlob, IsCommitted, CollidesWith}
 use Rattle.store_core.specs.Views.{mine, names_of, seat_claims}
 use Rattle.store_shared.specs.Seats.{Gripped}
 
--- the root and the mode of the store's blob, and how many chunks it has room for
+-- the root and the mode of the store's blob, how many chunks it has room for, and from which one on
 abbrev pub fixed_of : Gripped → Fixed
 fixed_of seat = seat.view.fixed
 
@@ -35,11 +35,11 @@ pub record GoneOn (handed : Piece → Type 0) (old new : Gripped) (chunks parent
   pub counts : chunks ≡ chunks_in own
   pub counts_parents : parents ≡ parents_in own
 
--- Each chunk that is held after all that was seen is the one of that number of each blob with the root; or a collision is
+-- Each chunk that is held after all that was seen is the one of that number, counted from the store's first, of each blob with the root; or a collision is
 -- exhibited from that blob and from the piece by which the chunk was committed.
 abbrev pub SeenBinds : SeatView → Type 0
 SeenBinds view = (blob : List ℕ) → IsBlob view.fixed blob → (c : ℕ) (bytes : List ℕ) → (state_after view.seen).held c ≡ Some bytes
-    → (chunk_of blob c ≡ Some bytes) ⊎ ((from : IsCommitted view.fixed view.seen c bytes) × CollidesWith view.fixed blob from.piece)
+    → (chunk_of blob (view.fixed.base + c) ≡ Some bytes) ⊎ ((from : IsCommitted view.fixed view.seen c bytes) × CollidesWith view.fixed blob from.piece)
 
 -- A new seat has seen what a seat had seen, and has neither calls nor claims.
 pub record BeginsAfter (given new : SeatView) : Type 0 where

@@ -33,7 +33,7 @@ pub(crate) fn hand_out<R: Threads + Sync, H: Holder + Drop, L: Lists<H>>(
     requires failed { report.failed ≡ 0 }
     requires large { IsTrue report.too_large → IsTooLarge (IsLent H.gives (L.over lists.now)) (fixed_of assembly) }
     ensures gathers { Gathers own_bytes (IsLent H.gives (L.over lists.now)) (fixed_of assembly) result }
-    ensures available { (blob : List ℕ) → IsBlob (fixed_of assembly) blob → chunk_count (length blob) ≤ (fixed_of assembly).capacity
+    ensures available { (blob : List ℕ) → IsBlob (fixed_of assembly) blob → (fixed_of assembly).base ≡ 0 → chunk_count (length blob) ≤ (fixed_of assembly).capacity
         → HaveAll grain H.gives (L.over lists.now) (fixed_of assembly).mode blob
         → IsHandedOut own_bytes (IsLent H.gives (L.over lists.now)) (fixed_of assembly) blob result }
 {

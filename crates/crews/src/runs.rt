@@ -59,11 +59,13 @@ fn run_as<R: Threads + Sync, H: Holder + Send, G: Gate + Sync>(
 /// What a crew's seat has seen goes on from what it had seen, and is a legal history of the store. A report's
 /// `committed` is the number of chunks in the commits that the crew's own calls added to it, its `parents` that of
 /// the parents that they stored, and the crew claims no more than it did. For each blob with the root, each chunk
-/// seen held is the blob's of that number, or a collision is exhibited, two different inputs with one chaining value, one of the
-/// blob's and one of the piece's by which it was committed.
+/// seen held is the blob's of that number, counted from the store's first, or a collision is exhibited, two different inputs with
+/// one chaining value, one of the blob's and one of the piece's by which it was committed.
 ///
 /// `failed` is at most what the holders' counts rose together, and `too_large` is set only where an accepted encoding
-/// certifies a length above what the store has room for: each blob with the root is then longer, or such a collision is exhibited.
+/// certifies a length for which the store has no room: it has none then for any blob with the root, or such a collision is exhibited.
+///
+/// Workers ask for the groups of a whole blob: they fill a store whose base is 0.
 pub fn run<R: Threads + Sync, H: Holder + Send, G: Gate + Sync>(
     rt: &R,
     alloc: Global,

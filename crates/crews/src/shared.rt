@@ -38,6 +38,7 @@ impl Shelf for Shared<'_> {
             root: self.0.root(),
             mode: self.0.mode(),
             capacity: self.0.capacity(),
+            base: self.0.base(),
         }
     }
 

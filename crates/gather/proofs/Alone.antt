@@ -116,12 +116,12 @@ settle_still : (old new : Store) (piece : Piece) (answer : Settling) → IsEvent
 settle_still old new piece answer event =
     (worked_one (IsIt piece) old new (Settle piece answer) refl event, λ c is. claims_after old new (Settle piece answer) event c is)
 
-pub settles_still : (old new : Store) (piece : Checked) (answer : Settling) → Settles old new piece answer → Still (HasWorked (IsIt (piece_of piece))) worker_claims old new
-settles_still old new piece Settled settles = settle_still old new (piece_of piece) Settled (settles worker)
-settles_still old new piece Known settles = settle_still old new (piece_of piece) Known (settles worker)
-settles_still old new piece Differs settles = settle_still old new (piece_of piece) Differs (settles worker)
-settles_still old new piece OtherRoot settles = (worked_none (IsIt (piece_of piece)) old new settles.1, among_same old new settles.1)
-settles_still old new piece TooLarge settles = (worked_none (IsIt (piece_of piece)) old new settles.2, among_same old new settles.2)
+pub settles_still : (old new : Store) (piece : Checked) (answer : Settling) → Settles old new piece answer → Still (HasWorked (IsIt (piece_of (fixed_of old).base piece))) worker_claims old new
+settles_still old new piece Settled settles = settle_still old new (piece_of (fixed_of old).base piece) Settled (settles worker)
+settles_still old new piece Known settles = settle_still old new (piece_of (fixed_of old).base piece) Known (settles worker)
+settles_still old new piece Differs settles = settle_still old new (piece_of (fixed_of old).base piece) Differs (settles worker)
+settles_still old new piece OtherRoot settles = (worked_none (IsIt (piece_of (fixed_of old).base piece)) old new settles.1, among_same old new settles.1)
+settles_still old new piece TooLarge settles = (worked_none (IsIt (piece_of (fixed_of old).base piece)) old new settles.2, among_same old new settles.2)
 
 -- parents that are stored end no claim, and none that are not
 parents_event : (old new : Store) (group : ℕ) (piece : Piece) (answer : Storing) → IsEvent old new worker (Parents group piece answer) → Among (worker_claims old) (worker_claims new)
@@ -134,19 +134,19 @@ unstored_same old new group piece fault.OtherRoot unstored = unstored
 unstored_same old new group piece fault.OtherLength unstored = unstored.0
 
 pub parents_gain : (old new : Store) (group : ℕ) (piece : Checked) (result : Result ℕ StoreFault) → IfOk result (λ mask. DidStore old new group piece (Stored mask))
-    → IfErr result (λ fault. IsUnstored old new group piece fault) → MatchResult result (λ mask. HasWorked (IsIt (piece_of piece)) old new 0 (count_ones mask)) (λ _. HasWorked (IsIt (piece_of piece)) old new 0 0)
-parents_gain old new group piece (Ok mask) ok err = worked_one (IsIt (piece_of piece)) old new (Parents group (piece_of piece) (Stored mask)) refl (ok worker)
-parents_gain old new group piece (Err fault) ok err = worked_none (IsIt (piece_of piece)) old new (unstored_same old new group piece fault err)
+    → IfErr result (λ fault. IsUnstored old new group piece fault) → MatchResult result (λ mask. HasWorked (IsIt (piece_of (fixed_of old).base piece)) old new 0 (count_ones mask)) (λ _. HasWorked (IsIt (piece_of (fixed_of old).base piece)) old new 0 0)
+parents_gain old new group piece (Ok mask) ok err = worked_one (IsIt (piece_of (fixed_of old).base piece)) old new (Parents group (piece_of (fixed_of old).base piece) (Stored mask)) refl (ok worker)
+parents_gain old new group piece (Err fault) ok err = worked_none (IsIt (piece_of (fixed_of old).base piece)) old new (unstored_same old new group piece fault err)
 
 pub parents_claims : (old new : Store) (group : ℕ) (piece : Checked) (result : Result ℕ StoreFault) → IfOk result (λ mask. DidStore old new group piece (Stored mask))
     → IfErr result (λ fault. IsUnstored old new group piece fault) → Among (worker_claims old) (worker_claims new)
-parents_claims old new group piece (Ok mask) ok err = parents_event old new group (piece_of piece) (Stored mask) (ok worker)
+parents_claims old new group piece (Ok mask) ok err = parents_event old new group (piece_of (fixed_of old).base piece) (Stored mask) (ok worker)
 parents_claims old new group piece (Err fault) ok err = among_same old new (unstored_same old new group piece fault err)
 
 -- the piece of a tail that is too large is an accepted one of the store's root and mode, with the last chunk
 pub settles_large : (old new : Store) (piece : Checked) (answer : Settling) → AreBytes (piece_text piece)
     → IsAccepted (piece_mode piece) (piece_root piece) (piece_text piece) (piece_nodes piece) → HoldsLast piece → Settles old new piece answer → answer ≡ TooLarge
-    → EndsTooFar (fixed_of old) (piece_of piece)
+    → EndsTooFar (fixed_of old) (piece_of (fixed_of old).base piece)
 settles_large old new piece Settled bytes accepted last settles is = let no : Settled ≡ TooLarge = is in cc
 settles_large old new piece Known bytes accepted last settles is = let no : Known ≡ TooLarge = is in cc
 settles_large old new piece Differs bytes accepted last settles is = let no : Differs ≡ TooLarge = is in cc
@@ -156,6 +156,7 @@ settles_large old new piece TooLarge bytes accepted last settles is = record {
     bytes = bytes;
     accepted = subst (λ (mode : Mode). IsAccepted mode (fixed_of old).root.0 (piece_text piece) (piece_nodes piece)) settles.0.mode
         (subst (λ (root : Hash). IsAccepted (piece_mode piece) root.0 (piece_text piece) (piece_nodes piece)) settles.0.root accepted);
+    base = refl;
   };
   ends = last;
   above = settles.1;

@@ -5,13 +5,14 @@ use Rattle.bao_check.proofs.Lists.{All-member}
 use Rattle.std.proofs.lemmas.Option.{slice_get-map, get_or_from_slice_get}
 use Rattle.b3tree.specs.Valid.{IsKeyed}
 use Rattle.bao_check.specs.Laws.{AcceptedBinds}
-use Rattle.bao_check.specs.Pieces.{chunk_of}
+use Rattle.bao_check.specs.Pieces.{chunk_in, chunk_of}
 use Rattle.bao_text.specs.Choice.{chunk_count}
 use Rattle.store_core.specs.declared.fixed.Fixed.{Fixed}
 use Rattle.store_core.specs.declared.history.Piece.{Piece}
 use Rattle.store_core.specs.declared.store.Store.{Store}
 use Rattle.store_core.specs.Laws.{IsBlob, CollidesWith}
-use Rattle.store_core.specs.Pieces.{chunk_bytes, length_of}
+use Rattle.store_core.specs.Events.{has_room}
+use Rattle.store_core.specs.Pieces.{length_of, places_in}
 use Rattle.store_core.specs.declared.history.Event.{Event}
 use Rattle.store_core.specs.Histories.{AreLegalFrom, IsLegal, run}
 use Rattle.store_core.specs.Reached.{IsReached}
@@ -26,10 +27,10 @@ use Rattle.gather.specs.Worked.{AreFrom, HasWorked, IsFrom, AddsBlobs, AddsCerti
 
 certified_binds : AcceptedBinds → (handed : Piece → Type 0) (fixed : Fixed) (blob : List ℕ) (c : ℕ) (bytes : List ℕ) → IsKeyed fixed.mode → IsBlob fixed blob
     → (from : IsCertified handed fixed c bytes)
-    → (chunk_of blob c ≡ Some bytes) ⊎ CollidesWith fixed blob from.piece
+    → (chunk_of blob (fixed.base + c) ≡ Some bytes) ⊎ CollidesWith fixed blob from.piece
 certified_binds law handed fixed blob c bytes keyed is from = elim (
-    law fixed.mode fixed.root.0 from.piece.text blob from.piece.start from.piece.len c bytes keyed is.bytes from.accepted.bytes is.root from.accepted.accepted from.has
-    ) [ inl same ↦ inl same.0 | inr named ↦ inr named ]
+    law fixed.mode fixed.root.0 from.piece.text blob from.piece.start from.piece.len (from.piece.base + c) bytes keyed is.bytes from.accepted.bytes is.root from.accepted.accepted from.has
+    ) [ inl same ↦ inl (subst (λ (b : ℕ). chunk_of blob (b + c) ≡ Some bytes) from.accepted.base same.0) | inr named ↦ inr named ]
 
 pub adds_blobs : AcceptedBinds → (handed : Piece → Type 0) (old new : Store) → IsKeyed (fixed_of old).mode → AddsCertified handed old new → AddsBlobs handed old new
 adds_blobs law handed old new keyed adds blob is c bytes held = elim (adds c bytes held) [
@@ -46,9 +47,9 @@ are_longer law handed fixed keyed too_large blob is =
     let piece = too_large.piece in
     let large = too_large.large in
     let last = chunk_count (length_of piece) - 1 in
-    let there = some_bytes (chunk_bytes piece last) large.ends in
+    let there = some_bytes (chunk_in piece.text (places_in piece) last) large.ends in
     elim (law fixed.mode fixed.root.0 piece.text blob piece.start piece.len last there.0 keyed is.bytes large.accepted.bytes is.root large.accepted.accepted there.1) [
-      | inl same ↦ let long : length_of piece ≡ length blob = same.1 (omega arith) in inl (omega (arith, long, large.above))
+      | inl same ↦ let long : length_of piece ≡ length blob = same.1 (omega arith) in inl (sym (ap (λ (l : ℕ). has_room fixed l) long) ∙ large.above)
       | inr named ↦ inr (record { piece = piece; from = too_large.from; accepted = large.accepted; pair = named })
     ]
 

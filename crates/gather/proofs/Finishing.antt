@@ -1,5 +1,5 @@
 -- What a read of all bytes below the recorded length tells, and what is known of bytes that are whole.
-use Rattle.std.proofs.Common.{bytes_eq, true, false, not, ◌≡◌, ◌⊎◌, ℕ, ◌+◌, ◌-◌, ◌/◌, ◌<◌, ◌≤◌, List, [], ◌++◌, length, drop, Option, None, Some, Ok, Err, Result, refl, slice_get, slice_index, sym, ap, subst, ◌∙◌, inl, inr, arith, length-append, get_or-append-add}
+use Rattle.std.proofs.Common.{bytes_eq, true, false, not, ◌≡◌, ◌⊎◌, ℕ, ◌+◌, ◌*◌, ◌-◌, ◌/◌, ◌<◌, ◌≤◌, List, [], ◌++◌, length, drop, Option, None, Some, Ok, Err, Result, refl, slice_get, slice_index, sym, ap, subst, ◌∙◌, inl, inr, arith, length-append, get_or-append-add}
 use Rattle.std.proofs.lemmas.Bool.{cases_Bool, cases_lt}
 use Rattle.std.proofs.lemmas.List.{append-nil, drop_all, get_or_append_left}
 use Rattle.std.proofs.lemmas.Slice.Eq.{bytes_eq-Decides}
@@ -18,6 +18,7 @@ use Rattle.store_core.specs.Laws.{IsRead, ReadMeans}
 use Rattle.store_core.specs.States.{State, byte_at}
 use Rattle.store_core.specs.Stores.{DidRead, CollisionCommitted, state_of}
 use Rattle.store_core.proofs.Bound.{byte_binds, record_binds}
+use Rattle.store_core.proofs.HasRoom.{base_recorded}
 use Rattle.store_core.proofs.ReadLaws.{read_means}
 
 pub filled_whole : (bytes old new : List ℕ) → new ≡ bytes ++ drop (length bytes) old → length bytes ≡ length old → new ≡ bytes
@@ -92,9 +93,11 @@ pub whole_binds : (fixed : Fixed) (history : List Event) (bytes : List ℕ) → 
 whole_binds fixed history bytes keyed legal whole blob is =
     let held : IsRead (state_after history) 0 (length bytes) bytes = (read_means (state_after history) 0 (length bytes) bytes).0 (sym whole.held) in
     let P = (c : ℕ) × CollisionCommitted fixed history blob c in
+    let first = base_recorded fixed history (length bytes) legal whole.recorded in
+    let at : (i : ℕ) → 1024 * fixed.base + (0 + i) ≡ 0 + i = λ i. omega (arith, first) in
     let each : (i : ℕ) → i < length bytes → (slice_get blob (0 + i) ≡ Some (slice_index bytes i)) ⊎ P = λ i below.
     elim (byte_binds fixed history blob (0 + i) (slice_index bytes i) keyed is legal (held.held i below)) [
-      | inl same ↦ inl same
+      | inl same ↦ inl (subst (λ (n : ℕ). slice_get blob n ≡ Some (slice_index bytes i)) (at i) same)
       | inr from ↦ inr ((0 + i) / 1024, record { bytes = from.0.bytes; committed = from.0.chunk; pair = from.1 })
     ] in
     elim (record_binds fixed history blob (length bytes) keyed is legal whole.recorded) [

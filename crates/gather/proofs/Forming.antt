@@ -29,7 +29,8 @@ made_no_more (Bare outline) gives old new no_more = λ start len text is. record
 pub made_given : {H : Type 0} (form : Form) (gives : H → ℕ → ℕ → List ℕ → Type 0) (holder : H) (part : Part) (text bytes : List ℕ) (piece : Piece) → text ≡ bytes → gives holder part.start part.len bytes
     → IsMade form part text piece → IsGiven (made_of form gives) holder piece
 made_given Slices gives holder part text bytes piece same given made =
-    subst (λ (p : Piece). IsGiven gives holder p) (sym made) (subst (λ (xs : List ℕ). gives holder part.start part.len xs) (sym same) given)
+    subst (λ (n : ℕ). gives holder n piece.len piece.text) (sym made.0) (subst (λ (n : ℕ). gives holder part.start n piece.text) (sym made.1)
+    (subst (λ (xs : List ℕ). gives holder part.start part.len xs) (sym (made.2 ∙ same)) given))
 made_given (Bare outline) gives holder part text bytes piece same given made = record {
   bytes = text;
   given = subst (λ (n : ℕ). gives holder n (bare_len (outline_claimed outline.now) piece.start piece.len) text) (sym made.0)
@@ -81,10 +82,10 @@ end_given form gives mode blob holder part text given are end slice same is =
 
 -- it is accepted as that slice
 pub slice_made : (form : Form) (fixed known : Fixed) (part : Part) (text : List ℕ) (piece : Checked) (blob : List ℕ) (start len : ℕ) → AreSlices form → part.start ≡ start → part.len ≡ len
-    → text ≡ slice_text fixed.mode blob part.start part.len → IsSliceCheck form known part text (Ok piece) → piece_of piece ≡ slice_of fixed.mode blob start len
+    → text ≡ slice_text fixed.mode blob part.start part.len → IsSliceCheck form known part text (Ok piece) → piece_of fixed.base piece ≡ slice_of fixed blob start len
 slice_made form fixed known part text piece blob start len are start_is len_is is check =
     slice_is fixed piece known.mode known.root.0 part.start part.len blob text (slice_check form known part text (Ok piece) are check).1 is
-    ∙ (ap (λ (n : ℕ). slice_of fixed.mode blob n part.len) start_is ∙ ap (λ (n : ℕ). slice_of fixed.mode blob start n) len_is)
+    ∙ (ap (λ (n : ℕ). slice_of fixed blob n part.len) start_is ∙ ap (λ (n : ℕ). slice_of fixed blob start n) len_is)
 
 pub slice_of_store : (form : Form) (fixed known : Fixed) (part : Part) (text : List ℕ) (piece : Checked) → AreSlices form → known ≡ fixed
     → IsSliceCheck form known part text (Ok piece) → IsOf fixed piece

@@ -1,5 +1,5 @@
 -- What comes of texts of which one is the combined encoding of a blob with the root.
-use Rattle.std.proofs.Common.{nat_lt, ltb-false, ◌≡◌, ◌⊎◌, ℕ, Bool, if◌then◌else◌, ◌≤◌, ◌*◌, ◌/◌, ◌%◌, ◌^◌, ◌<◌, true, false, List, [], ◌∷◌, zero, suc, refl, length, take, drop, map, get_or, Option, None, Some, option_and_then, slice_get, sym, ap, subst, ◌∙◌, arith, inl, inr, length-drop, lt-ltb}
+use Rattle.std.proofs.Common.{nat_lt, ltb-false, ◌≡◌, ◌⊎◌, ◌+◌, ℕ, Bool, if◌then◌else◌, ◌≤◌, ◌*◌, ◌/◌, ◌%◌, ◌^◌, ◌<◌, true, false, List, [], ◌∷◌, zero, suc, refl, length, take, drop, map, get_or, Option, None, Some, option_and_then, slice_get, sym, ap, subst, ◌∙◌, arith, inl, inr, length-drop, lt-ltb}
 use Rattle.std.specs.List.{sum_by}
 use Rattle.std.proofs.lemmas.Bool.{cases_Bool}
 use Rattle.std.proofs.lemmas.List.{length-take}
@@ -26,6 +26,7 @@ use Rattle.gather.specs.Lasting.{HoldsChunk, IsBusy, Records}
 use Rattle.gather.specs.Worked.{HasWorked}
 use Rattle.gather.proofs.Binding.{are_longer, pair_of, some_bytes}
 use Rattle.gather.proofs.Finishing.{some_same}
+use Rattle.store_core.proofs.HasRoom.{base_recorded, no_room_of}
 use Rattle.store_core.specs.declared.fixed.Fixed.{Fixed}
 use Rattle.store_core.specs.declared.history.Event.{Event}
 use Rattle.store_core.specs.declared.history.Piece.{Piece}
@@ -65,7 +66,10 @@ unfinished_named fixed history blob l keyed is legal recorded chunks unfinished 
             let below : p < length blob = omega (arith, lacks.below, len, long) in
             let there = some_bytes ((state_after history).held (p / 1024)) (chunks long (p / 1024) (omega (arith, below))) in
             elim (held_binds fixed history blob (p / 1024) there.0 keyed is legal there.1) [
-              | inl chunk ↦ absurd (byte_there (state_after history) blob there.0 p below there.1 chunk lacks.missing)
+              | inl counted ↦
+                  let at : fixed.base + p / 1024 ≡ p / 1024 = omega (arith, base_recorded fixed history l legal recorded) in
+                  let chunk = subst (λ (n : ℕ). chunk_of blob n ≡ Some there.0) at counted in
+                  absurd (byte_there (state_after history) blob there.0 p below there.1 chunk lacks.missing)
               | inr from ↦ inl (p / 1024, record { bytes = there.0; committed = from.0; pair = from.1 })
             ]
       ]
@@ -132,10 +136,10 @@ none_failed count quiet [] = refl
 none_failed count quiet (x ∷ holders) = omega (arith, sum_by-cons count x holders, quiet x, none_failed count quiet holders)
 
 -- a piece that certifies too large a length, where there is room for the blob, exhibits a collision
-pub large_pair : (handed : Piece → Type 0) (fixed : Fixed) (blob : List ℕ) → IsKeyed fixed.mode → IsBlob fixed blob → chunk_count (length blob) ≤ fixed.capacity
+pub large_pair : (handed : Piece → Type 0) (fixed : Fixed) (blob : List ℕ) → IsKeyed fixed.mode → IsBlob fixed blob → fixed.base ≡ 0 → chunk_count (length blob) ≤ fixed.capacity
     → IsTooLarge handed fixed → HasCollision handed fixed blob
-large_pair handed fixed blob keyed is room large = elim (are_longer accepted_binds handed fixed keyed large blob is) [
-  | inl long ↦ absurd (omega (arith, long, room))
+large_pair handed fixed blob keyed is first room large = elim (are_longer accepted_binds handed fixed keyed large blob is) [
+  | inl long ↦ absurd (omega (arith, no_room_of fixed (length blob) first long, room))
   | inr pair ↦ pair
 ]
 

@@ -65,12 +65,12 @@ met_there (Some k) l answer not is = (k, refl)
 
 pub settle_records : (old new : Store) (piece : Checked) (answer : Settling) → Settles old new piece answer → answer ≢ TooLarge → answer ≢ OtherRoot
     → (l : ℕ) × Records new l
-settle_records old new piece Settled settles small same = (length_of (piece_of piece), subst (λ (s : State). s.recorded ≡ Some (length_of (piece_of piece))) (sym (settles worker).after) refl)
+settle_records old new piece Settled settles small same = (length_of (piece_of (fixed_of old).base piece), subst (λ (s : State). s.recorded ≡ Some (length_of (piece_of (fixed_of old).base piece))) (sym (settles worker).after) refl)
 settle_records old new piece Known settles small same =
-    let there = met_there (state_of old).recorded (length_of (piece_of piece)) Known (λ e. let no : Known ≡ Settled = e in cc) (settles worker).right.3 in
+    let there = met_there (state_of old).recorded (length_of (piece_of (fixed_of old).base piece)) Known (λ e. let no : Known ≡ Settled = e in cc) (settles worker).right.3 in
     (there.0, subst (λ (s : State). s.recorded ≡ Some there.0) (sym (settles worker).after) there.1)
 settle_records old new piece Differs settles small same =
-    let there = met_there (state_of old).recorded (length_of (piece_of piece)) Differs (λ e. let no : Differs ≡ Settled = e in cc) (settles worker).right.3 in
+    let there = met_there (state_of old).recorded (length_of (piece_of (fixed_of old).base piece)) Differs (λ e. let no : Differs ≡ Settled = e in cc) (settles worker).right.3 in
     (there.0, subst (λ (s : State). s.recorded ≡ Some there.0) (sym (settles worker).after) there.1)
 settle_records old new piece OtherRoot settles small same = absurd (same refl)
 settle_records old new piece TooLarge settles small same = absurd (small refl)

@@ -47,7 +47,7 @@ pub pair_at : (handed : Piece → Type 0) (root : Hash) (mode : Mode) (a b : ℕ
 pair_at handed root mode a b blob has = record {
   piece = has.piece;
   from = has.from;
-  accepted = record { bytes = has.accepted.bytes; accepted = has.accepted.accepted };
+  accepted = record { bytes = has.accepted.bytes; accepted = has.accepted.accepted; base = has.accepted.base };
   pair = has.pair;
 }
 

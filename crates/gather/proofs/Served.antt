@@ -1,8 +1,9 @@
 -- The slices of a blob with the root, for which the store has room.
-use Rattle.std.proofs.Common.{◌≡◌, ℕ, ◌+◌, ◌-◌, ◌/◌, ◌^◌, ◌<◌, ◌≤◌, List, length, true, IsSome, Option, None, Some, refl, sym, subst, arith}
+use Rattle.std.proofs.Common.{◌≡◌, ℕ, ◌+◌, ◌-◌, ◌/◌, ◌^◌, ◌<◌, ◌≤◌, List, length, true, is_some, IsSome, Option, None, Some, refl, sym, subst, arith}
 use Rattle.std.specs.Option.{option_map}
 use Rattle.b3tree.specs.Valid.{IsKeyed}
 use Rattle.bao_check.specs.Accepted.{IsAccepted, places_of, slice_nodes}
+use Rattle.bao_check.specs.Pieces.{chunk_in}
 use Rattle.bao_check.specs.Spans.{chunk_place}
 use Rattle.bao_check.proofs.Locating.{chunk_in-place}
 use Rattle.bao_check.proofs.Presence.{slice_present}
@@ -14,41 +15,49 @@ use Rattle.gather.specs.declared.grain.Grain.{Grain}
 use Rattle.gather.specs.declared.grain.Grain.TheVariants.{Group as ByGroup, Chunk as ByChunk}
 use Rattle.gather.specs.Available.{IsAskedBy, IsServed, slice_of}
 use Rattle.store_core.specs.declared.fixed.Fixed.{Fixed}
+use Rattle.store_core.proofs.HasRoom.{has_room_of}
 use Rattle.store_core.specs.Laws.{IsBlob}
-use Rattle.store_core.specs.Pieces.{EndsBlob, holds_chunk, length_of}
+use Rattle.store_core.specs.Pieces.{EndsBlob, holds_chunk, length_of, places_in}
 
 some_mapped : {X Y : Type 0} (f : X → Y) (o : Option X) → IsSome o → IsSome (option_map f o)
 some_mapped f None is = is
 some_mapped f (Some x) is = refl
 
 module _ (fixed : Fixed) (blob : List ℕ) (short : length blob < 2 ^ 64) where
-  long : (start len : ℕ) → length_of (slice_of fixed.mode blob start len) ≡ length blob
+  long : (start len : ℕ) → length_of (slice_of fixed blob start len) ≡ length blob
   long start len = claimed-chosen_text (of_slice (length blob) start len) fixed.mode blob short
 
   present : (start len c : ℕ) → slice_start (length blob) start / 1024 ≤ c → c < (slice_end (length blob) start len + 1023) / 1024
-      → holds_chunk (slice_of fixed.mode blob start len) c ≡ true
+      → is_some (chunk_in (slice_text fixed.mode blob start len) (places_in (slice_of fixed blob start len)) c) ≡ true
   present start len c first last =
       let text = slice_text fixed.mode blob start len in
       let there = (slice_present (length blob) start len 8 c).1 (first, last) in
       let placed = subst (λ (total : ℕ). IsSome (chunk_place (places_of (nodes total start len)) c)) (sym (long start len)) there in
       subst (λ (o : Option (List ℕ)). IsSome o) (sym (chunk_in-place text (places_of (slice_nodes text start len)) c)) (some_mapped _ _ placed)
 
-  last_there : EndsBlob (slice_of fixed.mode blob (2 ^ 64 - 1) 1)
+  last_there : EndsBlob (slice_of fixed blob (2 ^ 64 - 1) 1)
   last_there =
       let n = length blob in
-      subst (λ (total : ℕ). holds_chunk (slice_of fixed.mode blob (2 ^ 64 - 1) 1) (chunk_count total - 1) ≡ true) (sym (long (2 ^ 64 - 1) 1))
+      subst (λ (total : ℕ). is_some (chunk_in (slice_text fixed.mode blob (2 ^ 64 - 1) 1) (places_in (slice_of fixed blob (2 ^ 64 - 1) 1)) (chunk_count total - 1)) ≡ true) (sym (long (2 ^ 64 - 1) 1))
       (present (2 ^ 64 - 1) 1 (chunk_count n - 1) (omega (arith, short)) (omega (arith, short)))
 
-  asked_there : (grain : Grain) (c start len : ℕ) → c < chunk_count (length blob) → IsAskedBy grain c start len → holds_chunk (slice_of fixed.mode blob start len) c ≡ true
-  asked_there ByGroup c start len below asked = present start len c (omega (arith, asked.0, below)) (omega (arith, asked.0, asked.1, below))
-  asked_there ByChunk c start len below asked = present start len c (omega (arith, asked.0, below)) (omega (arith, asked.0, asked.1, below))
+  -- the chunk of a store that begins with the blob's first chunk
+  counted : (start len c : ℕ) → fixed.base ≡ 0 → is_some (chunk_in (slice_text fixed.mode blob start len) (places_in (slice_of fixed blob start len)) c) ≡ true
+      → holds_chunk (slice_of fixed blob start len) c ≡ true
+  counted start len c first there =
+      let at : c ≡ fixed.base + c = omega (arith, first) in
+      subst (λ (n : ℕ). is_some (chunk_in (slice_text fixed.mode blob start len) (places_in (slice_of fixed blob start len)) n) ≡ true) at there
 
-pub served : (fixed : Fixed) (blob : List ℕ) → IsKeyed fixed.mode → IsBlob fixed blob → chunk_count (length blob) ≤ fixed.capacity → fixed.capacity ≤ 65536
+  asked_there : (grain : Grain) (c start len : ℕ) → fixed.base ≡ 0 → c < chunk_count (length blob) → IsAskedBy grain c start len → holds_chunk (slice_of fixed blob start len) c ≡ true
+  asked_there ByGroup c start len first below asked = counted start len c first (present start len c (omega (arith, asked.0, below)) (omega (arith, asked.0, asked.1, below)))
+  asked_there ByChunk c start len first below asked = counted start len c first (present start len c (omega (arith, asked.0, below)) (omega (arith, asked.0, asked.1, below)))
+
+pub served : (fixed : Fixed) (blob : List ℕ) → IsKeyed fixed.mode → IsBlob fixed blob → fixed.base ≡ 0 → chunk_count (length blob) ≤ fixed.capacity → fixed.capacity ≤ 65536
     → IsServed fixed blob
-served fixed blob keyed is room limit =
+served fixed blob keyed is first room limit =
     let short : length blob < 2 ^ 64 = omega (arith, room, limit) in
     record {
-      fits = omega (arith, room);
+      fits = has_room_of fixed (length blob) first (omega (arith, room));
       room = room;
       few = omega (arith, room, limit);
       accepted = λ start len.
@@ -56,5 +65,5 @@ served fixed blob keyed is room limit =
           (slice_accepted fixed.mode blob start len keyed short);
       claims = long fixed blob short;
       ends = last_there fixed blob short;
-      holds = λ grain c start len below asked. asked_there fixed blob short grain c start len below asked;
+      holds = λ grain c start len below asked. asked_there fixed blob short grain c start len first below asked;
     }

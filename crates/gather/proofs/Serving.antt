@@ -17,6 +17,7 @@ use Rattle.gather.specs.declared.report.Report.{Report}
 use Rattle.gather.specs.Large.{EndsTooFar}
 use Rattle.store_core.specs.declared.fixed.Fixed.{Fixed}
 use Rattle.store_core.specs.declared.history.Piece.{Piece}
+use Rattle.store_core.specs.Events.{has_room}
 use Rattle.store_core.specs.Masks.{IsMaskOf, has_bit, in_mask}
 use Rattle.store_core.specs.Pieces.{EndsBlob, length_of, piece_of}
 use Rattle.store_core.specs.Stores.{IsOf}
@@ -29,13 +30,13 @@ slice_good fixed known blob text start len served same is =
     (subst (λ (xs : List ℕ). IsAccepted fixed.mode fixed.root.0 xs (slice_nodes xs start len)) (sym is) (served.accepted start len))
 
 -- the piece that it is
-pub piece_is : (it : Checked) (mode : Mode) (root : List ℕ) (start len : ℕ) (text : List ℕ) → IsPiece it mode root start len text
-    → piece_of it ≡ record { start = start; len = len; text = text }
-piece_is it mode root start len text is = λ i. record { start = is.start_is i; len = is.len_is i; text = is.text_is i }
+pub piece_is : (base : ℕ) (it : Checked) (mode : Mode) (root : List ℕ) (start len : ℕ) (text : List ℕ) → IsPiece it mode root start len text
+    → piece_of base it ≡ record { base = base; start = start; len = len; text = text }
+piece_is base it mode root start len text is = λ i. record { base = base; start = is.start_is i; len = is.len_is i; text = is.text_is i }
 
 pub slice_is : (fixed : Fixed) (it : Checked) (mode : Mode) (root : List ℕ) (start len : ℕ) (blob text : List ℕ) → IsPiece it mode root start len text
-    → text ≡ slice_text fixed.mode blob start len → piece_of it ≡ slice_of fixed.mode blob start len
-slice_is fixed it mode root start len blob text is same = piece_is it mode root start len text is ∙ ap (λ (xs : List ℕ). record { start = start; len = len; text = xs }) same
+    → text ≡ slice_text fixed.mode blob start len → piece_of fixed.base it ≡ slice_of fixed blob start len
+slice_is fixed it mode root start len blob text is same = piece_is fixed.base it mode root start len text is ∙ ap (λ (xs : List ℕ). record { base = fixed.base; start = start; len = len; text = xs }) same
 
 -- it is of the store's root and mode
 pub is_of : (fixed known : Fixed) (it : Checked) (start len : ℕ) (text : List ℕ) → known ≡ fixed → IsPiece it known.mode known.root.0 start len text → IsOf fixed it
@@ -45,14 +46,14 @@ is_of fixed known it start len text same is = record {
 }
 
 -- the slice of the last byte has the last chunk
-pub holds_last : (fixed : Fixed) (it : Checked) (blob : List ℕ) → IsServed fixed blob → piece_of it ≡ slice_of fixed.mode blob (2 ^ 64 - 1) 1 → HoldsLast it
+pub holds_last : (fixed : Fixed) (it : Checked) (blob : List ℕ) → IsServed fixed blob → piece_of fixed.base it ≡ slice_of fixed blob (2 ^ 64 - 1) 1 → HoldsLast it
 holds_last fixed it blob served is = subst (λ (piece : Piece). EndsBlob piece) (sym is) served.ends
 
 -- and its length is never too large
-pub never_large : (fixed : Fixed) (piece : Piece) (blob : List ℕ) (start len : ℕ) → IsServed fixed blob → piece ≡ slice_of fixed.mode blob start len → EndsTooFar fixed piece → ⊥
+pub never_large : (fixed : Fixed) (piece : Piece) (blob : List ℕ) (start len : ℕ) → IsServed fixed blob → piece ≡ slice_of fixed blob start len → EndsTooFar fixed piece → ⊥
 never_large fixed piece blob start len served is large =
     let long : length_of piece ≡ length blob = ap (λ (p : Piece). length_of p) is ∙ served.claims start len in
-    omega (arith, long, large.above, served.fits)
+    both_ways _ large.above (ap (λ (l : ℕ). has_room fixed l) long ∙ served.fits)
 
 -- a fetch without a text is one that failed
 pub fetch_failed : (a b : ℕ) (x y : Report) → ((a < b) × (y ≡ failed_once (asked_once x))) ⊎ ((a ≤ b) × (y ≡ memory_once (asked_once x))) → HasFailed y

@@ -9,12 +9,13 @@ use Rattle.gather.specs.declared.grain.Grain.TheVariants.{Group as ByGroup, Chun
 use Rattle.gather.specs.Claims.{Among}
 use Rattle.store_core.specs.declared.fixed.Fixed.{Fixed}
 use Rattle.store_core.specs.declared.history.Piece.{Piece}
+use Rattle.store_core.specs.Events.{has_room}
 use Rattle.store_core.specs.Masks.{has_bit, in_mask}
 use Rattle.store_core.specs.Pieces.{EndsBlob, holds_chunk, length_of}
 
--- the slice of a blob, as a piece
-abbrev pub slice_of : Mode → List ℕ → ℕ → ℕ → Piece
-slice_of mode blob start len = record { start = start; len = len; text = slice_text mode blob start len }
+-- the slice of a blob, as a piece to a store
+abbrev pub slice_of : Fixed → List ℕ → ℕ → ℕ → Piece
+slice_of fixed blob start len = record { base = fixed.base; start = start; len = len; text = slice_text fixed.mode blob start len }
 
 -- the slice (start, len) that holders are asked for to come by a chunk: that of its group, or its own
 abbrev pub IsAskedBy : Grain → ℕ → ℕ → ℕ → Type 0
@@ -24,13 +25,13 @@ IsAskedBy ByChunk c start len = (start ≡ 1024 * c) × (len ≡ 1024)
 -- The slices of a blob, under a store's root and in its mode: each is accepted and claims the blob's length, for which
 -- the store has room; the one of the last byte has the last chunk; and the one that a chunk is asked for by has the chunk.
 pub record IsServed (fixed : Fixed) (blob : List ℕ) : Type 0 where
-  pub fits : length blob ≤ 1024 * fixed.capacity
+  pub fits : has_room fixed (length blob) ≡ true
   pub room : chunk_count (length blob) ≤ fixed.capacity
   pub few : chunk_count (length blob) ≤ 65536
   pub accepted : (start len : ℕ) → IsAccepted fixed.mode fixed.root.0 (slice_text fixed.mode blob start len) (slice_nodes (slice_text fixed.mode blob start len) start len)
-  pub claims : (start len : ℕ) → length_of (slice_of fixed.mode blob start len) ≡ length blob
-  pub ends : EndsBlob (slice_of fixed.mode blob (2 ^ 64 - 1) 1)
-  pub holds : (grain : Grain) (c start len : ℕ) → c < chunk_count (length blob) → IsAskedBy grain c start len → holds_chunk (slice_of fixed.mode blob start len) c ≡ true
+  pub claims : (start len : ℕ) → length_of (slice_of fixed blob start len) ≡ length blob
+  pub ends : EndsBlob (slice_of fixed blob (2 ^ 64 - 1) 1)
+  pub holds : (grain : Grain) (c start len : ℕ) → c < chunk_count (length blob) → IsAskedBy grain c start len → holds_chunk (slice_of fixed blob start len) c ≡ true
 
 -- what a holder gives as the slice (start, len) is the blob's
 abbrev pub GivesSlice : {H : Type 0} → (H → ℕ → ℕ → List ℕ → Type 0) → Mode → List ℕ → ℕ → ℕ → H → Type 0

@@ -76,7 +76,7 @@ IsChunk (Bare outline) c part = (part.start ≡ 1024 * c) × (part.len ≡ min 1
 
 -- the piece that is made of what was given for a part
 abbrev pub IsMade : Form → Part → List ℕ → Piece → Type 0
-IsMade Slices part text piece = piece ≡ record { start = part.start; len = part.len; text = text }
+IsMade Slices part text piece = (piece.start ≡ part.start) × (piece.len ≡ part.len) × (piece.text ≡ text)
 IsMade (Bare outline) part text piece =
     (piece.start ≡ part.start) × (part.len ≡ bare_len (outline_claimed outline.now) piece.start piece.len) × (piece.text ≡ beside_text (outline_text outline.now) piece.start piece.len text)
 

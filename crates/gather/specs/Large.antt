@@ -1,17 +1,18 @@
 -- Blobs and the pieces that are accepted under their roots.
-use Rattle.std.specs.Prelude.{◌≡◌, ◌⊎◌, ℕ, ◌*◌, ◌<◌, List, length}
+use Rattle.std.specs.Prelude.{◌≡◌, ◌⊎◌, ℕ, false, List, length}
 use Rattle.b3tree.specs.declared.mode.Mode.{Mode}
 use Rattle.b3tree.specs.declared.values.Hash.{Hash}
 use Rattle.store_core.specs.declared.fixed.Fixed.{Fixed}
 use Rattle.store_core.specs.declared.history.Piece.{Piece}
+use Rattle.store_core.specs.Events.{has_room}
 use Rattle.store_core.specs.Laws.{IsBlob, CollidesWith}
 use Rattle.store_core.specs.Pieces.{EndsBlob, IsAcceptedPiece, length_of}
 
--- an accepted piece certifies a length that is above what the store has room for
+-- an accepted piece certifies a length that the store has no room for
 pub record EndsTooFar (fixed : Fixed) (piece : Piece) : Type 0 where
   pub accepted : IsAcceptedPiece fixed piece
   pub ends : EndsBlob piece
-  pub above : 1024 * fixed.capacity < length_of piece
+  pub above : has_room fixed (length_of piece) ≡ false
 
 -- one of the pieces that were handed over does
 pub record IsTooLarge (handed : Piece → Type 0) (fixed : Fixed) : Type 0 where
@@ -27,9 +28,9 @@ pub record HasCollision (handed : Piece → Type 0) (fixed : Fixed) (blob : List
   pub accepted : IsAcceptedPiece fixed piece
   pub pair : CollidesWith fixed blob piece
 
--- each blob with the root is longer than what the store has room for, or a collision is exhibited
+-- the store has no room for any blob with the root, or a collision is exhibited
 abbrev pub AreLonger : (Piece → Type 0) → Fixed → Type 0
-AreLonger handed fixed = (blob : List ℕ) → IsBlob fixed blob → (1024 * fixed.capacity < length blob) ⊎ HasCollision handed fixed blob
+AreLonger handed fixed = (blob : List ℕ) → IsBlob fixed blob → (has_room fixed (length blob) ≡ false) ⊎ HasCollision handed fixed blob
 
 -- there is no blob with the root, or a collision is exhibited
 abbrev pub IsOfNone : (Piece → Type 0) → Fixed → Type 0
@@ -39,6 +40,6 @@ IsOfNone handed fixed = (blob : List ℕ) → IsBlob fixed blob → HasCollision
 abbrev pub AreTheBlob : (Piece → Type 0) → Fixed → List ℕ → Type 0
 AreTheBlob handed fixed bytes = (blob : List ℕ) → IsBlob fixed blob → (bytes ≡ blob) ⊎ HasCollision handed fixed blob
 
--- a store's root, mode and capacity
+-- a store's root, mode and capacity, from the blob's first chunk on
 abbrev pub fixed_as : Hash → Mode → ℕ → Fixed
-fixed_as root mode capacity = record { root = root; mode = mode; capacity = capacity }
+fixed_as root mode capacity = record { root = root; mode = mode; capacity = capacity; base = 0 }

@@ -1,5 +1,5 @@
 -- What a worker alone does to a one-thread store: a history of its own calls, each legal in turn.
-use Rattle.std.specs.Prelude.{◌≡◌, ◌⊎◌, Some, ℕ, ◌-◌, ◌^◌, min, Bool, List, count_ones}
+use Rattle.std.specs.Prelude.{◌+◌, ◌≡◌, ◌⊎◌, Some, ℕ, ◌-◌, ◌^◌, min, Bool, List, count_ones}
 use Rattle.std.specs.List.{AllByRecursion, sum_by}
 use Rattle.store_core.specs.declared.history.Call.{Call}
 use Rattle.store_core.specs.declared.history.Call.TheVariants.{Take, Give, Commit, Settle, Read, Length, Parents, Serve}
@@ -74,11 +74,11 @@ abbrev pub AddsCertified : (Piece → Type 0) → Store → Store → Type 0
 AddsCertified handed old new = (c : ℕ) (bytes : List ℕ) → (state_of new).held c ≡ Some bytes
     → ((state_of old).held c ≡ Some bytes) ⊎ IsCertified handed (fixed_of old) c bytes
 
--- Each chunk stored is the one of that number of each blob with the root, or a collision is exhibited from that blob and from
+-- Each chunk stored is the one of that number, counted from the store's first, of each blob with the root, or a collision is exhibited from that blob and from
 -- the piece that the chunk comes from.
 abbrev pub AddsBlobs : (Piece → Type 0) → Store → Store → Type 0
 AddsBlobs handed old new = (blob : List ℕ) → IsBlob (fixed_of old) blob → (c : ℕ) (bytes : List ℕ) → (state_of new).held c ≡ Some bytes
-    → ((state_of old).held c ≡ Some bytes) ⊎ (chunk_of blob c ≡ Some bytes) ⊎ ((from : IsCertified handed (fixed_of old) c bytes) × CollidesWith (fixed_of old) blob from.piece)
+    → ((state_of old).held c ≡ Some bytes) ⊎ (chunk_of blob ((fixed_of old).base + c) ≡ Some bytes) ⊎ ((from : IsCertified handed (fixed_of old) c bytes) × CollidesWith (fixed_of old) blob from.piece)
 
 -- Calls of the worker, each with the right reply where it stands, lead from one state of a store to the other, and
 -- store so many chunks and parents. They are of accepted pieces alone, which were handed over: nothing is stored that the

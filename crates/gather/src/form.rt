@@ -1,4 +1,4 @@
-ghost use Rattle.std.specs.Prelude.{IsTrue, IfOk, ◌↔◌, ◌<◌};
+ghost use Rattle.std.specs.Prelude.{ℕ, IsTrue, IfOk, ◌↔◌, ◌<◌};
 ghost use Rattle.gather.specs.Forms.{HasChunk, HasGroup, IsChunk, IsEnd, IsGroup, IsLengthOf, IsMade, IsPart, IsSliceCheck};
 ghost use Rattle.store_core.specs.Pieces.{piece_of};
 
@@ -107,7 +107,7 @@ impl Form<'_> {
         text: &'b [u8],
     ) -> Result<Checked<'b>, CheckFault>
         requires { IsPart self.now part.now }
-        ensures made { IfOk result (λ piece. IsMade self.now part.now text.now (piece_of piece)) }
+        ensures made { IfOk result (λ piece. (base : ℕ) → IsMade self.now part.now text.now (piece_of base piece)) }
         ensures slice { IsSliceCheck self.now fixed.now part.now text.now result }
     {
         match self {

@@ -106,17 +106,18 @@ impl Shelf for Alone {
 ///
 /// What the worker did is a history of its own calls, each with the right reply in its turn, of pieces that its holders
 /// may have given: so what is stored comes from such encodings, accepted under the store's root. For each blob with that
-/// root, each chunk stored is the blob's of that number, or a collision is exhibited, two different inputs with one chaining value, one
-/// of the blob's and one of that encoding's. No claim is left that the worker took.
+/// root, each chunk stored is the blob's of that number, counted from the store's first, or a collision is exhibited, two different
+/// inputs with one chaining value, one of the blob's and one of that encoding's. No claim is left that the worker took.
 ///
-/// It is enough that, of a blob with the root for which the store has room, one of the holders gives the slice of the last
-/// byte, and for each group of its chunks one gives the group's slice, whatever they give as other slices. Where neither
-/// memory was refused nor a device failed, nor an accepted encoding certifies a length that is too large, a length is recorded
-/// then, and if it is that blob's, each of its chunks is held, or was claimed by somebody before.
+/// The worker asks for the groups of a whole blob, so the store has to be of one: its base is 0. Then it is enough that, of a blob
+/// with the root for which the store has room, one of the holders gives the slice of the last byte, and for each group of its
+/// chunks one gives the group's slice, whatever they give as other slices. Where neither memory was refused nor a device failed,
+/// nor an accepted encoding certifies a length that is too large, a length is recorded then, and if it is that blob's, each of
+/// its chunks is held, or was claimed by somebody before.
 ///
 /// The report's `committed` is the number of chunks stored and `parents` that of parents, `failed` is at most what
-/// the holders' counts rose together, and `too_large` is set only where an accepted encoding certifies a length above
-/// what the store has room for: each blob with the root is then longer, or such a collision is exhibited.
+/// the holders' counts rose together, and `too_large` is set only where an accepted encoding certifies a length
+/// for which the store has no room: it has none then for any blob with the root, or such a collision is exhibited.
 pub fn run_one<H: Holder>(alloc: Global, store: &mut Store, holders: &mut [H]) -> Report
     ensures worked { Gains (IsHanded H.gives holders.old) store.old store.new result }
     ensures certified { AddsCertified (IsHanded H.gives holders.old) store.old store.new }
@@ -127,7 +128,7 @@ pub fn run_one<H: Holder>(alloc: Global, store: &mut Store, holders: &mut [H]) -
     ensures answered { IsAnswered result }
     ensures too_large { IsTrue result.too_large → IsTooLarge (IsHanded H.gives holders.old) (fixed_of store.old) }
     ensures longer { IsTrue result.too_large → AreLonger (IsHanded H.gives holders.old) (fixed_of store.old) }
-    ensures available { (blob : List ℕ) → IsBlob (fixed_of store.old) blob → chunk_count (length blob) ≤ (fixed_of store.old).capacity
+    ensures available { (blob : List ℕ) → IsBlob (fixed_of store.old) blob → (fixed_of store.old).base ≡ 0 → chunk_count (length blob) ≤ (fixed_of store.old).capacity
         → HaveSlices ByGroup H.gives (fixed_of store.old).mode blob holders.old
         → HasFailed result ⊎ IsTooLarge (IsHanded H.gives holders.old) (fixed_of store.old) ⊎ IsFilled Records HoldsChunk IsBusy store.old store.new blob }
 {

@@ -55,7 +55,7 @@ pub(crate) fn store_parents<S: Shelf>(
 )
     requires { S.has shelf.now seat.old }
     ensures has { S.has shelf.now seat.new }
-    ensures reports { Reports S.fixed_of S.gained seat.old seat.new (IsIt (piece_of piece.now)) (IsIt (piece_of piece.now)) 0 0 report.old report.new }
+    ensures reports { Reports S.fixed_of S.gained seat.old seat.new (IsIt (piece_of (S.fixed_of seat.old).base piece.now)) (IsIt (piece_of (S.fixed_of seat.old).base piece.now)) 0 0 report.old report.new }
     ensures claims { Among (S.claims seat.old) (S.claims seat.new) }
     ensures keeps { Keeps (S.claims seat.old) (S.claims seat.new) }
 {

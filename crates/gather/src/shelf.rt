@@ -27,7 +27,7 @@ pub trait Shelf {
     // The seat is one of this store.
     ghost has: { Self → Self.Seat → Type 0 };
 
-    // The root and the mode of the store's blob, and how many chunks it has room for.
+    // The root and the mode of the store's blob, how many chunks it has room for, and from which of the blob's on.
     ghost fixed_of: { Self.Seat → fixed.Fixed };
 
     // Which chunks the seat claims, by number.
@@ -52,7 +52,7 @@ pub trait Shelf {
     // What is known lasts.
     ghost lasts: { Lasts gained claims records holds busy };
 
-    /// The root and the mode of the store's blob, and how many chunks it has room for.
+    /// The root and the mode of the store's blob, how many chunks it has room for, and from which of the blob's on.
     fn fixed(&self, seat: &Self::Seat) -> Fixed
         requires { has self.now seat.now }
         ensures { result ≡ fixed_of seat.now };
@@ -88,10 +88,10 @@ pub trait Shelf {
     ) -> Result<u64, StoreFault>
         requires { has self.now seat.old }
         ensures has { has self.now seat.new }
-        ensures gained { MatchResult result (λ committed. gained (IsIt (piece_of piece.now)) seat.old seat.new (count_ones committed) 0) (λ _. gained (IsIt (piece_of piece.now)) seat.old seat.new 0 0) }
+        ensures gained { MatchResult result (λ committed. gained (IsIt (piece_of (fixed_of seat.old).base piece.now)) seat.old seat.new (count_ones committed) 0) (λ _. gained (IsIt (piece_of (fixed_of seat.old).base piece.now)) seat.old seat.new 0 0) }
         ensures claims { MatchResult result (λ committed. Without (claims seat.old) group committed (claims seat.new)) (λ _. Among (claims seat.old) (claims seat.new)) }
         ensures keeps { MatchResult result (λ committed. KeepsBut group committed (claims seat.old) (claims seat.new)) (λ _. Keeps (claims seat.old) (claims seat.new)) }
-        ensures all { IfOk result (λ committed. (c : ℕ) → c / 64 ≡ group → claims seat.old c ≡ true → holds_chunk (piece_of piece.now) c ≡ true → in_mask group committed c ≡ true) }
+        ensures all { IfOk result (λ committed. (c : ℕ) → c / 64 ≡ group → claims seat.old c ≡ true → holds_chunk (piece_of (fixed_of seat.old).base piece.now) c ≡ true → in_mask group committed c ≡ true) }
         ensures held { IfOk result (λ committed. (c : ℕ) → in_mask group committed c ≡ true → holds seat.new c) }
         ensures refused { IfErr result (λ fault. (fault ≡ Memory) ⊎ (¬ IsOf (fixed_of seat.old) piece.now)) };
 
@@ -108,7 +108,7 @@ pub trait Shelf {
     ) -> Result<u64, StoreFault>
         requires { has self.now seat.old }
         ensures has { has self.now seat.new }
-        ensures gained { MatchResult result (λ stored. gained (IsIt (piece_of piece.now)) seat.old seat.new 0 (count_ones stored)) (λ _. gained (IsIt (piece_of piece.now)) seat.old seat.new 0 0) }
+        ensures gained { MatchResult result (λ stored. gained (IsIt (piece_of (fixed_of seat.old).base piece.now)) seat.old seat.new 0 (count_ones stored)) (λ _. gained (IsIt (piece_of (fixed_of seat.old).base piece.now)) seat.old seat.new 0 0) }
         ensures claims { Among (claims seat.old) (claims seat.new) }
         ensures keeps { Keeps (claims seat.old) (claims seat.new) };
 
@@ -116,8 +116,8 @@ pub trait Shelf {
     fn settle(&self, seat: &mut Self::Seat, tail: &Tail<'_>) -> Settling
         requires { has self.now seat.old }
         ensures has { has self.now seat.new }
-        ensures still { Still (gained (IsIt (piece_of (tail_piece tail.now)))) claims seat.old seat.new }
-        ensures large { result ≡ TooLarge → EndsTooFar (fixed_of seat.old) (piece_of (tail_piece tail.now)) }
+        ensures still { Still (gained (IsIt (piece_of (fixed_of seat.old).base (tail_piece tail.now)))) claims seat.old seat.new }
+        ensures large { result ≡ TooLarge → EndsTooFar (fixed_of seat.old) (piece_of (fixed_of seat.old).base (tail_piece tail.now)) }
         ensures other { result ≡ OtherRoot → ¬ IsOf (fixed_of seat.old) (tail_piece tail.now) }
         ensures records { result ≢ TooLarge → result ≢ OtherRoot → (l : ℕ) × records seat.new l };
 

@@ -165,7 +165,7 @@ fn ask<S: Shelf, H: Holder>(
     ensures kept { (c : ℕ) → in_mask group left c ≡ true → S.claims seat.old c ≡ true
         → ((in_mask group result c ≡ true) × (S.claims seat.new c ≡ true)) ⊎ ((in_mask group result c ≡ false) × S.holds seat.new c) }
     ensures served { AreSlices form.now → (blob : List ℕ) → IsServed (S.fixed_of seat.old) blob → GivesSlice (made_of form.now H.gives) (S.fixed_of seat.old).mode blob part.now.start part.now.len holder.old
-        → ((c : ℕ) → in_mask group left c ≡ true → (S.claims seat.old c ≡ true) × (holds_chunk (slice_of (S.fixed_of seat.old).mode blob part.now.start part.now.len) c ≡ true))
+        → ((c : ℕ) → in_mask group left c ≡ true → (S.claims seat.old c ≡ true) × (holds_chunk (slice_of (S.fixed_of seat.old) blob part.now.start part.now.len) c ≡ true))
         → HasFailed report.new ⊎ ((c : ℕ) → in_mask group result c ≡ false) }
 {
     let Some(text) = fetched(holder, part, room, report) else {
@@ -216,7 +216,7 @@ pub(crate) fn work_part<S: Shelf, H: Holder>(
     ensures later { AreLater (made_of form.now H.gives) holders.old holders.new }
     ensures claims { Among (S.claims seat.old) (S.claims seat.new) }
     ensures served { AreSlices form.now → (blob : List ℕ) → IsServed (S.fixed_of seat.old) blob → HasSlice (made_of form.now H.gives) (S.fixed_of seat.old).mode blob part.now.start part.now.len holders.old
-        → ((c : ℕ) → IsWanted group want c → (c < chunk_count (length blob)) × (holds_chunk (slice_of (S.fixed_of seat.old).mode blob part.now.start part.now.len) c ≡ true))
+        → ((c : ℕ) → IsWanted group want c → (c < chunk_count (length blob)) × (holds_chunk (slice_of (S.fixed_of seat.old) blob part.now.start part.now.len) c ≡ true))
         → HasFailed report.new ⊎ ((c : ℕ) → IsWanted group want c → S.holds seat.new c ⊎ S.busy seat.old c) }
 {
     report.fits();

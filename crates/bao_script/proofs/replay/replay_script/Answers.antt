@@ -39,7 +39,7 @@ named mode root files lines script cut slices pieces given lines_are slices_are 
 pub returns-clause-printed : goal.returns-clause-printed
 returns-clause-printed c =
     let lines = c.lines-lines.ensures in
-    let fixed : Fixed = record { root = c.args.root; mode = c.args.mode; capacity = c.args.capacity } in
+    let fixed : Fixed = record { root = c.args.root; mode = c.args.mode; capacity = c.args.capacity; base = 0 } in
     let files : List (List ℕ) = map (λ file. file.items) c.args.files.now in
     let pieces = named c.args.mode c.args.root.0 files c.lines-lines.result.now c.args.script.now c.as_slice.result.now c.in_ok-slices.slices.items c.in_ok-pieces.pieces.items c.as_slice-2.result.now
     lines c.in_ok-slices.ensures.ok c.as_slice.ensures.value c.as_slice-2.ensures.value c.in_ok-pieces.ensures.pieces
@@ -55,7 +55,7 @@ returns-clause-printed c =
 pub returns-in_err-run_lines-clause-illegal : goal.returns-in_err-run_lines-clause-illegal
 returns-in_err-run_lines-clause-illegal c = λ number h.
     let lines = c.lines-lines.ensures in
-    let fixed : Fixed = record { root = c.args.root; mode = c.args.mode; capacity = c.args.capacity } in
+    let fixed : Fixed = record { root = c.args.root; mode = c.args.mode; capacity = c.args.capacity; base = 0 } in
     let files : List (List ℕ) = map (λ file. file.items) c.args.files.now in
     let pieces = named c.args.mode c.args.root.0 files c.lines-lines.result.now c.args.script.now c.as_slice.result.now c.in_ok-slices.slices.items c.in_ok-pieces.pieces.items c.as_slice-2.result.now
     lines c.in_ok-slices.ensures.ok c.as_slice.ensures.value c.as_slice-2.ensures.value c.in_ok-pieces.ensures.pieces

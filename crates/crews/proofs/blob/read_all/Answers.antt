@@ -1,6 +1,8 @@
 use Rattle.std.proofs.Common.{◌≡◌, ◌*◌, ◌≤◌, ℕ, List, length, ap, arith, inl, inr, subst, sym}
 use Rattle.std.proofs.lemmas.List.{with_items_is}
-use Rattle.crews.proofs.Finishing.{asks_both, length_there, read_lacks, read_whole, recorded_fits, recorded_then}
+use Rattle.store_core.proofs.HasRoom.{recorded_fits}
+use Rattle.store_shared.proofs.Asking.{length_there}
+use Rattle.crews.proofs.Finishing.{asks_both, read_lacks, read_whole, recorded_then}
 use Rattle.crews.proofs.blob.read_all.Goals as goal
 use Rattle.gather.proofs.Finishing.{no_none}
 use Rattle.gather.specs.Finished.{IsWhole}
@@ -46,7 +48,7 @@ returns-clause-fits c =
     let legal : IsLegal (fixed_of c.args.assembly.now) c.read.new.seat.view.seen =
     subst (λ (fixed : Fixed). IsLegal fixed c.read.new.seat.view.seen) c.in_ok-read.ensures.of.knows.fixed_is c.in_ok-read.ensures.of.knows.legal in
     subst (λ (xs : List ℕ). length xs ≤ 1024 * (fixed_of c.args.assembly.now).capacity) (sym put)
-    (recorded_fits (fixed_of c.args.assembly.now) c.read.new.seat.view.seen c.read.new.out legal whole)
+    (recorded_fits (fixed_of c.args.assembly.now) c.read.new.seat.view.seen (length c.read.new.out) legal whole.recorded)
 
 pub returns-clause-no_length : goal.returns-clause-no_length
 returns-clause-no_length c = λ none.

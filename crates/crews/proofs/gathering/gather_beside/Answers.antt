@@ -23,7 +23,7 @@ returns-in_err-assembly g c =
 pub returns-in_err-crews : goal.returns-in_err-crews
 returns-in_err-crews g c =
     let is : fixed_of c.in_ok-assembly.assembly ≡ fixed_beside c.args.outline.now c.args.capacity =
-    c.in_ok-assembly.ensures.fixed ∙ (λ i. record { root = record { 0 = c.root.ensures i }; mode = c.mode.ensures i; capacity = c.args.capacity }) in
+    c.in_ok-assembly.ensures.fixed ∙ (λ i. record { root = record { 0 = c.root.ensures i }; mode = c.mode.ensures i; capacity = c.args.capacity; base = 0 }) in
     subst (λ (f : Fixed). Certifies own_bytes f c.from_residual-in_err-crews.result) is
     (memory_passed own_bytes (fixed_of c.in_ok-assembly.assembly) c.from_residual-in_err-crews.result c.in_err-crews.field-0.0 c.from_residual-in_err-crews.ensures.1
     c.in_ok-assembly.assembly.words.some c.in_ok-assembly.assembly.words.limit
@@ -35,7 +35,7 @@ returns-in_err-crews g c =
 pub returns-in_err-salvage_beside : goal.returns-in_err-salvage_beside
 returns-in_err-salvage_beside g c =
     let is : fixed_of c.in_ok-assembly.assembly ≡ fixed_beside c.args.outline.now c.args.capacity =
-    c.in_ok-assembly.ensures.fixed ∙ (λ i. record { root = record { 0 = c.root.ensures i }; mode = c.mode.ensures i; capacity = c.args.capacity }) in
+    c.in_ok-assembly.ensures.fixed ∙ (λ i. record { root = record { 0 = c.root.ensures i }; mode = c.mode.ensures i; capacity = c.args.capacity; base = 0 }) in
     subst (λ (f : Fixed). Certifies own_bytes f c.from_residual-in_err-salvage_beside.result) is
     (memory_passed own_bytes (fixed_of c.in_ok-assembly.assembly) c.from_residual-in_err-salvage_beside.result c.in_err-salvage_beside.field-0.0
     c.from_residual-in_err-salvage_beside.ensures.1 c.in_ok-assembly.assembly.words.some c.in_ok-assembly.assembly.words.limit
@@ -46,7 +46,7 @@ returns-in-Ok g c =
     let made : Fixed = fixed_of c.in_ok-assembly.assembly in
     let s = state_after c.certify-ended.result.1.view.seen in
     let is : made ≡ fixed_beside c.args.outline.now c.args.capacity =
-    c.in_ok-assembly.ensures.fixed ∙ (λ i. record { root = record { 0 = c.root.ensures i }; mode = c.mode.ensures i; capacity = c.args.capacity }) in
+    c.in_ok-assembly.ensures.fixed ∙ (λ i. record { root = record { 0 = c.root.ensures i }; mode = c.mode.ensures i; capacity = c.args.capacity; base = 0 }) in
     let done : IsFinished made s (read_bytes s 0 c.in-Ok.len) =
     subst (λ (r : Result ℕ FinishFault). IfOk r (λ (len : ℕ). IsFinished made s (read_bytes s 0 len))) c.in-Ok.is c.certify-ended.ensures.finished in
     subst (λ (f : Fixed). Certifies own_bytes f (Ok c.new.result)) is
@@ -58,7 +58,7 @@ pub returns-in-Err : goal.returns-in-Err
 returns-in-Err g c =
     let made : Fixed = fixed_of c.in_ok-assembly.assembly in
     let is : made ≡ fixed_beside c.args.outline.now c.args.capacity =
-    c.in_ok-assembly.ensures.fixed ∙ (λ i. record { root = record { 0 = c.root.ensures i }; mode = c.mode.ensures i; capacity = c.args.capacity }) in
+    c.in_ok-assembly.ensures.fixed ∙ (λ i. record { root = record { 0 = c.root.ensures i }; mode = c.mode.ensures i; capacity = c.args.capacity; base = 0 }) in
     subst (λ (f : Fixed). Certifies own_bytes f (Err c.why.result)) is
     (subst (λ (fault : GatherFault). Certifies own_bytes made (Err fault)) (sym c.why.ensures)
     (why_certifies own_bytes made c.in_ok-assembly.assembly.words.some c.in_ok-assembly.assembly.words.limit c.in-Err.fault c.salvage_beside.new.report))

@@ -70,4 +70,5 @@ pub returns-clause-available : goal.returns-clause-available
 returns-clause-available g c =
     let handed : Piece → Type 0 = IsLent g.H.Holder.gives (g.L.Lists.over c.args.lists.now) in
     subst (λ (f : Fixed). (blob : List ℕ) → IsBlob f blob → chunk_count (length blob) ≤ f.capacity → HaveAll c.args.grain g.H.Holder.gives (g.L.Lists.over c.args.lists.now) f.mode blob
-    → IsHandedOut own_bytes handed f blob c.hand_out.result) c.in_ok-assembly.ensures.fixed c.hand_out.ensures.available
+    → IsHandedOut own_bytes handed f blob c.hand_out.result) c.in_ok-assembly.ensures.fixed
+    (λ blob is room have. c.hand_out.ensures.available blob is (ap (λ (f : Fixed). f.base) c.in_ok-assembly.ensures.fixed) room have)

@@ -64,7 +64,7 @@ returns-in-Ok-ended-clause-gathers g c =
     c.certify-ended.ensures.on c.look_round.ensures.looked) binds))
 
 pub returns-in-Ok-ended-clause-available : goal.returns-in-Ok-ended-clause-available
-returns-in-Ok-ended-clause-available g c = λ blob is room there. (returns-in-Ok-ended-clause-gathers g c).found blob is
+returns-in-Ok-ended-clause-available g c = λ blob is first room there. (returns-in-Ok-ended-clause-gathers g c).found blob is
 
 pub returns-in-Err-ended-clause-gathers : goal.returns-in-Err-ended-clause-gathers
 returns-in-Err-ended-clause-gathers g c =
@@ -91,7 +91,7 @@ returns-in-Err-ended-clause-gathers g c =
     (λ e blob is. pair_of handed fixed c.certify-ended.result.1.view.seen blob from (c.certify-ended.ensures.binds.none (told finishing.NotTheRoot e) blob is)))
 
 pub returns-in-Err-ended-clause-available : goal.returns-in-Err-ended-clause-available
-returns-in-Err-ended-clause-available g c = λ blob is room there.
+returns-in-Err-ended-clause-available g c = λ blob is first room there.
     let gives = g.H.Holder.gives in
     let handed : Piece → Type 0 = IsLent gives (g.L.Lists.over c.args.lists.now) in
     let fixed : Fixed = fixed_of c.args.assembly in
@@ -113,6 +113,6 @@ returns-in-Err-ended-clause-available g c = λ blob is room there.
     c.certify-ended.ensures.on c.look_round.ensures.looked) (c.certify-ended.ensures.binds.none (told finishing.NotTheRoot e) blob is))
     (λ e. unfinished_handed _ gives g.H.Holder.count handed fixed c.args.seat c.closing_rounds.new.seat c.certify-ended.result.1.view c.look_round.new.seat.view holders
     c.closing_rounds.new.holders c.args.report c.closing_rounds.new.report wide c.requires.of.knows.fixed_is met.of.knows.fixed_is c.requires.left met.reports met.alone
-    c.certify-ended.ensures.on c.look_round.ensures.looked c.args.grain blob c.requires.quiet keyed is room c.args.assembly.words.limit
+    c.certify-ended.ensures.on c.look_round.ensures.looked c.args.grain blob c.requires.quiet keyed is first room c.args.assembly.words.limit
     (there holders are (omega (arith, room, c.args.assembly.words.limit))) legal c.requires.failed c.requires.large
     (λ slices has. met.served blob slices has) (c.certify-ended.ensures.unfinished (told finishing.Unfinished e))))

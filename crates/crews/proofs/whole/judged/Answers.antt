@@ -1,8 +1,8 @@
-use Rattle.std.proofs.Common.{◌≡◌, arith, refl, subst, ◌∙◌}
+use Rattle.std.proofs.Common.{length, ◌≡◌, arith, refl, subst, ◌∙◌}
 use Rattle.std.specs.Prelude.{IsErrOf, OnOk, Result}
 use Rattle.b3tree.specs.Hashing.{hash, root_hash, rooted}
 use Rattle.b3tree.specs.Valid.{IsKeyed}
-use Rattle.crews.proofs.Finishing.{recorded_fits}
+use Rattle.store_core.proofs.HasRoom.{recorded_fits}
 use Rattle.crews.proofs.Rereading.{full_whole, top_judged}
 use Rattle.crews.proofs.whole.judged.Goals as goal
 use Rattle.gather.proofs.Finishing.{binds_found, judged_fault, verdict_binds}
@@ -48,7 +48,7 @@ returns-clause-finished c =
     record {
       whole = whole;
       root = subst (λ (r : Result Unit FinishFault). OnOk r (hash fixed.mode (read_bytes s 0 c.args.len) ≡ fixed.root.0)) c.in_ok-judge.was judged.root;
-      fits = recorded_fits fixed c.args.seat.now.view.seen (read_bytes s 0 c.args.len) legal whole;
+      fits = recorded_fits fixed c.args.seat.now.view.seen (length (read_bytes s 0 c.args.len)) legal whole.recorded;
     }
 
 pub returns-clause-binds : goal.returns-clause-binds

@@ -49,9 +49,9 @@ returns-clause-too_large g c = λ large.
     ]
 
 pub returns-clause-available : goal.returns-clause-available
-returns-clause-available g c = λ blob is room has.
+returns-clause-available g c = λ blob is first room has.
     let keyed = subst (λ (fixed : Fixed). IsKeyed fixed.mode) c.fixed-fixed.ensures c.is_keyed.ensures in
-    let slices = served (fixed_of c.args.store.now) blob keyed is room c.args.store.now.limit in
+    let slices = served (fixed_of c.args.store.now) blob keyed is first room c.args.store.now.limit in
     let second = c.work-2.ensures.reports in
     elim (c.work.ensures.served blob slices has) [
       | inl failed ↦ inl (fails_on c.work.new.report c.work-2.new.report second.no_less failed)

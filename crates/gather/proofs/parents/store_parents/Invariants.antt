@@ -8,7 +8,7 @@ use Rattle.gather.proofs.parents.store_parents.Given as goal
 
 abbrev pub invariant-loop-group : goal.invariant-loop-group
 invariant-loop-group g l = g.S.Shelf.has l.shelf l.seat
-    × Reports g.S.Shelf.fixed_of g.S.Shelf.gained l.fn.seat l.seat (IsIt (piece_of l.piece)) (IsIt (piece_of l.piece)) 0 0 l.fn.report l.report
+    × Reports g.S.Shelf.fixed_of g.S.Shelf.gained l.fn.seat l.seat (IsIt (piece_of (g.S.Shelf.fixed_of l.fn.seat).base l.piece)) (IsIt (piece_of (g.S.Shelf.fixed_of l.fn.seat).base l.piece)) 0 0 l.fn.report l.report
     × Among (g.S.Shelf.claims l.fn.seat) (g.S.Shelf.claims l.seat)
     × Keeps (g.S.Shelf.claims l.fn.seat) (g.S.Shelf.claims l.seat)
 

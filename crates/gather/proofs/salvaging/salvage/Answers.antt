@@ -62,7 +62,7 @@ loop-chunk-preserved g c = (
       elim (met.served are blob here (now.each at part.start part.len below asked) (λ n wanted.
       let one : n ≡ at = wanted_one at _ _ n (omega arith) c.with_bit-want.ensures.others wanted in (
         omega (arith, one, below),
-        subst (λ (k : ℕ). holds_chunk (slice_of (g.S.Shelf.fixed_of x.seat).mode blob part.start part.len) k ≡ true) (sym one) (here.holds ByChunk at part.start part.len below asked),
+        subst (λ (k : ℕ). holds_chunk (slice_of (g.S.Shelf.fixed_of x.seat) blob part.start part.len) k ≡ true) (sym one) (here.holds ByChunk at part.start part.len below asked),
       ))) [
         | inl failed ↦ inl failed
         | inr filled ↦ elim (x.invariant.4 are blob served has long) [

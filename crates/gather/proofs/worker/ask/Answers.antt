@@ -33,7 +33,7 @@ returns-in_default-clause-reports g c =
 pub returns-in-Ok-commit-clause-reports : goal.returns-in-Ok-commit-clause-reports
 returns-in-Ok-commit-clause-reports g c =
     let A = IsGiven (made_of c.args.form.now g.H.Holder.gives) c.args.holder.now in
-    let given : A (piece_of c.in-Ok.piece) = made_given c.args.form.now g.H.Holder.gives c.args.holder.now c.args.part.now c.as_slice.result.now _ (piece_of c.in-Ok.piece) c.as_slice.ensures.value c.in-Some.ensures.gives c.in-Ok.ensures.made in
+    let given : A (piece_of (g.S.Shelf.fixed_of c.args.seat.now).base c.in-Ok.piece) = made_given c.args.form.now g.H.Holder.gives c.args.holder.now c.args.part.now c.as_slice.result.now _ (piece_of (g.S.Shelf.fixed_of c.args.seat.now).base c.in-Ok.piece) c.as_slice.ensures.value c.in-Some.ensures.gives (c.in-Ok.ensures.made _) in
     let y = c.fetched.new.report in
     let asked = fetch_some g.S.Shelf.fixed_of g.S.Shelf.gained g.S.Shelf.goes _ _ A A _ _ _ y (none_gained g.S.Shelf.fixed_of g.S.Shelf.gained g.S.Shelf.goes A c.args.seat.now) (λ piece is. is) c.in-Some.ensures.fits c.in-Some.ensures.fetch in
     let fits : Fits y = subst (λ (x : Report). Fits x) (sym c.in-Some.ensures.fetch.1) c.in-Some.ensures.fits in
@@ -67,7 +67,7 @@ pub returns-in-Ok-commit-clause-served : goal.returns-in-Ok-commit-clause-served
 returns-in-Ok-commit-clause-served g c = λ are blob served slices asked.
     let F = g.S.Shelf.fixed_of c.args.seat.now in
     let text = slice_given c.args.form.now g.H.Holder.gives F.mode blob c.args.holder.now c.args.part.now c.as_slice.result.now _ are slices c.as_slice.ensures.value c.in-Some.ensures.gives in
-    let is : piece_of c.in-Ok.piece ≡ slice_of F.mode blob c.args.part.now.start c.args.part.now.len =
+    let is : piece_of (g.S.Shelf.fixed_of c.args.seat.now).base c.in-Ok.piece ≡ slice_of F blob c.args.part.now.start c.args.part.now.len =
     slice_made c.args.form.now F _ c.args.part.now _ c.in-Ok.piece blob _ _ are refl refl text c.in-Ok.ensures.slice in
     inr (λ n. elim (cases_Bool (in_mask c.args.group c.without.result n)) [
       | inr out ↦ out
@@ -75,7 +75,7 @@ returns-in-Ok-commit-clause-served g c = λ are blob served slices asked.
           let parts = rest_parts c.args.group c.args.left c.in-Ok-commit.committed _ n c.without.ensures rest in
           let here : n / 64 ≡ c.args.group = eqb-true (n / 64) c.args.group (and_parts (n / 64 == c.args.group) (has_bit c.args.left (n % 64)) parts.0).0 in
           let known = asked n parts.0 in
-          let has : holds_chunk (piece_of c.in-Ok.piece) n ≡ true = subst (λ (piece : Piece). holds_chunk piece n ≡ true) (sym is) known.1 in
+          let has : holds_chunk (piece_of (g.S.Shelf.fixed_of c.args.seat.now).base c.in-Ok.piece) n ≡ true = subst (λ (piece : Piece). holds_chunk piece n ≡ true) (sym is) known.1 in
           absurd (both_ways _ parts.1 (c.in-Ok-commit.ensures.all n here known.0 has))
     ])
 
@@ -88,7 +88,7 @@ returns-in-Err-clause-served g c = λ are blob served slices asked.
 pub returns-then-eq-clause-reports : goal.returns-then-eq-clause-reports
 returns-then-eq-clause-reports g c =
     let A = IsGiven (made_of c.args.form.now g.H.Holder.gives) c.args.holder.now in
-    let given : A (piece_of c.in-Ok.piece) = made_given c.args.form.now g.H.Holder.gives c.args.holder.now c.args.part.now c.as_slice.result.now _ (piece_of c.in-Ok.piece) c.as_slice.ensures.value c.in-Some.ensures.gives c.in-Ok.ensures.made in
+    let given : A (piece_of (g.S.Shelf.fixed_of c.args.seat.now).base c.in-Ok.piece) = made_given c.args.form.now g.H.Holder.gives c.args.holder.now c.args.part.now c.as_slice.result.now _ (piece_of (g.S.Shelf.fixed_of c.args.seat.now).base c.in-Ok.piece) c.as_slice.ensures.value c.in-Some.ensures.gives (c.in-Ok.ensures.made _) in
     let asked = fetch_some g.S.Shelf.fixed_of g.S.Shelf.gained g.S.Shelf.goes _ _ _ _ _ _ _ _ (it_gained g.S.Shelf.fixed_of g.S.Shelf.gained g.S.Shelf.goes A _ _ _ 0 0 given c.in-Err-commit.ensures.gained) (λ piece is. made_no_more c.args.form.now g.H.Holder.gives _ _ c.in-Some.ensures.no_more _ _ _ is)
     c.in-Some.ensures.fits c.in-Some.ensures.fetch in
     subst (λ (y : Report). Reports g.S.Shelf.fixed_of g.S.Shelf.gained c.args.seat.now c.commit.new.seat A (IsGiven (made_of c.args.form.now g.H.Holder.gives) c.fetched.new.holder)
@@ -97,7 +97,7 @@ returns-then-eq-clause-reports g c =
 pub returns-else-eq-clause-reports : goal.returns-else-eq-clause-reports
 returns-else-eq-clause-reports g c =
     let A = IsGiven (made_of c.args.form.now g.H.Holder.gives) c.args.holder.now in
-    let given : A (piece_of c.in-Ok.piece) = made_given c.args.form.now g.H.Holder.gives c.args.holder.now c.args.part.now c.as_slice.result.now _ (piece_of c.in-Ok.piece) c.as_slice.ensures.value c.in-Some.ensures.gives c.in-Ok.ensures.made in
+    let given : A (piece_of (g.S.Shelf.fixed_of c.args.seat.now).base c.in-Ok.piece) = made_given c.args.form.now g.H.Holder.gives c.args.holder.now c.args.part.now c.as_slice.result.now _ (piece_of (g.S.Shelf.fixed_of c.args.seat.now).base c.in-Ok.piece) c.as_slice.ensures.value c.in-Some.ensures.gives (c.in-Ok.ensures.made _) in
     fetch_some g.S.Shelf.fixed_of g.S.Shelf.gained g.S.Shelf.goes _ _ _ _ _ _ _ _ (it_gained g.S.Shelf.fixed_of g.S.Shelf.gained g.S.Shelf.goes A _ _ _ 0 0 given c.in-Err-commit.ensures.gained) (λ piece is. made_no_more c.args.form.now g.H.Holder.gives _ _ c.in-Some.ensures.no_more _ _ _ is)
     c.in-Some.ensures.fits c.in-Some.ensures.fetch
 

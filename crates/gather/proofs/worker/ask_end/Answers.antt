@@ -17,8 +17,8 @@ returns-in_default-tail-clause-reports g c =
 
 pub returns-in-TooLarge-clause-reports : goal.returns-in-TooLarge-clause-reports
 returns-in-TooLarge-clause-reports g c =
-    let given : IsGiven (made_of c.args.form.now g.H.Holder.gives) c.args.holder.now (piece_of c.in-Ok.piece) = made_given c.args.form.now g.H.Holder.gives c.args.holder.now c.end-part.result c.as_slice.result.now _ (piece_of c.in-Ok.piece) c.as_slice.ensures.value c.in-Some.ensures.gives c.in-Ok.ensures.made in
-    let of_tail = subst (λ (it : Checked). IsGiven (made_of c.args.form.now g.H.Holder.gives) c.args.holder.now (piece_of it)) (sym c.in-Some-tail.ensures.piece) given in
+    let given : IsGiven (made_of c.args.form.now g.H.Holder.gives) c.args.holder.now (piece_of (g.S.Shelf.fixed_of c.args.seat.now).base c.in-Ok.piece) = made_given c.args.form.now g.H.Holder.gives c.args.holder.now c.end-part.result c.as_slice.result.now _ (piece_of (g.S.Shelf.fixed_of c.args.seat.now).base c.in-Ok.piece) c.as_slice.ensures.value c.in-Some.ensures.gives (c.in-Ok.ensures.made _) in
+    let of_tail = subst (λ (it : Checked). IsGiven (made_of c.args.form.now g.H.Holder.gives) c.args.holder.now (piece_of (g.S.Shelf.fixed_of c.args.seat.now).base it)) (sym c.in-Some-tail.ensures.piece) given in
     fetch_large g.S.Shelf.fixed_of g.S.Shelf.gained g.S.Shelf.goes _ _ _ _ _ _ _ _ _ c.in-TooLarge.ensures.still.0 (λ piece is. made_no_more c.args.form.now g.H.Holder.gives _ _ c.in-Some.ensures.no_more _ _ _ is) c.in-Some.ensures.fits c.in-Some.ensures.fetch of_tail
     (c.in-TooLarge.ensures.large refl)
 
@@ -33,8 +33,8 @@ returns-in_default-clause-reports g c =
 pub returns-in_default-settle : goal.returns-in_default-settle
 returns-in_default-settle g c =
     let A = IsGiven (made_of c.args.form.now g.H.Holder.gives) c.args.holder.now in
-    let given : A (piece_of c.in-Ok.piece) = made_given c.args.form.now g.H.Holder.gives c.args.holder.now c.end-part.result c.as_slice.result.now _ (piece_of c.in-Ok.piece) c.as_slice.ensures.value c.in-Some.ensures.gives c.in-Ok.ensures.made in
-    let of_tail = subst (λ (it : Checked). A (piece_of it)) (sym c.in-Some-tail.ensures.piece) given in
+    let given : A (piece_of (g.S.Shelf.fixed_of c.args.seat.now).base c.in-Ok.piece) = made_given c.args.form.now g.H.Holder.gives c.args.holder.now c.end-part.result c.as_slice.result.now _ (piece_of (g.S.Shelf.fixed_of c.args.seat.now).base c.in-Ok.piece) c.as_slice.ensures.value c.in-Some.ensures.gives (c.in-Ok.ensures.made _) in
+    let of_tail = subst (λ (it : Checked). A (piece_of (g.S.Shelf.fixed_of c.args.seat.now).base it)) (sym c.in-Some-tail.ensures.piece) given in
     let settled = fetch_some g.S.Shelf.fixed_of g.S.Shelf.gained g.S.Shelf.goes _ _ A A _ _ _ _ (it_gained g.S.Shelf.fixed_of g.S.Shelf.gained g.S.Shelf.goes A _ _ _ 0 0 of_tail c.settle.ensures.still.0) (λ piece is. is) c.in-Some.ensures.fits c.in-Some.ensures.fetch in
     record {
       has = c.store_parents.ensures.has;
@@ -47,8 +47,8 @@ returns-in_default-settle g c =
           let F = g.S.Shelf.fixed_of c.args.seat.now in
           let text = end_given c.args.form.now g.H.Holder.gives F.mode blob c.args.holder.now c.end-part.result c.as_slice.result.now _ are c.end-part.ensures.end slices c.as_slice.ensures.value c.in-Some.ensures.gives in
           let at = slice_end c.args.form.now c.end-part.result are c.end-part.ensures.end in
-          let is : piece_of c.in-Ok.piece ≡ slice_of F.mode blob (2 ^ 64 - 1) 1 = slice_made c.args.form.now F _ c.end-part.result _ c.in-Ok.piece blob _ _ are at.0 at.1 text c.in-Ok.ensures.slice in
-          let tail_is = ap (λ (it : Checked). piece_of it) c.in-Some-tail.ensures.piece ∙ is in
+          let is : piece_of (g.S.Shelf.fixed_of c.args.seat.now).base c.in-Ok.piece ≡ slice_of F blob (2 ^ 64 - 1) 1 = slice_made c.args.form.now F _ c.end-part.result _ c.in-Ok.piece blob _ _ are at.0 at.1 text c.in-Ok.ensures.slice in
+          let tail_is = ap (λ (it : Checked). piece_of (g.S.Shelf.fixed_of c.args.seat.now).base it) c.in-Some-tail.ensures.piece ∙ is in
           let of : IsOf F c.in-Ok.piece = slice_of_store c.args.form.now F c.fixed-fixed.result c.end-part.result _ c.in-Ok.piece are c.fixed-fixed.ensures c.in-Ok.ensures.slice in
           let known = c.settle.ensures.records (λ large. never_large F _ blob _ _ served tail_is (c.settle.ensures.large large))
           (λ other. c.settle.ensures.other other (subst (λ (it : Checked). IsOf F it) (sym c.in-Some-tail.ensures.piece) of)) in
@@ -61,7 +61,7 @@ returns-in_default-tail-clause-agreed g c = λ are blob served slices.
     let F = g.S.Shelf.fixed_of c.args.seat.now in
     let text = end_given c.args.form.now g.H.Holder.gives F.mode blob c.args.holder.now c.end-part.result c.as_slice.result.now _ are c.end-part.ensures.end slices c.as_slice.ensures.value c.in-Some.ensures.gives in
     let at = slice_end c.args.form.now c.end-part.result are c.end-part.ensures.end in
-    let is : piece_of c.in-Ok.piece ≡ slice_of F.mode blob (2 ^ 64 - 1) 1 = slice_made c.args.form.now F _ c.end-part.result _ c.in-Ok.piece blob _ _ are at.0 at.1 text c.in-Ok.ensures.slice in
+    let is : piece_of (g.S.Shelf.fixed_of c.args.seat.now).base c.in-Ok.piece ≡ slice_of F blob (2 ^ 64 - 1) 1 = slice_made c.args.form.now F _ c.end-part.result _ c.in-Ok.piece blob _ _ are at.0 at.1 text c.in-Ok.ensures.slice in
     let no : false ≡ true = c.in_default-tail.ensures.there.1 (holds_last F c.in-Ok.piece blob served is) in
     cc
 
@@ -70,15 +70,15 @@ returns-in-TooLarge-clause-agreed g c = λ are blob served slices.
     let F = g.S.Shelf.fixed_of c.args.seat.now in
     let text = end_given c.args.form.now g.H.Holder.gives F.mode blob c.args.holder.now c.end-part.result c.as_slice.result.now _ are c.end-part.ensures.end slices c.as_slice.ensures.value c.in-Some.ensures.gives in
     let at = slice_end c.args.form.now c.end-part.result are c.end-part.ensures.end in
-    let is : piece_of c.in-Ok.piece ≡ slice_of F.mode blob (2 ^ 64 - 1) 1 = slice_made c.args.form.now F _ c.end-part.result _ c.in-Ok.piece blob _ _ are at.0 at.1 text c.in-Ok.ensures.slice in
-    let tail_is = ap (λ (it : Checked). piece_of it) c.in-Some-tail.ensures.piece ∙ is in
+    let is : piece_of (g.S.Shelf.fixed_of c.args.seat.now).base c.in-Ok.piece ≡ slice_of F blob (2 ^ 64 - 1) 1 = slice_made c.args.form.now F _ c.end-part.result _ c.in-Ok.piece blob _ _ are at.0 at.1 text c.in-Ok.ensures.slice in
+    let tail_is = ap (λ (it : Checked). piece_of (g.S.Shelf.fixed_of c.args.seat.now).base it) c.in-Some-tail.ensures.piece ∙ is in
     absurd (never_large F _ blob _ _ served tail_is (c.in-TooLarge.ensures.large refl))
 
 pub returns-in-TooLarge-clause-large : goal.returns-in-TooLarge-clause-large
 returns-in-TooLarge-clause-large g c = λ _.
     let A = IsGiven (made_of c.args.form.now g.H.Holder.gives) c.args.holder.now in
-    let given : A (piece_of c.in-Ok.piece) = made_given c.args.form.now g.H.Holder.gives c.args.holder.now c.end-part.result c.as_slice.result.now _ (piece_of c.in-Ok.piece) c.as_slice.ensures.value c.in-Some.ensures.gives c.in-Ok.ensures.made in
-    record { piece = _; from = subst (λ (it : Checked). A (piece_of it)) (sym c.in-Some-tail.ensures.piece) given; large = c.in-TooLarge.ensures.large refl }
+    let given : A (piece_of (g.S.Shelf.fixed_of c.args.seat.now).base c.in-Ok.piece) = made_given c.args.form.now g.H.Holder.gives c.args.holder.now c.end-part.result c.as_slice.result.now _ (piece_of (g.S.Shelf.fixed_of c.args.seat.now).base c.in-Ok.piece) c.as_slice.ensures.value c.in-Some.ensures.gives (c.in-Ok.ensures.made _) in
+    record { piece = _; from = subst (λ (it : Checked). A (piece_of (g.S.Shelf.fixed_of c.args.seat.now).base it)) (sym c.in-Some-tail.ensures.piece) given; large = c.in-TooLarge.ensures.large refl }
 
 pub returns-in-Err-clause-agreed : goal.returns-in-Err-clause-agreed
 returns-in-Err-clause-agreed g c = λ are blob served slices.

@@ -56,7 +56,7 @@ loop-holder-preserved g c =
             met.served are blob (subst (λ (f : Fixed). IsServed f blob) (sym same) served)
             (subst (λ (f : Fixed). GivesSlice (made_of c.args.form.now g.H.Holder.gives) f.mode blob c.args.part.now.start c.args.part.now.len (get_or x.holders x.holder-index c.holder-item.result)) (sym same) slices) (λ n asked. (
               elim (x.invariant.6 n (x.invariant.5 n asked)) [ inl left ↦ left.1 | inr held ↦ absurd (both_ways _ held.0 asked) ],
-              subst (λ (f : Fixed). holds_chunk (slice_of f.mode blob c.args.part.now.start c.args.part.now.len) n ≡ true) (sym same) (bound n (x.invariant.5 n asked)),
+              subst (λ (f : Fixed). holds_chunk (slice_of f blob c.args.part.now.start c.args.part.now.len) n ≡ true) (sym same) (bound n (x.invariant.5 n asked)),
             ))
       ],
     )

@@ -19,4 +19,4 @@ invariant-loop-holder g l = g.S.Shelf.has l.shelf l.seat
     × ((c : ℕ) → in_mask l.group l.left c ≡ true → in_mask l.group l.granted c ≡ true)
     × ((c : ℕ) → in_mask l.group l.granted c ≡ true → ((in_mask l.group l.left c ≡ true) × (g.S.Shelf.claims l.seat c ≡ true)) ⊎ ((in_mask l.group l.left c ≡ false) × g.S.Shelf.holds l.seat c))
     × (AreSlices l.form → (blob : List ℕ) → IsServed (g.S.Shelf.fixed_of l.fn.seat) blob → (has : HasSlice (made_of l.form g.H.Holder.gives) (g.S.Shelf.fixed_of l.fn.seat).mode blob l.part.start l.part.len l.fn.holders) → has.place < l.holder-index
-    → ((c : ℕ) → in_mask l.group l.granted c ≡ true → holds_chunk (slice_of (g.S.Shelf.fixed_of l.fn.seat).mode blob l.part.start l.part.len) c ≡ true) → HasFailed l.report ⊎ ((c : ℕ) → in_mask l.group l.left c ≡ false))
+    → ((c : ℕ) → in_mask l.group l.granted c ≡ true → holds_chunk (slice_of (g.S.Shelf.fixed_of l.fn.seat) blob l.part.start l.part.len) c ≡ true) → HasFailed l.report ⊎ ((c : ℕ) → in_mask l.group l.left c ≡ false))
