@@ -1,10 +1,11 @@
 -- Blobs that were gathered under one root.
-use Rattle.std.proofs.Common.{◌≡◌, ◌↔◌, ◌⊎◌, ℕ, List, length, Result, Ok, Err, IfOk, MatchResult, refl, sym, ap, ◌∙◌, inl, inr, arith}
+use Rattle.std.proofs.Common.{◌≡◌, ◌↔◌, ◌⊎◌, ℕ, ◌*◌, ◌<◌, List, length, Result, Ok, Err, IfOk, MatchResult, refl, sym, ap, ◌∙◌, inl, inr, arith}
 use Rattle.b3tree.specs.Valid.{AreBytes}
 use Rattle.gather.specs.declared.fault.GatherFault.{GatherFault}
 use Rattle.gather.specs.declared.fault.GatherFault.TheVariants.{Store, Capacity, TooLarge, Seat, Unfinished, NotTheRoot, Memory, Starved}
 use Rattle.gather.specs.HandedOut.{Certifies, Gathers, IsExcused, IsHandedOut}
 use Rattle.gather.specs.Large.{HasCollision}
+use Rattle.store_core.proofs.HasRoom.{no_room_of}
 use Rattle.store_core.specs.declared.fixed.Fixed.{Fixed}
 use Rattle.store_core.specs.declared.history.Piece.{Piece}
 use Rattle.store_core.specs.Laws.{IsBlob}
@@ -22,20 +23,20 @@ no_capacity bytes_of fixed x one other = let no : Ok x ≡ Err Capacity = one.ca
 also_refused : {T : Type 0} (bytes_of : T → List ℕ) (fixed : Fixed) (r : Result T GatherFault) (f : GatherFault) → r ≡ Err Capacity → Certifies bytes_of fixed r → Certifies bytes_of fixed (Err f) → f ≡ Capacity
 also_refused bytes_of fixed r f is one other = let same : Err f ≡ Err Capacity = other.capacity.1 (one.capacity.0 is) in cc
 
-blob_or_none : {T : Type 0} (bytes_of : T → List ℕ) (handed : Piece → Type 0) (fixed : Fixed) (blob : List ℕ) (x : T) (f : GatherFault) → IsBlob fixed blob
+blob_or_none : {T : Type 0} (bytes_of : T → List ℕ) (handed : Piece → Type 0) (fixed : Fixed) (blob : List ℕ) (x : T) (f : GatherFault) → fixed.base ≡ 0 → IsBlob fixed blob
     → Gathers bytes_of handed fixed (Ok x) → Gathers bytes_of handed fixed (Err f) → IsNoVerdict f ⊎ HasCollision handed fixed blob
-blob_or_none bytes_of handed fixed blob x Store is one other = inl tt
-blob_or_none bytes_of handed fixed blob x Seat is one other = inl tt
-blob_or_none bytes_of handed fixed blob x Memory is one other = inl tt
-blob_or_none bytes_of handed fixed blob x Starved is one other = inl tt
-blob_or_none bytes_of handed fixed blob x Unfinished is one other = inl tt
-blob_or_none bytes_of handed fixed blob x Capacity is one other = absurd (no_capacity bytes_of fixed x one.certified other.certified)
-blob_or_none bytes_of handed fixed blob x NotTheRoot is one other = inr (other.none refl blob is)
-blob_or_none bytes_of handed fixed blob x TooLarge is one other = elim (one.found blob is) [
+blob_or_none bytes_of handed fixed blob x Store first is one other = inl tt
+blob_or_none bytes_of handed fixed blob x Seat first is one other = inl tt
+blob_or_none bytes_of handed fixed blob x Memory first is one other = inl tt
+blob_or_none bytes_of handed fixed blob x Starved first is one other = inl tt
+blob_or_none bytes_of handed fixed blob x Unfinished first is one other = inl tt
+blob_or_none bytes_of handed fixed blob x Capacity first is one other = absurd (no_capacity bytes_of fixed x one.certified other.certified)
+blob_or_none bytes_of handed fixed blob x NotTheRoot first is one other = inr (other.none refl blob is)
+blob_or_none bytes_of handed fixed blob x TooLarge first is one other = elim (one.found blob is) [
   | inr pair ↦ inr pair
   | inl same ↦ elim (other.longer refl blob is) [
     | inr pair ↦ inr pair
-    | inl above ↦ absurd (omega (arith, above, one.certified.fits, ap length same))
+    | inl none ↦ let above : 1024 * fixed.capacity < length blob = no_room_of fixed (length blob) first none in absurd (omega (arith, above, one.certified.fits, ap length same))
   ]
 ]
 
@@ -67,15 +68,15 @@ faults_agree bytes_of handed fixed blob e f is one other = elim (kind_of e) [
   ]
 ]
 
-pub gathers_agree : {T : Type 0} (bytes_of : T → List ℕ) (handed : Piece → Type 0) (fixed : Fixed) (r s : Result T GatherFault) → Gathers bytes_of handed fixed r → Gathers bytes_of handed fixed s
-    → SameOrCollision bytes_of handed fixed r s
-gathers_agree bytes_of handed fixed (Ok x) (Ok y) one other blob is = elim (one.found blob is) [
+pub gathers_agree : {T : Type 0} (bytes_of : T → List ℕ) (handed : Piece → Type 0) (fixed : Fixed) (r s : Result T GatherFault) → fixed.base ≡ 0 → Gathers bytes_of handed fixed r
+    → Gathers bytes_of handed fixed s → SameOrCollision bytes_of handed fixed r s
+gathers_agree bytes_of handed fixed (Ok x) (Ok y) first one other blob is = elim (one.found blob is) [
   | inr pair ↦ inr pair
   | inl same ↦ elim (other.found blob is) [ inr pair ↦ inr pair | inl also ↦ inl (same ∙ sym also) ]
 ]
-gathers_agree bytes_of handed fixed (Ok x) (Err f) one other blob is = blob_or_none bytes_of handed fixed blob x f is one other
-gathers_agree bytes_of handed fixed (Err e) (Ok y) one other blob is = blob_or_none bytes_of handed fixed blob y e is other one
-gathers_agree bytes_of handed fixed (Err e) (Err f) one other blob is = faults_agree bytes_of handed fixed blob e f is one other
+gathers_agree bytes_of handed fixed (Ok x) (Err f) first one other blob is = blob_or_none bytes_of handed fixed blob x f first is one other
+gathers_agree bytes_of handed fixed (Err e) (Ok y) first one other blob is = blob_or_none bytes_of handed fixed blob y e first is other one
+gathers_agree bytes_of handed fixed (Err e) (Err f) first one other blob is = faults_agree bytes_of handed fixed blob e f is one other
 
 lack_of : {T : Type 0} (bytes_of : T → List ℕ) (fixed : Fixed) (x : T) (f : GatherFault) → Certifies bytes_of fixed (Ok x) → Certifies bytes_of fixed (Err f) → IsExcused f → IsLack f
 lack_of bytes_of fixed x Store one other excused = tt

@@ -17,9 +17,9 @@ use Rattle.store_core.specs.Stores.{IsSame, fixed_of, state_of}
 use Rattle.store_core.proofs.Adding.{committed_add_up}
 use Rattle.store_core.proofs.Lasting.{legal-join, run-append}
 
--- a chunk gained is the blob's
+-- a chunk gained is the blob's, counted from the store's first
 gained_is : (handed : Piece → Type 0) (old new : Store) → AddsBlobs handed old new → (blob : List ℕ) → IsBlob (fixed_of old) blob → (c : ℕ) (x : List ℕ)
-    → (state_of old).held c ≡ None → (state_of new).held c ≡ Some x → (chunk_of blob c ≡ Some x) ⊎ HasCollision handed (fixed_of old) blob
+    → (state_of old).held c ≡ None → (state_of new).held c ≡ Some x → (chunk_of blob ((fixed_of old).base + c) ≡ Some x) ⊎ HasCollision handed (fixed_of old) blob
 gained_is handed old new adds blob is c x before after = elim (adds blob is c x after) [
   | inl had ↦ let no : None ≡ Some x = sym before ∙ had in cc
   | inr (inl same) ↦ inl same
@@ -38,7 +38,8 @@ gains_agree handed a a' b b' ours theirs same equal one other blob is c x y befo
     elim (gained_is (handed ours) a a' one blob is c x before after) [
       | inr pair ↦ inr pair
       | inl mine ↦ elim (gained_is (handed theirs) b b' other blob there c y free then) [
-        | inl too ↦ inl (same_bytes (chunk_of blob c) x y mine too)
+        | inl too ↦
+            inl (same_bytes (chunk_of blob ((fixed_of a).base + c)) x y mine (subst (λ (f : Fixed). chunk_of blob (f.base + c) ≡ Some y) same.fixed too))
         | inr pair ↦
             inr (subst (λ (hs : _). HasCollision (handed hs) (fixed_of a) blob) (sym equal) (subst (λ (f : Fixed). HasCollision (handed theirs) f blob) same.fixed pair))
       ]

@@ -19,26 +19,26 @@ use Rattle.bao_script.specs.Steps.{pieces_among, pieces_in, steps_of}
 
 -- with one number both have a piece of one encoding, or neither has one
 pub record Alike (fixed : Fixed) (xs ys : List Checked) : Type 0 where
-  pub same : (i : ℕ) → option_map piece_of (slice_get xs i) ≡ option_map piece_of (slice_get ys i)
+  pub same : (i : ℕ) → option_map (piece_of fixed.base) (slice_get xs i) ≡ option_map (piece_of fixed.base) (slice_get ys i)
   pub there : (i : ℕ) → HasPiece fixed xs i → HasPiece fixed ys i
   pub back : (i : ℕ) → HasPiece fixed ys i → HasPiece fixed xs i
 
-one_piece : (fixed : Fixed) (slice : Slice) (x y : Checked) → IsPieceOf fixed.mode fixed.root.0 slice x → IsPieceOf fixed.mode fixed.root.0 slice y → piece_of x ≡ piece_of y
+one_piece : (fixed : Fixed) (slice : Slice) (x y : Checked) → IsPieceOf fixed.mode fixed.root.0 slice x → IsPieceOf fixed.mode fixed.root.0 slice y → piece_of fixed.base x ≡ piece_of fixed.base y
 one_piece fixed slice x y a b =
     let start = a.piece_is.start_is ∙ sym b.piece_is.start_is in
     let len = a.piece_is.len_is ∙ sym b.piece_is.len_is in
     let text = a.piece_is.text_is ∙ sym b.piece_is.text_is in
-    λ i. record { start = start i; len = len i; text = text i }
+    λ i. record { base = fixed.base; start = start i; len = len i; text = text i }
 
 same_at : (fixed : Fixed) (slices : List Slice) (xs ys : List Checked) → ArePieces fixed.mode fixed.root.0 slices xs → ArePieces fixed.mode fixed.root.0 slices ys
-    → (i : ℕ) → option_map piece_of (slice_get xs i) ≡ option_map piece_of (slice_get ys i)
-same_at fixed [] xs ys a b i = ap (λ (zs : List Checked). option_map piece_of (slice_get zs i)) (a ∙ sym b)
+    → (i : ℕ) → option_map (piece_of fixed.base) (slice_get xs i) ≡ option_map (piece_of fixed.base) (slice_get ys i)
+same_at fixed [] xs ys a b i = ap (λ (zs : List Checked). option_map (piece_of fixed.base) (slice_get zs i)) (a ∙ sym b)
 same_at fixed (slice ∷ slices) xs ys a b zero =
-    ap (λ (zs : List Checked). option_map piece_of (slice_get zs 0)) a.2 ∙ ap (λ (p : Piece). Some p) (one_piece fixed slice a.0 b.0 a.3 b.3)
-    ∙ sym (ap (λ (zs : List Checked). option_map piece_of (slice_get zs 0)) b.2)
+    ap (λ (zs : List Checked). option_map (piece_of fixed.base) (slice_get zs 0)) a.2 ∙ ap (λ (p : Piece). Some p) (one_piece fixed slice a.0 b.0 a.3 b.3)
+    ∙ sym (ap (λ (zs : List Checked). option_map (piece_of fixed.base) (slice_get zs 0)) b.2)
 same_at fixed (slice ∷ slices) xs ys a b (suc i) =
-    ap (λ (zs : List Checked). option_map piece_of (slice_get zs (suc i))) a.2 ∙ same_at fixed slices a.1 b.1 a.4 b.4 i
-    ∙ sym (ap (λ (zs : List Checked). option_map piece_of (slice_get zs (suc i))) b.2)
+    ap (λ (zs : List Checked). option_map (piece_of fixed.base) (slice_get zs (suc i))) a.2 ∙ same_at fixed slices a.1 b.1 a.4 b.4 i
+    ∙ sym (ap (λ (zs : List Checked). option_map (piece_of fixed.base) (slice_get zs (suc i))) b.2)
 
 has_at : (fixed : Fixed) (slices : List Slice) (xs ys : List Checked) → ArePieces fixed.mode fixed.root.0 slices xs → ArePieces fixed.mode fixed.root.0 slices ys
     → (i : ℕ) → HasPiece fixed xs i → HasPiece fixed ys i

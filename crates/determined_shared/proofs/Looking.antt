@@ -1,5 +1,5 @@
 -- Loads of two lone grips that have seen the same.
-use Rattle.std.proofs.Common.{◌≡◌, ℕ, ◌^◌, ◌<◌, nat_lt, Bool, ◌||◌, if◌then◌else◌, List, [], ◌∷◌, ◌++◌, Option, is_none, is_some, sym, ap, ◌∙◌}
+use Rattle.std.proofs.Common.{◌≡◌, ℕ, ◌^◌, ◌<◌, nat_lt, Bool, ◌||◌, if◌then◌else◌, List, [], ◌∷◌, ◌++◌, Option, is_none, is_some, sym, ap, subst, ◌∙◌}
 use Rattle.bao_text.specs.declared.walk.Node.{Node}
 use Rattle.store_core.specs.declared.fixed.Fixed.{Fixed}
 use Rattle.store_core.specs.declared.history.Call.TheVariants.{Parents, Read, Serve}
@@ -75,12 +75,13 @@ module _ (one new one' other next other' : SeatView) (alike : AreAlike one other
       (λ s. ap (λ (ns : List Name). if is_none s.recorded then record { who = ns; call = Serve start len (serving s start len) } ∷ [] else []) names) in
       (is ∙ sym (also ∙ ap (λ (s : State). s.recorded) both.states), both.alike)
 
-  pub unstored_alike : (group : ℕ) (piece : Piece) (o p : Option ℕ) → Looked (unstored_events one group piece) one new → Looked (unstored_events other group piece) other next
+  pub unstored_alike : (group : ℕ) (piece its : Piece) (o p : Option ℕ) → its ≡ piece → Looked (unstored_events one group piece) one new → Looked (unstored_events other group its) other next
       → o ≡ (state_after new.seen).recorded → p ≡ (state_after next.seen).recorded → (o ≡ p) × AreAlike one' other'
-  unstored_alike group piece o p looked too is also =
+  unstored_alike group piece its o p same looked too is also =
+      let they : Looked (unstored_events other group piece) other next = subst (λ (x : Piece). Looked (unstored_events other group x) other next) same too in
       let stored : Fixed → List Name → State → List Event = λ f ns s. if is_recorded s.recorded (length_of piece)
       then (if nat_lt group (groups f) then [] else record { who = ns; call = Parents group piece (Stored 0) } ∷ [])
       else record { who = ns; call = Parents group piece OtherLength } ∷ [] in
-      let both : LookAlike new next one' other' = looks_alike one new one' other next other' (unstored_events one group piece) (unstored_events other group piece) alike looked round too
+      let both : LookAlike new next one' other' = looks_alike one new one' other next other' (unstored_events one group piece) (unstored_events other group piece) alike looked round they
       around (λ s. ap (λ (ns : List Name). stored one.fixed ns s) names ∙ ap (λ (f : Fixed). stored f (names_of other) s) fixed) in
       (is ∙ sym (also ∙ ap (λ (s : State). s.recorded) both.states), both.alike)

@@ -1,5 +1,5 @@
 -- Two lone seats that have seen the same, asked the same.
-use Rattle.std.proofs.Common.{◌≡◌, ◌↔◌, inl, inr, ℕ, ◌<◌, ◌*◌, List, [], ◌∷◌, ◌++◌, map, length, drop, Option, None, Some, is_some, Result, IfOk, IfErr, IsOk, OnErr, Ok, Err, true, false, refl, sym, ap, subst, ◌∙◌, arith}
+use Rattle.std.proofs.Common.{◌≡◌, ◌↔◌, inl, inr, ℕ, ◌<◌, List, [], ◌∷◌, ◌++◌, map, length, drop, Option, None, Some, is_some, Result, IfOk, IfErr, IsOk, OnErr, Ok, Err, true, false, refl, sym, ap, subst, ◌∙◌, arith}
 use Rattle.store_core.specs.declared.fixed.Fixed.{Fixed}
 use Rattle.store_core.specs.declared.history.Call.{Call}
 use Rattle.store_core.specs.declared.history.Call.TheVariants.{Take, Give, Commit, Settle, Read, Length, Parents, Serve}
@@ -15,7 +15,7 @@ use Rattle.store_core.specs.declared.fault.Missing.{Missing}
 use Rattle.store_core.specs.declared.view.Named.{Named}
 use Rattle.store_core.specs.declared.view.SeatView.{SeatView}
 use Rattle.bao_check.specs.declared.checked.Checked.{Checked}
-use Rattle.store_core.specs.Events.{IsRightReply}
+use Rattle.store_core.specs.Events.{IsRightReply, has_room}
 use Rattle.store_core.specs.Histories.{events_of, state_after}
 use Rattle.store_core.specs.Knowledge.{AreAllNames, Called, EndsStoring, LooksRound, event_of}
 use Rattle.store_core.specs.Laws.{is_partial, question}
@@ -126,6 +126,10 @@ module _ {E : Type 0} (P Q : Type 0) (call : ℕ → Call) (whole : (m : ℕ) �
 pub one_fixed : (a b : Fixed) (one other : SeatView) → AreAlike one other → one.fixed ≡ a → other.fixed ≡ b → a ≡ b
 one_fixed a b one other alike p q = sym p ∙ sym alike.fixed_are ∙ q
 
+-- both stores count a piece's chunks from the same one
+pub one_piece : (a b : Fixed) (one other : SeatView) (piece : Checked) → AreAlike one other → one.fixed ≡ a → other.fixed ≡ b → piece_of b.base piece ≡ piece_of a.base piece
+one_piece a b one other piece alike p q = ap (λ (f : Fixed). piece_of f.base piece) (sym (one_fixed a b one other alike p q))
+
 pub takes_alike : (a b : Fixed) (one new : Gripped) (one' : SeatView) (other next : Gripped) (other' : SeatView) (group want : ℕ) (r s : Result ℕ NoGroup) → AreAlike one.view other.view
     → one.view.fixed ≡ a → other.view.fixed ≡ b → (IsOk r ↔ (group < groups a)) → (IsOk s ↔ (group < groups b))
     → IfOk r (λ m. Called (Take group want m) one.view new.view) → OnErr r (new ≡ one) → LooksRound new.view one'
@@ -138,13 +142,13 @@ takes_alike a b one new one' other next other' group want r s alike f g p q did 
 
 pub commits_alike : (a b : Fixed) (one new : Gripped) (one' : SeatView) (other next : Gripped) (other' : SeatView) (group : ℕ) (piece : Checked) (r s : Result ℕ OtherRoot)
     → AreAlike one.view other.view → one.view.fixed ≡ a → other.view.fixed ≡ b → (IsOk r ↔ IsOf a piece) → (IsOk s ↔ IsOf b piece)
-    → IfOk r (λ m. Called (Commit group (piece_of piece) m) one.view new.view) → OnErr r (new ≡ one) → LooksRound new.view one'
-    → IfOk s (λ m. Called (Commit group (piece_of piece) m) other.view next.view) → OnErr s (next ≡ other) → LooksRound next.view other' → (r ≡ s) × AreAlike one' other'
+    → IfOk r (λ m. Called (Commit group (piece_of a.base piece) m) one.view new.view) → OnErr r (new ≡ one) → LooksRound new.view one'
+    → IfOk s (λ m. Called (Commit group (piece_of b.base piece) m) other.view next.view) → OnErr s (next ≡ other) → LooksRound next.view other' → (r ≡ s) × AreAlike one' other'
 commits_alike a b one new one' other next other' group piece r s alike f g p q did kept looked too stays round =
     let same : a ≡ b = one_fixed a b one.view other.view alike f g in
-    masks_alike (IsOf a piece) (IsOf b piece) (λ m. Commit group (piece_of piece) m) (λ m. refl) (λ m n. refl) (λ m n e. ap mask_in e) one_other_root
+    masks_alike (IsOf a piece) (IsOf b piece) (λ m. Commit group (piece_of a.base piece) m) (λ m. refl) (λ m n. refl) (λ m n e. ap mask_in e) one_other_root
     (λ h. subst (λ (x : Fixed). IsOf x piece) same h) (λ h. subst (λ (x : Fixed). IsOf x piece) (sym same) h) one new one' other next other' r s alike p q did kept looked
-    too stays round
+    (subst (λ (x : Fixed). IfOk s (λ m. Called (Commit group (piece_of x.base piece) m) other.view next.view)) (sym same) too) stays round
 
 pub gives_alike : (one new one' other next other' : SeatView) (group mask m n : ℕ) → AreAlike one other → Called (Give group mask m) one new → LooksRound new one'
     → Called (Give group mask n) other next → LooksRound next other' → (m ≡ n) × AreAlike one' other'
@@ -188,8 +192,8 @@ reads_alike one new one' other next other' at old was after last r s alike e did
 -- What a settled length met: another root or mode, a length that is too large, or the record, which is an event.
 pub data Met (fixed : Fixed) (old new : Gripped) (piece : Checked) (answer : Settling) : Type 0 where
   not_of : (¬ IsOf fixed piece) → new ≡ old → answer ≡ settling.OtherRoot → Met fixed old new piece answer
-  too_large : IsOf fixed piece → 1024 * fixed.capacity < length_of (piece_of piece) → new ≡ old → answer ≡ settling.TooLarge → Met fixed old new piece answer
-  is_event : MaySettle fixed piece → Called (Settle (piece_of piece) answer) old.view new.view → Met fixed old new piece answer
+  too_large : IsOf fixed piece → has_room fixed (length_of (piece_of fixed.base piece)) ≡ false → new ≡ old → answer ≡ settling.TooLarge → Met fixed old new piece answer
+  is_event : MaySettle fixed piece → Called (Settle (piece_of fixed.base piece) answer) old.view new.view → Met fixed old new piece answer
 
 pub met : (fixed : Fixed) (old new : Gripped) (piece : Checked) (answer : Settling) → SeatSettles fixed old new piece answer → Met fixed old new piece answer
 met fixed old new piece settling.OtherRoot did = not_of did.0 did.1 refl
@@ -211,11 +215,13 @@ met_alike fixed one new one' other next other' piece r s alike (not_of not same 
 met_alike fixed one new one' other next other' piece r s alike (too_large of high same is) looked (not_of nor kept also) round = absurd (nor of)
 met_alike fixed one new one' other next other' piece r s alike (too_large of high same is) looked (too_large too tall kept also) round =
     (is ∙ sym also, neither one.view one' other.view other' alike (stayed one new one' same looked) (stayed other next other' kept round))
-met_alike fixed one new one' other next other' piece r s alike (too_large of high same is) looked (is_event may did) round = absurd (omega (arith, high, may.fits))
+met_alike fixed one new one' other next other' piece r s alike (too_large of high same is) looked (is_event may did) round =
+    let no : false ≡ true = sym high ∙ may.fits in cc
 met_alike fixed one new one' other next other' piece r s alike (is_event may did) looked (not_of nor kept also) round = absurd (nor may.of)
-met_alike fixed one new one' other next other' piece r s alike (is_event may did) looked (too_large too tall kept also) round = absurd (omega (arith, tall, may.fits))
+met_alike fixed one new one' other next other' piece r s alike (is_event may did) looked (too_large too tall kept also) round =
+    let no : false ≡ true = sym tall ∙ may.fits in cc
 met_alike fixed one new one' other next other' piece r s alike (is_event may did) looked (is_event might too) round =
-    let b = both one.view new.view one' other.view next.view other' (Settle (piece_of piece) r) (Settle (piece_of piece) s) alike did looked too round refl refl in
+    let b = both one.view new.view one' other.view next.view other' (Settle (piece_of fixed.base piece) r) (Settle (piece_of fixed.base piece) s) alike did looked too round refl refl in
     (ap answer_in b.0, b.1)
 
 pub settles_alike : (a b : Fixed) (one new : Gripped) (one' : SeatView) (other next : Gripped) (other' : SeatView) (piece : Checked) (r s : Settling) → AreAlike one.view other.view
@@ -292,15 +298,17 @@ pub grants_alike : (one new one' other next other' : SeatView) (group want m n :
 grants_alike one new one' other next other' group want m n alike did looked too round =
     let b = both one new one' other next other' (Take group want m) (Take group want n) alike did looked too round refl refl in (ap mask_in b.0, b.1)
 
-pub stores_alike : (one new one' other next other' : SeatView) (group m n : ℕ) (piece : Piece) → AreAlike one other → Called (Commit group piece m) one new → LooksRound new one'
-    → Called (Commit group piece n) other next → LooksRound next other' → (m ≡ n) × AreAlike one' other'
-stores_alike one new one' other next other' group m n piece alike did looked too round =
-    let b = both one new one' other next other' (Commit group piece m) (Commit group piece n) alike did looked too round refl refl in (ap mask_in b.0, b.1)
+pub stores_alike : (one new one' other next other' : SeatView) (group m n : ℕ) (piece its : Piece) → AreAlike one other → its ≡ piece → Called (Commit group piece m) one new
+    → LooksRound new one' → Called (Commit group its n) other next → LooksRound next other' → (m ≡ n) × AreAlike one' other'
+stores_alike one new one' other next other' group m n piece its alike same did looked too round =
+    let also : Called (Commit group piece n) other next = subst (λ (p : Piece). Called (Commit group p n) other next) same too in
+    let b = both one new one' other next other' (Commit group piece m) (Commit group piece n) alike did looked also round refl refl in (ap mask_in b.0, b.1)
 
-pub records_alike : (one new one' other next other' : SeatView) (piece : Piece) (r s : Settling) → AreAlike one other → Called (Settle piece r) one new → LooksRound new one'
-    → Called (Settle piece s) other next → LooksRound next other' → (r ≡ s) × AreAlike one' other'
-records_alike one new one' other next other' piece r s alike did looked too round =
-    let b = both one new one' other next other' (Settle piece r) (Settle piece s) alike did looked too round refl refl in (ap answer_in b.0, b.1)
+pub records_alike : (one new one' other next other' : SeatView) (piece its : Piece) (r s : Settling) → AreAlike one other → its ≡ piece → Called (Settle piece r) one new
+    → LooksRound new one' → Called (Settle its s) other next → LooksRound next other' → (r ≡ s) × AreAlike one' other'
+records_alike one new one' other next other' piece its r s alike same did looked too round =
+    let also : Called (Settle piece s) other next = subst (λ (p : Piece). Called (Settle p s) other next) same too in
+    let b = both one new one' other next other' (Settle piece r) (Settle piece s) alike did looked also round refl refl in (ap answer_in b.0, b.1)
 
 -- a word of what a seat has seen held
 pub one_word : (o : Option (List ℕ)) (word : List ℕ → ℕ) (m n : ℕ) → is_some o ≡ true → ((bytes : List ℕ) → o ≡ Some bytes → m ≡ word bytes)
@@ -309,10 +317,10 @@ one_word None word m n held p q = cc
 one_word (Some bytes) word m n held p q = p bytes refl ∙ sym (q bytes refl)
 
 -- calls that store parents, and after which none are being stored
-pub ends_alike : (one new one' other next other' : SeatView) (call : Call) → AreAlike one other → EndsStoring call one new → LooksRound new one' → EndsStoring call other next
-    → LooksRound next other' → AreAlike one' other'
-ends_alike one new one' other next other' call alike did looked too round =
+pub ends_alike : (one new one' other next other' : SeatView) (call also : Call) → AreAlike one other → call ≡ also → EndsStoring call one new → LooksRound new one'
+    → EndsStoring also other next → LooksRound next other' → AreAlike one' other'
+ends_alike one new one' other next other' call also alike same did looked too round =
     let ours = came_alone one new one' did.between (event_of one call ∷ []) alike.alone did.goes_on looked in
-    let theirs = came_alone other next other' too.between (event_of other call ∷ []) (other_alone one other alike) too.goes_on round in
-    alike_after one one' other other' (event_of one call ∷ []) (event_of other call ∷ []) alike ours.goes theirs.goes
-    (ap (λ (e : Event). e ∷ []) (sym (event_alike one other call alike)))
+    let theirs = came_alone other next other' too.between (event_of other also ∷ []) (other_alone one other alike) too.goes_on round in
+    alike_after one one' other other' (event_of one call ∷ []) (event_of other also ∷ []) alike ours.goes theirs.goes
+    (ap (λ (k : Call). event_of one k ∷ []) same ∙ ap (λ (e : Event). e ∷ []) (sym (event_alike one other also alike)))

@@ -62,39 +62,52 @@ module _ (a b : Fixed) (one new : Gripped) (one' : SeatView) (other next : Gripp
   self_other : AreAlike other.view other.view
   self_other = record { alone = other_alone one.view other.view alike; fixed_are = refl; names_are = refl; seen_are = refl }
 
-  pub parents_alike : (r s : Result ℕ ParentsFault) → (r ≡ Err unstored.OtherRoot ↔ (¬ IsOf a piece)) → (s ≡ Err unstored.OtherRoot ↔ (¬ IsOf b piece))
-      → IfOk r (λ m. Called (Parents group (piece_of piece) (Stored m)) one.view new.view) → IfErr r (λ e. SeatIsUnstored group piece e one new)
-      → (AreAllNames one.view.names → IfOk r (λ m. AreAllParents one.view group (piece_of piece) (Stored m)))
-      → IfOk s (λ m. Called (Parents group (piece_of piece) (Stored m)) other.view next.view) → IfErr s (λ e. SeatIsUnstored group piece e other next)
-      → (AreAllNames other.view.names → IfOk s (λ m. AreAllParents other.view group (piece_of piece) (Stored m))) → (r ≡ s) × AreAlike one' other'
-  parents_alike (Ok m) (Ok n) p q did kept all too stays also =
-      let is : m ≡ n = one_mask group m n (piece_of piece) (state_after one.view.seen).parents (state_after other.view.seen).parents (ap (λ (s : State). s.parents) seen_same)
+  -- both stores have the same root, mode and first chunk
+  parents_one : (r s : Result ℕ ParentsFault) → (r ≡ Err unstored.OtherRoot ↔ (¬ IsOf a piece)) → (s ≡ Err unstored.OtherRoot ↔ (¬ IsOf a piece))
+      → IfOk r (λ m. Called (Parents group (piece_of a.base piece) (Stored m)) one.view new.view) → IfErr r (λ e. SeatIsUnstored a group piece e one new)
+      → (AreAllNames one.view.names → IfOk r (λ m. AreAllParents one.view group (piece_of a.base piece) (Stored m)))
+      → IfOk s (λ m. Called (Parents group (piece_of a.base piece) (Stored m)) other.view next.view) → IfErr s (λ e. SeatIsUnstored a group piece e other next)
+      → (AreAllNames other.view.names → IfOk s (λ m. AreAllParents other.view group (piece_of a.base piece) (Stored m))) → (r ≡ s) × AreAlike one' other'
+  parents_one (Ok m) (Ok n) p q did kept all too stays also =
+      let is : m ≡ n = one_mask group m n (piece_of a.base piece) (state_after one.view.seen).parents (state_after other.view.seen).parents (ap (λ (s : State). s.parents) seen_same)
       (all alike.alone.all) (also (other_alone one.view other.view alike).all) in (
         ap (λ (k : ℕ). Ok k) is,
-        same_after one.view new.view one' other.view next.view other' (Parents group (piece_of piece) (Stored m)) (Parents group (piece_of piece) (Stored n)) alike did looked too round
-            (ap (λ (k : ℕ). Parents group (piece_of piece) (Stored k)) is),
+        same_after one.view new.view one' other.view next.view other' (Parents group (piece_of a.base piece) (Stored m)) (Parents group (piece_of a.base piece) (Stored n)) alike did looked too
+            round (ap (λ (k : ℕ). Parents group (piece_of a.base piece) (Stored k)) is),
       )
-  parents_alike (Ok m) (Err unstored.OtherRoot) p q did kept all too stays also =
-      let never : Ok m ≡ Err unstored.OtherRoot = p.1 (subst (λ (f : Fixed). ¬ IsOf f piece) (sym same) (q.0 refl)) in cc
-  parents_alike (Ok m) (Err unstored.OtherLength) p q did kept all too stays also =
-      absurd (other_length other.view next.view other' group (piece_of piece) self_other stays round
-      (ap (λ (s : State). s.recorded) seen_same ∙ stored_length one.view new.view one' group m (piece_of piece) self did looked))
-  parents_alike (Err unstored.OtherRoot) (Ok n) p q none did all too stays also =
-      let never : Ok n ≡ Err unstored.OtherRoot = q.1 (subst (λ (f : Fixed). ¬ IsOf f piece) same (p.0 refl)) in cc
-  parents_alike (Err unstored.OtherLength) (Ok n) p q none did all too stays also =
-      absurd (other_length one.view new.view one' group (piece_of piece) self did looked
-      (ap (λ (s : State). s.recorded) (sym seen_same) ∙ stored_length other.view next.view other' group n (piece_of piece) self_other too round))
-  parents_alike (Err unstored.OtherRoot) (Err unstored.OtherRoot) p q none did all nobody too also =
+  parents_one (Ok m) (Err unstored.OtherRoot) p q did kept all too stays also =
+      let never : Ok m ≡ Err unstored.OtherRoot = p.1 (q.0 refl) in cc
+  parents_one (Ok m) (Err unstored.OtherLength) p q did kept all too stays also =
+      absurd (other_length other.view next.view other' group (piece_of a.base piece) self_other stays round
+      (ap (λ (s : State). s.recorded) seen_same ∙ stored_length one.view new.view one' group m (piece_of a.base piece) self did looked))
+  parents_one (Err unstored.OtherRoot) (Ok n) p q none did all too stays also =
+      let never : Ok n ≡ Err unstored.OtherRoot = q.1 (p.0 refl) in cc
+  parents_one (Err unstored.OtherLength) (Ok n) p q none did all too stays also =
+      absurd (other_length one.view new.view one' group (piece_of a.base piece) self did looked
+      (ap (λ (s : State). s.recorded) (sym seen_same) ∙ stored_length other.view next.view other' group n (piece_of a.base piece) self_other too round))
+  parents_one (Err unstored.OtherRoot) (Err unstored.OtherRoot) p q none did all nobody too also =
       (refl, neither one.view one' other.view other' alike (stayed one new one' did looked) (stayed other next other' too round))
-  parents_alike (Err unstored.OtherLength) (Err unstored.OtherLength) p q none did all nobody too also = (
+  parents_one (Err unstored.OtherLength) (Err unstored.OtherLength) p q none did all nobody too also = (
     refl,
-    same_after one.view new.view one' other.view next.view other' (Parents group (piece_of piece) OtherLength) (Parents group (piece_of piece) OtherLength) alike did looked too round
-        refl,
+    same_after one.view new.view one' other.view next.view other' (Parents group (piece_of a.base piece) OtherLength) (Parents group (piece_of a.base piece) OtherLength) alike did looked too
+        round refl,
   )
-  parents_alike (Err unstored.OtherRoot) (Err unstored.OtherLength) p q none did all nobody too also =
-      let never : Err unstored.OtherLength ≡ Err unstored.OtherRoot = q.1 (subst (λ (f : Fixed). ¬ IsOf f piece) same (p.0 refl)) in cc
-  parents_alike (Err unstored.OtherLength) (Err unstored.OtherRoot) p q none did all nobody too also =
-      let never : Err unstored.OtherLength ≡ Err unstored.OtherRoot = p.1 (subst (λ (f : Fixed). ¬ IsOf f piece) (sym same) (q.0 refl)) in cc
+  parents_one (Err unstored.OtherRoot) (Err unstored.OtherLength) p q none did all nobody too also =
+      let never : Err unstored.OtherLength ≡ Err unstored.OtherRoot = q.1 (p.0 refl) in cc
+  parents_one (Err unstored.OtherLength) (Err unstored.OtherRoot) p q none did all nobody too also =
+      let never : Err unstored.OtherLength ≡ Err unstored.OtherRoot = p.1 (q.0 refl) in cc
+
+  pub parents_alike : (r s : Result ℕ ParentsFault) → (r ≡ Err unstored.OtherRoot ↔ (¬ IsOf a piece)) → (s ≡ Err unstored.OtherRoot ↔ (¬ IsOf b piece))
+      → IfOk r (λ m. Called (Parents group (piece_of a.base piece) (Stored m)) one.view new.view) → IfErr r (λ e. SeatIsUnstored a group piece e one new)
+      → (AreAllNames one.view.names → IfOk r (λ m. AreAllParents one.view group (piece_of a.base piece) (Stored m)))
+      → IfOk s (λ m. Called (Parents group (piece_of b.base piece) (Stored m)) other.view next.view) → IfErr s (λ e. SeatIsUnstored b group piece e other next)
+      → (AreAllNames other.view.names → IfOk s (λ m. AreAllParents other.view group (piece_of b.base piece) (Stored m))) → (r ≡ s) × AreAlike one' other'
+  parents_alike r s p q did kept all too stays also =
+      let back : b ≡ a = sym same in
+      parents_one r s p (subst (λ (f : Fixed). s ≡ Err unstored.OtherRoot ↔ (¬ IsOf f piece)) back q) did kept all
+      (subst (λ (f : Fixed). IfOk s (λ m. Called (Parents group (piece_of f.base piece) (Stored m)) other.view next.view)) back too)
+      (subst (λ (f : Fixed). IfErr s (λ e. SeatIsUnstored f group piece e other next)) back stays)
+      (subst (λ (f : Fixed). AreAllNames other.view.names → IfOk s (λ m. AreAllParents other.view group (piece_of f.base piece) (Stored m))) back also)
 
 -- A lone seat and a one-thread store.
 module _ (fixed : Fixed) (store next : Store) (number : ℕ) (seat new : Gripped) (later : SeatView) (group : ℕ) (piece : Checked) (alike : StandsAlike store number seat.view)
@@ -105,49 +118,56 @@ module _ (fixed : Fixed) (store next : Store) (number : ℕ) (seat new : Gripped
   recorded_is : (state_of store).recorded ≡ (state_after seat.view.seen).recorded
   recorded_is = ap (λ (s : State). s.recorded) alike.state_is
 
-  was_stored : (m : ℕ) → Called (Parents group (piece_of piece) (Stored m)) seat.view new.view → IsEvent store next (caller number) (Parents group (piece_of piece) (Stored m))
+  -- the store's event, of the piece as the shared store counts it
+  its_event : (answer : Storing) → IsEvent store next (caller number) (Parents group (piece_of (fixed_of store).base piece) answer)
+      → IsEvent store next (caller number) (Parents group (piece_of fixed.base piece) answer)
+  its_event answer had = subst (λ (f : Fixed). IsEvent store next (caller number) (Parents group (piece_of f.base piece) answer)) same had
+
+  was_stored : (m : ℕ) → Called (Parents group (piece_of fixed.base piece) (Stored m)) seat.view new.view → IsEvent store next (caller number) (Parents group (piece_of (fixed_of store).base piece) (Stored m))
       → StandsAlike next number later
-  was_stored m did had =
-      let call : Call = Parents group (piece_of piece) (Stored m) in
+  was_stored m did also =
+      let had = its_event (Stored m) also in
+      let call : Call = Parents group (piece_of fixed.base piece) (Stored m) in
       stands_after store next number seat.view later call alike (called_alone seat.view new.view later call alike.alone did looked).goes had.fixed had.after
 
-  not_stored : IsSame store next → IsEvent store next (caller number) (Parents group (piece_of piece) OtherLength) → Called (Parents group (piece_of piece) OtherLength) seat.view new.view
+  not_stored : IsSame store next → IsEvent store next (caller number) (Parents group (piece_of (fixed_of store).base piece) OtherLength) → Called (Parents group (piece_of fixed.base piece) OtherLength) seat.view new.view
       → StandsAlike next number later
-  not_stored stays had did =
-      let call : Call = Parents group (piece_of piece) OtherLength in
+  not_stored stays also did =
+      let had = its_event OtherLength also in
+      let call : Call = Parents group (piece_of fixed.base piece) OtherLength in
       stands_after store next number seat.view later call alike (called_alone seat.view new.view later call alike.alone did looked).goes had.fixed had.after
 
   refused_there : (f : StoreFault) → (◌≡◌ {A = Result ℕ StoreFault} (Err f) (Err faults.OtherRoot) ↔ (¬ IsOf (fixed_of store) piece))
-      → (◌≡◌ {A = Result ℕ StoreFault} (Err f) (Err faults.OtherLength) ↔ (IsOf (fixed_of store) piece × ((state_of store).recorded ≢ Some (length_of (piece_of piece)))))
-      → (¬ ¬ IsOf (fixed_of store) piece) → ((state_of store).recorded ≢ Some (length_of (piece_of piece))) → f ≢ faults.OtherLength → ⊥
+      → (◌≡◌ {A = Result ℕ StoreFault} (Err f) (Err faults.OtherLength) ↔ (IsOf (fixed_of store) piece × ((state_of store).recorded ≢ Some (length_of (piece_of (fixed_of store).base piece)))))
+      → (¬ ¬ IsOf (fixed_of store) piece) → ((state_of store).recorded ≢ Some (length_of (piece_of (fixed_of store).base piece))) → f ≢ faults.OtherLength → ⊥
   refused_there f root length of other differs = of (λ is.
       let same_fault : ◌≡◌ {A = Result ℕ StoreFault} (Err f) (Err faults.OtherLength) = length.1 (is, other) in
       let is_it : f ≡ faults.OtherLength = cc in differs is_it)
 
   pub parents_as_store : (r : Result ℕ ParentsFault) (s : Result ℕ StoreFault) → (r ≡ Err unstored.OtherRoot ↔ (¬ IsOf fixed piece))
       → (s ≡ Err faults.OtherRoot ↔ (¬ IsOf (fixed_of store) piece))
-      → (s ≡ Err faults.OtherLength ↔ (IsOf (fixed_of store) piece × ((state_of store).recorded ≢ Some (length_of (piece_of piece)))))
+      → (s ≡ Err faults.OtherLength ↔ (IsOf (fixed_of store) piece × ((state_of store).recorded ≢ Some (length_of (piece_of (fixed_of store).base piece)))))
       → s ≢ Err faults.NoGroup
-      → IfOk r (λ m. Called (Parents group (piece_of piece) (Stored m)) seat.view new.view) → IfErr r (λ e. SeatIsUnstored group piece e seat new)
-      → (AreAllNames seat.view.names → IfOk r (λ m. AreAllParents seat.view group (piece_of piece) (Stored m)))
+      → IfOk r (λ m. Called (Parents group (piece_of fixed.base piece) (Stored m)) seat.view new.view) → IfErr r (λ e. SeatIsUnstored fixed group piece e seat new)
+      → (AreAllNames seat.view.names → IfOk r (λ m. AreAllParents seat.view group (piece_of fixed.base piece) (Stored m)))
       → IfOk s (λ m. DidStore store next group piece (Stored m))
-      → IfOk s (λ m. IsMaskOf group m (λ b. holds_parent (piece_of piece) b && not (is_some ((state_of store).parents b))))
+      → IfOk s (λ m. IsMaskOf group m (λ b. holds_parent (piece_of (fixed_of store).base piece) b && not (is_some ((state_of store).parents b))))
       → IfErr s (λ f. IsUnstored store next group piece f)
       → AnswerAlike faults.Memory store_fault r s (StandsAlike next number later)
   parents_as_store (Ok m) (Ok n) p q length never did none all had whole kept =
-      let is : m ≡ n = one_mask group m n (piece_of piece) (state_after seat.view.seen).parents (state_of store).parents (ap (λ (s : State). s.parents) alike.state_is)
+      let is : m ≡ n = one_mask group m n (piece_of fixed.base piece) (state_after seat.view.seen).parents (state_of store).parents (ap (λ (s : State). s.parents) alike.state_is)
       (all alike.alone.all) whole in
-      (is, was_stored m did (subst (λ (k : ℕ). IsEvent store next (caller number) (Parents group (piece_of piece) (Stored k))) (sym is) (had (caller number))))
+      (is, was_stored m did (subst (λ (k : ℕ). IsEvent store next (caller number) (Parents group (piece_of (fixed_of store).base piece) (Stored k))) (sym is) (had (caller number))))
   parents_as_store (Ok m) (Err faults.Memory) p q length never did none all had whole kept = refl
   parents_as_store (Ok m) (Err faults.NoGroup) p q length never did none all had whole kept = absurd (never refl)
   parents_as_store (Ok m) (Err faults.OtherRoot) p q length never did none all had whole kept =
       let bad : Ok m ≡ Err unstored.OtherRoot = p.1 (subst (λ (f : Fixed). ¬ IsOf f piece) same (q.0 refl)) in cc
   parents_as_store (Ok m) (Err faults.OtherLength) p q length never did none all had whole kept =
-      absurd ((length.0 refl).1 (recorded_is ∙ stored_length seat.view new.view later group m (piece_of piece) its did looked))
+      absurd ((length.0 refl).1 (recorded_is ∙ stored_length seat.view new.view later group m (piece_of fixed.base piece) its did looked))
   parents_as_store (Err unstored.OtherRoot) (Ok n) p q length never none did all had whole kept =
       let bad : Ok n ≡ Err faults.OtherRoot = q.1 (subst (λ (f : Fixed). ¬ IsOf f piece) (sym same) (p.0 refl)) in cc
   parents_as_store (Err unstored.OtherLength) (Ok n) p q length never none did all had whole kept =
-      absurd (other_length seat.view new.view later group (piece_of piece) its did looked (sym recorded_is ∙ (had (caller number)).right.1.0))
+      absurd (other_length seat.view new.view later group (piece_of fixed.base piece) its did looked (sym recorded_is ∙ (had (caller number)).right.1.0))
   parents_as_store (Err unstored.OtherRoot) (Err faults.OtherRoot) p q length never none did all had whole kept =
       (refl, stands_on store next number seat.view later alike (looked_alone seat.view later alike.alone (stayed seat new later did looked)) kept)
   parents_as_store (Err unstored.OtherRoot) (Err faults.Memory) p q length never none did all had whole kept =
@@ -163,7 +183,7 @@ module _ (fixed : Fixed) (store next : Store) (number : ℕ) (seat new : Gripped
   parents_as_store (Err unstored.OtherLength) (Err faults.Memory) p q length never none did all had whole kept =
       absurd (refused_there faults.Memory q length
       (λ other. let bad : Err unstored.OtherLength ≡ Err unstored.OtherRoot = p.1 (subst (λ (f : Fixed). ¬ IsOf f piece) same other) in cc)
-      (λ is. other_length seat.view new.view later group (piece_of piece) its did looked (sym recorded_is ∙ is)) (λ e. cc))
+      (λ is. other_length seat.view new.view later group (piece_of fixed.base piece) its did looked (sym recorded_is ∙ is)) (λ e. cc))
 
 -- boundaries that lone grips claim
 pub claims_alike : (one new other next : SeatView) (group want m n a b : ℕ) → AreAlike one other → a ≡ b → IsStoringNow group m one new → IsStoringNow group n other next
@@ -192,20 +212,27 @@ module _ (one new one' other next other' : SeatView) (group : ℕ) (piece : Piec
   itself : (view : SeatView) → IsAlone view → AreAlike view view
   itself view alone = record { alone = alone; fixed_are = refl; names_are = refl; seen_are = refl }
 
-  pub storings_alike : (r s : Storing) → Called (Parents group piece r) one new → (AreAllNames one.names → AreAllParents one group piece r)
+  storings_one : (r s : Storing) → Called (Parents group piece r) one new → (AreAllNames one.names → AreAllParents one group piece r)
       → Called (Parents group piece s) other next → (AreAllNames other.names → AreAllParents other group piece s) → (r ≡ s) × AreAlike one' other'
-  storings_alike OtherLength OtherLength did all too also =
+  storings_one OtherLength OtherLength did all too also =
       (refl, same_after one new one' other next other' (Parents group piece OtherLength) (Parents group piece OtherLength) alike did looked too round refl)
-  storings_alike OtherLength (Stored n) did all too also =
+  storings_one OtherLength (Stored n) did all too also =
       absurd (other_length one new one' group piece (itself one alike.alone) did looked
       (ap (λ (s : State). s.recorded) (sym past_same) ∙ stored_length other next other' group n piece (itself other (other_alone one other alike)) too round))
-  storings_alike (Stored m) OtherLength did all too also =
+  storings_one (Stored m) OtherLength did all too also =
       absurd (other_length other next other' group piece (itself other (other_alone one other alike)) too round
       (ap (λ (s : State). s.recorded) past_same ∙ stored_length one new one' group m piece (itself one alike.alone) did looked))
-  storings_alike (Stored m) (Stored n) did all too also =
+  storings_one (Stored m) (Stored n) did all too also =
       let is : m ≡ n = one_mask group m n piece (state_after one.seen).parents (state_after other.seen).parents (ap (λ (s : State). s.parents) past_same) (all alike.alone.all)
       (also (other_alone one other alike).all) in (
         ap (λ (k : ℕ). Stored k) is,
         same_after one new one' other next other' (Parents group piece (Stored m)) (Parents group piece (Stored n)) alike did looked too round
             (ap (λ (k : ℕ). Parents group piece (Stored k)) is),
       )
+
+  -- the second's piece is the first's
+  pub storings_alike : (its : Piece) (r s : Storing) → its ≡ piece → Called (Parents group piece r) one new → (AreAllNames one.names → AreAllParents one group piece r)
+      → Called (Parents group its s) other next → (AreAllNames other.names → AreAllParents other group its s) → (r ≡ s) × AreAlike one' other'
+  storings_alike its r s same did all too also =
+      storings_one r s did all (subst (λ (p : Piece). Called (Parents group p s) other next) same too)
+      (subst (λ (p : Piece). AreAllNames other.names → AreAllParents other group p s) same also)

@@ -1,5 +1,5 @@
 -- A lone seat and a one-thread store that stands for the same, asked the same.
-use Rattle.std.proofs.Common.{◌≡◌, ◌≢◌, ◌↔◌, ◌⊎◌, inl, inr, ℕ, ◌<◌, ◌≤◌, ◌*◌, List, [], ◌∷◌, ◌++◌, map, length, drop, Option, None, Some, option_map, Result, IfOk, IfErr, IsOk, OnErr, Ok, Err, true, false, refl, sym, ap, subst, ◌∙◌, arith, append-nil, eq-eqb}
+use Rattle.std.proofs.Common.{◌≡◌, ◌≢◌, ◌↔◌, ◌⊎◌, inl, inr, ℕ, ◌<◌, ◌≤◌, List, [], ◌∷◌, ◌++◌, map, length, drop, Option, None, Some, option_map, Result, IfOk, IfErr, IsOk, OnErr, Ok, Err, true, false, refl, sym, ap, subst, ◌∙◌, arith, append-nil, eq-eqb}
 use Rattle.std.proofs.lemmas.Bool.{cases_Bool, cases_lt, or_left}
 use Rattle.bao_check.proofs.Lists.{Contains-cons_cases}
 use Rattle.bao_check.specs.declared.checked.Checked.{Checked}
@@ -19,7 +19,7 @@ use Rattle.store_core.specs.declared.fault.StoreFault.TheVariants as unstored
 use Rattle.store_core.specs.declared.store.Store.{Store}
 use Rattle.store_core.specs.declared.view.Named.{Named}
 use Rattle.store_core.specs.declared.view.SeatView.{SeatView}
-use Rattle.store_core.specs.Events.{IsRightReply, after_call}
+use Rattle.store_core.specs.Events.{IsRightReply, after_call, has_room}
 use Rattle.store_core.specs.Histories.{state_after}
 use Rattle.store_core.specs.Knowledge.{Called, LooksRound, event_of}
 use Rattle.store_core.specs.Laws.{is_partial, question}
@@ -191,7 +191,7 @@ commit_only s group other unstored.NoGroup is = absurd (group is)
 commit_only s group other unstored.OtherRoot is = inr refl
 commit_only s group other unstored.OtherLength is = absurd (other is)
 
--- the store has the root, mode and capacity that the shared one has
+-- the store has the root, mode, capacity and first chunk that the shared one has
 pub store_fixed : (store : Store) (number : ℕ) (view : SeatView) (fixed : Fixed) → StandsAlike store number view → view.fixed ≡ fixed → fixed_of store ≡ fixed
 store_fixed store number view fixed alike is = alike.fixed_is ∙ is
 
@@ -213,13 +213,14 @@ takes_as_store fixed store next number seat new later group want r s alike is p 
 pub commits_as_store : (fixed : Fixed) (store next : Store) (number : ℕ) (seat new : Gripped) (later : SeatView) (group : ℕ) (piece : Checked) (r : Result ℕ OtherRoot)
     (s : Result ℕ StoreFault) → StandsAlike store number seat.view → seat.view.fixed ≡ fixed → (IsOk r ↔ IsOf fixed piece)
     → (s ≡ Err unstored.OtherRoot ↔ (¬ IsOf (fixed_of store) piece)) → s ≢ Err unstored.NoGroup → s ≢ Err unstored.OtherLength
-    → IfOk r (λ m. Called (Commit group (piece_of piece) m) seat.view new.view) → OnErr r (new ≡ seat) → LooksRound new.view later
-    → IfOk s (λ m. IsEvent store next (caller number) (Commit group (piece_of piece) m)) → OnErr s (IsSame store next)
+    → IfOk r (λ m. Called (Commit group (piece_of fixed.base piece) m) seat.view new.view) → OnErr r (new ≡ seat) → LooksRound new.view later
+    → IfOk s (λ m. IsEvent store next (caller number) (Commit group (piece_of (fixed_of store).base piece) m)) → OnErr s (IsSame store next)
     → AnswerAlike unstored.Memory (λ _. unstored.OtherRoot) r s (StandsAlike next number later)
 commits_as_store fixed store next number seat new later group piece r s alike is p q absent other did kept looked had same =
     let same_fixed : fixed_of store ≡ fixed = store_fixed store number seat.view fixed alike is in
-    masks_as_store (IsOf fixed piece) unstored.OtherRoot (λ m. Commit group (piece_of piece) m) (λ m. refl) (λ m n. refl) (λ m n e. ap mask_in e) store next number seat new later
-    alike r s p (subst (λ (f : Fixed). s ≡ Err unstored.OtherRoot ↔ (¬ IsOf f piece)) same_fixed q) (commit_only s absent other) did kept looked had same
+    masks_as_store (IsOf fixed piece) unstored.OtherRoot (λ m. Commit group (piece_of fixed.base piece) m) (λ m. refl) (λ m n. refl) (λ m n e. ap mask_in e) store next number seat new later
+    alike r s p (subst (λ (f : Fixed). s ≡ Err unstored.OtherRoot ↔ (¬ IsOf f piece)) same_fixed q) (commit_only s absent other) did kept looked
+    (subst (λ (f : Fixed). IfOk s (λ m. IsEvent store next (caller number) (Commit group (piece_of f.base piece) m))) same_fixed had) same
 
 abbrev bytes_in : Call → List ℕ
 bytes_in (Read at len bytes) = bytes
@@ -241,9 +242,9 @@ reads_as_store store number view new later at old was after last r s alike e did
 -- what a settled length met in the store
 data StoreMet (store next : Store) (number : ℕ) (piece : Checked) (answer : Settling) : Type 0 where
   store_not_of : (¬ IsOf (fixed_of store) piece) → IsSame store next → answer ≡ settling.OtherRoot → StoreMet store next number piece answer
-  store_too_large : IsOf (fixed_of store) piece → 1024 * (fixed_of store).capacity < length_of (piece_of piece) → IsSame store next → answer ≡ settling.TooLarge
+  store_too_large : IsOf (fixed_of store) piece → has_room (fixed_of store) (length_of (piece_of (fixed_of store).base piece)) ≡ false → IsSame store next → answer ≡ settling.TooLarge
       → StoreMet store next number piece answer
-  store_event : answer ≢ settling.OtherRoot → IsEvent store next (caller number) (Settle (piece_of piece) answer) → StoreMet store next number piece answer
+  store_event : answer ≢ settling.OtherRoot → IsEvent store next (caller number) (Settle (piece_of (fixed_of store).base piece) answer) → StoreMet store next number piece answer
 
 store_met : (store next : Store) (number : ℕ) (piece : Checked) (answer : Settling) → Settles store next piece answer → StoreMet store next number piece answer
 store_met store next number piece settling.OtherRoot did = store_not_of did.0 did.1 refl
@@ -272,12 +273,16 @@ module _ (fixed : Fixed) (store next : Store) (number : ℕ) (seat new : Gripped
   met_as_store r s (too_large of high kept is) root (store_not_of nor same also) = absurd (nor (subst (λ (f : Fixed). IsOf f piece) (sym same_fixed) of))
   met_as_store r s (too_large of high kept is) root (store_too_large too tall same also) = (is ∙ sym also, neither_settled kept same)
   met_as_store r s (too_large of high kept is) root (store_event never had) =
-      absurd (omega (arith, high, had.right.2, ap (λ (f : Fixed). f.capacity) same_fixed))
+      let fits : has_room fixed (length_of (piece_of fixed.base piece)) ≡ true = subst (λ (f : Fixed). has_room f (length_of (piece_of f.base piece)) ≡ true) same_fixed had.right.2 in
+      let no : false ≡ true = sym high ∙ fits in cc
   met_as_store r s (is_event may did) root (store_not_of nor same also) = absurd (nor (subst (λ (f : Fixed). IsOf f piece) (sym same_fixed) may.of))
   met_as_store r s (is_event may did) root (store_too_large too tall same also) =
-      absurd (omega (arith, tall, may.fits, ap (λ (f : Fixed). f.capacity) same_fixed))
+      let large : has_room fixed (length_of (piece_of fixed.base piece)) ≡ false = subst (λ (f : Fixed). has_room f (length_of (piece_of f.base piece)) ≡ false) same_fixed tall in
+      let no : false ≡ true = sym large ∙ may.fits in cc
   met_as_store r s (is_event may did) root (store_event never had) =
-      let b = both_had store next number seat.view new.view later (Settle (piece_of piece) r) (Settle (piece_of piece) s) alike did looked had refl refl in
+      let its : IsEvent store next (caller number) (Settle (piece_of fixed.base piece) s) =
+      subst (λ (f : Fixed). IsEvent store next (caller number) (Settle (piece_of f.base piece) s)) same_fixed had in
+      let b = both_had store next number seat.view new.view later (Settle (piece_of fixed.base piece) r) (Settle (piece_of fixed.base piece) s) alike did looked its refl refl in
       (ap answer_in b.0, b.1)
 
   pub settles_as_store : (r s : Settling) → SeatSettles fixed seat new piece r → (s ≡ settling.OtherRoot ↔ (¬ IsOf (fixed_of store) piece)) → Settles store next piece s
@@ -337,7 +342,7 @@ module _ {V : Type 0} (items : V → List ℕ) (store : Store) (number : ℕ) (v
   slices_as_store (Err e) (Err f) p g q h = refused e f g h
 
 -- so both begin
-pub new_alike : (fixed : Fixed) (view : SeatView) (store : Store) (number : ℕ) → view ≡ opening_view fixed → IsNew store fixed.root fixed.mode fixed.capacity
+pub new_alike : (fixed : Fixed) (view : SeatView) (store : Store) (number : ℕ) → view ≡ opening_view fixed → IsNew store fixed
     → StandsAlike store number view
 new_alike fixed view store number is new = subst (λ (v : SeatView). StandsAlike store number v) (sym is) (record {
   alone = record {
@@ -351,12 +356,12 @@ new_alike fixed view store number is new = subst (λ (v : SeatView). StandsAlike
     own = refl;
   };
   claimed = λ c name claimed. let no : None ≡ Some name = claimed in cc;
-  fixed_is = new.fixed;
+  fixed_is = new.fixed_is;
   state_is = new.state;
 })
 
 pub both_new : {A E F : Type 0} (view : A → SeatView) (of : A → Fixed) (fixed : Fixed) (r : Result A E) (s : Result Store F) → IfOk r (λ made. of made ≡ fixed)
-    → IfOk r (λ made. view made ≡ opening_view (of made)) → IfOk s (λ store. IsNew store fixed.root fixed.mode fixed.capacity)
+    → IfOk r (λ made. view made ≡ opening_view (of made)) → IfOk s (λ store. IsNew store fixed)
     → IfOk r (λ made. IfOk s (λ store. (number : ℕ) → StandsAlike store number (view made)))
 both_new view of fixed (Ok made) (Ok store) is first new = λ number. new_alike fixed (view made) store number (first ∙ ap (λ (f : Fixed). opening_view f) is) new
 both_new view of fixed (Ok made) (Err f) is first new = tt

@@ -18,7 +18,7 @@ pub record IsAlone (view : SeatView) : Type 0 where
   pub all : AreAllNames view.names
   pub own : mine view ≡ view.seen
 
--- Both are alone, each in a store of the same root, mode and capacity. They have the same names and have seen the same.
+-- Both are alone, each in a store of the same root, mode, capacity and first chunk. They have the same names and have seen the same.
 pub record AreAlike (one other : SeatView) : Type 0 where
   pub alone : IsAlone one
   pub fixed_are : other.fixed ≡ one.fixed
@@ -37,8 +37,8 @@ pub record HaveTheSame (one other : SeatView) : Type 0 where
 abbrev pub renamed : ℕ → State → State
 renamed number s = record s { claim = λ c. option_map (λ (name : Name). number ∷ []) (s.claim c) }
 
--- The seat is alone, and claims each chunk that is claimed. The one-thread store has the same root, mode and capacity, and
--- stands for the state after what the seat has seen, in which the seat with this number is the one that claims.
+-- The seat is alone, and claims each chunk that is claimed. The one-thread store has the same root, mode, capacity and first
+-- chunk, and stands for the state after what the seat has seen, in which the seat with this number is the one that claims.
 pub record StandsAlike (store : Store) (number : ℕ) (view : SeatView) : Type 0 where
   pub alone : IsAlone view
   pub claimed : (c : ℕ) (name : Name) → (state_after view.seen).claim c ≡ Some name → has_name (names_of view) name ≡ true

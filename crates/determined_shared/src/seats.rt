@@ -25,6 +25,24 @@ pub fn new_determined(
     (one, other)
 }
 
+pub fn from_chunk_determined(
+    alloc: Global,
+    root: Hash,
+    mode: Mode,
+    base: u64,
+    capacity: u32,
+) -> (
+    Result<(Assembly, Seat), NewFault>,
+    Result<(Assembly, Seat), NewFault>,
+)
+    ensures made { IfOk result.0 (λ x. IfOk result.1 (λ y. (fixed_of x.0 ≡ fixed_of y.0) × (x.1.view ≡ y.1.view))) }
+    ensures capacity { (result.0 ≡ Err NewFault.Capacity) ↔ (result.1 ≡ Err NewFault.Capacity) }
+{
+    let one = Assembly::from_chunk(alloc, root, mode, base, capacity);
+    let other = Assembly::from_chunk(alloc, root, mode, base, capacity);
+    (one, other)
+}
+
 pub fn root_determined(a: &Assembly, b: &Assembly) -> (Hash, Hash)
     requires { fixed_of a.now ≡ fixed_of b.now }
     ensures { result.0 ≡ result.1 }
@@ -44,6 +62,13 @@ pub fn capacity_determined(a: &Assembly, b: &Assembly) -> (u32, u32)
     ensures { result.0 ≡ result.1 }
 {
     (a.capacity(), b.capacity())
+}
+
+pub fn base_determined(a: &Assembly, b: &Assembly) -> (u64, u64)
+    requires { fixed_of a.now ≡ fixed_of b.now }
+    ensures { result.0 ≡ result.1 }
+{
+    (a.base(), b.base())
 }
 
 pub fn groups_determined(a: &Assembly, b: &Assembly) -> (u32, u32)

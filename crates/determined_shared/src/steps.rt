@@ -1,12 +1,13 @@
 // Steps on a store's words, and calls of many steps, made with a grip that is alone: what a store's seat asks is made of
 // them. Where a law isn't here, docs/PROMISES.md says why.
 
-ghost use Rattle.std.specs.Prelude.{◌≡◌, ◌*◌, ◌<◌, ◌≤◌, [], IfOk, IsOk, Some, true, is_some};
+ghost use Rattle.std.specs.Prelude.{◌≡◌, ◌<◌, ◌≤◌, ◌^◌, [], IfOk, IsOk, Some, true, is_some};
 ghost use Rattle.bao_check.specs.Checked.{piece_claimed};
 ghost use Rattle.bao_check.specs.Tail.{tail_piece};
 ghost use Rattle.determined_shared.specs.Alone.{AgreeOrLack, AreAlike};
 ghost use Rattle.store_calls.specs.Grips.{CoversGroup, IsGripOf, fixed_of};
 ghost use Rattle.store_core.specs.declared.fault.ServeFault.TheVariants as unserved;
+ghost use Rattle.store_core.specs.Events.{has_room};
 ghost use Rattle.store_core.specs.Histories.{state_after};
 ghost use Rattle.store_core.specs.Masks.{IsMaskOf};
 ghost use Rattle.store_core.specs.Pieces.{length_of, piece_of};
@@ -25,16 +26,18 @@ pub fn words_new_determined(
     alloc: Global,
     root: Hash,
     mode: Mode,
+    base: u64,
     capacity: u32,
 ) -> (
     Result<(Words, Grip), NewFault>,
     Result<(Words, Grip), NewFault>,
 )
-    requires { (0 < capacity) × (capacity ≤ 65536) }
+    requires some { (0 < capacity) × (capacity ≤ 65536) }
+    requires low { base ≤ 2 ^ 54 }
     ensures { IfOk result.0 (λ x. IfOk result.1 (λ y. (fixed_of x.0 ≡ fixed_of y.0) × (x.1.view ≡ y.1.view))) }
 {
-    let one = Words::new(alloc, root, mode, capacity);
-    let other = Words::new(alloc, root, mode, capacity);
+    let one = Words::new(alloc, root, mode, base, capacity);
+    let other = Words::new(alloc, root, mode, base, capacity);
     (one, other)
 }
 
@@ -43,6 +46,13 @@ pub fn words_fixed_determined(a: &Words, b: &Words) -> (Fixed, Fixed)
     ensures { result.0 ≡ result.1 }
 {
     (a.fixed(), b.fixed())
+}
+
+pub fn words_base_determined(a: &Words, b: &Words) -> (u64, u64)
+    requires { fixed_of a.now ≡ fixed_of b.now }
+    ensures { result.0 ≡ result.1 }
+{
+    (a.base(), b.base())
 }
 
 pub fn words_take_alone(
@@ -77,7 +87,7 @@ pub fn words_settle_alone(
     requires second { IsGripOf b.now second.old }
     requires alike { AreAlike first.old.view second.old.view }
     requires piece { IsOf (fixed_of a.now) (tail_piece tail.now) × IsOf (fixed_of b.now) (tail_piece tail.now) }
-    requires fits { (piece_claimed (tail_piece tail.now) ≤ 1024 * (fixed_of a.now).capacity) × (piece_claimed (tail_piece tail.now) ≤ 1024 * (fixed_of b.now).capacity) }
+    requires fits { (has_room (fixed_of a.now) (piece_claimed (tail_piece tail.now)) ≡ true) × (has_room (fixed_of b.now) (piece_claimed (tail_piece tail.now)) ≡ true) }
     ensures { (result.0 ≡ result.1) × AreAlike first.new.view second.new.view }
 {
     let ours = a.settle(first, tail);
@@ -244,8 +254,8 @@ pub fn words_publish_alone(
     requires alike { AreAlike first.old.view second.old.view }
     requires groups { CoversGroup a.now group × CoversGroup b.now group }
     requires piece { IsOf (fixed_of a.now) piece.now × IsOf (fixed_of b.now) piece.now }
-    requires mask { AreHeldClaims first.old.view group (piece_of piece.now) mask × AreHeldClaims second.old.view group (piece_of piece.now) mask }
-    requires written { AreWordsStored first.old.view.written group mask (piece_of piece.now) × AreWordsStored second.old.view.written group mask (piece_of piece.now) }
+    requires mask { AreHeldClaims first.old.view group (piece_of (fixed_of a.now).base piece.now) mask × AreHeldClaims second.old.view group (piece_of (fixed_of b.now).base piece.now) mask }
+    requires written { AreWordsStored first.old.view.written group mask (piece_of (fixed_of a.now).base piece.now) × AreWordsStored second.old.view.written group mask (piece_of (fixed_of b.now).base piece.now) }
     ensures { AreAlike first.new.view second.new.view }
 {
     a.publish(first, group, piece, mask);
@@ -289,8 +299,8 @@ pub fn words_publish_parents_alone(
     requires alike { AreAlike first.old.view second.old.view }
     requires groups { CoversGroup a.now group × CoversGroup b.now group }
     requires piece { IsOf (fixed_of a.now) piece.now × IsOf (fixed_of b.now) piece.now }
-    requires length { ((state_after first.old.view.seen).recorded ≡ Some (length_of (piece_of piece.now))) × ((state_after second.old.view.seen).recorded ≡ Some (length_of (piece_of piece.now))) }
-    requires written { AreParentsWritten first.old.view group mask (piece_of piece.now) × AreParentsWritten second.old.view group mask (piece_of piece.now) }
+    requires length { ((state_after first.old.view.seen).recorded ≡ Some (length_of (piece_of (fixed_of a.now).base piece.now))) × ((state_after second.old.view.seen).recorded ≡ Some (length_of (piece_of (fixed_of b.now).base piece.now))) }
+    requires written { AreParentsWritten first.old.view group mask (piece_of (fixed_of a.now).base piece.now) × AreParentsWritten second.old.view group mask (piece_of (fixed_of b.now).base piece.now) }
     ensures { AreAlike first.new.view second.new.view }
 {
     a.publish_parents(first, group, piece, mask);

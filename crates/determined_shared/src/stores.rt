@@ -32,6 +32,25 @@ pub fn new_is_the_stores(
     (ours, theirs)
 }
 
+/// So do those of a part of a blob.
+pub fn from_chunk_is_the_stores(
+    alloc: Global,
+    root: Hash,
+    mode: Mode,
+    base: u64,
+    capacity: u32,
+) -> (
+    Result<(Assembly, Seat), NewFault>,
+    Result<Store, BadCapacity>,
+)
+    ensures alike { IfOk result.0 (λ made. IfOk result.1 (λ store. (number : ℕ) → StandsAlike store number made.1.view)) }
+    ensures capacity { (result.0 ≡ Err NewFault.Capacity) ↔ IsErr result.1 }
+{
+    let ours = Assembly::from_chunk(alloc, root, mode, base, capacity);
+    let theirs = Store::from_chunk(alloc, root, mode, base, capacity);
+    (ours, theirs)
+}
+
 pub fn take_is_the_stores(
     a: &Assembly,
     seat: &mut Seat,

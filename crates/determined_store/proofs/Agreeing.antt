@@ -1,6 +1,6 @@
 -- Two stores that stand for the same, asked the same.
-use Rattle.std.proofs.Common.{◌≡◌, ◌≢◌, ◌↔◌, ◌⊎◌, inl, inr, ℕ, ◌*◌, ◌≤◌, Bool, false, List, [], ◌++◌, length, drop, Option, Some, is_some, not, ◌&&◌, Result, Ok, Err, IfOk, IfErr, nat_le, if◌then◌else◌, refl, sym, ap, subst, ◌∙◌, arith}
-use Rattle.std.proofs.lemmas.Bool.{le-leb, lt-leb}
+use Rattle.std.proofs.Common.{◌≡◌, ◌≢◌, ◌↔◌, ◌⊎◌, inl, inr, ℕ, ◌≤◌, Bool, false, List, [], ◌++◌, length, drop, Option, Some, is_some, not, ◌&&◌, Result, Ok, Err, IfOk, IfErr, if◌then◌else◌, refl, sym, ap, subst, ◌∙◌, arith}
+use Rattle.bao_check.specs.Checked.{piece_claimed}
 use Rattle.bao_check.specs.declared.checked.Checked.{Checked}
 use Rattle.store_core.specs.declared.fixed.Fixed.{Fixed}
 use Rattle.store_core.specs.declared.fault.Missing.{Missing}
@@ -16,7 +16,7 @@ use Rattle.store_core.specs.declared.history.Storing.TheVariants.{Stored}
 use Rattle.store_core.specs.declared.history.Settling.{Settling}
 use Rattle.store_core.specs.declared.history.Settling.TheVariants as settling
 use Rattle.store_core.specs.declared.store.Store.{Store}
-use Rattle.store_core.specs.Events.{IsRightReply, after_call, recorded_after, settling as settled}
+use Rattle.store_core.specs.Events.{IsRightReply, after_call, has_room, recorded_after, settling as settled}
 use Rattle.store_core.specs.Laws.{is_partial, question}
 use Rattle.store_core.specs.Masks.{IsMaskOf}
 use Rattle.store_core.specs.Names.{Name}
@@ -97,10 +97,11 @@ takes_agree a a' b b' who group want r s same did also pins =
     masks_agree a a' b b' who (λ m. Take group want m) r s (λ m. refl) (λ m n. refl) (λ m n e. ap mask_in e) same did also pins
 
 pub commits_agree : (a a' b b' : Store) (who : List Name) (group : ℕ) (piece : Checked) (r s : Result ℕ StoreFault) → IsSame a b
-    → IfOk r (λ m. IsEvent a a' who (Commit group (piece_of piece) m)) → IfOk s (λ m. IsEvent b b' who (Commit group (piece_of piece) m)) → Pins r s
+    → IfOk r (λ m. IsEvent a a' who (Commit group (piece_of (fixed_of a).base piece) m)) → IfOk s (λ m. IsEvent b b' who (Commit group (piece_of (fixed_of b).base piece) m)) → Pins r s
     → AgreeOrLack unstored.Memory (AreEqual {X = ℕ}) r s (IsSame a' b')
 commits_agree a a' b b' who group piece r s same did also pins =
-    masks_agree a a' b b' who (λ m. Commit group (piece_of piece) m) r s (λ m. refl) (λ m n. refl) (λ m n e. ap mask_in e) same did also pins
+    masks_agree a a' b b' who (λ m. Commit group (piece_of (fixed_of a).base piece) m) r s (λ m. refl) (λ m n. refl) (λ m n e. ap mask_in e) same did
+    (subst (λ (z : Fixed). IfOk s (λ m. IsEvent b b' who (Commit group (piece_of z.base piece) m))) same.fixed also) pins
 
 pub gives_agree : (a a' b b' : Store) (who : List Name) (group mask m n : ℕ) → IsSame a b → IsEvent a a' who (Give group mask m) → IsEvent b b' who (Give group mask n)
     → (m ≡ n) × IsSame a' b'
@@ -185,25 +186,28 @@ refusals_agree a b start len (unserved.Lacking m) (unserved.Lacking n) same did 
 -- parents
 pub parents_agree : (a a' b b' : Store) (group : ℕ) (piece : Checked) (r s : Result ℕ StoreFault) → IsSame a b
     → IfOk r (λ m. DidStore a a' group piece (Stored m)) → IfOk s (λ m. DidStore b b' group piece (Stored m))
-    → IfOk r (λ mask. IsMaskOf group mask (λ m. holds_parent (piece_of piece) m && not (is_some ((state_of a).parents m))))
-    → IfOk s (λ mask. IsMaskOf group mask (λ m. holds_parent (piece_of piece) m && not (is_some ((state_of b).parents m))))
+    → IfOk r (λ mask. IsMaskOf group mask (λ m. holds_parent (piece_of (fixed_of a).base piece) m && not (is_some ((state_of a).parents m))))
+    → IfOk s (λ mask. IsMaskOf group mask (λ m. holds_parent (piece_of (fixed_of b).base piece) m && not (is_some ((state_of b).parents m))))
     → Pins r s → AgreeOrLack unstored.Memory (AreEqual {X = ℕ}) r s (IsSame a' b')
 parents_agree a a' b b' group piece r s same did also all every pins =
     agree r s (IsSame a' b') pins (λ m n is too.
+    let base : ℕ = (fixed_of a).base in
     let e : DidStore a a' group piece (Stored m) = subst (λ (x : Result ℕ StoreFault). IfOk x (λ m. DidStore a a' group piece (Stored m))) is did in
     let f : DidStore b b' group piece (Stored n) = subst (λ (x : Result ℕ StoreFault). IfOk x (λ m. DidStore b b' group piece (Stored m))) too also in
-    let ours : IsMaskOf group m (λ k. holds_parent (piece_of piece) k && not (is_some ((state_of a).parents k))) =
-    subst (λ (x : Result ℕ StoreFault). IfOk x (λ mask. IsMaskOf group mask (λ k. holds_parent (piece_of piece) k && not (is_some ((state_of a).parents k))))) is all in
-    let theirs : IsMaskOf group n (λ k. holds_parent (piece_of piece) k && not (is_some ((state_of b).parents k))) =
-    subst (λ (x : Result ℕ StoreFault). IfOk x (λ mask. IsMaskOf group mask (λ k. holds_parent (piece_of piece) k && not (is_some ((state_of b).parents k))))) too every in
-    let there : IsMaskOf group n (λ k. holds_parent (piece_of piece) k && not (is_some ((state_of a).parents k))) =
-    subst (λ (t : State). IsMaskOf group n (λ k. holds_parent (piece_of piece) k && not (is_some (t.parents k)))) same.state theirs in
-    let one : m ≡ n = mask_unique group m n (λ k. holds_parent (piece_of piece) k && not (is_some ((state_of a).parents k))) ours there in
-    (one, same_after a a' b b' [] (Parents group (piece_of piece) (Stored m)) (Parents group (piece_of piece) (Stored n)) same (e []) (f []) (ap (λ k. Parents group (piece_of piece) (Stored k)) one)))
+    let other : IsEvent b b' [] (Parents group (piece_of base piece) (Stored n)) =
+    subst (λ (z : Fixed). IsEvent b b' [] (Parents group (piece_of z.base piece) (Stored n))) same.fixed (f []) in
+    let ours : IsMaskOf group m (λ k. holds_parent (piece_of base piece) k && not (is_some ((state_of a).parents k))) =
+    subst (λ (x : Result ℕ StoreFault). IfOk x (λ mask. IsMaskOf group mask (λ k. holds_parent (piece_of base piece) k && not (is_some ((state_of a).parents k))))) is all in
+    let theirs : IsMaskOf group n (λ k. holds_parent (piece_of base piece) k && not (is_some ((state_of b).parents k))) =
+    subst (λ (x : Result ℕ StoreFault). IfOk x (λ mask. IsMaskOf group mask (λ k. holds_parent (piece_of base piece) k && not (is_some ((state_of b).parents k))))) too every in
+    let there : IsMaskOf group n (λ k. holds_parent (piece_of base piece) k && not (is_some ((state_of a).parents k))) =
+    subst (λ (t : State). IsMaskOf group n (λ k. holds_parent (piece_of base piece) k && not (is_some (t.parents k)))) same.state theirs in
+    let one : m ≡ n = mask_unique group m n (λ k. holds_parent (piece_of base piece) k && not (is_some ((state_of a).parents k))) ours there in
+    (one, same_after a a' b b' [] (Parents group (piece_of base piece) (Stored m)) (Parents group (piece_of base piece) (Stored n)) same (e []) other (ap (λ k. Parents group (piece_of base piece) (Stored k)) one)))
 
 -- whether the recorded length isn't the piece's
 abbrev IsOther : Fixed → State → Checked → Type 0
-IsOther fixed s piece = IsOf fixed piece × (s.recorded ≢ Some (length_of (piece_of piece)))
+IsOther fixed s piece = IsOf fixed piece × (s.recorded ≢ Some (length_of (piece_of fixed.base piece)))
 
 pub parents_pin : (a b : Store) (piece : Checked) (r s : Result ℕ StoreFault) → IsSame a b
     → (r ≡ Err unstored.OtherRoot ↔ (¬ IsOf (fixed_of a) piece)) → (s ≡ Err unstored.OtherRoot ↔ (¬ IsOf (fixed_of b) piece))
@@ -228,8 +232,8 @@ slices_agree items a b start len (Err h) (Ok y) same p q e f = text_refused b a 
 slices_agree items a b start len (Err h) (Err g) same p q e f = refusals_agree a b start len h g same e f
 
 -- a settled length, by a piece of the store's root and mode: what it meets, and what stands after it
-abbrev expected : Fixed → State → ℕ → Settling
-expected fixed s l = if nat_le l (1024 * fixed.capacity) then settled s.recorded l else settling.TooLarge
+abbrev pub expected : Fixed → State → ℕ → Settling
+expected fixed s l = if has_room fixed l then settled s.recorded l else settling.TooLarge
 
 abbrev left : State → Settling → ℕ → State
 left s answer l = record s { recorded = recorded_after answer l s.recorded }
@@ -239,19 +243,17 @@ record Settled (a new : Store) (l : ℕ) (answer : Settling) : Type 0 where
   fixed : fixed_of new ≡ fixed_of a
   state : state_of new ≡ left (state_of a) answer l
 
-of_event : (a new : Store) (piece : Checked) (answer : Settling) → IsEvent a new [] (Settle (piece_of piece) answer) → Settled a new (length_of (piece_of piece)) answer
+of_event : (a new : Store) (piece : Checked) (answer : Settling) → IsEvent a new [] (Settle (piece_of (fixed_of a).base piece) answer) → Settled a new (piece_claimed piece) answer
 of_event a new piece answer e = record {
-  is = e.right.3 ∙ sym (ap (λ (t : Bool). if t then settled (state_of a).recorded (length_of (piece_of piece)) else settling.TooLarge)
-      (le-leb (length_of (piece_of piece)) (1024 * (fixed_of a).capacity) e.right.2));
+  is = e.right.3 ∙ sym (ap (λ (t : Bool). if t then settled (state_of a).recorded (piece_claimed piece) else settling.TooLarge) e.right.2);
   fixed = e.fixed;
   state = e.after;
 }
 
-settles_once : (a new : Store) (piece : Checked) (answer : Settling) → answer ≢ settling.OtherRoot → Settles a new piece answer → Settled a new (length_of (piece_of piece)) answer
+settles_once : (a new : Store) (piece : Checked) (answer : Settling) → answer ≢ settling.OtherRoot → Settles a new piece answer → Settled a new (piece_claimed piece) answer
 settles_once a new piece settling.OtherRoot of did = absurd (of refl)
 settles_once a new piece settling.TooLarge of did = record {
-  is = sym (ap (λ (t : Bool). if t then settled (state_of a).recorded (length_of (piece_of piece)) else settling.TooLarge)
-      (lt-leb (length_of (piece_of piece)) (1024 * (fixed_of a).capacity) did.1));
+  is = sym (ap (λ (t : Bool). if t then settled (state_of a).recorded (piece_claimed piece) else settling.TooLarge) did.1);
   fixed = did.2.fixed;
   state = did.2.state;
 }
@@ -263,15 +265,15 @@ settles_once a new piece settling.Differs of did = of_event a new piece settling
 settles_of : (a a' b b' : Store) (piece : Checked) (r s : Settling) → IsSame a b → r ≢ settling.OtherRoot → s ≢ settling.OtherRoot → Settles a a' piece r → Settles b b' piece s
     → (r ≡ s) × IsSame a' b'
 settles_of a a' b b' piece r s same of also did too =
-    let ours : Settled a a' (length_of (piece_of piece)) r = settles_once a a' piece r of did in
-    let theirs : Settled b b' (length_of (piece_of piece)) s = settles_once b b' piece s also too in
+    let l : ℕ = piece_claimed piece in
+    let ours : Settled a a' l r = settles_once a a' piece r of did in
+    let theirs : Settled b b' l s = settles_once b b' piece s also too in
     let answer : r ≡ s =
-    ours.is ∙ ap (λ (t : State). expected (fixed_of a) t (length_of (piece_of piece))) (sym same.state)
-    ∙ ap (λ (z : Fixed). expected z (state_of b) (length_of (piece_of piece))) (sym same.fixed) ∙ sym theirs.is in (
+    ours.is ∙ ap (λ (t : State). expected (fixed_of a) t l) (sym same.state) ∙ ap (λ (z : Fixed). expected z (state_of b) l) (sym same.fixed) ∙ sym theirs.is in (
       answer,
       record {
         fixed = theirs.fixed ∙ same.fixed ∙ sym ours.fixed;
-        state = theirs.state ∙ ap (λ (t : State). left t s (length_of (piece_of piece))) same.state ∙ ap (λ (x : Settling). left (state_of a) x (length_of (piece_of piece))) (sym answer) ∙ sym ours.state;
+        state = theirs.state ∙ ap (λ (t : State). left t s l) same.state ∙ ap (λ (x : Settling). left (state_of a) x l) (sym answer) ∙ sym ours.state;
       },
     )
 

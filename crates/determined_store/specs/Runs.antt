@@ -9,7 +9,7 @@ use Rattle.store_core.specs.declared.schedule.ScheduleRun.{ScheduleRun}
 use Rattle.store_core.specs.Machine.{Machine}
 use Rattle.store_core.specs.ScheduleRuns.{HasRun}
 
--- Both took these steps over the pieces from an empty store of this root, mode and capacity, with these replies.
+-- Both took these steps over the pieces from an empty store of this root, mode, capacity and first chunk, with these replies.
 pub record TookTheSame (pieces : List Checked) (one other : ScheduleRun) : Type 0 where
   pub fixed : Fixed
   pub steps : List MicroStep

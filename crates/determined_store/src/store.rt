@@ -1,6 +1,6 @@
 // The calls of a store.
 
-ghost use Rattle.std.specs.Prelude.{◌≡◌, ◌↔◌, Err, ◌+◌, ◌≤◌, ℕ, List, IfOk, length, take};
+ghost use Rattle.std.specs.Prelude.{◌≡◌, ◌↔◌, Err, ◌+◌, ◌≤◌, ℕ, List, IfOk, IsOk, length, take};
 ghost use Rattle.determined_store.specs.Agreeing.{Agree, AgreeOrLack, AreEqual};
 ghost use Rattle.store_core.specs.Stores.{IsSame};
 ghost use Rattle.store_core.specs.declared.fault.StoreFault.TheVariants as unstored;
@@ -17,11 +17,28 @@ pub fn new_determined(
     mode: Mode,
     capacity: u32,
 ) -> (Result<Store, BadCapacity>, Result<Store, BadCapacity>)
-    ensures { IfOk result.0 (λ a. IfOk result.1 (λ b. IsSame a b)) }
+    ensures fits { IsOk result.0 ↔ IsOk result.1 }
+    ensures same { IfOk result.0 (λ a. IfOk result.1 (λ b. IsSame a b)) }
 {
     (
         Store::new(alloc, root, mode, capacity),
         Store::new(alloc, root, mode, capacity),
+    )
+}
+
+pub fn from_chunk_determined(
+    alloc: Global,
+    root: Hash,
+    mode: Mode,
+    base: u64,
+    capacity: u32,
+) -> (Result<Store, BadCapacity>, Result<Store, BadCapacity>)
+    ensures fits { IsOk result.0 ↔ IsOk result.1 }
+    ensures same { IfOk result.0 (λ a. IfOk result.1 (λ b. IsSame a b)) }
+{
+    (
+        Store::from_chunk(alloc, root, mode, base, capacity),
+        Store::from_chunk(alloc, root, mode, base, capacity),
     )
 }
 

@@ -53,6 +53,12 @@ pub fn groups_determined(fixed: &Fixed) -> (u32, u32)
     (fixed.groups(), fixed.groups())
 }
 
+pub fn has_room_determined(fixed: &Fixed, length: u64) -> (bool, bool)
+    ensures { result.0 ≡ result.1 }
+{
+    (fixed.has_room(length), fixed.has_room(length))
+}
+
 pub fn is_of_determined(fixed: &Fixed, root: &Hash, mode: &Mode) -> (bool, bool)
     ensures { result.0 ≡ result.1 }
 {

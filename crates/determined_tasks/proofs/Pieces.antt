@@ -10,9 +10,9 @@ use Rattle.store_core.specs.Pieces.{piece_of}
 use Rattle.bao_script.specs.Slices.{ArePieces, IsPieceOf, IsRefusedSlice, Slice}
 use Rattle.determined_check.proofs.OneFault.{one_fault}
 
--- two pieces of one encoding
+-- two pieces of one encoding, whichever chunk a store counts from
 abbrev pub Alike : Checked → Checked → Type 0
-Alike x y = (x.root.0 ≡ y.root.0) × (x.mode ≡ y.mode) × (piece_of x ≡ piece_of y)
+Alike x y = (x.root.0 ≡ y.root.0) × (x.mode ≡ y.mode) × ((base : ℕ) → piece_of base x ≡ piece_of base y)
 
 abbrev pub AlikeAt : Option Checked → Option Checked → Type 0
 AlikeAt None None = Unit {0}
@@ -29,7 +29,7 @@ one_piece mode root slice x y a b =
     let q = b.piece_is in (
       p.root_is ∙ sym q.root_is,
       p.mode_is ∙ sym q.mode_is,
-      λ i. record { start = (p.start_is ∙ sym q.start_is) i; len = (p.len_is ∙ sym q.len_is) i; text = (p.text_is ∙ sym q.text_is) i },
+      λ base i. record { base = base; start = (p.start_is ∙ sym q.start_is) i; len = (p.len_is ∙ sym q.len_is) i; text = (p.text_is ∙ sym q.text_is) i },
     )
 
 more_alike : (x y : Checked) (xs ys : List Checked) → Alike x y → AllAlike xs ys → AllAlike (x ∷ xs) (y ∷ ys)

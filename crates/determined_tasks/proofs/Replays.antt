@@ -26,7 +26,7 @@ HasRoom capacity = (0 < capacity) × (capacity ≤ 65536)
 
 module _ (mode : Mode) (root : Hash) (capacity : ℕ) (text : List ℕ) (files : List (List ℕ)) where
   abbrev fixed : Fixed
-  fixed = record { root = root; mode = mode; capacity = capacity }
+  fixed = record { root = root; mode = mode; capacity = capacity; base = 0 }
 
   -- what an answer says
   abbrev pub Says : {X : Type 0} → (X → List ℕ) → Result X RerunFault → Type 0

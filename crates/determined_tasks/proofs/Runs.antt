@@ -32,11 +32,11 @@ has_piece fixed xs ys i alike has =
     let other = found (slice_get xs i) (slice_get ys i) has.piece (alike i) has.is in
     record { piece = other.0; is = other.1; root = sym other.2.0 ∙ has.root; mode = sym other.2.1 ∙ has.mode }
 
-same_piece : (o u : Option Checked) → AlikeAt o u → option_map piece_of o ≡ option_map piece_of u
-same_piece None None alike = refl
-same_piece (Some x) (Some y) alike = ap (λ (p : Piece). Some p) alike.2
-same_piece None (Some y) alike = absurd alike
-same_piece (Some x) None alike = absurd alike
+same_piece : (base : ℕ) (o u : Option Checked) → AlikeAt o u → option_map (piece_of base) o ≡ option_map (piece_of base) u
+same_piece base None None alike = refl
+same_piece base (Some x) (Some y) alike = ap (λ (p : Piece). Some p) (alike.2 base)
+same_piece base None (Some y) alike = absurd alike
+same_piece base (Some x) None alike = absurd alike
 
 also_legal : (fixed : Fixed) (xs ys : List Checked) (m : Machine) (step : MicroStep) → AllAlike xs ys → IsLegalStep fixed xs m step → IsLegalStep fixed ys m step
 also_legal fixed xs ys m (Claim n group want) alike h = h
@@ -51,7 +51,7 @@ also_legal fixed xs ys m (Length n) alike h = h
 same_after : (fixed : Fixed) (xs ys : List Checked) (m : Machine) (step : MicroStep) (reply : Option Reply) → AllAlike xs ys → after_step fixed xs m step reply ≡ after_step fixed ys m step reply
 same_after fixed xs ys m (Claim n group want) reply alike = refl
 same_after fixed xs ys m (Hash n i) reply alike =
-    ap (λ (p : Option Piece). with_seat m n (record (m.seat n) { piece = p; written = λ c w. false })) (same_piece (slice_get xs i) (slice_get ys i) (alike i))
+    ap (λ (p : Option Piece). with_seat m n (record (m.seat n) { piece = p; written = λ c w. false })) (same_piece fixed.base (slice_get xs i) (slice_get ys i) (alike i))
 same_after fixed xs ys m (Write n c w) reply alike = refl
 same_after fixed xs ys m (Publish n group) reply alike = refl
 same_after fixed xs ys m (GiveBack n group mask) reply alike = refl

@@ -1,3 +1,4 @@
+use Rattle.std.proofs.Common.{refl}
 use Rattle.gather.specs.HandedOut.{own_bytes}
 use Rattle.gather.specs.Large.{fixed_as}
 use Rattle.gather.specs.Lists.{IsCutOfSource}
@@ -7,7 +8,7 @@ use Rattle.determined_gather.proofs.texts.gather_sources_determined.Goals as goa
 pub returns-clause-blob : goal.returns-clause-blob
 returns-clause-blob g c =
     gathers_agree own_bytes (IsCutOfSource g.S.Source.contents g.S.Source.faultless c.args.sources.now) (fixed_as c.args.root c.args.mode c.args.capacity)
-    c.gather_sources-one.result c.gather_sources-other.result c.gather_sources-one.ensures.gathers c.gather_sources-other.ensures.gathers
+    c.gather_sources-one.result c.gather_sources-other.result refl c.gather_sources-one.ensures.gathers c.gather_sources-other.ensures.gathers
 
 pub returns-clause-capacity : goal.returns-clause-capacity
 returns-clause-capacity g c =

@@ -1,4 +1,4 @@
-use Rattle.std.proofs.Common.{map}
+use Rattle.std.proofs.Common.{map, refl}
 use Rattle.std.specs.Prelude.{vec_items}
 use Rattle.gather.specs.Encodings.{IsCutOf}
 use Rattle.gather.specs.Large.{fixed_as}
@@ -7,7 +7,7 @@ use Rattle.determined_gather.proofs.texts.gather_texts_determined.Goals as goal
 
 pub returns-clause-blob : goal.returns-clause-blob
 returns-clause-blob c =
-    gathers_agree vec_items (IsCutOf (map vec_items c.args.texts.now)) (fixed_as c.args.root c.args.mode c.args.capacity) c.gather_texts-one.result c.gather_texts-other.result
+    gathers_agree vec_items (IsCutOf (map vec_items c.args.texts.now)) (fixed_as c.args.root c.args.mode c.args.capacity) c.gather_texts-one.result c.gather_texts-other.result refl
     c.gather_texts-one.ensures.gathers c.gather_texts-other.ensures.gathers
 
 pub returns-clause-capacity : goal.returns-clause-capacity

@@ -5,7 +5,7 @@ use Rattle.determined_program.proofs.scripts.replay_script_determined.Goals as g
 
 pub returns : goal.returns
 returns c =
-    let fixed : Fixed = record { root = c.args.root; mode = c.args.mode; capacity = c.args.capacity } in
+    let fixed : Fixed = record { root = c.args.root; mode = c.args.mode; capacity = c.args.capacity; base = 0 } in
     let one = c.replay_script-one.ensures in
     let other = c.replay_script-other.ensures in
     runs_agree (λ text. text.items) fixed (map (λ file. file.items) c.args.files.now) c.args.script.now c.replay_script-one.result c.replay_script-other.result
