@@ -307,6 +307,8 @@ class Texts:
 
 GROUP_LEN = 64
 MAX_CAPACITY = 65536
+# The first chunk past a blob of 2^64 - 1 bytes.
+MAX_BASE = 2**54
 # A byte that a buffer for a read has before.
 UNREAD = 9
 
@@ -345,7 +347,8 @@ class Draw:
 
 
 class Stores:
-    """A store of one blob's chunks: which are held, which seat claims which, and the length once it is known."""
+    """A store of one blob's chunks: which are held, which seat claims which, and the length once it is known. It counts
+    chunks and positions from the blob's chunk `base` on; where that isn't the first, no length is ever known."""
 
     FAULTS = [
         "701 701 memory",
@@ -369,12 +372,12 @@ class Stores:
 
     def __init__(self):
         self.mode, self.blob, self.pieces = bao.Mode(), b"", {}
-        self.capacity = 0
+        self.capacity = self.base = 0
 
-    def open(self, capacity):
-        if not 1 <= capacity <= MAX_CAPACITY:
+    def open(self, capacity, base=0):
+        if not 1 <= capacity <= MAX_CAPACITY or base > MAX_BASE:
             return "802 capacity"
-        self.capacity, self.of, self.root = capacity, self.mode, self.mode.hash(self.blob)
+        self.capacity, self.base, self.of, self.root = capacity, base, self.mode, self.mode.hash(self.blob)
         self.held, self.claims, self.length, self.seats, self.parents = {}, {}, None, 1, {}
         return f"groups {self.groups()}"
 
@@ -405,10 +408,10 @@ class Stores:
     def commit(self, seat, group, piece):
         if (piece.root, piece.mode) != (self.root, self.of):
             return "804 other root"
-        stored = [it for it in self.chunks(group, 2**64 - 1) if self.claims.get(it) == seat and it in piece.chunks]
+        stored = [it for it in self.chunks(group, 2**64 - 1) if self.claims.get(it) == seat and self.base + it in piece.chunks]
         for it in stored:
             del self.claims[it]
-            self.held[it] = piece.chunks[it]
+            self.held[it] = piece.chunks[self.base + it]
         return f"committed {self.mask(group, stored):x}"
 
     def store_parents(self, group, piece):
@@ -436,7 +439,7 @@ class Stores:
             return "no tail"
         if (piece.root, piece.mode) != (self.root, self.of):
             return "other root"
-        if piece.length > bao.CHUNK_LEN * self.capacity:
+        if self.base > 0 or piece.length > bao.CHUNK_LEN * self.capacity:
             return "too large"
         if self.length is None:
             self.length = piece.length
@@ -494,7 +497,7 @@ class Stores:
                 self.blob = bytes.fromhex(rest)
                 return []
             case "store":
-                return [self.open(numbers[0])]
+                return [self.open(*numbers)]
             case "piece":
                 self.pieces[words[0]] = Piece(self.mode, self.blob, int(words[1]), int(words[2]))
                 return [told(self.pieces[words[0]].text)]

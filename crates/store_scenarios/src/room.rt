@@ -101,7 +101,9 @@ fn hand_over(store: &mut Store, groups: u32, first: u32, second: u32) -> Result<
 
 impl Room {
     ghost use Rattle.store_scenarios.specs.Rooms.{IsWell};
+    ghost use Rattle.store_shared.specs.Seats.{IsSeatOf};
 
+    // The stores of a whole blob, and the first seat.
     pub fn new(alloc: Global, root: Hash, mode: Mode, capacity: u32) -> Result<Room, NewFault>
         ensures { IfOk result IsWell }
     {
@@ -109,6 +111,30 @@ impl Room {
         let Ok(alone) = Store::new(alloc, root, mode, capacity) else {
             return Err(NewFault::Capacity);
         };
+        Room::of(alloc, alone, shared, seat)
+    }
+
+    // The same of the part of a blob that begins with a chunk.
+    pub fn from_chunk(
+        alloc: Global,
+        root: Hash,
+        mode: Mode,
+        base: u64,
+        capacity: u32,
+    ) -> Result<Room, NewFault>
+        ensures { IfOk result IsWell }
+    {
+        let (shared, seat) = Assembly::from_chunk(alloc, root, mode, base, capacity)?;
+        let Ok(alone) = Store::from_chunk(alloc, root, mode, base, capacity) else {
+            return Err(NewFault::Capacity);
+        };
+        Room::of(alloc, alone, shared, seat)
+    }
+
+    fn of(alloc: Global, alone: Store, shared: Assembly, seat: Seat) -> Result<Room, NewFault>
+        requires { IsSeatOf shared seat }
+        ensures { IfOk result IsWell }
+    {
         let mut seats = Vec::new(alloc);
         if seats.push(Some(seat)).is_err() {
             return Err(NewFault::Memory);

@@ -1,3 +1,5 @@
+ghost use Rattle.std.specs.Prelude.{IfOk};
+
 use crate::faults::faults;
 use crate::line::{mask, mode, number, short, words};
 use crate::piece::Piece;
@@ -5,6 +7,7 @@ use crate::room::{Room, told};
 use anyhow::{Context, Result, bail};
 use b3tree::{Mode, hash};
 use std::alloc::Global;
+use store_shared::NewFault;
 
 // What the lines before have made, beside the room.
 #[derive(Drop)]
@@ -89,16 +92,30 @@ impl Scene {
         Ok(String::new(alloc))
     }
 
-    // A new store for the blob, with one seat.
+    // The stores that a line asks for: for the whole blob, or for the part that begins with a chunk.
+    fn room(&self, alloc: Global, words: &[&str]) -> Result<Result<Room, NewFault>>
+        ensures { IfOk result (λ made. IfOk made IsWell) }
+    {
+        let root = hash(&self.mode, self.blob.as_slice());
+        match words {
+            [capacity] => Ok(Room::new(alloc, root, self.mode, short(capacity)?)),
+            [capacity, "from", base] => Ok(Room::from_chunk(
+                alloc,
+                root,
+                self.mode,
+                number(base)?,
+                short(capacity)?,
+            )),
+            _ => bail!("a capacity"),
+        }
+    }
+
+    // A new store, with one seat.
     fn open(&self, alloc: Global, room: &mut Room, words: &[&str]) -> Result<String>
         requires { IsWell room.old }
         ensures { IsWell room.new }
     {
-        let [capacity] = words else {
-            bail!("a capacity")
-        };
-        let root = hash(&self.mode, self.blob.as_slice());
-        match Room::new(alloc, root, self.mode, short(capacity)?) {
+        match self.room(alloc, words)? {
             Ok(new) => {
                 *room = new;
                 let groups = room.shared.groups();
