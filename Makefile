@@ -71,7 +71,7 @@ dist:
 # What rt ci leaves is the program that it proved, and the libraries that the C library is built over.
 test:
 	@python3 scripts/laws.py
-	@python3 scripts/wrong_bodies.py --read
+	@python3 scripts/wrong_bodies.py --read --strict
 	@python3 scripts/scenarios.py
 	rt ci
 	@python3 scripts/docs.py crates/bao_gather/out/bao_gather
