@@ -1,3 +1,4 @@
+pub mod SecondPass
 pub mod Results
 pub mod Hashes
 pub mod Encodings

@@ -7,7 +7,7 @@ use Rattle.b3tree.specs.declared.values.Hash.{Hash}
 use Rattle.b3tree.specs.Hashing.{hash}
 use Rattle.bao_text.specs.declared.fault.WriteFault.{WriteFault}
 use Rattle.bao_text.specs.declared.fault.WriteFault.TheVariants as text
-use Rattle.bao_read.specs.Given.{IsHashOf}
+use Rattle.bao_read.specs.Given.{GivenAt, IsHashOf}
 use Rattle.bao_files.specs.declared.kinds.Encoding.{Encoding as Kind}
 use Rattle.bao_files.specs.declared.kinds.Encoding.TheVariants.{Combined, Outboard, Slice}
 use Rattle.bao_files.specs.declared.fault.FileFault.{FileFault}
@@ -35,10 +35,18 @@ answer_at_path path (Err (text.Writer written)) = Err (Write path)
 abbrev pub AppendsPart : Option (List ℕ) → Option (List ℕ) → List ℕ → Type 0
 AppendsPart old new text = (n : ℕ) × (n < length text) × Appends old new (take n text)
 
--- the encoding of the bytes was written, and the answer is their hash; or nothing was written, out of memory or
--- as the one path can't be read; or a beginning, as the other can't be written
+-- the encoding of the bytes was written, and the answer is their hash; or nothing was written, out of memory or as the one path
+-- can't be read; or a beginning, as the other can't be written, or, of a combined encoding, which is written while the one is
+-- read a second time, as that can't be read again
 abbrev pub Encodes : Mode → Kind → List ℕ → Bor (List ℕ) → Bor (List ℕ) → Option (List ℕ) → Option (List ℕ) → Result Hash FileFault → Type 0
 Encodes mode kind bytes file path old new (Ok answer) = (answer.0 ≡ hash mode bytes) × Appends old new (encoding_text mode kind bytes)
 Encodes mode kind bytes file path old new (Err fault) =
     (((fault ≡ Memory) ⊎ (fault ≡ Encoding) ⊎ (fault ≡ Read file)) × Keeps old new)
     ⊎ ((fault ≡ Write path) × AppendsPart old new (encoding_text mode kind bytes))
+    ⊎ ((fault ≡ Read file) × (kind ≡ Combined) × AppendsPart old new (encoding_text mode kind bytes))
+
+-- the same of bytes that have the hash of these, and are the contents if these are
+abbrev pub EncodesLike : Option (List ℕ) → Mode → List ℕ → Bor (List ℕ) → Bor (List ℕ) → Option (List ℕ) → Option (List ℕ) → Result Hash FileFault → Type 0
+EncodesLike contents mode bytes file path old new result =
+    (again : List ℕ) × (length again ≡ length bytes) × (GivenAt contents 0 bytes → GivenAt contents 0 again)
+    × Encodes mode Combined again file path old new result

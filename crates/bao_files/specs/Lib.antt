@@ -1,5 +1,6 @@
 pub mod Printed
 pub mod Reading
 pub mod Encoded
+pub mod Again
 pub mod Faults
 pub mod ProgressLine

@@ -7,6 +7,7 @@ use std::alloc::Global;
 use std::fs;
 use std::fs::OpenFile;
 use std::io::Read;
+use std::os::unix::fs::MetadataExt;
 use std::rt::Files;
 
 // The most bytes that one read asks for.
@@ -106,6 +107,14 @@ pub(crate) fn size_of<'a, F: OpenFile>(file: &F, path: &'a str) -> Result<u64, F
     match file.metadata() {
         Ok(metadata) => Ok(metadata.len()),
         Err(_) => Err(FileFault::Read(path)),
+    }
+}
+
+/// Whether what stands at `path` is this very file, under whatever name: then it can't be read any more once `path` is made anew.
+pub fn is_same_file<R: Files, F: OpenFile>(rt: &R, file: &F, path: &str) -> bool {
+    match (file.metadata(), fs::metadata(rt, path)) {
+        (Ok(ours), Ok(theirs)) => ours.dev() == theirs.dev() && ours.ino() == theirs.ino(),
+        _ => false,
     }
 }
 

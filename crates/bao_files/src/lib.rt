@@ -4,7 +4,9 @@
 
 pub use digits::{bytes_of_digits, print_count, print_digits, print_output, print_text};
 pub use fault::FileFault;
-pub use input::{ReadFault, open_file, read_file, read_input, read_sized, read_whole, shared_len};
+pub use input::{
+    ReadFault, is_same_file, open_file, read_file, read_input, read_sized, read_whole, shared_len,
+};
 pub use kinds::{Encoding, Part};
 pub use meter::Meter;
 pub use once::Once;
@@ -13,6 +15,7 @@ pub use progress::Progress;
 pub use reading::{hash_reader, print_input, print_reader};
 pub use shown::Shown;
 
+mod again;
 mod digits;
 mod fault;
 mod input;

@@ -1,19 +1,26 @@
-ghost use Rattle.std.specs.Prelude.{◌≡◌, ℕ, List, IfErr, IfOk, IfSome, OnOk, Some};
+ghost use Rattle.std.specs.Prelude.{◌≡◌, ℕ, ◌+◌, ◌-◌, ◌*◌, ◌<◌, ◌≤◌, List, length, IfErr, IfOk, IfSome, OnOk, Some};
 ghost use Rattle.std.specs.Io.KnownBytes.{Appends};
 ghost use Rattle.b3tree.specs.Hashing.{hash};
 ghost use Rattle.bao_text.specs.Faults.{WroteOnly};
 ghost use Rattle.bao_text.specs.Texts.{joined};
-ghost use Rattle.bao_files.specs.Encoded.{Encodes, IsMadeEncoding, answer_at_path, encoding_text};
+ghost use Rattle.bao_files.specs.Encoded.{Encodes, EncodesLike, IsMadeEncoding, answer_at_path, encoding_text};
+ghost use Rattle.bao_files.specs.Again.{fault_at_paths};
+ghost use Rattle.bao_files.specs.declared.kinds.Encoding.TheVariants as KindOf;
+ghost use Rattle.bao_text.specs.Choice.{chunk_count};
 ghost use Rattle.bao_files.specs.Printed.{IsQuiet, NamesPaths};
 
+use crate::again::{AgainFault, write_again};
 use crate::fault::FileFault;
-use crate::input::{LEAST_SHARED_LEN, open_file, read_input, size_of};
+use crate::input::{LEAST_SHARED_LEN, is_same_file, open_file, read_input, size_of};
 use crate::kinds::Encoding;
 use crate::progress::Progress;
 use crate::shown::Shown;
 use b3tree::{Hash, Mode};
-use bao_read::{Source, WORKERS, combined_source, outboard_source};
-use bao_text::{WriteFault, outboard, slice, write_combined, write_text, write_texts};
+use bao_read::{PIECE_LEN, Source, WORKERS, outboard_source, slice_source};
+use bao_text::{
+    WriteFault, outboard, outboard_len, slice, subtree_size, write_combined, write_text,
+    write_texts,
+};
 use std::alloc::Global;
 use std::fs::File;
 use std::io::{Read, Write};
@@ -120,9 +127,9 @@ pub fn write_encoding<W: Write>(
     }
 }
 
-// The combined or outboard encoding of the bytes of an input that is said to have `size` of them, and their hash, by several
+// The outboard encoding of the bytes of an input that is said to have `size` of them, or a slice, and their hash, by several
 // threads at once. Where the bytes are few or not so many, and where a read or memory fails, there is none, nor is there a
-// slice. The input is read by position, so that it is left where it stood.
+// combined encoding. The input is read by position, so that it is left where it stood.
 fn encoding_by_position<R: Threads + Sync, I: Source + Sync>(
     rt: &R,
     alloc: Global,
@@ -131,6 +138,7 @@ fn encoding_by_position<R: Threads + Sync, I: Source + Sync>(
     input: &I,
     size: u64,
 ) -> Option<(Hash, Vec<Vec<u8>>)>
+    ensures long { IfSome result (λ _. 4194304 ≤ size) }
     ensures all { IfSome result (λ made. IfSome (I.contents input.now) (λ s. IsMadeEncoding mode.now encoding size s made.0.0 (joined made.1.items))) }
     ensures some { IfSome result (λ made. (bytes : List ℕ) × IsMadeEncoding mode.now encoding size bytes made.0.0 (joined made.1.items)) }
 {
@@ -138,9 +146,107 @@ fn encoding_by_position<R: Threads + Sync, I: Source + Sync>(
         return None;
     }
     match encoding {
-        Encoding::Combined => combined_source(rt, alloc, mode, input, size, WORKERS).ok(),
+        Encoding::Combined => None,
         Encoding::Outboard => outboard_source(rt, alloc, mode, input, size, WORKERS).ok(),
-        Encoding::Slice { .. } => None,
+        Encoding::Slice { start, len } => {
+            slice_source(rt, alloc, mode, input, size, start, len, WORKERS).ok()
+        }
+    }
+}
+
+// All texts in one, with room for `len` bytes from the start. Each is given back as soon as it was taken over.
+fn in_one(alloc: Global, texts: Vec<Vec<u8>>, len: u128) -> Option<Vec<u8>>
+    ensures { IfSome result (λ all. all.items ≡ joined texts.items) }
+{
+    let len = usize::try_from(len).ok()?;
+    let mut all = Vec::with_capacity(alloc, len).ok()?;
+    'texts: for text in texts {
+        all.extend_from_slice(text.as_slice()).ok()?;
+    }
+    Some(all)
+}
+
+// What a first pass over an input keeps for the second one: the hash, the outboard encoding, and room for a piece and for
+// its encoding.
+#[derive(Drop)]
+struct Kept {
+    hash: Hash,
+    text: Vec<u8>,
+    piece: Vec<u8>,
+    room: Vec<u8>,
+}
+
+// A first pass over an input that is said to have `size` bytes. Where the bytes are few or not so many, and where a read or
+// memory fails, nothing is kept.
+fn kept_by_position<R: Threads + Sync, I: Source + Sync>(
+    rt: &R,
+    alloc: Global,
+    mode: &Mode,
+    input: &I,
+    size: u64,
+) -> Option<Kept>
+    ensures long { IfSome result (λ _. 4194304 ≤ size) }
+    ensures piece { IfSome result (λ kept. length kept.piece.items ≡ 262144) }
+    ensures all { IfSome result (λ kept. IfSome (I.contents input.now) (λ s. IsMadeEncoding mode.now KindOf.Outboard size s kept.hash.0 kept.text.items)) }
+    ensures some { IfSome result (λ kept. (bytes : List ℕ) × IsMadeEncoding mode.now KindOf.Outboard size bytes kept.hash.0 kept.text.items) }
+{
+    let (hash, texts) = encoding_by_position(rt, alloc, mode, Encoding::Outboard, input, size)?;
+    let text = in_one(alloc, texts, outboard_len(size))?;
+    let piece = vec![in alloc; 0u8; PIECE_LEN].ok()?;
+    let room_len = subtree_size(PIECE_LEN as u64) as usize;
+    let room = Vec::with_capacity(alloc, room_len).ok()?;
+    Some(Kept {
+        hash,
+        text,
+        piece,
+        room,
+    })
+}
+
+// A fault of a second pass, as one of the program.
+fn fault_again<'a>(fault: AgainFault, file: &'a str, path: &'a str) -> FileFault<'a>
+    ensures { result ≡ fault_at_paths file.entry path.entry fault }
+{
+    match fault {
+        AgainFault::Input => FileFault::Read(file),
+        AgainFault::Output => FileFault::Write(path),
+    }
+}
+
+// A second pass, which writes the combined encoding to the file at `path`, of bytes that have the hash which the first one kept.
+fn encode_again<'a, I: Source, W: Write>(
+    mode: &Mode,
+    input: &I,
+    size: u64,
+    kept: Kept,
+    file: &'a str,
+    out: &mut W,
+    path: &'a str,
+) -> Result<Hash, FileFault<'a>>
+    requires long { 1024 < size }
+    requires text { length kept.text.items ≡ 8 + 64 * (chunk_count size - 1) }
+    requires piece { 1024 ≤ length kept.piece.items }
+    ensures { (bytes : List ℕ) → IsMadeEncoding mode.now KindOf.Outboard size bytes kept.hash.0 kept.text.items
+        → EncodesLike (I.contents input.now) mode.now bytes file.entry path.entry (W.contents out.old) (W.contents out.new) result }
+{
+    let Kept {
+        hash,
+        text,
+        mut piece,
+        mut room,
+    } = kept;
+    let written = write_again(
+        mode,
+        input,
+        size,
+        text.as_slice(),
+        piece.as_mut_slice(),
+        &mut room,
+        out,
+    );
+    match written {
+        Ok(()) => Ok(hash),
+        Err(fault) => Err(fault_again(fault, file, path)),
     }
 }
 
@@ -158,14 +264,16 @@ fn answer_at<'a>(written: Result<Hash, WriteFault>, path: &'a str) -> Result<Has
 /// Writes this encoding in `mode` of all that `input`, the file at `file`, has to `out`, the file at `path`, and
 /// answers the hash.
 ///
-/// Where the input is said to have a `size` of at least 4 MiB and its combined or its outboard encoding is asked for,
-/// it is read by position and in pieces, so that the memory that this takes is the encoding's: 17/16 of the bytes, and a
-/// sixteenth; several threads make it. If that gives no encoding, and for a slice, the input is read
+/// Where the input is said to have a `size` of at least 4 MiB, it is read by position and in pieces of 256 KiB, by several
+/// threads. An outboard encoding takes memory of a sixteenth of the bytes, and a slice that of its range. For a combined
+/// encoding the parents are made so, a sixteenth of the bytes, and then the input is read a second time, on one thread: each
+/// piece is verified by its parents, and written with them. If the first pass gives nothing, the input is read
 /// whole from where it stands, and what that meets is answered.
 ///
-/// Nothing was written after `Read` with the input's path, where a read answered a fault, nor out of memory, which
-/// is `Memory` for the input's bytes and `Encoding` for the encoding. After `Write` with the other path exactly a beginning
-/// of the encoding was written, and not all.
+/// Nothing was written out of memory, which is `Memory` for the input's bytes and `Encoding` for the encoding, nor after `Read`
+/// with the input's path, where a read answered a fault, but of a combined encoding that was written in two passes: there
+/// `Read` comes too where the input has other bytes than before, and a beginning of the encoding of bytes with one hash may have
+/// been written. After `Write` with the other path exactly a beginning of the encoding was written, and not all.
 pub fn encode_input<'a, R: Threads + Sync + AllocGlobal, I: Read + Source + Sync, W: Write>(
     rt: &R,
     mode: &Mode,
@@ -181,6 +289,11 @@ pub fn encode_input<'a, R: Threads + Sync + AllocGlobal, I: Read + Source + Sync
     ensures some { (bytes : List ℕ) × Encodes mode.now encoding bytes file.entry path.entry (W.contents out.old) (W.contents out.new) result }
 {
     let alloc = rt.alloc();
+    if let Encoding::Combined = encoding
+        && let Some(kept) = kept_by_position(rt, alloc, mode, input, size)
+    {
+        return encode_again(mode, input, size, kept, file, out, path);
+    }
     if let Some(made) = encoding_by_position(rt, alloc, mode, encoding, input, size) {
         return answer_at(send_all(made, out), path);
     }
@@ -193,7 +306,9 @@ pub fn encode_input<'a, R: Threads + Sync + AllocGlobal, I: Read + Source + Sync
 /// file that is said to have at least 4 MiB has been read is told to `progress`, which has no part in the answer.
 ///
 /// After `Read`, where the file can't be opened or read, and after `Memory` and `Encoding`, out of memory, the
-/// path is as it was. After `Write` a beginning of the encoding may stand there.
+/// path is as it was. After `Write` a beginning of the encoding may stand there, and so it may after `Read` where a combined
+/// encoding is written in two passes and the file can't be read again, or has changed. Where the two paths are of one file, under
+/// whatever names, it is read whole before it is written over.
 pub fn encode_file<'a, R: Files<File = File> + AllocGlobal + Threads + Sync, P: Progress + Sync>(
     rt: &R,
     mode: &Mode,
@@ -207,7 +322,11 @@ pub fn encode_file<'a, R: Files<File = File> + AllocGlobal + Threads + Sync, P: 
     ensures paths { IfErr result (NamesPaths file.entry path.entry) }
 {
     let input = open_file(rt, file)?;
-    let size = size_of(&input, file)?;
+    let size = if is_same_file(rt, &input, path) {
+        0
+    } else {
+        size_of(&input, file)?
+    };
     let shown = (size >= LEAST_SHARED_LEN).then_some(size);
     let mut input = Shown::over(input, shown, progress);
     let mut out = LateFile::new(rt, path);

@@ -4,7 +4,7 @@ use Rattle.b3word.specs.declared.input.Input.{Input}
 use Rattle.b3tree.specs.declared.mode.Mode.{Mode}
 use Rattle.bao_read.specs.Given.{IsHashOf, IsTopInputOf}
 use Rattle.bao_text.specs.declared.choice.Choice.{Choice}
-use Rattle.bao_text.specs.Choice.{of_combined, of_outboard}
+use Rattle.bao_text.specs.Choice.{of_combined, of_outboard, of_slice}
 use Rattle.bao_text.specs.Texts.{chosen_text, subtree_text}
 
 -- the input is the top of the tree over `len` bytes of the contents, which begin with chunk `first`, and the
@@ -25,3 +25,7 @@ IsOutboardOf mode len bytes answer text = IsTextOf of_outboard mode len bytes an
 -- the text is the combined encoding of the bytes
 abbrev pub IsCombinedOf : Mode → ℕ → List ℕ → List ℕ → List ℕ → Type 0
 IsCombinedOf mode len bytes answer text = IsTextOf of_combined mode len bytes answer text
+
+-- the text is the slice (start, count) of the bytes
+abbrev pub IsSliceOf : Mode → ℕ → ℕ → ℕ → List ℕ → List ℕ → List ℕ → Type 0
+IsSliceOf mode len start count bytes answer text = IsTextOf (λ total. of_slice total start count) mode len bytes answer text

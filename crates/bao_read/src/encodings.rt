@@ -1,7 +1,7 @@
 ghost use Rattle.std.specs.Prelude.{◌≡◌, ℕ, List, ◌++◌, ◌≤◌, ◌⊎◌, length, IfErr, IfOk, IfSome};
 ghost use Rattle.bao_text.specs.declared.choice.Choice.{Choice};
 ghost use Rattle.bao_text.specs.Texts.{joined};
-ghost use Rattle.bao_read.specs.Encodings.{IsCombinedOf, IsOutboardOf, IsTextOf};
+ghost use Rattle.bao_read.specs.Encodings.{IsCombinedOf, IsOutboardOf, IsSliceOf, IsTextOf};
 ghost use Rattle.bao_read.specs.Given.{HasOther};
 
 use crate::fault::ReadFault;
@@ -93,5 +93,32 @@ pub fn outboard_source<R: Threads + Sync, S: Source + Sync>(
     ensures fault { IfErr result (λ fault. fault ≡ ReadFault.Reader → HasOther (S.contents source.now) (S.faultless source.now) len) }
 {
     let choice = Choice::of_outboard(len);
+    chosen_source(rt, alloc, &choice, mode, source, len, workers)
+}
+
+/// The slice of `count` bytes from byte `start` on of the `len` bytes of `source` in `mode`, and the hash of all of them, in
+/// the same way. All bytes are read, for the hash. What is kept is the slice alone, the chunks that have its bytes and the
+/// parents above them: so the memory that this takes is the slice's, and that of a piece, at most 256 KiB, for each thread,
+/// however many bytes there are.
+///
+/// A `count` of 0 counts as 1, a `start` at or past the end is the last byte, and the sum of the two never wraps.
+///
+/// Answers `Memory` (311) and `Reader` (312) where `combined_source` does.
+pub fn slice_source<R: Threads + Sync, S: Source + Sync>(
+    rt: &R,
+    alloc: Global,
+    mode: &Mode,
+    source: &S,
+    len: u64,
+    start: u64,
+    count: u64,
+    workers: usize,
+) -> Result<(Hash, Vec<Vec<u8>>), ReadFault>
+    requires workers { (1 ≤ workers) × (workers ≤ 64) }
+    ensures all { IfOk result (λ made. IfSome (S.contents source.now) (λ bytes. IsSliceOf mode.now len start count bytes made.0.0 (joined made.1.items))) }
+    ensures some { IfOk result (λ made. (bytes : List ℕ) × IsSliceOf mode.now len start count bytes made.0.0 (joined made.1.items)) }
+    ensures fault { IfErr result (λ fault. fault ≡ ReadFault.Reader → HasOther (S.contents source.now) (S.faultless source.now) len) }
+{
+    let choice = Choice::of_slice(len, start, count);
     chosen_source(rt, alloc, &choice, mode, source, len, workers)
 }

@@ -3,7 +3,7 @@
 //! for a hash doesn't grow with the length.
 #![tactic(auto)]
 
-pub use encodings::{combined_source, outboard_source};
+pub use encodings::{combined_source, outboard_source, slice_source};
 pub use fault::{ParFault, ReadFault};
 pub use gate::{Gate, Open};
 pub use hashes::{Pooled, hash_pool, hash_pooled, hash_source};

@@ -6,8 +6,11 @@ use crate::fault::ReadFault;
 use crate::pieces::{PIECE_LEN, append_at_hand, append_in_pieces};
 use crate::source::Source;
 use b3tree::{CHUNK_LEN, Input, Mode};
-use bao_text::{Choice, encoded_len, outboard_len};
+use bao_text::{Choice, PARENT_LEN, WAITING_LEN, encoded_len, outboard_len};
 use std::alloc::{AllocError, Global};
+
+// The bytes of the parents on two ways down to a chunk.
+const WAYS_LEN: u128 = 2 * (WAITING_LEN * PARENT_LEN) as u128;
 
 /// A subtree's last compression, and what the choice wants of it.
 #[derive(Drop)]
@@ -16,19 +19,32 @@ pub(crate) struct Made {
     pub text: Vec<u8>,
 }
 
-// Room for what a choice of all, or of nothing, wants of `len` bytes that begin with chunk `first`.
+// How many of the `len` bytes from place `at` on a choice wants, and at most so many more as the chunks at both ends of its
+// range have that begin before it or end after it.
+fn wanted_len(choice: &Choice, at: u64, len: u64) -> u64 {
+    let start = choice.start().max(at);
+    let end = choice.end().min(at.saturating_add(len));
+    let ends = 2 * CHUNK_LEN as u64;
+    end.saturating_sub(start).saturating_add(ends).min(len)
+}
+
+// Room for what a choice wants of `len` bytes that begin with chunk `first`: never more than all of them would take, nor,
+// beyond what it wants, than the parents on the way down to both ends of its range.
 fn room(choice: &Choice, first: u64, len: u64) -> usize
     requires { 1024 * first ≤ 2 ^ 64 - 1 }
 {
-    if !choice.wants(CHUNK_LEN as u64 * first, len) {
+    let at = CHUNK_LEN as u64 * first;
+    if !choice.wants(at, len) {
         return 0;
     }
-    let most = if choice.has_chunks() {
-        encoded_len(len)
+    let wanted = wanted_len(choice, at, len);
+    let text_len = if choice.has_chunks() {
+        encoded_len(wanted)
     } else {
-        outboard_len(len)
+        outboard_len(wanted)
     };
-    usize::try_from(most).unwrap_or(usize::MAX)
+    let above = if wanted < len { WAYS_LEN } else { 0 };
+    usize::try_from(text_len + above).unwrap_or(usize::MAX)
 }
 
 // At least so many bytes to read into, up to a piece.

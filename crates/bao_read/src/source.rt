@@ -29,9 +29,15 @@ pub trait Source {
     }
 }
 
-/// The position of the file is neither used nor moved.
+// No file has a byte past this place: a system's call takes none beyond, and answers a fault.
+const LAST_PLACE: u64 = i64::MAX as u64;
+
+/// The position of the file is neither used nor moved. At a place where no file can have a byte it answers 0, as past the end.
 impl Source for File {
     fn read_at(&self, buf: &mut [u8], at: u64) -> io::Result<usize> {
+        if at > LAST_PLACE {
+            return Ok(0);
+        }
         FileExt::read_at(self, buf, at)
     }
 }

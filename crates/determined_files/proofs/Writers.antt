@@ -71,12 +71,16 @@ texts_agree text (Some xs) also a b r s same p q e f =
     known_agree text xs a b r s p (subst (λ (o : Option (List ℕ)). OnOk s (Appends o b text)) (sym same) q) e
     (subst (λ (o : Option (List ℕ)). IfErr s (WroteOnly o b text)) (sym same) f)
 
-early_keeps : (mode : Mode) (kind : Kind) (bytes : List ℕ) (file path : Bor (List ℕ)) (old new : Option (List ℕ)) (f : FileFault) → IsBeforeWriting f
+early_keeps : (mode : Mode) (kind : Kind) (bytes : List ℕ) (file path : Bor (List ℕ)) (old new : Option (List ℕ)) (f : FileFault) → IsBeforeWriting kind f
     → Encodes mode kind bytes file path old new (Err f) → Keeps old new
-early_keeps mode kind bytes file path old new f early h = elim h [ inl k ↦ k.1 | inr k ↦ absurd (subst IsBeforeWriting k.0 early) ]
+early_keeps mode kind bytes file path old new f early h = elim h [
+  | inl k ↦ k.1
+  | inr (inl k) ↦ absurd (subst (IsBeforeWriting kind) k.0 early)
+  | inr (inr k) ↦ absurd (subst (IsBeforeWriting kind) k.0 early k.1)
+]
 
 encodes_agree : (mode : Mode) (kind : Kind) (bytes : List ℕ) (file path : Bor (List ℕ)) (xs : List ℕ) (a b : Option (List ℕ)) (r s : Result Hash FileFault)
-    → Encodes mode kind bytes file path (Some xs) a r → Encodes mode kind bytes file path (Some xs) b s → SameWritten IsBeforeWriting a b r s
+    → Encodes mode kind bytes file path (Some xs) a r → Encodes mode kind bytes file path (Some xs) b s → SameWritten (IsBeforeWriting kind) a b r s
 encodes_agree mode kind bytes file path xs a b (Ok x) (Ok y) p q = grown (Some xs) a b (encoding_text mode kind bytes) xs refl p.1 q.1
 encodes_agree mode kind bytes file path xs a b (Ok x) (Err f) p q = tt
 encodes_agree mode kind bytes file path xs a b (Err e) (Ok y) p q = tt
@@ -94,7 +98,7 @@ both_inputs (Some s) others left more P Q R same there follows p q =
     λ stands. follows s (p stands) (subst (λ (o : Option (List ℕ)). IfSome o (λ t. more ≡ Some t → Q t)) (sym same) q (sym there ∙ stands))
 
 pub input_encodes : (mode : Mode) (kind : Kind) (file path : Bor (List ℕ)) (old also a b : Option (List ℕ)) (r s : Result Hash FileFault) → old ≡ also → (bytes : List ℕ)
-    → Encodes mode kind bytes file path old a r → Encodes mode kind bytes file path also b s → IfSome old (λ xs. SameWritten IsBeforeWriting a b r s)
+    → Encodes mode kind bytes file path old a r → Encodes mode kind bytes file path also b s → IfSome old (λ xs. SameWritten (IsBeforeWriting kind) a b r s)
 input_encodes mode kind file path None also a b r s same bytes p q = tt
 input_encodes mode kind file path (Some xs) also a b r s same bytes p q =
     encodes_agree mode kind bytes file path xs a b r s p (subst (λ (o : Option (List ℕ)). Encodes mode kind bytes file path o b s) (sym same) q)

@@ -1,8 +1,10 @@
 -- Answers to the same question: they are the same.
-use Rattle.std.specs.Prelude.{◌≡◌, ◌⊎◌, ℕ, List, Option, Result, Ok, Err}
+use Rattle.std.specs.Prelude.{◌≡◌, ◌≢◌, ◌⊎◌, ℕ, List, Option, Result, Ok, Err}
 use Rattle.bao_files.specs.declared.fault.FileFault.{FileFault}
-use Rattle.bao_files.specs.declared.fault.FileFault.TheVariants.{Read, Write, Output, Encoding}
+use Rattle.bao_files.specs.declared.fault.FileFault.TheVariants.{Read, Write, Output}
 use Rattle.bao_files.specs.declared.fault.FileFault.TheVariants as file
+use Rattle.bao_files.specs.declared.kinds.Encoding.{Encoding}
+use Rattle.bao_files.specs.declared.kinds.Encoding.TheVariants.{Combined}
 use Rattle.bao_read.specs.declared.fault.ReadFault.{ReadFault}
 use Rattle.bao_read.specs.declared.fault.ReadFault.TheVariants.{Memory}
 
@@ -25,10 +27,11 @@ SameWritten IsEarly a b (Ok x) (Err f) = Unit {0}
 SameWritten IsEarly a b (Err e) (Ok y) = Unit {0}
 SameWritten IsEarly a b (Err e) (Err f) = IsEarly e → IsEarly f → a ≡ b
 
--- the fault isn't one of writing
-abbrev pub IsBeforeWriting : FileFault → Type 0
-IsBeforeWriting (Read path) = Unit {0}
-IsBeforeWriting (Write path) = ⊥
-IsBeforeWriting Output = ⊥
-IsBeforeWriting Encoding = Unit {0}
-IsBeforeWriting file.Memory = Unit {0}
+-- The fault comes before anything is written of this encoding. A combined encoding may be written while its input is read a second
+-- time, so that a fault of reading may come later.
+abbrev pub IsBeforeWriting : Encoding → FileFault → Type 0
+IsBeforeWriting encoding (Read path) = encoding ≢ Combined
+IsBeforeWriting encoding (Write path) = ⊥
+IsBeforeWriting encoding Output = ⊥
+IsBeforeWriting encoding file.Encoding = Unit {0}
+IsBeforeWriting encoding file.Memory = Unit {0}

@@ -8,7 +8,7 @@ ghost use Rattle.determined_files.specs.Agreeing.{AgreeUnless, MayCome};
 use b3tree::{Hash, Mode};
 use bao_read::{
     Gate, ParFault, Pooled, ReadFault, Source, combined_source, ends_at, fill, hash_join,
-    hash_pool, hash_pooled, hash_source, outboard_source,
+    hash_pool, hash_pooled, hash_source, outboard_source, slice_source,
 };
 use std::alloc::Global;
 use std::io;
@@ -142,6 +142,32 @@ pub fn outboard_source_determined<R: Threads + Sync, S: Source + Sync, T: Source
 {
     let one = outboard_source(rt, alloc, mode, ours, len, workers);
     let other = outboard_source(rt, alloc, mode, theirs, len, other_workers);
+    (one, other)
+}
+
+// As `combined_source_determined`.
+pub fn slice_source_determined<R: Threads + Sync, S: Source + Sync, T: Source + Sync>(
+    rt: &R,
+    alloc: Global,
+    mode: &Mode,
+    ours: &S,
+    theirs: &T,
+    len: u64,
+    start: u64,
+    count: u64,
+    workers: usize,
+    other_workers: usize,
+) -> (
+    Result<(Hash, Vec<Vec<u8>>), ReadFault>,
+    Result<(Hash, Vec<Vec<u8>>), ReadFault>,
+)
+    requires ours { (1 ≤ workers) × (workers ≤ 64) }
+    requires theirs { (1 ≤ other_workers) × (other_workers ≤ 64) }
+    requires same { S.contents ours.now ≡ T.contents theirs.now }
+    ensures { IfSome (S.contents ours.now) (λ _. AgreeUnless (λ a b. (a.0 ≡ b.0) × (joined a.1.items ≡ joined b.1.items)) (MayCome (S.faultless ours.now)) (MayCome (T.faultless theirs.now)) result.0 result.1) }
+{
+    let one = slice_source(rt, alloc, mode, ours, len, start, count, workers);
+    let other = slice_source(rt, alloc, mode, theirs, len, start, count, other_workers);
     (one, other)
 }
 

@@ -30,8 +30,8 @@ pub fn write_encoding_determined<V: Write, W: Write>(
     )
 }
 
-// The input stands at its beginning. Any of the faults may come at any time; whether it is read on several threads has no part in
-// the answer.
+// The input stands at its beginning. Any of the faults may come at any time; whether it is read on several threads, and once or
+// twice, has no part in the answer.
 pub fn encode_input_determined<
     'a,
     R: Threads + Sync + AllocGlobal,
@@ -57,7 +57,7 @@ pub fn encode_input_determined<
     requires same { V.contents ours.old ≡ W.contents theirs.old }
     ensures hash { IfSome (I.contents a.old) (λ s. I.remaining a.old ≡ Some s → IfOk result.0 (λ x. IfOk result.1 (λ y. x ≡ y))) }
     ensures written { IfSome (I.contents a.old) (λ s. I.remaining a.old ≡ Some s → IfSome (V.contents ours.old) (λ _.
-        SameWritten IsBeforeWriting (V.contents ours.new) (W.contents theirs.new) result.0 result.1)) }
+        SameWritten (IsBeforeWriting encoding) (V.contents ours.new) (W.contents theirs.new) result.0 result.1)) }
 {
     (
         encode_input(rt, mode, encoding, a, size, file, ours, path),

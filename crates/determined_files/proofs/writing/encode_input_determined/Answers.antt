@@ -20,6 +20,6 @@ returns g c =
           (λ bytes. Encodes mode kind bytes file path old a r) (λ bytes. Encodes mode kind bytes file path also b s) (λ bytes. IfOk r (λ x. IfOk s (λ y. x ≡ y)))
           c.requires.contents c.requires.left (λ bytes p q. input_hashes mode kind file path old also a b r s bytes p q) c.encode_input.ensures.all c.encode_input-2.ensures.all;
       written = both_inputs (g.I.Source.contents c.args.a.now) (g.J.Source.contents c.args.b.now) (g.I.Read.remaining c.args.a.now) (g.J.Read.remaining c.args.b.now)
-          (λ bytes. Encodes mode kind bytes file path old a r) (λ bytes. Encodes mode kind bytes file path also b s) (λ bytes. IfSome old (λ xs. SameWritten IsBeforeWriting a b r s))
+          (λ bytes. Encodes mode kind bytes file path old a r) (λ bytes. Encodes mode kind bytes file path also b s) (λ bytes. IfSome old (λ xs. SameWritten (IsBeforeWriting kind) a b r s))
           c.requires.contents c.requires.left (λ bytes p q. input_encodes mode kind file path old also a b r s c.requires.same bytes p q) c.encode_input.ensures.all c.encode_input-2.ensures.all;
     }
