@@ -1,13 +1,16 @@
+ghost use Rattle.std.specs.Prelude.{◌≡◌};
+
 use crate::dealing::Dealing;
 use crate::holder::source_of;
 use crate::line::short;
 use crate::texts::{Texts, told};
 use anyhow::{Context, Result, bail};
 use bao_check::check_outboard;
-use crews::{gather_copies, gather_copies_at, gather_sources, gather_texts};
-use gather::{GatherFault, Grain};
+use crews::{How, gather, gather_copies, gather_texts};
+use gather::{Form, GatherFault, Grain};
 use std::alloc::Global;
 use std::thread::Threads;
+use store_core::Fixed;
 
 fn blob_or(alloc: Global, gathered: Result<Vec<u8>, GatherFault>) -> Result<String> {
     match gathered {
@@ -68,6 +71,18 @@ fn by_texts<R: Threads + Sync>(
     Ok(said)
 }
 
+// A store for the blob of the texts.
+fn fixed_of(texts: &Texts, capacity: u32) -> Fixed
+    ensures { result.base ≡ 0 }
+{
+    Fixed {
+        root: texts.root,
+        mode: texts.mode,
+        capacity,
+        base: 0,
+    }
+}
+
 // The same out of sources, with a first room.
 fn by_sources<R: Threads + Sync>(
     rt: &R,
@@ -80,19 +95,13 @@ fn by_sources<R: Threads + Sync>(
 ) -> Result<String> {
     let (room, words) = words.split_first().context("a room")?;
     let sources = sources_of(alloc, texts, words)?;
-    let (root, mode, room) = (texts.root, texts.mode, short(room)?);
-    let gathered = gather_sources(
-        rt,
-        alloc,
-        root,
-        mode,
-        capacity,
-        room,
+    let fixed = fixed_of(texts, capacity);
+    let how = How {
         workers,
         grain,
-        sources.as_slice(),
-    );
-    match gathered {
+        room: short(room)?,
+    };
+    match gather(rt, alloc, &fixed, &Form::Slices, how, sources.as_slice()) {
         Ok(mut whole) => told(alloc, whole.to_vec(alloc)?.as_slice()),
         Err(fault) => Ok(format!(in alloc; "{fault}")?),
     }
@@ -120,8 +129,14 @@ fn by_copies<R: Threads + Sync>(
         );
     }
     let copies = sources_of(alloc, texts, words)?;
-    let copies = copies.as_slice();
-    match gather_copies_at(rt, alloc, &outline, capacity, workers, grain, copies) {
+    let fixed = fixed_of(texts, capacity);
+    let how = How {
+        workers,
+        grain,
+        room: capacity,
+    };
+    let form = Form::Bare(&outline);
+    match gather(rt, alloc, &fixed, &form, how, copies.as_slice()) {
         Ok(mut whole) => told(alloc, whole.to_vec(alloc)?.as_slice()),
         Err(fault) => Ok(format!(in alloc; "{fault}")?),
     }

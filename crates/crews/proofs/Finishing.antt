@@ -3,16 +3,13 @@ use Rattle.std.proofs.Common.{◌≡◌, ℕ, ◌+◌, List, [], ◌∷◌, ◌+
 use Rattle.crews.specs.Finished.{Asks}
 use Rattle.gather.proofs.Finishing.{filled_whole}
 use Rattle.gather.specs.Finished.{IsWhole, LacksByte}
-use Rattle.store_core.specs.declared.history.Call.{Call}
 use Rattle.store_core.specs.declared.history.Call.TheVariants.{Length, Read}
 use Rattle.store_core.specs.declared.history.Event.{Event}
 use Rattle.store_core.specs.declared.view.SeatView.{SeatView}
-use Rattle.store_core.specs.Events.{after_call}
 use Rattle.store_core.specs.Histories.{IsLegal, state_after}
 use Rattle.store_core.specs.Laws.{IsRead}
-use Rattle.store_core.specs.States.{State, empty, read_bytes}
-use Rattle.store_core.specs.Views.{names_of}
-use Rattle.store_core.proofs.Lasting.{record_lasts, run-append}
+use Rattle.store_core.specs.States.{State, read_bytes}
+use Rattle.store_core.proofs.Lasting.{record_lasts}
 use Rattle.store_core.proofs.ReadLaws.{read_means}
 use Rattle.store_calls.specs.Reading.{SeatDidRead}
 use Rattle.store_core.specs.Knowledge.{Called, event_of}

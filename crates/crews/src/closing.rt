@@ -3,6 +3,7 @@ ghost use Rattle.gather.specs.Available.{HaveSlices, IsFilled, IsServed};
 ghost use Rattle.gather.specs.declared.grain.Grain.TheVariants.{Chunk as ByChunk, Group as ByGroup};
 ghost use Rattle.gather.specs.Counts.{HasFailed, Reports};
 ghost use Rattle.gather.specs.Claims.{Among};
+ghost use Rattle.gather.specs.Forms.{AreSlices, made_of};
 ghost use Rattle.gather.specs.Holders.{AreLater, IsHanded};
 ghost use Rattle.gather.specs.Large.{IsTooLarge};
 ghost use Rattle.store_shared.specs.Seats.{IsSeatOf};
@@ -11,7 +12,7 @@ ghost use Rattle.crews.specs.Seats.{GoneOn, claims_of, fixed_of};
 
 use crate::shared::Shared;
 use bao_check::{Checked, Tail};
-use gather::{Form, Grain, Holder, Place, Report, Shelf, salvage, work};
+use gather::{Form, Grain, Holder, Place, Report, Shelf, salvage, work_as};
 use std::alloc::Global;
 use store_core::{Fixed, Settling, StoreFault};
 use store_shared::{Assembly, Seat};
@@ -91,6 +92,7 @@ impl Shelf for Closing<'_> {
 fn round_by_groups<H: Holder>(
     alloc: Global,
     assembly: &Assembly,
+    form: &Form<'_>,
     seat: &mut Seat,
     holders: &mut [H],
     report: &mut Report,
@@ -99,23 +101,25 @@ fn round_by_groups<H: Holder>(
     requires alone { IsAlone seat.old.view }
     ensures of { IsSeatOf assembly.now seat.new }
     ensures alone { IsAlone seat.new.view }
-    ensures reports { Reports fixed_of GoneOn seat.old seat.new (IsHanded H.gives holders.old) (IsHanded H.gives holders.new) (sum_by H.count holders.old) (sum_by H.count holders.new) report.old report.new }
-    ensures later { AreLater H.gives holders.old holders.new }
+    ensures reports { Reports fixed_of GoneOn seat.old seat.new (IsHanded (made_of form.now H.gives) holders.old) (IsHanded (made_of form.now H.gives) holders.new) (sum_by H.count holders.old) (sum_by H.count holders.new) report.old report.new }
+    ensures later { AreLater (made_of form.now H.gives) holders.old holders.new }
     ensures claims { Among (claims_of seat.old) (claims_of seat.new) }
-    ensures served { (blob : List ℕ) → IsServed (fixed_of seat.old) blob → HaveSlices ByGroup H.gives (fixed_of seat.old).mode blob holders.old
-        → HasFailed report.new ⊎ IsTooLarge (IsHanded H.gives holders.old) (fixed_of seat.old) ⊎ IsFilled RecordsOn HoldsOn Claims seat.old seat.new blob }
+    ensures served { AreSlices form.now → (blob : List ℕ) → IsServed (fixed_of seat.old) blob → HaveSlices ByGroup (made_of form.now H.gives) (fixed_of seat.old).mode blob holders.old
+        → HasFailed report.new ⊎ IsTooLarge (IsHanded (made_of form.now H.gives) holders.old) (fixed_of seat.old) ⊎ IsFilled RecordsOn HoldsOn Claims seat.old seat.new blob }
 {
     let place = Place {
         number: 0,
         workers: 1,
     };
-    work(alloc, &Closing(assembly), seat, holders, place, report);
+    let closing = Closing(assembly);
+    work_as(alloc, form, &closing, seat, holders, place, report);
 }
 
 // And one chunk by chunk.
 fn round_by_chunks<H: Holder>(
     alloc: Global,
     assembly: &Assembly,
+    form: &Form<'_>,
     seat: &mut Seat,
     holders: &mut [H],
     report: &mut Report,
@@ -124,18 +128,18 @@ fn round_by_chunks<H: Holder>(
     requires alone { IsAlone seat.old.view }
     ensures of { IsSeatOf assembly.now seat.new }
     ensures alone { IsAlone seat.new.view }
-    ensures reports { Reports fixed_of GoneOn seat.old seat.new (IsHanded H.gives holders.old) (IsHanded H.gives holders.new) (sum_by H.count holders.old) (sum_by H.count holders.new) report.old report.new }
-    ensures served { (blob : List ℕ) → IsServed (fixed_of seat.old) blob → HaveSlices ByChunk H.gives (fixed_of seat.old).mode blob holders.old
-        → HasFailed report.new ⊎ IsTooLarge (IsHanded H.gives holders.old) (fixed_of seat.old) ⊎ IsFilled RecordsOn HoldsOn Claims seat.old seat.new blob }
+    ensures reports { Reports fixed_of GoneOn seat.old seat.new (IsHanded (made_of form.now H.gives) holders.old) (IsHanded (made_of form.now H.gives) holders.new) (sum_by H.count holders.old) (sum_by H.count holders.new) report.old report.new }
+    ensures served { AreSlices form.now → (blob : List ℕ) → IsServed (fixed_of seat.old) blob → HaveSlices ByChunk (made_of form.now H.gives) (fixed_of seat.old).mode blob holders.old
+        → HasFailed report.new ⊎ IsTooLarge (IsHanded (made_of form.now H.gives) holders.old) (fixed_of seat.old) ⊎ IsFilled RecordsOn HoldsOn Claims seat.old seat.new blob }
 {
-    let closing = Closing(assembly);
-    salvage(alloc, &Form::Slices, &closing, seat, holders, report);
+    salvage(alloc, form, &Closing(assembly), seat, holders, report);
 }
 
 // The rounds of a seat with which all others were joined: one by groups, and one by chunks where these are asked for.
 pub(crate) fn closing_rounds<H: Holder>(
     alloc: Global,
     assembly: &Assembly,
+    form: &Form<'_>,
     seat: &mut Seat,
     holders: &mut [H],
     grain: Grain,
@@ -145,13 +149,13 @@ pub(crate) fn closing_rounds<H: Holder>(
     requires alone { IsAlone seat.old.view }
     ensures of { IsSeatOf assembly.now seat.new }
     ensures alone { IsAlone seat.new.view }
-    ensures reports { Reports fixed_of GoneOn seat.old seat.new (IsHanded H.gives holders.old) (IsHanded H.gives holders.new) (sum_by H.count holders.old) (sum_by H.count holders.new) report.old report.new }
-    ensures served { (blob : List ℕ) → IsServed (fixed_of seat.old) blob → HaveSlices grain H.gives (fixed_of seat.old).mode blob holders.old
-        → HasFailed report.new ⊎ IsTooLarge (IsHanded H.gives holders.old) (fixed_of seat.old) ⊎ IsFilled RecordsOn HoldsOn Claims seat.old seat.new blob }
+    ensures reports { Reports fixed_of GoneOn seat.old seat.new (IsHanded (made_of form.now H.gives) holders.old) (IsHanded (made_of form.now H.gives) holders.new) (sum_by H.count holders.old) (sum_by H.count holders.new) report.old report.new }
+    ensures served { AreSlices form.now → (blob : List ℕ) → IsServed (fixed_of seat.old) blob → HaveSlices grain (made_of form.now H.gives) (fixed_of seat.old).mode blob holders.old
+        → HasFailed report.new ⊎ IsTooLarge (IsHanded (made_of form.now H.gives) holders.old) (fixed_of seat.old) ⊎ IsFilled RecordsOn HoldsOn Claims seat.old seat.new blob }
 {
-    round_by_groups(alloc, assembly, seat, holders, report);
+    round_by_groups(alloc, assembly, form, seat, holders, report);
     match grain {
         Grain::Group => {}
-        Grain::Chunk => round_by_chunks(alloc, assembly, seat, holders, report),
+        Grain::Chunk => round_by_chunks(alloc, assembly, form, seat, holders, report),
     }
 }

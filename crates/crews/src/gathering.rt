@@ -1,159 +1,105 @@
 ghost use Rattle.std.specs.Prelude.{◌≡◌, ◌↔◌, ◌⊎◌, ◌<◌, ◌≤◌, ℕ, IfErr, IfOk, IsErrOf, List, length};
 ghost use Rattle.bao_text.specs.Choice.{chunk_count};
-ghost use Rattle.gather.specs.HandedOut.{Certifies, Gathers, IsHandedOut, own_bytes};
+ghost use Rattle.gather.specs.Forms.{AreSlices, made_of};
+ghost use Rattle.gather.specs.HandedOut.{Gathers, IsHandedOut, own_bytes};
 ghost use Rattle.gather.specs.Large.{fixed_as};
 ghost use Rattle.gather.specs.Lists.{HaveAll, IsLent};
 ghost use Rattle.store_core.specs.Laws.{IsBlob};
 ghost use Rattle.store_core.specs.Knowledge.{opening_view};
 ghost use Rattle.store_shared.specs.Seats.{IsSeatOf, fixed_of};
-ghost use Rattle.crews.specs.Beside.{fixed_beside};
 
 use crate::crewing::{MOST_WORKERS, crews_with};
 use crate::handing::hand_out;
 use crate::joining::all_joined;
-use crate::runs::{run, run_bare};
-use crate::shared::Shared;
-use crate::whole::{Whole, certify};
-use b3tree::{Hash, Mode};
-use bao_check::Outline;
+use crate::rounds::{all_reports, first_round};
+use crate::whole::Whole;
 use bao_read::Open;
-use gather::{
-    Form, GatherFault, Grain, Holder, Lists, Report, first_room, may_lack_room, salvage, why,
-};
+use gather::{Form, GatherFault, Grain, Holder, Lists, first_room, may_lack_room};
 use std::alloc::Global;
 use std::thread::Threads;
+use store_core::Fixed;
 use store_shared::{Assembly, NewFault, Seat};
 
+/// How a blob is gathered: by how many workers, in which parts, and in how large a store at first.
+#[derive(Clone, Copy, Debug)]
+pub struct How {
+    /// How many workers gather, 1 to 64: a number beyond counts as the nearest.
+    pub workers: u32,
+    /// The smallest part that is asked for, where more is missing.
+    pub grain: Grain,
+    /// With room for how many chunks the first store is made, at least 1. Where that is less than the capacity, and the blob is too
+    /// large for it or left unfinished, the work is done once more in a store of the whole capacity.
+    pub room: u32,
+}
+
 // A store to gather in, and its first seat.
-fn store_for(
-    alloc: Global,
-    root: Hash,
-    mode: Mode,
-    capacity: u32,
-) -> Result<(Assembly, Seat), GatherFault>
-    ensures capacity { IsErrOf result GatherFault.Capacity ↔ (¬ ((0 < capacity) × (capacity ≤ 65536))) }
+fn store_for(alloc: Global, fixed: &Fixed) -> Result<(Assembly, Seat), GatherFault>
+    ensures capacity { IsErrOf result GatherFault.Capacity ↔ (¬ ((0 < fixed.now.capacity) × (fixed.now.capacity ≤ 65536))) }
     ensures fault { IfErr result (λ fault. (fault ≡ GatherFault.Store) ⊎ (fault ≡ GatherFault.Capacity)) }
-    ensures fixed { IfOk result (λ made. fixed_of made.0 ≡ fixed_as root mode capacity) }
+    ensures fixed { IfOk result (λ made. fixed_of made.0 ≡ fixed_as fixed.now.root fixed.now.mode fixed.now.capacity) }
     ensures of { IfOk result (λ made. IsSeatOf made.0 made.1) }
     ensures view { IfOk result (λ made. made.1.view ≡ opening_view (fixed_of made.0)) }
 {
-    match Assembly::new(alloc, root, mode, capacity) {
+    match Assembly::new(alloc, fixed.root, fixed.mode, fixed.capacity) {
         Ok(made) => Ok(made),
         Err(NewFault::Memory) => Err(GatherFault::Store),
         Err(NewFault::Capacity) => Err(GatherFault::Capacity),
     }
 }
 
-// `gather_by` by a store with room for `capacity` chunks.
+// `gather_from` in one store, with room for the whole capacity.
 fn gather_within<R: Threads + Sync, H: Holder + Send + Drop, L: Lists<H>>(
     rt: &R,
     alloc: Global,
-    root: Hash,
-    mode: Mode,
-    capacity: u32,
-    workers: u32,
-    grain: Grain,
+    fixed: &Fixed,
+    form: &Form<'_>,
+    how: How,
     lists: &L,
 ) -> Result<Whole, GatherFault>
     requires quiet { (holder : H) → H.count holder ≡ 0 }
-    ensures gathers { Gathers own_bytes (IsLent H.gives (L.over lists.now)) (fixed_as root mode capacity) result }
-    ensures available { (blob : List ℕ) → IsBlob (fixed_as root mode capacity) blob → chunk_count (length blob) ≤ capacity
-        → HaveAll grain H.gives (L.over lists.now) mode blob
-        → IsHandedOut own_bytes (IsLent H.gives (L.over lists.now)) (fixed_as root mode capacity) blob result }
+    ensures gathers { Gathers own_bytes (IsLent (made_of form.now H.gives) (L.over lists.now)) (fixed_as fixed.now.root fixed.now.mode fixed.now.capacity) result }
+    ensures available { AreSlices form.now → (blob : List ℕ) → IsBlob (fixed_as fixed.now.root fixed.now.mode fixed.now.capacity) blob → chunk_count (length blob) ≤ fixed.now.capacity
+        → HaveAll how.grain (made_of form.now H.gives) (L.over lists.now) fixed.now.mode blob
+        → IsHandedOut own_bytes (IsLent (made_of form.now H.gives) (L.over lists.now)) (fixed_as fixed.now.root fixed.now.mode fixed.now.capacity) blob result }
 {
-    let (assembly, seat) = store_for(alloc, root, mode, capacity)?;
-    let workers = workers.clamp(1, MOST_WORKERS);
+    let (assembly, seat) = store_for(alloc, fixed)?;
+    let workers = how.workers.clamp(1, MOST_WORKERS);
     let (mut crews, seat) = crews_with::<H, L>(alloc, &assembly, seat, workers, lists)?;
-    let report = run(rt, alloc, &assembly, crews.as_mut_slice(), &Open);
+    first_round(rt, alloc, &assembly, form, crews.as_mut_slice(), &Open);
+    let report = all_reports(crews.as_slice());
     let seat = all_joined(&assembly, seat, crews);
-    hand_out::<R, H, L>(rt, alloc, assembly, seat, workers, grain, lists, report)
+    hand_out::<R, H, L>(
+        rt, alloc, assembly, seat, form, workers, how.grain, lists, report,
+    )
 }
 
-// `gather_texts` and `gather_sources`, from whatever such lists of holders are over. No device of them counts a fault. The
-// store has room for `room` chunks first, and for `capacity` chunks where that is more and the blob needs it.
-pub(crate) fn gather_by<R: Threads + Sync, H: Holder + Send + Drop, L: Lists<H>>(
+// The blob with this root in this mode, from whatever such lists of holders are over. No device of them counts a fault. All workers
+// go one round. Then their seats are joined to one, which goes round once more, alone.
+pub(crate) fn gather_from<R: Threads + Sync, H: Holder + Send + Drop, L: Lists<H>>(
     rt: &R,
     alloc: Global,
-    root: Hash,
-    mode: Mode,
-    capacity: u32,
-    room: u32,
-    workers: u32,
-    grain: Grain,
+    fixed: &Fixed,
+    form: &Form<'_>,
+    how: How,
     lists: &L,
 ) -> Result<Whole, GatherFault>
     requires quiet { (holder : H) → H.count holder ≡ 0 }
-    ensures gathers { Gathers own_bytes (IsLent H.gives (L.over lists.now)) (fixed_as root mode capacity) result }
-    ensures available { (blob : List ℕ) → IsBlob (fixed_as root mode capacity) blob → chunk_count (length blob) ≤ capacity
-        → HaveAll grain H.gives (L.over lists.now) mode blob
-        → IsHandedOut own_bytes (IsLent H.gives (L.over lists.now)) (fixed_as root mode capacity) blob result }
+    ensures gathers { Gathers own_bytes (IsLent (made_of form.now H.gives) (L.over lists.now)) (fixed_as fixed.now.root fixed.now.mode fixed.now.capacity) result }
+    ensures available { AreSlices form.now → (blob : List ℕ) → IsBlob (fixed_as fixed.now.root fixed.now.mode fixed.now.capacity) blob → chunk_count (length blob) ≤ fixed.now.capacity
+        → HaveAll how.grain (made_of form.now H.gives) (L.over lists.now) fixed.now.mode blob
+        → IsHandedOut own_bytes (IsLent (made_of form.now H.gives) (L.over lists.now)) (fixed_as fixed.now.root fixed.now.mode fixed.now.capacity) blob result }
 {
-    if let Some(first) = first_room(room, capacity) {
-        let gathered = gather_within::<R, H, L>(
-            rt, alloc, root, mode, first, workers, grain, lists,
-        );
+    if let Some(first) = first_room(how.room, fixed.capacity) {
+        let lesser = Fixed {
+            root: fixed.root,
+            mode: fixed.mode,
+            capacity: first,
+            base: fixed.base,
+        };
+        let gathered = gather_within::<R, H, L>(rt, alloc, &lesser, form, how, lists);
         if !may_lack_room(&gathered) {
             return gathered;
         }
     }
-    gather_within::<R, H, L>(rt, alloc, root, mode, capacity, workers, grain, lists)
-}
-
-// The round by chunks beside the outline, where these are asked for: by a seat of its own, over a list of all holders.
-fn salvage_beside<H: Holder + Drop, L: Lists<H>>(
-    alloc: Global,
-    assembly: &Assembly,
-    outline: &Outline<'_>,
-    seat: &mut Seat,
-    grain: Grain,
-    lists: &L,
-    report: &mut Report,
-) -> Result<(), GatherFault>
-    requires of { IsSeatOf assembly.now seat.old }
-    ensures of { IsSeatOf assembly.now seat.new }
-    ensures fault { IfErr result (λ fault. fault ≡ GatherFault.Starved) }
-{
-    if grain == Grain::Group {
-        return Ok(());
-    }
-    let mut holders = match lists.list(alloc) {
-        Ok(holders) => holders,
-        Err(_) => return Err(GatherFault::Starved),
-    };
-    let form = Form::Bare(outline);
-    let shared = Shared(assembly);
-    salvage(alloc, &form, &shared, seat, holders.as_mut_slice(), report);
-    Ok(())
-}
-
-// `gather_copies` from whatever such lists of holders are over.
-pub(crate) fn gather_beside<R: Threads + Sync, H: Holder + Send + Drop, L: Lists<H>>(
-    rt: &R,
-    alloc: Global,
-    outline: &Outline<'_>,
-    capacity: u32,
-    workers: u32,
-    grain: Grain,
-    lists: &L,
-) -> Result<Whole, GatherFault>
-    ensures { Certifies own_bytes (fixed_beside outline.now capacity) result }
-{
-    let (assembly, seat) = store_for(alloc, outline.root(), outline.mode(), capacity)?;
-    let workers = workers.clamp(1, MOST_WORKERS);
-    let (mut crews, mut seat) = crews_with::<H, L>(alloc, &assembly, seat, workers, lists)?;
-    let mut report = run_bare(rt, alloc, &assembly, outline, crews.as_mut_slice(), &Open);
-    salvage_beside::<H, L>(
-        alloc,
-        &assembly,
-        outline,
-        &mut seat,
-        grain,
-        lists,
-        &mut report,
-    )?;
-    let (ended, seat) = certify(rt, alloc, &assembly, seat, workers);
-    match ended {
-        Ok(len) => Ok(Whole::new(assembly, seat, len)),
-        Err(fault) => Err(why(fault, &report)),
-    }
+    gather_within::<R, H, L>(rt, alloc, fixed, form, how, lists)
 }

@@ -1,5 +1,6 @@
 ghost use Rattle.std.specs.Prelude.{◌≡◌, ◌<◌, ◌≤◌, ℕ, IsTrue, List, length};
 ghost use Rattle.bao_text.specs.Choice.{chunk_count};
+ghost use Rattle.gather.specs.Forms.{AreSlices, made_of};
 ghost use Rattle.gather.specs.HandedOut.{Gathers, IsHandedOut, own_bytes};
 ghost use Rattle.gather.specs.Large.{IsTooLarge};
 ghost use Rattle.gather.specs.Lists.{HaveAll, IsLent};
@@ -9,7 +10,7 @@ ghost use Rattle.crews.specs.Closing.{IsLeft};
 
 use crate::closing::closing_rounds;
 use crate::whole::{Whole, certify};
-use gather::{GatherFault, Grain, Holder, Lists, Report, why};
+use gather::{Form, GatherFault, Grain, Holder, Lists, Report, why};
 use std::alloc::Global;
 use std::thread::Threads;
 use store_shared::{Assembly, Seat};
@@ -21,6 +22,7 @@ pub(crate) fn hand_out<R: Threads + Sync, H: Holder + Drop, L: Lists<H>>(
     alloc: Global,
     assembly: Assembly,
     seat: Seat,
+    form: &Form<'_>,
     workers: u32,
     grain: Grain,
     lists: &L,
@@ -29,13 +31,13 @@ pub(crate) fn hand_out<R: Threads + Sync, H: Holder + Drop, L: Lists<H>>(
     requires of { IsSeatOf assembly seat }
     requires workers { 0 < workers }
     requires quiet { (holder : H) → H.count holder ≡ 0 }
-    requires left { IsLeft (IsLent H.gives (L.over lists.now)) seat.view }
+    requires left { IsLeft (IsLent (made_of form.now H.gives) (L.over lists.now)) seat.view }
     requires failed { report.failed ≡ 0 }
-    requires large { IsTrue report.too_large → IsTooLarge (IsLent H.gives (L.over lists.now)) (fixed_of assembly) }
-    ensures gathers { Gathers own_bytes (IsLent H.gives (L.over lists.now)) (fixed_of assembly) result }
-    ensures available { (blob : List ℕ) → IsBlob (fixed_of assembly) blob → (fixed_of assembly).base ≡ 0 → chunk_count (length blob) ≤ (fixed_of assembly).capacity
-        → HaveAll grain H.gives (L.over lists.now) (fixed_of assembly).mode blob
-        → IsHandedOut own_bytes (IsLent H.gives (L.over lists.now)) (fixed_of assembly) blob result }
+    requires large { IsTrue report.too_large → IsTooLarge (IsLent (made_of form.now H.gives) (L.over lists.now)) (fixed_of assembly) }
+    ensures gathers { Gathers own_bytes (IsLent (made_of form.now H.gives) (L.over lists.now)) (fixed_of assembly) result }
+    ensures available { AreSlices form.now → (blob : List ℕ) → IsBlob (fixed_of assembly) blob → (fixed_of assembly).base ≡ 0 → chunk_count (length blob) ≤ (fixed_of assembly).capacity
+        → HaveAll grain (made_of form.now H.gives) (L.over lists.now) (fixed_of assembly).mode blob
+        → IsHandedOut own_bytes (IsLent (made_of form.now H.gives) (L.over lists.now)) (fixed_of assembly) blob result }
 {
     // For the prover alone: the flags of a mode are apart from the tree's.
     assembly.mode().is_keyed();
@@ -48,6 +50,7 @@ pub(crate) fn hand_out<R: Threads + Sync, H: Holder + Drop, L: Lists<H>>(
     closing_rounds(
         alloc,
         &assembly,
+        form,
         &mut seat,
         holders.as_mut_slice(),
         grain,

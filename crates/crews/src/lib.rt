@@ -4,12 +4,13 @@
 
 pub use bao_read::{Gate, Open};
 pub use blob::finish;
-pub use copies::{gather_copies, gather_copies_at};
+pub use copies::gather_copies;
 pub use crew::Crew;
+pub use gathering::How;
 pub use peer::Peer;
 pub use runs::{run, run_bare};
 pub use shared::Shared;
-pub use sources::gather_sources;
+pub use sources::gather;
 pub use texts::{crews_over, gather_texts};
 pub use whole::Whole;
 

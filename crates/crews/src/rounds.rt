@@ -59,7 +59,7 @@ fn begin<H: Holder, G: Gate>(
 }
 
 // All crews' first rounds, at once.
-fn first_round<R: Threads + Sync, H: Holder + Send, G: Gate + Sync>(
+pub(crate) fn first_round<R: Threads + Sync, H: Holder + Send, G: Gate + Sync>(
     rt: &R,
     alloc: Global,
     assembly: &Assembly,
@@ -93,7 +93,7 @@ fn last_round<H: Holder>(alloc: Global, assembly: &Assembly, form: &Form<'_>, cr
 }
 
 // The sums of the crews' reports.
-fn all_reports<H>(crews: &[Crew<H>]) -> Report
+pub(crate) fn all_reports<H>(crews: &[Crew<H>]) -> Report
     ensures { result ≡ all_of crews.now }
 {
     let mut all = Report::new();

@@ -2,32 +2,33 @@ ghost use Rattle.std.specs.Prelude.{◌≡◌, ◌≤◌, ℕ, List, Some, lengt
 ghost use Rattle.bao_text.specs.Choice.{chunk_count};
 ghost use Rattle.bao_text.specs.Texts.{combined_text};
 ghost use Rattle.gather.specs.Available.{HaveSlices};
+ghost use Rattle.gather.specs.Forms.{AreSlices};
 ghost use Rattle.gather.specs.HandedOut.{Gathers, IsHandedOut, own_bytes};
-ghost use Rattle.gather.specs.Large.{fixed_as};
-ghost use Rattle.gather.specs.Lists.{IsCutOfSource, source_gives};
+ghost use Rattle.gather.specs.Lists.{IsFromSource, source_gives};
 ghost use Rattle.store_core.specs.Laws.{IsBlob};
 
-use crate::gathering::gather_by;
+use crate::gathering::{How, gather_from};
 use crate::whole::Whole;
-use b3tree::{Hash, Mode};
 use bao_read::Source;
-use gather::{GatherFault, Grain, SourceAt, Sources};
+use gather::{CopiesAt, CopyAt, Form, GatherFault, SourceAt, Sources};
 use std::alloc::Global;
 use std::thread::Threads;
+use store_core::Fixed;
 
-/// The blob with this root in this mode, out of sources that are read by position, as files are, and that nobody trusts: each
-/// may have its combined encoding, or any bytes, and other bytes at each read. What they have takes no memory but for the
-/// slices that workers ask for. So many workers, at least 1 and at most 64, fill a shared store, as `run` says, each with a
-/// seat of its own and all sources in their order. Then their seats are joined to one, which goes once more round the groups
-/// and asks for what is held by nobody; with `Grain::Chunk` it then asks for each chunk by itself, as `salvage` says. The
-/// blob stays in that store, and is read from there. A source of which a read answers a fault gives nothing then, and the
-/// next one is asked.
+/// The blob with the root of `fixed` in its mode, out of sources that are read by position, as files are, and that nobody trusts:
+/// each may have the blob's combined encoding or, beside an outboard encoding, be a plain copy of it, as the form says, or have any
+/// bytes, and other bytes at each read. What they have takes no memory but for the parts that workers ask for.
 ///
-/// The store has room for `room` chunks, at least 1 and at most `capacity`. Where that is less than `capacity`, and the
-/// blob is too large for it or left unfinished, the work is done again with room for `capacity` chunks. As many as
-/// an encoding of N bytes can have are enough for it: N / 1,088 + 1.
+/// So many workers, at least 1 and at most 64, fill a shared store, as `run` and `run_bare` say of a first round, each with a seat
+/// of its own and all sources in their order. Then their seats are joined to one, which goes once more round the groups and asks for
+/// what is held by nobody; with `Grain::Chunk` it then asks for each chunk by itself, as `salvage` says. The blob stays in that store,
+/// and is read from there. A source of which a read answers a fault gives nothing then, and the next one is asked.
 ///
-/// 802 `Capacity` unless `capacity` is 1 to 65,536, asked before all else; 801 where there is no memory for the store,
+/// The store has room for `how.room` chunks, at least 1 and at most the capacity. Where that is less than the capacity, and the blob
+/// is too large for it or left unfinished, the work is done once more with room for all. As many as an encoding of N bytes can have are
+/// enough for it: N / 1,088 + 1.
+///
+/// 802 `Capacity` unless the capacity is 1 to 65,536, asked before all else; 801 where there is no memory for the store,
 /// 806 for a worker's seat, and 911 `Starved` for the crews and the lists of sources. Then the blob is answered only
 /// once its hash is the root: 902 `NotTheRoot` where it isn't, 903 `Memory` where there is none for the pieces of at
 /// most 256 KiB in which it is read from the store and hashed, on about so many threads at the most. An unfinished blob is
@@ -35,43 +36,48 @@ use std::thread::Threads;
 /// times the capacity, else 901 `Unfinished`.
 ///
 /// Where one of the sources never fails, its bytes are known, and they are the combined encoding of a blob with the root,
-/// of at most `capacity` chunks, that blob is answered, whatever the other sources are, whether or not they fail, and
+/// of at most so many chunks as the capacity, that blob is answered, whatever the other sources are, whether or not they fail, and
 /// however the workers meet; or there was no memory, or such a collision as follows is exhibited. Nor need any source be whole: it
 /// is enough that what one gives as the slice of the last byte is known to be the blob's, and for each group of the blob's
 /// chunks what one gives as the group's slice, or with `Grain::Chunk` for each chunk as the chunk's.
 ///
 /// What is answered is each blob with the root, at 805 each of them is longer than the capacity, and at 902 there is none;
 /// or a collision is exhibited, two different inputs with one chaining value, one of the blob's and one of a slice's that is
-/// accepted under the root. Where the bytes of the source are known from which it came, it is cut out of them. Such a slice
-/// certifies the length that is too large, too.
-pub fn gather_sources<R: Threads + Sync, S: Source + Sync>(
+/// accepted under the root. Where the bytes of the source are known from which it came, it is cut out of them, or made of a part of
+/// them and of the outboard encoding's parents. Such a slice certifies the length that is too large, too.
+pub fn gather<R: Threads + Sync, S: Source + Sync>(
     rt: &R,
     alloc: Global,
-    root: Hash,
-    mode: Mode,
-    capacity: u32,
-    room: u32,
-    workers: u32,
-    grain: Grain,
+    fixed: &Fixed,
+    form: &Form<'_>,
+    how: How,
     sources: &[S],
 ) -> Result<Whole, GatherFault>
-    ensures gathers { Gathers own_bytes (IsCutOfSource S.contents S.faultless sources.now) (fixed_as root mode capacity) result }
-    ensures available { (blob : List ℕ) (i : ℕ) (source : S) → IsBlob (fixed_as root mode capacity) blob → chunk_count (length blob) ≤ capacity
-        → slice_get sources.now i ≡ Some source → S.contents source ≡ Some (combined_text mode blob) → S.faultless source
-        → IsHandedOut own_bytes (IsCutOfSource S.contents S.faultless sources.now) (fixed_as root mode capacity) blob result }
-    ensures covered { (blob : List ℕ) → IsBlob (fixed_as root mode capacity) blob → chunk_count (length blob) ≤ capacity
-        → HaveSlices grain (source_gives S.contents S.faultless) mode blob sources.now
-        → IsHandedOut own_bytes (IsCutOfSource S.contents S.faultless sources.now) (fixed_as root mode capacity) blob result }
+    requires whole { fixed.now.base ≡ 0 }
+    ensures gathers { Gathers own_bytes (IsFromSource form.now S.contents S.faultless sources.now) fixed.now result }
+    ensures available { AreSlices form.now → (blob : List ℕ) (i : ℕ) (source : S) → IsBlob fixed.now blob → chunk_count (length blob) ≤ fixed.now.capacity
+        → slice_get sources.now i ≡ Some source → S.contents source ≡ Some (combined_text fixed.now.mode blob) → S.faultless source
+        → IsHandedOut own_bytes (IsFromSource form.now S.contents S.faultless sources.now) fixed.now blob result }
+    ensures covered { AreSlices form.now → (blob : List ℕ) → IsBlob fixed.now blob → chunk_count (length blob) ≤ fixed.now.capacity
+        → HaveSlices how.grain (source_gives S.contents S.faultless) fixed.now.mode blob sources.now
+        → IsHandedOut own_bytes (IsFromSource form.now S.contents S.faultless sources.now) fixed.now blob result }
 {
-    gather_by::<R, SourceAt<'_, S>, Sources<'_, S>>(
-        rt,
-        alloc,
-        root,
-        mode,
-        capacity,
-        room,
-        workers,
-        grain,
-        &Sources(sources),
-    )
+    match form {
+        Form::Slices => gather_from::<R, SourceAt<'_, S>, Sources<'_, S>>(
+            rt,
+            alloc,
+            fixed,
+            form,
+            how,
+            &Sources(sources),
+        ),
+        Form::Bare(_) => gather_from::<R, CopyAt<'_, S>, CopiesAt<'_, S>>(
+            rt,
+            alloc,
+            fixed,
+            form,
+            how,
+            &CopiesAt(sources),
+        ),
+    }
 }

@@ -13,12 +13,13 @@ ghost use Rattle.crews.specs.Seats.{BeginsAfter, KeepsItsOwn};
 
 use crate::crew::Crew;
 use crate::crewing::crews_with;
-use crate::gathering::gather_by;
+use crate::gathering::{How, gather_from};
 use crate::whole::in_memory;
 use b3tree::{Hash, Mode};
-use gather::{Encoded, GatherFault, Grain, Texts, room_for};
+use gather::{Encoded, Form, GatherFault, Grain, Texts, room_for};
 use std::alloc::Global;
 use std::thread::Threads;
+use store_core::Fixed;
 use store_shared::{Assembly, Seat};
 
 /// So many crews, each with a seat of its own that is split off this one, and holders over all texts in their order;
@@ -90,10 +91,25 @@ pub fn gather_texts<R: Threads + Sync>(
         → HaveSlices grain cut_gives mode blob (map vec_items texts.now)
         → IsHandedOut vec_items (IsCutOf (map vec_items texts.now)) (fixed_as root mode capacity) blob result }
 {
-    let room = room_for(texts, capacity);
+    let fixed = Fixed {
+        root,
+        mode,
+        capacity,
+        base: 0,
+    };
+    let how = How {
+        workers,
+        grain,
+        room: room_for(texts, capacity),
+    };
     let lists = Texts(texts);
-    let gathered = gather_by::<R, Encoded<'_>, Texts<'_>>(
-        rt, alloc, root, mode, capacity, room, workers, grain, &lists,
+    let gathered = gather_from::<R, Encoded<'_>, Texts<'_>>(
+        rt,
+        alloc,
+        &fixed,
+        &Form::Slices,
+        how,
+        &lists,
     );
     in_memory(alloc, gathered)
 }

@@ -1,16 +1,16 @@
-// Blobs out of plain copies, beside an outboard encoding.
+// Blobs out of plain copies in memory, beside an outboard encoding.
 //
-// Both blobs have the outline's root as their hash: two that differ are a collision. Whether one comes together
-// isn't determined, nor which of 805, 901 and 902 comes where none does.
+// Whether one comes together isn't determined: 901 or a number of memory may come in place of every other answer. Each other answer is
+// determined by the copies and the outline for every blob that has the root, or a collision is exhibited: the blob, 802, 805 or 902.
 
-ghost use Rattle.std.specs.Prelude.{◌≡◌, ◌↔◌, Err, IfOk};
-ghost use Rattle.b3tree.specs.Hashing.{hash};
-ghost use Rattle.bao_check.specs.Outline.{outline_mode};
+ghost use Rattle.std.specs.Prelude.{◌≡◌, ◌↔◌, Err, map, vec_items};
+ghost use Rattle.crews.specs.Beside.{fixed_beside};
+ghost use Rattle.determined_gather.specs.Agreeing.{SameOrCollision};
 ghost use Rattle.gather.specs.declared.fault.GatherFault.TheVariants.{Capacity};
+ghost use Rattle.gather.specs.Lists.{IsPartOfCopy};
 
 use bao_check::Outline;
-use bao_read::Source;
-use crews::{Whole, gather_copies, gather_copies_at};
+use crews::gather_copies;
 use gather::{GatherFault, Grain};
 use std::alloc::Global;
 use std::thread::Threads;
@@ -23,30 +23,13 @@ pub fn gather_copies_determined<R: Threads + Sync>(
     ours: u32,
     theirs: u32,
     grain: Grain,
+    finer: Grain,
     copies: &[Vec<u8>],
 ) -> (Result<Vec<u8>, GatherFault>, Result<Vec<u8>, GatherFault>)
-    ensures blob { IfOk result.0 (λ x. IfOk result.1 (λ y. hash (outline_mode outline.now) x.items ≡ hash (outline_mode outline.now) y.items)) }
+    ensures blob { SameOrCollision vec_items (IsPartOfCopy outline.now (map vec_items copies.now)) (fixed_beside outline.now capacity) result.0 result.1 }
     ensures capacity { (result.0 ≡ Err Capacity) ↔ (result.1 ≡ Err Capacity) }
 {
     let one = gather_copies(rt, alloc, outline, capacity, ours, grain, copies);
-    let other = gather_copies(rt, alloc, outline, capacity, theirs, grain, copies);
-    (one, other)
-}
-
-pub fn gather_copies_at_determined<R: Threads + Sync, S: Source + Sync>(
-    rt: &R,
-    alloc: Global,
-    outline: &Outline<'_>,
-    capacity: u32,
-    ours: u32,
-    theirs: u32,
-    grain: Grain,
-    copies: &[S],
-) -> (Result<Whole, GatherFault>, Result<Whole, GatherFault>)
-    ensures blob { IfOk result.0 (λ x. IfOk result.1 (λ y. hash (outline_mode outline.now) x ≡ hash (outline_mode outline.now) y)) }
-    ensures capacity { (result.0 ≡ Err Capacity) ↔ (result.1 ≡ Err Capacity) }
-{
-    let one = gather_copies_at(rt, alloc, outline, capacity, ours, grain, copies);
-    let other = gather_copies_at(rt, alloc, outline, capacity, theirs, grain, copies);
+    let other = gather_copies(rt, alloc, outline, capacity, theirs, finer, copies);
     (one, other)
 }

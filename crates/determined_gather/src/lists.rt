@@ -1,14 +1,13 @@
 // Lists of holders. Memory alone may refuse one.
 
 ghost use Rattle.std.specs.Prelude.{◌≡◌, IfOk, map};
-ghost use Rattle.determined_gather.specs.Lists.{copy_source_of};
 ghost use Rattle.gather.specs.Encodings.{encoding};
-ghost use Rattle.gather.specs.Lists.{source_of};
+ghost use Rattle.gather.specs.Lists.{copy_source_of, source_of};
 ghost use Rattle.gather.specs.Plains.{copy_of};
 
 use bao_read::Source;
 use gather::{
-    Copies, CopiesAt, Encoded, Lists, Plain, PlainAt, SourceAt, Sources, Texts, copies_over,
+    Copies, CopiesAt, CopyAt, Encoded, Lists, Plain, SourceAt, Sources, Texts, copies_over,
     holders_over,
 };
 use std::alloc::{AllocError, Global};
@@ -87,8 +86,8 @@ pub fn copies_at_list_determined<'a, S: Source>(
     alloc: Global,
     copies: &CopiesAt<'a, S>,
 ) -> (
-    Result<Vec<PlainAt<'a, S>>, AllocError>,
-    Result<Vec<PlainAt<'a, S>>, AllocError>,
+    Result<Vec<CopyAt<'a, S>>, AllocError>,
+    Result<Vec<CopyAt<'a, S>>, AllocError>,
 )
     ensures { IfOk result.0 (λ a. IfOk result.1 (λ b. map copy_source_of a.items ≡ map copy_source_of b.items)) }
 {

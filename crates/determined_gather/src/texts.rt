@@ -13,17 +13,19 @@ ghost use Rattle.gather.specs.declared.fault.GatherFault.TheVariants.{Capacity};
 ghost use Rattle.gather.specs.Available.{HaveSlices};
 ghost use Rattle.gather.specs.declared.grain.Grain.TheVariants.{Group as ByGroup};
 ghost use Rattle.gather.specs.Encodings.{IsCutOf, cut_gives};
+ghost use Rattle.gather.specs.Forms.{AreSlices};
 ghost use Rattle.gather.specs.HandedOut.{own_bytes};
 ghost use Rattle.gather.specs.Large.{HasCollision, fixed_as};
-ghost use Rattle.gather.specs.Lists.{IsCutOfSource, source_gives};
+ghost use Rattle.gather.specs.Lists.{IsFromSource, source_gives};
 ghost use Rattle.store_core.specs.Laws.{IsBlob};
 
 use b3tree::{Hash, Mode, bytes_are};
 use bao_read::Source;
-use crews::{Whole, gather_sources};
-use gather::{GatherFault, Grain};
+use crews::{How, Whole, gather};
+use gather::{Form, GatherFault, Grain};
 use std::alloc::Global;
 use std::thread::Threads;
+use store_core::Fixed;
 
 // For the prover alone: a blob is of bytes.
 fn is_of_bytes(gathered: &Result<Vec<u8>, GatherFault>)
@@ -111,30 +113,27 @@ pub fn workers_answer_as_one_determined<R: Threads + Sync>(
     (one, other)
 }
 
-pub fn gather_sources_determined<R: Threads + Sync, S: Source + Sync>(
+// Out of sources, in either form, not by as many workers in both calls, nor by the same grain, nor with the same first room.
+pub fn gather_determined<R: Threads + Sync, S: Source + Sync>(
     rt: &R,
     alloc: Global,
-    root: Hash,
-    mode: Mode,
-    capacity: u32,
-    room: u32,
-    ours: u32,
-    theirs: u32,
-    grain: Grain,
+    fixed: &Fixed,
+    form: &Form<'_>,
+    ours: How,
+    theirs: How,
     sources: &[S],
 ) -> (Result<Whole, GatherFault>, Result<Whole, GatherFault>)
-    ensures blob { SameOrCollision own_bytes (IsCutOfSource S.contents S.faultless sources.now) (fixed_as root mode capacity) result.0 result.1 }
+    requires whole { fixed.now.base ≡ 0 }
+    ensures blob { SameOrCollision own_bytes (IsFromSource form.now S.contents S.faultless sources.now) fixed.now result.0 result.1 }
     ensures capacity { (result.0 ≡ Err Capacity) ↔ (result.1 ≡ Err Capacity) }
-    ensures covered { (blob : List ℕ) → IsBlob (fixed_as root mode capacity) blob → chunk_count (length blob) ≤ capacity
-        → HaveSlices grain (source_gives S.contents S.faultless) mode blob sources.now
-        → BothAnswer own_bytes blob result.0 result.1 ⊎ HasCollision (IsCutOfSource S.contents S.faultless sources.now) (fixed_as root mode capacity) blob }
-    ensures available { (blob : List ℕ) (i : ℕ) (source : S) → IsBlob (fixed_as root mode capacity) blob → chunk_count (length blob) ≤ capacity
-        → slice_get sources.now i ≡ Some source → S.contents source ≡ Some (combined_text mode blob) → S.faultless source
-        → BothAnswer own_bytes blob result.0 result.1 ⊎ HasCollision (IsCutOfSource S.contents S.faultless sources.now) (fixed_as root mode capacity) blob }
+    ensures covered { AreSlices form.now → (blob : List ℕ) → IsBlob fixed.now blob → chunk_count (length blob) ≤ fixed.now.capacity
+        → HaveSlices ours.grain (source_gives S.contents S.faultless) fixed.now.mode blob sources.now → HaveSlices theirs.grain (source_gives S.contents S.faultless) fixed.now.mode blob sources.now
+        → BothAnswer own_bytes blob result.0 result.1 ⊎ HasCollision (IsFromSource form.now S.contents S.faultless sources.now) fixed.now blob }
+    ensures available { AreSlices form.now → (blob : List ℕ) (i : ℕ) (source : S) → IsBlob fixed.now blob → chunk_count (length blob) ≤ fixed.now.capacity
+        → slice_get sources.now i ≡ Some source → S.contents source ≡ Some (combined_text fixed.now.mode blob) → S.faultless source
+        → BothAnswer own_bytes blob result.0 result.1 ⊎ HasCollision (IsFromSource form.now S.contents S.faultless sources.now) fixed.now blob }
 {
-    let one = gather_sources(rt, alloc, root, mode, capacity, room, ours, grain, sources);
-    let other = gather_sources(
-        rt, alloc, root, mode, capacity, room, theirs, grain, sources,
-    );
+    let one = gather(rt, alloc, fixed, form, ours, sources);
+    let other = gather(rt, alloc, fixed, form, theirs, sources);
     (one, other)
 }

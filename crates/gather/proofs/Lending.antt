@@ -1,6 +1,8 @@
 -- What is known of holders' lists by what they are over.
-use Rattle.std.proofs.Common.{◌≡◌, ℕ, ◌+◌, ◌-◌, ◌*◌, ◌^◌, ◌<◌, ◌≤◌, zero, suc, List, [], ◌∷◌, append-nil, length, map, slice_get, Option, None, Some, refl, sym, subst, ◌∙◌, arith, inl, inr}
+use Rattle.std.proofs.Common.{◌≡◌, ℕ, ◌+◌, ◌-◌, ◌*◌, ◌^◌, ◌<◌, ◌≤◌, zero, suc, List, [], ◌∷◌, append-nil, length, map, option_map, slice_get, Option, None, Some, ap, refl, sym, subst, ◌∙◌, arith, inl, inr}
+use Rattle.std.proofs.lemmas.Option.{slice_get-map}
 use Rattle.b3tree.specs.declared.mode.Mode.{Mode}
+use Rattle.bao_check.specs.declared.outline.Outline.{Outline}
 use Rattle.bao_text.specs.Choice.{chunk_count}
 use Rattle.bao_text.specs.Texts.{combined_text, slice_text}
 use Rattle.bao_text.proofs.Laws.{cut_text-combined, length-combined_text}
@@ -9,8 +11,9 @@ use Rattle.gather.specs.declared.holder.Encoded.{Encoded}
 use Rattle.gather.specs.declared.grain.Grain.{Grain}
 use Rattle.gather.specs.Available.{HasSlice, HasTrue, HaveSlices}
 use Rattle.gather.specs.Encodings.{IsCut, IsCutOf, encoding}
-use Rattle.gather.specs.Holders.{Appends}
-use Rattle.gather.specs.Places.{IsCutAt}
+use Rattle.gather.specs.Holders.{Appends, IsHanded}
+use Rattle.gather.specs.Forms.{IsMadeBeside}
+use Rattle.gather.specs.Places.{IsCutAt, IsPartAt}
 use Rattle.gather.proofs.Binding.{handed_cut, handed_over}
 use Rattle.store_core.specs.declared.history.Piece.{Piece}
 
@@ -92,3 +95,26 @@ lost (Some s) faultless start len never = λ fits. inr (refl, never)
 pub lost_appends : (contents : Option (List ℕ)) (faultless : Type 0) (start len : ℕ) (old new : List ℕ) → new ≡ old → (faultless → ⊥)
     → Appends (IsCutAt contents faultless start len) old new
 lost_appends contents faultless start len old new same never = record { text = []; is = same ∙ sym (append-nil old); given = lost contents faultless start len never }
+
+-- what holders over plain copies hand over beside an outline is made of parts of these copies
+pub lent_beside : {H S : Type 0} (outline : Outline) (f : H → S) (gives : S → ℕ → ℕ → List ℕ → Type 0) (all : List S) (piece : Piece)
+    → IsLent (IsMadeBeside outline (λ (holder : H) start len text. gives (f holder) start len text)) (λ (holders : List H). map f holders ≡ all) piece
+    → IsHanded (IsMadeBeside outline gives) all piece
+lent_beside {H = H} outline f gives all piece is =
+    let from = is.handed in
+    record {
+      place = from.place;
+      holder = f from.holder;
+      there = subst (λ xs. slice_get xs from.place ≡ Some (f from.holder)) is.are
+          (slice_get-map f is.holders from.place ∙ ap (λ (o : Option H). option_map f o) from.there);
+      given = record { bytes = from.given.bytes; given = from.given.given; is = from.given.is };
+    }
+
+part_lost : (contents : Option (List ℕ)) (faultless : Type 0) (start len : ℕ) → (faultless → ⊥) → IsPartAt contents faultless start len []
+part_lost None faultless start len never = tt
+part_lost (Some s) faultless start len never = λ fits. inr (refl, never)
+
+-- nothing of a plain copy follows where a read failed
+pub lost_part : (contents : Option (List ℕ)) (faultless : Type 0) (start len : ℕ) (old new : List ℕ) → new ≡ old → (faultless → ⊥)
+    → Appends (IsPartAt contents faultless start len) old new
+lost_part contents faultless start len old new same never = record { text = []; is = same ∙ sym (append-nil old); given = part_lost contents faultless start len never }

@@ -5,11 +5,11 @@ use Rattle.bao_text.specs.Cut.{cut_text}
 
 -- What is said of a source's bytes, where they are known and no more than a file or a slice of memory can have.
 abbrev pub OfBytes : Option (List ℕ) → (List ℕ → Type 0) → Type 0
-OfBytes contents P = IfSome contents (λ bytes. length bytes < 2 ^ 63 → P bytes)
+OfBytes contents P = IfSome contents (λ bytes. length bytes < 2 ^ 64 → P bytes)
 
 -- these are the bytes, known and no more than a file or a slice of memory can have
 abbrev pub AreKnown : Option (List ℕ) → List ℕ → Type 0
-AreKnown contents bytes = (contents ≡ Some bytes) × (length bytes < 2 ^ 63)
+AreKnown contents bytes = (contents ≡ Some bytes) × (length bytes < 2 ^ 64)
 
 -- nothing, since a read failed
 abbrev pub IsLost : Type 0 → List ℕ → Type 0

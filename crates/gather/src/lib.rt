@@ -16,7 +16,7 @@ pub use report::Report;
 pub use room::{chunks_within, first_room, room_for};
 pub use salvaging::salvage;
 pub use shelf::Shelf;
-pub use sources::{CopiesAt, SourceAt, Sources};
+pub use sources::{CopiesAt, CopyAt, SourceAt, Sources};
 pub use texts::{gather_texts, holders_over};
 pub use worker::{Place, work, work_as};
 

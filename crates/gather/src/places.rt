@@ -9,7 +9,7 @@ use bao_read::Source;
 use bao_text::Places;
 
 // No file and no slice of memory has a byte at this place or after it.
-const END: u128 = i64::MAX as u128;
+const END: u128 = u64::MAX as u128;
 
 // The most bytes that are asked for at once: a group's chunks with their parents are fewer.
 const READ_LEN: u128 = 1 << 17;

@@ -32,6 +32,31 @@ impl<'a, S: Source> Holder for SourceAt<'a, S> {
     }
 }
 
+/// The holder over a source that may be a plain copy. A read that fails gives nothing, and isn't counted.
+#[derive(Drop)]
+pub struct CopyAt<'a, S: Source>(&'a S);
+
+impl<'a, S: Source> Holder for CopyAt<'a, S> {
+    ghost use Rattle.gather.specs.Places.{IsPartAt};
+
+    ghost count = { λ _. 0 };
+
+    ghost gives = { λ holder start len text. IsPartAt (S.contents holder.0.now) (S.faultless holder.0.now) start len text };
+
+    fn fetch(&mut self, start: u64, len: u64, into: &mut Vec<u8>) -> Result<(), HolderFault> {
+        let mut holder = PlainAt::new(self.0);
+        match holder.fetch(start, len, into) {
+            Ok(()) => Ok(()),
+            Err(HolderFault::Device) => Ok(()),
+            Err(HolderFault::Memory) => Err(HolderFault::Memory),
+        }
+    }
+
+    fn faults(&self) -> u64 {
+        0
+    }
+}
+
 // A holder over each of these sources, in their order.
 fn sources_over<'a, S: Source>(
     alloc: Global,
@@ -50,12 +75,12 @@ fn sources_over<'a, S: Source>(
 fn copies_at_over<'a, S: Source>(
     alloc: Global,
     copies: &'a [S],
-) -> Result<Vec<PlainAt<'a, S>>, AllocError>
-    ensures { IfOk result (λ holders. map (λ holder. holder.source.now) holders.items ≡ copies.now) }
+) -> Result<Vec<CopyAt<'a, S>>, AllocError>
+    ensures { IfOk result (λ holders. map (λ holder. holder.0.now) holders.items ≡ copies.now) }
 {
     let mut holders = Vec::with_capacity(alloc, copies.len())?;
     for copy in copies {
-        holders.push(PlainAt::new(copy))?;
+        holders.push(CopyAt(copy))?;
     }
     Ok(holders)
 }
@@ -76,10 +101,10 @@ impl<'a, S: Source> Lists<SourceAt<'a, S>> for Sources<'a, S> {
 #[derive(Drop)]
 pub struct CopiesAt<'a, S: Source>(pub &'a [S]);
 
-impl<'a, S: Source> Lists<PlainAt<'a, S>> for CopiesAt<'a, S> {
-    ghost over = { λ copies holders. map (λ holder. holder.source.now) holders ≡ copies.0.now };
+impl<'a, S: Source> Lists<CopyAt<'a, S>> for CopiesAt<'a, S> {
+    ghost over = { λ copies holders. map (λ holder. holder.0.now) holders ≡ copies.0.now };
 
-    fn list(&self, alloc: Global) -> Result<Vec<PlainAt<'a, S>>, AllocError> {
+    fn list(&self, alloc: Global) -> Result<Vec<CopyAt<'a, S>>, AllocError> {
         copies_at_over(alloc, self.0)
     }
 }

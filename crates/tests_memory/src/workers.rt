@@ -5,12 +5,13 @@ use crate::stores::{made, parted};
 use b3tree::{Hash, Mode};
 use bao_check::{Outline, check_outboard};
 use bao_text::{combined, outboard};
-use crews::{Crew, Open, finish, gather_copies, gather_copies_at, gather_texts, run};
-use gather::{Encoded, FinishFault, GatherFault, Grain, Report};
+use crews::{Crew, How, Open, finish, gather, gather_copies, gather_texts, run};
+use gather::{Encoded, FinishFault, Form, GatherFault, Grain, Report};
 use std::alloc::Global;
 use std::process::Abort;
 use std::test::Fail;
 use std::thread::Threads;
+use store_core::Fixed;
 use store_shared::{Assembly, Seat};
 
 // Whether it is a fault of memory.
@@ -102,7 +103,19 @@ fn from_sources<R: AllocGlobal + Threads + Sync + Abort>(
 ) -> Result<Vec<u8>, Fail> {
     let alloc = rt.alloc();
     let sources = [InPieces(&[]), InPieces(bytes)];
-    let mut whole = gather_copies_at(rt, alloc, outline, 700, 3, Grain::Group, &sources)?;
+    let fixed = Fixed {
+        root: outline.root(),
+        mode: outline.mode(),
+        capacity: 700,
+        base: 0,
+    };
+    let how = How {
+        workers: 3,
+        grain: Grain::Group,
+        room: 700,
+    };
+    let form = Form::Bare(outline);
+    let mut whole = gather(rt, alloc, &fixed, &form, how, &sources)?;
     Ok(whole.to_vec(alloc)?)
 }
 

@@ -12,6 +12,7 @@ use Rattle.gather.specs.declared.fault.FinishFault.TheVariants as finishing
 use Rattle.gather.specs.declared.fault.GatherFault.{GatherFault}
 use Rattle.gather.specs.declared.fault.GatherFault.TheVariants.{Starved}
 use Rattle.gather.specs.Finished.{BindsTo, IsFinished}
+use Rattle.gather.specs.Forms.{made_of}
 use Rattle.gather.specs.HandedOut.{Gathers, IsHandedOut, own_bytes}
 use Rattle.gather.specs.Holders.{IsHanded}
 use Rattle.gather.specs.Lists.{IsLent}
@@ -27,7 +28,7 @@ unfinished_by fault = Err fault
 
 pub returns-in-Err-clause-gathers : goal.returns-in-Err-clause-gathers
 returns-in-Err-clause-gathers g c =
-    let handed : Piece → Type 0 = IsLent g.H.Holder.gives (g.L.Lists.over c.args.lists.now) in
+    let handed : Piece → Type 0 = IsLent (made_of c.args.form.now g.H.Holder.gives) (g.L.Lists.over c.args.lists.now) in
     let fixed : Fixed = fixed_of c.args.assembly in
     gathers_none own_bytes handed fixed Starved (certifies_none own_bytes fixed Starved c.args.assembly.words.some c.args.assembly.words.limit (λ e. cc)) (λ e. cc) (λ e. cc)
 
@@ -38,7 +39,7 @@ new-requires-clause-full g c =
 
 pub returns-in-Ok-ended-clause-gathers : goal.returns-in-Ok-ended-clause-gathers
 returns-in-Ok-ended-clause-gathers g c =
-    let gives = g.H.Holder.gives in
+    let gives = made_of c.args.form.now g.H.Holder.gives in
     let handed : Piece → Type 0 = IsLent gives (g.L.Lists.over c.args.lists.now) in
     let fixed : Fixed = fixed_of c.args.assembly in
     let holders : List g.row.H.Denot = c.as_mut_slice.result.now in
@@ -64,11 +65,11 @@ returns-in-Ok-ended-clause-gathers g c =
     c.certify-ended.ensures.on c.look_round.ensures.looked) binds))
 
 pub returns-in-Ok-ended-clause-available : goal.returns-in-Ok-ended-clause-available
-returns-in-Ok-ended-clause-available g c = λ blob is first room there. (returns-in-Ok-ended-clause-gathers g c).found blob is
+returns-in-Ok-ended-clause-available g c = λ form blob is first room there. (returns-in-Ok-ended-clause-gathers g c).found blob is
 
 pub returns-in-Err-ended-clause-gathers : goal.returns-in-Err-ended-clause-gathers
 returns-in-Err-ended-clause-gathers g c =
-    let gives = g.H.Holder.gives in
+    let gives = made_of c.args.form.now g.H.Holder.gives in
     let handed : Piece → Type 0 = IsLent gives (g.L.Lists.over c.args.lists.now) in
     let fixed : Fixed = fixed_of c.args.assembly in
     let holders : List g.row.H.Denot = c.as_mut_slice.result.now in
@@ -91,8 +92,8 @@ returns-in-Err-ended-clause-gathers g c =
     (λ e blob is. pair_of handed fixed c.certify-ended.result.1.view.seen blob from (c.certify-ended.ensures.binds.none (told finishing.NotTheRoot e) blob is)))
 
 pub returns-in-Err-ended-clause-available : goal.returns-in-Err-ended-clause-available
-returns-in-Err-ended-clause-available g c = λ blob is first room there.
-    let gives = g.H.Holder.gives in
+returns-in-Err-ended-clause-available g c = λ form blob is first room there.
+    let gives = made_of c.args.form.now g.H.Holder.gives in
     let handed : Piece → Type 0 = IsLent gives (g.L.Lists.over c.args.lists.now) in
     let fixed : Fixed = fixed_of c.args.assembly in
     let holders : List g.row.H.Denot = c.as_mut_slice.result.now in
@@ -115,4 +116,4 @@ returns-in-Err-ended-clause-available g c = λ blob is first room there.
     c.closing_rounds.new.holders c.args.report c.closing_rounds.new.report wide c.requires.of.knows.fixed_is met.of.knows.fixed_is c.requires.left met.reports met.alone
     c.certify-ended.ensures.on c.look_round.ensures.looked c.args.grain blob c.requires.quiet keyed is first room c.args.assembly.words.limit
     (there holders are (omega (arith, room, c.args.assembly.words.limit))) legal c.requires.failed c.requires.large
-    (λ slices has. met.served blob slices has) (c.certify-ended.ensures.unfinished (told finishing.Unfinished e))))
+    (λ slices has. met.served form blob slices has) (c.certify-ended.ensures.unfinished (told finishing.Unfinished e))))

@@ -2,4 +2,4 @@ use Rattle.std.specs.Prelude.{◌≡◌, map, take}
 use Rattle.gather.proofs.sources.copies_at_over.Given as goal
 
 abbrev pub invariant-loop-copy : goal.invariant-loop-copy
-invariant-loop-copy g l = map (λ holder. holder.source.now) l.holders.items ≡ take l.copy-index l.copies
+invariant-loop-copy g l = map (λ holder. holder.0.now) l.holders.items ≡ take l.copy-index l.copies
