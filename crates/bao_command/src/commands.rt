@@ -175,7 +175,7 @@ fn decode<'a, R: Files<File = File> + AllocGlobal + Threads + Sync, O: Write>(
 }
 
 // Verifies the plain copy beside the outboard encoding, and prints how many bytes were written.
-fn decode_beside<'a, R: Files + AllocGlobal, O: Write>(
+fn decode_beside<'a, R: Files<File = File> + AllocGlobal, O: Write>(
     rt: &R,
     mode: &Mode,
     digits: &str,

@@ -6,11 +6,14 @@ use Rattle.std.proofs.lemmas.List.{length-drop, length-take-le, take-take, take_
 use Rattle.std.specs.Io.KnownBytes.{Appends}
 use Rattle.bao_files.specs.Printed.{AppendsBeginning}
 use Rattle.bao_tasks.specs.declared.gathered_fault.GatheredFault.{GatheredFault}
+use Rattle.bao_tasks.specs.declared.gathered_fault.GatheredFault.TheVariants.{Gather}
 use Rattle.bao_tasks.specs.declared.gathering.Gathering.{Gathering}
 use Rattle.bao_tasks.specs.Gathered.{IsExcusedWrite, IsUnwrittenWhole, IsWrittenOut, gathered_text}
 use Rattle.bao_text.specs.declared.fault.WriteFault.{WriteFault}
 use Rattle.bao_text.specs.declared.fault.WriteFault.TheVariants.{Memory, Writer}
 use Rattle.bao_text.specs.Faults.{WroteOnly}
+use Rattle.gather.specs.declared.fault.GatherFault.{GatherFault}
+use Rattle.gather.specs.HandedOut.{IsHandedOut, own_bytes}
 use Rattle.gather.specs.Large.{HasCollision}
 use Rattle.store_core.specs.declared.fixed.Fixed.{Fixed}
 use Rattle.store_core.specs.declared.history.Piece.{Piece}
@@ -57,3 +60,9 @@ written_out handed fixed how path blob found old new (Ok n) (inl same) count tex
 written_out handed fixed how path blob found old new (Err e) (inl same) count text (inl memory) = inl (subst IsExcusedWrite (sym memory.0) tt)
 written_out handed fixed how path blob found old new (Err e) (inl same) count text (inr (inl encoding)) = inl (subst IsExcusedWrite (sym encoding.0) tt)
 written_out handed fixed how path blob found old new (Err e) (inl same) count text (inr (inr written)) = inl (subst IsExcusedWrite (sym written.0) tt)
+
+-- no blob was gathered, for a fault that isn't of what was gathered from, unless a collision is exhibited
+pub not_gathered : (handed : Piece → Type 0) (fixed : Fixed) (how : Gathering) (blob : List ℕ) (old new : Option (List ℕ)) (fault : GatherFault)
+    → IsHandedOut own_bytes handed fixed blob (Err fault) → IsWrittenOut handed fixed how blob old new (Err (Gather fault))
+not_gathered handed fixed how blob old new fault (inl excused) = inl excused
+not_gathered handed fixed how blob old new fault (inr pair) = inr pair

@@ -1,5 +1,6 @@
 pub mod Ranges
 pub mod Copies
+pub mod CopyPass
 pub mod DecodeFaults
 pub mod Replayed
 pub mod RerunFaults
@@ -7,3 +8,4 @@ pub mod Gathered
 pub mod Fates
 pub mod Worth
 pub mod GatheredFaults
+pub mod Givens

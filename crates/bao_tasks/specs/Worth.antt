@@ -1,5 +1,5 @@
 -- What a file is worth: how many of the groups of 64 chunks that it is asked for are refused.
-use Rattle.std.specs.Prelude.{◌≡◌, ℕ, ◌+◌, ◌-◌, ◌*◌, ◌/◌, ◌<◌, min, Bool, true, false, List, length, count_by, nat_lt, slice_index_or, if◌then◌else◌}
+use Rattle.std.specs.Prelude.{◌≡◌, ℕ, ◌+◌, ◌-◌, ◌*◌, ◌/◌, ◌<◌, ◌^◌, min, IfSome, Option, Bool, true, false, List, length, count_by, nat_lt, slice_index_or, if◌then◌else◌}
 use Rattle.b3tree.specs.declared.mode.Mode.{Mode}
 use Rattle.b3tree.specs.Pieces.{piece}
 use Rattle.bao_text.specs.Choice.{chunk_count}
@@ -8,6 +8,8 @@ use Rattle.bao_check.specs.Accepted.{IsAccepted, slice_nodes}
 use Rattle.bao_check.specs.Bare.{AreBare}
 use Rattle.bao_check.specs.declared.outline.Outline.{Outline}
 use Rattle.bao_check.specs.Outline.{outline_claimed, outline_mode, outline_root, outline_text}
+use Rattle.gather.specs.declared.form.Form.{Form}
+use Rattle.gather.specs.declared.form.Form.TheVariants.{Slices, Bare}
 use Rattle.bao_tasks.specs.declared.worth.Worth.{Worth}
 
 -- how many groups a blob of n bytes has, as far as the capacity in chunks goes
@@ -55,3 +57,13 @@ pub record Refuses (good : ℕ → Type 0) (groups refused : ℕ) : Type 0 where
 pub record IsWorth (good : ℕ → Type 0) (groups : ℕ) (worth : Worth) : Type 0 where
   pub asked : worth.groups ≡ groups
   pub refuses : Refuses good groups worth.refused
+
+-- what is said of a source's bytes, where they are known, as many as a file or a slice of memory can have, and no read fails
+abbrev pub IsSaidOf : Option (List ℕ) → Type 0 → (List ℕ → Type 0) → Type 0
+IsSaidOf contents faultless P = IfSome contents (λ bytes. length bytes < 2 ^ 64 → faultless → P bytes)
+
+-- it is that of a source, as the form has it, of which this is known
+abbrev pub IsWorthAs : Form → Mode → List ℕ → ℕ → Option (List ℕ) → Type 0 → Worth → Type 0
+IsWorthAs Slices mode root capacity contents faultless worth = IsSaidOf contents faultless (λ text. IsWorth (IsGoodCut mode root text) (groups_of capacity text) worth)
+IsWorthAs (Bare outline) mode root capacity contents faultless worth =
+    IsSaidOf contents faultless (λ copy. IsWorth (IsGoodPart outline.now copy) (groups_within capacity (outline_claimed outline.now)) worth)

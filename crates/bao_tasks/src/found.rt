@@ -1,14 +1,14 @@
 ghost use Rattle.std.specs.Prelude.{◌≡◌, ◌<◌, IfErr, IfOk, OnErr, OnOk, length};
 ghost use Rattle.std.specs.Io.KnownBytes.{Appends};
 ghost use Rattle.bao_files.specs.Printed.{AppendsBeginning};
-ghost use Rattle.bao_tasks.specs.Gathered.{IsUnwrittenWhole, gathered_text};
+ghost use Rattle.bao_text.specs.Faults.{WroteOnly};
+ghost use Rattle.bao_tasks.specs.Gathered.{IsUnwritten, IsUnwrittenWhole, gathered_text};
 
 use crate::gathered_fault::GatheredFault;
-use crate::gathering::write_whole;
 use b3tree::Mode;
 use bao_files::FileFault;
 use bao_read::PIECE_LEN;
-use bao_text::{WriteFault, write_text};
+use bao_text::{WriteFault, write_combined, write_text};
 use crews::Whole;
 use gather::GatherFault;
 use std::alloc::Global;
@@ -55,6 +55,49 @@ fn write_in_parts<'a, W: Write>(
         Ok(()) => Ok(blob.len()),
         Err(_) => Err(unwritten),
     }
+}
+
+// Writes the blob, or its combined encoding.
+fn write_blob<W: Write>(
+    alloc: Global,
+    mode: &Mode,
+    encode: bool,
+    blob: &[u8],
+    out: &mut W,
+) -> Result<(), WriteFault>
+    ensures text { OnOk result (Appends (W.contents out.old) (W.contents out.new) (gathered_text encode mode.now blob.now)) }
+    ensures err { IfErr result (WroteOnly (W.contents out.old) (W.contents out.new) (gathered_text encode mode.now blob.now)) }
+{
+    if encode {
+        write_combined(alloc, mode, blob, out)?;
+        Ok(())
+    } else {
+        write_text(blob, out)
+    }
+}
+
+// Writes the blob, or its combined encoding, to `out`, which is flushed, and answers how many bytes the blob has.
+fn write_whole<'a, W: Write>(
+    alloc: Global,
+    mode: &Mode,
+    encode: bool,
+    blob: &[u8],
+    path: &'a str,
+    out: &mut W,
+) -> Result<u64, FileFault<'a>>
+    ensures count { IfOk result (λ count. count ≡ length blob.now) }
+    ensures text { OnOk result (Appends (W.contents out.old) (W.contents out.new) (gathered_text encode mode.now blob.now)) }
+    ensures fault { IfErr result (IsUnwritten path.entry (gathered_text encode mode.now blob.now) (W.contents out.old) (W.contents out.new)) }
+{
+    match write_blob(alloc, mode, encode, blob, out) {
+        Ok(()) => {}
+        Err(WriteFault::Memory) => return Err(FileFault::Encoding),
+        Err(WriteFault::Writer { .. }) => return Err(FileFault::Write(path)),
+    }
+    if out.flush().is_err() {
+        return Err(FileFault::Write(path));
+    }
+    Ok(blob.len() as u64)
 }
 
 // Writes a blob from its store, or its combined encoding, for which it is taken out of there, to `out`, which is flushed, and

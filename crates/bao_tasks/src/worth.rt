@@ -1,11 +1,13 @@
-ghost use Rattle.std.specs.Prelude.{◌≡◌, ◌*◌, ◌<◌, if◌then◌else◌, IfOk};
+ghost use Rattle.std.specs.Prelude.{◌≡◌, ◌*◌, ◌<◌, ◌≤◌, if◌then◌else◌, IfOk};
 ghost use Rattle.bao_text.specs.Choice.{chunk_count};
 ghost use Rattle.bao_check.specs.Outline.{outline_claimed};
-ghost use Rattle.bao_tasks.specs.Worth.{IsGoodCut, IsGoodPart, IsWorth, JudgesGroup, groups_of, groups_within};
+ghost use Rattle.bao_tasks.specs.Worth.{IsGoodCut, IsGoodPart, IsSaidOf, IsWorth, JudgesGroup, groups_of, groups_within};
 
 use b3tree::{CHUNK_LEN, Hash, Mode};
 use bao_check::{GROUP_LEN, Outline, check_bare, check_slice};
-use bao_text::{LENGTH_LEN, Memory, chunk_count, claimed, cut_slice, part_of};
+use bao_read::{Source, fill};
+use bao_text::{LENGTH_LEN, Memory, chunk_count, claimed};
+use gather::{EncodedAt, Holder, HolderFault, PlainAt};
 use std::alloc::Global;
 use store_core::GROUP_BYTES;
 
@@ -28,97 +30,116 @@ fn groups_within(capacity: u32, len: u64) -> u32
 }
 
 // For how many groups a combined encoding is asked.
-fn groups_of(capacity: u32, text: &[u8]) -> u32
-    ensures { result ≡ groups_of capacity text.now }
+fn groups_of<S: Source>(capacity: u32, source: &S) -> u32
+    ensures value { IsSaidOf (S.contents source.now) (S.faultless source.now) (λ text. result ≡ groups_of capacity text) }
 {
-    if text.len() < LENGTH_LEN {
-        return 1;
+    let mut first = [0; LENGTH_LEN];
+    match fill(source, 0, &mut first) {
+        Ok(()) => groups_within(capacity, claimed(&first)),
+        Err(_) => 1,
     }
-    groups_within(capacity, claimed(text))
 }
 
 // What a verdict adds to a count.
 fn one_if(refused: bool) -> u32
-    ensures { result ≡ (if refused then 1 else 0) }
+    ensures value { result ≡ (if refused then 1 else 0) }
+    ensures most { result ≤ 1 }
 {
     if refused { 1 } else { 0 }
 }
 
 // Whether the slice of a group, cut out of the encoding, is refused.
-fn refuses_cut(
+fn refuses_cut<S: Source>(
     alloc: Global,
     mode: &Mode,
     root: &Hash,
-    text: &[u8],
+    source: &S,
     group: u32,
+    room: &mut Vec<u8>,
 ) -> Result<bool, Memory>
-    ensures { IfOk result (λ refused. JudgesGroup refused (IsGoodCut mode.now root.now.0 text.now group)) }
+    ensures { IfOk result (λ refused. IsSaidOf (S.contents source.now) (S.faultless source.now) (λ text. JudgesGroup refused (IsGoodCut mode.now root.now.0 text group))) }
 {
     let start = GROUP_BYTES * u64::from(group);
-    let slice = cut_slice(alloc, text, start, GROUP_BYTES)?;
-    match check_slice(alloc, mode, root, start, GROUP_BYTES, slice.as_slice()) {
-        Ok(_) => Ok(false),
-        Err(_) => Ok(true),
+    room.clear();
+    match EncodedAt::new(source).fetch(start, GROUP_BYTES, room) {
+        Ok(()) => {}
+        Err(HolderFault::Device) => return Ok(true),
+        Err(HolderFault::Memory) => return Err(Memory),
     }
+    let checked = check_slice(alloc, mode, root, start, GROUP_BYTES, room.as_slice());
+    Ok(checked.is_err())
 }
 
-/// What `text` is worth as a combined encoding of the blob with this root, in this mode: for each group the slice
+/// What a source is worth as a combined encoding of the blob with this root, in this mode: for each group the slice
 /// (65,536 * g, 65,536) is cut out of it, as a holder cuts it, and checked.
 ///
 /// The groups are those of the length that the encoding claims, and of no more chunks than `capacity`; an encoding of fewer than 8 bytes
-/// claims none, and is asked for one group, which is refused. It takes memory for one slice at a time, and answers `Memory` (401) where
-/// there is none: no encoding is refused for want of it.
-pub fn worth_of_encoding(
+/// claims none, and is asked for one group, which is refused. A slice of which a read answers a fault is refused, too. It takes memory
+/// for one slice at a time, and answers `Memory` (401) where there is none: no encoding is refused for want of it.
+pub fn worth_of_encoding<S: Source>(
     alloc: Global,
     mode: &Mode,
     root: &Hash,
     capacity: u32,
-    text: &[u8],
+    source: &S,
 ) -> Result<Worth, Memory>
-    ensures { IfOk result (λ worth. IsWorth (IsGoodCut mode.now root.now.0 text.now) (groups_of capacity text.now) worth) }
+    ensures worth { IfOk result (λ worth. IsSaidOf (S.contents source.now) (S.faultless source.now) (λ text. IsWorth (IsGoodCut mode.now root.now.0 text) (groups_of capacity text) worth)) }
+    ensures few { IfOk result (λ worth. worth.refused ≤ worth.groups) }
 {
-    let groups = groups_of(capacity, text);
+    let groups = groups_of(capacity, source);
+    let mut room = Vec::new(alloc);
     let mut refused = 0;
     for group in 0..groups {
-        let verdict = refuses_cut(alloc, mode, root, text, group)?;
+        let verdict = refuses_cut(alloc, mode, root, source, group, &mut room)?;
         refused += one_if(verdict);
     }
     Ok(Worth { groups, refused })
 }
 
 // Whether a group's part of a plain copy is refused beside the outline.
-fn refuses_part(outline: &Outline<'_>, copy: &[u8], group: u32) -> bool
+fn refuses_part<S: Source>(
+    outline: &Outline<'_>,
+    source: &S,
+    group: u32,
+    room: &mut Vec<u8>,
+) -> Result<bool, Memory>
     requires { 64 * group < chunk_count (outline_claimed outline.now) }
-    ensures { JudgesGroup result (IsGoodPart outline.now copy.now group) }
+    ensures { IfOk result (λ refused. IsSaidOf (S.contents source.now) (S.faultless source.now) (λ copy. JudgesGroup refused (IsGoodPart outline.now copy group))) }
 {
     let total = outline.claimed();
     let first = GROUP_LEN * u64::from(group);
     let count = (chunk_count(total) - first).min(GROUP_LEN);
     let start = GROUP_BYTES * u64::from(group);
     let len = total.saturating_sub(start).min(GROUP_BYTES);
-    match check_bare(
-        outline,
-        first,
-        count,
-        part_of(copy, u128::from(start), u128::from(len)),
-    ) {
-        Ok(_) => false,
-        Err(_) => true,
+    room.clear();
+    match PlainAt::new(source).fetch(start, len, room) {
+        Ok(()) => {}
+        Err(HolderFault::Device) => return Ok(true),
+        Err(HolderFault::Memory) => return Err(Memory),
     }
+    Ok(check_bare(outline, first, count, room.as_slice()).is_err())
 }
 
-/// What `copy` is worth as a plain copy of the blob that the outline is of: the part of each group is checked beside it. A byte past
+/// What a source is worth as a plain copy of the blob that the outline is of: the part of each group is checked beside it. A byte past
 /// the length that the outline claims is asked for by nobody.
 ///
-/// The groups are those of that length, and of no more chunks than `capacity`. It takes no memory.
-pub fn worth_of_copy(outline: &Outline<'_>, capacity: u32, copy: &[u8]) -> Worth
-    ensures { IsWorth (IsGoodPart outline.now copy.now) (groups_within capacity (outline_claimed outline.now)) result }
+/// The groups are those of that length, and of no more chunks than `capacity`. A part of which a read answers a fault is refused. It
+/// takes memory for one part at a time, and answers `Memory` (401) where there is none.
+pub fn worth_of_copy<S: Source>(
+    alloc: Global,
+    outline: &Outline<'_>,
+    capacity: u32,
+    source: &S,
+) -> Result<Worth, Memory>
+    ensures worth { IfOk result (λ worth. IsSaidOf (S.contents source.now) (S.faultless source.now) (λ copy. IsWorth (IsGoodPart outline.now copy) (groups_within capacity (outline_claimed outline.now)) worth)) }
+    ensures few { IfOk result (λ worth. worth.refused ≤ worth.groups) }
 {
     let groups = groups_within(capacity, outline.claimed());
+    let mut room = Vec::new(alloc);
     let mut refused = 0;
     for group in 0..groups {
-        let verdict = refuses_part(outline, copy, group);
+        let verdict = refuses_part(outline, source, group, &mut room)?;
         refused += one_if(verdict);
     }
-    Worth { groups, refused }
+    Ok(Worth { groups, refused })
 }

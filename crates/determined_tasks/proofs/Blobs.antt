@@ -82,12 +82,3 @@ blobs_agree mode root how other path None also a b r s encode same p q e f = tt
 blobs_agree mode root how other path (Some xs) also a b r s encode same p q e f =
     known_blobs mode root how other path xs a b r s encode p (subst (λ (o : Option (List ℕ)). IfOk s (WritesBlob other mode root o b)) (sym same) q)
     e (subst (λ (o : Option (List ℕ)). IfErr s (LeavesBlob other mode root path o b)) (sym same) f)
-
--- the same, beside outlines under one root and in one mode
-pub blobs_under : (mode other_mode : Mode) (root other_root : List ℕ) (how other : Gathering) (path : Bor (List ℕ)) (old also a b : Option (List ℕ)) (r s : Result ℕ GatheredFault)
-    → mode ≡ other_mode → root ≡ other_root → how.encode ≡ other.encode → old ≡ also → IfOk r (WritesBlob how mode root old a) → IfOk s (WritesBlob other other_mode other_root also b)
-    → IfErr r (LeavesBlob how mode root path old a) → IfErr s (LeavesBlob other other_mode other_root path also b) → IfSome old (λ xs. SameBlob mode root how.encode old a b r s)
-blobs_under mode other_mode root other_root how other path old also a b r s in_mode under encode same p q e f =
-    blobs_agree mode root how other path old also a b r s encode same p
-    (subst (λ (m : Mode). IfOk s (WritesBlob other m root also b)) (sym in_mode) (subst (λ (k : List ℕ). IfOk s (WritesBlob other other_mode k also b)) (sym under) q)) e
-    (subst (λ (m : Mode). IfErr s (LeavesBlob other m root path also b)) (sym in_mode) (subst (λ (k : List ℕ). IfErr s (LeavesBlob other other_mode k path also b)) (sym under) f))

@@ -1,13 +1,13 @@
 -- The faults of a plain copy that is written.
 use Rattle.std.specs.Borrow.{Bor}
-use Rattle.std.specs.Prelude.{◌≡◌, ℕ, List}
-use Rattle.bao_files.specs.declared.fault.FileFault.TheVariants.{Write}
+use Rattle.std.specs.Prelude.{◌≡◌, ◌⊎◌, ℕ, List}
+use Rattle.bao_files.specs.declared.fault.FileFault.TheVariants.{Memory, Read, Write}
 use Rattle.bao_tasks.specs.declared.decode_fault.DecodeFault.{DecodeFault}
 use Rattle.bao_tasks.specs.declared.decode_fault.DecodeFault.TheVariants.{Check, File}
 
--- writing to this path failed
-abbrev pub IsWriteTo : Bor (List ℕ) → DecodeFault → Type 0
-IsWriteTo path fault = fault ≡ File (Write path)
+-- memory ran out, or writing to the one path failed, or a read of the copy at the other, which of one that never fails none does
+abbrev pub MayComeOfCopy : Type 0 → Bor (List ℕ) → Bor (List ℕ) → DecodeFault → Type 0
+MayComeOfCopy faultless file path fault = (fault ≡ File Memory) ⊎ (fault ≡ File (Write path)) ⊎ ((fault ≡ File (Read file)) × ¬ faultless)
 
 -- the copy isn't accepted
 abbrev pub IsOfCopy : DecodeFault → Type 0

@@ -6,11 +6,12 @@ ghost use Rattle.bao_check.specs.Checked.{piece_len, piece_mode, piece_root, pie
 ghost use Rattle.bao_text.specs.Faults.{number_of};
 ghost use Rattle.determined_check.specs.Agreeing.{AgreeOfBytes, SamePiece};
 ghost use Rattle.determined_files.specs.Agreeing.{AgreeUnless, SameWritten};
-ghost use Rattle.determined_tasks.specs.Copies.{IsOfCopy, IsWriteTo};
+ghost use Rattle.determined_tasks.specs.Copies.{IsOfCopy, MayComeOfCopy};
 
 use b3tree::{Hash, Mode};
 use bao_check::{CheckFault, Checked, Outline};
 use bao_files::Part;
+use bao_read::Source;
 use bao_tasks::{DecodeFault, read_text, read_whole_text, write_copy, write_part};
 use bao_text::WriteFault;
 use std::alloc::Global;
@@ -100,21 +101,24 @@ pub fn write_part_determined<V: Write, W: Write>(
     )
 }
 
-// A writer may fail at any time, and that is the only fault that isn't the copy's.
-pub fn write_copy_determined<'a, V: Write, W: Write>(
+// Memory may run out, a writer may fail, and a read of a copy that isn't faultless may, at any time. Everything else is the copy's.
+pub fn write_copy_determined<'a, S: Source, T: Source, V: Write, W: Write>(
+    alloc: Global,
     outline: &Outline<'_>,
-    copy: &[u8],
-    path: &'a str,
+    our_copy: &S,
+    their_copy: &T,
+    file: &'a str,
     ours: &mut V,
     theirs: &mut W,
+    path: &'a str,
 ) -> (Result<u64, DecodeFault<'a>>, Result<u64, DecodeFault<'a>>)
-    requires { V.contents ours.old ≡ W.contents theirs.old }
-    ensures answer { AgreeUnless (λ m n. m ≡ n) (IsWriteTo path.entry) (IsWriteTo path.entry) result.0 result.1 }
-    ensures fault { IfErr result.0 (λ e. IfErr result.1 (λ f. e ≡ f)) }
-    ensures written { IfSome (V.contents ours.old) (λ _. SameWritten IsOfCopy (V.contents ours.new) (W.contents theirs.new) result.0 result.1) }
+    requires contents { S.contents our_copy.now ≡ T.contents their_copy.now }
+    requires same { V.contents ours.old ≡ W.contents theirs.old }
+    ensures answer { IfSome (S.contents our_copy.now) (λ _. AgreeUnless (λ m n. m ≡ n) (MayComeOfCopy (S.faultless our_copy.now) file.entry path.entry)
+        (MayComeOfCopy (T.faultless their_copy.now) file.entry path.entry) result.0 result.1) }
+    ensures written { IfSome (S.contents our_copy.now) (λ _. IfSome (V.contents ours.old) (λ _. SameWritten IsOfCopy (V.contents ours.new) (W.contents theirs.new) result.0 result.1)) }
 {
-    (
-        write_copy(outline, copy, path, ours),
-        write_copy(outline, copy, path, theirs),
-    )
+    let one = write_copy(alloc, outline, our_copy, file, ours, path);
+    let other = write_copy(alloc, outline, their_copy, file, theirs, path);
+    (one, other)
 }

@@ -1,34 +1,39 @@
-// What files are worth.
+// What sources are worth whose bytes are known, and of which no read fails. Memory may run out at any time, and is the only fault.
 
-ghost use Rattle.std.specs.Prelude.{◌≡◌, IfOk};
+ghost use Rattle.std.specs.Prelude.{◌≡◌, ◌<◌, ◌^◌, IfOk, IfSome, length};
 
 use b3tree::{Hash, Mode};
 use bao_check::Outline;
+use bao_read::Source;
 use bao_tasks::{Worth, worth_of_copy, worth_of_encoding};
 use bao_text::Memory;
 use std::alloc::Global;
 
-// Memory may run out at any time, and is the only fault.
-pub fn worth_of_encoding_determined(
+pub fn worth_of_encoding_determined<S: Source>(
     alloc: Global,
     mode: &Mode,
     root: &Hash,
     capacity: u32,
-    text: &[u8],
+    source: &S,
 ) -> (Result<Worth, Memory>, Result<Worth, Memory>)
-    ensures { IfOk result.0 (λ a. IfOk result.1 (λ b. a ≡ b)) }
+    ensures { IfSome (S.contents source.now) (λ text. length text < 2 ^ 64 → S.faultless source.now → IfOk result.0 (λ a. IfOk result.1 (λ b. a ≡ b))) }
 {
     (
-        worth_of_encoding(alloc, mode, root, capacity, text),
-        worth_of_encoding(alloc, mode, root, capacity, text),
+        worth_of_encoding(alloc, mode, root, capacity, source),
+        worth_of_encoding(alloc, mode, root, capacity, source),
     )
 }
 
-pub fn worth_of_copy_determined(outline: &Outline<'_>, capacity: u32, copy: &[u8]) -> (Worth, Worth)
-    ensures { result.0 ≡ result.1 }
+pub fn worth_of_copy_determined<S: Source>(
+    alloc: Global,
+    outline: &Outline<'_>,
+    capacity: u32,
+    source: &S,
+) -> (Result<Worth, Memory>, Result<Worth, Memory>)
+    ensures { IfSome (S.contents source.now) (λ copy. length copy < 2 ^ 64 → S.faultless source.now → IfOk result.0 (λ a. IfOk result.1 (λ b. a ≡ b))) }
 {
     (
-        worth_of_copy(outline, capacity, copy),
-        worth_of_copy(outline, capacity, copy),
+        worth_of_copy(alloc, outline, capacity, source),
+        worth_of_copy(alloc, outline, capacity, source),
     )
 }

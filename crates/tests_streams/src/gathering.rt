@@ -1,7 +1,7 @@
 use crate::bytes::{Broken, blob, failing, taking};
 use crate::program::{expect, path};
 use b3tree::{Cv, Hash, Mode, cv, parent_input, root_hash, rooted, subtree_cv};
-use bao_tasks::{Gathering, Grain, write_gathered};
+use bao_tasks::{Form, GatheredFault, Gathering, Grain, write_gathered};
 use bao_text::combined;
 use std::alloc::Global;
 use std::fs::File;
@@ -113,12 +113,23 @@ fn a_root_of_no_blob(rt: HostRuntime) -> Result<(), Fail> {
     with_files(&rt, id, &root, start.as_slice(), end.as_slice())
 }
 
+fn written<R: AllocGlobal + Threads + Sync>(
+    rt: &R,
+    root: &Hash,
+    how: Gathering,
+    sources: &[&[u8]],
+    out: &mut Broken,
+) -> Result<u64, GatheredFault<'static>> {
+    let form = Form::Slices;
+    write_gathered(rt, &Mode::hash(), root, &form, how, 1, sources, "OUT", out)
+}
+
 // The text goes to writers that fail, after a beginning of it, and to one that can't be flushed.
 fn is_written<R: AllocGlobal + Threads + Sync + Abort>(
     rt: &R,
     root: &Hash,
     encode: bool,
-    texts: &[Vec<u8>],
+    sources: &[&[u8]],
     text: &[u8],
 ) {
     let how = Gathering {
@@ -130,13 +141,13 @@ fn is_written<R: AllocGlobal + Threads + Sync + Abort>(
     };
     for room in [0, 10, 2048] {
         let mut out: Broken = failing(rt.alloc(), room, ErrorKind::Interrupted);
-        let fault = write_gathered(rt, &Mode::hash(), root, how, texts, "OUT", &mut out);
+        let fault = written(rt, root, how, sources, &mut out);
         assert!(rt; fault.is_err());
         assert_eq!(rt; Some(out.held.as_slice()), text.get(..room));
     }
     let mut out = taking(rt.alloc());
     out.stuck = true;
-    let fault = write_gathered(rt, &Mode::hash(), root, how, texts, "OUT", &mut out);
+    let fault = written(rt, root, how, sources, &mut out);
     assert!(rt; fault.is_err());
     assert_eq!(rt; out.held.as_slice(), text);
 }
@@ -146,8 +157,8 @@ fn is_written<R: AllocGlobal + Threads + Sync + Abort>(
 fn blobs_to_writers(rt: HostRuntime) -> Result<(), Fail> {
     let bytes = blob(rt.alloc(), 2049)?;
     let (root, whole) = combined(rt.alloc(), &Mode::hash(), bytes.as_slice())?;
-    let texts = [whole];
-    is_written(&rt, &root, false, &texts, bytes.as_slice());
-    is_written(&rt, &root, true, &texts, texts[0].as_slice());
+    let sources = [whole.as_slice()];
+    is_written(&rt, &root, false, &sources, bytes.as_slice());
+    is_written(&rt, &root, true, &sources, whole.as_slice());
     Ok(())
 }

@@ -1,26 +1,34 @@
-use Rattle.std.proofs.Common.{◌≡◌, ◌∙◌, ℕ, ◌+◌, ap, subst, arith}
-use Rattle.bao_tasks.specs.Worth.{IsGoodPart, Refuses, groups_within}
-use Rattle.bao_tasks.proofs.Counting.{few, more, none}
+use Rattle.std.proofs.Common.{◌≡◌, ◌∙◌, ℕ, ◌+◌, List, ap, subst, arith}
+use Rattle.bao_check.specs.Outline.{outline_claimed}
+use Rattle.bao_tasks.specs.Worth.{IsGoodPart, IsWorth, JudgesGroup, Refuses, groups_within}
+use Rattle.bao_tasks.proofs.Counting.{more, none}
+use Rattle.bao_tasks.proofs.Said.{said_always, said_both, said_then}
 use Rattle.bao_tasks.proofs.worth.worth_of_copy.Goals as goal
 
 pub loop-group-init : goal.loop-group-init
-loop-group-init c = (none (IsGoodPart c.args.outline.now c.args.copy.now), omega arith)
+loop-group-init g c =
+    let good : List ℕ → ℕ → Type 0 = (λ copy. IsGoodPart c.args.outline.now copy) in
+    (said_always _ _ (λ copy. Refuses (good copy) 0 0) (λ copy. none (good copy)), omega arith)
 
 pub loop-group-preserved : goal.loop-group-preserved
-loop-group-preserved c =
-    let good : ℕ → Type 0 = IsGoodPart c.args.outline.now c.args.copy.now in
+loop-group-preserved g c =
+    let good : List ℕ → ℕ → Type 0 = (λ copy. IsGoodPart c.args.outline.now copy) in
     let n : ℕ = c.loop-group.group in
     let k : ℕ = c.loop-group.refused in
-    let d : ℕ = c.one_if-refused.result in
-    let next : Refuses good (n + 1) (k + d) = more good n k d c.refuses_part-verdict.result c.refuses_part-verdict.ensures c.one_if-refused.ensures c.loop-group.invariant.0 in
-    (next, few good (n + 1) (k + d) next)
+    let d : ℕ = c.one_if-refused.result in (
+      said_both _ _ (λ copy. JudgesGroup c.in_ok-verdict.verdict (good copy n)) (λ copy. Refuses (good copy) n k) (λ copy. Refuses (good copy) (n + 1) (k + d))
+          (λ copy judged before. more (good copy) n k d c.in_ok-verdict.verdict judged c.one_if-refused.ensures.value before) c.in_ok-verdict.ensures c.loop-group.invariant.0,
+      omega (arith, c.loop-group.invariant.1, c.one_if-refused.ensures.most),
+    )
 
-pub returns : goal.returns
-returns c =
-    let good : ℕ → Type 0 = IsGoodPart c.args.outline.now c.args.copy.now in
+pub returns-clause-worth : goal.returns-clause-worth
+returns-clause-worth g c =
+    let good : List ℕ → ℕ → Type 0 = (λ copy. IsGoodPart c.args.outline.now copy) in
     let all : c.loop-group.group ≡ c.groups_within-groups.result = omega arith in
     let asked = c.groups_within-groups.ensures ∙ ap (groups_within c.args.capacity) c.claimed.ensures in
-    record {
+    said_then _ _ (λ copy. Refuses (good copy) c.loop-group.group c.loop-group.refused)
+    (λ copy. IsWorth (good copy) (groups_within c.args.capacity (outline_claimed c.args.outline.now)) (record { groups = c.groups_within-groups.result; refused = c.loop-group.refused }))
+    (λ copy refuses. record {
       asked = asked;
-      refuses = subst (λ (n : ℕ). Refuses good n c.loop-group.refused) (all ∙ asked) c.loop-group.invariant.0;
-    }
+      refuses = subst (λ (n : ℕ). Refuses (good copy) n c.loop-group.refused) (all ∙ asked) refuses;
+    }) c.loop-group.invariant.0

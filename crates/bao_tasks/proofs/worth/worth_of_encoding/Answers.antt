@@ -1,25 +1,32 @@
-use Rattle.std.proofs.Common.{◌≡◌, ◌∙◌, ℕ, ◌+◌, subst, arith}
-use Rattle.bao_tasks.specs.Worth.{IsGoodCut, Refuses}
-use Rattle.bao_tasks.proofs.Counting.{few, more, none}
+use Rattle.std.proofs.Common.{◌≡◌, ◌∙◌, ℕ, ◌+◌, List, subst, arith}
+use Rattle.bao_tasks.specs.Worth.{IsGoodCut, IsWorth, JudgesGroup, Refuses, groups_of}
+use Rattle.bao_tasks.proofs.Counting.{more, none}
+use Rattle.bao_tasks.proofs.Said.{said_always, said_both}
 use Rattle.bao_tasks.proofs.worth.worth_of_encoding.Goals as goal
 
 pub loop-group-init : goal.loop-group-init
-loop-group-init c = (none (IsGoodCut c.args.mode.now c.args.root.now.0 c.args.text.now), omega arith)
+loop-group-init g c =
+    let good : List ℕ → ℕ → Type 0 = (λ text. IsGoodCut c.args.mode.now c.args.root.now.0 text) in
+    (said_always _ _ (λ text. Refuses (good text) 0 0) (λ text. none (good text)), omega arith)
 
 pub loop-group-preserved : goal.loop-group-preserved
-loop-group-preserved c =
-    let good : ℕ → Type 0 = IsGoodCut c.args.mode.now c.args.root.now.0 c.args.text.now in
+loop-group-preserved g c =
+    let good : List ℕ → ℕ → Type 0 = (λ text. IsGoodCut c.args.mode.now c.args.root.now.0 text) in
     let n : ℕ = c.loop-group.group in
     let k : ℕ = c.loop-group.refused in
-    let d : ℕ = c.one_if-refused.result in
-    let next : Refuses good (n + 1) (k + d) = more good n k d c.in_ok-verdict.verdict c.in_ok-verdict.ensures c.one_if-refused.ensures c.loop-group.invariant.0 in
-    (next, few good (n + 1) (k + d) next)
+    let d : ℕ = c.one_if-refused.result in (
+      said_both _ _ (λ text. JudgesGroup c.in_ok-verdict.verdict (good text n)) (λ text. Refuses (good text) n k) (λ text. Refuses (good text) (n + 1) (k + d))
+          (λ text judged before. more (good text) n k d c.in_ok-verdict.verdict judged c.one_if-refused.ensures.value before) c.in_ok-verdict.ensures c.loop-group.invariant.0,
+      omega (arith, c.loop-group.invariant.1, c.one_if-refused.ensures.most),
+    )
 
-pub returns : goal.returns
-returns c =
-    let good : ℕ → Type 0 = IsGoodCut c.args.mode.now c.args.root.now.0 c.args.text.now in
+pub returns-clause-worth : goal.returns-clause-worth
+returns-clause-worth g c =
+    let good : List ℕ → ℕ → Type 0 = (λ text. IsGoodCut c.args.mode.now c.args.root.now.0 text) in
     let all : c.loop-group.group ≡ c.groups_of-groups.result = omega arith in
-    record {
-      asked = c.groups_of-groups.ensures;
-      refuses = subst (λ (n : ℕ). Refuses good n c.loop-group.refused) (all ∙ c.groups_of-groups.ensures) c.loop-group.invariant.0;
-    }
+    said_both _ _ (λ text. c.groups_of-groups.result ≡ groups_of c.args.capacity text) (λ text. Refuses (good text) c.loop-group.group c.loop-group.refused)
+    (λ text. IsWorth (good text) (groups_of c.args.capacity text) (record { groups = c.groups_of-groups.result; refused = c.loop-group.refused }))
+    (λ text asked refuses. record {
+      asked = asked;
+      refuses = subst (λ (n : ℕ). Refuses (good text) n c.loop-group.refused) (all ∙ asked) refuses;
+    }) c.groups_of-groups.ensures.value c.loop-group.invariant.0

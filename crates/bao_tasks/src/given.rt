@@ -1,0 +1,108 @@
+ghost use Rattle.std.specs.Prelude.{◌≡◌, ◌⊎◌, IfErr, IfOk, IfSome, take};
+ghost use Rattle.bao_files.specs.declared.fault.FileFault.TheVariants as FileFault;
+ghost use Rattle.bao_tasks.specs.Givens.{most_bytes};
+
+use b3tree::CHUNK_LEN;
+use bao_files::{FileFault, open_file, read_input};
+use bao_read::Source;
+use bao_text::encoded_len;
+use gather::Form;
+use std::alloc::Global;
+use std::fs::{File, OpenFile};
+use std::io;
+use std::io::Read;
+use std::rt::Files;
+
+/// What a file of a gathering gives: a regular one is read where it lies, and of any other the bytes that came of it are held.
+#[derive(Drop)]
+pub enum Given {
+    /// A regular file, which is open.
+    Placed(File),
+    /// What came of a file that can't be read by position, as a pipe.
+    Held(Vec<u8>),
+}
+
+impl Source for Given {
+    ghost use Rattle.bao_tasks.specs.Givens.{IsHeld, given_contents};
+
+    ghost contents = { λ given. given_contents given };
+
+    ghost faultless = { λ given. IsHeld given };
+
+    fn read_at(&self, buf: &mut [u8], at: u64) -> io::Result<usize> {
+        match self {
+            Given::Placed(file) => file.read_at(buf, at),
+            Given::Held(text) => text.as_slice().read_at(buf, at),
+        }
+    }
+
+    fn at_hand(&self) -> Option<&[u8]> {
+        match self {
+            Given::Placed(_) => None,
+            Given::Held(text) => Some(text.as_slice()),
+        }
+    }
+}
+
+/// A regular file, which is opened, and how many bytes it says it has: none where it doesn't say.
+///
+/// Where it can't be opened, or a first read of it answers a fault, the fault is `Read`.
+pub(crate) fn placed<'a, R: Files<File = File>>(
+    rt: &R,
+    path: &'a str,
+) -> Result<(Given, u64), FileFault<'a>>
+    ensures fault { IfErr result (λ fault. fault ≡ FileFault.Read path.entry) }
+{
+    let file = open_file(rt, path)?;
+    if file.read_at(&mut [0], 0).is_err() {
+        return Err(FileFault::Read(path));
+    }
+    let len = match file.metadata() {
+        Ok(metadata) => metadata.len(),
+        Err(_) => 0,
+    };
+    Ok((Given::Placed(file), len))
+}
+
+// How many bytes of a text can help, where the blob has at most so many chunks, and one more.
+fn most_bytes(form: &Form<'_>, capacity: u32) -> u64
+    ensures { result ≡ most_bytes form.now capacity }
+{
+    let len = CHUNK_LEN as u64 * u64::from(capacity);
+    match form {
+        Form::Slices => encoded_len(len) as u64 + 1,
+        Form::Bare(_) => len + 1,
+    }
+}
+
+// The first `most` bytes that `input`, the file at `path`, has from where it stands on, or all of them.
+fn read_most<'a, I: Read + Drop>(
+    alloc: Global,
+    input: I,
+    most: u64,
+    path: &'a str,
+) -> Result<Vec<u8>, FileFault<'a>>
+    ensures text { IfOk result (λ text. IfSome (I.remaining input) (λ left. text.items ≡ take most left)) }
+    ensures fault { IfErr result (λ fault. (fault ≡ FileFault.Memory) ⊎ (fault ≡ FileFault.Read path.entry)) }
+{
+    let mut input = input.take(most);
+    read_input(alloc, &mut input, 0, path)
+}
+
+/// What comes of a file that isn't regular, held, and how many bytes that is: no more of it is read than can help, where the blob has
+/// at most so many chunks, and one byte.
+///
+/// Where it can't be opened or read the fault is `Read`, and `Memory` where the bytes found no room.
+pub(crate) fn held<'a, R: Files<File = File> + AllocGlobal>(
+    rt: &R,
+    form: &Form<'_>,
+    capacity: u32,
+    path: &'a str,
+) -> Result<(Given, u64), FileFault<'a>>
+    ensures fault { IfErr result (λ fault. (fault ≡ FileFault.Memory) ⊎ (fault ≡ FileFault.Read path.entry)) }
+{
+    let file = open_file(rt, path)?;
+    let text = read_most(rt.alloc(), file, most_bytes(form, capacity), path)?;
+    let len = text.len() as u64;
+    Ok((Given::Held(text), len))
+}
