@@ -4,7 +4,7 @@ SHELL := bash
 .SHELLFLAGS := -eu -o pipefail -c
 .DEFAULT_GOAL := help
 .DELETE_ON_ERROR:
-.PHONY: help build run try install dist sum test wrong-bodies scenarios docs c-library c-install c-test c-bench bench refuse stress fmt FORCE
+.PHONY: help build run try install dist sum test wrong-bodies scenarios docs c-library c-install c-test c-bench bench refuse memory stress fmt FORCE
 
 PREFIX ?= /usr/local
 
@@ -29,7 +29,7 @@ help:
 	@echo 'make sum                  prints the checksum of the built bao_gather'
 	@echo 'make install PREFIX=DIR   copies bao_gather to DIR/bin, its manual page and completions to DIR/share (PREFIX is /usr/local if left out; DESTDIR goes before it)'
 	@echo 'make dist                 makes the folder of a release, out/dist, of a commit: programs for both processor levels, manual page, completions, checksums'
-	@echo 'make test                 the gate: a look at laws and wrong bodies, what make scenarios does, rt ci (every proof from nothing, the must-fail edits, the tests and the programs), then what make docs, make refuse and make c-test do'
+	@echo 'make test                 the gate: a look at laws and wrong bodies, what make scenarios does, rt ci (every proof from nothing, the must-fail edits, the tests and the programs), then what make docs, make refuse, make memory and make c-test do'
 	@echo 'make wrong-bodies         tries the wrong bodies, those that the gate leaves out too, of all crates or of CRATES="NAME .."'
 	@echo 'make docs                 runs the shell examples of README and docs/CLI.md and compares what they print, and compares the wanted figures of docs/BENCH.md with scripts/bench.py'
 	@echo 'make scenarios            holds what the programs of scenarios have to print to replies made by the definitions alone'
@@ -39,6 +39,7 @@ help:
 	@echo 'make c-bench              measures calls of the C library in one thread, and prints their times'
 	@echo 'make bench                measures times and prints them with their ratios, beside b3sum where it is installed and beside what is wanted'
 	@echo 'make refuse               runs the tests of the libraries with one allocation refused after another, and each task where holders lie, and with one allocation, read, write or other call failing after another (needs cc and binutils)'
+	@echo 'make memory               runs the program where holders are large, many or endless, and holds it to bounds of memory and of what it reads (needs cc)'
 	@echo 'make stress               runs the tests that start threads 200 times, many at once'
 	@echo 'make fmt                  lays out the files of each crate'
 	@echo 'CPU=x86-64 or CPU=x86-64-v3 picks the processor level, which is $(CPU) if left out; JOBS=N is the number of jobs of a proof, or of wrong bodies at a time'
@@ -78,6 +79,7 @@ test:
 	@python3 scripts/bench.py --read
 	@python3 scripts/refuse_libraries.py
 	@python3 scripts/refuse.py crates/bao_gather/out/bao_gather
+	@python3 scripts/memory.py crates/bao_gather/out/bao_gather
 	@python3 scripts/proved_by_ci.py berylwool
 	@$(MAKE) --no-print-directory c-test
 
@@ -98,6 +100,9 @@ bench: out/bao_gather out/bench $(if $(shell command -v cc),out/c/compare)
 refuse: out/bao_gather
 	@python3 scripts/refuse_libraries.py
 	@python3 scripts/refuse.py
+
+memory: out/bao_gather
+	@python3 scripts/memory.py
 
 stress:
 	@python3 scripts/stress.py $(CRATES)

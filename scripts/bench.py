@@ -3,7 +3,8 @@
 
 Every command is run several times, in turns and twice in a row, and its least time counts. A figure that isn't what is wanted is said to be
 missed, and that is no failure: this fails only where a program fails, where two of them print different hashes, or where what was decoded or
-gathered isn't what was encoded. What is wanted stands here alone, in CALLS, MEMORY and RATIOS: docs/BENCH.md repeats it, and --read compares."""
+gathered isn't what was encoded. Where there is a C compiler the most memory is measured that tasks have at once. What is wanted stands here alone, in CALLS, MEMORY,
+PEAKS and RATIOS: docs/BENCH.md repeats it, and --read compares."""
 import argparse
 import filecmp
 import os
@@ -13,6 +14,11 @@ import subprocess
 import sys
 import tempfile
 import time
+from dataclasses import dataclass
+
+sys.dont_write_bytecode = True
+import definitions as bao
+from peak import Launcher
 
 ROOT = os.path.dirname(os.path.dirname(os.path.abspath(__file__)))
 PROGRAM = f"{ROOT}/out/bao_gather"
@@ -32,10 +38,10 @@ def fail(why):
     sys.exit(f"bench: {why}")
 
 
-def output(words):
-    """What the command prints, where it ends well."""
+def output(words, status=0):
+    """What the command prints, where it ends with that status."""
     ran = subprocess.run(words, stdin=subprocess.DEVNULL, stdout=subprocess.PIPE, stderr=subprocess.PIPE)
-    if ran.returncode:
+    if ran.returncode != status:
         complaint = ran.stderr.decode(errors="replace").strip()
         fail(f"{' '.join(words)} ended with status {ran.returncode}: {complaint}")
     return ran.stdout.decode()
@@ -67,7 +73,7 @@ class Times:
     def note(self, name, seconds):
         self.least[name] = min(seconds, self.least.get(name, seconds))
 
-    def run(self, name, words, made=None):
+    def run(self, name, words, made=None, status=0):
         """Times the command, twice in a row, since a virtual machine may have to lend memory anew after a pause. The file
         that it makes is not there before, and no earlier file waits for the disk."""
         for _ in range(2):
@@ -75,7 +81,7 @@ class Times:
                 os.remove(made)
             os.sync()
             start = time.perf_counter()
-            printed = output(words)
+            printed = output(words, status)
             self.note(name, time.perf_counter() - start)
         return printed
 
@@ -96,10 +102,14 @@ B3SUM_READ_ONE = "b3sum --no-mmap --num-threads 1"
 B3SUM_READ_FOUR = "b3sum --no-mmap --num-threads 4"
 OUTBOARD = "bao_gather outboard"
 ENCODE = "bao_gather encode"
+SLICED = "bao_gather slice of 100 bytes"
 DECODE = "bao_gather decode"
+DECODE_BESIDE = "bao_gather decode --outboard"
 GATHER = "bao_gather gather, one true file"
 GATHER_BESIDE = "bao_gather gather --outboard, one true copy"
+GATHER_VERBOSE = "bao_gather gather --verbose, one true file"
 GATHER_TEN = "bao_gather gather, ten damaged files"
+GATHER_COMMON = "bao_gather gather, twenty files with one damaged chunk in common"
 GATHER_SALVAGE = "bao_gather gather --salvage, three files damaged in the same groups"
 HASH_GATHERED = "bao_gather hash of the gathered blob"
 SLICE = "cut_slice of 1 MiB"
@@ -160,11 +170,15 @@ ROWS = [
     (B3SUM_READ_ONE, "whole program, one thread, reads in pieces"),
     (OUTBOARD, "whole program, one thread, writes a file"),
     (ENCODE, "whole program, several threads, writes a file"),
+    (SLICED, "whole program, of the middle of the file, writes a file"),
     (DECODE, "whole program, one thread, checks the file's combined encoding, writes the file"),
+    (DECODE_BESIDE, "whole program, verifies the file beside its outboard encoding, writes it"),
     (HASH_GATHERED, "whole program, as a user runs it, of the first 64 MiB"),
     (GATHER, "whole program, four workers, of the combined encoding of the first 64 MiB"),
     (GATHER_BESIDE, "as before, of the first 64 MiB as they are, beside their outboard encoding"),
+    (GATHER_VERBOSE, "whole program, four workers, of the combined encoding of the first 64 MiB, which is counted"),
     (GATHER_TEN, "whole program, four workers, of ten such encodings, each with another tenth damaged"),
+    (GATHER_COMMON, "whole program, four workers, of twenty such encodings, which leave the blob unfinished"),
     (GATHER_SALVAGE, "whole program, four workers, of three such encodings, each with another byte damaged in one of 16 groups"),
     ("hash", "b3tree::hash in one process, one thread"),
     ("hash_join", "bao_read::hash_join in one process, several threads"),
@@ -229,6 +243,21 @@ MEMORY = [
     ("a shared store takes at most", "as before, while it is made", "below 140"),
 ]
 
+# The table of the most memory that the whole program has at once: a name, which stands in the table of times too, and how many MiB are wanted. Each is
+# printed beside the MiB of the file, which a task would have at once that reads it whole.
+PEAKS = [
+    (HASH, "at most 32"),
+    (ENCODE, "at most 120"),
+    (OUTBOARD, "at most 120"),
+    (SLICED, "at most 32"),
+    (DECODE, "at most 120"),
+    (DECODE_BESIDE, "at most 120"),
+    (GATHER, "at most 180"),
+    (GATHER_BESIDE, "at most 180"),
+    (GATHER_VERBOSE, "at most 180"),
+    (GATHER_COMMON, "at most 180"),
+]
+
 # The ratios of two of those times: the first over the second, and what is wanted of it.
 RATIOS = [
     ("several threads", B3SUM_FOUR, HASH, "at least 0.45 on four processors"),
@@ -260,6 +289,7 @@ RATIOS = [
     ("as a user runs it", GATHER, HASH_GATHERED, "at most 6"),
     ("as a user runs it", GATHER_TEN, GATHER, "at most 3"),
     ("as a user runs it", GATHER_BESIDE, GATHER, "at most 1"),
+    ("as a user runs it", GATHER_COMMON, GATHER, "at most 4"),
     ("one thread", INTO_FULL, INTO_EMPTY, "about 1: not with what the store holds"),
     ("one thread", OUT_OF_FULL, OUT_OF_ONE, "about 1: not with what the store holds"),
     ("one thread", COMMITS_ONE, STORES, "at most 1.5"),
@@ -287,10 +317,15 @@ def ratio_name(how, first, second):
     return f"{how}: {first} / {second}"
 
 
+def peak_name(name):
+    return f"memory of {name}"
+
+
 def wanted_figures():
     """What is wanted of each figure of which something is, by its name."""
     found = {ratio_name(how, first, second): wanted for how, first, second, wanted in RATIOS if wanted}
     found |= {f"{name}, MB": wanted for name, _, wanted in MEMORY}
+    found |= {f"{peak_name(name)}, MiB": wanted for name, wanted in PEAKS}
     return found | {f"{name}, ns": wanted for name, wanted in CALLS if wanted}
 
 
@@ -322,8 +357,41 @@ def read_document():
     return 1 if wrong else 0
 
 
+@dataclass(frozen=True)
+class Command:
+    """A command, by its name: its words, the file that the one that it makes has to be like, and its status."""
+
+    name: str
+    words: list
+    like: str | None = None
+    status: int = 0
+
+
+@dataclass(frozen=True)
+class Holders:
+    """The first bytes of the file, as many as a store has room for, with their root, a true encoding of them, ten damaged ones, three that are damaged in the same
+    groups, and twenty with one damaged chunk in common."""
+
+    blob: str
+    root: str
+    encoding: str
+    damaged: list
+    torn: list
+    common: list
+
+
+def twenty_of(room, text, blob_len):
+    """Twenty files of that encoding, with one damaged chunk in the middle of each: one file, by twenty names."""
+    changed, names = bytearray(text), [f"{room}/common-{k}" for k in range(20)]
+    changed[bao.place_of(blob_len, bao.chunks_of(blob_len) // 2)] ^= 1
+    with open(names[0], "wb") as it:
+        it.write(changed)
+    for name in names[1:]:
+        os.link(names[0], name)
+    return names
+
+
 def holders(room, path):
-    """The first bytes of the file, as many as a store has room for, with their root, a true encoding of them, ten damaged ones, and three that are damaged in the same groups."""
     blob, encoding = f"{room}/blob", f"{room}/blob.bao"
     with open(path, "rb") as whole, open(blob, "wb") as it:
         it.write(whole.read(MOST_GATHERED))
@@ -342,7 +410,22 @@ def holders(room, path):
         damaged.append(f"{room}/damaged-{number}")
         with open(damaged[-1], "wb") as it:
             it.write(changed)
-    return blob, root, encoding, damaged[:10], damaged[10:]
+    common = twenty_of(room, text, os.path.getsize(blob))
+    return Holders(blob, root, encoding, damaged[:10], damaged[10:], common)
+
+
+def gatherings(room, held, made):
+    """The gatherings that are timed."""
+    gather = lambda *words: [PROGRAM, "gather", *words]
+    parents = f"{room}/gathered-parents"
+    output([PROGRAM, "outboard", held.blob, parents])
+    true = [held.root, made, held.encoding]
+    yield Command(GATHER, gather(*true), held.blob)
+    yield Command(GATHER_VERBOSE, gather("--verbose", *true), held.blob)
+    yield Command(GATHER_TEN, gather(held.root, made, *held.damaged), held.blob)
+    yield Command(GATHER_COMMON, gather(held.root, made, *held.common), status=1)
+    yield Command(GATHER_SALVAGE, gather("--salvage", held.root, made, *held.torn), held.blob)
+    yield Command(GATHER_BESIDE, gather("--outboard", parents, held.root, made, held.blob), held.blob)
 
 
 def measure(room, mib, runs):
@@ -350,44 +433,54 @@ def measure(room, mib, runs):
     with open(path, "wb") as it:
         for _ in range(mib):
             it.write(os.urandom(MIB))
-    # Of each its name, its words, and the file that the one that it makes has to be like.
-    commands = [(HASH, [PROGRAM, "hash", path], None), (HASH_ONE, [PROGRAM, "hash", *ONE_THREAD, path], None)]
+    commands = [Command(HASH, [PROGRAM, "hash", path]), Command(HASH_ONE, [PROGRAM, "hash", *ONE_THREAD, path])]
     b3sum = shutil.which("b3sum")
     if b3sum:
         for name, words in ((B3SUM_ONE, ["1"]), (B3SUM_FOUR, ["4"]), (B3SUM_READ_ONE, ["1", "--no-mmap"]), (B3SUM_READ_FOUR, ["4", "--no-mmap"])):
-            commands.append((name, [b3sum, "--no-names", "--num-threads", *words, path], None))
+            commands.append(Command(name, [b3sum, "--no-names", "--num-threads", *words, path]))
     else:
         print("b3sum is not installed, so there are no times of it (Debian: apt-get install b3sum).")
     for name, command in ((OUTBOARD, "outboard"), (ENCODE, "encode")):
         if knows(command):
-            commands.append((name, [PROGRAM, command, path, made], None))
+            commands.append(Command(name, [PROGRAM, command, path, made]))
         else:
             print(f"The program knows no command {command}, so there is no time of it.")
-    encoding = f"{room}/encoding"
+    encoding, parents = f"{room}/encoding", f"{room}/parents"
     root = output([PROGRAM, "encode", path, encoding]).strip()
-    commands.append((DECODE, [PROGRAM, "decode", root, encoding, made], path))
-    blob, root, encoding, damaged, torn = holders(room, path)
-    commands.append((GATHER, [PROGRAM, "gather", root, made, encoding], blob))
-    commands.append((GATHER_TEN, [PROGRAM, "gather", root, made, *damaged], blob))
-    commands.append((GATHER_SALVAGE, [PROGRAM, "gather", "--salvage", root, made, *torn], blob))
-    parents = f"{room}/parents"
-    output([PROGRAM, "outboard", blob, parents])
-    commands.append((GATHER_BESIDE, [PROGRAM, "gather", "--outboard", parents, root, made, blob], blob))
+    output([PROGRAM, "outboard", path, parents])
+    commands.append(Command(SLICED, [PROGRAM, "slice", str(mib * MIB // 2), "100", path, made]))
+    commands.append(Command(DECODE, [PROGRAM, "decode", root, encoding, made], path))
+    commands.append(Command(DECODE_BESIDE, [PROGRAM, "decode", "--outboard", parents, root, path, made], path))
+    held = holders(room, path)
+    commands += gatherings(room, held, made)
     times, hashes = Times(), set()
     for _ in range(runs):
-        for name, words, like in commands:
-            printed = times.run(name, words, made)
-            if made not in words:
+        for it in commands:
+            printed = times.run(it.name, it.words, made, it.status)
+            if made not in it.words:
                 hashes.add(printed[:64])
-            if like and not filecmp.cmp(made, like, shallow=False):
-                fail(f"what {name} wrote isn't {os.path.basename(like)}")
-        times.run(HASH_GATHERED, [PROGRAM, "hash", blob])
+            if it.like and not filecmp.cmp(made, it.like, shallow=False):
+                fail(f"what {it.name} wrote isn't {os.path.basename(it.like)}")
+        times.run(HASH_GATHERED, [PROGRAM, "hash", held.blob])
         times.run_in_process(IN_PROCESS, path)
         if os.path.exists(OF_C):
             times.run_in_process(OF_C, path)
     if len(hashes) > 1:
         fail(f"the programs print different hashes of one file: {', '.join(sorted(hashes))}")
-    return times.least
+    return times.least, peaks_of(room, commands, made) if shutil.which("cc") else {}
+
+
+def peaks_of(room, commands, made):
+    """The most bytes of memory that tasks have at once, of three runs each, with those of the longest file that each is given, by their names."""
+    launcher, found = Launcher(room), {}
+    for it in commands:
+        if it.name in dict(PEAKS):
+            runs = [launcher.run(it.words) for _ in range(3)]
+            if any(ran.status != it.status for ran in runs):
+                fail(f"{it.name} ended with another status than {it.status}")
+            given = [word for word in it.words[1:] if word != made and os.path.isfile(word)]
+            found[it.name] = max(ran.peak for ran in runs), max(map(os.path.getsize, given))
+    return found
 
 
 def main():
@@ -404,7 +497,7 @@ def main():
         print(f"built for: {it.read().strip()}")
     print(f"file: {words.mib} MiB of random bytes; runs: {words.runs}, in turns, of which the least counts", flush=True)
     with tempfile.TemporaryDirectory(prefix="bench-") as room:
-        least = measure(room, words.mib, words.runs)
+        least, peaks = measure(room, words.mib, words.runs)
     print(f"\n{'seconds':>8}  what")
     for name, how in ROWS:
         if name in least:
@@ -425,6 +518,13 @@ def main():
     for name, how, wanted in MEMORY:
         if name in least:
             tell(least[name] / 1e6, 1, name, wanted, f" ({how})")
+    if peaks:
+        print(f"\n{'MiB':>8}  of memory at once, beside those of the file")
+        for name, wanted in [it for it in PEAKS if it[0] in peaks]:
+            peak, size = (it / MIB for it in peaks[name])
+            tell(peak, 1, peak_name(name), wanted, f" (file: {size:.1f})")
+    else:
+        print("\nThere is no C compiler, so there are no figures of memory at once.")
     print(f"\n{'ratio':>8}  of which times")
     for how, first, second, wanted in RATIOS:
         if first in least and second in least:

@@ -154,6 +154,11 @@ def slice_nodes(length, start, count):
     return nodes(length, lambda first, after: length == 0 or first < e and s < after)
 
 
+def place_of(length, number):
+    """Where a chunk lies in a combined encoding."""
+    return next(it.offset for it in slice_nodes(length, 0, 2**64 - 1) if not it.is_parent and it.number == number)
+
+
 def outboard_nodes(length):
     return nodes(length, lambda first, after: True, has_chunks=False)
 

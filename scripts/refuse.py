@@ -116,14 +116,15 @@ class Case:
         # A plain copy is checked where it lies.
         own = [] if words[0] == "decode" and "--outboard" in words else OWN[words[0]] + (["401"] if "--encode" in words else [])
         self.memory = {f"bao_gather: {it} memory\n".encode() for it in own} | {PLAIN}
-        # What gathers no blob out of FILEs as they lie opens them again, and reads them whole.
-        self.is_tried_again = words[0] == "gather" and "--verbose" not in words
+        # The first regular FILE is opened once more, which keeps a descriptor for OUT, and what a FILE gives is read by position.
+        self.is_placed = words[0] == "gather"
         # Of several workers another may do what one has no memory for: what comes then depends on the system.
         is_shared = words[0] == "gather" and not re.search(r"--workers 1\b", " ".join(words))
+        # Nothing may be written of these before all of it was read, and it isn't kept: so it is read again.
+        is_read_twice = words[0] == "encode" or words[0] == "decode" and "--outboard" in words
+        self.read_twice = words[-2] if is_read_twice else None
         # A long file is encoded in another way where there is no memory for the first.
-        self.needed = self.memory - ({b"bao_gather: 911 memory\n"} if self.is_tried_again else set())
-        if is_avoidable or is_shared:
-            self.needed = {PLAIN}
+        self.needed = {PLAIN} if is_avoidable or is_shared else self.memory
         self.name = " ".join(it if len(it) < 64 else f"{it[:6]}.." for it in words)
 
     @functools.lru_cache(maxsize=None)
@@ -187,12 +188,27 @@ class Case:
             return self.is_of_memory(ended)
         if fault.call == "pthread_create" or fault.how in HARMLESS:
             return ended == whole
-        ends_early = fault.call == "read" and fault.how == "none"
+        # What is read in order ends where a read gives nothing, and so does a copy that is verified as it is read.
+        is_in_order = fault.call == "read" or fault.call == "pread" and self.words[0] == "decode"
+        ends_early = is_in_order and fault.how == "none"
         changes = frozenset((file, int(byte) if ends_early else None) for byte, file in met if file in self.files and file != OUT)
-        is_again = self.is_tried_again and fault.call == "open" and all(file in self.files and file != OUT for _, file in met)
+        is_again = self.is_placed and fault.call == "open" and all(file in self.files and file != OUT for _, file in met)
         if ended == whole and (is_again or fault.call in AVOIDABLE_CALLS or fault.how in AVOIDABLE):
             return True
-        return self.is_ending(self.ending(changes), {file for _, file in met}, ended)
+        places = {file for _, file in met}
+        if self.is_placed and fault.call == "pread":
+            # A FILE that could be opened and read gives nothing where a read of it fails, and by that it is counted.
+            emptied = frozenset((file, 0) for file, _ in changes)
+            return any(self.is_ending(it, places, ended, TOLD) for it in (whole, self.ending(changes), self.ending(emptied)))
+        return self.is_changed(fault, met, ended) or self.is_ending(self.ending(changes), places, ended)
+
+    def is_changed(self, fault, met, ended):
+        """A file couldn't be read again, or had changed: then a beginning of what was to come may stand at OUT."""
+        if fault.call not in ("read", "pread") or self.read_twice not in {file for _, file in met}:
+            return False
+        whole = self.ending()
+        told = (ended.status, ended.printed, ended.complaint) == (3, b"", f"bao_gather: cannot read {self.read_twice}\n".encode())
+        return whole.status == 0 and told and (ended.out == KEPT or whole.out.startswith(ended.out))
 
     def is_of_memory(self, ended):
         """It ended with a fault of memory of its own, and OUT is as it was, or whole where the line on standard output found no room."""
@@ -200,8 +216,10 @@ class Case:
         left = [KEPT, self.ending().out] if complaint == PLAIN else [KEPT]
         return ended.status == 4 and not ended.printed and complaint in self.memory and ended.out in left
 
-    def is_ending(self, wanted, places, ended):
-        """It ended so, but for what a call on one of these places took away."""
+    def is_ending(self, wanted, places, ended, apart=None):
+        """It ended so, but for what a call on one of these places took away, and for what is told apart from that."""
+        if apart:
+            wanted, ended = (dataclasses.replace(it, complaint=apart.sub(b"", it.complaint)) for it in (wanted, ended))
         status, printed, complaint, out = wanted.status, [wanted.printed], wanted.complaint, ended.out == wanted.out
         if status == 0 and OUT in places:
             status, printed, complaint = 3, [b""], complaint + f"bao_gather: cannot write {OUT}\n".encode()
@@ -312,7 +330,7 @@ LONG = (4 << 20) + 1000
 
 def long_tasks():
     blob = blob_of(LONG)
-    return [Case(words, {"blob": blob}, is_avoidable=True) for words in (["hash", "blob"], ["encode", "blob", OUT], ["outboard", "blob", OUT])]
+    return [Case(words, {"blob": blob}, is_avoidable=True) for words in (["hash", "blob"], ["encode", "blob", OUT], ["outboard", "blob", OUT], ["slice", "5", "9999", "blob", OUT])]
 
 
 # What a terminal gets while a file is read: a line that is written over, and at last wiped.
@@ -357,8 +375,8 @@ def shows(program, shim, room):
     trials += [(words, short, moves, False, b"") for words in [["hash", "blob"], *written]]
     trials.append((["encode", "blob", nowhere], long, moves, True, f"bao_gather: cannot write {nowhere}\n".encode()))
     # A read at a place that fails has the file read in order, which is shown too; one in order that fails ends the work.
-    trials.append((["hash", "blob"], long, failing("pread", 7), True, b""))
-    trials.append((slice_words, long, failing("read", 7), True, b"bao_gather: cannot read blob\n"))
+    trials += [(words, long, failing("pread", 7), True, b"") for words in (["hash", "blob"], slice_words)]
+    trials.append((first, long, failing("read", 3), True, b"bao_gather: cannot read blob\n"))
     # The first line can't be written: there are no others.
     trials.append((["outboard", "blob", OUT], long, failing("write", 1), False, b""))
     passed, wrong = 0, []
@@ -369,7 +387,7 @@ def shows(program, shim, room):
             status, printed, got = on_terminal(program, shim, folder, words, how)
             wanted = (3, b"") if fault else (0, digits[blob][:2] + b"\n" if words == first else digits[blob])
             left = got.removesuffix(fault) if got.endswith(fault) else b"no fault"
-            is_in_order = not fault and words not in (["hash", "blob"], ["encode", "blob", OUT])
+            is_in_order = not fault and words == first
             if (status, printed) == wanted and (are_lines(left, is_in_order) if is_shown else left == b""):
                 passed += 1
             else:
@@ -466,6 +484,13 @@ def is_told(program, words):
     return ran.returncode == 3 and ran.stderr == b"bao_gather: cannot write output\n"
 
 
+def made_shim(room):
+    """Builds the shim in a folder, and answers where it is."""
+    shim = f"{room}/shim.so"
+    subprocess.run(["cc", "-shared", "-fPIC", "-O1", "-o", shim, f"{HERE}/shim.c", "-ldl"], check=True)
+    return shim
+
+
 def work(given):
     """One part of the trials: some cases, with the faults to try, or a function that tries its own. Answers what to print, how many runs passed
     and how many failed."""
@@ -488,9 +513,8 @@ def main():
     asked = asked.parse_args()
     passed = failed = 0
     with tempfile.TemporaryDirectory(prefix="refuse-") as room:
-        shim = f"{room}/shim.so"
+        shim = made_shim(room)
         where = (os.path.abspath(asked.program), shim, room)
-        subprocess.run(["cc", "-shared", "-fPIC", "-O1", "-o", shim, f"{HERE}/shim.c", "-ldl"], check=True)
         chosen = lambda cases: [it for it in cases if asked.only in it.name]
         parts = [("a file that is read at places", chosen(long_tasks()), FAULTS, *where)]
         parts += [("progress on a terminal", shows, [], *where)] if not asked.only else []

@@ -816,7 +816,7 @@ class Programs:
         for names in [regular] if found == regular else [regular, found]:
             if names and not is_done:
                 opened = names
-                answer = self.gathered(mode, root, int(options["--capacity"]), outline, [self.files[it] for it in names], grains)
+                answer = self.gathered(mode, root, int(options["--capacity"]), outline, [self.given(it, options, outline) for it in names], grains)
                 is_done = not isinstance(answer, Refused) or str(answer) not in ("901 unfinished", "805 too large")
         for it in files if "--verbose" in options else []:
             if it in self.irregular and it not in opened:
@@ -824,11 +824,17 @@ class Programs:
             elif it not in self.files:
                 self.told.append(f"left out {it}: can't be read")
             else:
-                self.told.append(f"{it}: {self.worth(mode, root, int(options['--capacity']), outline, self.files[it])} groups of 64 KiB refused")
+                self.told.append(f"{it}: {self.worth(mode, root, int(options['--capacity']), outline, self.given(it, options, outline))} groups of 64 KiB refused")
         if isinstance(answer, Refused):
             raise answer
         self.write(out, bao.combined(mode, answer) if "--encode" in options else answer)
         return f"ok {len(answer)}"
+
+    def given(self, name, options, outline):
+        """What a file gives: of one that isn't regular no more is read than can help, and a byte."""
+        most = bao.CHUNK_LEN * int(options["--capacity"])
+        most += 0 if outline else 8 + 64 * (bao.chunks_of(most) - 1)
+        return self.files[name][: most + 1] if name in self.irregular else self.files[name]
 
     def gathered(self, mode, root, capacity, outline, texts, grains):
         """The blob that these texts give, or why they give none: they are asked for what is missing by so many chunks, one grain after another."""
@@ -1097,7 +1103,7 @@ class Crews:
                 continue
             is_parent = part > bao.CHUNK_LEN
             node = 64 if is_parent else part
-            if place + node >= 2**63:
+            if place + node >= 2**64:
                 break
             size += node
             if is_parent:

@@ -8,7 +8,8 @@
    ON       if it is there, all such calls from that one on
    CLOCK    moves (each time that is asked for is a second after the one before) or stands (all are the same)
    MET      the file to which a line is added for each call that was met: at which byte a file stood, or -, and its path,
-            or what else it was for */
+            or what else it was for
+   READ     a file of 8 bytes, a number to which the bytes are added that read and pread move */
 #define _GNU_SOURCE
 #include <dlfcn.h>
 #include <errno.h>
@@ -19,6 +20,7 @@
 #include <stdio.h>
 #include <stdlib.h>
 #include <string.h>
+#include <sys/mman.h>
 #include <sys/stat.h>
 #include <sys/syscall.h>
 #include <time.h>
@@ -28,6 +30,22 @@ enum { PATHS = 256, PATH_LEN = 256 };
 
 static char paths[PATHS][PATH_LEN];
 static atomic_long calls;
+
+static atomic_long *moved_in;
+
+__attribute__((constructor)) static void begin(void) {
+    const char *file = getenv("READ");
+    if (!file) return;
+    int fd = (int)syscall(SYS_openat, AT_FDCWD, file, O_RDWR);
+    void *number = mmap(0, sizeof *moved_in, PROT_READ | PROT_WRITE, MAP_SHARED, fd, 0);
+    syscall(SYS_close, fd);
+    if (number != MAP_FAILED) moved_in = number;
+}
+
+static ssize_t counted(ssize_t some) {
+    if (moved_in && some > 0) atomic_fetch_add(moved_in, some);
+    return some;
+}
 
 static const char *path_of(int fd) {
     static const char *const streams[] = {"standard input", "standard output", "standard error"};
@@ -114,16 +132,16 @@ ssize_t read(int fd, void *to, size_t size) {
         if (some <= 0) return some;
         size = (size_t)some;
     }
-    return REAL(read)(fd, to, size);
+    return counted(REAL(read)(fd, to, size));
 }
 
 ssize_t pread(int fd, void *to, size_t size, off_t at) {
-    if (is_met("pread", path_of(fd))) {
+    if (is_met_at("pread", path_of(fd), at)) {
         ssize_t some = moved(size);
         if (some <= 0) return some;
         size = (size_t)some;
     }
-    return REAL(pread)(fd, to, size, at);
+    return counted(REAL(pread)(fd, to, size, at));
 }
 
 ssize_t write(int fd, const void *from, size_t size) {
