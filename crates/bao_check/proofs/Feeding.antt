@@ -24,7 +24,7 @@ use Rattle.bao_check.specs.declared.part.Part.{Part}
 use Rattle.bao_check.specs.Accepted.{part_value, slice_nodes}
 use Rattle.bao_check.specs.Checking.{IsNodeFault}
 use Rattle.bao_check.specs.Subtree.{PassesIn, StopsIn}
-use Rattle.bao_check.specs.Waiting.{AllPass, AllStop, AreParts, FirstPass, FirstStop, HasRefused, HasTaken, IsBefore, IsAcceptedAs, IsFaultAs, CheckTask, WaitsIn, last_part, next_size, part_size, shape}
+use Rattle.bao_check.specs.Waiting.{AllPass, AllStop, AreParts, FirstPass, FirstStop, HasRefused, HasRefusedIn, HasTaken, IsBefore, IsAcceptedAs, IsFaultAs, CheckTask, WaitsIn, last_part, next_size, part_size, shape}
 use Rattle.bao_check.specs.Walk.{Grows, Meets, Passes, Stops, asked_root}
 use Rattle.bao_check.proofs.Parts.{below}
 use Rattle.bao_check.proofs.Laws.{first_fault-not_accepted}
@@ -130,6 +130,11 @@ module _ (asked : Asked) (mode : Mode) (choice : Choice) (number n : ℕ) (taken
       → StopsIn asked mode choice number n text (length taken) fault
   stop_here fault stops = stops_in asked mode choice number n text (length taken) taken (taken ++ node) (node ++ more) more inside old_is ahead_is grew fault stops
 
+  -- all nodes of the subtree at once
+  pub whole_there : ((sides : List Side) (source : ℕ) → Passes asked sides mode (taken ++ node) (length taken) (subtree_nodes choice number n sides source))
+      → PassesIn asked mode choice number n text (length taken) (length (taken ++ node))
+  whole_there passes = passes_in asked mode choice number n text (length taken) taken (taken ++ node) (node ++ more) more inside old_is ahead_is grew passes
+
   module _ (there : choice.chunks ≡ true) (one : n ≤ 1024) where
     chunk_stops_here : (fault : CheckFault)
         → ((sides : List Side) (source : ℕ) → Stops (λ _. ⊥) asked sides mode (taken ++ node) (Some more) (length taken)
@@ -220,20 +225,25 @@ module _ (asked : Asked) (mode : Mode) (choice : Choice) (number n : ℕ) (taken
             fault (first.stops (sides ++ left ∷ []) (source + 64));
       }
 
--- one node taken: a chunk, of which nothing more comes
+-- all of a part taken, of which nothing more comes
+pub all_taken_from : (mode : Mode) (choice : Choice) (before after : List Part) (part : Part) (node : List ℕ) → before ≡ after ++ part ∷ []
+    → ((taken more : List ℕ) → PassesIn part.asked mode choice part.number part.len ((taken ++ node) ++ more) (length taken) (length (taken ++ node)))
+    → HasTaken mode choice before after node
+all_taken_from mode choice before after part node is here = record {
+  passes = λ taken more end h.
+      subst (λ (ps : List Part). AllPass mode choice ps ((taken ++ node) ++ more) (length taken) end) (sym is)
+      (AllPass-last mode choice after part ((taken ++ node) ++ more) (length taken) end (length (taken ++ node), here taken more, h));
+  stops = λ taken more fault h.
+      subst (λ (ps : List Part). AllStop mode choice ps ((taken ++ node) ++ more) (length taken) fault) (sym is)
+      (AllStop-last mode choice after part ((taken ++ node) ++ more) (length taken) fault (inr (length (taken ++ node), here taken more, h)));
+}
+
+-- one node taken: a chunk
 pub chunk_taken_from : (mode : Mode) (choice : Choice) (before after : List Part) (part : Part) (node : List ℕ) → before ≡ after ++ part ∷ []
     → wants choice (1024 * part.number) part.len ≡ true → choice.chunks ≡ true → part.len ≤ 1024 → length node ≡ part.len
     → Meets part.asked (last_chunk_input mode part.number node) → HasTaken mode choice before after node
 chunk_taken_from mode choice before after part node is wanted there one len meets =
-    let here = λ (taken more : List ℕ). chunk_there part.asked mode choice part.number part.len taken node more wanted there one len meets in
-    record {
-      passes = λ taken more end h.
-          subst (λ (ps : List Part). AllPass mode choice ps ((taken ++ node) ++ more) (length taken) end) (sym is)
-          (AllPass-last mode choice after part ((taken ++ node) ++ more) (length taken) end (length (taken ++ node), here taken more, h));
-      stops = λ taken more fault h.
-          subst (λ (ps : List Part). AllStop mode choice ps ((taken ++ node) ++ more) (length taken) fault) (sym is)
-          (AllStop-last mode choice after part ((taken ++ node) ++ more) (length taken) fault (inr (length (taken ++ node), here taken more, h)));
-    }
+    all_taken_from mode choice before after part node is (λ taken more. chunk_there part.asked mode choice part.number part.len taken node more wanted there one len meets)
 
 -- or a parent, in whose place its parts come
 pub parent_taken_from : (mode : Mode) (choice : Choice) (before rest middle after : List Part) (part : Part) (node : List ℕ) (near far : Asked) → before ≡ rest ++ part ∷ []
@@ -342,7 +352,7 @@ pub record First (choice : Choice) (parts : List Part) (part : Part) (n : ℕ) :
   pub chunk : part.len ≤ 1024 → n ≡ part.len
   pub parent : 1024 < part.len → n ≡ 64
 
-first_of : (choice : Choice) (parts : List Part) (part : Part) (n : ℕ) → AreParts choice parts → last_part parts ≡ Some part → n ≡ part_size part → First choice parts part n
+pub first_of : (choice : Choice) (parts : List Part) (part : Part) (n : ℕ) → AreParts choice parts → last_part parts ≡ Some part → n ≡ part_size part → First choice parts part n
 first_of choice parts part n all last size =
     let is = last_split parts part last in
     let taken = part_taken choice parts (take (length parts - 1) parts) part all is in
@@ -367,7 +377,7 @@ pub wrong_from : (b : Bool) (P : Type 0) → (P → b ≡ true) → b ≡ false 
 wrong_from b P tells off p = not_both (sym (tells p) ∙ off)
 
 -- where nothing waits, there is no part
-none_waits : (parts : List Part) → IsNone (next_size parts) → parts ≡ []
+pub none_waits : (parts : List Part) → IsNone (next_size parts) → parts ≡ []
 none_waits [] none = refl
 none_waits (x ∷ xs) none =
     let i : ℕ = length (x ∷ xs) - 1 in
@@ -499,6 +509,13 @@ pub refused_fault : (task : CheckTask) (choice : Choice) (parts : List Part) (at
     → ((more : List ℕ) → WaitsIn task choice parts (taken ++ more) (length taken)) → (more : List ℕ) → IsFaultAs task ((taken ++ node) ++ more) fault
 refused_fault task choice parts at taken node fault refused at_is waits more =
     (subst (λ (s : List ℕ). WaitsIn task choice parts s (length taken)) (sym (append_assoc taken node more)) (waits (node ++ more))).stopped fault (refused.stops taken more at_is)
+
+-- the same of bytes that nodes are taken of
+pub refused_in_fault : (task : CheckTask) (choice : Choice) (before after : List Part) (at used : ℕ) (taken bytes : List ℕ) (fault : CheckFault)
+    → HasRefusedIn task.mode choice before after at used bytes fault → at ≡ length taken → ((more : List ℕ) → WaitsIn task choice before (taken ++ more) (length taken))
+    → (more : List ℕ) → IsFaultAs task ((taken ++ bytes) ++ more) fault
+refused_in_fault task choice before after at used taken bytes fault refused at_is waits more =
+    (subst (λ (s : List ℕ). WaitsIn task choice before s (length taken)) (sym (append_assoc taken bytes more)) (waits (bytes ++ more))).stopped fault (refused.stops taken more at_is)
 
 -- whether the length is still to come
 pub first_size : (at n : ℕ) (o : Option ℕ) → at ≡ 0 → (if nat_eq at 0 then Some 8 else o) ≡ Some n → n ≡ 8

@@ -1,8 +1,9 @@
 -- What a check in pieces has taken, and what it says.
-use Rattle.std.specs.Prelude.{◌≡◌, ℕ, ◌^◌, ◌<◌, ◌≤◌, List, ◌++◌, length, nat_eq, Option, Some, if◌then◌else◌}
+use Rattle.std.specs.Prelude.{◌≡◌, ℕ, ◌^◌, ◌<◌, ◌≤◌, List, [], ◌++◌, length, nat_eq, Option, Some, if◌then◌else◌}
 use Rattle.bao_check.specs.declared.checking.Checking.{Checking}
 use Rattle.bao_check.specs.declared.fault.CheckFault.{CheckFault}
 use Rattle.bao_check.specs.declared.fault.CheckFault.TheVariants.{Short, Mismatch, Trailing, Memory, Reader}
+use Rattle.bao_check.specs.Decoded.{chunk_bytes, decoded, waiting_kinds}
 use Rattle.bao_check.specs.Waiting.{CheckTask, IsFaultAs, WaitsIn, next_size}
 
 -- what it checks an encoding as
@@ -27,3 +28,10 @@ IsNodeFault task text (Mismatch at) = (more : List ℕ) → IsFaultAs task (text
 IsNodeFault task text (Trailing at) = ⊥
 IsNodeFault task text Memory = 2 ^ 64 ≤ length text
 IsNodeFault task text Reader = ⊥
+
+-- A check has taken an encoding's first bytes, which have these of the blob.
+pub record HasDecodedAs (check : Checking) (task : CheckTask) (taken bytes : List ℕ) : Type 0 where
+  pub has_taken : HasTakenAs check task taken
+  pub begins : check.at ≡ 0 → bytes ≡ []
+  pub decodes : 0 < check.at → (more : List ℕ)
+      → decoded (taken ++ more) task.start task.len ≡ bytes ++ chunk_bytes (waiting_kinds check.choice check.waiting.items) more

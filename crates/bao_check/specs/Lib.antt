@@ -23,6 +23,7 @@ pub mod Laws
 pub mod Streams
 pub mod Subtree
 pub mod Waiting
+pub mod Decoded
 pub mod Checking
 pub use Rattle.bao_text.specs.Choice
 pub use Rattle.bao_text.specs.Nodes

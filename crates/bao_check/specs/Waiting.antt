@@ -1,5 +1,5 @@
 -- What is still to come of an encoding that is checked in pieces: the wanted nodes of subtrees.
-use Rattle.std.specs.Prelude.{◌≡◌, ◌⊎◌, ℕ, ◌-◌, ◌<◌, ◌≤◌, false, List, [], ◌∷◌, ◌++◌, length, map, slice_get, nat_le, Option, if◌then◌else◌}
+use Rattle.std.specs.Prelude.{◌≡◌, ◌⊎◌, ℕ, ◌+◌, ◌-◌, ◌<◌, ◌≤◌, false, List, [], ◌∷◌, ◌++◌, length, take, map, slice_get, nat_le, Option, if◌then◌else◌}
 use Rattle.std.specs.Option.{option_map}
 use Rattle.b3tree.specs.declared.mode.Mode.{Mode}
 use Rattle.b3tree.specs.declared.values.Cv.{Cv}
@@ -83,6 +83,14 @@ pub record HasTaken (mode : Mode) (choice : Choice) (before after : List Part) (
 pub record HasRefused (mode : Mode) (choice : Choice) (parts : List Part) (at : ℕ) (node : List ℕ) (fault : CheckFault) : Type 0 where
   pub is : fault ≡ Mismatch at
   pub stops : (taken more : List ℕ) → at ≡ length taken → AllStop mode choice parts ((taken ++ node) ++ more) (length taken) fault
+
+-- Nodes were taken, the first `used` of these bytes, and the one after them is refused: that is the first fault in every encoding
+-- that has the bytes there.
+pub record HasRefusedIn (mode : Mode) (choice : Choice) (before after : List Part) (at used : ℕ) (bytes : List ℕ) (fault : CheckFault) : Type 0 where
+  pub within : used ≤ length bytes
+  pub taken : HasTaken mode choice before after (take used bytes)
+  pub is : fault ≡ Mismatch (at + used)
+  pub stops : (had more : List ℕ) → at ≡ length had → AllStop mode choice before ((had ++ bytes) ++ more) (length had) fault
 
 -- what an encoding is checked as: the slice (start, len) of the blob with the hash `root`
 pub record CheckTask : Type 0 where

@@ -1,9 +1,11 @@
-ghost use Rattle.std.specs.Prelude.{◌≡◌, ◌↔◌, ℕ, ◌-◌, ◌^◌, ◌<◌, ◌≤◌, List, [], ◌++◌, length, true, IfErr, IfOk, IfSome, IsNone, IsTrue, MatchResult, OnErr, OnOk, Some};
-ghost use Rattle.bao_check.specs.declared.fault.CheckFault.TheVariants.{Mismatch, Short};
+ghost use Rattle.std.specs.Prelude.{◌≡◌, ◌↔◌, ℕ, ◌+◌, ◌-◌, ◌^◌, ◌<◌, ◌≤◌, List, [], ◌++◌, length, take, true, IfErr, IfOk, IfSome, IsNone, IsTrue, MatchResult, OnErr, OnOk, Some};
+ghost use Rattle.bao_check.specs.declared.fault.CheckFault.TheVariants.{Mismatch, Short, Trailing};
+ghost use Rattle.bao_check.specs.Decoded.{chunk_bytes, decoded, waiting_kinds};
 ghost use Rattle.bao_check.specs.Streams.{IsOfBytes};
 ghost use Rattle.bao_check.specs.Waiting.{AreParts, AreParts-prop, CheckTask, IsAcceptedAs, IsFaultAs, WaitsIn};
 
 use crate::asked::{Asked, meets};
+use crate::decoding::take_nodes;
 use crate::fault::CheckFault;
 use crate::waiting::{Waiting, node_size, push_wanted, take_node};
 use arrayvec::ArrayVec;
@@ -24,6 +26,7 @@ fn begin(
     ensures parts { IfOk result (λ begun. AreParts begun.0 begun.1.items) }
     ensures waits { IfOk result (λ begun. (more : List ℕ) → WaitsIn (record { mode = mode.now; root = root.now.0; start = start; len = len })
         begun.0 begun.1.items (header.now ++ more) 8) }
+    ensures decodes { IfOk result (λ begun. (more : List ℕ) → decoded (header.now ++ more) start len ≡ chunk_bytes (waiting_kinds begun.0 begun.1.items) more) }
     ensures fault { IfErr result (λ fault. (fault ≡ Mismatch 8) × ((more : List ℕ) → IsFaultAs (record { mode = mode.now; root = root.now.0; start = start; len = len })
         (header.now ++ more) fault)) }
 {
@@ -46,6 +49,15 @@ fn begin(
     Ok((choice, waiting))
 }
 
+/// What a check took of bytes at once.
+#[derive(Clone, Copy, Debug, PartialEq, Eq)]
+pub struct Decoded {
+    /// How many bytes: whole nodes.
+    pub taken: usize,
+    /// How many bytes of the blob are among them, and fill the front of the room.
+    pub filled: usize,
+}
+
 /// An encoding that is checked as a slice while its bytes come, a node at a time: `check_slice` and `read_checked` for a
 /// caller that has no whole encoding and no reader. It takes no memory, and keeps none of the bytes.
 #[derive(Drop)]
@@ -64,12 +76,13 @@ pub struct Checking {
 }
 
 impl Checking {
-    ghost use Rattle.bao_check.specs.Checking.{HasTakenAs, IsNodeFault, wanted};
+    ghost use Rattle.bao_check.specs.Checking.{HasDecodedAs, HasTakenAs, IsNodeFault, wanted};
 
     /// A check of an encoding as the slice of `len` bytes from byte `start` on of the blob with the hash `root` in `mode`. It
     /// has taken nothing.
     pub fn of_slice(mode: &Mode, root: &Hash, start: u64, len: u64) -> Checking
-        ensures { HasTakenAs result (record { mode = mode.now; root = root.now.0; start = start; len = len }) [] }
+        ensures taken { HasTakenAs result (record { mode = mode.now; root = root.now.0; start = start; len = len }) [] }
+        ensures decoded { HasDecodedAs result (record { mode = mode.now; root = root.now.0; start = start; len = len }) [] [] }
     {
         Checking {
             mode: *mode,
@@ -84,7 +97,8 @@ impl Checking {
 
     /// A check of an encoding as the combined encoding of the blob: as `of_slice` from byte 0 on with the length 2^64 - 1.
     pub fn of_combined(mode: &Mode, root: &Hash) -> Checking
-        ensures { HasTakenAs result (record { mode = mode.now; root = root.now.0; start = 0; len = 2 ^ 64 - 1 }) [] }
+        ensures taken { HasTakenAs result (record { mode = mode.now; root = root.now.0; start = 0; len = 2 ^ 64 - 1 }) [] }
+        ensures decoded { HasDecodedAs result (record { mode = mode.now; root = root.now.0; start = 0; len = 2 ^ 64 - 1 }) [] [] }
     {
         Checking::of_slice(mode, root, 0, u64::MAX)
     }
@@ -97,6 +111,9 @@ impl Checking {
         ensures done { (task : CheckTask) (taken : List ℕ) → HasTakenAs self.now task taken → IsNone result ↔ IsAcceptedAs task taken }
         ensures short { (task : CheckTask) (taken : List ℕ) → HasTakenAs self.now task taken
             → IfSome result (λ size. (more : List ℕ) → length more < size → IsFaultAs task (taken ++ more) (Short (length taken))) }
+        ensures trailing { (task : CheckTask) (taken : List ℕ) → HasTakenAs self.now task taken
+            → IsNone result → (more : List ℕ) → 0 < length more → IsFaultAs task (taken ++ more) (Trailing (length taken)) }
+        ensures blob { (task : CheckTask) (taken blob : List ℕ) → HasDecodedAs self.now task taken blob → IsNone result → decoded taken task.start task.len ≡ blob }
     {
         if self.at == 0 {
             return Some(LENGTH_LEN);
@@ -123,6 +140,7 @@ impl Checking {
         ensures fault { (task : CheckTask) (taken : List ℕ) → HasTakenAs self.old task taken → IfErr result (IsNodeFault task (taken ++ node.now)) }
         ensures refused { (task : CheckTask) (taken : List ℕ) → HasTakenAs self.old task taken
             → IfErr result (λ fault. IsOfBytes fault → (more : List ℕ) → ¬ IsAcceptedAs task ((taken ++ node.now) ++ more)) }
+        ensures begun { (task : CheckTask) → HasTakenAs self.old task [] → OnOk result (HasDecodedAs self.new task node.now []) }
         ensures unchanged { OnErr result (self.new ≡ self.old) }
     {
         let len = node.len() as u64;
@@ -139,6 +157,77 @@ impl Checking {
         take_node(&self.choice, &mut self.waiting, &self.mode, self.at, node)?;
         self.at += len;
         Ok(())
+    }
+
+    /// Takes as many whole nodes as `bytes` begins with, verifies them, many at once, and puts the bytes of the chunks among them, in
+    /// their order, to the front of `room`, which has room for as many bytes as are given. Answers how many bytes were taken,
+    /// and how many of the room are filled: bytes of the blob. Those that aren't taken are fewer than the next node has, or follow the
+    /// last one.
+    ///
+    /// Refused: 502 `Mismatch` with the place of a node that hasn't the value that is asked for, which is the first fault of every
+    /// encoding that begins with what was taken and these bytes. What comes before that node has been taken then. 504 `Memory`
+    /// where 2^64 bytes or more would have been taken; nothing was.
+    pub fn decode(&mut self, bytes: &[u8], room: &mut [u8]) -> Result<Decoded, CheckFault>
+        requires { length bytes.now ≤ length room.old }
+        ensures size { length room.new ≡ length room.old }
+        ensures bound { IfOk result (λ it. (it.taken ≤ length bytes.now) × (it.filled ≤ it.taken)) }
+        ensures taken { (task : CheckTask) (taken : List ℕ) → HasTakenAs self.old task taken → IfOk result (λ it. HasTakenAs self.new task (taken ++ take it.taken bytes.now)) }
+        ensures decoded { (task : CheckTask) (taken blob : List ℕ) → HasDecodedAs self.old task taken blob
+            → IfOk result (λ it. HasDecodedAs self.new task (taken ++ take it.taken bytes.now) (blob ++ take it.filled room.new)) }
+        ensures most { IfOk result (λ it. IfSome (wanted self.new) (λ size. length bytes.now < it.taken + size)) }
+        ensures fault { (task : CheckTask) (taken : List ℕ) → HasTakenAs self.old task taken → IfErr result (IsNodeFault task (taken ++ bytes.now)) }
+        ensures before { (task : CheckTask) (taken : List ℕ) → HasTakenAs self.old task taken
+            → IfErr result (λ _. (used : ℕ) × (used ≤ length bytes.now) × HasTakenAs self.new task (taken ++ take used bytes.now)) }
+    {
+        if bytes.len() as u64 > u64::MAX - self.at {
+            return Err(CheckFault::Memory);
+        }
+        if self.at > 0 {
+            return self.decode_nodes(bytes, room);
+        }
+        if bytes.len() < LENGTH_LEN {
+            return Ok(Decoded {
+                taken: 0,
+                filled: 0,
+            });
+        }
+        let (header, nodes) = bytes.split_at(LENGTH_LEN);
+        self.take(header)?;
+        let decoded = self.decode_nodes(nodes, room)?;
+        Ok(Decoded {
+            taken: LENGTH_LEN + decoded.taken,
+            filled: decoded.filled,
+        })
+    }
+
+    // The same once the length was taken.
+    fn decode_nodes(&mut self, bytes: &[u8], room: &mut [u8]) -> Result<Decoded, CheckFault>
+        requires begun { 0 < self.old.at }
+        requires places { self.old.at + length bytes.now < 2 ^ 64 }
+        requires room { length bytes.now ≤ length room.old }
+        ensures size { length room.new ≡ length room.old }
+        ensures bound { IfOk result (λ it. (it.taken ≤ length bytes.now) × (it.filled ≤ it.taken)) }
+        ensures taken { (task : CheckTask) (taken : List ℕ) → HasTakenAs self.old task taken → IfOk result (λ it. HasTakenAs self.new task (taken ++ take it.taken bytes.now)) }
+        ensures decoded { (task : CheckTask) (taken blob : List ℕ) → HasDecodedAs self.old task taken blob
+            → IfOk result (λ it. HasDecodedAs self.new task (taken ++ take it.taken bytes.now) (blob ++ take it.filled room.new)) }
+        ensures most { IfOk result (λ it. IfSome (wanted self.new) (λ size. length bytes.now < it.taken + size)) }
+        ensures fault { (task : CheckTask) (taken : List ℕ) → HasTakenAs self.old task taken → IfErr result (IsNodeFault task (taken ++ bytes.now)) }
+        ensures before { (task : CheckTask) (taken : List ℕ) → HasTakenAs self.old task taken
+            → IfErr result (λ _. (used : ℕ) × (used ≤ length bytes.now) × HasTakenAs self.new task (taken ++ take used bytes.now)) }
+    {
+        let before = self.at;
+        let filled = take_nodes(
+            &self.choice,
+            &mut self.waiting,
+            &self.mode,
+            &mut self.at,
+            bytes,
+            room,
+        )?;
+        Ok(Decoded {
+            taken: (self.at - before) as usize,
+            filled,
+        })
     }
 
     /// What the check of the whole encoding says, where the encoding is what was taken and then `rest`, which is less than the

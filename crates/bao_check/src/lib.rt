@@ -4,7 +4,7 @@
 #![tactic(auto)]
 
 pub use checked::Checked;
-pub use checking::Checking;
+pub use checking::{Checking, Decoded};
 pub use checks::{bare_fits, check_bare, check_combined, check_outboard, check_slice};
 pub use fault::CheckFault;
 pub use law::{
@@ -22,6 +22,7 @@ mod bare;
 mod checked;
 mod checking;
 mod checks;
+mod decoding;
 mod fault;
 mod form;
 mod law;

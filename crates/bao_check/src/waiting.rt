@@ -1,6 +1,7 @@
 ghost use Rattle.std.specs.Prelude.{◌≡◌, ◌+◌, ◌-◌, ◌*◌, ◌/◌, ◌^◌, ◌<◌, ◌≤◌, List, [], ◌∷◌, ◌++◌, length, true, IfErr, OnErr, OnOk, Some};
 ghost use Rattle.b3tree.specs.Tree.{left_len};
 ghost use Rattle.bao_check.specs.declared.part.Part.{Part};
+ghost use Rattle.bao_check.specs.Decoded.{Decodes, subtree_kinds, waiting_kinds};
 ghost use Rattle.bao_check.specs.Waiting.{AreParts, HasRefused, HasTaken, IsBefore, below_parent, last_part, next_size, part_size};
 
 use crate::asked::{Asked, meets};
@@ -15,14 +16,14 @@ use bao_text::{Choice, PARENT_LEN, WAITING_LEN};
 pub(crate) type Waiting = ArrayVec<Part, WAITING_LEN>;
 
 // The part that comes first.
-fn next_part(waiting: &Waiting) -> Option<Part>
+pub(crate) fn next_part(waiting: &Waiting) -> Option<Part>
     ensures { result ≡ last_part waiting.now.items }
 {
     waiting.as_slice().last().copied()
 }
 
 // How many bytes the first node of a part has.
-fn size(part: &Part) -> usize
+pub(crate) fn size(part: &Part) -> usize
     ensures { result ≡ part_size part.now }
 {
     if part.len <= CHUNK_LEN as u64 {
@@ -55,6 +56,7 @@ pub(crate) fn push_wanted(
     requires parts { AreParts choice.now waiting.old.items }
     ensures parts { AreParts choice.now waiting.new.items }
     ensures before { IsBefore choice.now asked.now number len waiting.old.items waiting.new.items }
+    ensures kinds { waiting_kinds choice.now waiting.new.items ≡ subtree_kinds choice.now number len ++ waiting_kinds choice.now waiting.old.items }
     ensures room { length waiting.new.items ≤ length waiting.old.items + 1 }
 {
     if choice.wants(CHUNK_LEN as u64 * number, len) {
@@ -74,6 +76,8 @@ fn push_halves(choice: &Choice, waiting: &mut Waiting, parent: &Part, left: Cv, 
     ensures before { (middle : List Part)
         × IsBefore choice.now (below_parent left) parent.now.number (left_len parent.now.len) middle waiting.new.items
         × IsBefore choice.now (below_parent right) (parent.now.number + left_len parent.now.len / 1024) (parent.now.len - left_len parent.now.len) waiting.old.items middle }
+    ensures kinds { waiting_kinds choice.now waiting.new.items ≡ (subtree_kinds choice.now parent.now.number (left_len parent.now.len)
+        ++ subtree_kinds choice.now (parent.now.number + left_len parent.now.len / 1024) (parent.now.len - left_len parent.now.len)) ++ waiting_kinds choice.now waiting.old.items }
 {
     let left_len = left_len(parent.len);
     let left_asked = Asked {
@@ -108,6 +112,8 @@ pub(crate) fn take_node(
     ensures parts { AreParts choice.now waiting.new.items }
     ensures same { OnErr result (waiting.new ≡ waiting.old) }
     ensures ok { OnOk result (HasTaken mode.now choice.now waiting.old.items waiting.new.items node.now) }
+    ensures chunk { (part : Part) → last_part waiting.old.items ≡ Some part → part.len ≤ 1024 → OnOk result (Decodes choice.now waiting.old.items waiting.new.items node.now node.now) }
+    ensures parent { (part : Part) → last_part waiting.old.items ≡ Some part → 1024 < part.len → OnOk result (Decodes choice.now waiting.old.items waiting.new.items node.now []) }
     ensures err { IfErr result (HasRefused mode.now choice.now waiting.old.items at node.now) }
 {
     let Some(part) = next_part(waiting) else {

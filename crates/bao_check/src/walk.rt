@@ -94,7 +94,7 @@ pub(crate) fn check_parent<S: Source>(
 
 // How many bytes the encoding of the subtree over `n` bytes from chunk `number` on has, where it is a whole
 // subtree that is wanted whole, and its encoding is at hand and all good.
-fn whole_at_hand<S: Source>(
+pub(crate) fn whole_at_hand<S: Source>(
     source: &S,
     choice: &Choice,
     mode: &Mode,

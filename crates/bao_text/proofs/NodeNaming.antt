@@ -11,45 +11,46 @@ use Rattle.bao_text.specs.declared.walk.Subtree.{Subtree}
 use Rattle.bao_text.specs.Choice.{wants}
 use Rattle.bao_text.specs.NodeNames.{AreWaiting, IsWaiting, name, node_names, waiting_names}
 use Rattle.bao_text.specs.Nodes.{TreeNode, Side, chunk_nodes, left, right, subtree_nodes, subtree_size}
-use Rattle.bao_text.proofs.SubtreeNodes.{subtree_nodes-leaf, subtree_nodes-parent, subtree_nodes-unwanted}
+use Rattle.bao_text.proofs.SubtreeNodes.{parent_node, subtree_nodes-leaf, subtree_nodes-parent, subtree_nodes-unwanted}
 use Rattle.bao_text.proofs.SubtreeText.{Parts, left_len-Parts}
 
 names-append : (xs ys : List TreeNode) → map name (xs ++ ys) ≡ map name xs ++ map name ys
 names-append [] ys = refl
 names-append (x ∷ xs) ys = ap (λ (zs : List Node). name x ∷ zs) (names-append xs ys)
 
--- a chunk alone, and no chunk
-names-one : (choice : Choice) (number n : ℕ) (sides : List Side) (source : ℕ) → wants choice (1024 * number) n ≡ true → n ≤ 1024 → choice.chunks ≡ true
-    → map name (subtree_nodes choice number n sides source) ≡ Chunk number ∷ []
-names-one choice number n sides source wanted one there =
-    let chunk : map name (chunk_nodes choice number n sides source) ≡ Chunk number ∷ [] = rw there refl in
-    ap (map name) (subtree_nodes-leaf choice number n sides source wanted one) ∙ chunk
+-- a node without the way to it and its place
+abbrev pub bare : TreeNode → TreeNode
+bare node = record { is_chunk = node.is_chunk; number = node.number; len = node.len; sides = []; source = 0 }
 
-names-none : (choice : Choice) (number n : ℕ) (sides : List Side) (source : ℕ) → wants choice (1024 * number) n ≡ true → n ≤ 1024 → choice.chunks ≡ false
-    → map name (subtree_nodes choice number n sides source) ≡ []
-names-none choice number n sides source wanted one gone =
-    let none : map name (chunk_nodes choice number n sides source) ≡ [] = rw gone refl in
-    ap (map name) (subtree_nodes-leaf choice number n sides source wanted one) ∙ none
+pub bare-append : (xs ys : List TreeNode) → map bare (xs ++ ys) ≡ map bare xs ++ map bare ys
+bare-append [] ys = refl
+bare-append (x ∷ xs) ys = ap (λ (zs : List TreeNode). bare x ∷ zs) (bare-append xs ys)
 
-names-small : (choice : Choice) (number n : ℕ) (sides others : List Side) (source other : ℕ) → n ≤ 1024
-    → map name (subtree_nodes choice number n sides source) ≡ map name (subtree_nodes choice number n others other)
-names-small choice number n sides others source other one = elim (cases_Bool (wants choice (1024 * number) n)) [
-  | inr skipped ↦ ap (map name) (subtree_nodes-unwanted choice number n sides source skipped ∙ sym (subtree_nodes-unwanted choice number n others other skipped))
-  | inl wanted ↦
-      elim (cases_Bool choice.chunks) [
-        | inl there ↦ names-one choice number n sides source wanted one there ∙ sym (names-one choice number n others other wanted one there)
-        | inr gone ↦ names-none choice number n sides source wanted one gone ∙ sym (names-none choice number n others other wanted one gone)
-      ]
+bare-leaf : (choice : Choice) (number n : ℕ) (sides others : List Side) (source other : ℕ)
+    → map bare (chunk_nodes choice number n sides source) ≡ map bare (chunk_nodes choice number n others other)
+bare-leaf choice number n sides others source other = elim (cases_Bool choice.chunks) [
+  | inl there ↦ rw there refl
+  | inr gone ↦ rw gone refl
 ]
 
-names-levels : (levels : ℕ) (choice : Choice) (number n : ℕ) (sides others : List Side) (source other : ℕ) → n ≤ 1024 * levels + 1024
-    → map name (subtree_nodes choice number n sides source) ≡ map name (subtree_nodes choice number n others other)
-names-levels zero choice number n sides others source other hn = names-small choice number n sides others source other (omega arith)
-names-levels (suc levels) choice number n sides others source other hn = elim (cases_lt 1024 n) [
-  | inr one ↦ names-small choice number n sides others source other one
+bare-small : (choice : Choice) (number n : ℕ) (sides others : List Side) (source other : ℕ) → n ≤ 1024
+    → map bare (subtree_nodes choice number n sides source) ≡ map bare (subtree_nodes choice number n others other)
+bare-small choice number n sides others source other one = elim (cases_Bool (wants choice (1024 * number) n)) [
+  | inr skipped ↦ ap (map bare) (subtree_nodes-unwanted choice number n sides source skipped ∙ sym (subtree_nodes-unwanted choice number n others other skipped))
+  | inl wanted ↦
+      ap (map bare) (subtree_nodes-leaf choice number n sides source wanted one)
+      ∙ bare-leaf choice number n sides others source other
+      ∙ sym (ap (map bare) (subtree_nodes-leaf choice number n others other wanted one))
+]
+
+bare-levels : (levels : ℕ) (choice : Choice) (number n : ℕ) (sides others : List Side) (source other : ℕ) → n ≤ 1024 * levels + 1024
+    → map bare (subtree_nodes choice number n sides source) ≡ map bare (subtree_nodes choice number n others other)
+bare-levels zero choice number n sides others source other hn = bare-small choice number n sides others source other (omega arith)
+bare-levels (suc levels) choice number n sides others source other hn = elim (cases_lt 1024 n) [
+  | inr one ↦ bare-small choice number n sides others source other one
   | inl more ↦
       elim (cases_Bool (wants choice (1024 * number) n)) [
-        | inr skipped ↦ ap (map name) (subtree_nodes-unwanted choice number n sides source skipped ∙ sym (subtree_nodes-unwanted choice number n others other skipped))
+        | inr skipped ↦ ap (map bare) (subtree_nodes-unwanted choice number n sides source skipped ∙ sym (subtree_nodes-unwanted choice number n others other skipped))
         | inl wanted ↦
             let l : ℕ = left_len n in
             let middle : ℕ = number + l / 1024 in
@@ -58,24 +59,35 @@ names-levels (suc levels) choice number n sides others source other hn = elim (c
             let far : List TreeNode = subtree_nodes choice middle (n - l) (sides ++ right ∷ []) (source + 64 + subtree_size l) in
             let near2 : List TreeNode = subtree_nodes choice number l (others ++ left ∷ []) (other + 64) in
             let far2 : List TreeNode = subtree_nodes choice middle (n - l) (others ++ right ∷ []) (other + 64 + subtree_size l) in
-            let near_same : map name near ≡ map name near2 =
-            names-levels levels choice number l (sides ++ left ∷ []) (others ++ left ∷ []) (source + 64) (other + 64) (omega (arith, parts.whole, parts.below)) in
-            let far_same : map name far ≡ map name far2 =
-            names-levels levels choice middle (n - l) (sides ++ right ∷ []) (others ++ right ∷ []) (source + 64 + subtree_size l) (other + 64 + subtree_size l) (omega (arith, parts.some)) in
-            ap (map name) (subtree_nodes-parent choice number n sides source wanted more)
-            ∙ ap (λ (xs : List Node). Parent middle ∷ xs) (names-append near far ∙ (λ i. near_same i ++ far_same i) ∙ sym (names-append near2 far2))
-            ∙ sym (ap (map name) (subtree_nodes-parent choice number n others other wanted more))
+            let near_same : map bare near ≡ map bare near2 =
+            bare-levels levels choice number l (sides ++ left ∷ []) (others ++ left ∷ []) (source + 64) (other + 64) (omega (arith, parts.whole, parts.below)) in
+            let far_same : map bare far ≡ map bare far2 =
+            bare-levels levels choice middle (n - l) (sides ++ right ∷ []) (others ++ right ∷ []) (source + 64 + subtree_size l) (other + 64 + subtree_size l) (omega (arith, parts.some)) in
+            ap (map bare) (subtree_nodes-parent choice number n sides source wanted more)
+            ∙ ap (λ (xs : List TreeNode). parent_node number n [] 0 ∷ xs) (bare-append near far ∙ (λ i. near_same i ++ far_same i) ∙ sym (bare-append near2 far2))
+            ∙ sym (ap (map bare) (subtree_nodes-parent choice number n others other wanted more))
       ]
 ]
 
+-- the way to a subtree and its place in an encoding change no more of its nodes
+pub bare-anywhere : (choice : Choice) (number n : ℕ) (sides : List Side) (source : ℕ) → map bare (subtree_nodes choice number n sides source) ≡ map bare (subtree_nodes choice number n [] 0)
+bare-anywhere choice number n sides source = bare-levels n choice number n sides [] source 0 (omega arith)
+
+names-bare : (xs : List TreeNode) → map name (map bare xs) ≡ map name xs
+names-bare [] = refl
+names-bare (x ∷ xs) = ap (λ (zs : List Node). name x ∷ zs) (names-bare xs)
+
 pub names-anywhere : (choice : Choice) (number n : ℕ) (sides : List Side) (source : ℕ) → map name (subtree_nodes choice number n sides source) ≡ node_names choice number n
-names-anywhere choice number n sides source = names-levels n choice number n sides [] source 0 (omega arith)
+names-anywhere choice number n sides source =
+    sym (names-bare (subtree_nodes choice number n sides source)) ∙ ap (map name) (bare-anywhere choice number n sides source) ∙ names-bare (subtree_nodes choice number n [] 0)
 
 pub names-unwanted : (choice : Choice) (number n : ℕ) → wants choice (1024 * number) n ≡ false → node_names choice number n ≡ []
 names-unwanted choice number n skipped = ap (map name) (subtree_nodes-unwanted choice number n [] 0 skipped)
 
 pub names-chunk : (choice : Choice) (number n : ℕ) → wants choice (1024 * number) n ≡ true → choice.chunks ≡ true → n ≤ 1024 → node_names choice number n ≡ Chunk number ∷ []
-names-chunk choice number n wanted there one = names-one choice number n [] 0 wanted one there
+names-chunk choice number n wanted there one =
+    let chunk : map name (chunk_nodes choice number n [] 0) ≡ Chunk number ∷ [] = rw there refl in
+    ap (map name) (subtree_nodes-leaf choice number n [] 0 wanted one) ∙ chunk
 
 pub names-parent : (choice : Choice) (number n : ℕ) → wants choice (1024 * number) n ≡ true → 1024 < n
     → node_names choice number n ≡ Parent (number + left_len n / 1024) ∷ (node_names choice number (left_len n) ++ node_names choice (number + left_len n / 1024) (n - left_len n))

@@ -17,10 +17,10 @@ one_flag false false P a b = refl
 one_flag true false P a b = sym (b.1 (a.0 refl))
 one_flag false true P a b = a.1 (b.0 refl)
 
-not_both : (task : CheckTask) (text : List ℕ) (f : CheckFault) → IsFaultAs task text f → IsAcceptedAs task text → ⊥
+pub not_both : (task : CheckTask) (text : List ℕ) (f : CheckFault) → IsFaultAs task text f → IsAcceptedAs task text → ⊥
 not_both task text f fault accepted = first_fault-not_accepted task.mode task.root text (slice_nodes text task.start task.len) f fault accepted
 
-same_fault : (task : CheckTask) (text : List ℕ) (e f : CheckFault) → IsFaultAs task text e → IsFaultAs task text f → e ≡ f
+pub same_fault : (task : CheckTask) (text : List ℕ) (e f : CheckFault) → IsFaultAs task text e → IsFaultAs task text f → e ≡ f
 same_fault task text e f a b = one_fault task.mode task.root text (slice_nodes text task.start task.len) e f a b
 
 pub finishes_agree : (task : CheckTask) (text : List ℕ) (r s : Result (Unit {0}) CheckFault) → MatchResult r (λ _. IsAcceptedAs task text) (IsFaultAs task text)
@@ -70,7 +70,7 @@ takes_agree task text x y v w (Ok t) (Err h) a b e f p q = only_memory task text
 takes_agree task text x y v w (Err g) (Ok u) a b e f p q = only_memory task text w g (q b) e
 takes_agree task text x y v w (Err g) (Err h) a b e f p q = both_faults task text g h e f
 
-no_elements : (xs : List ℕ) → length xs ≡ 0 → [] ≡ xs
+pub no_elements : (xs : List ℕ) → length xs ≡ 0 → [] ≡ xs
 no_elements [] e = refl
 no_elements (x ∷ xs) e = absurd (omega (arith, e))
 

@@ -2,6 +2,7 @@ pub mod OneFault
 pub mod Spans
 pub mod OneText
 pub mod Fed
+pub mod Decoding
 pub mod Ends
 pub mod Same
 pub mod Offsets

@@ -1,12 +1,12 @@
 // Checks in pieces that check the same and have taken the same.
 
-ghost use Rattle.std.specs.Prelude.{◌≡◌, ◌↔◌, ◌^◌, ◌<◌, ◌≤◌, ◌++◌, ℕ, List, IfSome, Some, length};
-ghost use Rattle.bao_check.specs.Checking.{HasTakenAs, wanted};
+ghost use Rattle.std.specs.Prelude.{◌≡◌, ◌↔◌, ◌^◌, ◌<◌, ◌≤◌, ◌++◌, ℕ, List, IfOk, IfSome, Some, length, take};
+ghost use Rattle.bao_check.specs.Checking.{HasDecodedAs, HasTakenAs, wanted};
 ghost use Rattle.bao_check.specs.Waiting.{CheckTask};
 ghost use Rattle.determined_check.specs.Agreeing.{Agree, AgreeOrLack};
 
 use b3tree::{Hash, Mode};
-use bao_check::{CheckFault, Checking};
+use bao_check::{CheckFault, Checking, Decoded};
 
 pub fn wants_determined(check: &Checking) -> (Option<usize>, Option<usize>)
     ensures { result.0 ≡ result.1 }
@@ -85,4 +85,26 @@ pub fn wants_of_taken_determined(a: &mut Checking, b: &Checking, node: &[u8]) ->
     let _taken = a.take(node);
     a.wants();
     b.wants()
+}
+
+// What checks that have taken the same take of the same bytes, and the bytes of the blob among them.
+pub fn decode_determined(
+    a: &mut Checking,
+    b: &mut Checking,
+    bytes: &[u8],
+    x: &mut [u8],
+    y: &mut [u8],
+) -> (Result<Decoded, CheckFault>, Result<Decoded, CheckFault>)
+    requires first { length bytes.now ≤ length x.old }
+    requires second { length bytes.now ≤ length y.old }
+    ensures answer { (task : CheckTask) (taken blob : List ℕ) → HasDecodedAs a.old task taken blob → HasDecodedAs b.old task taken blob
+        → length (taken ++ bytes.now) < 2 ^ 64 → result.0 ≡ result.1 }
+    ensures room { (task : CheckTask) (taken blob : List ℕ) → HasDecodedAs a.old task taken blob → HasDecodedAs b.old task taken blob
+        → length (taken ++ bytes.now) < 2 ^ 64 → IfOk result.0 (λ it. take it.filled x.new ≡ take it.filled y.new) }
+{
+    let one = a.decode(bytes, x);
+    let other = b.decode(bytes, y);
+    let _ours = a.wants();
+    let _theirs = b.wants();
+    (one, other)
 }

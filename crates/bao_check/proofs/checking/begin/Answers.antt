@@ -4,6 +4,7 @@ use Rattle.bao_check.specs.declared.asked.Asked.{Asked}
 use Rattle.bao_check.specs.declared.part.Part.{Part}
 use Rattle.bao_check.specs.Waiting.{IsBefore}
 use Rattle.bao_check.specs.Walk.{Meets}
+use Rattle.bao_check.proofs.ChunkBytes.{begun_empty, begun_waiting, decoded_begun}
 use Rattle.bao_check.proofs.Feeding.{begun_waits, empty_refused, empty_waits, wrong_from}
 use Rattle.bao_check.proofs.checking.begin.Goals as goal
 
@@ -32,3 +33,15 @@ returns-clause-waits c = λ more.
     c.requires c.claimed-total.ensures c.of_slice-choice.ensures (λ i. record { top = true; value = record { 0 = c.from_bytes.ensures i } })
     (omega (arith, c.if-total-gt0.false)) c.new-waiting.ensures
     (subst (λ (x : Input). Meets asked x) (c.top_input.ensures.chunk (omega arith)) (c.meets.ensures.0 c.if-not-meets.false))
+
+pub returns-then-total-gt0-clause-decodes : goal.returns-then-total-gt0-clause-decodes
+returns-then-total-gt0-clause-decodes c = λ more.
+    decoded_begun c.args.start c.args.len c.claimed-total.result c.of_slice-choice.result c.push_wanted.new.waiting.items c.args.header.now more c.requires c.claimed-total.ensures
+    c.of_slice-choice.ensures
+    (begun_waiting c.of_slice-choice.result c.claimed-total.result c.push_wanted.new.waiting.items c.new-waiting.result.items more c.new-waiting.ensures c.push_wanted.ensures.kinds)
+
+pub returns-clause-decodes : goal.returns-clause-decodes
+returns-clause-decodes c = λ more.
+    decoded_begun c.args.start c.args.len c.claimed-total.result c.of_slice-choice.result c.new-waiting.result.items c.args.header.now more c.requires c.claimed-total.ensures
+    c.of_slice-choice.ensures
+    (begun_empty c.args.start c.args.len c.claimed-total.result c.of_slice-choice.result c.new-waiting.result.items more c.new-waiting.ensures (omega (arith, c.if-total-gt0.false)) c.of_slice-choice.ensures)

@@ -4,8 +4,9 @@ use Rattle.b3tree.specs.Tree.{parent_input}
 use Rattle.bao_text.specs.Nodes.{left, right}
 use Rattle.bao_check.specs.declared.part.Part.{Part}
 use Rattle.bao_check.specs.Accepted.{part_value}
-use Rattle.bao_check.specs.Waiting.{below_parent}
+use Rattle.bao_check.specs.Waiting.{below_parent, last_part}
 use Rattle.bao_check.specs.Walk.{Meets}
+use Rattle.bao_check.proofs.ChunkBytes.{chunk_decodes, parent_decodes, same_part}
 use Rattle.bao_check.proofs.Feeding.{chunk_refused, chunk_taken_from, first_part, parent_refused, parent_taken_from, part_taken, wrong_from}
 use Rattle.bao_check.proofs.waiting.take_node.Goals as goal
 
@@ -58,3 +59,27 @@ returns-clause-ok c =
     (subst (λ (x : Input). Meets c.in-Some.part.asked x) is (c.meets-2.ensures.0 c.if-not-meets-2.false))
     (λ i. record { top = false; value = record { 0 = c.part_values.ensures.left i } }) (λ i. record { top = false; value = record { 0 = c.part_values.ensures.right i } })
     c.push_halves.ensures.before.1 c.push_halves.ensures.before.2
+
+pub returns-then-part-clause-chunk : goal.returns-then-part-clause-chunk
+returns-then-part-clause-chunk c = λ part last one.
+    let first = first_part c.args.choice.now c.args.waiting.now.items c.in-Some.part (length c.args.node.now) c.requires.parts (sym c.next_part.ensures ∙ c.in-Some.is) c.requires.next in
+    chunk_decodes c.args.choice.now c.args.waiting.now.items c.pop-taken.new.self.items c.in-Some.part c.args.node.now
+    (first.is ∙ ap (λ (s : List Part). s ++ c.in-Some.part ∷ []) (sym c.pop-taken.ensures.rest)) first.wanted c.requires.chunks c.if-part.true (first.chunk c.if-part.true)
+
+pub returns-then-part-clause-parent : goal.returns-then-part-clause-parent
+returns-then-part-clause-parent c = λ part last more.
+    let same : part ≡ c.in-Some.part = same_part (last_part c.args.waiting.now.items) part c.in-Some.part last (sym c.next_part.ensures ∙ c.in-Some.is) in
+    let len : part.len ≡ c.in-Some.part.len = ap (λ (p : Part). p.len) same in
+    absurd (omega (arith, len, more, c.if-part.true))
+
+pub returns-clause-chunk : goal.returns-clause-chunk
+returns-clause-chunk c = λ part last one.
+    let same : part ≡ c.in-Some.part = same_part (last_part c.args.waiting.now.items) part c.in-Some.part last (sym c.next_part.ensures ∙ c.in-Some.is) in
+    let len : part.len ≡ c.in-Some.part.len = ap (λ (p : Part). p.len) same in
+    absurd (omega (arith, len, one, c.if-part.false))
+
+pub returns-clause-parent : goal.returns-clause-parent
+returns-clause-parent c = λ part last more.
+    let first = first_part c.args.choice.now c.args.waiting.now.items c.in-Some.part (length c.args.node.now) c.requires.parts (sym c.next_part.ensures ∙ c.in-Some.is) c.requires.next in
+    parent_decodes c.args.choice.now c.args.waiting.now.items c.pop-taken-2.new.self.items c.push_halves.new.waiting.items c.in-Some.part c.args.node.now
+    (first.is ∙ ap (λ (s : List Part). s ++ c.in-Some.part ∷ []) (sym c.pop-taken-2.ensures.rest)) first.wanted c.if-part.false (first.parent c.if-part.false) c.push_halves.ensures.kinds

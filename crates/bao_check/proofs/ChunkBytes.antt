@@ -1,0 +1,377 @@
+-- The bytes of the chunks among the nodes that a check in pieces takes.
+use Rattle.std.proofs.Common.{◌≡◌, ℕ, suc, ◌+◌, ◌-◌, ◌*◌, ◌/◌, ◌<◌, ◌≤◌, List, [], ◌∷◌, ◌++◌, length, take, drop, map, sum_by, Option, None, Some, IfSome, true, false, if◌then◌else◌, refl, sym, ap, subst, ◌∙◌, arith, inl, inr, length-append, length-drop}
+use Rattle.std.proofs.Math.Seq.{take-add}
+use Rattle.std.proofs.lemmas.Bool.{cases_Bool, cases_lt}
+use Rattle.std.proofs.lemmas.List.{append-nil, append_assoc, drop-drop, drop_at, length-take-le, take-append-drop, take_all, take_at}
+use Rattle.std.proofs.lemmas.List.Sums.{sum_by-append}
+use Rattle.b3tree.specs.declared.mode.Mode.{Mode}
+use Rattle.b3tree.specs.Tree.{left_len}
+use Rattle.bao_text.specs.declared.choice.Choice.{Choice}
+use Rattle.bao_text.specs.Choice.{of_slice, wants}
+use Rattle.bao_text.specs.Cut.{claimed}
+use Rattle.bao_text.specs.Nodes.{TreeNode, Side, chunk_nodes, left, right, size, subtree_nodes, subtree_size}
+use Rattle.bao_text.proofs.NodeNaming.{bare, bare-anywhere}
+use Rattle.bao_text.proofs.SubtreeNodes.{parent_node, subtree_nodes-leaf, subtree_nodes-parent, subtree_nodes-unwanted}
+use Rattle.bao_check.specs.declared.fault.CheckFault.{CheckFault}
+use Rattle.bao_check.specs.declared.fault.CheckFault.TheVariants.{Short, Mismatch, Trailing, Memory, Reader}
+use Rattle.bao_check.specs.declared.part.Part.{Part}
+use Rattle.bao_check.specs.Checking.{IsNodeFault}
+use Rattle.bao_check.specs.Decoded.{Decodes, Kind, chunk_bytes, decoded, kind, kinds_size, subtree_kinds, waiting_kinds}
+use Rattle.bao_check.specs.Waiting.{AllPass, AllStop, CheckTask, HasRefused, HasRefusedIn, HasTaken, IsFaultAs}
+use Rattle.bao_check.specs.Whole.{HasWholeAhead}
+use Rattle.bao_check.proofs.Feeding.{all_taken_from, whole_there}
+use Rattle.bao_check.proofs.Sizes.{wants_whole}
+use Rattle.bao_check.proofs.WholeText.{claimed-append}
+
+kinds-append : (xs ys : List TreeNode) → map kind (xs ++ ys) ≡ map kind xs ++ map kind ys
+kinds-append [] ys = refl
+kinds-append (x ∷ xs) ys = ap (λ (zs : List Kind). kind x ∷ zs) (kinds-append xs ys)
+
+kinds-bare : (xs : List TreeNode) → map kind (map bare xs) ≡ map kind xs
+kinds-bare [] = refl
+kinds-bare (x ∷ xs) = ap (λ (zs : List Kind). kind x ∷ zs) (kinds-bare xs)
+
+pub kinds-anywhere : (choice : Choice) (number n : ℕ) (sides : List Side) (source : ℕ) → map kind (subtree_nodes choice number n sides source) ≡ subtree_kinds choice number n
+kinds-anywhere choice number n sides source =
+    sym (kinds-bare (subtree_nodes choice number n sides source)) ∙ ap (map kind) (bare-anywhere choice number n sides source) ∙ kinds-bare (subtree_nodes choice number n [] 0)
+
+pub kinds-unwanted : (choice : Choice) (number n : ℕ) → wants choice (1024 * number) n ≡ false → subtree_kinds choice number n ≡ []
+kinds-unwanted choice number n skipped = ap (map kind) (subtree_nodes-unwanted choice number n [] 0 skipped)
+
+pub kinds-chunk : (choice : Choice) (number n : ℕ) → wants choice (1024 * number) n ≡ true → choice.chunks ≡ true → n ≤ 1024 → subtree_kinds choice number n ≡ (true, n) ∷ []
+kinds-chunk choice number n wanted there one =
+    let chunk : map kind (chunk_nodes choice number n [] 0) ≡ (true, n) ∷ [] = rw there refl in
+    ap (map kind) (subtree_nodes-leaf choice number n [] 0 wanted one) ∙ chunk
+
+pub kinds-parent : (choice : Choice) (number n : ℕ) → wants choice (1024 * number) n ≡ true → 1024 < n
+    → subtree_kinds choice number n ≡ (false, 64) ∷ (subtree_kinds choice number (left_len n) ++ subtree_kinds choice (number + left_len n / 1024) (n - left_len n))
+kinds-parent choice number n wanted more =
+    let l : ℕ = left_len n in
+    let middle : ℕ = number + l / 1024 in
+    let near : List TreeNode = subtree_nodes choice number l (left ∷ []) 64 in
+    let far : List TreeNode = subtree_nodes choice middle (n - l) (right ∷ []) (64 + subtree_size l) in
+    ap (map kind) (subtree_nodes-parent choice number n [] 0 wanted more)
+    ∙ ap (λ (xs : List Kind). (false, 64) ∷ xs)
+    (kinds-append near far
+    ∙ (λ i. kinds-anywhere choice number l (left ∷ []) 64 i ++ kinds-anywhere choice middle (n - l) (right ∷ []) (64 + subtree_size l) i))
+
+-- how many bytes nodes are
+pub kinds_size-append : (xs ys : List Kind) → kinds_size (xs ++ ys) ≡ kinds_size xs + kinds_size ys
+kinds_size-append xs ys = sum_by-append (λ (k : Kind). k.1) xs ys
+
+pub kinds_size-cons : (x : Kind) (xs : List Kind) → kinds_size (x ∷ xs) ≡ x.1 + kinds_size xs
+kinds_size-cons x xs = kinds_size-append (x ∷ []) xs ∙ omega arith
+
+pub kinds_size-nodes : (xs : List TreeNode) → kinds_size (map kind xs) ≡ sum_by size xs
+kinds_size-nodes [] = refl
+kinds_size-nodes (x ∷ xs) =
+    let one : sum_by size (x ∷ xs) ≡ size x + sum_by size xs = sum_by-append size (x ∷ []) xs ∙ omega arith in
+    omega (arith, kinds_size-cons (kind x) (map kind xs), kinds_size-nodes xs, one)
+
+-- the chunks' bytes of nodes, one after another
+pub chunk_bytes-append : (xs ys : List Kind) (s : List ℕ) → chunk_bytes (xs ++ ys) s ≡ chunk_bytes xs s ++ chunk_bytes ys (drop (kinds_size xs) s)
+chunk_bytes-append [] ys s = refl
+chunk_bytes-append (x ∷ xs) ys s =
+    let own : List ℕ = if x.0 then take x.1 s else [] in
+    let place : drop (kinds_size xs) (drop x.1 s) ≡ drop (kinds_size (x ∷ xs)) s =
+    drop-drop (kinds_size xs) x.1 s ∙ ap (λ (n : ℕ). drop n s) (let e : x.1 + kinds_size xs ≡ kinds_size (x ∷ xs) = sym (kinds_size-cons x xs) in e) in
+    ap (λ (t : List ℕ). own ++ t) (chunk_bytes-append xs ys (drop x.1 s) ∙ ap (λ (t : List ℕ). chunk_bytes xs (drop x.1 s) ++ chunk_bytes ys t) place)
+    ∙ sym (append_assoc own (chunk_bytes xs (drop x.1 s)) (chunk_bytes ys (drop (kinds_size (x ∷ xs)) s)))
+
+-- those that are wholly there, whatever follows
+drop-within : (n : ℕ) (s more : List ℕ) → n ≤ length s → drop n (s ++ more) ≡ drop n s ++ more
+drop-within n s more within =
+    ap (λ (t : List ℕ). drop n (t ++ more)) (sym (take-append-drop n s))
+    ∙ ap (drop n) (append_assoc (take n s) (drop n s) more)
+    ∙ drop_at (take n s) (drop n s ++ more) n (length-take-le n s within)
+
+take-within : (n : ℕ) (s more : List ℕ) → n ≤ length s → take n (s ++ more) ≡ take n s
+take-within n s more within =
+    ap (λ (t : List ℕ). take n (t ++ more)) (sym (take-append-drop n s))
+    ∙ ap (take n) (append_assoc (take n s) (drop n s) more)
+    ∙ take_at (take n s) (drop n s ++ more) n (length-take-le n s within)
+
+pub chunk_bytes-within : (xs : List Kind) (s more : List ℕ) → kinds_size xs ≤ length s → chunk_bytes xs (s ++ more) ≡ chunk_bytes xs s
+chunk_bytes-within [] s more within = refl
+chunk_bytes-within (x ∷ xs) s more within =
+    let fits : x.1 + kinds_size xs ≤ length s = omega (arith, kinds_size-cons x xs, within) in
+    let own : (if x.0 then take x.1 (s ++ more) else []) ≡ (if x.0 then take x.1 s else []) =
+    ap (λ (t : List ℕ). if x.0 then t else []) (take-within x.1 s more (omega (arith, fits))) in
+    let rest : chunk_bytes xs (drop x.1 (s ++ more)) ≡ chunk_bytes xs (drop x.1 s) =
+    ap (chunk_bytes xs) (drop-within x.1 s more (omega (arith, fits))) ∙ chunk_bytes-within xs (drop x.1 s) more (omega (arith, fits, length-drop x.1 s)) in
+    (λ i. own i ++ rest i)
+
+pub chunk_bytes-one : (n : ℕ) (s : List ℕ) → chunk_bytes ((true, n) ∷ []) s ≡ take n s
+chunk_bytes-one n s = append-nil (take n s)
+
+-- a chunk, and a parent with its parts
+pub kinds_size-chunk : (choice : Choice) (number n : ℕ) → wants choice (1024 * number) n ≡ true → choice.chunks ≡ true → n ≤ 1024 → kinds_size (subtree_kinds choice number n) ≡ n
+kinds_size-chunk choice number n wanted there one =
+    ap kinds_size (kinds-chunk choice number n wanted there one) ∙ kinds_size-cons (true, n) [] ∙ (let e : n + 0 ≡ n = omega arith in e)
+
+pub chunk_bytes-chunk : (choice : Choice) (number n : ℕ) (s : List ℕ) → wants choice (1024 * number) n ≡ true → choice.chunks ≡ true → n ≤ 1024
+    → chunk_bytes (subtree_kinds choice number n) s ≡ take n s
+chunk_bytes-chunk choice number n s wanted there one = ap (λ (ks : List Kind). chunk_bytes ks s) (kinds-chunk choice number n wanted there one) ∙ chunk_bytes-one n s
+
+pub kinds_size-parent : (choice : Choice) (number n l : ℕ) → wants choice (1024 * number) n ≡ true → 1024 < n → l ≡ left_len n
+    → kinds_size (subtree_kinds choice number n) ≡ 64 + (kinds_size (subtree_kinds choice number l) + kinds_size (subtree_kinds choice (number + l / 1024) (n - l)))
+kinds_size-parent choice number n l wanted more is =
+    let near : ℕ → List Kind = λ k. subtree_kinds choice number k in
+    let far : ℕ → List Kind = λ k. subtree_kinds choice (number + k / 1024) (n - k) in
+    ap kinds_size (kinds-parent choice number n wanted more)
+    ∙ kinds_size-cons (false, 64) (near (left_len n) ++ far (left_len n))
+    ∙ ap (λ (k : ℕ). 64 + k) (kinds_size-append (near (left_len n)) (far (left_len n)))
+    ∙ ap (λ (k : ℕ). 64 + (kinds_size (near k) + kinds_size (far k))) (sym is)
+
+pub chunk_bytes-parent : (choice : Choice) (number n l : ℕ) (s : List ℕ) → wants choice (1024 * number) n ≡ true → 1024 < n → l ≡ left_len n
+    → chunk_bytes (subtree_kinds choice number n) s
+    ≡ chunk_bytes (subtree_kinds choice number l) (drop 64 s) ++ chunk_bytes (subtree_kinds choice (number + l / 1024) (n - l)) (drop (kinds_size (subtree_kinds choice number l)) (drop 64 s))
+chunk_bytes-parent choice number n l s wanted more is =
+    let near : ℕ → List Kind = λ k. subtree_kinds choice number k in
+    let far : ℕ → List Kind = λ k. subtree_kinds choice (number + k / 1024) (n - k) in
+    ap (λ (ks : List Kind). chunk_bytes ks s) (kinds-parent choice number n wanted more)
+    ∙ chunk_bytes-append (near (left_len n)) (far (left_len n)) (drop 64 s)
+    ∙ ap (λ (k : ℕ). chunk_bytes (near k) (drop 64 s) ++ chunk_bytes (far k) (drop (kinds_size (near k)) (drop 64 s))) (sym is)
+
+pub kinds_size-some : (choice : Choice) (number n : ℕ) → wants choice (1024 * number) n ≡ true → choice.chunks ≡ true → 0 < n → 0 < kinds_size (subtree_kinds choice number n)
+kinds_size-some choice number n wanted there some = elim (cases_lt 1024 n) [
+  | inl more ↦ omega (arith, kinds_size-parent choice number n (left_len n) wanted more refl)
+  | inr one ↦ omega (arith, some, kinds_size-chunk choice number n wanted there one)
+]
+
+-- nodes that stand together
+pub chunk_bytes-both : (xs ys : List Kind) (s more : List ℕ) → kinds_size xs ≡ length s → chunk_bytes (xs ++ ys) (s ++ more) ≡ chunk_bytes xs s ++ chunk_bytes ys more
+chunk_bytes-both xs ys s more all =
+    chunk_bytes-append xs ys (s ++ more)
+    ∙ (λ i. chunk_bytes-within xs s more (omega (arith, all)) i ++ chunk_bytes ys (drop_at s more (kinds_size xs) (sym all) i))
+
+-- a part that is put last comes first
+pub waiting_kinds-last : (choice : Choice) (xs : List Part) (x : Part) → waiting_kinds choice (xs ++ x ∷ []) ≡ subtree_kinds choice x.number x.len ++ waiting_kinds choice xs
+waiting_kinds-last choice [] x = sym (append-nil (subtree_kinds choice x.number x.len))
+waiting_kinds-last choice (y ∷ ys) x =
+    ap (λ (zs : List Kind). zs ++ subtree_kinds choice y.number y.len) (waiting_kinds-last choice ys x)
+    ∙ append_assoc (subtree_kinds choice x.number x.len) (waiting_kinds choice ys) (subtree_kinds choice y.number y.len)
+
+pub same_part : (o : Option Part) (one other : Part) → o ≡ Some one → o ≡ Some other → one ≡ other
+same_part o one other h k =
+    let e : Some one ≡ Some other = sym h ∙ k in
+    cc
+
+pub waiting_kinds-put : (choice : Choice) (parts after : List Part) (part : Part) → after ≡ parts ++ part ∷ []
+    → waiting_kinds choice after ≡ subtree_kinds choice part.number part.len ++ waiting_kinds choice parts
+waiting_kinds-put choice parts after part is = ap (waiting_kinds choice) is ∙ waiting_kinds-last choice parts part
+
+-- nothing taken, and one after another
+pub taken_nothing : (mode : Mode) (choice : Choice) (parts : List Part) → HasTaken mode choice parts parts []
+taken_nothing mode choice parts = record {
+  passes = λ taken more end h.
+      subst (λ (s : List ℕ). AllPass mode choice parts ((taken ++ []) ++ more) (length s) end) (append-nil taken) h;
+  stops = λ taken more fault h.
+      subst (λ (s : List ℕ). AllStop mode choice parts ((taken ++ []) ++ more) (length s) fault) (append-nil taken) h;
+}
+
+text_of_both : (taken one other more : List ℕ) → ((taken ++ one) ++ other) ++ more ≡ (taken ++ (one ++ other)) ++ more
+text_of_both taken one other more = ap (λ (s : List ℕ). s ++ more) (append_assoc taken one other)
+
+text_of_first : (taken one other more : List ℕ) → (taken ++ one) ++ (other ++ more) ≡ (taken ++ (one ++ other)) ++ more
+text_of_first taken one other more = sym (append_assoc (taken ++ one) other more) ∙ text_of_both taken one other more
+
+pub taken_both : (mode : Mode) (choice : Choice) (a b c : List Part) (one other : List ℕ) → HasTaken mode choice a b one → HasTaken mode choice b c other
+    → HasTaken mode choice a c (one ++ other)
+taken_both mode choice a b c one other first second = record {
+  passes = λ taken more end h.
+      let later : AllPass mode choice c (((taken ++ one) ++ other) ++ more) (length ((taken ++ one) ++ other)) end =
+      subst (λ (T : Type 0). T) (λ i. AllPass mode choice c (sym (text_of_both taken one other more) i) (length (sym (append_assoc taken one other) i)) end) h in
+      let middle : AllPass mode choice b (((taken ++ one) ++ other) ++ more) (length (taken ++ one)) end = second.passes (taken ++ one) more end later in
+      subst (λ (s : List ℕ). AllPass mode choice a s (length taken) end) (text_of_first taken one other more)
+      (first.passes taken (other ++ more) end
+      (subst (λ (s : List ℕ). AllPass mode choice b s (length (taken ++ one)) end) (append_assoc (taken ++ one) other more) middle));
+  stops = λ taken more fault h.
+      let later : AllStop mode choice c (((taken ++ one) ++ other) ++ more) (length ((taken ++ one) ++ other)) fault =
+      subst (λ (T : Type 0). T) (λ i. AllStop mode choice c (sym (text_of_both taken one other more) i) (length (sym (append_assoc taken one other) i)) fault) h in
+      let middle : AllStop mode choice b (((taken ++ one) ++ other) ++ more) (length (taken ++ one)) fault = second.stops (taken ++ one) more fault later in
+      subst (λ (s : List ℕ). AllStop mode choice a s (length taken) fault) (text_of_first taken one other more)
+      (first.stops taken (other ++ more) fault
+      (subst (λ (s : List ℕ). AllStop mode choice b s (length (taken ++ one)) fault) (append_assoc (taken ++ one) other more) middle));
+}
+
+-- a node that is refused after others were taken
+pub refused_later : (mode : Mode) (choice : Choice) (a b : List Part) (at used place : ℕ) (bytes : List ℕ) (fault : CheckFault) → used ≤ length bytes → place ≡ at + used
+    → HasTaken mode choice a b (take used bytes) → HasRefused mode choice b place (drop used bytes) fault → HasRefusedIn mode choice a b at used bytes fault
+refused_later mode choice a b at used place bytes fault within place_is taken refused = record {
+  within = within;
+  taken = taken;
+  is = refused.is ∙ ap Mismatch place_is;
+  stops = λ had more at_is.
+      let front : List ℕ = take used bytes in
+      let size : length (had ++ front) ≡ length had + used = omega (arith, length-append had front, length-take-le used bytes within) in
+      let here : AllStop mode choice b (((had ++ front) ++ drop used bytes) ++ more) (length (had ++ front)) fault =
+      refused.stops (had ++ front) more (omega (arith, size, at_is, place_is)) in
+      let all : (had ++ front) ++ (drop used bytes ++ more) ≡ (had ++ bytes) ++ more =
+      text_of_first had front (drop used bytes) more ∙ ap (λ (s : List ℕ). (had ++ s) ++ more) (take-append-drop used bytes) in
+      subst (λ (s : List ℕ). AllStop mode choice a s (length had) fault) all
+      (taken.stops had (drop used bytes ++ more) fault
+      (subst (λ (s : List ℕ). AllStop mode choice b s (length (had ++ front)) fault) (append_assoc (had ++ front) (drop used bytes) more) here));
+}
+
+-- a node that stands at the front of more bytes is refused there
+pub refused_front : (mode : Mode) (choice : Choice) (parts : List Part) (at n : ℕ) (bytes : List ℕ) (fault : CheckFault) → n ≤ length bytes
+    → HasRefused mode choice parts at (take n bytes) fault → HasRefused mode choice parts at bytes fault
+refused_front mode choice parts at n bytes fault within refused = record {
+  is = refused.is;
+  stops = λ had more at_is.
+      let all : (had ++ take n bytes) ++ (drop n bytes ++ more) ≡ (had ++ bytes) ++ more =
+      text_of_first had (take n bytes) (drop n bytes) more ∙ ap (λ (s : List ℕ). (had ++ s) ++ more) (take-append-drop n bytes) in
+      subst (λ (s : List ℕ). AllStop mode choice parts s (length had) fault) all (refused.stops had (drop n bytes ++ more) at_is);
+}
+
+pub decodes_nothing : (choice : Choice) (parts : List Part) → Decodes choice parts parts [] []
+decodes_nothing choice parts = λ more. refl
+
+pub decodes_both : (choice : Choice) (a b c : List Part) (one other first second : List ℕ) → Decodes choice a b one first → Decodes choice b c other second
+    → Decodes choice a c (one ++ other) (first ++ second)
+decodes_both choice a b c one other first second left_is right_is = λ more.
+    ap (chunk_bytes (waiting_kinds choice a)) (append_assoc one other more)
+    ∙ left_is (other ++ more)
+    ∙ ap (λ (s : List ℕ). first ++ s) (right_is more)
+    ∙ sym (append_assoc first second (chunk_bytes (waiting_kinds choice c) more))
+
+-- all nodes of the part that comes first
+pub part_decodes : (choice : Choice) (before after : List Part) (part : Part) (node : List ℕ) → before ≡ after ++ part ∷ [] → kinds_size (subtree_kinds choice part.number part.len) ≡ length node
+    → Decodes choice before after node (chunk_bytes (subtree_kinds choice part.number part.len) node)
+part_decodes choice before after part node is all = λ more.
+    ap (λ (ks : List Kind). chunk_bytes ks (node ++ more)) (waiting_kinds-put choice after before part is)
+    ∙ chunk_bytes-both (subtree_kinds choice part.number part.len) (waiting_kinds choice after) node more all
+
+-- a chunk
+pub chunk_decodes : (choice : Choice) (before after : List Part) (part : Part) (node : List ℕ) → before ≡ after ++ part ∷ [] → wants choice (1024 * part.number) part.len ≡ true
+    → choice.chunks ≡ true → part.len ≤ 1024 → length node ≡ part.len → Decodes choice before after node node
+chunk_decodes choice before after part node is wanted there one len =
+    let kinds : subtree_kinds choice part.number part.len ≡ (true, part.len) ∷ [] = kinds-chunk choice part.number part.len wanted there one in
+    let size : kinds_size (subtree_kinds choice part.number part.len) ≡ length node = ap kinds_size kinds ∙ kinds_size-cons (true, part.len) [] ∙ (let e : part.len + 0 ≡ length node = omega (arith, len) in e) in
+    let own : chunk_bytes (subtree_kinds choice part.number part.len) node ≡ node =
+    ap (λ (ks : List Kind). chunk_bytes ks node) kinds ∙ chunk_bytes-one part.len node ∙ take_all part.len node (omega (arith, len)) in
+    subst (Decodes choice before after node) own (part_decodes choice before after part node is size)
+
+-- its parent alone, in whose place its parts come
+pub parent_decodes : (choice : Choice) (before rest after : List Part) (part : Part) (node : List ℕ) → before ≡ rest ++ part ∷ [] → wants choice (1024 * part.number) part.len ≡ true
+    → 1024 < part.len → length node ≡ 64
+    → waiting_kinds choice after ≡ (subtree_kinds choice part.number (left_len part.len) ++ subtree_kinds choice (part.number + left_len part.len / 1024) (part.len - left_len part.len)) ++ waiting_kinds choice rest
+    → Decodes choice before after node []
+parent_decodes choice before rest after part node is wanted parent len after_is = λ more.
+    let below : List Kind = subtree_kinds choice part.number (left_len part.len) ++ subtree_kinds choice (part.number + left_len part.len / 1024) (part.len - left_len part.len) in
+    let kinds : waiting_kinds choice before ≡ (false, 64) ∷ waiting_kinds choice after =
+    waiting_kinds-put choice rest before part is
+    ∙ ap (λ (ks : List Kind). ks ++ waiting_kinds choice rest) (kinds-parent choice part.number part.len wanted parent)
+    ∙ ap (λ (ks : List Kind). (false, 64) ∷ ks) (sym after_is) in
+    ap (λ (ks : List Kind). chunk_bytes ks (node ++ more)) kinds
+    ∙ ap (chunk_bytes (waiting_kinds choice after)) (drop_at node more 64 len)
+
+-- a whole subtree at the front of the bytes
+pub whole_size : (part : Part) (choice : Choice) (mode : Mode) (len : ℕ) (bytes : List ℕ) → HasWholeAhead part.asked choice mode part.number part.len len bytes
+    → kinds_size (subtree_kinds choice part.number part.len) ≡ len
+whole_size part choice mode len bytes whole =
+    omega (arith, kinds_size-nodes (subtree_nodes choice part.number part.len [] 0), (whole.passes [] [] 0).ends, length-take-le len bytes whole.there)
+
+-- is taken
+pub whole_taken_from : (mode : Mode) (choice : Choice) (before after : List Part) (part : Part) (len : ℕ) (bytes : List ℕ) → before ≡ after ++ part ∷ []
+    → wants choice (1024 * part.number) part.len ≡ true → HasWholeAhead part.asked choice mode part.number part.len len bytes → HasTaken mode choice before after (take len bytes)
+whole_taken_from mode choice before after part len bytes is wanted whole =
+    all_taken_from mode choice before after part (take len bytes) is (λ taken more.
+    whole_there part.asked mode choice part.number part.len taken (take len bytes) more wanted (whole.passes taken))
+
+-- and its chunks
+pub whole_decodes : (mode : Mode) (choice : Choice) (before after : List Part) (part : Part) (len : ℕ) (bytes : List ℕ) → before ≡ after ++ part ∷ []
+    → HasWholeAhead part.asked choice mode part.number part.len len bytes → Decodes choice before after (take len bytes) (chunk_bytes (subtree_kinds choice part.number part.len) bytes)
+whole_decodes mode choice before after part len bytes is whole =
+    let kinds : List Kind = subtree_kinds choice part.number part.len in
+    let size : kinds_size kinds ≡ len = whole_size part choice mode len bytes whole in
+    let there : length (take len bytes) ≡ len = length-take-le len bytes whole.there in
+    let own : chunk_bytes kinds (take len bytes) ≡ chunk_bytes kinds bytes =
+    sym (chunk_bytes-within kinds (take len bytes) (drop len bytes) (omega (arith, size, there))) ∙ ap (chunk_bytes kinds) (take-append-drop len bytes) in
+    subst (Decodes choice before after (take len bytes)) own (part_decodes choice before after part (take len bytes) is (size ∙ sym there))
+
+pub some_of : {A : Type 0} (o : Option A) (x : A) (P : A → Type 0) → o ≡ Some x → IfSome o P → P x
+some_of o x P is h = subst (λ (p : Option _). IfSome p P) is h
+
+-- a step more
+pub taken_more : (mode : Mode) (choice : Choice) (a b c : List Part) (bytes rest : List ℕ) (used len : ℕ) → rest ≡ drop used bytes → HasTaken mode choice a b (take used bytes)
+    → HasTaken mode choice b c (take len rest) → HasTaken mode choice a c (take (used + len) bytes)
+taken_more mode choice a b c bytes rest used len is first second =
+    subst (HasTaken mode choice a c) (sym (take-add used len bytes ∙ ap (λ (s : List ℕ). take used bytes ++ take len s) (sym is)))
+    (taken_both mode choice a b c (take used bytes) (take len rest) first second)
+
+pub decodes_more : (choice : Choice) (a b c : List Part) (bytes rest had part all : List ℕ) (used len : ℕ) → rest ≡ drop used bytes → all ≡ had ++ part
+    → Decodes choice a b (take used bytes) had → Decodes choice b c (take len rest) part → Decodes choice a c (take (used + len) bytes) all
+decodes_more choice a b c bytes rest had part all used len is all_is first second =
+    subst (λ (T : Type 0). T) (λ i. Decodes choice a c (sym (take-add used len bytes ∙ ap (λ (s : List ℕ). take used bytes ++ take len s) (sym is)) i) (sym all_is i))
+    (decodes_both choice a b c (take used bytes) (take len rest) had part first second)
+
+pub some_weaker : {A : Type 0} (o : Option A) (P Q : A → Type 0) → ((x : A) → P x → Q x) → IfSome o P → IfSome o Q
+some_weaker None P Q f h = tt
+some_weaker (Some x) P Q f h = f x h
+
+-- what is decoded once the length is there
+pub decoded_begun : (start len total : ℕ) (choice : Choice) (parts : List Part) (header more : List ℕ) → length header ≡ 8 → total ≡ claimed header → choice ≡ of_slice total start len
+    → chunk_bytes (waiting_kinds choice parts) more ≡ chunk_bytes (subtree_kinds choice 0 total) more → decoded (header ++ more) start len ≡ chunk_bytes (waiting_kinds choice parts) more
+decoded_begun start len total choice parts header more size is chosen waits =
+    let claims : claimed (header ++ more) ≡ total = claimed-append header more (omega (arith, size)) ∙ sym is in
+    let rest : drop 8 (header ++ more) ≡ more = drop_at header more 8 size in
+    let kinds : map kind (subtree_nodes (of_slice total start len) 0 total [] 8) ≡ subtree_kinds choice 0 total =
+    ap (λ (ch : Choice). map kind (subtree_nodes ch 0 total [] 8)) (sym chosen) ∙ kinds-anywhere choice 0 total [] 8 in
+    (λ i. chunk_bytes (map kind (subtree_nodes (of_slice (claims i) start len) 0 (claims i) [] 8)) (rest i))
+    ∙ ap (λ (ks : List Kind). chunk_bytes ks more) kinds
+    ∙ sym waits
+
+pub begun_waiting : (choice : Choice) (total : ℕ) (parts before : List Part) (more : List ℕ) → before ≡ [] → waiting_kinds choice parts ≡ subtree_kinds choice 0 total ++ waiting_kinds choice before
+    → chunk_bytes (waiting_kinds choice parts) more ≡ chunk_bytes (subtree_kinds choice 0 total) more
+begun_waiting choice total parts before more none kinds =
+    ap (λ (ks : List Kind). chunk_bytes ks more)
+    (kinds ∙ ap (λ (ps : List Part). subtree_kinds choice 0 total ++ waiting_kinds choice ps) none ∙ append-nil (subtree_kinds choice 0 total))
+
+-- a blob of no bytes has a chunk of none
+pub begun_empty : (start len total : ℕ) (choice : Choice) (parts : List Part) (more : List ℕ) → parts ≡ [] → total ≡ 0 → choice ≡ of_slice total start len
+    → chunk_bytes (waiting_kinds choice parts) more ≡ chunk_bytes (subtree_kinds choice 0 total) more
+begun_empty start len total choice parts more none empty chosen =
+    let chosen_empty : choice ≡ of_slice 0 start len = chosen ∙ ap (λ (n : ℕ). of_slice n start len) empty in
+    let wanted : wants choice (1024 * 0) 0 ≡ true =
+    subst (λ (ch : Choice). wants ch (1024 * 0) 0 ≡ true) (sym chosen_empty) (wants_whole (of_slice 0 start len) (1024 * 0) 0 (omega arith) (omega arith)) in
+    let there : choice.chunks ≡ true = ap (λ (ch : Choice). ch.chunks) chosen in
+    ap (λ (ps : List Part). chunk_bytes (waiting_kinds choice ps) more) none
+    ∙ sym (ap (λ (n : ℕ). chunk_bytes (subtree_kinds choice 0 n) more) empty ∙ chunk_bytes-chunk choice 0 0 more wanted there (omega arith))
+
+-- where nothing waits, all is decoded
+pub decoded_all : (choice : Choice) (parts : List Part) (taken blob : List ℕ) (start len : ℕ) → parts ≡ []
+    → decoded (taken ++ []) start len ≡ blob ++ chunk_bytes (waiting_kinds choice parts) [] → decoded taken start len ≡ blob
+decoded_all choice parts taken blob start len none h =
+    ap (λ (s : List ℕ). decoded s start len) (sym (append-nil taken))
+    ∙ h
+    ∙ ap (λ (ps : List Part). blob ++ chunk_bytes (waiting_kinds choice ps) []) none
+    ∙ append-nil blob
+
+-- what is decoded after nodes, from what was before them
+pub decodes-taken : (choice : Choice) (before after : List Part) (taken node blob part : List ℕ) (start len : ℕ) → Decodes choice before after node part
+    → ((more : List ℕ) → decoded (taken ++ more) start len ≡ blob ++ chunk_bytes (waiting_kinds choice before) more)
+    → (more : List ℕ) → decoded ((taken ++ node) ++ more) start len ≡ (blob ++ part) ++ chunk_bytes (waiting_kinds choice after) more
+decodes-taken choice before after taken node blob part start len step had more =
+    ap (λ (s : List ℕ). decoded s start len) (append_assoc taken node more)
+    ∙ had (node ++ more)
+    ∙ ap (λ (s : List ℕ). blob ++ s) (step more)
+    ∙ sym (append_assoc blob part (chunk_bytes (waiting_kinds choice after) more))
+
+-- a node's fault, where more comes after it
+pub node_fault_on : (task : CheckTask) (text rest : List ℕ) (fault : CheckFault) → IsNodeFault task text fault → IsNodeFault task (text ++ rest) fault
+node_fault_on task text rest (Short at) h = h
+node_fault_on task text rest (Mismatch at) h = λ more. subst (λ (s : List ℕ). IsFaultAs task s (Mismatch at)) (sym (append_assoc text rest more)) (h (rest ++ more))
+node_fault_on task text rest (Trailing at) h = h
+node_fault_on task text rest Memory h = omega (arith, h, length-append text rest)
+node_fault_on task text rest Reader h = h
+
+-- bytes that begin with a length, and what is taken of those after it
+pub after_length : (taken bytes header nodes : List ℕ) (k : ℕ) → header ≡ take 8 bytes → nodes ≡ drop 8 bytes → (taken ++ header) ++ take k nodes ≡ taken ++ take (8 + k) bytes
+after_length taken bytes header nodes k front back =
+    append_assoc taken header (take k nodes) ∙ ap (λ (s : List ℕ). taken ++ s) ((λ i. front i ++ take k (back i)) ∙ sym (take-add 8 k bytes))
+
+pub all_after_length : (taken bytes header nodes : List ℕ) → header ≡ take 8 bytes → nodes ≡ drop 8 bytes → (taken ++ header) ++ nodes ≡ taken ++ bytes
+all_after_length taken bytes header nodes front back =
+    append_assoc taken header nodes ∙ ap (λ (s : List ℕ). taken ++ s) ((λ i. front i ++ back i) ∙ take-append-drop 8 bytes)

@@ -1,0 +1,104 @@
+use Rattle.std.proofs.Common.{◌≡◌, ◌+◌, ◌-◌, ◌<◌, List, [], ◌∷◌, ◌++◌, ℕ, length, take, Some, refl, sym, ap, subst, ◌∙◌, arith, IfErr}
+use Rattle.std.proofs.lemmas.List.{append-nil, length-take-le, take-take, take_all}
+use Rattle.std.proofs.lemmas.Result.{err_from_is_err_and}
+use Rattle.std.proofs.lemmas.Slice.{take-put_mid}
+use Rattle.std.specs.Prelude.{OnOk}
+use Rattle.bao_check.specs.declared.part.Part.{Part}
+use Rattle.bao_check.specs.Decoded.{Decodes, chunk_bytes, kinds_size, subtree_kinds}
+use Rattle.bao_check.specs.Waiting.{AreParts, HasRefused, last_part, part_size}
+use Rattle.bao_check.specs.Whole.{HasWholeAhead}
+use Rattle.bao_check.proofs.ChunkBytes.{kinds_size-some, refused_front, whole_decodes, whole_size, whole_taken_from}
+use Rattle.bao_check.proofs.Feeding.{first_of, part_taken}
+use Rattle.bao_check.proofs.decoding.take_first.Goals as goal
+
+pub whole_at_hand-requires : goal.whole_at_hand-requires
+whole_at_hand-requires c =
+    let last : last_part c.args.waiting.now.items ≡ Some c.in-Some.part = sym c.next_part.ensures ∙ c.in-Some.is in
+    let first = first_of c.args.choice.now c.args.waiting.now.items c.in-Some.part (part_size c.in-Some.part) c.requires.parts last refl in
+    first.within
+
+pub copy_chunks-free-requires-clause-range : goal.copy_chunks-free-requires-clause-range
+copy_chunks-free-requires-clause-range c =
+    let last : last_part c.args.waiting.now.items ≡ Some c.in-Some.part = sym c.next_part.ensures ∙ c.in-Some.is in
+    let first = first_of c.args.choice.now c.args.waiting.now.items c.in-Some.part (part_size c.in-Some.part) c.requires.parts last refl in
+    first.within
+
+pub copy_chunks-free-requires-clause-there : goal.copy_chunks-free-requires-clause-there
+copy_chunks-free-requires-clause-there c =
+    let whole : HasWholeAhead c.in-Some.part.asked c.args.choice.now c.args.mode.now c.in-Some.part.number c.in-Some.part.len c.in-Some-whole_at_hand.len c.args.bytes.now =
+    subst (HasWholeAhead c.in-Some.part.asked c.args.choice.now c.args.mode.now c.in-Some.part.number c.in-Some.part.len c.in-Some-whole_at_hand.len) c.new-source.ensures.ahead c.in-Some-whole_at_hand.ensures in
+    let size = whole_size c.in-Some.part c.args.choice.now c.args.mode.now c.in-Some-whole_at_hand.len c.args.bytes.now whole in
+    omega (arith, size, whole.there)
+
+pub copy_chunks-free-requires-clause-room : goal.copy_chunks-free-requires-clause-room
+copy_chunks-free-requires-clause-room c =
+    let whole : HasWholeAhead c.in-Some.part.asked c.args.choice.now c.args.mode.now c.in-Some.part.number c.in-Some.part.len c.in-Some-whole_at_hand.len c.args.bytes.now =
+    subst (HasWholeAhead c.in-Some.part.asked c.args.choice.now c.args.mode.now c.in-Some.part.number c.in-Some.part.len c.in-Some-whole_at_hand.len) c.new-source.ensures.ahead c.in-Some-whole_at_hand.ensures in
+    let size = whole_size c.in-Some.part c.args.choice.now c.args.mode.now c.in-Some-whole_at_hand.len c.args.bytes.now whole in
+    omega (arith, size, whole.there, c.requires.room)
+
+pub returns-in-Some-whole_at_hand-clause-parts : goal.returns-in-Some-whole_at_hand-clause-parts
+returns-in-Some-whole_at_hand-clause-parts c =
+    let last : last_part c.args.waiting.now.items ≡ Some c.in-Some.part = sym c.next_part.ensures ∙ c.in-Some.is in
+    let first = first_of c.args.choice.now c.args.waiting.now.items c.in-Some.part (part_size c.in-Some.part) c.requires.parts last refl in
+    (part_taken c.args.choice.now c.args.waiting.now.items c.pop-taken.new.self.items c.in-Some.part c.requires.parts
+    (first.is ∙ ap (λ (s : List Part). s ++ c.in-Some.part ∷ []) (sym c.pop-taken.ensures.rest))).waiting
+
+pub returns-in-Some-whole_at_hand-clause-taken : goal.returns-in-Some-whole_at_hand-clause-taken
+returns-in-Some-whole_at_hand-clause-taken c =
+    let last : last_part c.args.waiting.now.items ≡ Some c.in-Some.part = sym c.next_part.ensures ∙ c.in-Some.is in
+    let first = first_of c.args.choice.now c.args.waiting.now.items c.in-Some.part (part_size c.in-Some.part) c.requires.parts last refl in
+    let whole : HasWholeAhead c.in-Some.part.asked c.args.choice.now c.args.mode.now c.in-Some.part.number c.in-Some.part.len c.in-Some-whole_at_hand.len c.args.bytes.now =
+    subst (HasWholeAhead c.in-Some.part.asked c.args.choice.now c.args.mode.now c.in-Some.part.number c.in-Some.part.len c.in-Some-whole_at_hand.len) c.new-source.ensures.ahead c.in-Some-whole_at_hand.ensures in
+    let size = whole_size c.in-Some.part c.args.choice.now c.args.mode.now c.in-Some-whole_at_hand.len c.args.bytes.now whole in
+    let some = kinds_size-some c.args.choice.now c.in-Some.part.number c.in-Some.part.len first.wanted c.requires.chunks c.in-Some.part.some in (
+      omega (arith, size, some),
+      whole.there,
+      c.copy_chunks-free.ensures.filled.0,
+      omega (arith, size, c.copy_chunks-free.ensures.filled.1),
+    )
+
+pub returns-in-Some-whole_at_hand-clause-nodes : goal.returns-in-Some-whole_at_hand-clause-nodes
+returns-in-Some-whole_at_hand-clause-nodes c =
+    let last : last_part c.args.waiting.now.items ≡ Some c.in-Some.part = sym c.next_part.ensures ∙ c.in-Some.is in
+    let first = first_of c.args.choice.now c.args.waiting.now.items c.in-Some.part (part_size c.in-Some.part) c.requires.parts last refl in
+    let whole : HasWholeAhead c.in-Some.part.asked c.args.choice.now c.args.mode.now c.in-Some.part.number c.in-Some.part.len c.in-Some-whole_at_hand.len c.args.bytes.now =
+    subst (HasWholeAhead c.in-Some.part.asked c.args.choice.now c.args.mode.now c.in-Some.part.number c.in-Some.part.len c.in-Some-whole_at_hand.len) c.new-source.ensures.ahead c.in-Some-whole_at_hand.ensures in
+    let size = whole_size c.in-Some.part c.args.choice.now c.args.mode.now c.in-Some-whole_at_hand.len c.args.bytes.now whole in
+    whole_taken_from c.args.mode.now c.args.choice.now c.args.waiting.now.items c.pop-taken.new.self.items c.in-Some.part c.in-Some-whole_at_hand.len c.args.bytes.now
+    (first.is ∙ ap (λ (s : List Part). s ++ c.in-Some.part ∷ []) (sym c.pop-taken.ensures.rest)) first.wanted whole
+
+pub returns-in-Some-whole_at_hand-clause-chunks : goal.returns-in-Some-whole_at_hand-clause-chunks
+returns-in-Some-whole_at_hand-clause-chunks c =
+    let last : last_part c.args.waiting.now.items ≡ Some c.in-Some.part = sym c.next_part.ensures ∙ c.in-Some.is in
+    let first = first_of c.args.choice.now c.args.waiting.now.items c.in-Some.part (part_size c.in-Some.part) c.requires.parts last refl in
+    let whole : HasWholeAhead c.in-Some.part.asked c.args.choice.now c.args.mode.now c.in-Some.part.number c.in-Some.part.len c.in-Some-whole_at_hand.len c.args.bytes.now =
+    subst (HasWholeAhead c.in-Some.part.asked c.args.choice.now c.args.mode.now c.in-Some.part.number c.in-Some.part.len c.in-Some-whole_at_hand.len) c.new-source.ensures.ahead c.in-Some-whole_at_hand.ensures in
+    let size = whole_size c.in-Some.part c.args.choice.now c.args.mode.now c.in-Some-whole_at_hand.len c.args.bytes.now whole in (
+      chunk_bytes (subtree_kinds c.args.choice.now c.in-Some.part.number c.in-Some.part.len) c.args.bytes.now,
+      c.copy_chunks-free.ensures.bytes,
+      whole_decodes c.args.mode.now c.args.choice.now c.args.waiting.now.items c.pop-taken.new.self.items c.in-Some.part c.in-Some-whole_at_hand.len c.args.bytes.now
+          (first.is ∙ ap (λ (s : List Part). s ++ c.in-Some.part ∷ []) (sym c.pop-taken.ensures.rest)) whole,
+    )
+
+pub returns-in_err-take_node-clause-err : goal.returns-in_err-take_node-clause-err
+returns-in_err-take_node-clause-err c =
+    let p = err_from_is_err_and c.from_residual.result c.from_residual.ensures.1 in
+    rw (p.1, p.2)
+    (refused_front c.args.mode.now c.args.choice.now c.args.waiting.now.items c.args.at c.size-len.result c.args.bytes.now c.in_err-take_node.field-0.0 (omega (arith, c.if-bytes-len.false))
+    c.in_err-take_node.ensures.err)
+
+pub returns-clause-chunks : goal.returns-clause-chunks
+returns-clause-chunks c =
+    let last : last_part c.args.waiting.now.items ≡ Some c.in-Some.part = sym c.next_part.ensures ∙ c.in-Some.is in
+    let len : ℕ = c.size-len.result in
+    let n : len ≡ c.args.filled + len - c.args.filled = omega arith in
+    let node : List ℕ = take len c.args.bytes.now in
+    let size : length node ≡ len = length-take-le len c.args.bytes.now (omega (arith, c.if-bytes-len.false)) in
+    let own : c.copy_from_slice.new.self ≡ node = c.copy_from_slice.ensures.after in
+    let len_is : length c.copy_from_slice.new.self ≡ len = ap length own ∙ size in (
+      node,
+      take-put_mid c.args.filled _ c.args.room.now c.copy_from_slice.new.self _ (omega (arith, len_is)) (omega (arith, c.requires.room))
+          ∙ ap (λ (s : List ℕ). take c.args.filled c.args.room.now ++ s) own,
+      c.in_ok-take_node.ensures.chunk c.in-Some.part last (omega (arith, c.if-part.false)),
+    )
