@@ -4,11 +4,11 @@ use Rattle.std.specs.List.{sum_by}
 use Rattle.b3tree.specs.Valid.{IsKeyed}
 use Rattle.bao_check.proofs.Laws.{accepted_binds}
 use Rattle.crews.specs.Going.{goes}
-use Rattle.crews.specs.Lasting.{IsUnsaid, RecordsOn}
+use Rattle.crews.specs.Lasting.{HoldsOn, IsBusyOn, RecordsOn}
 use Rattle.crews.specs.Seats.{GoneOn, SeenBinds, claims_of, fixed_of as fixed_at}
 use Rattle.gather.specs.declared.holder.Encoded.{Encoded}
 use Rattle.gather.specs.declared.report.Report.{Report}
-use Rattle.gather.specs.declared.grain.Grain.TheVariants.{Group as ByGroup}
+use Rattle.gather.specs.declared.grain.Grain.{Grain}
 use Rattle.gather.specs.Available.{HasTrue, HaveSlices, IsFilled, IsServed}
 use Rattle.gather.proofs.Serving.{true_slices}
 use Rattle.gather.specs.Claims.{Among}
@@ -40,14 +40,14 @@ has_true text blob holder seat is slices = record {
   gives_slices = λ start len t given. given ∙ subst (λ (whole : List ℕ). HasSlices whole seat blob) (sym is) slices start len;
 }
 
-pub gathers : (store : Assembly) (text : List ℕ) (holder : Encoded) (later : List Encoded) (report report' : Report) (old new : Gripped)
+pub gathers : (grain : Grain) (store : Assembly) (text : List ℕ) (holder : Encoded) (later : List Encoded) (report report' : Report) (old new : Gripped)
     → IsKeyed (fixed_of store).mode → encoding holder ≡ text → IsSeatOf store old → IsSeatOf store new
     → Reports fixed_at GoneOn old new (IsHanded IsCut (holder ∷ [])) (IsHanded IsCut later) (sum_by (λ (h : Encoded). 0) (holder ∷ [])) (sum_by (λ (h : Encoded). 0) later) report report'
     → Among (claims_of old) (claims_of new)
-    → ((blob : List ℕ) → IsServed (fixed_at old) blob → HaveSlices ByGroup IsCut (fixed_at old).mode blob (holder ∷ [])
-    → HasFailed report' ⊎ IsTooLarge (IsHanded IsCut (holder ∷ [])) (fixed_at old) ⊎ IsFilled RecordsOn IsUnsaid IsUnsaid old new blob)
+    → ((blob : List ℕ) → IsServed (fixed_at old) blob → HaveSlices grain IsCut (fixed_at old).mode blob (holder ∷ [])
+    → HasFailed report' ⊎ IsTooLarge (IsHanded IsCut (holder ∷ [])) (fixed_at old) ⊎ IsFilled RecordsOn HoldsOn IsBusyOn old new blob)
     → GathersOn text report report' old new
-gathers store text holder later report report' old new keyed is of of' reports claimed served =
+gathers grain store text holder later report report' old new keyed is of of' reports claimed served =
     let holders : List Encoded = holder ∷ [] in
     let over : map encoding holders ≡ text ∷ [] = λ i. is i ∷ [] in
     let cut = handed_cut holders (text ∷ []) over in
@@ -73,7 +73,7 @@ gathers store text holder later report report' old new keyed is of of' reports c
         | inl was ↦ inl was
         | inr now ↦ inr (are_longer accepted_binds (IsOutOf text) (fixed_at old) (seat_keyed store old keyed of) now)
       ];
-      served = λ blob can slices. elim (served blob can (true_slices ByGroup IsCut (fixed_at old).mode blob (holder ∷ []) (has_true text blob holder old is slices))) [
+      served = λ blob can slices. elim (served blob can (true_slices grain IsCut (fixed_at old).mode blob (holder ∷ []) (has_true text blob holder old is slices))) [
         | inl failed ↦ inl failed
         | inr (inl now) ↦ inr (inl (wider now))
         | inr (inr filled) ↦ inr (inr (filled.recorded, filled.is))

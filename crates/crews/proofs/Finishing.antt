@@ -1,19 +1,6 @@
 -- What finishing a blob found, in the state after all that its seat has seen.
-use Rattle.std.proofs.Common.{◌≡◌, ℕ, ◌+◌, List, [], ◌∷◌, ◌++◌, append_assoc, length, Option, None, Some, refl, sym, ap, subst, ◌∙◌, arith, inr}
+use Rattle.crews.proofs.Common.{◌≡◌, ℕ, ◌+◌, List, [], ◌∷◌, ◌++◌, append_assoc, length, Option, None, Some, refl, sym, ap, subst, ◌∙◌, arith, inr, filled_whole, IsWhole, LacksByte, Length, Read, Event, SeatView, IsLegal, state_after, IsRead, State, read_bytes, record_lasts, read_means, SeatDidRead, Called, event_of, length_there, right_there, same_there}
 use Rattle.crews.specs.Finished.{Asks}
-use Rattle.gather.proofs.Finishing.{filled_whole}
-use Rattle.gather.specs.Finished.{IsWhole, LacksByte}
-use Rattle.store_core.specs.declared.history.Call.TheVariants.{Length, Read}
-use Rattle.store_core.specs.declared.history.Event.{Event}
-use Rattle.store_core.specs.declared.view.SeatView.{SeatView}
-use Rattle.store_core.specs.Histories.{IsLegal, state_after}
-use Rattle.store_core.specs.Laws.{IsRead}
-use Rattle.store_core.specs.States.{State, read_bytes}
-use Rattle.store_core.proofs.Lasting.{record_lasts}
-use Rattle.store_core.proofs.ReadLaws.{read_means}
-use Rattle.store_calls.specs.Reading.{SeatDidRead}
-use Rattle.store_core.specs.Knowledge.{Called, event_of}
-use Rattle.store_shared.proofs.Asking.{length_there, right_there, same_there}
 
 pub read_there : (old new : SeatView) (at len : ℕ) (bytes : List ℕ) → Called (Read at len bytes) old new → bytes ≡ read_bytes (state_after new.seen) at len
 read_there old new at len bytes called =

@@ -1,44 +1,11 @@
 -- What the seat with which all others were joined hands out.
-use Rattle.std.proofs.Common.{◌≡◌, ◌⊎◌, ℕ, ◌≤◌, IsTrue, false, List, [], ◌++◌, append-nil, length, Contains, sym, subst, arith, inl, inr}
-use Rattle.std.specs.List.{sum_by}
-use Rattle.std.proofs.lemmas.Bool.{both_ways}
-use Rattle.std.proofs.lemmas.List.Elements.{Contains-append_cases}
-use Rattle.b3tree.specs.Valid.{IsKeyed}
-use Rattle.bao_check.proofs.Lists.{All-first, All-from_members, All-member}
-use Rattle.bao_text.specs.Choice.{chunk_count}
+use Rattle.crews.proofs.Common.{◌≡◌, ◌⊎◌, ℕ, ◌≤◌, IsTrue, List, [], ◌++◌, append-nil, length, Contains, sym, subst, arith, inl, inr, sum_by, both_ways, Contains-append_cases, IsKeyed, All-first, All-from_members, All-member, chunk_count, Report, Grain, HaveSlices, IsFilled, IsServed, HasFailed, Reports, IsHanded, HasCollision, IsTooLarge, AreFrom, IsFrom, pair_of, large_pair, none_failed, unfinished_named, large_wider, served, Fixed, Call, Commit, Give, Length, Parents, Read, Serve, Settle, Take, Event, Piece, Named, SeatView, IsLegal, IsBlob, empty, mine, legal-append, Gripped, AreAllNames, LooksRound}
 use Rattle.crews.specs.Closing.{CallsAreFrom, IsLeft}
 use Rattle.crews.specs.Going.{goes}
-use Rattle.crews.specs.Lasting.{Claims, HoldsOn, IsAlone, RecordsOn}
-use Rattle.crews.specs.Seats.{GoneOn, claims_of, fixed_of as fixed_at}
+use Rattle.crews.specs.Lasting.{HoldsOn, IsBusyOn, RecordsOn, alone_on}
+use Rattle.crews.specs.Seats.{GoneOn, fixed_of as fixed_at}
 use Rattle.crews.specs.Wholes.{OnlyReads, ReadOn, WasUnfinished}
 use Rattle.crews.proofs.Alone.{seen_own}
-use Rattle.gather.specs.declared.report.Report.{Report}
-use Rattle.gather.specs.declared.grain.Grain.{Grain}
-use Rattle.gather.specs.Available.{HaveSlices, IsFilled, IsServed}
-use Rattle.gather.specs.Counts.{HasFailed, Reports}
-use Rattle.gather.specs.Faults.{cause_of}
-use Rattle.gather.specs.HandedOut.{IsExcused}
-use Rattle.gather.specs.Holders.{IsHanded}
-use Rattle.gather.specs.Large.{HasCollision, IsTooLarge}
-use Rattle.gather.specs.Worked.{AreFrom, IsFrom}
-use Rattle.gather.proofs.Binding.{pair_of}
-use Rattle.gather.proofs.Handing.{cause_handed, large_pair, none_failed, unfinished_named}
-use Rattle.gather.proofs.Reporting.{large_wider}
-use Rattle.gather.proofs.Served.{served}
-use Rattle.store_core.specs.declared.fixed.Fixed.{Fixed}
-use Rattle.store_core.specs.declared.history.Call.{Call}
-use Rattle.store_core.specs.declared.history.Call.TheVariants.{Commit, Give, Length, Parents, Read, Serve, Settle, Take}
-use Rattle.store_core.specs.declared.history.Event.{Event}
-use Rattle.store_core.specs.declared.history.Piece.{Piece}
-use Rattle.store_core.specs.declared.view.Named.{Named}
-use Rattle.store_core.specs.declared.view.SeatView.{SeatView}
-use Rattle.store_core.specs.Histories.{IsLegal}
-use Rattle.store_core.specs.Laws.{IsBlob}
-use Rattle.store_core.specs.States.{empty}
-use Rattle.store_core.specs.Views.{mine}
-use Rattle.store_core.proofs.Lasting.{legal-append}
-use Rattle.store_shared.specs.Seats.{Gripped}
-use Rattle.store_core.specs.Knowledge.{AreAllNames, LooksRound}
 
 -- a call that reads is of no piece
 from_none : (handed : Piece → Type 0) (call : Call) → OnlyReads call → IsFrom handed call
@@ -80,9 +47,9 @@ module _ (handed : Piece → Type 0) where
 
 -- a seat that filled its store from the blob doesn't find it unfinished, unless a collision is exhibited
 pub unfinished_pair : (handed : Piece → Type 0) (fixed : Fixed) (start seat : Gripped) (finished : SeatView) (blob : List ℕ) → seat.view.fixed ≡ fixed → IsKeyed fixed.mode
-    → IsBlob fixed blob → IsLegal fixed finished.seen → ((c : ℕ) → claims_of start c ≡ false) → IsFilled RecordsOn HoldsOn Claims start seat blob
+    → IsBlob fixed blob → IsLegal fixed finished.seen → IsLeft handed start.view → IsFilled RecordsOn HoldsOn IsBusyOn start seat blob
     → AreFrom handed finished.seen → WasUnfinished seat.view finished → HasCollision handed fixed blob
-unfinished_pair handed fixed start seat finished blob same keyed is legal unclaimed filled from was =
+unfinished_pair handed fixed start seat finished blob same keyed is legal left filled from was =
     let history : List Event = seat.view.seen ++ was.before in
     let begun : IsLegal fixed history =
     (legal-append fixed empty history was.after (subst (λ (h : List Event). IsLegal fixed h) was.seen_is legal)).0 in
@@ -93,7 +60,7 @@ unfinished_pair handed fixed start seat finished blob same keyed is legal unclai
     (filled.is was.before there)
     (λ long c below. elim (filled.chunks long c below) [
       | inl held ↦ held was.before there
-      | inr claimed ↦ absurd (both_ways _ (unclaimed c) claimed)
+      | inr busy ↦ absurd (both_ways _ (left.unclaimed c) (busy left.alone))
     ]) was.unfinished)
 
 -- The closing rounds over holders of which some give the blob's slices that are asked for, and what their seat finds afterwards:
@@ -102,13 +69,13 @@ module _ (H : Type 0) (gives : H → ℕ → ℕ → List ℕ → Type 0) (count
     (holders later : List H) (report report' : Report) (wide : (piece : Piece) → IsHanded gives holders piece → handed piece)
     (of_start : start.view.fixed ≡ fixed) (of_seat : seat.view.fixed ≡ fixed) (left : IsLeft handed start.view)
     (reports : Reports fixed_at GoneOn start seat (IsHanded gives holders) (IsHanded gives later) (sum_by count holders) (sum_by count later) report report')
-    (alone : IsAlone seat.view) (on : ReadOn seat.view finished) (looked : LooksRound finished round) where
+    (on : ReadOn seat.view finished) (looked : LooksRound finished round) where
   -- each call that was made is of a piece that was handed over
   pub cuts : AreFrom handed finished.seen
   cuts =
       let gone : GoneOn handed start seat reports.chunks reports.parents =
       goes.wider (IsHanded gives holders) handed wide start seat reports.chunks reports.parents reports.gains in
-      all_from handed seat.view finished round alone.all (calls_on handed start seat reports.chunks reports.parents gone left.from) on looked
+      all_from handed seat.view finished round (alone_on handed start seat reports.chunks reports.parents gone left.alone).all (calls_on handed start seat reports.chunks reports.parents gone left.from) on looked
 
   -- a length that is too large is certified by one
   pub large_cut : (IsTrue report.too_large → IsTooLarge handed fixed) → IsTrue report'.too_large → IsTooLarge handed fixed
@@ -120,22 +87,17 @@ module _ (H : Type 0) (gives : H → ℕ → ℕ → List ℕ → Type 0) (count
   ]
 
   pub unfinished_handed : (grain : Grain) (blob : List ℕ) → ((holder : H) → count holder ≡ 0) → IsKeyed fixed.mode → IsBlob fixed blob → fixed.base ≡ 0 → chunk_count (length blob) ≤ fixed.capacity
-      → fixed.capacity ≤ 65536 → HaveSlices grain gives fixed.mode blob holders → IsLegal fixed finished.seen → report.failed ≡ 0
-      → (IsTrue report.too_large → IsTooLarge handed fixed)
+      → fixed.capacity ≤ 65536 → HaveSlices grain gives fixed.mode blob holders → IsLegal fixed finished.seen → report.failed ≡ 0 → report'.memory ≡ 0
       → (IsServed start.view.fixed blob → HaveSlices grain gives start.view.fixed.mode blob holders
-      → HasFailed report' ⊎ IsTooLarge (IsHanded gives holders) start.view.fixed ⊎ IsFilled RecordsOn HoldsOn Claims start seat blob)
-      → WasUnfinished seat.view finished → IsExcused (cause_of report') ⊎ HasCollision handed fixed blob
-  unfinished_handed grain blob quiet keyed is first room limit has legal no_fault before met unfinished =
-      let P : Type 0 = HasCollision handed fixed blob in
-      let slices : IsServed fixed blob = served fixed blob keyed is first room limit in
-      let more : IsTooLarge (IsHanded gives holders) start.view.fixed → P =
-      (λ large.
-      large_pair handed fixed blob keyed is first room (subst (λ (f : Fixed). IsTooLarge handed f) of_start
-      (large_wider (IsHanded gives holders) handed wide start.view.fixed large))) in
-      cause_handed report' P (λ none large. large_pair handed fixed blob keyed is first room (large_cut before large)) (λ none not_large.
-      elim (met (subst (λ (f : Fixed). IsServed f blob) (sym of_start) slices) (subst (λ (f : Fixed). HaveSlices grain gives f.mode blob holders) (sym of_start) has)) [
-        | inl (inl memory) ↦ absurd (omega (arith, memory, none))
+      → HasFailed report' ⊎ IsTooLarge (IsHanded gives holders) start.view.fixed ⊎ IsFilled RecordsOn HoldsOn IsBusyOn start seat blob)
+      → WasUnfinished seat.view finished → HasCollision handed fixed blob
+  unfinished_handed grain blob quiet keyed is first room limit has legal no_fault fed met unfinished =
+      elim (met (subst (λ (f : Fixed). IsServed f blob) (sym of_start) (served fixed blob keyed is first room limit))
+      (subst (λ (f : Fixed). HaveSlices grain gives f.mode blob holders) (sym of_start) has)) [
+        | inl (inl memory) ↦ absurd (omega (arith, memory, fed))
         | inl (inr failed) ↦ absurd (omega (arith, failed, reports.failed, no_fault, none_failed count quiet later))
-        | inr (inl large) ↦ more large
-        | inr (inr filled) ↦ unfinished_pair handed fixed start seat finished blob of_seat keyed is legal left.unclaimed filled cuts unfinished
-      ])
+        | inr (inl large) ↦
+            large_pair handed fixed blob keyed is first room (subst (λ (f : Fixed). IsTooLarge handed f) of_start
+            (large_wider (IsHanded gives holders) handed wide start.view.fixed large))
+        | inr (inr filled) ↦ unfinished_pair handed fixed start seat finished blob of_seat keyed is legal left filled cuts unfinished
+      ]

@@ -1,32 +1,10 @@
 -- What a call of a shared store leaves its seat to know.
-use Rattle.std.proofs.Common.{◌≡◌, ◌≢◌, ℕ, ◌/◌, ◌%◌, ◌==◌, true, ◌&&◌, List, [], ◌∷◌, ◌++◌, Option, None, Some, IfOk, IfSome, MatchResult, Ok, Err, Result, is_ok, refl, sym, ap, subst, ◌∙◌, inl, inr, eqb-true, eq-eqb}
-use Rattle.std.proofs.lemmas.Bool.{and_from, and_parts, cases_Bool}
-use Rattle.bao_check.specs.declared.checked.Checked.{Checked}
+use Rattle.crews.proofs.Common.{◌≡◌, ◌≢◌, ℕ, ◌/◌, ◌%◌, ◌==◌, true, ◌&&◌, List, [], ◌∷◌, ◌++◌, Option, None, Some, IfSome, refl, sym, ap, subst, ◌∙◌, inl, inr, eqb-true, eq-eqb, and_from, and_parts, cases_Bool, Checked, IsWanted, Fixed, Commit, Length, Settle, Take, Event, Piece, Settling, Differs, Known, OtherRoot, Settled, TooLarge, is_free, recorded_after, settling, IsLegal, state_after, has_bit, in_mask, holds_chunk, length_of, piece_of, State, empty, legal-append, record_lasts, run-append, SeatSettles, length_there, right_there, Gripped, Called, event_of}
 use Rattle.crews.specs.Lasting.{RecordsOn}
 use Rattle.crews.specs.Seats.{claims_of}
 use Rattle.crews.proofs.Sharing.{claimed_there}
-use Rattle.gather.specs.Available.{IsWanted}
-use Rattle.store_core.specs.declared.fault.StoreFault.{StoreFault}
-use Rattle.store_core.specs.declared.fixed.Fixed.{Fixed}
-use Rattle.store_core.specs.declared.history.Call.TheVariants.{Commit, Length, Settle, Take}
-use Rattle.store_core.specs.declared.history.Event.{Event}
-use Rattle.store_core.specs.declared.history.Piece.{Piece}
-use Rattle.store_core.specs.declared.history.Settling.{Settling}
-use Rattle.store_core.specs.declared.history.Settling.TheVariants.{Differs, Known, OtherRoot, Settled, TooLarge}
-use Rattle.store_core.specs.Events.{is_free, recorded_after, settling}
-use Rattle.store_core.specs.Histories.{IsLegal, state_after}
-use Rattle.store_core.specs.Masks.{has_bit, in_mask}
-use Rattle.store_core.specs.Pieces.{holds_chunk, length_of, piece_of}
-use Rattle.store_core.specs.States.{State, empty}
-use Rattle.store_core.proofs.Lasting.{legal-append, record_lasts, run-append}
-use Rattle.store_shared.specs.declared.fault.NoGroup.{NoGroup}
-use Rattle.store_shared.specs.declared.fault.OtherRoot.{OtherRoot as OtherRootFault}
-use Rattle.store_shared.specs.Calls.{SeatSettles}
-use Rattle.store_shared.proofs.Asking.{length_there, right_there}
-use Rattle.store_shared.specs.Seats.{Gripped}
-use Rattle.store_core.specs.Knowledge.{Called, event_of}
 
-granted_there : (old new : Gripped) (group want granted : ℕ) → Called (Take group want granted) old.view new.view → (c : ℕ) → in_mask group granted c ≡ true
+pub granted_there : (old new : Gripped) (group want granted : ℕ) → Called (Take group want granted) old.view new.view → (c : ℕ) → in_mask group granted c ≡ true
     → IsWanted group want c × (claims_of new c ≡ true)
 granted_there old new group want granted called c hit =
     let right = right_there (Take group want granted) old.view new.view called in
@@ -36,27 +14,12 @@ granted_there old new group want granted called c hit =
     let wanted : IsWanted group want c = (here, (and_parts _ _ both).0) in
     (wanted, called.claims_are c ∙ rw hit refl)
 
-pub take_granted : (old new : Gripped) (group want : ℕ) (result : Result ℕ NoGroup) (answer : Result ℕ StoreFault) (Q : NoGroup → Type 0)
-    → MatchResult result (λ granted. answer ≡ Ok granted) Q → is_ok answer ≡ is_ok result → IfOk result (λ granted. Called (Take group want granted) old.view new.view)
-    → IfOk answer (λ granted. (c : ℕ) → in_mask group granted c ≡ true → IsWanted group want c × (claims_of new c ≡ true))
-take_granted old new group want (Ok granted) answer Q cases variant called =
-    subst (λ (r : Result ℕ StoreFault). IfOk r (λ mask. (c : ℕ) → in_mask group mask c ≡ true → IsWanted group want c × (claims_of new c ≡ true))) (sym cases)
-    (granted_there old new group want granted called)
-take_granted old new group want (Err fault) (Ok granted) Q cases variant called = cc
-take_granted old new group want (Err fault) (Err other) Q cases variant called = tt
-
-pub commit_all : (old new : Gripped) (group : ℕ) (piece : Piece) (result : Result ℕ OtherRootFault) (answer : Result ℕ StoreFault) (Q : OtherRootFault → Type 0)
-    → MatchResult result (λ committed. answer ≡ Ok committed) Q → is_ok answer ≡ is_ok result
-    → IfOk result (λ committed. Called (Commit group piece committed) old.view new.view)
-    → IfOk answer (λ committed. (c : ℕ) → c / 64 ≡ group → claims_of old c ≡ true → holds_chunk piece c ≡ true → in_mask group committed c ≡ true)
-commit_all old new group piece (Ok committed) answer Q cases variant called =
-    subst (λ (r : Result ℕ StoreFault). IfOk r (λ mask. (c : ℕ) → c / 64 ≡ group → claims_of old c ≡ true → holds_chunk piece c ≡ true → in_mask group mask c ≡ true)) (sym cases)
-    (λ c here claimed has.
+pub all_there : (old new : Gripped) (group : ℕ) (piece : Piece) (committed : ℕ) → Called (Commit group piece committed) old.view new.view
+    → (c : ℕ) → c / 64 ≡ group → claims_of old c ≡ true → holds_chunk piece c ≡ true → in_mask group committed c ≡ true
+all_there old new group piece committed called c here claimed has =
     and_from (c / 64 == group) (has_bit committed (c % 64)) (eq-eqb (c / 64) group here)
     ((right_there (Commit group piece committed) old.view new.view called).1.bits c here
-    ∙ and_from _ _ (claimed_there (Commit group piece committed) old new called c claimed) has))
-commit_all old new group piece (Err fault) (Ok committed) Q cases variant called = cc
-commit_all old new group piece (Err fault) (Err other) Q cases variant called = tt
+    ∙ and_from _ _ (claimed_there (Commit group piece committed) old new called c claimed) has)
 
 -- what is recorded after all that was seen is so after whatever follows
 recorded_on : (seat : Gripped) (l : ℕ) → (state_after seat.view.seen).recorded ≡ Some l → RecordsOn seat l

@@ -1,10 +1,8 @@
-pub mod Following
+pub mod Common
 pub mod Summing
 pub mod Sharing
 pub mod Knowing
-pub mod Running
 pub mod Finishing
-pub mod OfNone
 pub mod Uniting
 pub mod Alone
 pub mod Whence

@@ -1,40 +1,9 @@
 -- Seats that read a shared store: how what they know goes on, and that what they read stays so.
-use Rattle.std.proofs.Common.{◌≡◌, ◌⊎◌, ℕ, zero, suc, ◌+◌, ◌-◌, ◌*◌, ◌/◌, ◌%◌, ◌≤◌, List, [], ◌∷◌, ◌++◌, append_assoc, append-nil, length, take, drop, slice_get, slice_index, Contains, Err, IfOk, IsErrOf, Ok, Result, Option, None, Some, option_and_then, refl, sym, ap, subst, ◌∙◌, arith, inl, inr}
-use Rattle.std.proofs.lemmas.Bool.{cases_lt}
-use Rattle.std.proofs.lemmas.List.{take_at, drop_at, length-append}
-use Rattle.std.proofs.lemmas.List.Elements.{Contains-append_cases, Contains-append_left, Contains-append_right}
-use Rattle.b3word.specs.declared.input.Input.{Input}
-use Rattle.b3word.specs.Compression.{cv}
-use Rattle.b3tree.specs.declared.mode.Mode.{Mode}
-use Rattle.b3tree.specs.Hashing.{hash, root_hash, rooted}
-use Rattle.b3tree.specs.Tree.{parent_input, subtree_cv, top_input}
-use Rattle.bao_check.proofs.Lists.{Contains-cons_cases}
+use Rattle.crews.proofs.Common.{◌≡◌, ◌⊎◌, ℕ, zero, suc, ◌+◌, ◌-◌, ◌*◌, ◌/◌, ◌%◌, ◌≤◌, List, [], ◌∷◌, ◌++◌, append_assoc, append-nil, length, take, drop, slice_get, slice_index, Contains, Err, IfOk, IsErrOf, Ok, Result, Option, None, Some, option_and_then, refl, sym, ap, subst, ◌∙◌, arith, inl, inr, cases_lt, take_at, drop_at, length-append, Contains-append_cases, Contains-append_left, Contains-append_right, Input, cv, Mode, root_hash, rooted, parent_input, subtree_cv, top_input, Contains-cons_cases, length_there, filled_whole, judged_at, FinishFault, Unfinished, IsWhole, Judges, SeatDidRead, Fixed, Call, Length, Read, Event, Named, SeatView, IsLegal, events_of, state_after, AreAllNames, ArePartsOf, Called, IsMerged, LooksRound, event_of, IsRead, Name, State, byte_and, byte_at, empty, read_bytes, mine, new_names, raise_least, split_keeps, held_lasts, legal-append, record_lasts, read_is, read_means, right_there}
+use Rattle.b3tree.specs.Hashing.{hash}
 use Rattle.crews.specs.Wholes.{HasBytes, IsFull, OnlyReads, IsTopRead, LackedByte, ReadOn, WasUnfinished}
 use Rattle.crews.proofs.Finishing.{read_there}
-use Rattle.store_shared.proofs.Asking.{length_there}
-use Rattle.gather.proofs.Finishing.{filled_whole, judged_at}
-use Rattle.crews.proofs.Uniting.{merge_has, merged_calls, names_same, split_all}
-use Rattle.gather.specs.declared.fault.FinishFault.{FinishFault}
-use Rattle.gather.specs.declared.fault.FinishFault.TheVariants.{Unfinished}
-use Rattle.gather.specs.Finished.{IsWhole, Judges}
-use Rattle.store_calls.specs.Reading.{SeatDidRead}
-use Rattle.store_core.specs.declared.fixed.Fixed.{Fixed}
-use Rattle.store_core.specs.declared.history.Call.{Call}
-use Rattle.store_core.specs.declared.history.Call.TheVariants.{Length, Read}
-use Rattle.store_core.specs.declared.history.Event.{Event}
-use Rattle.store_core.specs.declared.view.Named.{Named}
-use Rattle.store_core.specs.declared.view.SeatView.{SeatView}
-use Rattle.store_core.specs.Histories.{IsLegal, events_of, state_after}
-use Rattle.store_core.specs.Knowledge.{AreAllNames, ArePartsOf, Called, IsMerged, LooksRound, event_of}
-use Rattle.store_core.specs.Laws.{IsRead}
-use Rattle.store_core.specs.Names.{Name}
-use Rattle.store_core.specs.States.{State, byte_and, byte_at, empty, read_bytes}
-use Rattle.store_core.specs.Views.{mine, new_names, raise_least}
-use Rattle.store_core.proofs.Joining.{split_keeps}
-use Rattle.store_core.proofs.Lasting.{held_lasts, legal-append, record_lasts}
-use Rattle.store_core.proofs.ReadLaws.{read_is, read_means}
-use Rattle.store_shared.proofs.Asking.{right_there}
-use Rattle.store_core.proofs.Naming.{merge-cases}
+use Rattle.crews.proofs.Uniting.{merged_all, merged_calls, names_same, split_all}
 
 -- a call that reads
 pub on_called : (old new : SeatView) (call : Call) → OnlyReads call → Called call old new → ReadOn old new
@@ -62,38 +31,15 @@ on_then old then new first second = record {
 }
 
 swapped : (a b c : List Named) (n : Named) → Contains (a ++ (b ++ c)) n → Contains (b ++ (a ++ c)) n
-swapped a b c n h = elim (Contains-append_cases a (b ++ c) n h) [
-  | inl one ↦ Contains-append_right b (a ++ c) n (Contains-append_left a c n one)
-  | inr rest ↦ elim (Contains-append_cases b c n rest) [
-    | inl two ↦ Contains-append_left b (a ++ c) n two
-    | inr last ↦ Contains-append_right b (a ++ c) n (Contains-append_right a c n last)
-  ]
-]
-
-both_there : (one two others : List Named) (n : Named) → Contains (two ++ (one ++ others)) n → Contains one n ⊎ Contains two n ⊎ Contains others n
-both_there one two others n h = elim (Contains-append_cases two (one ++ others) n h) [
-  | inl b ↦ inr (inl b)
-  | inr rest ↦ elim (Contains-append_cases one others n rest) [ inl a ↦ inl a | inr c ↦ inr (inr c) ]
-]
-
--- all names there are, where two seats that have some of them become one
-merged_all : (one two merged : SeatView) (others : List Named) → IsMerged one two merged → AreAllNames (two.names ++ (one.names ++ others))
-    → AreAllNames (merged.names ++ others)
-merged_all one two merged others is all =
-    let names : merged.names ≡ _ = is.joined.names_are in
-    names_same (two.names ++ (one.names ++ others)) (merged.names ++ others) (λ n h. elim (both_there one.names two.names others n h) [
-      | inl a ↦
-          Contains-append_left merged.names others n (subst (λ (ns : List Named). Contains ns n) (sym names) (merge_has one.names two.names n (inl a)))
-      | inr (inl b) ↦
-          Contains-append_left merged.names others n (subst (λ (ns : List Named). Contains ns n) (sym names) (merge_has one.names two.names n (inr b)))
-      | inr (inr c) ↦ Contains-append_right merged.names others n c
-    ]) (λ n h. elim (Contains-append_cases merged.names others n h) [
-      | inl both ↦ elim (merge-cases one.names two.names n (subst (λ (ns : List Named). Contains ns n) names both)) [
-        | inl a ↦ Contains-append_right two.names (one.names ++ others) n (Contains-append_left one.names others n a)
-        | inr b ↦ Contains-append_left two.names (one.names ++ others) n b
-      ]
-      | inr c ↦ Contains-append_right two.names (one.names ++ others) n (Contains-append_right one.names others n c)
-    ]) all
+swapped a b c n h = grind (
+  arith,
+  Contains-append_cases a (b ++ c) n,
+  Contains-append_cases b c n,
+  Contains-append_left a c n,
+  Contains-append_right a c n,
+  Contains-append_left b (a ++ c) n,
+  Contains-append_right b (a ++ c) n,
+)
 
 -- two parts of a seat read, and are joined again
 module _ (old first second one two merged : SeatView) (parts : ArePartsOf old first second) (a : ReadOn first one) (b : ReadOn second two)

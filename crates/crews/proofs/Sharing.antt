@@ -1,44 +1,9 @@
 -- What a call of a shared store gains, and which claims it leaves.
-use Rattle.std.proofs.Common.{count_ones, Err, IfErr, IfOk, MatchResult, Ok, OnErr, Result, is_ok, ◌≡◌, ℕ, ◌/◌, ◌%◌, ◌==◌, true, false, not, ◌&&◌, ◌||◌, List, [], ◌∷◌, ◌++◌, append_assoc, arith, eqb-true, inl, inr, refl, subst, sym, ◌∙◌}
-use Rattle.std.proofs.lemmas.Bool.{and_from, and_parts, both_ways, cases_Bool}
-use Rattle.b3tree.specs.declared.mode.Mode.{Mode}
-use Rattle.b3tree.specs.declared.values.Hash.{Hash}
-use Rattle.b3tree.specs.Valid.{AreBytes}
-use Rattle.bao_check.specs.declared.checked.Checked.{Checked}
-use Rattle.bao_check.specs.Accepted.{IsAccepted}
-use Rattle.bao_check.specs.Checked.{HoldsLast, piece_mode, piece_nodes, piece_root, piece_text}
+use Rattle.crews.proofs.Common.{◌≡◌, ℕ, ◌/◌, ◌%◌, ◌==◌, true, false, not, ◌&&◌, ◌||◌, List, [], ◌∷◌, ◌++◌, append_assoc, arith, eqb-true, inl, inr, refl, subst, sym, ◌∙◌, and_from, and_parts, both_ways, cases_Bool, Mode, Hash, AreBytes, Checked, IsAccepted, HoldsLast, piece_mode, piece_nodes, piece_root, piece_text, Among, AmongAnd, Without, Still, IsIt, EndsTooFar, none_gained, IsFrom, parents_of, chunks_of, Fixed, Call, Commit, Give, Parents, Settle, Take, Event, Piece, Settling, Differs, Known, OtherRoot, Settled, TooLarge, IsLegal, state_after, has_bit, in_mask, piece_of, claims, empty, names_of, claims_last, legal-append, Gripped, Called, event_of, ParentsFault, SeatIsUnstored, SeatSettles, right_there}
 use Rattle.crews.specs.Going.{goes}
 use Rattle.crews.specs.Seats.{GoneOn, claims_of, fixed_of}
-use Rattle.gather.specs.Claims.{Among, AmongAnd, Without}
-use Rattle.gather.specs.Counts.{Still}
-use Rattle.gather.specs.Holders.{IsIt, IsNone}
-use Rattle.gather.specs.Large.{EndsTooFar}
-use Rattle.gather.proofs.Reporting.{none_gained}
-use Rattle.gather.specs.Worked.{IsFrom, parents_of}
-use Rattle.store_core.specs.Laws.{chunks_of}
-use Rattle.store_core.specs.declared.fixed.Fixed.{Fixed}
-use Rattle.store_core.specs.declared.history.Call.{Call}
-use Rattle.store_core.specs.declared.history.Call.TheVariants.{Commit, Give, Parents, Settle, Take}
-use Rattle.store_core.specs.declared.history.Event.{Event}
-use Rattle.store_core.specs.declared.history.Piece.{Piece}
-use Rattle.store_core.specs.declared.history.Settling.{Settling}
-use Rattle.store_core.specs.declared.history.Settling.TheVariants.{Differs, Known, OtherRoot, Settled, TooLarge}
 use Rattle.store_core.specs.declared.history.Storing.TheVariants as storing
-use Rattle.store_core.specs.Histories.{IsLegal, state_after}
-use Rattle.store_core.specs.Masks.{has_bit, in_mask}
-use Rattle.store_core.specs.Pieces.{piece_of}
-use Rattle.store_core.specs.States.{claims, empty}
-use Rattle.store_core.specs.Views.{names_of}
-use Rattle.store_core.proofs.Lasting.{claims_last, legal-append}
-use Rattle.store_shared.specs.Seats.{Gripped}
-use Rattle.store_core.specs.Knowledge.{Called, event_of}
-use Rattle.store_core.specs.declared.fault.StoreFault.{StoreFault}
-use Rattle.store_shared.specs.declared.fault.NoGroup.{NoGroup}
-use Rattle.store_shared.specs.declared.fault.OtherRoot.{OtherRoot as OtherRootFault}
-use Rattle.store_shared.specs.declared.fault.ParentsFault.{ParentsFault}
 use Rattle.store_shared.specs.declared.fault.ParentsFault.TheVariants as unstored
-use Rattle.store_shared.specs.Calls.{SeatIsUnstored, SeatSettles}
-use Rattle.store_shared.proofs.Asking.{right_there}
 
 pub goes_on : (handed : Piece → Type 0) (old new : Gripped) (call : Call) → IsFrom handed call → Called call old.view new.view
     → GoneOn handed old new (chunks_of call) (parents_of call)
@@ -137,46 +102,9 @@ settles_large fixed old new piece TooLarge bytes accepted last settles is = reco
   above = settles.1;
 }
 
-pub take_gains : (old new : Gripped) (group want : ℕ) (result : Result ℕ NoGroup) → IfOk result (λ granted. Called (Take group want granted) old.view new.view)
-    → OnErr result (new ≡ old) → GoneOn IsNone old new 0 0
-take_gains old new group want (Ok granted) called same = goes_on IsNone old new (Take group want granted) tt called
-take_gains old new group want (Err fault) called same = stays_same IsNone old new same
-
-pub commit_gains : (old new : Gripped) (group : ℕ) (piece : Piece) (result : Result ℕ OtherRootFault) (answer : Result ℕ StoreFault) (Q : OtherRootFault → Type 0)
-    → MatchResult result (λ committed. answer ≡ Ok committed) Q → is_ok answer ≡ is_ok result
-    → IfOk result (λ committed. Called (Commit group piece committed) old.view new.view) → OnErr result (new ≡ old)
-    → MatchResult answer (λ committed. GoneOn (IsIt piece) old new (count_ones committed) 0) (λ _. GoneOn (IsIt piece) old new 0 0)
-commit_gains old new group piece (Ok committed) answer Q cases variant called same =
-    subst (λ (r : Result ℕ StoreFault). MatchResult r (λ committed. GoneOn (IsIt piece) old new (count_ones committed) 0) (λ _. GoneOn (IsIt piece) old new 0 0)) (sym cases)
-    (goes_on (IsIt piece) old new (Commit group piece committed) refl called)
-commit_gains old new group piece (Err fault) (Ok committed) Q cases variant called same = cc
-commit_gains old new group piece (Err fault) (Err other) Q cases variant called same = stays_same (IsIt piece) old new same
-
 -- parents that weren't stored
-unstored_gains : (fixed : Fixed) (old new : Gripped) (group : ℕ) (piece : Checked) (fault : ParentsFault) → SeatIsUnstored fixed group piece fault old new
+pub unstored_gains : (fixed : Fixed) (old new : Gripped) (group : ℕ) (piece : Checked) (fault : ParentsFault) → SeatIsUnstored fixed group piece fault old new
     → GoneOn (IsIt (piece_of fixed.base piece)) old new 0 0
 unstored_gains fixed old new group piece unstored.OtherRoot same = stays_same (IsIt (piece_of fixed.base piece)) old new same
 unstored_gains fixed old new group piece unstored.OtherLength called =
     goes_on (IsIt (piece_of fixed.base piece)) old new (Parents group (piece_of fixed.base piece) storing.OtherLength) refl called
-
-unstored_claims : (fixed : Fixed) (old new : Gripped) (group : ℕ) (piece : Checked) (fault : ParentsFault) → SeatIsUnstored fixed group piece fault old new → Among (claims_of old) (claims_of new)
-unstored_claims fixed old new group piece unstored.OtherRoot same = among_same old new same
-unstored_claims fixed old new group piece unstored.OtherLength called = λ c is. sym (called.claims_are c) ∙ is
-
-pub parents_gain : (fixed : Fixed) (old new : Gripped) (group : ℕ) (piece : Checked) (result : Result ℕ ParentsFault) (answer : Result ℕ StoreFault) (Q : ParentsFault → Type 0)
-    → MatchResult result (λ stored. answer ≡ Ok stored) Q → is_ok answer ≡ is_ok result
-    → IfOk result (λ stored. Called (Parents group (piece_of fixed.base piece) (storing.Stored stored)) old.view new.view)
-    → IfErr result (λ fault. SeatIsUnstored fixed group piece fault old new)
-    → MatchResult answer (λ stored. GoneOn (IsIt (piece_of fixed.base piece)) old new 0 (count_ones stored)) (λ _. GoneOn (IsIt (piece_of fixed.base piece)) old new 0 0)
-parents_gain fixed old new group piece (Ok stored) answer Q cases variant called refused =
-    let P = IsIt (piece_of fixed.base piece) in
-    subst (λ (r : Result ℕ StoreFault). MatchResult r (λ stored. GoneOn P old new 0 (count_ones stored)) (λ _. GoneOn P old new 0 0)) (sym cases)
-    (goes_on P old new (Parents group (piece_of fixed.base piece) (storing.Stored stored)) refl called)
-parents_gain fixed old new group piece (Err fault) (Ok stored) Q cases variant called refused = cc
-parents_gain fixed old new group piece (Err fault) (Err other) Q cases variant called refused = unstored_gains fixed old new group piece fault refused
-
-pub parents_claims : (fixed : Fixed) (old new : Gripped) (group : ℕ) (piece : Checked) (result : Result ℕ ParentsFault)
-    → IfOk result (λ stored. Called (Parents group (piece_of fixed.base piece) (storing.Stored stored)) old.view new.view)
-    → IfErr result (λ fault. SeatIsUnstored fixed group piece fault old new) → Among (claims_of old) (claims_of new)
-parents_claims fixed old new group piece (Ok stored) called refused = λ c is. sym (called.claims_are c) ∙ is
-parents_claims fixed old new group piece (Err fault) called refused = unstored_claims fixed old new group piece fault refused

@@ -1,17 +1,9 @@
 -- What all crews did, by what each did.
-use Rattle.std.proofs.Common.{refl, subst, ◌≡◌, ℕ, suc, ◌+◌, ◌-◌, ◌^◌, ◌≤◌, true, false, IsTrue, List, [], ◌∷◌, min, arith, inl, inr}
-use Rattle.std.proofs.lemmas.Bool.{cases_Bool}
-use Rattle.std.proofs.lemmas.List.Sums.{sum_by-cons}
-use Rattle.std.specs.List.{All, sum_by}
+use Rattle.crews.proofs.Common.{refl, subst, ◌≡◌, ℕ, suc, ◌+◌, ◌-◌, ◌^◌, ◌≤◌, true, false, IsTrue, List, [], ◌∷◌, min, arith, inl, inr, cases_Bool, sum_by-cons, All, sum_by, IsAnswered, IsHanded, IsTooLarge, large_wider, Fixed, Assembly, IsSeatOf, ◌∙◌, sym, among_onward, later_then, onward, IsKeyed, held_binds, Gripped, fixed_of}
 use Rattle.crews.specs.declared.crew.Crew.{Crew}
-use Rattle.crews.specs.Crews.{Each, IsHandedTo, Worked, all_of, all_faults, faults_of}
-use Rattle.gather.specs.Counts.{IsAnswered}
-use Rattle.gather.specs.Holders.{IsHanded}
-use Rattle.gather.specs.Large.{IsTooLarge}
-use Rattle.gather.proofs.Reporting.{large_wider}
-use Rattle.store_core.specs.declared.fixed.Fixed.{Fixed}
-use Rattle.store_shared.specs.declared.assembly.Assembly.{Assembly}
-use Rattle.store_shared.specs.Seats.{IsSeatOf, fixed_of as fixed_of_store}
+use Rattle.crews.specs.Crews.{Each, IsHandedTo, Worked, WorkedOn, all_of, all_faults, faults_of}
+use Rattle.crews.specs.Going.{goes}
+use Rattle.crews.specs.Seats.{GoneOn, SeenBinds, fixed_of as fixed_at}
 
 each_first : {C : Type 0} (R : C → C → Type 0) (x y : C) (xs ys : List C) → Each R (x ∷ xs) (y ∷ ys) → R x y
 each_first R x y xs ys each = each.each 0 x (omega arith)
@@ -26,7 +18,32 @@ each_rest R x y xs ys each = record {
 pub all_each : {C : Type 0} (R : C → C → Type 0) {P : C → Type 0} (old new : List C) → ((x y : C) → R x y → P y) → Each R old new → All P new
 all_each R old new gives each = λ k d below. gives _ _ (each.each k d (omega (arith, below, each.len)))
 
+-- what a seat has seen binds to the blob
+seat_binds : (assembly : Assembly) (seat : Gripped) → IsKeyed (fixed_of assembly).mode → IsSeatOf assembly seat → SeenBinds seat.view
+seat_binds assembly seat keyed of blob is c bytes held =
+    held_binds seat.view.fixed seat.view.seen blob c bytes (subst (λ (f : Fixed). IsKeyed f.mode) (sym of.knows.fixed_is) keyed) is of.knows.legal held
+
 module _ {H : Type 0} (assembly : Assembly) (gives : H → ℕ → ℕ → List ℕ → Type 0) (count : H → ℕ) where
+  pub seats_bind : (old new : List (Crew H)) → IsKeyed (fixed_of assembly).mode → Each (Worked assembly gives count) old new → All (λ (crew : Crew H). SeenBinds crew.seat.view) new
+  seats_bind old new keyed each = all_each _ old new (λ x y worked. seat_binds assembly y.seat keyed worked.of) each
+
+  -- one round of crews after another
+  worked_then : (first second third : Crew H) → Worked assembly gives count first second → WorkedOn assembly gives count second third
+      → Worked assembly gives count first third
+  worked_then first second third begun goes_on = record {
+    of = goes_on.of;
+    reports = onward fixed_at GoneOn goes _ _ _ _ _ _ _ _ _ _ _ _ begun.reports goes_on.reports;
+    claimed = among_onward _ _ _ begun.claimed goes_on.claimed;
+    holders = later_then gives _ _ _ begun.holders goes_on.holders;
+  }
+
+  pub each_then : (first second third : List (Crew H)) → Each (Worked assembly gives count) first second → Each (WorkedOn assembly gives count) second third
+      → Each (Worked assembly gives count) first third
+  each_then first second third begun goes_on = record {
+    len = goes_on.len ∙ begun.len;
+    each = λ i d below. worked_then _ _ _ (begun.each i d below) (goes_on.each i d (omega (arith, below, begun.len)));
+  }
+
   failed_sum : (xs ys : List (Crew H)) → Each (Worked assembly gives count) xs ys
       → sum_by (λ (crew : Crew H). crew.report.failed) ys + all_faults count xs ≤ all_faults count ys
   failed_sum [] [] each = omega arith
@@ -56,7 +73,7 @@ module _ {H : Type 0} (assembly : Assembly) (gives : H → ℕ → ℕ → List 
 
   -- one of them met a length above what the store has room for, in a piece that one of its holders gave
   pub large_all : (xs ys : List (Crew H)) → All (λ (crew : Crew H). IsSeatOf assembly crew.seat) xs → Each (Worked assembly gives count) xs ys
-      → IsTrue (all_of ys).too_large → IsTooLarge (IsHandedTo gives xs) (fixed_of_store assembly)
+      → IsTrue (all_of ys).too_large → IsTooLarge (IsHandedTo gives xs) (fixed_of assembly)
   large_all [] [] of each large = let no : false ≡ true = large in cc
   large_all [] (y ∷ ys) of each large = absurd (omega (arith, each.len))
   large_all (x ∷ xs) [] of each large = absurd (omega (arith, each.len))

@@ -1,20 +1,7 @@
 -- Crews' seats joined to one: their names, and their calls.
-use Rattle.std.proofs.Common.{◌≡◌, ◌⊎◌, ℕ, ◌+◌, ◌<◌, true, false, List, [], ◌∷◌, ◌++◌, Contains, sym, ap, subst, ◌∙◌, arith, inl, inr}
-use Rattle.std.proofs.lemmas.Bool.{cases_Bool, cases_lt, or_cases, or_left, or_right}
-use Rattle.std.proofs.lemmas.List.Elements.{Contains-append_cases, Contains-append_left, Contains-append_right}
-use Rattle.bao_check.proofs.Lists.{Contains-cons_cases, Contains-head, Contains-tail}
+use Rattle.crews.proofs.Common.{◌≡◌, ◌⊎◌, ℕ, ◌+◌, ◌<◌, true, false, List, [], ◌∷◌, ◌++◌, Contains, sym, ap, subst, ◌∙◌, arith, inl, inr, cases_Bool, cases_lt, or_cases, or_left, or_right, Contains-append_cases, Contains-append_left, Contains-append_right, Contains-cons_cases, Contains-head, Contains-tail, Event, Named, SeatView, events_of, is_by, Name, has_name, name_le, same_name, share_name, merge_names, mine, names_of, new_names, put_name, raise_least, seat_claims, join_keeps, plain, same_name-true, AreAllNames, ArePartsOf, IsMerged, child, entry_of, merge-cases, name_there, raised, shared, append-nil, append_assoc}
 use Rattle.crews.specs.declared.crew.Crew.{Crew}
 use Rattle.crews.specs.Joined.{AreCallsOf, AreClaimsOf, HasNamesOf, HaveAllNames, names_in}
-use Rattle.store_core.specs.declared.history.Event.{Event}
-use Rattle.store_core.specs.declared.view.Named.{Named}
-use Rattle.store_core.specs.declared.view.SeatView.{SeatView}
-use Rattle.store_core.specs.Histories.{events_of, is_by}
-use Rattle.store_core.specs.Names.{Name, has_name, name_le, same_name, share_name}
-use Rattle.store_core.specs.Views.{merge_names, mine, names_of, new_names, put_name, raise_least, seat_claims}
-use Rattle.store_core.proofs.Joining.{join_keeps, plain}
-use Rattle.store_core.proofs.Tells.{same_name-true}
-use Rattle.store_core.specs.Knowledge.{AreAllNames, ArePartsOf, IsMerged}
-use Rattle.store_core.proofs.Naming.{child, entry_of, merge-cases, name_there, raised, shared}
 
 has_there : (a b : List Named) → ((n : Named) → Contains a n → Contains b n) → (name : Name) → has_name (plain a) name ≡ true → has_name (plain b) name ≡ true
 has_there a b to name h = let e = entry_of a name h in subst (λ (n : Name). has_name (plain b) n ≡ true) e.2 (name_there b e.0 (to e.0 e.1))
@@ -44,7 +31,7 @@ put_has named (other ∷ others) n is = elim (cases_Bool (name_le named.name oth
   ])
 ]
 
-pub merge_has : (ours theirs : List Named) (n : Named) → Contains ours n ⊎ Contains theirs n → Contains (merge_names ours theirs) n
+merge_has : (ours theirs : List Named) (n : Named) → Contains ours n ⊎ Contains theirs n → Contains (merge_names ours theirs) n
 merge_has [] theirs n (inl never) = absurd (omega (arith, never.1))
 merge_has [] theirs n (inr h) = h
 merge_has (named ∷ ours) theirs n (inl h) = elim (Contains-cons_cases ours named n h) [
@@ -53,49 +40,72 @@ merge_has (named ∷ ours) theirs n (inl h) = elim (Contains-cons_cases ours nam
 ]
 merge_has (named ∷ ours) theirs n (inr h) = put_has named (merge_names ours theirs) n (inr (merge_has ours theirs n (inr h)))
 
--- the names of crews, with one more at their end
-in_crews : {H : Type 0} (crews : List (Crew H)) (crew : Crew H) (n : Named) → Contains (names_in (crews ++ crew ∷ [])) n
-    → Contains crew.seat.view.names n ⊎ Contains (names_in crews) n
-in_crews [] crew n h = elim (Contains-append_cases crew.seat.view.names [] n h) [ inl its ↦ inl its | inr never ↦ absurd (omega (arith, never.1)) ]
-in_crews (one ∷ crews) crew n h = elim (Contains-append_cases one.seat.view.names (names_in (crews ++ crew ∷ [])) n h) [
-  | inl first ↦ inr (Contains-append_left one.seat.view.names (names_in crews) n first)
-  | inr rest ↦ elim (in_crews crews crew n rest) [ inl its ↦ inl its | inr others ↦ inr (Contains-append_right one.seat.view.names (names_in crews) n others) ]
-]
+in_merged : (one two others : List Named) (n : Named) → Contains (two ++ (one ++ others)) n → Contains (merge_names one two ++ others) n
+in_merged one two others n h = grind (
+  arith,
+  Contains-append_cases two (one ++ others) n,
+  Contains-append_cases one others n,
+  Contains-append_left (merge_names one two) others n,
+  Contains-append_right (merge_names one two) others n,
+  merge_has one two n,
+)
 
-has_crews : {H : Type 0} (crews : List (Crew H)) (crew : Crew H) (n : Named) → Contains crew.seat.view.names n ⊎ Contains (names_in crews) n
-    → Contains (names_in (crews ++ crew ∷ [])) n
-has_crews [] crew n (inl its) = Contains-append_left crew.seat.view.names [] n its
-has_crews [] crew n (inr never) = absurd (omega (arith, never.1))
-has_crews (one ∷ crews) crew n (inl its) =
-    Contains-append_right one.seat.view.names (names_in (crews ++ crew ∷ [])) n (has_crews crews crew n (inl its))
-has_crews (one ∷ crews) crew n (inr h) = elim (Contains-append_cases one.seat.view.names (names_in crews) n h) [
-  | inl first ↦ Contains-append_left one.seat.view.names (names_in (crews ++ crew ∷ [])) n first
-  | inr rest ↦ Contains-append_right one.seat.view.names (names_in (crews ++ crew ∷ [])) n (has_crews crews crew n (inr rest))
-]
+of_merged : (one two others : List Named) (n : Named) → Contains (merge_names one two ++ others) n → Contains (two ++ (one ++ others)) n
+of_merged one two others n h = grind (
+  arith,
+  Contains-append_cases (merge_names one two) others n,
+  merge-cases one two n,
+  Contains-append_left two (one ++ others) n,
+  Contains-append_right two (one ++ others) n,
+  Contains-append_left one others n,
+  Contains-append_right one others n,
+)
+
+-- all names there are, where two seats that have some of them become one
+pub merged_all : (one two merged : SeatView) (others : List Named) → IsMerged one two merged → AreAllNames (two.names ++ (one.names ++ others))
+    → AreAllNames (merged.names ++ others)
+merged_all one two merged others is all =
+    let names : merged.names ≡ merge_names one.names two.names = is.joined.names_are in
+    names_same (two.names ++ (one.names ++ others)) (merged.names ++ others)
+    (λ n h. rw names (in_merged one.names two.names others n h)) (λ n h. of_merged one.names two.names others n (rw names at h)) all
+
+-- the names of crews, with one more at their end
+names_in_last : {H : Type 0} (crews : List (Crew H)) (crew : Crew H) → names_in (crews ++ crew ∷ []) ≡ names_in crews ++ crew.seat.view.names
+names_in_last [] crew = append-nil crew.seat.view.names
+names_in_last (one ∷ crews) crew =
+    ap (λ (ns : List Named). one.seat.view.names ++ ns) (names_in_last crews crew) ∙ sym (append_assoc one.seat.view.names (names_in crews) crew.seat.view.names)
+
+last_first : (a b c : List Named) (n : Named) → Contains (a ++ (b ++ c)) n → Contains (c ++ (a ++ b)) n
+last_first a b c n h = grind (
+  arith,
+  Contains-append_cases a (b ++ c) n,
+  Contains-append_cases b c n,
+  Contains-append_left a b n,
+  Contains-append_right a b n,
+  Contains-append_left c (a ++ b) n,
+  Contains-append_right c (a ++ b) n,
+)
+
+first_last : (a b c : List Named) (n : Named) → Contains (c ++ (a ++ b)) n → Contains (a ++ (b ++ c)) n
+first_last a b c n h = grind (
+  arith,
+  Contains-append_cases c (a ++ b) n,
+  Contains-append_cases a b n,
+  Contains-append_left b c n,
+  Contains-append_right b c n,
+  Contains-append_left a (b ++ c) n,
+  Contains-append_right a (b ++ c) n,
+)
 
 -- a crew's seat is joined
 pub joined_names : {H : Type 0} (one merged : SeatView) (crews : List (Crew H)) (crew : Crew H) → IsMerged one crew.seat.view merged
     → HaveAllNames one (crews ++ crew ∷ []) → HaveAllNames merged crews
 joined_names one merged crews crew is all =
-    let two : List Named = crew.seat.view.names in
-    names_same (one.names ++ names_in (crews ++ crew ∷ [])) (merged.names ++ names_in crews) (λ n h.
-    elim (Contains-append_cases one.names (names_in (crews ++ crew ∷ [])) n h) [
-      | inl ours ↦
-          Contains-append_left merged.names (names_in crews) n
-          (subst (λ (ns : List Named). Contains ns n) (sym is.joined.names_are) (merge_has one.names two n (inl ours)))
-      | inr theirs ↦ elim (in_crews crews crew n theirs) [
-        | inl its ↦
-            Contains-append_left merged.names (names_in crews) n
-            (subst (λ (ns : List Named). Contains ns n) (sym is.joined.names_are) (merge_has one.names two n (inr its)))
-        | inr others ↦ Contains-append_right merged.names (names_in crews) n others
-      ]
-    ]) (λ n h. elim (Contains-append_cases merged.names (names_in crews) n h) [
-      | inl both ↦ elim (merge-cases one.names two n (subst (λ (ns : List Named). Contains ns n) is.joined.names_are both)) [
-        | inl ours ↦ Contains-append_left one.names (names_in (crews ++ crew ∷ [])) n ours
-        | inr its ↦ Contains-append_right one.names (names_in (crews ++ crew ∷ [])) n (has_crews crews crew n (inl its))
-      ]
-      | inr others ↦ Contains-append_right one.names (names_in (crews ++ crew ∷ [])) n (has_crews crews crew n (inr others))
-    ]) all
+    let a : List Named = one.names in
+    let b : List Named = names_in crews in
+    let c : List Named = crew.seat.view.names in
+    merged_all one crew.seat.view merged b is (names_same (a ++ (b ++ c)) (c ++ (a ++ b)) (last_first a b c) (first_last a b c)
+    (subst (λ (ns : List Named). AreAllNames (a ++ ns)) (names_in_last crews crew) all))
 
 -- the first name splits
 pub split_all : (names rest all : List Named) → ((n : Named) → Contains all n → Contains (new_names names) n ⊎ Contains rest n)
@@ -146,11 +156,14 @@ split_all (named ∷ names) rest all to back h =
 pub split_names : {H : Type 0} (view first second : SeatView) (crews : List (Crew H)) (crew : Crew H) → ArePartsOf view first second → crew.seat.view ≡ second
     → HaveAllNames view crews → HaveAllNames first (crews ++ crew ∷ [])
 split_names view first second crews crew parts its all =
-    let new : crew.seat.view.names ≡ new_names view.names = ap (λ (v : SeatView). v.names) (its ∙ parts.second_is) in
+    let new : List Named = new_names view.names in
+    let last : names_in crews ++ new ≡ names_in (crews ++ crew ∷ []) =
+    ap (λ (v : SeatView). names_in crews ++ v.names) (sym (its ∙ parts.second_is)) ∙ sym (names_in_last crews crew) in
     subst (λ (v : SeatView). HaveAllNames v (crews ++ crew ∷ [])) (sym parts.first_is)
-    (split_all view.names (names_in crews) (names_in (crews ++ crew ∷ [])) (λ n h.
-    subst (λ (ns : List Named). Contains ns n ⊎ Contains (names_in crews) n) new (in_crews crews crew n h)) (λ n h.
-    has_crews crews crew n (subst (λ (ns : List Named). Contains ns n ⊎ Contains (names_in crews) n) (sym new) h)) all)
+    (subst (λ (ns : List Named). AreAllNames (raise_least view.names ++ ns)) last
+    (split_all view.names (names_in crews) (names_in crews ++ new)
+    (λ n h. elim (Contains-append_cases (names_in crews) new n h) [ inl rest ↦ inr rest | inr made ↦ inl made ])
+    (λ n h. elim h [ inl made ↦ Contains-append_right (names_in crews) new n made | inr rest ↦ Contains-append_left (names_in crews) new n rest ]) all))
 
 -- events of a set of names
 pub by_them : (names : List Name) (events : List Event) (e : Event) → Contains (events_of names events) e → Contains events e × (is_by names e ≡ true)

@@ -1,30 +1,27 @@
 -- What workers leave to the seat with which theirs were joined: each piece is one that was handed over.
-use Rattle.std.proofs.Common.{◌≡◌, ℕ, suc, ◌<◌, true, false, List, [], ◌∷◌, ◌++◌, length, map, get_or, Contains, refl, sym, ap, subst, ◌∙◌, arith, inl, inr}
-use Rattle.std.specs.List.{All}
-use Rattle.std.proofs.lemmas.Bool.{both_ways, false_from_ne_true}
-use Rattle.std.proofs.lemmas.List.Sums.{sum_by-cons}
-use Rattle.bao_check.proofs.Lists.{All-member, Contains-cons_cases}
+use Rattle.crews.proofs.Common.{◌≡◌, ℕ, suc, ◌<◌, true, false, List, [], ◌∷◌, ◌++◌, length, map, get_or, Contains, refl, sym, ap, subst, ◌∙◌, arith, inl, inr, All, both_ways, false_from_ne_true, sum_by-cons, All-member, Contains-cons_cases, none_failed, IsHanded, IsFrom, from_wider, Fixed, Event, Piece, Named, SeatView, events_of, state_after, Name, has_name, claims, mine, names_of, seat_claims, Assembly, opening_view, AreAllNames, IsLent, get_or_from_slice_get, slice_get_within}
 use Rattle.crews.specs.declared.crew.Crew.{Crew}
 use Rattle.crews.specs.Closing.{IsLeft}
-use Rattle.crews.specs.Crews.{Each, Worked, all_faults, faults_of}
+use Rattle.crews.specs.Crews.{Each, IsHandedTo, Worked, all_faults, faults_of}
 use Rattle.crews.specs.Joined.{AreCallsOf, AreClaimsOf, HasAllNamesOf, HaveAllNames, names_in}
 use Rattle.crews.specs.Seats.{BeginsAfter, KeepsItsOwn}
-use Rattle.gather.proofs.Handing.{none_failed}
-use Rattle.crews.proofs.OfNone.{AreLent}
-use Rattle.gather.specs.Holders.{IsHanded}
-use Rattle.gather.specs.Worked.{IsFrom}
-use Rattle.gather.specs.Working.{from_wider}
-use Rattle.store_core.specs.declared.fixed.Fixed.{Fixed}
-use Rattle.store_core.specs.declared.history.Event.{Event}
-use Rattle.store_core.specs.declared.history.Piece.{Piece}
-use Rattle.store_core.specs.declared.view.Named.{Named}
-use Rattle.store_core.specs.declared.view.SeatView.{SeatView}
-use Rattle.store_core.specs.Histories.{events_of, state_after}
-use Rattle.store_core.specs.Names.{Name, has_name}
-use Rattle.store_core.specs.States.{claims}
-use Rattle.store_core.specs.Views.{mine, names_of, seat_claims}
-use Rattle.store_shared.specs.declared.assembly.Assembly.{Assembly}
-use Rattle.store_core.specs.Knowledge.{opening_view, AreAllNames}
+
+-- what the holders of each of these crews may give
+abbrev pub AreLent : {H : Type 0} → (H → ℕ → ℕ → List ℕ → Type 0) → (Piece → Type 0) → List (Crew H) → Type 0
+AreLent {H = H} gives handed crews = All (λ (crew : Crew H). (piece : Piece) → IsHanded gives crew.holders.items piece → handed piece) crews
+
+-- what crews hand over
+pub handed_wide : {H : Type 0} (gives : H → ℕ → ℕ → List ℕ → Type 0) (handed : Piece → Type 0) (crews : List (Crew H)) → AreLent gives handed crews → (piece : Piece)
+    → IsHandedTo gives crews piece → handed piece
+handed_wide {H = H} gives handed crews wide piece to =
+    let below : to.number < length crews = slice_get_within crews to.number to.crew to.there in
+    let here : get_or crews to.number to.crew ≡ to.crew = get_or_from_slice_get crews to.number to.crew to.crew to.there in
+    subst (λ (crew : Crew H). IsHanded gives crew.holders.items piece → handed piece) here (wide to.number to.crew below piece) to.handed
+
+-- crews with lists of holders that were made alike
+pub lent_all : {H : Type 0} (gives : H → ℕ → ℕ → List ℕ → Type 0) (over : List H → Type 0) (crews : List (Crew H)) → All (λ (crew : Crew H). over crew.holders.items) crews
+    → AreLent gives (IsLent gives over) crews
+lent_all gives over crews are k d below piece handed = record { holders = (get_or crews k d).holders.items; are = are k d below; handed = handed }
 
 -- crews whose seats have the same names
 names_each : {H : Type 0} (before after : List (Crew H)) → length after ≡ length before

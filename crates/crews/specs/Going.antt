@@ -6,9 +6,9 @@ use Rattle.bao_check.proofs.Lists.{All-append}
 use Rattle.crews.specs.Seats.{GoneOn, fixed_of}
 use Rattle.gather.specs.Counts.{Goes}
 use Rattle.gather.specs.Holders.{IsNone}
-use Rattle.gather.specs.Working.{from_append, from_wider}
+use Rattle.gather.specs.Working.{from_wider}
 use Rattle.store_core.specs.declared.history.Piece.{Piece}
-use Rattle.gather.specs.Worked.{chunks_in, parents_in, parents_of}
+use Rattle.gather.specs.Worked.{IsFrom, chunks_in, parents_in, parents_of}
 use Rattle.store_core.specs.declared.history.Event.{Event}
 use Rattle.store_core.specs.declared.view.Named.{Named}
 use Rattle.store_core.specs.Laws.{chunks_of}
@@ -38,7 +38,7 @@ adds handed r s t m n p q first second = record {
   own = first.own ++ second.own;
   by = All-append (λ (e : Event). e.who ≡ names_of r.view) first.own second.own first.by
       (subst (λ (ns : List Named). AllByRecursion (λ (e : Event). e.who ≡ map (λ (named : Named). named.name) ns) second.own) first.names_are second.by);
-  from = from_append handed first.own second.own first.from second.from;
+  from = All-append (λ (e : Event). IsFrom handed e.call) first.own second.own first.from second.from;
   mine_is = second.mine_is ∙ ap (λ (own : List Event). own ++ second.own) first.mine_is ∙ append_assoc (mine r.view) first.own second.own;
   counts = ap (λ (k : ℕ). k + n) first.counts ∙ ap (λ (k : ℕ). chunks_in first.own + k) second.counts ∙ sym (sum_by-append (λ (e : Event). chunks_of e.call) first.own second.own);
   counts_parents = ap (λ (k : ℕ). k + q) first.counts_parents ∙ ap (λ (k : ℕ). parents_in first.own + k) second.counts_parents ∙ sym (sum_by-append (λ (e : Event). parents_of e.call) first.own second.own);

@@ -1,11 +1,14 @@
 -- What a worker knows of a shared store by its seat, and that it lasts.
-use Rattle.std.specs.Prelude.{◌≡◌, ℕ, true, List, ◌++◌, Contains, Some}
-use Rattle.std.proofs.Common.{append_assoc, inl, subst, sym, ap, ◌∙◌}
+use Rattle.std.specs.Prelude.{◌≡◌, ℕ, true, List, ◌++◌, map, Contains, Some}
+use Rattle.std.proofs.Common.{append_assoc, inl, inr, subst, sym, ap, ◌∙◌}
+use Rattle.std.proofs.lemmas.List.Elements.{Contains-append_cases}
+use Rattle.bao_check.proofs.Lists.{All-member}
 use Rattle.gather.specs.Available.{Lasts}
 use Rattle.crews.specs.Seats.{GoneOn, claims_of}
 use Rattle.store_core.specs.declared.history.Event.{Event}
 use Rattle.store_core.specs.Histories.{IsLegal, state_after}
 use Rattle.store_core.specs.declared.history.Piece.{Piece}
+use Rattle.store_core.specs.declared.view.Named.{Named}
 use Rattle.store_core.specs.declared.view.SeatView.{SeatView}
 use Rattle.store_core.specs.Names.{Name, has_name}
 use Rattle.store_core.specs.States.{State, is_held}
@@ -21,10 +24,6 @@ IsFromNow P seat = (more : List Event) → IsLegal seat.view.fixed (seat.view.se
 abbrev pub RecordsOn : Gripped → ℕ → Type 0
 RecordsOn seat l = IsFromNow (λ (s : State). s.recorded ≡ Some l) seat
 
--- nothing is said of which chunks are held or claimed by others
-abbrev pub IsUnsaid : Gripped → ℕ → Type 0
-IsUnsaid seat c = Unit {0}
-
 lasts_on : (P : State → Type 0) (handed : Piece → Type 0) (s t : Gripped) (n q : ℕ) → GoneOn handed s t n q → IsFromNow P s → IsFromNow P t
 lasts_on P handed s t n q gone is more legal =
     let same : t.view.seen ++ more ≡ s.view.seen ++ (gone.more ++ more) =
@@ -35,9 +34,6 @@ lasts_on P handed s t n q gone is more legal =
 records_last : (handed : Piece → Type 0) (s t : Gripped) (n q l : ℕ) → GoneOn handed s t n q → RecordsOn s l → RecordsOn t l
 records_last handed s t n q l gone is = lasts_on (λ (x : State). x.recorded ≡ Some l) handed s t n q gone is
 
-pub lasts : Lasts GoneOn claims_of RecordsOn IsUnsaid IsUnsaid
-lasts = record { length = records_last; chunk = λ handed s t n q c gone is. is; frees = λ handed s t n q c gone among busy. inl busy }
-
 -- The seat has all names that there are, and no other names than these made its calls.
 pub record IsAlone (view : SeatView) : Type 0 where
   pub all : AreAllNames view.names
@@ -47,12 +43,31 @@ pub record IsAlone (view : SeatView) : Type 0 where
 abbrev pub HoldsOn : Gripped → ℕ → Type 0
 HoldsOn seat c = IsFromNow (λ (s : State). is_held s c ≡ true) seat
 
--- the seat itself claims the chunk
-abbrev pub Claims : Gripped → ℕ → Type 0
-Claims seat c = claims_of seat c ≡ true
+-- the seat itself claims the chunk, if it is alone
+abbrev pub IsBusyOn : Gripped → ℕ → Type 0
+IsBusyOn seat c = IsAlone seat.view → claims_of seat c ≡ true
 
 holds_last : (handed : Piece → Type 0) (s t : Gripped) (n q c : ℕ) → GoneOn handed s t n q → HoldsOn s c → HoldsOn t c
 holds_last handed s t n q c gone is = lasts_on (λ (x : State). is_held x c ≡ true) handed s t n q gone is
 
-pub lasts_alone : Lasts GoneOn claims_of RecordsOn HoldsOn Claims
-lasts_alone = record { length = records_last; chunk = holds_last; frees = λ handed s t n q c gone among busy. inl (among c busy) }
+-- a seat that is alone goes on, and stays so
+pub alone_on : (handed : Piece → Type 0) (old new : Gripped) (n q : ℕ) → GoneOn handed old new n q → IsAlone old.view → IsAlone new.view
+alone_on handed old new n q gone alone =
+    let same : names_of new.view ≡ names_of old.view = ap (λ (ns : List Named). map (λ (named : Named). named.name) ns) gone.names_are in
+    record {
+      all = subst (λ (ns : List Named). AreAllNames ns) (sym gone.names_are) alone.all;
+      own = λ e name h has.
+          subst (λ (ns : List Name). has_name ns name ≡ true) (sym same)
+          (elim (Contains-append_cases (mine old.view) gone.own e (subst (λ (es : List Event). Contains es e) gone.mine_is h)) [
+            | inl before ↦ alone.own e name before has
+            | inr last ↦
+                subst (λ (who : List Name). has_name who name ≡ true) (All-member (λ (x : Event). x.who ≡ names_of old.view) gone.own gone.by e last) has
+          ]);
+    }
+
+pub lasts : Lasts GoneOn claims_of RecordsOn HoldsOn IsBusyOn
+lasts = record {
+  length = records_last;
+  chunk = holds_last;
+  frees = λ handed s t n q c gone among busy. inl (λ alone. among c (busy (alone_on handed s t n q gone alone)));
+}

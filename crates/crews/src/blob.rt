@@ -12,6 +12,7 @@ use std::alloc::Global;
 use store_shared::{Assembly, Seat};
 
 // All bytes of a shared store below its recorded length.
+#[tactic(auto, using(gather::proofs::Finishing::no_none, store_shared::proofs::Asking::length_there, crate::proofs::Finishing::asks_both, crate::proofs::Finishing::recorded_then))]
 fn read_all(alloc: Global, assembly: &Assembly, seat: &mut Seat) -> Result<Vec<u8>, FinishFault>
     requires of { IsSeatOf assembly.now seat.old }
     ensures of { IsSeatOf assembly.now seat.new }
@@ -40,6 +41,7 @@ fn read_all(alloc: Global, assembly: &Assembly, seat: &mut Seat) -> Result<Vec<u
 /// For each blob with the root the blob is the one that is answered, and there is none at `NotTheRoot`; or a collision
 /// is exhibited, two different inputs with one chaining value, one of the blob's and one of a piece's of which the history that the seat has
 /// seen committed a chunk, or by which it settled the length.
+#[tactic(auto, using(gather::proofs::Finishing::finished, gather::proofs::Finishing::judged_at, gather::proofs::Finishing::verdict_finishes))]
 pub fn finish(alloc: Global, assembly: &Assembly, seat: &mut Seat) -> Result<Vec<u8>, FinishFault>
     requires of { IsSeatOf assembly.now seat.old }
     ensures of { IsSeatOf assembly.now seat.new }

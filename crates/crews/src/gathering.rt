@@ -56,11 +56,12 @@ fn gather_within<R: Threads + Sync, H: Holder + Send + Drop, L: Lists<H>>(
     how: How,
     lists: &L,
 ) -> Result<Whole, GatherFault>
+    requires whole { fixed.now.base ≡ 0 }
     requires quiet { (holder : H) → H.count holder ≡ 0 }
-    ensures gathers { Gathers own_bytes (IsLent (made_of form.now H.gives) (L.over lists.now)) (fixed_as fixed.now.root fixed.now.mode fixed.now.capacity) result }
-    ensures available { AreSlices form.now → (blob : List ℕ) → IsBlob (fixed_as fixed.now.root fixed.now.mode fixed.now.capacity) blob → chunk_count (length blob) ≤ fixed.now.capacity
+    ensures gathers { Gathers own_bytes (IsLent (made_of form.now H.gives) (L.over lists.now)) fixed.now result }
+    ensures available { AreSlices form.now → (blob : List ℕ) → IsBlob fixed.now blob → chunk_count (length blob) ≤ fixed.now.capacity
         → HaveAll how.grain (made_of form.now H.gives) (L.over lists.now) fixed.now.mode blob
-        → IsHandedOut own_bytes (IsLent (made_of form.now H.gives) (L.over lists.now)) (fixed_as fixed.now.root fixed.now.mode fixed.now.capacity) blob result }
+        → IsHandedOut own_bytes (IsLent (made_of form.now H.gives) (L.over lists.now)) fixed.now blob result }
 {
     let (assembly, seat) = store_for(alloc, fixed)?;
     let workers = how.workers.clamp(1, MOST_WORKERS);
@@ -83,11 +84,12 @@ pub(crate) fn gather_from<R: Threads + Sync, H: Holder + Send + Drop, L: Lists<H
     how: How,
     lists: &L,
 ) -> Result<Whole, GatherFault>
+    requires whole { fixed.now.base ≡ 0 }
     requires quiet { (holder : H) → H.count holder ≡ 0 }
-    ensures gathers { Gathers own_bytes (IsLent (made_of form.now H.gives) (L.over lists.now)) (fixed_as fixed.now.root fixed.now.mode fixed.now.capacity) result }
-    ensures available { AreSlices form.now → (blob : List ℕ) → IsBlob (fixed_as fixed.now.root fixed.now.mode fixed.now.capacity) blob → chunk_count (length blob) ≤ fixed.now.capacity
+    ensures gathers { Gathers own_bytes (IsLent (made_of form.now H.gives) (L.over lists.now)) fixed.now result }
+    ensures available { AreSlices form.now → (blob : List ℕ) → IsBlob fixed.now blob → chunk_count (length blob) ≤ fixed.now.capacity
         → HaveAll how.grain (made_of form.now H.gives) (L.over lists.now) fixed.now.mode blob
-        → IsHandedOut own_bytes (IsLent (made_of form.now H.gives) (L.over lists.now)) (fixed_as fixed.now.root fixed.now.mode fixed.now.capacity) blob result }
+        → IsHandedOut own_bytes (IsLent (made_of form.now H.gives) (L.over lists.now)) fixed.now blob result }
 {
     if let Some(first) = first_room(how.room, fixed.capacity) {
         let lesser = Fixed {

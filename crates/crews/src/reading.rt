@@ -17,6 +17,7 @@ use std::thread::{Threads, join};
 use store_shared::{Assembly, Seat};
 
 // The bytes of a shared store from the position `at` on, as many as there is room for.
+#[tactic(auto, using(crate::proofs::Rereading::part_lacks, crate::proofs::Rereading::part_there))]
 pub(crate) fn read_part(
     assembly: &Assembly,
     seat: &mut Seat,

@@ -81,7 +81,12 @@ pub(crate) fn first_round<R: Threads + Sync, H: Holder + Send, G: Gate + Sync>(
 }
 
 // The closing round, each crew in turn.
-fn last_round<H: Holder>(alloc: Global, assembly: &Assembly, form: &Form<'_>, crews: &mut [Crew<H>])
+pub(crate) fn last_round<H: Holder>(
+    alloc: Global,
+    assembly: &Assembly,
+    form: &Form<'_>,
+    crews: &mut [Crew<H>],
+)
     requires count { length crews.old ≤ 64 }
     requires of { All (λ crew. IsSeatOf assembly.now crew.seat) crews.old }
     ensures { Each (WorkedOn assembly.now (made_of form.now H.gives) H.count) crews.old crews.new }
@@ -108,23 +113,4 @@ pub(crate) fn all_reports<H>(crews: &[Crew<H>]) -> Report
         all.too_large |= report.too_large;
     }
     all
-}
-
-// Both rounds of all crews, and the sums of their reports.
-pub(crate) fn both_rounds<R: Threads + Sync, H: Holder + Send, G: Gate + Sync>(
-    rt: &R,
-    alloc: Global,
-    assembly: &Assembly,
-    form: &Form<'_>,
-    crews: &mut [Crew<H>],
-    gate: &G,
-) -> Report
-    requires count { (0 < length crews.old) × (length crews.old ≤ 64) }
-    requires of { All (λ crew. IsSeatOf assembly.now crew.seat) crews.old }
-    ensures each { Each (Worked assembly.now (made_of form.now H.gives) H.count) crews.old crews.new }
-    ensures all { result ≡ all_of crews.new }
-{
-    first_round(rt, alloc, assembly, form, crews, gate);
-    last_round(alloc, assembly, form, crews);
-    all_reports(crews)
 }

@@ -8,7 +8,7 @@ ghost use Rattle.crews.specs.Beside.{IsOfStore};
 ghost use Rattle.crews.specs.Seats.{SeenBinds};
 
 use crate::crew::Crew;
-use crate::rounds::both_rounds;
+use crate::rounds::{all_reports, first_round, last_round};
 use bao_check::Outline;
 use bao_read::Gate;
 use gather::{Form, Holder, Report};
@@ -37,7 +37,9 @@ fn run_as<R: Threads + Sync, H: Holder + Send, G: Gate + Sync>(
 {
     // For the prover alone: the flags of a mode are apart from the tree's.
     assembly.mode().is_keyed();
-    both_rounds(rt, alloc, assembly, form, crews, gate)
+    first_round(rt, alloc, assembly, form, crews, gate);
+    last_round(alloc, assembly, form, crews);
+    all_reports(crews)
 }
 
 /// Gathers what a shared store still lacks of its blob from holders that nobody trusts: one worker a crew, all at once.

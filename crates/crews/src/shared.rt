@@ -10,7 +10,7 @@ pub struct Shared<'a>(pub &'a Assembly);
 impl Shelf for Shared<'_> {
     ghost use Rattle.store_shared.specs.Seats.{IsSeatOf};
     ghost use Rattle.crews.specs.Going.{goes};
-    ghost use Rattle.crews.specs.Lasting.{IsUnsaid, RecordsOn, lasts};
+    ghost use Rattle.crews.specs.Lasting.{HoldsOn, IsBusyOn, RecordsOn, lasts};
     ghost use Rattle.crews.specs.Seats.{GoneOn, claims_of, fixed_of};
 
     type Seat = Seat;
@@ -27,9 +27,9 @@ impl Shelf for Shared<'_> {
 
     ghost records = { λ seat l. RecordsOn seat l };
 
-    ghost holds = { λ seat c. IsUnsaid seat c };
+    ghost holds = { λ seat c. HoldsOn seat c };
 
-    ghost busy = { λ seat c. IsUnsaid seat c };
+    ghost busy = { λ seat c. IsBusyOn seat c };
 
     ghost lasts = { lasts };
 
@@ -43,9 +43,14 @@ impl Shelf for Shared<'_> {
     }
 
     fn take(&self, seat: &mut Seat, group: u32, want: u64) -> Result<u64, StoreFault> {
-        self.0
-            .take(seat, group, want)
-            .map_err(|_| StoreFault::NoGroup)
+        match self.0.take(seat, group, want) {
+            Ok(granted) => {
+                // For the prover alone: a seat that is alone has made all calls that there were.
+                self.0.look_round(seat);
+                Ok(granted)
+            }
+            Err(_) => Err(StoreFault::NoGroup),
+        }
     }
 
     fn give(&self, seat: &mut Seat, group: u32, mask: u64) -> u64 {
@@ -53,25 +58,27 @@ impl Shelf for Shared<'_> {
     }
 
     fn commit(&self, seat: &mut Seat, group: u32, piece: &Checked<'_>) -> Result<u64, StoreFault> {
-        self.0
-            .commit(seat, group, piece)
-            .map_err(|_| StoreFault::OtherRoot)
+        match self.0.commit(seat, group, piece) {
+            Ok(committed) => Ok(committed),
+            Err(_) => Err(StoreFault::OtherRoot),
+        }
     }
 
+    #[tactic(auto, using(crate::proofs::Sharing::unstored_gains))]
     fn commit_parents(
         &self,
         seat: &mut Seat,
         group: u32,
         piece: &Checked<'_>,
     ) -> Result<u64, StoreFault> {
-        self.0
-            .commit_parents(seat, group, piece)
-            .map_err(|fault| match fault {
-                ParentsFault::OtherRoot => StoreFault::OtherRoot,
-                ParentsFault::OtherLength => StoreFault::OtherLength,
-            })
+        match self.0.commit_parents(seat, group, piece) {
+            Ok(stored) => Ok(stored),
+            Err(ParentsFault::OtherRoot) => Err(StoreFault::OtherRoot),
+            Err(ParentsFault::OtherLength) => Err(StoreFault::OtherLength),
+        }
     }
 
+    #[tactic(auto, using(crate::proofs::Knowing::settle_records, crate::proofs::Sharing::settles_large, crate::proofs::Sharing::settles_still))]
     fn settle(&self, seat: &mut Seat, tail: &Tail<'_>) -> Settling {
         // For the prover alone: a tail is of a piece with its last chunk.
         tail.is_last();

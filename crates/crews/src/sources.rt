@@ -21,8 +21,9 @@ use store_core::Fixed;
 ///
 /// So many workers, at least 1 and at most 64, fill a shared store, as `run` and `run_bare` say of a first round, each with a seat
 /// of its own and all sources in their order. Then their seats are joined to one, which goes once more round the groups and asks for
-/// what is held by nobody; with `Grain::Chunk` it then asks for each chunk by itself, as `salvage` says. The blob stays in that store,
-/// and is read from there. A source of which a read answers a fault gives nothing then, and the next one is asked.
+/// what is held by nobody, so that W workers ask each source for one group W + 1 times at the most; with `Grain::Chunk` it then asks
+/// for each chunk by itself, as `salvage` says. The blob stays in that store, and is read from there. A source of which a read
+/// answers a fault gives nothing then, and the next one is asked.
 ///
 /// The store has room for `how.room` chunks, at least 1 and at most the capacity. Where that is less than the capacity, and the blob
 /// is too large for it or left unfinished, the work is done once more with room for all. As many as an encoding of N bytes can have are

@@ -51,12 +51,12 @@ pub fn crews_over<'a>(
 }
 
 /// The blob with this root in this mode, out of texts that nobody trusts: each may be its combined encoding, or any
-/// bytes. So many workers, at least 1 and at most 64, fill a shared store, as `run` says, each with a seat of its own and
-/// all texts in their order. Then their seats are joined to one, which goes once more round the groups and asks for
-/// what is held by nobody; with `Grain::Chunk` it then asks for each chunk by itself, as `salvage` says. The store is let
-/// go at the end. It has room for as many chunks as a blob with such an encoding may have, at most `capacity`: where that
-/// is less, and the blob is too large for it or left unfinished, the work is done again with room for all. The texts are
-/// not copied.
+/// bytes. So many workers, at least 1 and at most 64, fill a shared store, as `run` says of a first round, each with a seat of
+/// its own and all texts in their order. Then their seats are joined to one, which goes once more round the groups and asks for
+/// what is held by nobody, so that W workers ask each text for one group W + 1 times at the most; with `Grain::Chunk` it then
+/// asks for each chunk by itself, as `salvage` says. The store is let go at the end. It has room for as many chunks as a blob
+/// with such an encoding may have, at most `capacity`: where that is less, and the blob is too large for it or left unfinished,
+/// the work is done again with room for all. The texts are not copied.
 ///
 /// 802 `Capacity` unless `capacity` is 1 to 65,536, asked before all else; 801 where there is no memory for the store,
 /// 806 for a worker's seat, and 911 `Starved` for the crews and the lists of texts. Then the blob is answered only

@@ -17,6 +17,7 @@ use std::thread::Threads;
 use store_shared::{Assembly, Seat};
 
 // The length of the blob of a shared store all of whose bytes are held, once the hash that this top of their tree gives is the root.
+#[tactic(auto, using(gather::proofs::Finishing::judged_fault, crate::proofs::Rereading::top_judged))]
 fn judged(assembly: &Assembly, seat: &Seat, len: u64, top: &Input) -> Result<u64, FinishFault>
     requires of { IsSeatOf assembly.now seat.now }
     requires full { IsFull (state_after seat.now.view.seen) len }
@@ -36,6 +37,7 @@ fn judged(assembly: &Assembly, seat: &Seat, len: u64, top: &Input) -> Result<u64
 // How long the blob of a shared store is, once all of its bytes were read and their hash in the mode is the root. Its tree's
 // parts of at most about that many workers' share are read and hashed at once, by a seat each; where no seat can be split off, one
 // reads both parts.
+#[tactic(auto, using(crate::proofs::Rereading::full_from, crate::proofs::Rereading::no_length, crate::proofs::Rereading::ok_map, crate::proofs::Rereading::on_called, crate::proofs::Rereading::on_then))]
 pub(crate) fn certify<R: Threads + Sync>(
     rt: &R,
     alloc: Global,

@@ -1,28 +1,6 @@
 -- What each call of a one-thread store is for its worker.
-use Rattle.std.proofs.Common.{◌≡◌, ℕ, ◌%◌, ◌/◌, ◌==◌, true, false, [], ◌∷◌, Result, Ok, Err, IfErr, IfOk, OnErr, MatchResult, count_ones, refl, subst, ◌∙◌, arith, inl, inr, eqb-true}
-use Rattle.std.proofs.lemmas.Bool.{and_from, and_parts, both_ways, cases_Bool}
-use Rattle.b3tree.specs.declared.mode.Mode.{Mode}
-use Rattle.b3tree.specs.declared.values.Hash.{Hash}
-use Rattle.b3tree.specs.Valid.{AreBytes}
-use Rattle.bao_check.specs.declared.checked.Checked.{Checked}
-use Rattle.bao_check.specs.Accepted.{IsAccepted}
-use Rattle.bao_check.specs.Checked.{HoldsLast, piece_mode, piece_nodes, piece_root, piece_text}
-use Rattle.store_core.specs.declared.fault.StoreFault.{StoreFault}
+use Rattle.gather.proofs.Common.{◌≡◌, ℕ, ◌%◌, ◌/◌, ◌==◌, true, false, [], ◌∷◌, Result, Ok, Err, IfErr, IfOk, OnErr, MatchResult, count_ones, refl, subst, ◌∙◌, arith, inl, inr, eqb-true, and_from, and_parts, both_ways, cases_Bool, Mode, Hash, AreBytes, Checked, IsAccepted, HoldsLast, piece_mode, piece_nodes, piece_root, piece_text, StoreFault, Call, Take, Give, Commit, Settle, Parents, Piece, Settling, Settled, Known, Differs, OtherRoot, TooLarge, Storing, Stored, Store, after_call, chunks_of, has_bit, in_mask, piece_of, State, claims, DidStore, IsEvent, IsSame, IsUnstored, Settles, fixed_of, state_of}
 use Rattle.store_core.specs.declared.fault.StoreFault.TheVariants as fault
-use Rattle.store_core.specs.declared.history.Call.{Call}
-use Rattle.store_core.specs.declared.history.Call.TheVariants.{Take, Give, Commit, Settle, Parents}
-use Rattle.store_core.specs.declared.history.Piece.{Piece}
-use Rattle.store_core.specs.declared.history.Settling.{Settling}
-use Rattle.store_core.specs.declared.history.Settling.TheVariants.{Settled, Known, Differs, OtherRoot, TooLarge}
-use Rattle.store_core.specs.declared.history.Storing.{Storing}
-use Rattle.store_core.specs.declared.history.Storing.TheVariants.{Stored}
-use Rattle.store_core.specs.declared.store.Store.{Store}
-use Rattle.store_core.specs.Events.{after_call}
-use Rattle.store_core.specs.Laws.{chunks_of}
-use Rattle.store_core.specs.Masks.{has_bit, in_mask}
-use Rattle.store_core.specs.Pieces.{piece_of}
-use Rattle.store_core.specs.States.{State, claims}
-use Rattle.store_core.specs.Stores.{DidStore, IsEvent, IsSame, IsUnstored, Settles, fixed_of, state_of}
 use Rattle.gather.specs.Claims.{Among, AmongAnd, Without}
 use Rattle.gather.specs.Counts.{Still}
 use Rattle.gather.specs.Holders.{IsIt, IsNone}

@@ -1,14 +1,5 @@
 -- What gathering answers: more handed over, a store of less room, a blob in memory of its own, and why there is none.
-use Rattle.std.proofs.Common.{◌≡◌, ◌⊎◌, ℕ, ◌*◌, ◌<◌, ◌≤◌, IsTrue, List, length, Result, Vec, Ok, Err, IfErr, IfOk, MatchResult, arith, refl, subst, sym, ap, ◌∙◌, inl, inr}
-use Rattle.std.specs.Global.{Global}
-use Rattle.std.specs.Prelude.{IsErrOf, vec_items}
-use Rattle.std.specs.Result.{IsErrAnd}
-use Rattle.std.proofs.lemmas.Bool.{cases_lt}
-use Rattle.b3tree.specs.declared.mode.Mode.{Mode}
-use Rattle.b3tree.specs.Hashing.{hash}
-use Rattle.b3tree.specs.declared.values.Hash.{Hash}
-use Rattle.b3tree.specs.Valid.{IsKeyed}
-use Rattle.bao_check.proofs.Laws.{accepted_binds}
+use Rattle.gather.proofs.Common.{◌≡◌, ◌⊎◌, ℕ, ◌*◌, ◌<◌, ◌≤◌, IsTrue, List, length, Result, Vec, Ok, Err, IfErr, IfOk, MatchResult, arith, refl, subst, sym, ap, ◌∙◌, inl, inr, Global, IsErrOf, vec_items, IsErrAnd, cases_lt, hash, IsKeyed, accepted_binds, Fixed, Piece, IsBlob}
 use Rattle.gather.specs.declared.fault.FinishFault.{FinishFault}
 use Rattle.gather.specs.declared.fault.FinishFault.TheVariants as finishing
 use Rattle.gather.specs.declared.fault.GatherFault.{GatherFault}
@@ -16,14 +7,11 @@ use Rattle.gather.specs.declared.fault.GatherFault.TheVariants.{Store, Capacity,
 use Rattle.gather.specs.declared.report.Report.{Report}
 use Rattle.gather.specs.Faults.{cause_of, why_of}
 use Rattle.gather.specs.HandedOut.{Certifies, Gathers, IsExcused, IsHandedOut, own_bytes}
-use Rattle.gather.specs.Large.{AreLonger, AreTheBlob, HasCollision, IsOfNone, IsTooLarge, fixed_as}
+use Rattle.gather.specs.Large.{AreLonger, AreTheBlob, HasCollision, IsOfNone, IsTooLarge}
 use Rattle.gather.proofs.Binding.{are_longer, longer_wider, none_wider, pair_wider}
-use Rattle.gather.proofs.Handing.{cause_never, cause_other, is_large}
+use Rattle.gather.proofs.Handing.{cause_fed, cause_never, cause_other, is_large}
 use Rattle.gather.proofs.Reporting.{large_wider}
-use Rattle.gather.proofs.Rooms.{blob_at, none_at, pair_at}
-use Rattle.store_core.specs.declared.fixed.Fixed.{Fixed}
-use Rattle.store_core.specs.declared.history.Piece.{Piece}
-use Rattle.store_core.specs.Laws.{IsBlob}
+use Rattle.gather.proofs.Rooms.{blob_at, pair_at, with_room}
 
 -- a fault is answered
 abbrev pub err_of : (T : Type 0) → GatherFault → Result T GatherFault
@@ -104,20 +92,6 @@ store_refused bytes_of handed fixed (Err fault) is never =
     gathers_err bytes_of handed fixed fault (certifies_err bytes_of fixed fault (λ e. no_room fixed.capacity never) (λ no. is))
     (λ e. let no : Capacity ≡ TooLarge = sym is ∙ e in cc) (λ e. let no : Capacity ≡ TooLarge = sym is ∙ e in cc) (λ e. let no : Capacity ≡ NotTheRoot = sym is ∙ e in cc)
 
--- a fault that is passed on, of a store that was not made, or of memory once there is one
-pub store_certifies : {T : Type 0} (A : Type 0) (bytes_of : T → List ℕ) (fixed : Fixed) (r : Result T GatherFault) (fault : GatherFault) → IsErrAnd r (λ f. f ≡ fault)
-    → (err_of A fault ≡ err_of A Capacity → 0 < fixed.capacity × fixed.capacity ≤ 65536 → ⊥) → ((0 < fixed.capacity × fixed.capacity ≤ 65536 → ⊥) → err_of A fault ≡ err_of A Capacity)
-    → Certifies bytes_of fixed r
-store_certifies A bytes_of fixed (Ok blob) fault is out only = absurd is
-store_certifies A bytes_of fixed (Err f) fault is out only =
-    certifies_err bytes_of fixed f (λ e. no_room fixed.capacity (out (ap (err_of A) (sym is ∙ e))))
-    (λ no. is ∙ (let same : err_of A fault ≡ err_of A Capacity = only (λ room. has_room ⊥ fixed.capacity room.0 room.1 no) in cc))
-
-pub memory_passed : {T : Type 0} (bytes_of : T → List ℕ) (fixed : Fixed) (r : Result T GatherFault) (fault : GatherFault) → IsErrAnd r (λ f. f ≡ fault)
-    → 0 < fixed.capacity → fixed.capacity ≤ 65536 → (fault ≡ Capacity → ⊥) → Certifies bytes_of fixed r
-memory_passed bytes_of fixed (Ok blob) fault is some limit never = absurd is
-memory_passed bytes_of fixed (Err f) fault is some limit never = certifies_none bytes_of fixed f some limit (λ e. never (sym is ∙ e))
-
 -- what is answered where a store doesn't hand its blob out
 pub why_certifies : {T : Type 0} (bytes_of : T → List ℕ) (fixed : Fixed) → 0 < fixed.capacity → fixed.capacity ≤ 65536 → (fault : FinishFault) (report : Report)
     → Certifies bytes_of fixed (Err (why_of fault report))
@@ -138,71 +112,68 @@ why_gathers bytes_of handed fixed keyed some limit finishing.NotTheRoot report l
 why_gathers bytes_of handed fixed keyed some limit finishing.Memory report large none =
     gathers_none bytes_of handed fixed Memory (why_certifies bytes_of fixed some limit finishing.Memory report) (λ e. cc) (λ e. cc)
 
-pub why_out : {T : Type 0} (bytes_of : T → List ℕ) (handed : Piece → Type 0) (fixed : Fixed) (blob : List ℕ) (fault : FinishFault) (report : Report)
-    → (fault ≡ finishing.NotTheRoot → HasCollision handed fixed blob) → (fault ≡ finishing.Unfinished → IsExcused (cause_of report) ⊎ HasCollision handed fixed blob)
-    → IsHandedOut bytes_of handed fixed blob (Err (why_of fault report))
-why_out bytes_of handed fixed blob finishing.Unfinished report other unfinished = unfinished refl
-why_out bytes_of handed fixed blob finishing.NotTheRoot report other unfinished = inr (other refl)
-why_out bytes_of handed fixed blob finishing.Memory report other unfinished = inl tt
+-- where the blob is unfinished and nothing else was the cause
+pub why_unfinished : (fault : FinishFault) (report : Report) → why_of fault report ≡ Unfinished → (fault ≡ finishing.Unfinished) × (report.memory ≡ 0)
+why_unfinished finishing.Unfinished report e = (refl, cause_fed report (sym e))
+why_unfinished finishing.NotTheRoot report e = let no : NotTheRoot ≡ Unfinished = e in cc
+why_unfinished finishing.Memory report e = let no : Memory ≡ Unfinished = e in cc
 
 -- what is handed over is handed over by more
 pub out_wider : {T : Type 0} (bytes_of : T → List ℕ) (handed wider : Piece → Type 0) → ((piece : Piece) → handed piece → wider piece) → (fixed : Fixed) (blob : List ℕ)
     (r : Result T GatherFault) → IsHandedOut bytes_of handed fixed blob r → IsHandedOut bytes_of wider fixed blob r
 out_wider bytes_of handed wider more fixed blob r is = elim is [ inl same ↦ inl same | inr pair ↦ inr (pair_wider handed wider more fixed blob pair) ]
 
-pub found_wider : (handed wider : Piece → Type 0) → ((piece : Piece) → handed piece → wider piece) → (fixed : Fixed) (bytes : List ℕ)
-    → AreTheBlob handed fixed bytes → AreTheBlob wider fixed bytes
-found_wider handed wider more fixed bytes found blob is = elim (found blob is) [ inl same ↦ inl same | inr pair ↦ inr (pair_wider handed wider more fixed blob pair) ]
+-- what is so of whatever came out well
+pub if_ok : {T E : Type 0} (r : Result T E) (P Q : T → Type 0) → ((x : T) → P x → Q x) → IfOk r P → IfOk r Q
+if_ok (Ok x) P Q to is = to x is
+if_ok (Err e) P Q to is = tt
 
 pub gathers_wider : {T : Type 0} (bytes_of : T → List ℕ) (handed wider : Piece → Type 0) → ((piece : Piece) → handed piece → wider piece) → (fixed : Fixed)
     (r : Result T GatherFault) → Gathers bytes_of handed fixed r → Gathers bytes_of wider fixed r
-gathers_wider bytes_of handed wider more fixed (Ok blob) is = record {
+gathers_wider {T = T} bytes_of handed wider more fixed r is = record {
   certified = is.certified;
-  found = found_wider handed wider more fixed (bytes_of blob) is.found;
+  found = if_ok r (λ (blob : T). AreTheBlob handed fixed (bytes_of blob)) (λ (blob : T). AreTheBlob wider fixed (bytes_of blob))
+      (λ bytes found blob of. elim (found blob of) [ inl same ↦ inl same | inr pair ↦ inr (pair_wider handed wider more fixed blob pair) ]) is.found;
   too_large = λ e. large_wider handed wider more fixed (is.too_large e);
   longer = λ e. longer_wider handed wider more fixed (is.longer e);
   none = λ e. none_wider handed wider more fixed (is.none e);
 }
-gathers_wider bytes_of handed wider more fixed (Err fault) is = record {
-  certified = is.certified;
-  found = tt;
-  too_large = λ e. large_wider handed wider more fixed (is.too_large e);
-  longer = λ e. longer_wider handed wider more fixed (is.longer e);
-  none = λ e. none_wider handed wider more fixed (is.none e);
-}
+
+-- a blob with the root is handed out, if a collision is exhibited where it was found too large or left unfinished
+pub out_by : {T : Type 0} (bytes_of : T → List ℕ) (handed : Piece → Type 0) (fixed : Fixed) (blob : List ℕ) (r : Result T GatherFault) → Gathers bytes_of handed fixed r
+    → IsBlob fixed blob → (IsErrOf r TooLarge → HasCollision handed fixed blob) → (IsErrOf r Unfinished → HasCollision handed fixed blob)
+    → IsHandedOut bytes_of handed fixed blob r
+out_by bytes_of handed fixed blob (Ok bytes) is of large unfinished = is.found blob of
+out_by bytes_of handed fixed blob (Err Store) is of large unfinished = inl tt
+out_by bytes_of handed fixed blob (Err Capacity) is of large unfinished = inl tt
+out_by bytes_of handed fixed blob (Err TooLarge) is of large unfinished = inr (large refl)
+out_by bytes_of handed fixed blob (Err Seat) is of large unfinished = inl tt
+out_by bytes_of handed fixed blob (Err Unfinished) is of large unfinished = inr (unfinished refl)
+out_by bytes_of handed fixed blob (Err NotTheRoot) is of large unfinished = inr (is.none refl blob of)
+out_by bytes_of handed fixed blob (Err Memory) is of large unfinished = inl tt
+out_by bytes_of handed fixed blob (Err Starved) is of large unfinished = inl tt
 
 -- a store that had room enough for what was gathered, whatever its capacity
-module _ {T : Type 0} (bytes_of : T → List ℕ) (handed : Piece → Type 0) (root : Hash) (mode : Mode) (a b : ℕ) (some : 0 < a) (less : a < b) (limit : b ≤ 65536) where
-  pub gathers_anyway : (r : Result T GatherFault) → Gathers bytes_of handed (fixed_as root mode a) r → (IsErrOf r TooLarge → ⊥)
-      → Gathers bytes_of handed (fixed_as root mode b) r
-  gathers_anyway (Ok blob) is large =
-      gathers_ok bytes_of handed (fixed_as root mode b) blob
-      (certifies_ok bytes_of (fixed_as root mode b) blob is.certified.root (omega (arith, is.certified.fits, less)) (omega (arith, less)) limit)
-      (λ it is_blob. elim (is.found it (blob_at root mode b a it is_blob)) [
-        | inl same ↦ inl same
-        | inr pair ↦ inr (pair_at handed root mode a b it pair)
-      ])
-  gathers_anyway (Err fault) is large =
-      gathers_err bytes_of handed (fixed_as root mode b) fault
-      (certifies_none bytes_of (fixed_as root mode b) fault (omega (arith, less)) limit
-      (λ e. has_room ⊥ a some (omega (arith, less, limit)) (is.certified.capacity.0 (ap (err_of T) e))))
-      (λ e. absurd (large (ap (err_of T) e))) (λ e. absurd (large (ap (err_of T) e)))
-      (λ e. none_at handed root mode a b (is.none (ap (err_of T) e)))
+module _ {T : Type 0} (bytes_of : T → List ℕ) (handed : Piece → Type 0) (fixed : Fixed) (room : ℕ) (some : 0 < room) (less : room < fixed.capacity) (limit : fixed.capacity ≤ 65536)
+    (r : Result T GatherFault) (is : Gathers bytes_of handed (with_room fixed room) r) (large : IsErrOf r TooLarge → ⊥) where
+  found_anyway : (bytes : List ℕ) → AreTheBlob handed (with_room fixed room) bytes → AreTheBlob handed fixed bytes
+  found_anyway bytes found blob of = elim (found blob (blob_at fixed room blob of)) [ inl same ↦ inl same | inr pair ↦ inr (pair_at handed fixed room blob pair) ]
 
-  pub out_anyway : (blob : List ℕ) (r : Result T GatherFault) → IsBlob (fixed_as root mode b) blob → Gathers bytes_of handed (fixed_as root mode a) r
-      → (IsErrOf r TooLarge → ⊥) → (IsErrOf r Unfinished → ⊥) → IsHandedOut bytes_of handed (fixed_as root mode b) blob r
-  out_anyway blob (Ok bytes) is gathers large unfinished = elim (gathers.found blob (blob_at root mode b a blob is)) [
-    | inl same ↦ inl same
-    | inr pair ↦ inr (pair_at handed root mode a b blob pair)
-  ]
-  out_anyway blob (Err Store) is gathers large unfinished = inl tt
-  out_anyway blob (Err Capacity) is gathers large unfinished = inl tt
-  out_anyway blob (Err TooLarge) is gathers large unfinished = absurd (large refl)
-  out_anyway blob (Err Seat) is gathers large unfinished = inl tt
-  out_anyway blob (Err Unfinished) is gathers large unfinished = absurd (unfinished refl)
-  out_anyway blob (Err NotTheRoot) is gathers large unfinished = inr (pair_at handed root mode a b blob (gathers.none refl blob (blob_at root mode b a blob is)))
-  out_anyway blob (Err Memory) is gathers large unfinished = inl tt
-  out_anyway blob (Err Starved) is gathers large unfinished = inl tt
+  pub gathers_anyway : Gathers bytes_of handed fixed r
+  gathers_anyway = record {
+    certified = record {
+      root = is.certified.root;
+      fits = if_ok r (λ (blob : T). length (bytes_of blob) ≤ 1024 * room) (λ (blob : T). length (bytes_of blob) ≤ 1024 * fixed.capacity) (λ blob fits. omega (arith, fits, less)) is.certified.fits;
+      capacity = (
+        λ e. has_room (IsNoRoom fixed.capacity) room some (omega (arith, less, limit)) (is.certified.capacity.0 e),
+        λ no. has_room (IsCapacity T r) fixed.capacity (omega (arith, less)) limit no,
+      );
+    };
+    found = if_ok r (λ (blob : T). AreTheBlob handed (with_room fixed room) (bytes_of blob)) (λ (blob : T). AreTheBlob handed fixed (bytes_of blob)) (λ blob. found_anyway (bytes_of blob)) is.found;
+    too_large = λ e. absurd (large e);
+    longer = λ e. absurd (large e);
+    none = λ e blob of. pair_at handed fixed room blob (is.none e blob (blob_at fixed room blob of));
+  }
 
 -- a blob that came out, in memory of its own
 module _ (fixed : Fixed) (gathered : Result (List ℕ) GatherFault) where

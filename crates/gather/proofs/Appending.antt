@@ -1,6 +1,5 @@
 -- What is known of a text that follows.
-use Rattle.std.proofs.Common.{◌≡◌, ◌⊎◌, ℕ, List, ◌++◌, length, take, drop, Option, None, Some, refl, sym, ap, subst, ◌∙◌, inl}
-use Rattle.std.proofs.lemmas.List.{drop_at, take-append-drop}
+use Rattle.gather.proofs.Common.{◌≡◌, ◌⊎◌, ℕ, List, ◌++◌, length, take, drop, Option, None, Some, refl, sym, ap, ◌∙◌, inl, drop_at, take-append-drop}
 use Rattle.gather.specs.Holders.{Appends}
 use Rattle.gather.specs.Places.{AreKnown, IsLost, OfBytes}
 
@@ -22,6 +21,6 @@ pub of_known : (contents : Option (List ℕ)) (P : List ℕ → Type 0) → ((s 
 of_known None P known = tt
 of_known (Some s) P known = λ fits. known s (refl, fits)
 
--- and the other way
-pub at_known : (contents : Option (List ℕ)) (P : List ℕ → Type 0) (s : List ℕ) → AreKnown contents s → OfBytes contents P → P s
-at_known contents P s known of = (subst (λ (o : Option (List ℕ)). OfBytes o P) known.0 of) known.1
+-- what followed is taken back
+pub undone : (n : ℕ) (old mid new : List ℕ) → n ≡ length old → take (length old) mid ≡ old → new ≡ take n mid → new ≡ old
+undone n old mid new here kept back = back ∙ ap (λ (k : ℕ). take k mid) here ∙ kept

@@ -1,28 +1,10 @@
 -- What comes from accepted texts is the blob's, or a collision is exhibited.
-use Rattle.std.proofs.Common.{Contains, map, option_map, ap, ◌∙◌, ◌≡◌, ◌⊎◌, zero, suc, ℕ, ◌+◌, ◌-◌, ◌<◌, List, length, Option, None, Some, is_some, true, false, slice_get, slice_index, refl, sym, subst, arith, inl, inr, below_more}
-use Rattle.std.proofs.lemmas.List.{ext_get_or}
-use Rattle.bao_check.proofs.Lists.{All-member}
-use Rattle.std.proofs.lemmas.Option.{slice_get-map, get_or_from_slice_get}
-use Rattle.b3tree.specs.Valid.{IsKeyed}
-use Rattle.bao_check.specs.Laws.{AcceptedBinds}
-use Rattle.bao_check.specs.Pieces.{chunk_in, chunk_of}
-use Rattle.bao_text.specs.Choice.{chunk_count}
-use Rattle.store_core.specs.declared.fixed.Fixed.{Fixed}
-use Rattle.store_core.specs.declared.history.Piece.{Piece}
-use Rattle.store_core.specs.declared.store.Store.{Store}
-use Rattle.store_core.specs.Laws.{IsBlob, CollidesWith}
-use Rattle.store_core.specs.Events.{has_room}
-use Rattle.store_core.specs.Pieces.{length_of, places_in}
-use Rattle.store_core.specs.declared.history.Event.{Event}
-use Rattle.store_core.specs.Histories.{AreLegalFrom, IsLegal, run}
-use Rattle.store_core.specs.Reached.{IsReached}
-use Rattle.store_core.specs.Stores.{fixed_of, state_of}
+use Rattle.gather.proofs.Common.{Contains, map, option_map, ap, ◌∙◌, ◌≡◌, ◌⊎◌, zero, suc, ℕ, ◌+◌, ◌-◌, ◌<◌, List, length, Option, None, Some, is_some, true, false, slice_get, slice_index, refl, sym, subst, arith, inl, inr, below_more, ext_get_or, All-member, slice_get-map, get_or_from_slice_get, IsKeyed, AcceptedBinds, chunk_in, chunk_of, chunk_count, Fixed, Piece, Store, IsBlob, CollidesWith, has_room, length_of, places_in, Event, AreLegalFrom, IsLegal, run, IsReached, fixed_of, state_of, State, empty}
 use Rattle.gather.specs.declared.holder.Encoded.{Encoded}
 use Rattle.gather.specs.Encodings.{IsCut, IsCutOf, cut_gives, encoding}
 use Rattle.gather.specs.Holders.{IsHanded}
 use Rattle.gather.specs.Finished.{BindsNone, BindsTo, IsNamedIn}
 use Rattle.gather.specs.Large.{AreLonger, AreTheBlob, HasCollision, IsOfNone, IsTooLarge}
-use Rattle.store_core.specs.States.{State, empty}
 use Rattle.gather.specs.Worked.{AreFrom, HasWorked, IsFrom, AddsBlobs, AddsCertified, IsCertified}
 
 certified_binds : AcceptedBinds → (handed : Piece → Type 0) (fixed : Fixed) (blob : List ℕ) (c : ℕ) (bytes : List ℕ) → IsKeyed fixed.mode → IsBlob fixed blob

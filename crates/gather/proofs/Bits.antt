@@ -1,9 +1,6 @@
 -- Masks bit by bit.
-use Rattle.std.proofs.Common.{◌≡◌, zero, suc, ℕ, ◌-◌, ◌/◌, ◌%◌, ◌^◌, ◌<◌, nat_eq, ◌==◌, true, false, ◌&&◌, not, min, refl, ap, ◌∙◌, arith, w64, bit_and}
-use Rattle.std.specs.Int.{bit_at, bit_not}
-use Rattle.std.proofs.lemmas.Bool.{and_parts, and_from, and_right}
-use Rattle.std.proofs.lemmas.Nat.Bits.{bit_at-lt, bit_at-zero, bit_at_and, bit_at_not}
-use Rattle.store_core.specs.Masks.{has_bit, in_mask}
+use Rattle.gather.proofs.Common.{◌≡◌, zero, suc, ℕ, ◌-◌, ◌/◌, ◌%◌, ◌^◌, ◌<◌, nat_eq, ◌==◌, true, false, ◌&&◌, not, min, refl, ap, ◌∙◌, arith, w64, bit_and, bit_at, bit_not, and_parts, and_from, and_right, bit_at-lt, bit_at-zero, bit_at_and, bit_at_not, in_mask}
+use Rattle.store_core.specs.Masks.{has_bit}
 
 -- a bit of one mask that isn't one of the other
 min_not : (a b : ℕ) → a < 2 → b < 2 → nat_eq (min a (1 - b)) 1 ≡ (nat_eq a 1 && not (nat_eq b 1))

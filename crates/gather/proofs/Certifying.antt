@@ -1,18 +1,5 @@
 -- What a history stores is of accepted texts.
-use Rattle.std.proofs.Common.{◌≡◌, ◌⊎◌, ℕ, List, [], ◌∷◌, Some, subst, inl, inr}
-use Rattle.std.proofs.lemmas.Bool.{cases_Bool}
-use Rattle.store_core.specs.declared.fixed.Fixed.{Fixed}
-use Rattle.store_core.specs.declared.history.Call.{Call}
-use Rattle.store_core.specs.declared.history.Call.TheVariants.{Take, Give, Commit, Settle, Read, Length, Parents, Serve}
-use Rattle.store_core.specs.declared.history.Event.{Event}
-use Rattle.store_core.specs.declared.history.Piece.{Piece}
-use Rattle.store_core.specs.declared.store.Store.{Store}
-use Rattle.store_core.specs.Events.{IsRightReply, after, after_call}
-use Rattle.store_core.specs.Histories.{AreLegalFrom, run}
-use Rattle.store_core.specs.Masks.{in_mask}
-use Rattle.store_core.specs.Names.{Name}
-use Rattle.store_core.specs.States.{State}
-use Rattle.store_core.specs.Stores.{fixed_of, state_of}
+use Rattle.gather.proofs.Common.{◌≡◌, ◌⊎◌, ℕ, List, [], ◌∷◌, Some, subst, inl, inr, cases_Bool, Fixed, Call, Take, Give, Commit, Settle, Read, Length, Parents, Serve, Event, Piece, Store, IsRightReply, after, after_call, AreLegalFrom, run, in_mask, Name, State, fixed_of, state_of}
 use Rattle.gather.specs.Worked.{AddsCertified, AreFrom, HasWorked, IsCertified, IsFrom}
 
 by_call : (handed : Piece → Type 0) (fixed : Fixed) (s : State) (who : List Name) (call : Call) → IsFrom handed call → IsRightReply fixed s who call → (c : ℕ) (bytes : List ℕ)

@@ -1,25 +1,9 @@
 -- What a read of all bytes below the recorded length tells, and what is known of bytes that are whole.
-use Rattle.std.proofs.Common.{bytes_eq, true, false, not, ◌≡◌, ◌⊎◌, ℕ, ◌+◌, ◌*◌, ◌-◌, ◌/◌, ◌<◌, ◌≤◌, List, [], ◌++◌, length, drop, Option, None, Some, Ok, Err, Result, refl, slice_get, slice_index, sym, ap, subst, ◌∙◌, inl, inr, arith, length-append, get_or-append-add}
-use Rattle.std.proofs.lemmas.Bool.{cases_Bool, cases_lt}
-use Rattle.std.proofs.lemmas.List.{append-nil, drop_all, get_or_append_left}
-use Rattle.std.proofs.lemmas.Slice.Eq.{bytes_eq-Decides}
-use Rattle.std.specs.Result.{IsErr}
-use Rattle.b3tree.specs.Hashing.{hash}
-use Rattle.b3tree.specs.Valid.{IsKeyed}
+use Rattle.gather.proofs.Common.{bytes_eq, true, false, not, ◌≡◌, ◌⊎◌, ℕ, ◌+◌, ◌*◌, ◌-◌, ◌/◌, ◌<◌, ◌≤◌, List, [], ◌++◌, length, drop, Option, None, Some, Ok, Err, Result, refl, slice_get, slice_index, sym, ap, subst, ◌∙◌, inl, inr, arith, length-append, get_or-append-add, cases_Bool, cases_lt, append-nil, drop_all, get_or_append_left, bytes_eq-Decides, IsErr, hash, IsKeyed, Fixed, Event, Store, IsLegal, state_after, IsRead, ReadMeans, State, byte_at, DidRead, CollisionCommitted, state_of, byte_binds, record_binds, base_recorded, read_means}
 use Rattle.gather.proofs.Binding.{all_same, same_bytes}
 use Rattle.gather.specs.declared.fault.FinishFault.{FinishFault}
 use Rattle.gather.specs.declared.fault.FinishFault.TheVariants.{NotTheRoot, Unfinished}
 use Rattle.gather.specs.Finished.{Binds, BindsNone, BindsTo, Finishes, IsFinished, IsOther, IsUnfinished, IsWhole, Judges, LacksByte}
-use Rattle.store_core.specs.declared.fixed.Fixed.{Fixed}
-use Rattle.store_core.specs.declared.history.Event.{Event}
-use Rattle.store_core.specs.declared.store.Store.{Store}
-use Rattle.store_core.specs.Histories.{IsLegal, state_after}
-use Rattle.store_core.specs.Laws.{IsRead, ReadMeans}
-use Rattle.store_core.specs.States.{State, byte_at}
-use Rattle.store_core.specs.Stores.{DidRead, CollisionCommitted, state_of}
-use Rattle.store_core.proofs.Bound.{byte_binds, record_binds}
-use Rattle.store_core.proofs.HasRoom.{base_recorded}
-use Rattle.store_core.proofs.ReadLaws.{read_means}
 
 pub filled_whole : (bytes old new : List ℕ) → new ≡ bytes ++ drop (length bytes) old → length bytes ≡ length old → new ≡ bytes
 filled_whole bytes old new filled all =

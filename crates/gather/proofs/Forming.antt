@@ -1,24 +1,12 @@
 -- What is made of what holders give, and what of that is known of slices.
-use Rattle.std.proofs.Common.{◌≡◌, ◌∙◌, ◌↔◌, ℕ, ◌-◌, ◌*◌, ◌^◌, List, IfOk, IsOk, Ok, Err, Result, false, true, ap, sym, subst}
-use Rattle.bao_check.specs.declared.checked.Checked.{Checked}
-use Rattle.bao_check.specs.declared.fault.CheckFault.{CheckFault}
-use Rattle.bao_check.specs.Accepted.{IsAccepted, slice_nodes}
-use Rattle.bao_check.specs.Beside.{bare_len}
-use Rattle.bao_check.specs.Checked.{IsPiece}
-use Rattle.bao_check.specs.Outline.{outline_claimed}
-use Rattle.b3tree.specs.declared.mode.Mode.{Mode}
-use Rattle.bao_text.specs.Texts.{slice_text}
+use Rattle.gather.proofs.Common.{◌≡◌, ◌∙◌, ◌↔◌, ℕ, ◌-◌, ◌*◌, ◌^◌, List, IfOk, IsOk, Ok, Err, Result, false, true, ap, sym, subst, Checked, CheckFault, IsAccepted, slice_nodes, bare_len, IsPiece, outline_claimed, Mode, slice_text, piece_of, IsOf, Fixed, Piece}
 use Rattle.gather.specs.Available.{GivesSlice, IsServed, slice_of}
 use Rattle.gather.proofs.Serving.{is_of, slice_good, slice_is}
-use Rattle.store_core.specs.Pieces.{piece_of}
-use Rattle.store_core.specs.Stores.{IsOf}
 use Rattle.gather.specs.declared.form.Form.{Form}
 use Rattle.gather.specs.declared.form.Form.TheVariants.{Slices, Bare}
 use Rattle.gather.specs.declared.form.Part.{Part}
 use Rattle.gather.specs.Forms.{AreSlices, IsChunk, IsEnd, IsGroup, IsLengthOf, IsMade, IsSliceCheck, made_of}
 use Rattle.gather.specs.Holders.{GivesNoMore, IsGiven}
-use Rattle.store_core.specs.declared.fixed.Fixed.{Fixed}
-use Rattle.store_core.specs.declared.history.Piece.{Piece}
 
 -- what comes of a holder that gives no more is no more
 pub made_no_more : {H : Type 0} (form : Form) (gives : H → ℕ → ℕ → List ℕ → Type 0) (old new : H) → GivesNoMore gives old new → GivesNoMore (made_of form gives) old new

@@ -1,8 +1,6 @@
 -- A worker's calls one after another: what they gain, and what they claim.
-use Rattle.std.proofs.Common.{◌≡◌, ℕ, ◌<◌, Bool, ◌&&◌, not, inl, inr}
-use Rattle.std.proofs.lemmas.Bool.{both_ways}
+use Rattle.gather.proofs.Common.{◌≡◌, ℕ, ◌<◌, Bool, ◌&&◌, not, inl, inr, both_ways, has_bit}
 use Rattle.gather.proofs.Bits.{in_mask_zero, in_without}
-use Rattle.store_core.specs.Masks.{has_bit}
 use Rattle.gather.specs.Claims.{Among, AmongAnd, Without}
 
 pub among_onward : (r s t : ℕ → Bool) → Among r s → Among s t → Among r t

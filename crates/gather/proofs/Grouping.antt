@@ -1,8 +1,5 @@
 -- A walk over nodes that marks the groups of their boundaries.
-use Rattle.std.proofs.Common.{◌≡◌, ℕ, ◌<◌, ◌||◌, Bool, false, List, length, ap, replicate}
-use Rattle.std.proofs.lemmas.List.{get_or-replicate, length-replicate}
-use Rattle.std.specs.List.{slice_index_or}
-use Rattle.bao_text.specs.declared.walk.Node.{Node}
+use Rattle.gather.proofs.Common.{◌≡◌, ℕ, ◌<◌, ◌||◌, Bool, false, List, length, ap, replicate, get_or-replicate, length-replicate, slice_index_or, Node}
 use Rattle.gather.specs.Groups.{has_in}
 
 -- the groups that have a boundary among all nodes are those that are marked, and those of the nodes that are left

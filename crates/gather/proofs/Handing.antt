@@ -1,41 +1,16 @@
 -- What comes of texts of which one is the combined encoding of a blob with the root.
-use Rattle.std.proofs.Common.{nat_lt, ltb-false, ◌≡◌, ◌⊎◌, ◌+◌, ℕ, Bool, if◌then◌else◌, ◌≤◌, ◌*◌, ◌/◌, ◌%◌, ◌^◌, ◌<◌, true, false, List, [], ◌∷◌, zero, suc, refl, length, take, drop, map, get_or, Option, None, Some, option_and_then, slice_get, sym, ap, subst, ◌∙◌, arith, inl, inr, length-drop, lt-ltb}
-use Rattle.std.specs.List.{sum_by}
-use Rattle.std.proofs.lemmas.Bool.{cases_Bool}
-use Rattle.std.proofs.lemmas.List.{length-take}
-use Rattle.std.proofs.lemmas.List.Sums.{sum_by-cons}
-use Rattle.std.proofs.lemmas.Option.{slice_get-get_or}
-use Rattle.b3tree.specs.declared.mode.Mode.{Mode}
-use Rattle.b3tree.specs.Valid.{IsKeyed}
-use Rattle.bao_check.proofs.Laws.{accepted_binds}
-use Rattle.bao_check.specs.Pieces.{chunk_of}
-use Rattle.bao_text.specs.Choice.{chunk_count}
-use Rattle.bao_text.specs.Cut.{cut_text}
-use Rattle.bao_text.specs.Texts.{combined_text}
-use Rattle.bao_text.proofs.Laws.{cut_text-combined}
+use Rattle.gather.proofs.Common.{nat_lt, ltb-false, ◌≡◌, ◌+◌, ℕ, Bool, if◌then◌else◌, ◌≤◌, ◌*◌, ◌/◌, ◌%◌, ◌^◌, ◌<◌, true, false, List, [], ◌∷◌, refl, length, take, drop, get_or, Option, None, Some, option_and_then, slice_get, sym, ap, subst, ◌∙◌, arith, inl, inr, length-drop, lt-ltb, sum_by, cases_Bool, length-take, sum_by-cons, slice_get-get_or, Mode, IsKeyed, accepted_binds, chunk_of, chunk_count, combined_text, cut_text-combined, base_recorded, no_room_of, Fixed, Event, Piece, Store, AreLegalFrom, IsLegal, run, state_after, IsBlob, State, byte_at, empty, is_claimed, is_held, fixed_of, state_of, held_binds, record_binds}
 use Rattle.gather.specs.Available.{HasTrue, IsFilled}
-use Rattle.gather.specs.declared.holder.Encoded.{Encoded}
-use Rattle.gather.specs.Encodings.{IsCut, cut_gives, encoding}
+use Rattle.gather.specs.Encodings.{cut_gives}
 use Rattle.gather.specs.declared.report.Report.{Report}
 use Rattle.gather.specs.declared.fault.GatherFault.TheVariants.{Capacity, NotTheRoot, Starved, TooLarge, Unfinished}
 use Rattle.gather.specs.Faults.{cause_of}
-use Rattle.gather.specs.HandedOut.{IsExcused}
 use Rattle.gather.specs.Finished.{IsNamedIn, IsUnfinished}
 use Rattle.gather.specs.Large.{HasCollision, IsTooLarge}
 use Rattle.gather.specs.Lasting.{HoldsChunk, IsBusy, Records}
 use Rattle.gather.specs.Worked.{HasWorked}
 use Rattle.gather.proofs.Binding.{are_longer, pair_of, some_bytes}
 use Rattle.gather.proofs.Finishing.{some_same}
-use Rattle.store_core.proofs.HasRoom.{base_recorded, no_room_of}
-use Rattle.store_core.specs.declared.fixed.Fixed.{Fixed}
-use Rattle.store_core.specs.declared.history.Event.{Event}
-use Rattle.store_core.specs.declared.history.Piece.{Piece}
-use Rattle.store_core.specs.declared.store.Store.{Store}
-use Rattle.store_core.specs.Histories.{AreLegalFrom, IsLegal, run, state_after}
-use Rattle.store_core.specs.Laws.{IsBlob}
-use Rattle.store_core.specs.States.{State, byte_at, empty, is_claimed, is_held}
-use Rattle.store_core.specs.Stores.{fixed_of, state_of}
-use Rattle.store_core.proofs.Bound.{held_binds, record_binds}
 
 -- a byte of a chunk of the blob that is held
 chunk_is : (blob bytes : List ℕ) (n : ℕ) → n < chunk_count (length blob) → chunk_of blob n ≡ Some bytes → take 1024 (drop (1024 * n) blob) ≡ bytes
@@ -76,41 +51,19 @@ unfinished_named fixed history blob l keyed is legal recorded chunks unfinished 
     ]
 
 -- a new store that was filled from the blob isn't unfinished, unless a collision is exhibited
-pub unfinished_pair : (handed : Piece → Type 0) (old new : Store) (n q : ℕ) (blob : List ℕ) → IsKeyed (fixed_of old).mode → IsBlob (fixed_of old) blob → state_of old ≡ empty
-    → HasWorked handed old new n q → IsFilled Records HoldsChunk IsBusy old new blob → IsUnfinished (state_of new) → HasCollision handed (fixed_of old) blob
-unfinished_pair handed old new n q blob keyed is fresh worked filled unfinished =
+pub unfinished_pair : (handed : Piece → Type 0) (fixed : Fixed) (old new : Store) (n q : ℕ) (blob : List ℕ) → fixed_of old ≡ fixed → IsKeyed fixed.mode → IsBlob fixed blob
+    → state_of old ≡ empty → HasWorked handed old new n q → IsFilled Records HoldsChunk IsBusy old new blob → IsUnfinished (state_of new) → HasCollision handed fixed blob
+unfinished_pair handed fixed old new n q blob same keyed is fresh worked filled unfinished =
     let there : state_of new ≡ state_after worked.events = worked.after ∙ ap (λ (s : State). run s worked.events) fresh in
-    let legal : IsLegal (fixed_of old) worked.events = subst (λ (s : State). AreLegalFrom (fixed_of old) s worked.events) fresh worked.legal in
-    pair_of handed (fixed_of old) worked.events blob worked.from (unfinished_named (fixed_of old) worked.events blob filled.recorded keyed is legal
+    let legal : IsLegal fixed worked.events = subst (λ (f : Fixed). IsLegal f worked.events) same (subst (λ (s : State). AreLegalFrom (fixed_of old) s worked.events) fresh worked.legal) in
+    pair_of handed fixed worked.events blob worked.from (unfinished_named fixed worked.events blob filled.recorded keyed is legal
     (subst (λ (s : State). s.recorded ≡ Some filled.recorded) there filled.is)
     (λ long c below. elim (filled.chunks long c below) [
       | inl held ↦ subst (λ (s : State). is_held s c ≡ true) there held
       | inr busy ↦ let no : false ≡ true = subst (λ (s : State). is_claimed s c ≡ true) fresh busy in cc
     ]) (subst IsUnfinished there unfinished))
 
-some_text : (xs ys : List ℕ) → Some xs ≡ Some ys → xs ≡ ys
-some_text xs ys e = cc
-
-mapped_some : (holders : List Encoded) (i : ℕ) (text : List ℕ) → slice_get (map encoding holders) i ≡ Some text
-    → (holder : Encoded) × (slice_get holders i ≡ Some holder) × (encoding holder ≡ text)
-mapped_some [] i text is = let no : None ≡ Some text = is in cc
-mapped_some (x ∷ holders) zero text is = (x, refl, some_text (encoding x) text is)
-mapped_some (x ∷ holders) (suc i) text is = mapped_some holders i text is
-
--- the holder over a blob's combined encoding gives nothing but its slices
-pub encoding_true : (holders : List Encoded) (texts : List (List ℕ)) (mode : Mode) (blob : List ℕ) (i : ℕ) → map encoding holders ≡ texts → length blob < 2 ^ 64
-    → slice_get texts i ≡ Some (combined_text mode blob) → HasTrue IsCut mode blob holders
-encoding_true holders texts mode blob i over short is =
-    let mapped : slice_get (map encoding holders) i ≡ Some (combined_text mode blob) = subst (λ (all : List (List ℕ)). slice_get all i ≡ Some (combined_text mode blob)) (sym over) is in
-    let there = mapped_some holders i (combined_text mode blob) mapped in
-    record {
-      place = i;
-      holder = there.0;
-      there = there.1;
-      gives_slices = λ start len text cut. cut ∙ ap (λ (xs : List ℕ). cut_text xs start len) there.2 ∙ cut_text-combined mode blob start len short;
-    }
-
--- and what is cut out of a blob's combined encoding are its slices
+-- what is cut out of a blob's combined encoding are its slices
 pub text_true : (texts : List (List ℕ)) (mode : Mode) (blob : List ℕ) (i : ℕ) → length blob < 2 ^ 64 → slice_get texts i ≡ Some (combined_text mode blob)
     → HasTrue cut_gives mode blob texts
 text_true texts mode blob i short is = record {
@@ -119,16 +72,6 @@ text_true texts mode blob i short is = record {
   there = is;
   gives_slices = λ start len text cut. cut ∙ cut_text-combined mode blob start len short;
 }
-
--- why a report is called unfinished
-pub cause_handed : (report : Report) (P : Type 0) → ((report.memory ≡ 0) → (report.too_large ≡ true) → P) → ((report.memory ≡ 0) → (report.too_large ≡ false) → P)
-    → IsExcused (cause_of report) ⊎ P
-cause_handed report P large small = elim (cases_Bool (nat_lt 0 report.memory)) [
-  | inl starved ↦ inl (rw starved tt)
-  | inr fed ↦
-      let none : report.memory ≡ 0 = omega (arith, ltb-false 0 report.memory fed) in
-      elim (cases_Bool report.too_large) [ inl is ↦ inr (large none is) | inr not ↦ inr (small none not) ]
-]
 
 -- no device of holders that count no fault fails
 pub none_failed : {H : Type 0} (count : H → ℕ) → ((holder : H) → count holder ≡ 0) → (holders : List H) → sum_by count holders ≡ 0
@@ -169,3 +112,10 @@ never_other false false e = cc
 -- nor of another hash
 pub cause_other : (report : Report) → NotTheRoot ≡ cause_of report → ⊥
 cause_other report e = never_other (nat_lt 0 report.memory) report.too_large e
+
+-- an unfinished blob isn't for want of memory where it is called so
+pub cause_fed : (report : Report) → Unfinished ≡ cause_of report → report.memory ≡ 0
+cause_fed report e = elim (cases_Bool (nat_lt 0 report.memory)) [
+  | inl starved ↦ let no : Unfinished ≡ Starved = rw starved at e in cc
+  | inr fed ↦ omega (arith, ltb-false 0 report.memory fed)
+]

@@ -1,19 +1,5 @@
 -- What a call of a one-thread store leaves its worker to know.
-use Rattle.std.proofs.Common.{◌≡◌, ◌≢◌, ℕ, ◌/◌, ◌%◌, ◌==◌, true, ◌&&◌, Option, None, Some, Result, Ok, Err, IfErr, IfOk, IfSome, OnErr, MatchResult, refl, sym, subst, ◌∙◌, eqb-true, eq-eqb}
-use Rattle.std.proofs.lemmas.Bool.{and_from, and_parts}
-use Rattle.bao_check.specs.declared.checked.Checked.{Checked}
-use Rattle.store_core.specs.declared.fault.StoreFault.{StoreFault}
-use Rattle.store_core.specs.declared.history.Call.TheVariants.{Take, Commit}
-use Rattle.store_core.specs.declared.history.Piece.{Piece}
-use Rattle.store_core.specs.declared.history.Settling.{Settling}
-use Rattle.store_core.specs.declared.history.Settling.TheVariants.{Settled, Known, Differs, OtherRoot, TooLarge}
-use Rattle.store_core.specs.declared.history.Storing.TheVariants.{Stored}
-use Rattle.store_core.specs.declared.store.Store.{Store}
-use Rattle.store_core.specs.Events.{is_free, settling}
-use Rattle.store_core.specs.Masks.{has_bit, in_mask}
-use Rattle.store_core.specs.Pieces.{holds_chunk, length_of, piece_of}
-use Rattle.store_core.specs.States.{State, claims, is_held}
-use Rattle.store_core.specs.Stores.{DidStore, IsEvent, IsSame, IsUnstored, Settles, fixed_of, state_of}
+use Rattle.gather.proofs.Common.{◌≡◌, ◌≢◌, ℕ, ◌/◌, ◌%◌, ◌==◌, true, ◌&&◌, Option, None, Some, Result, Ok, Err, IfErr, IfOk, IfSome, OnErr, MatchResult, refl, sym, subst, ◌∙◌, eqb-true, eq-eqb, and_from, and_parts, Checked, StoreFault, Take, Commit, Piece, Settling, Settled, Known, Differs, OtherRoot, TooLarge, Stored, Store, is_free, settling, has_bit, in_mask, holds_chunk, length_of, piece_of, State, claims, is_held, DidStore, IsEvent, IsSame, IsUnstored, Settles, fixed_of, state_of}
 use Rattle.gather.specs.Available.{IsWanted, Keeps, KeepsBut}
 use Rattle.gather.specs.Lasting.{HoldsChunk, Records}
 use Rattle.gather.specs.Worked.{worker, worker_claims}

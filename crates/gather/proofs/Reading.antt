@@ -1,8 +1,5 @@
 -- What reads gave, one after another.
-use Rattle.std.proofs.Common.{ℕ, ◌+◌, List, ◌++◌, Option, ◌∙◌, ap, sym, subst, length-append}
-use Rattle.std.proofs.lemmas.List.{append_assoc}
-use Rattle.bao_read.specs.Given.{GivenAt}
-use Rattle.bao_read.proofs.Parts.{GivenAt-append}
+use Rattle.gather.proofs.Common.{ℕ, ◌+◌, List, ◌++◌, Option, ◌∙◌, ap, sym, subst, length-append, append_assoc, GivenAt, GivenAt-append}
 use Rattle.gather.specs.Reads.{ReadFrom}
 
 pub read_more : (contents : Option (List ℕ)) (at : ℕ) (old mid new : List ℕ) (came count : ℕ) → ReadFrom contents at old mid came → ReadFrom contents (at + came) mid new count

@@ -1,14 +1,7 @@
 -- What a worker's report gains, from one seat to the next.
-use Rattle.std.proofs.Common.{◌≡◌, ◌⊎◌, ℕ, zero, suc, ◌+◌, ◌<◌, ◌≤◌, List, [], ◌∷◌, length, get_or, set, None, Some, slice_get, true, refl, sym, subst, ◌∙◌, length-set, arith, inl, inr}
-use Rattle.std.proofs.lemmas.Option.{slice_get-get_or}
-use Rattle.std.specs.List.{sum_by}
-use Rattle.std.proofs.lemmas.List.Sums.{sum_by-set}
-use Rattle.bao_check.specs.declared.fault.CheckFault.{CheckFault}
-use Rattle.bao_check.specs.declared.fault.CheckFault.TheVariants.{Short, Mismatch, Trailing, Memory, Reader}
-use Rattle.store_core.specs.declared.fixed.Fixed.{Fixed}
-use Rattle.store_core.specs.declared.history.Piece.{Piece}
+use Rattle.gather.proofs.Common.{◌≡◌, ◌⊎◌, ℕ, zero, suc, ◌+◌, ◌<◌, ◌≤◌, List, [], ◌∷◌, length, get_or, set, None, Some, slice_get, true, Bool, IsTrue, refl, sym, subst, ◌∙◌, length-set, arith, inl, inr, slice_get-get_or, sum_by, sum_by-set, CheckFault, Short, Mismatch, Trailing, Memory, Reader, Fixed, Piece}
 use Rattle.gather.specs.declared.report.Report.{Report}
-use Rattle.gather.specs.Counts.{Fits, Goes, Reports, asked_once, checked_once, failed_once, memory_once, plus}
+use Rattle.gather.specs.Counts.{FailsNoLess, Fits, Goes, IsAnswered, Reports, asked_once, checked_once, failed_once, memory_once, plus, refused_once}
 use Rattle.gather.specs.Holders.{AreLater, GivesNoMore, IsGiven, IsHanded, IsIt, IsNone}
 use Rattle.gather.specs.Large.{EndsTooFar, IsTooLarge}
 
@@ -87,152 +80,60 @@ module _ {S : Type 0} (fixed_of : S → Fixed) (gained : (Piece → Type 0) → 
     ];
   }
 
-  -- a call that stores nothing and counts nothing
-  pub onward_none : (r s t : S) (A B : Piece → Type 0) (a b : ℕ) (x y : Report) → Reports fixed_of gained r s A B a b x y → gained IsNone s t 0 0
-      → Reports fixed_of gained r t A B a b x y
-  onward_none r s t A B a b x y first second = record {
-    chunks = first.chunks + 0;
-    parents = first.parents + 0;
-    gains = goes.adds A r s t first.chunks 0 first.parents 0 first.gains (still_gained A s t second);
-    no_more = first.no_more;
-    committed = omega (arith, first.committed);
-    stored = omega (arith, first.stored);
-    failed = first.failed;
-    answered = first.answered;
-    no_less = first.no_less;
-    too_large = first.too_large;
-  }
-
-  -- nothing was asked, and a piece was handed over before
-  pub counted_none : (s t : S) (A : Piece → Type 0) (a : ℕ) (x : Report) → gained A s t 0 0 → Fits x → Reports fixed_of gained s t A A a a x x
-  counted_none s t A a x still fits = record {
-    chunks = 0;
-    parents = 0;
-    gains = still;
+  -- calls of pieces that were handed over store so many chunks and parents, and nothing is asked
+  pub stored_some : (s t : S) (A : Piece → Type 0) (a : ℕ) (x : Report) (chunks parents c q : ℕ) → gained A s t chunks parents → c ≡ plus x.committed chunks
+      → q ≡ plus x.parents parents → Reports fixed_of gained s t A A a a x (record x { committed = c; parents = q })
+  stored_some s t A a x chunks parents c q gains committed stored = record {
+    chunks = chunks;
+    parents = parents;
+    gains = gains;
     no_more = λ piece is. is;
-    committed = omega (arith, fits.0);
-    stored = omega (arith, fits.1);
+    committed = committed;
+    stored = stored;
     failed = omega arith;
     answered = λ is. is;
     no_less = (omega arith, omega arith);
     too_large = λ is. inl is;
   }
 
-  -- a fetch with a text, whose piece some call had, and no more
-  pub fetch_some : (s t : S) (A B : Piece → Type 0) (a b : ℕ) (x y : Report) → gained A s t 0 0 → ((piece : Piece) → B piece → A piece) → Fits x
-      → (a ≤ b) × (y ≡ asked_once x) → Reports fixed_of gained s t A B a b x y
-  fetch_some s t A B a b x y still no_more fits fetch = subst (λ (z : Report). Reports fixed_of gained s t A B a b x z) (sym fetch.1) (record {
-    chunks = 0;
-    parents = 0;
-    gains = still;
-    no_more = no_more;
-    committed = omega (arith, fits.0);
-    stored = omega (arith, fits.1);
-    failed = omega (arith, fetch.0);
-    answered = λ is. omega (arith, is);
-    no_less = (omega arith, omega arith);
-    too_large = λ is. inl is;
-  })
+  -- a call that stores nothing and counts nothing
+  pub counted_none : (s t : S) (A : Piece → Type 0) (a : ℕ) (x : Report) → gained A s t 0 0 → Fits x → Reports fixed_of gained s t A A a a x x
+  counted_none s t A a x still fits = stored_some s t A a x 0 0 x.committed x.parents still (omega (arith, fits.0)) (omega (arith, fits.1))
 
-  -- a fetch without one
-  pub fetch_none : (s : S) (A B : Piece → Type 0) (a b : ℕ) (x y : Report) → ((piece : Piece) → B piece → A piece) → Fits x
-      → ((a < b) × (y ≡ failed_once (asked_once x))) ⊎ ((a ≤ b) × (y ≡ memory_once (asked_once x))) → Reports fixed_of gained s s A B a b x y
-  fetch_none s A B a b x y no_more fits (inl failed) = subst (λ (z : Report). Reports fixed_of gained s s A B a b x z) (sym failed.1) (record {
-    chunks = 0;
-    parents = 0;
-    gains = none_gained A s;
-    no_more = no_more;
-    committed = omega (arith, fits.0);
-    stored = omega (arith, fits.1);
-    failed = omega (arith, failed.0);
-    answered = λ is. omega (arith, is);
-    no_less = (omega (arith, fits.2), omega (arith, fits.3));
-    too_large = λ is. inl is;
-  })
-  fetch_none s A B a b x y no_more fits (inr starved) = subst (λ (z : Report). Reports fixed_of gained s s A B a b x z) (sym starved.1) (record {
-    chunks = 0;
-    parents = 0;
-    gains = none_gained A s;
-    no_more = no_more;
-    committed = omega (arith, fits.0);
-    stored = omega (arith, fits.1);
-    failed = omega (arith, starved.0);
-    answered = λ is. omega (arith, is);
-    no_less = (omega (arith, fits.2), omega (arith, fits.3));
-    too_large = λ is. inl is;
-  })
+  pub onward_none : (r s t : S) (A B : Piece → Type 0) (a b : ℕ) (x y : Report) → Reports fixed_of gained r s A B a b x y → gained IsNone s t 0 0
+      → Reports fixed_of gained r t A B a b x y
+  onward_none r s t A B a b x y first second =
+      onward r s t A B B a b b x y y first
+      (stored_some s t B b y 0 0 y.committed y.parents (still_gained B s t second) (omega (arith, first.committed)) (omega (arith, first.stored)))
 
-  -- a text that a check refused, for memory or for another cause
-  refused_memory : (s : S) (A B : Piece → Type 0) (a b : ℕ) (x : Report) → ((piece : Piece) → B piece → A piece) → Fits x → a ≤ b
-      → Reports fixed_of gained s s A B a b x (checked_once Memory (asked_once x))
-  refused_memory s A B a b x no_more fits up = record { chunks = 0; parents = 0; gains = none_gained A s; no_more = no_more; committed = omega (arith, fits.0); stored = omega (arith, fits.1); failed = omega (arith, up); answered = λ is. omega (arith, is); no_less = (omega (arith, fits.2), omega (arith, fits.3)); too_large = λ is. inl is }
-
-  refused_other : (s : S) (A B : Piece → Type 0) (a b at : ℕ) (x : Report) → ((piece : Piece) → B piece → A piece) → Fits x → a ≤ b
-      → Reports fixed_of gained s s A B a b x (checked_once (Short at) (asked_once x))
-  refused_other s A B a b at x no_more fits up = record { chunks = 0; parents = 0; gains = none_gained A s; no_more = no_more; committed = omega (arith, fits.0); stored = omega (arith, fits.1); failed = omega (arith, up); answered = λ is. omega (arith, is); no_less = (omega (arith, fits.2), omega (arith, fits.3)); too_large = λ is. inl is }
-
-  refused_some : (s : S) (A B : Piece → Type 0) (a b : ℕ) (x : Report) (fault : CheckFault) → ((piece : Piece) → B piece → A piece) → Fits x → a ≤ b
-      → Reports fixed_of gained s s A B a b x (checked_once fault (asked_once x))
-  refused_some s A B a b x (Short at) no_more fits up = refused_other s A B a b at x no_more fits up
-  refused_some s A B a b x (Mismatch at) no_more fits up = refused_other s A B a b at x no_more fits up
-  refused_some s A B a b x (Trailing at) no_more fits up = refused_other s A B a b at x no_more fits up
-  refused_some s A B a b x Memory no_more fits up = refused_memory s A B a b x no_more fits up
-  refused_some s A B a b x Reader no_more fits up = refused_other s A B a b 0 x no_more fits up
-
-  pub refused_done : (s : S) (A B : Piece → Type 0) (a b : ℕ) (x y z : Report) (fault : CheckFault) → ((piece : Piece) → B piece → A piece) → Fits x
-      → (a ≤ b) × (y ≡ asked_once x) → z ≡ checked_once fault y → Reports fixed_of gained s s A B a b x z
-  refused_done s A B a b x y z fault no_more fits fetch is =
-      let at_once : z ≡ checked_once fault (asked_once x) = subst (λ (r : Report). z ≡ checked_once fault r) fetch.1 is in
-      subst (λ (r : Report). Reports fixed_of gained s s A B a b x r) (sym at_once) (refused_some s A B a b x fault no_more fits fetch.0)
-
-  -- a text that certifies a length above what the store has room for
-  pub fetch_large : (s t : S) (A B : Piece → Type 0) (a b : ℕ) (x y : Report) (piece : Piece) → gained (IsIt piece) s t 0 0 → ((piece : Piece) → B piece → A piece) → Fits x
-      → (a ≤ b) × (y ≡ asked_once x) → A piece → EndsTooFar (fixed_of s) piece → Reports fixed_of gained s t A B a b x (record y { too_large = true })
-  fetch_large s t A B a b x y piece still no_more fits fetch from large =
-      subst (λ (z : Report). Reports fixed_of gained s t A B a b x (record z { too_large = true })) (sym fetch.1) (record {
+  -- a fetch with a text, whose piece some call had, and no more; the piece may certify a length above what the store has room for
+  fetch_told : (s t : S) (A B : Piece → Type 0) (a b : ℕ) (x y : Report) (large : Bool) → gained A s t 0 0 → ((piece : Piece) → B piece → A piece) → Fits x
+      → (a ≤ b) × (y ≡ asked_once x) → (IsTrue large → IsTrue x.too_large ⊎ IsTooLarge A (fixed_of s))
+      → Reports fixed_of gained s t A B a b x (record y { too_large = large })
+  fetch_told s t A B a b x y large still no_more fits fetch told =
+      subst (λ (z : Report). Reports fixed_of gained s t A B a b x (record z { too_large = large })) (sym fetch.1) (record {
         chunks = 0;
         parents = 0;
-        gains = it_gained A s t piece 0 0 from still;
+        gains = still;
         no_more = no_more;
         committed = omega (arith, fits.0);
         stored = omega (arith, fits.1);
         failed = omega (arith, fetch.0);
         answered = λ is. omega (arith, is);
         no_less = (omega arith, omega arith);
-        too_large = λ is. inr (record { piece = piece; from = from; large = large });
+        too_large = told;
       })
 
-  -- Between two fetches no text is refused and no device fails: a call that stores chunks
-  pub committed_some : (s t : S) (A : Piece → Type 0) (a : ℕ) (x : Report) (chunks sum : ℕ) → gained A s t chunks 0 → Fits x
-      → sum ≡ plus x.committed chunks → Reports fixed_of gained s t A A a a x (record x { committed = sum })
-  committed_some s t A a x chunks sum gains fits is = record {
-    chunks = chunks;
-    parents = 0;
-    gains = gains;
-    no_more = λ piece is. is;
-    committed = is;
-    stored = omega (arith, fits.1);
-    failed = omega arith;
-    answered = λ is. is;
-    no_less = (omega arith, omega arith);
-    too_large = λ is. inl is;
-  }
+  pub fetch_some : (s t : S) (A B : Piece → Type 0) (a b : ℕ) (x y : Report) → gained A s t 0 0 → ((piece : Piece) → B piece → A piece) → Fits x
+      → (a ≤ b) × (y ≡ asked_once x) → Reports fixed_of gained s t A B a b x y
+  fetch_some s t A B a b x y still no_more fits fetch =
+      subst (λ (z : Report). Reports fixed_of gained s t A B a b x z) (sym fetch.1)
+      (fetch_told s t A B a b x (asked_once x) x.too_large still no_more fits (fetch.0, refl) (λ is. inl is))
 
-  -- and one that stores parents
-  pub stored_some : (s t : S) (A : Piece → Type 0) (a : ℕ) (x : Report) (parents sum : ℕ) → gained A s t 0 parents → Fits x
-      → sum ≡ plus x.parents parents → Reports fixed_of gained s t A A a a x (record x { parents = sum })
-  stored_some s t A a x parents sum gains fits is = record {
-    chunks = 0;
-    parents = parents;
-    gains = gains;
-    no_more = λ piece is. is;
-    committed = omega (arith, fits.0);
-    stored = is;
-    failed = omega arith;
-    answered = λ is. is;
-    no_less = (omega arith, omega arith);
-    too_large = λ is. inl is;
-  }
+  pub fetch_large : (s t : S) (A B : Piece → Type 0) (a b : ℕ) (x y : Report) (piece : Piece) → gained (IsIt piece) s t 0 0 → ((piece : Piece) → B piece → A piece) → Fits x
+      → (a ≤ b) × (y ≡ asked_once x) → A piece → EndsTooFar (fixed_of s) piece → Reports fixed_of gained s t A B a b x (record y { too_large = true })
+  fetch_large s t A B a b x y piece still no_more fits fetch from large =
+      fetch_told s t A B a b x y true (it_gained A s t piece 0 0 from still) no_more fits fetch (λ is. inr (record { piece = piece; from = from; large = large }))
 
   -- a refused growth is counted beside
   pub starved : (s t : S) (A B : Piece → Type 0) (a b : ℕ) (x y : Report) → Fits x → Reports fixed_of gained s t A B a b x y → Reports fixed_of gained s t A B a b x (memory_once y)
@@ -249,40 +150,75 @@ module _ {S : Type 0} (fixed_of : S → Fixed) (gained : (Piece → Type 0) → 
     too_large = one.too_large;
   }
 
-  -- the same of one piece that was handed over, beside some holders
-  pub beside : (s t : S) (A : Piece → Type 0) (it : Piece) (a : ℕ) (x y : Report) → A it → Reports fixed_of gained s t (IsIt it) (IsIt it) 0 0 x y
-      → Reports fixed_of gained s t A A a a x y
-  beside s t A it a x y is one = record {
+  -- a fetch whose text a check refused for another cause than memory, or without one, as a device failed
+  fetch_lost : (s : S) (A B : Piece → Type 0) (a b : ℕ) (x y : Report) → ((piece : Piece) → B piece → A piece) → Fits x
+      → ((a ≤ b) × (y ≡ refused_once (asked_once x))) ⊎ ((a < b) × (y ≡ failed_once (asked_once x))) → Reports fixed_of gained s s A B a b x y
+  fetch_lost s A B a b x y no_more fits is =
+      let counts : (y.committed ≡ x.committed) × (y.parents ≡ x.parents) × (y.failed + a ≤ x.failed + b) × (IsAnswered x → IsAnswered y)
+      × FailsNoLess x y × (y.too_large ≡ x.too_large) = elim is [
+        | inl refused ↦ rw refused.1 (refl, refl, omega (arith, refused.0), λ told. omega (arith, told), (omega arith, omega arith), refl)
+        | inr failed ↦ rw failed.1 (refl, refl, omega (arith, failed.0), λ told. omega (arith, told), (omega arith, omega (arith, fits.3)), refl)
+      ] in
+      record {
+        chunks = 0;
+        parents = 0;
+        gains = none_gained A s;
+        no_more = no_more;
+        committed = omega (arith, counts.0, fits.0);
+        stored = omega (arith, counts.1, fits.1);
+        failed = counts.2;
+        answered = counts.3;
+        no_less = counts.4;
+        too_large = λ large. inl (subst (λ (b : Bool). IsTrue b) counts.5 large);
+      }
+
+  -- a fetch without a text
+  pub fetch_none : (s : S) (A B : Piece → Type 0) (a b : ℕ) (x y : Report) → ((piece : Piece) → B piece → A piece) → Fits x
+      → ((a < b) × (y ≡ failed_once (asked_once x))) ⊎ ((a ≤ b) × (y ≡ memory_once (asked_once x))) → Reports fixed_of gained s s A B a b x y
+  fetch_none s A B a b x y no_more fits (inl failed) = fetch_lost s A B a b x y no_more fits (inr failed)
+  fetch_none s A B a b x y no_more fits (inr refused) = subst (λ (z : Report). Reports fixed_of gained s s A B a b x z) (sym refused.1)
+      (starved s s A B a b x (asked_once x) fits (fetch_some s s A B a b x (asked_once x) (none_gained A s) no_more fits (refused.0, refl)))
+
+  -- a text that a check refused
+  refused_some : (s : S) (A B : Piece → Type 0) (a b : ℕ) (x : Report) (fault : CheckFault) → ((piece : Piece) → B piece → A piece) → Fits x → a ≤ b
+      → Reports fixed_of gained s s A B a b x (checked_once fault (asked_once x))
+  refused_some s A B a b x (Short at) no_more fits up = fetch_lost s A B a b x _ no_more fits (inl (up, refl))
+  refused_some s A B a b x (Mismatch at) no_more fits up = fetch_lost s A B a b x _ no_more fits (inl (up, refl))
+  refused_some s A B a b x (Trailing at) no_more fits up = fetch_lost s A B a b x _ no_more fits (inl (up, refl))
+  refused_some s A B a b x Memory no_more fits up = fetch_none s A B a b x _ no_more fits (inr (up, refl))
+  refused_some s A B a b x Reader no_more fits up = fetch_lost s A B a b x _ no_more fits (inl (up, refl))
+
+  pub refused_done : (s : S) (A B : Piece → Type 0) (a b : ℕ) (x y z : Report) (fault : CheckFault) → ((piece : Piece) → B piece → A piece) → Fits x
+      → (a ≤ b) × (y ≡ asked_once x) → z ≡ checked_once fault y → Reports fixed_of gained s s A B a b x z
+  refused_done s A B a b x y z fault no_more fits fetch is =
+      let at_once : z ≡ checked_once fault (asked_once x) = subst (λ (r : Report). z ≡ checked_once fault r) fetch.1 is in
+      subst (λ (r : Report). Reports fixed_of gained s s A B a b x r) (sym at_once) (refused_some s A B a b x fault no_more fits fetch.0)
+
+  -- what is said of some pieces is so of more of them, with other counts of faults
+  pub moved : (s t : S) (A B A' B' : Piece → Type 0) (a b a' b' : ℕ) (x y : Report) → ((piece : Piece) → A piece → A' piece) → ((piece : Piece) → B' piece → A' piece)
+      → a' + b ≤ a + b' → Reports fixed_of gained s t A B a b x y → Reports fixed_of gained s t A' B' a' b' x y
+  moved s t A B A' B' a b a' b' x y wide no_more counts one = record {
     chunks = one.chunks;
     parents = one.parents;
-    gains = it_gained A s t it one.chunks one.parents is one.gains;
-    no_more = λ piece is. is;
+    gains = goes.wider A A' wide s t one.chunks one.parents one.gains;
+    no_more = no_more;
     committed = one.committed;
     stored = one.stored;
-    failed = omega (arith, one.failed);
+    failed = omega (arith, one.failed, counts);
     answered = one.answered;
     no_less = one.no_less;
-    too_large = λ large. elim (one.too_large large) [
-      | inl before ↦ inl before
-      | inr it_is ↦ inr (large_wider (IsIt it) A (λ piece same. subst A (sym same) is) (fixed_of s) it_is)
-    ];
+    too_large = λ large. elim (one.too_large large) [ inl before ↦ inl before | inr is ↦ inr (large_wider A A' wide (fixed_of s) is) ];
   }
+
+  -- what is said of one piece that was handed over is so beside some holders
+  pub beside : (s t : S) (A : Piece → Type 0) (it : Piece) (a : ℕ) (x y : Report) → A it → Reports fixed_of gained s t (IsIt it) (IsIt it) 0 0 x y
+      → Reports fixed_of gained s t A A a a x y
+  beside s t A it a x y is = moved s t (IsIt it) (IsIt it) A A 0 0 a a x y (λ piece same. subst A (sym same) is) (λ piece from. from) (omega arith)
 
   -- what may be handed over afterwards is no more
   pub narrowed : (s t : S) (A B : Piece → Type 0) (a b : ℕ) (x y : Report) → ((piece : Piece) → B piece → A piece) → Reports fixed_of gained s t A A a b x y
       → Reports fixed_of gained s t A B a b x y
-  narrowed s t A B a b x y no_more one = record {
-    chunks = one.chunks;
-    parents = one.parents;
-    gains = one.gains;
-    no_more = no_more;
-    committed = one.committed;
-    stored = one.stored;
-    failed = one.failed;
-    answered = one.answered;
-    no_less = one.no_less;
-    too_large = one.too_large;
-  }
+  narrowed s t A B a b x y no_more = moved s t A A A B a b a b x y (λ piece from. from) no_more (omega arith)
 
   -- one holder among others
   pub among_holders : {H : Type 0} (gives : H → ℕ → ℕ → List ℕ → Type 0) (count : H → ℕ) (s t : S) (xs : List H) (i : ℕ) (x y : H) (p q : Report) → i < length xs
@@ -291,21 +227,7 @@ module _ {S : Type 0} (fixed_of : S → Fixed) (gained : (Piece → Type 0) → 
   among_holders {H = H} gives count s t xs i x y p q below one =
       let sums : sum_by count (set xs i y) + count (get_or xs i x) ≡ sum_by count xs + count y = sum_by-set count xs i y x below in
       let here = handed_here gives xs i x below in
-      record {
-        chunks = one.chunks;
-        parents = one.parents;
-        gains = goes.wider (IsGiven gives (get_or xs i x)) (IsHanded gives xs) here s t one.chunks one.parents one.gains;
-        no_more = λ piece is. elim (set_there xs i is.place y is.holder is.there) [
-          | inl same ↦ here piece (one.no_more piece (subst (λ (h : H). IsGiven gives h piece) same is.given))
-          | inr other ↦ record { place = is.place; holder = is.holder; there = other; given = is.given }
-        ];
-        committed = one.committed;
-        stored = one.stored;
-        failed = omega (arith, one.failed, sums);
-        answered = one.answered;
-        no_less = one.no_less;
-        too_large = λ large. elim (one.too_large large) [
-          | inl before ↦ inl before
-          | inr it_is ↦ inr (large_wider (IsGiven gives (get_or xs i x)) (IsHanded gives xs) here (fixed_of s) it_is)
-        ];
-      }
+      moved s t _ _ _ _ _ _ _ _ p q here (λ piece is. elim (set_there xs i is.place y is.holder is.there) [
+        | inl same ↦ here piece (one.no_more piece (subst (λ (h : H). IsGiven gives h piece) same is.given))
+        | inr other ↦ record { place = is.place; holder = is.holder; there = other; given = is.given }
+      ]) (omega (arith, sums)) one

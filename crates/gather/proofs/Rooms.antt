@@ -1,16 +1,7 @@
 -- A store with less room, which is enough for each blob whose encoding is one of the texts.
-use Rattle.std.proofs.Common.{◌≡◌, ℕ, ◌+◌, ◌-◌, ◌*◌, ◌<◌, ◌≤◌, zero, suc, List, [], ◌∷◌, None, Some, Vec, ap, arith, get_or, length, map, max, slice_get, take}
-use Rattle.std.specs.Global.{Global}
-use Rattle.std.specs.Prelude.{vec_items}
-use Rattle.b3tree.specs.declared.mode.Mode.{Mode}
-use Rattle.b3tree.specs.declared.values.Hash.{Hash}
-use Rattle.bao_text.specs.Choice.{chunk_count}
-use Rattle.bao_text.specs.Texts.{combined_text}
-use Rattle.bao_text.proofs.Laws.{length-combined_text}
-use Rattle.gather.specs.Large.{HasCollision, IsOfNone, fixed_as}
+use Rattle.gather.proofs.Common.{◌≡◌, ℕ, ◌+◌, ◌-◌, ◌*◌, ◌<◌, ◌≤◌, zero, suc, List, [], ◌∷◌, None, Some, Vec, ap, arith, get_or, length, map, max, slice_get, sym, take, Global, vec_items, Mode, chunk_count, combined_text, length-combined_text, Fixed, Piece, IsBlob}
+use Rattle.gather.specs.Large.{HasCollision, fixed_as}
 use Rattle.gather.specs.Room.{longest, most_chunks}
-use Rattle.store_core.specs.declared.history.Piece.{Piece}
-use Rattle.store_core.specs.Laws.{IsBlob}
 
 -- the longest of one text more
 pub longest_next : (texts : List (Vec ℕ Global)) (i : ℕ) (text : Vec ℕ Global) → i < length texts → text ≡ get_or texts i text
@@ -39,17 +30,22 @@ chunks_fit texts mode blob i is =
     let long : length (combined_text mode blob) ≡ 8 + 64 * (chunk_count (length blob) - 1) + length blob = length-combined_text mode blob in
     omega (arith, there, long)
 
--- what is said of a store's root and mode alone holds at another capacity
-pub blob_at : (root : Hash) (mode : Mode) (a b : ℕ) (blob : List ℕ) → IsBlob (fixed_as root mode a) blob → IsBlob (fixed_as root mode b) blob
-blob_at root mode a b blob is = record { bytes = is.bytes; root = is.root }
+-- a store like another, with room for so many chunks
+abbrev pub with_room : Fixed → ℕ → Fixed
+with_room fixed room = record fixed { capacity = room }
 
-pub pair_at : (handed : Piece → Type 0) (root : Hash) (mode : Mode) (a b : ℕ) (blob : List ℕ) → HasCollision handed (fixed_as root mode a) blob → HasCollision handed (fixed_as root mode b) blob
-pair_at handed root mode a b blob has = record {
+-- what is said of a store's root and mode alone holds at another capacity
+pub blob_at : (fixed : Fixed) (room : ℕ) (blob : List ℕ) → IsBlob fixed blob → IsBlob (with_room fixed room) blob
+blob_at fixed room blob is = record { bytes = is.bytes; root = is.root }
+
+pub pair_at : (handed : Piece → Type 0) (fixed : Fixed) (room : ℕ) (blob : List ℕ) → HasCollision handed (with_room fixed room) blob → HasCollision handed fixed blob
+pair_at handed fixed room blob has = record {
   piece = has.piece;
   from = has.from;
   accepted = record { bytes = has.accepted.bytes; accepted = has.accepted.accepted; base = has.accepted.base };
   pair = has.pair;
 }
 
-pub none_at : (handed : Piece → Type 0) (root : Hash) (mode : Mode) (a b : ℕ) → IsOfNone handed (fixed_as root mode a) → IsOfNone handed (fixed_as root mode b)
-none_at handed root mode a b none blob is = pair_at handed root mode a b blob (none blob (blob_at root mode b a blob is))
+-- the store is of a whole blob
+pub whole_is : (fixed : Fixed) → fixed.base ≡ 0 → fixed_as fixed.root fixed.mode fixed.capacity ≡ fixed
+whole_is fixed first = λ i. record { root = fixed.root; mode = fixed.mode; capacity = fixed.capacity; base = sym first i }

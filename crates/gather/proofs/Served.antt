@@ -1,23 +1,8 @@
 -- The slices of a blob with the root, for which the store has room.
-use Rattle.std.proofs.Common.{◌≡◌, ℕ, ◌+◌, ◌-◌, ◌/◌, ◌^◌, ◌<◌, ◌≤◌, List, length, true, is_some, IsSome, Option, None, Some, refl, sym, subst, arith}
-use Rattle.std.specs.Option.{option_map}
-use Rattle.b3tree.specs.Valid.{IsKeyed}
-use Rattle.bao_check.specs.Accepted.{IsAccepted, places_of, slice_nodes}
-use Rattle.bao_check.specs.Pieces.{chunk_in}
-use Rattle.bao_check.specs.Spans.{chunk_place}
-use Rattle.bao_check.proofs.Locating.{chunk_in-place}
-use Rattle.bao_check.proofs.Presence.{slice_present}
-use Rattle.bao_check.proofs.Written.{claimed-chosen_text, slice_accepted}
-use Rattle.bao_text.specs.Choice.{chunk_count, of_slice, slice_end, slice_start}
-use Rattle.bao_text.specs.Nodes.{nodes}
-use Rattle.bao_text.specs.Texts.{slice_text}
+use Rattle.gather.proofs.Common.{◌≡◌, ℕ, ◌+◌, ◌-◌, ◌/◌, ◌^◌, ◌<◌, ◌≤◌, List, length, true, is_some, IsSome, Option, None, Some, refl, sym, subst, arith, option_map, IsKeyed, IsAccepted, places_of, slice_nodes, chunk_in, chunk_place, chunk_in-place, slice_present, claimed-chosen_text, slice_accepted, chunk_count, of_slice, slice_end, slice_start, nodes, slice_text, Fixed, has_room_of, IsBlob, EndsBlob, holds_chunk, length_of, places_in}
 use Rattle.gather.specs.declared.grain.Grain.{Grain}
 use Rattle.gather.specs.declared.grain.Grain.TheVariants.{Group as ByGroup, Chunk as ByChunk}
 use Rattle.gather.specs.Available.{IsAskedBy, IsServed, slice_of}
-use Rattle.store_core.specs.declared.fixed.Fixed.{Fixed}
-use Rattle.store_core.proofs.HasRoom.{has_room_of}
-use Rattle.store_core.specs.Laws.{IsBlob}
-use Rattle.store_core.specs.Pieces.{EndsBlob, holds_chunk, length_of, places_in}
 
 some_mapped : {X Y : Type 0} (f : X → Y) (o : Option X) → IsSome o → IsSome (option_map f o)
 some_mapped f None is = is

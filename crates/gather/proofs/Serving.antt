@@ -1,26 +1,12 @@
 -- What a worker does with the slices of a blob that a holder gives.
-use Rattle.std.proofs.Common.{◌≢◌, eqb-true, eq-eqb, ◌≡◌, ◌⊎◌, ℕ, ◌+◌, ◌-◌, ◌*◌, ◌/◌, ◌%◌, ◌^◌, ◌<◌, ◌≤◌, ◌==◌, ◌&&◌, not, Bool, true, false, List, [], ◌∷◌, zero, suc, get_or, set, slice_get, IfSome, IsSome, Option, None, Some, length, refl, sym, ap, subst, ◌∙◌, arith, inl, inr, ltb-true, mul_comm, nat_lt}
-use Rattle.std.proofs.lemmas.Option.{get_or_from_slice_get}
-use Rattle.std.proofs.lemmas.Bool.{and_parts, both_ways, cases_Bool, cases_lt, lt-ltb}
+use Rattle.gather.proofs.Common.{◌≢◌, eqb-true, eq-eqb, ◌≡◌, ◌⊎◌, ℕ, ◌+◌, ◌-◌, ◌*◌, ◌/◌, ◌%◌, ◌^◌, ◌<◌, ◌≤◌, ◌==◌, ◌&&◌, not, Bool, true, false, List, [], ◌∷◌, zero, suc, get_or, set, slice_get, IfSome, IsSome, Option, None, Some, length, refl, sym, ap, subst, ◌∙◌, arith, inl, inr, ltb-true, mul_comm, nat_lt, get_or_from_slice_get, and_parts, both_ways, cases_Bool, cases_lt, lt-ltb, add-mod_right, div-lt_iff_lt-mul, mod-eq_of_lt, mul-lt-mul_of_pos_right, Mode, IsAccepted, slice_nodes, HoldsLast, IsPiece, Checked, slice_text, Fixed, Piece, has_room, IsMaskOf, has_bit, in_mask, EndsBlob, length_of, piece_of, IsOf}
 use Rattle.gather.proofs.Bits.{has_bit_zero}
-use Rattle.std.proofs.Math.Nat.{add-mod_right, div-lt_iff_lt-mul, mod-eq_of_lt, mul-lt-mul_of_pos_right}
 use Rattle.gather.specs.Holders.{AreLater}
-use Rattle.b3tree.specs.declared.mode.Mode.{Mode}
-use Rattle.bao_check.specs.Accepted.{IsAccepted, slice_nodes}
-use Rattle.bao_check.specs.Checked.{HoldsLast, IsPiece}
-use Rattle.bao_check.specs.declared.checked.Checked.{Checked}
-use Rattle.bao_text.specs.Texts.{slice_text}
 use Rattle.gather.specs.declared.grain.Grain.{Grain}
 use Rattle.gather.specs.Available.{GivesSlice, HasSlice, HasTrue, HaveSlices, IsServed, IsWanted, slice_of}
 use Rattle.gather.specs.Counts.{HasFailed, asked_once, failed_once, memory_once}
 use Rattle.gather.specs.declared.report.Report.{Report}
 use Rattle.gather.specs.Large.{EndsTooFar}
-use Rattle.store_core.specs.declared.fixed.Fixed.{Fixed}
-use Rattle.store_core.specs.declared.history.Piece.{Piece}
-use Rattle.store_core.specs.Events.{has_room}
-use Rattle.store_core.specs.Masks.{IsMaskOf, has_bit, in_mask}
-use Rattle.store_core.specs.Pieces.{EndsBlob, length_of, piece_of}
-use Rattle.store_core.specs.Stores.{IsOf}
 
 -- a slice is accepted under the store's root and in its mode
 pub slice_good : (fixed known : Fixed) (blob text : List ℕ) (start len : ℕ) → IsServed fixed blob → known ≡ fixed → text ≡ slice_text fixed.mode blob start len

@@ -8,11 +8,12 @@ use Rattle.store_core.specs.declared.history.Call.TheVariants.{Take, Give, Commi
 use Rattle.store_core.specs.declared.history.Event.{Event}
 use Rattle.store_core.specs.declared.history.Piece.{Piece}
 use Rattle.store_core.specs.declared.store.Store.{Store}
-use Rattle.store_core.specs.Events.{IsRightReply, after, after_call, recorded_after, settling}
+use Rattle.store_core.specs.Events.{IsRightReply, after, after_call}
+use Rattle.store_core.proofs.Lasting.{recorded_from}
 use Rattle.store_core.specs.Histories.{AreLegalFrom, run}
 use Rattle.store_core.specs.Masks.{has_bit, in_mask}
 use Rattle.store_core.specs.Names.{Name}
-use Rattle.store_core.specs.Pieces.{holds_chunk, length_of}
+use Rattle.store_core.specs.Pieces.{holds_chunk}
 use Rattle.std.specs.List.{AllByRecursion}
 use Rattle.store_core.specs.States.{State, is_among, claims, is_claimed, is_held}
 use Rattle.store_core.specs.Stores.{fixed_of, state_of}
@@ -28,26 +29,6 @@ HoldsChunk store c = is_held (state_of store) c ≡ true
 
 abbrev pub IsBusy : Store → ℕ → Type 0
 IsBusy store c = is_claimed (state_of store) c ≡ true
-
--- a recorded length stays
-settled_stays : (o : Option ℕ) (n l : ℕ) → o ≡ Some l → recorded_after (settling o n) n o ≡ Some l
-settled_stays None n l is = let no : None ≡ Some l = is in cc
-settled_stays (Some m) n l is = elim (cases_Bool (m == n)) [ inl same ↦ rw same is | inr other ↦ rw other is ]
-
-call_records : (fixed : Fixed) (s : State) (who : List Name) (call : Call) → IsRightReply fixed s who call → (l : ℕ) → s.recorded ≡ Some l
-    → (after_call who call s).recorded ≡ Some l
-call_records fixed s who (Take group want granted) right l is = is
-call_records fixed s who (Give group mask given) right l is = is
-call_records fixed s who (Commit group piece committed) right l is = is
-call_records fixed s who (Settle piece answer) right l is = rw right.3 (settled_stays s.recorded (length_of piece) l is)
-call_records fixed s who (Read at len bytes) right l is = is
-call_records fixed s who (Length recorded) right l is = is
-call_records fixed s who (Parents group piece answer) right l is = is
-call_records fixed s who (Serve start len answer) right l is = is
-
-run_records : (fixed : Fixed) (s : State) (events : List Event) → AreLegalFrom fixed s events → (l : ℕ) → s.recorded ≡ Some l → (run s events).recorded ≡ Some l
-run_records fixed s [] legal l is = is
-run_records fixed s (e ∷ events) legal l is = run_records fixed (after s e) events legal.1 l (call_records fixed s e.who e.call legal.0 l is)
 
 -- a chunk that is held stays so
 call_holds : (fixed : Fixed) (s : State) (who : List Name) (call : Call) → IsRightReply fixed s who call → (c : ℕ) → is_held s c ≡ true
@@ -121,7 +102,7 @@ work_frees handed s t n q c worked among busy =
 pub lasts_work : Lasts HasWorked worker_claims Records HoldsChunk IsBusy
 lasts_work = record {
   length = λ handed s t n q l worked is.
-      subst (λ (x : State). x.recorded ≡ Some l) (sym worked.after) (run_records (fixed_of s) (state_of s) worked.events worked.legal l is);
+      subst (λ (x : State). x.recorded ≡ Some l) (sym worked.after) (recorded_from (fixed_of s) (state_of s) worked.events worked.legal l is);
   chunk = λ handed s t n q c worked is.
       subst (λ (x : State). is_held x c ≡ true) (sym worked.after) (run_holds (fixed_of s) (state_of s) worked.events worked.legal c is);
   frees = work_frees;

@@ -2,14 +2,14 @@
 use Rattle.std.specs.Prelude.{◌≡◌, ℕ, ◌+◌, List, [], ◌∷◌, ◌++◌}
 use Rattle.std.proofs.Common.{refl, sym, ap, subst, ◌∙◌}
 use Rattle.std.proofs.lemmas.List.Sums.{sum_by-append}
-use Rattle.std.specs.List.{AllByRecursion}
+use Rattle.bao_check.proofs.Lists.{All-append}
 use Rattle.store_core.specs.declared.fixed.Fixed.{Fixed}
 use Rattle.store_core.specs.declared.history.Call.{Call}
 use Rattle.store_core.specs.declared.history.Call.TheVariants.{Take, Give, Commit, Settle, Read, Length, Parents, Serve}
 use Rattle.store_core.specs.declared.history.Event.{Event}
 use Rattle.store_core.specs.declared.history.Piece.{Piece}
 use Rattle.store_core.specs.declared.store.Store.{Store}
-use Rattle.store_core.specs.Events.{after}
+use Rattle.store_core.proofs.Lasting.{legal-join, run-append}
 use Rattle.store_core.specs.Histories.{AreLegalFrom, run}
 use Rattle.store_core.specs.Laws.{chunks_of}
 use Rattle.store_core.specs.States.{State}
@@ -18,25 +18,8 @@ use Rattle.gather.specs.Counts.{Goes}
 use Rattle.gather.specs.Holders.{IsNone}
 use Rattle.gather.specs.Worked.{AreFrom, HasWorked, IsFrom, IsOwn, chunks_in, parents_in, parents_of}
 
-run_append : (s : State) (first second : List Event) → run s (first ++ second) ≡ run (run s first) second
-run_append s [] second = refl
-run_append s (e ∷ first) second = run_append (after s e) first second
-
-legal_append : (fixed : Fixed) (s : State) (first second : List Event) → AreLegalFrom fixed s first → AreLegalFrom fixed (run s first) second
-    → AreLegalFrom fixed s (first ++ second)
-legal_append fixed s [] second begun goes_on = goes_on
-legal_append fixed s (e ∷ first) second begun goes_on = (begun.0, legal_append fixed (after s e) first second begun.1 goes_on)
-
-own_append : (first second : List Event) → AllByRecursion IsOwn first → AllByRecursion IsOwn second → AllByRecursion IsOwn (first ++ second)
-own_append [] second begun goes_on = goes_on
-own_append (e ∷ first) second begun goes_on = (begun.0, own_append first second begun.1 goes_on)
-
 pub no_work : (s : Store) → HasWorked IsNone s s 0 0
 no_work s = record { events = []; own = tt; from = tt; legal = tt; after = refl; fixed = refl; counts = refl; counts_parents = refl }
-
-pub from_append : (handed : Piece → Type 0) (first second : List Event) → AreFrom handed first → AreFrom handed second → AreFrom handed (first ++ second)
-from_append handed [] second begun goes_on = goes_on
-from_append handed (e ∷ first) second begun goes_on = (begun.0, from_append handed first second begun.1 goes_on)
 
 call_wider : (handed wider : Piece → Type 0) → ((piece : Piece) → handed piece → wider piece) → (call : Call) → IsFrom handed call → IsFrom wider call
 call_wider handed wider more (Take group want granted) from = tt
@@ -73,10 +56,10 @@ adds_work handed r s t m n p q first second =
     subst (λ (state : State). AreLegalFrom (fixed_of r) state second.events) first.after same_fixed in
     record {
       events = first.events ++ second.events;
-      own = own_append first.events second.events first.own second.own;
-      from = from_append handed first.events second.events first.from second.from;
-      legal = legal_append (fixed_of r) (state_of r) first.events second.events first.legal from_there;
-      after = second.after ∙ ap (λ (state : State). run state second.events) first.after ∙ sym (run_append (state_of r) first.events second.events);
+      own = All-append IsOwn first.events second.events first.own second.own;
+      from = All-append (λ (e : Event). IsFrom handed e.call) first.events second.events first.from second.from;
+      legal = legal-join (fixed_of r) (state_of r) first.events second.events first.legal from_there;
+      after = second.after ∙ ap (λ (state : State). run state second.events) first.after ∙ sym (run-append (state_of r) first.events second.events);
       fixed = second.fixed ∙ first.fixed;
       counts = ap (λ (k : ℕ). k + n) first.counts ∙ ap (λ (k : ℕ). chunks_in first.events + k) second.counts ∙ sym (sum_by-append (λ (e : Event). chunks_of e.call) first.events second.events);
       counts_parents = ap (λ (k : ℕ). k + q) first.counts_parents ∙ ap (λ (k : ℕ). parents_in first.events + k) second.counts_parents ∙ sym (sum_by-append (λ (e : Event). parents_of e.call) first.events second.events);

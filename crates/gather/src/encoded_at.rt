@@ -37,6 +37,7 @@ impl<'a, S: Source> Holder for EncodedAt<'a, S> {
     /// is asked for.
     ///
     /// `Device` where a read answered a fault, one of the kind `Interrupted` too, which is not tried again.
+    #[tactic(auto, using(crate::proofs::Appending::of_known, crate::proofs::Appending::undone))]
     fn fetch(&mut self, start: u64, len: u64, into: &mut Vec<u8>) -> Result<(), HolderFault>
         ensures appended { OnOk result (Appends (IsCutAt (S.contents self.old.source.now) (S.faultless self.old.source.now) start len) into.old.items into.new.items) }
         ensures no_more { GivesNoMore (λ holder start len text. IsCutAt (S.contents holder.source.now) (S.faultless holder.source.now) start len text) self.old self.new }

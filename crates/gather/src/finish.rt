@@ -38,6 +38,7 @@ fn read_all(alloc: Global, store: &Store, end: u64) -> Result<Vec<u8>, FinishFau
 /// Where it is the hash of all bytes that a store holds below its recorded length, these are another's then: for each blob
 /// with the root, a collision is exhibited, two different inputs with one chaining value, one of the blob's and one of a piece's of which
 /// the store's history committed a chunk, or by which it settled the length.
+#[tactic(auto, using(crate::proofs::Finishing::alike, crate::proofs::Finishing::differs, crate::proofs::Finishing::judged_other, crate::proofs::Finishing::judged_root))]
 pub fn judge(fixed: &Fixed, hashed: Hash) -> Result<(), FinishFault>
     ensures root { IsOk result ↔ (hashed.0 ≡ fixed.now.root.0) }
     ensures fault { IfErr result (λ fault. fault ≡ NotTheRoot) }
@@ -59,6 +60,7 @@ pub fn judge(fixed: &Fixed, hashed: Hash) -> Result<(), FinishFault>
 /// For each blob with the root and whatever legal history led to the store, the blob is the one that is answered, and
 /// there is none at `NotTheRoot`; or a collision is exhibited, two different inputs with one chaining value, one of the blob's and one of
 /// a piece's of which that history committed a chunk, or by which it settled the length.
+#[tactic(auto, using(crate::proofs::Finishing::judged_at, crate::proofs::Finishing::verdict_binds, crate::proofs::Finishing::verdict_finishes))]
 pub fn finish_one(alloc: Global, store: &Store) -> Result<Vec<u8>, FinishFault>
     ensures finishes { Finishes (λ blob. blob.items) (fixed_of store.now) (state_of store.now) result }
     ensures binds { (by : IsReached (fixed_of store.now) (state_of store.now)) → Binds (λ blob. blob.items) (fixed_of store.now) by.history result }

@@ -81,6 +81,7 @@ impl Shelf for Alone {
         store.commit_parents(group, piece)
     }
 
+    #[tactic(auto, using(crate::proofs::Alone::settles_still, crate::proofs::Alone::settles_large, crate::proofs::Knowing::settle_records))]
     fn settle(&self, store: &mut Store, tail: &Tail<'_>) -> Settling {
         // For the prover alone: a tail is of a piece with its last chunk.
         tail.is_last();

@@ -44,6 +44,7 @@ fn append_some<S: Source>(
 
 // Appends `len` bytes of the source from the place `at` on, as far as it has them, and answers whether all came. Room is
 // taken as they come.
+#[tactic(auto, using(crate::proofs::Reading::read_more))]
 pub(crate) fn append_part<S: Source>(
     source: &S,
     at: u128,

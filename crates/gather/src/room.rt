@@ -17,6 +17,7 @@ pub fn chunks_within(len: u64) -> u64
 
 /// How many chunks a blob may have whose combined encoding is one of these texts: as many as the longest of them has
 /// room for, and at most `capacity`. It is 1 where there is no text, or 0 at a capacity of 0.
+#[tactic(auto, using(crate::proofs::Rooms::longest_next))]
 pub fn room_for(texts: &[Vec<u8>], capacity: u32) -> u32
     ensures value { result ≡ min capacity (most_chunks (map vec_items texts.now)) }
     ensures enough { (mode : Mode) (blob : List ℕ) (i : ℕ) → slice_get (map vec_items texts.now) i ≡ Some (combined_text mode blob)

@@ -18,6 +18,7 @@ impl<'a, S: Source> Holder for SourceAt<'a, S> {
 
     ghost gives = { λ holder start len text. IsCutAt (S.contents holder.0.now) (S.faultless holder.0.now) start len text };
 
+    #[tactic(auto, using(crate::proofs::Lending::lost_appends))]
     fn fetch(&mut self, start: u64, len: u64, into: &mut Vec<u8>) -> Result<(), HolderFault> {
         let mut holder = EncodedAt::new(self.0);
         match holder.fetch(start, len, into) {
@@ -43,6 +44,7 @@ impl<'a, S: Source> Holder for CopyAt<'a, S> {
 
     ghost gives = { λ holder start len text. IsPartAt (S.contents holder.0.now) (S.faultless holder.0.now) start len text };
 
+    #[tactic(auto, using(crate::proofs::Lending::lost_part))]
     fn fetch(&mut self, start: u64, len: u64, into: &mut Vec<u8>) -> Result<(), HolderFault> {
         let mut holder = PlainAt::new(self.0);
         match holder.fetch(start, len, into) {

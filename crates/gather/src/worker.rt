@@ -58,6 +58,7 @@ fn fetched<'a, H: Holder>(
 
 // Asks one holder for the last chunk, settles the length that its text certifies, stores the text's parents, and
 // answers whether that length is above what the store has room for.
+#[tactic(auto, using(crate::proofs::Forming::made_no_more))]
 fn ask_end<S: Shelf, H: Holder>(
     alloc: Global,
     form: &Form<'_>,
@@ -143,6 +144,7 @@ pub(crate) fn agree<S: Shelf, H: Holder>(
 
 // Asks one holder for a part of a blob, commits what its text holds of a group's chunks that are left, stores the text's
 // parents, and answers those that are left then.
+#[tactic(auto, using(crate::proofs::Forming::made_no_more))]
 fn ask<S: Shelf, H: Holder>(
     alloc: Global,
     form: &Form<'_>,

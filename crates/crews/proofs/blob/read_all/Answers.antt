@@ -1,25 +1,6 @@
-use Rattle.std.proofs.Common.{◌≡◌, ◌*◌, ◌≤◌, ℕ, List, length, ap, arith, inl, inr, subst, sym}
-use Rattle.std.proofs.lemmas.List.{with_items_is}
-use Rattle.store_core.proofs.HasRoom.{recorded_fits}
-use Rattle.store_shared.proofs.Asking.{length_there}
+use Rattle.crews.proofs.Common.{no_none, ◌≡◌, ◌*◌, ◌≤◌, ℕ, List, length, ap, arith, inr, subst, sym, with_items_is, recorded_fits, IsWhole, Fixed, IsLegal, state_after, fixed_of}
 use Rattle.crews.proofs.Finishing.{asks_both, read_lacks, read_whole, recorded_then}
 use Rattle.crews.proofs.blob.read_all.Goals as goal
-use Rattle.gather.proofs.Finishing.{no_none}
-use Rattle.gather.specs.Finished.{IsWhole}
-use Rattle.store_core.specs.declared.fixed.Fixed.{Fixed}
-use Rattle.store_core.specs.Histories.{IsLegal, state_after}
-use Rattle.store_shared.specs.Seats.{fixed_of}
-
-pub returns-in-None-clause-unfinished : goal.returns-in-None-clause-unfinished
-returns-in-None-clause-unfinished c = λ _. inl (length_there _ _ _ c.in-None.ensures.called)
-
-pub returns-in_err-blob-clause-no_length : goal.returns-in_err-blob-clause-no_length
-returns-in_err-blob-clause-no_length c = λ none. absurd (no_none _ c.in-Some.length (length_there _ _ _ c.in-Some.ensures.called) none)
-
-pub returns-in_err-read-clause-asks : goal.returns-in_err-read-clause-asks
-returns-in_err-read-clause-asks c =
-    let long : length c.as_mut_slice.result.now ≡ c.in-Some.length = omega (arith, ap length c.as_mut_slice.ensures.value, c.in_ok-blob.ensures.len, c.in_ok-blob.blob.ok.0) in
-    asks_both _ _ _ c.as_mut_slice.result.now c.read.new.out c.in-Some.length _ long c.in-Some.ensures.called c.in_err-read.ensures.event
 
 pub returns-in_err-read-clause-unfinished : goal.returns-in_err-read-clause-unfinished
 returns-in_err-read-clause-unfinished c = λ _.

@@ -1,18 +1,6 @@
-use Rattle.std.proofs.Common.{◌≡◌, ℕ, List, map, subst}
-use Rattle.std.specs.Prelude.{vec_items}
-use Rattle.bao_check.specs.declared.outline.Outline.{Outline}
+use Rattle.crews.proofs.Common.{◌≡◌, ℕ, List, map, subst, vec_items, Outline, Plain, IsMadeBeside, Gathers, own_bytes, fixed_as, IsLent, IsPartOfCopy, copy_gives, IsPartOf, copy_of, gathers_wider, memory_gathers, lent_beside, Fixed, Piece}
 use Rattle.crews.proofs.copies.gather_copies.Goals as goal
 use Rattle.crews.specs.Beside.{fixed_beside}
-use Rattle.gather.specs.declared.plain.Plain.{Plain}
-use Rattle.gather.specs.Forms.{IsMadeBeside}
-use Rattle.gather.specs.HandedOut.{Gathers, own_bytes}
-use Rattle.gather.specs.Large.{fixed_as}
-use Rattle.gather.specs.Lists.{IsLent, IsPartOfCopy, copy_gives}
-use Rattle.gather.specs.Plains.{IsPartOf, copy_of}
-use Rattle.gather.proofs.Answering.{gathers_wider, memory_gathers}
-use Rattle.gather.proofs.Lending.{lent_beside}
-use Rattle.store_core.specs.declared.fixed.Fixed.{Fixed}
-use Rattle.store_core.specs.declared.history.Piece.{Piece}
 
 -- what holders over these copies hand over beside an outline
 abbrev Lent : Outline → List (List ℕ) → Piece → Type 0

@@ -1,15 +1,9 @@
-use Rattle.std.proofs.Common.{◌≡◌, Bool, true, if◌then◌else◌, is_ok, List, Vec, [], ◌∷◌, ◌++◌, sym, ap, subst, ◌∙◌, arith}
-use Rattle.std.proofs.lemmas.Grind.{common_steps}
-use Rattle.std.proofs.lemmas.List.Elements.{All-push}
-use Rattle.std.specs.Global.{Global}
-use Rattle.std.specs.List.{All}
+use Rattle.crews.proofs.Common.{◌≡◌, Bool, true, if◌then◌else◌, is_ok, List, Vec, [], ◌∷◌, ◌++◌, sym, ap, subst, ◌∙◌, arith, common_steps, All-push, Global, All, SeatView, IsSeatOf, Gripped}
 use Rattle.crews.specs.declared.crew.Crew.{Crew}
 use Rattle.crews.specs.Joined.{HaveAllNames}
 use Rattle.crews.specs.Seats.{BeginsAfter}
 use Rattle.crews.proofs.Uniting.{split_names}
 use Rattle.crews.proofs.crewing.crews_with.Goals as goal
-use Rattle.store_core.specs.declared.view.SeatView.{SeatView}
-use Rattle.store_shared.specs.Seats.{IsSeatOf, Gripped}
 
 pub loop-preserved : goal.loop-preserved
 loop-preserved g c =

@@ -1,6 +1,4 @@
-use Rattle.std.specs.Prelude.{◌≡◌, All, vec_len}
-use Rattle.store_shared.specs.Seats.{IsSeatOf}
-use Rattle.store_core.specs.Knowledge.{AreAllNames}
+use Rattle.crews.proofs.Common.{◌≡◌, All, vec_len, IsSeatOf, AreAllNames}
 use Rattle.crews.specs.Joined.{HaveAllNames}
 use Rattle.crews.specs.Seats.{BeginsAfter, KeepsItsOwn}
 use Rattle.crews.proofs.crewing.crews_with.Given as goal

@@ -1,26 +1,11 @@
-use Rattle.std.proofs.Common.{◌≡◌, ℕ, ◌≤◌, List, IsTrue, length, sym, ap, arith, subst, ◌∙◌}
-use Rattle.std.proofs.lemmas.List.{with_items_is}
-use Rattle.std.specs.List.{All}
-use Rattle.bao_text.specs.Choice.{chunk_count}
+use Rattle.crews.proofs.Common.{◌≡◌, ℕ, ◌≤◌, List, IsTrue, length, sym, ap, arith, subst, ◌∙◌, with_items_is, All, chunk_count, HaveAll, IsLent, Report, made_of, Gathers, IsHandedOut, own_bytes, large_wider, whole_is, Fixed, Piece, SeatView, IsBlob, IsSeatOf, fixed_of, opening_view}
 use Rattle.crews.specs.declared.crew.Crew.{Crew}
 use Rattle.crews.specs.Crews.{IsHandedTo, all_of}
 use Rattle.crews.specs.Joined.{AreCallsOf, AreClaimsOf, HasAllNamesOf, HaveAllNames}
-use Rattle.gather.specs.Lists.{HaveAll, IsLent}
 use Rattle.crews.specs.Seats.{BeginsAfter}
-use Rattle.crews.proofs.OfNone.{handed_wide, lent_all}
 use Rattle.crews.proofs.Summing.{all_each, failed_all, large_all}
-use Rattle.crews.proofs.Whence.{left_to_one, no_faults, opening_all}
+use Rattle.crews.proofs.Whence.{handed_wide, left_to_one, lent_all, no_faults, opening_all}
 use Rattle.crews.proofs.gathering.gather_within.Goals as goal
-use Rattle.gather.specs.declared.report.Report.{Report}
-use Rattle.gather.specs.Forms.{made_of}
-use Rattle.gather.specs.HandedOut.{Gathers, IsHandedOut, own_bytes}
-use Rattle.gather.proofs.Reporting.{large_wider}
-use Rattle.store_core.specs.declared.fixed.Fixed.{Fixed}
-use Rattle.store_core.specs.declared.history.Piece.{Piece}
-use Rattle.store_core.specs.declared.view.SeatView.{SeatView}
-use Rattle.store_core.specs.Laws.{IsBlob}
-use Rattle.store_shared.specs.Seats.{IsSeatOf, fixed_of}
-use Rattle.store_core.specs.Knowledge.{opening_view}
 
 pub all_joined-seat-requires-clause-crews : goal.all_joined-seat-requires-clause-crews
 all_joined-seat-requires-clause-crews g c =
@@ -75,7 +60,7 @@ hand_out-requires-clause-large g c = λ _ _ large.
 pub returns-clause-gathers : goal.returns-clause-gathers
 returns-clause-gathers g c =
     let handed : Piece → Type 0 = IsLent (made_of c.args.form.now g.H.Holder.gives) (g.L.Lists.over c.args.lists.now) in
-    subst (λ (f : Fixed). Gathers own_bytes handed f c.hand_out.result) c.in_ok-assembly.ensures.fixed c.hand_out.ensures.gathers
+    subst (λ (f : Fixed). Gathers own_bytes handed f c.hand_out.result) (c.in_ok-assembly.ensures.fixed ∙ whole_is c.args.fixed.now c.requires.whole) c.hand_out.ensures.gathers
 
 pub returns-clause-available : goal.returns-clause-available
 returns-clause-available g c = λ slices.
@@ -83,5 +68,5 @@ returns-clause-available g c = λ slices.
     let over = g.L.Lists.over c.args.lists.now in
     let handed : Piece → Type 0 = IsLent gives over in
     subst (λ (f : Fixed). (blob : List ℕ) → IsBlob f blob → chunk_count (length blob) ≤ f.capacity → HaveAll c.args.how.grain gives over f.mode blob
-    → IsHandedOut own_bytes handed f blob c.hand_out.result) c.in_ok-assembly.ensures.fixed
+    → IsHandedOut own_bytes handed f blob c.hand_out.result) (c.in_ok-assembly.ensures.fixed ∙ whole_is c.args.fixed.now c.requires.whole)
     (λ blob is room have. c.hand_out.ensures.available slices blob is (ap (λ (f : Fixed). f.base) c.in_ok-assembly.ensures.fixed) room have)

@@ -1,14 +1,7 @@
-use Rattle.std.proofs.Common.{◌≡◌, ◌⊎◌, suc, zero, List, [], ◌∷◌, ◌++◌, length, Contains, Option, option_to_list, refl, sym, ap, subst, ◌∙◌, arith, inl, inr}
-use Rattle.std.specs.List.{All}
-use Rattle.std.proofs.lemmas.List.{append-nil}
-use Rattle.std.proofs.lemmas.List.Elements.{Contains-append_left, Contains-append_right}
-use Rattle.bao_check.proofs.Lists.{Contains-head}
+use Rattle.crews.proofs.Common.{◌≡◌, ◌⊎◌, suc, zero, List, [], ◌∷◌, ◌++◌, length, Contains, Option, option_to_list, refl, sym, ap, subst, ◌∙◌, arith, inl, inr, All, append-nil, Contains-append_left, Contains-append_right, Contains-head, Named, IsSeatOf, AreAllNames}
 use Rattle.crews.specs.declared.crew.Crew.{Crew}
 use Rattle.crews.specs.Joined.{HasNamesOf, HaveAllNames, names_in}
 use Rattle.crews.proofs.Uniting.{joined_calls, joined_claims, joined_has, joined_names, merged_has}
-use Rattle.store_core.specs.declared.view.Named.{Named}
-use Rattle.store_shared.specs.Seats.{IsSeatOf}
-use Rattle.store_core.specs.Knowledge.{AreAllNames}
 use Rattle.crews.proofs.joining.all_joined.Goals as goal
 
 all_front : {X : Type 0} (P : X → Type 0) (xs : List X) (x : X) → All P (xs ++ x ∷ []) → All P xs

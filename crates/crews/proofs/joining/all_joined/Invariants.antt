@@ -1,5 +1,4 @@
-use Rattle.std.specs.Prelude.{◌⊎◌, All, Contains, vec_len}
-use Rattle.store_shared.specs.Seats.{IsSeatOf}
+use Rattle.crews.proofs.Common.{◌⊎◌, All, Contains, vec_len, IsSeatOf}
 use Rattle.crews.specs.Joined.{AreCallsOf, AreClaimsOf, HasNamesOf, HaveAllNames}
 use Rattle.crews.proofs.joining.all_joined.Given as goal
 

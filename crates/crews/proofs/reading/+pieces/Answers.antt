@@ -1,8 +1,6 @@
-use Rattle.std.proofs.Common.{append-nil, sym, [], ◌≡◌, ◌*◌, ◌+◌, ◌-◌, ◌/◌, ◌≤◌, IsErrOf, arith}
+use Rattle.crews.proofs.Common.{append-nil, sym, [], ◌≡◌, ◌*◌, ◌+◌, ◌-◌, ◌/◌, ◌≤◌, IsErrOf, arith, Unfinished, state_after}
 use Rattle.crews.proofs.Rereading.{lacks_wide, on_then, top_lasts, tops_joined}
 use Rattle.crews.proofs.reading.+pieces.Goals as goal
-use Rattle.gather.specs.declared.fault.FinishFault.TheVariants.{Unfinished}
-use Rattle.store_core.specs.Histories.{state_after}
 
 pub returns-in_err-right-clause-on : goal.returns-in_err-right-clause-on
 returns-in_err-right-clause-on t c = on_then _ _ _ c.top_in_pieces.ensures.on c.top_in_pieces-2.ensures.on

@@ -1,11 +1,7 @@
-use Rattle.std.proofs.Common.{rules, ◌≡◌, ◌⊎◌, ◌*◌, ◌+◌, ◌-◌, ◌/◌, ◌≤◌, Err, IfErr, IfOk, IsErrOf, Result, arith, subst, sym}
-use Rattle.b3word.specs.declared.input.Input.{Input}
+use Rattle.crews.proofs.Common.{rules, ◌≡◌, ◌⊎◌, ◌*◌, ◌+◌, ◌-◌, ◌/◌, ◌≤◌, Err, IfErr, IfOk, IsErrOf, Result, arith, subst, sym, Input, FinishFault, Unfinished, state_after}
 use Rattle.crews.specs.Wholes.{IsTopRead, LackedByte, ReadOn}
 use Rattle.crews.proofs.Rereading.{both_tops, either_lacks, ok_map, on_joined}
 use Rattle.crews.proofs.reading.+seats.Goals as goal
-use Rattle.gather.specs.declared.fault.FinishFault.{FinishFault}
-use Rattle.gather.specs.declared.fault.FinishFault.TheVariants.{Unfinished}
-use Rattle.store_core.specs.Histories.{state_after}
 
 pub returns-clause-on : goal.returns-clause-on
 returns-clause-on g t c =

@@ -1,4 +1,4 @@
-use Rattle.std.proofs.Common.{◌+◌, ◌*◌}
+use Rattle.crews.proofs.Common.{◌+◌, ◌*◌}
 use Rattle.crews.proofs.reading.+seats.Given as goal
 
 -- a closure comes between two calls

@@ -1,4 +1,4 @@
-use Rattle.std.specs.Prelude.{◌≡◌, take}
+use Rattle.crews.proofs.Common.{◌≡◌, take}
 use Rattle.crews.specs.Crews.{all_of}
 use Rattle.crews.proofs.rounds.all_reports.Given as goal
 

@@ -1,7 +1,6 @@
-use Rattle.std.specs.Prelude.{◌≡◌, ◌<◌, ◌≤◌, ℕ, length, slice_index_or}
+use Rattle.crews.proofs.Common.{◌≡◌, ◌<◌, ◌≤◌, ℕ, length, slice_index_or, made_of}
 use Rattle.crews.specs.declared.crew.Crew.{Crew}
 use Rattle.crews.specs.Crews.{WorkedOn}
-use Rattle.gather.specs.Forms.{made_of}
 use Rattle.crews.proofs.rounds.last_round.Given as goal
 
 abbrev pub invariant-loop-number : goal.invariant-loop-number

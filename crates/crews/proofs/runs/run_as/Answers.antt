@@ -1,32 +1,23 @@
-use Rattle.std.proofs.Common.{IsTrue, sym, subst}
-use Rattle.b3tree.specs.declared.mode.Mode.{Mode}
-use Rattle.b3tree.specs.Valid.{IsKeyed}
-use Rattle.bao_check.proofs.Laws.{accepted_binds}
-use Rattle.crews.proofs.Running.{seats_bind}
-use Rattle.crews.proofs.Summing.{answered_all, failed_all, large_all}
+use Rattle.crews.proofs.Common.{IsTrue, sym, subst, Mode, IsKeyed, accepted_binds, are_longer, made_of, Report, IsAnswered, fixed_of}
+use Rattle.crews.proofs.Summing.{answered_all, each_then, failed_all, large_all, seats_bind}
 use Rattle.crews.proofs.runs.run_as.Goals as goal
-use Rattle.gather.proofs.Binding.{are_longer}
-use Rattle.gather.specs.Forms.{made_of}
-use Rattle.gather.specs.declared.report.Report.{Report}
-use Rattle.gather.specs.Counts.{IsAnswered}
-use Rattle.store_shared.specs.Seats.{fixed_of}
+
+pub returns-clause-each : goal.returns-clause-each
+returns-clause-each g c = each_then c.args.assembly.now (made_of c.args.form.now g.H.Holder.gives) g.H.Holder.count _ _ _ c.first_round.ensures c.last_round.ensures
 
 pub returns-clause-binds : goal.returns-clause-binds
-returns-clause-binds g c =
-    seats_bind c.args.assembly.now (made_of c.args.form.now g.H.Holder.gives) g.H.Holder.count _ _ (subst (λ (mode : Mode). IsKeyed mode) c.mode.ensures c.is_keyed.ensures) c.both_rounds.ensures.each
+returns-clause-binds g c = seats_bind _ _ _ _ _ (subst (λ (mode : Mode). IsKeyed mode) c.mode.ensures c.is_keyed.ensures) (returns-clause-each g c)
 
 pub returns-clause-failed : goal.returns-clause-failed
-returns-clause-failed g c = rw c.both_rounds.ensures.all (failed_all c.args.assembly.now (made_of c.args.form.now g.H.Holder.gives) g.H.Holder.count _ _ c.both_rounds.ensures.each)
+returns-clause-failed g c = rw c.all_reports.ensures (failed_all _ _ _ _ _ (returns-clause-each g c))
 
 pub returns-clause-answered : goal.returns-clause-answered
-returns-clause-answered g c =
-    subst (λ (report : Report). IsAnswered report) (sym c.both_rounds.ensures.all) (answered_all c.args.assembly.now (made_of c.args.form.now g.H.Holder.gives) g.H.Holder.count _ _ c.both_rounds.ensures.each)
+returns-clause-answered g c = subst (λ (report : Report). IsAnswered report) (sym c.all_reports.ensures) (answered_all _ _ _ _ _ (returns-clause-each g c))
 
 pub returns-clause-too_large : goal.returns-clause-too_large
 returns-clause-too_large g c = λ large.
-    large_all c.args.assembly.now (made_of c.args.form.now g.H.Holder.gives) g.H.Holder.count _ _ c.requires.of c.both_rounds.ensures.each (subst (λ (report : Report). IsTrue report.too_large) c.both_rounds.ensures.all large)
+    large_all _ _ _ _ _ c.requires.of (returns-clause-each g c) (subst (λ (report : Report). IsTrue report.too_large) c.all_reports.ensures large)
 
 pub returns-clause-longer : goal.returns-clause-longer
 returns-clause-longer g c = λ large.
-    are_longer accepted_binds _ (fixed_of c.args.assembly.now) (subst (λ (mode : Mode). IsKeyed mode) c.mode.ensures c.is_keyed.ensures)
-    (large_all c.args.assembly.now (made_of c.args.form.now g.H.Holder.gives) g.H.Holder.count _ _ c.requires.of c.both_rounds.ensures.each (subst (λ (report : Report). IsTrue report.too_large) c.both_rounds.ensures.all large))
+    are_longer accepted_binds _ (fixed_of c.args.assembly.now) (subst (λ (mode : Mode). IsKeyed mode) c.mode.ensures c.is_keyed.ensures) (returns-clause-too_large g c large)

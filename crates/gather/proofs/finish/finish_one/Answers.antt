@@ -1,14 +1,8 @@
-use Rattle.std.proofs.Common.{◌≡◌, ◌≤◌, ◌*◌, ℕ, [], inl, inr, arith, length, refl, sym, subst, ◌∙◌}
-use Rattle.std.specs.Prelude.{IsErrOf, OnOk, Result}
-use Rattle.b3tree.specs.Valid.{IsKeyed}
-use Rattle.b3tree.specs.Hashing.{hash}
-use Rattle.gather.proofs.Finishing.{binds_found, failed, finished, judged_at, no_none, some_same, verdict_binds, verdict_finishes}
+use Rattle.gather.proofs.Common.{◌≡◌, ◌≤◌, ◌*◌, ℕ, [], inl, inr, arith, length, refl, sym, subst, ◌∙◌, IsErrOf, OnOk, Result, IsKeyed, hash, Fixed, State, fixed_of, state_of}
+use Rattle.gather.proofs.Finishing.{binds_found, failed, finished, judged_at, no_none, some_same}
 use Rattle.gather.specs.declared.fault.FinishFault.{FinishFault}
 use Rattle.gather.specs.declared.fault.FinishFault.TheVariants.{NotTheRoot, Unfinished}
 use Rattle.gather.specs.Finished.{IsWhole, Judges}
-use Rattle.store_core.specs.declared.fixed.Fixed.{Fixed}
-use Rattle.store_core.specs.States.{State}
-use Rattle.store_core.specs.Stores.{fixed_of, state_of}
 use Rattle.gather.proofs.finish.finish_one.Goals as goal
 
 pub returns-in-None-clause-finishes : goal.returns-in-None-clause-finishes
@@ -24,19 +18,6 @@ returns-in_err-blob-clause-finishes c = record {
   unfinished = λ e. let told : IsErrOf c.read_all.result Unfinished = grind arith in inr (c.read_all.ensures.lacks told);
   other = λ e. let told : IsErrOf c.read_all.result NotTheRoot = grind arith in absurd (c.read_all.ensures.never told);
 }
-
-pub returns-in_err-judge-clause-finishes : goal.returns-in_err-judge-clause-finishes
-returns-in_err-judge-clause-finishes c =
-    let judged : Judges (fixed_of c.args.store.now) c.in_ok-blob.blob.items c.judge.result =
-    judged_at _ _ _ _ _ c.judge.result c.fixed-fixed.ensures c.as_slice.ensures.value c.hash.ensures.value c.judge.ensures.judges in
-    verdict_finishes _ _ _ _ c.judge.result c.from_residual-in_err-judge.result judged c.in_ok-blob.ensures.whole c.from_residual-in_err-judge.ensures.0 (λ fault e. grind arith)
-
-pub returns-in_err-judge-clause-binds : goal.returns-in_err-judge-clause-binds
-returns-in_err-judge-clause-binds c = λ by.
-    let judged : Judges (fixed_of c.args.store.now) c.in_ok-blob.blob.items c.judge.result =
-    judged_at _ _ _ _ _ c.judge.result c.fixed-fixed.ensures c.as_slice.ensures.value c.hash.ensures.value c.judge.ensures.judges in
-    verdict_binds _ _ by.history _ c.judge.result c.from_residual-in_err-judge.result judged by.legal
-    (subst (λ (s : State). IsWhole s c.in_ok-blob.blob.items) (sym by.is) c.in_ok-blob.ensures.whole) c.from_residual-in_err-judge.ensures.0 (λ fault e. grind arith)
 
 pub returns-clause-finishes : goal.returns-clause-finishes
 returns-clause-finishes c =

@@ -1,5 +1,4 @@
-use Rattle.std.proofs.Common.{◌≡◌, ◌∙◌, ℕ, List, ◌++◌, take, length, length-append, length-take, ap, arith}
-use Rattle.std.proofs.lemmas.List.{take_at}
+use Rattle.gather.proofs.Common.{◌≡◌, ◌∙◌, ℕ, List, ◌++◌, take, length, length-append, length-take, ap, arith, take_at}
 use Rattle.gather.proofs.Finishing.{begun_more, read_lacks}
 use Rattle.gather.proofs.finish.read_all.Goals as goal
 

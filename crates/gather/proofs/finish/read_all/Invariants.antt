@@ -1,4 +1,4 @@
-use Rattle.std.proofs.Common.{◌≤◌, ◌-◌, length}
+use Rattle.gather.proofs.Common.{◌≤◌, ◌-◌, length}
 use Rattle.gather.proofs.Finishing.{IsBegun}
 use Rattle.gather.proofs.finish.read_all.Given as goal
 

@@ -1,7 +1,4 @@
-use Rattle.std.proofs.Common.{◌≡◌, IsTrue, false, ap, subst, arith, inl, inr}
-use Rattle.b3tree.specs.Valid.{IsKeyed}
-use Rattle.store_core.specs.declared.fixed.Fixed.{Fixed}
-use Rattle.store_core.specs.Stores.{fixed_of}
+use Rattle.gather.proofs.Common.{◌≡◌, IsTrue, false, ap, subst, arith, inl, inr, IsKeyed, Fixed, fixed_of}
 use Rattle.gather.specs.declared.report.Report.{Report}
 use Rattle.gather.specs.Worked.{HasWorked}
 use Rattle.gather.specs.Working.{goes_work}

@@ -1,8 +1,4 @@
-use Rattle.std.proofs.Common.{List, map, replicate, false, subst, sym, ap, ◌∙◌}
-use Rattle.bao_check.specs.Checked.{piece_nodes}
-use Rattle.bao_text.specs.declared.walk.Node.{Node}
-use Rattle.bao_text.specs.NodeNames.{name}
-use Rattle.bao_text.specs.Rest.{rest_of}
+use Rattle.gather.proofs.Common.{List, map, replicate, false, subst, sym, ap, ◌∙◌, piece_nodes, Node, name, rest_of}
 use Rattle.gather.proofs.Grouping.{AreMarked, marked_begun}
 use Rattle.gather.proofs.parents.boundary_groups.Goals as goal
 

@@ -1,7 +1,4 @@
-use Rattle.std.proofs.Common.{map}
-use Rattle.bao_check.specs.Checked.{piece_nodes}
-use Rattle.bao_text.specs.NodeNames.{name}
-use Rattle.bao_text.specs.Rest.{rest_of}
+use Rattle.gather.proofs.Common.{map, piece_nodes, name, rest_of}
 use Rattle.gather.proofs.Grouping.{AreMarked}
 use Rattle.gather.proofs.parents.boundary_groups.Given as goal
 

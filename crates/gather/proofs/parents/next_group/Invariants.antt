@@ -1,5 +1,4 @@
-use Rattle.std.proofs.Common.{◌≡◌, ◌≤◌, ◌<◌, ℕ, false}
-use Rattle.std.specs.List.{slice_index_or}
+use Rattle.gather.proofs.Common.{◌≡◌, ◌≤◌, ◌<◌, ℕ, false, slice_index_or}
 use Rattle.gather.proofs.parents.next_group.Given as goal
 
 abbrev pub invariant-loop-group : goal.invariant-loop-group

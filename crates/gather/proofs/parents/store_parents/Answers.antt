@@ -1,9 +1,7 @@
-use Rattle.std.proofs.Common.{◌≡◌, ◌∙◌, ℕ, sym, subst, arith}
+use Rattle.gather.proofs.Common.{◌≡◌, ◌∙◌, ℕ, sym, subst, arith, Fixed, piece_of}
 use Rattle.gather.specs.declared.report.Report.{Report}
 use Rattle.gather.specs.Counts.{Fits, Reports}
 use Rattle.gather.specs.Holders.{IsIt}
-use Rattle.store_core.specs.declared.fixed.Fixed.{Fixed}
-use Rattle.store_core.specs.Pieces.{piece_of}
 use Rattle.gather.proofs.Gaining.{among_onward}
 use Rattle.gather.proofs.Reporting.{counted_none, none_gained, onward, starved, stored_some}
 use Rattle.gather.proofs.parents.store_parents.Goals.{in-Ok, in-Err+then-eq, in-Err+else-eq}
@@ -25,8 +23,8 @@ loop-group-preserved g c =
     let fits : Fits x = c.fits-in-Some.ensures in
     let one : Then c.match-commit_parents.report = elim c.match-commit_parents.branch [
       | in-Ok w ↦
-          subst Then (sym w.report-is) (stored_some g.S.Shelf.fixed_of g.S.Shelf.gained g.S.Shelf.goes _ _ (IsIt it) _ x _ w.saturating_add-report.result (gained _ w.in-Ok.ensures.gained) fits
-          (omega (arith, w.saturating_add-report.ensures, w.from.ensures)))
+          subst Then (sym w.report-is) (stored_some g.S.Shelf.fixed_of g.S.Shelf.gained g.S.Shelf.goes _ _ (IsIt it) _ x 0 _ x.committed w.saturating_add-report.result (gained _ w.in-Ok.ensures.gained)
+          (omega (arith, fits.0)) (omega (arith, w.saturating_add-report.ensures, w.from.ensures)))
       | in-Err+then-eq w ↦ subst Then (sym (w.report-is ∙ w.count_memory.ensures)) (starved g.S.Shelf.fixed_of g.S.Shelf.gained g.S.Shelf.goes _ _ _ _ _ _ x x fits (counted_none g.S.Shelf.fixed_of g.S.Shelf.gained g.S.Shelf.goes _ _ (IsIt it) 0 x (gained 0 w.in-Err.ensures.gained) fits))
       | in-Err+else-eq w ↦ subst Then (sym w.report-is) (counted_none g.S.Shelf.fixed_of g.S.Shelf.gained g.S.Shelf.goes _ _ (IsIt it) 0 x (gained 0 w.in-Err.ensures.gained) fits)
     ] in (

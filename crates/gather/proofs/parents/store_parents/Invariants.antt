@@ -1,9 +1,8 @@
-use Rattle.std.proofs.Common.{◌-◌}
+use Rattle.gather.proofs.Common.{◌-◌, piece_of}
 use Rattle.gather.specs.Available.{Keeps}
 use Rattle.gather.specs.Claims.{Among}
 use Rattle.gather.specs.Counts.{Reports}
 use Rattle.gather.specs.Holders.{IsIt}
-use Rattle.store_core.specs.Pieces.{piece_of}
 use Rattle.gather.proofs.parents.store_parents.Given as goal
 
 abbrev pub invariant-loop-group : goal.invariant-loop-group

@@ -1,4 +1,4 @@
-use Rattle.std.proofs.Common.{◌≤◌, ◌-◌}
+use Rattle.gather.proofs.Common.{◌≤◌, ◌-◌}
 use Rattle.gather.specs.Reads.{ReadFrom}
 use Rattle.gather.proofs.places.append_part.Given as goal
 

@@ -1,8 +1,4 @@
-use Rattle.std.proofs.Common.{◌≡◌, ◌+◌, ◌-◌, ◌≤◌, ℕ, List, ◌++◌, length, take, drop, Option, None, Some, replicate, rules, refl, true, vec_len, if◌then◌else◌, ◌∙◌, sym, ap, arith}
-use Rattle.std.proofs.Math.Seq.{take-append-add}
-use Rattle.std.proofs.lemmas.List.{append_assoc, length-take-le, take-append-le, take-take, take_all, take_at}
-use Rattle.std.specs.Result.{is_ok}
-use Rattle.bao_read.specs.Given.{GivenAt, ReadsAt}
+use Rattle.gather.proofs.Common.{◌≡◌, ◌+◌, ◌-◌, ◌≤◌, ℕ, List, ◌++◌, length, take, drop, Option, None, Some, replicate, rules, refl, true, vec_len, if◌then◌else◌, ◌∙◌, sym, ap, arith, take-append-add, append_assoc, length-take-le, take-append-le, take-take, take_all, take_at, is_ok, GivenAt, ReadsAt}
 use Rattle.gather.proofs.places.append_some.Goals as goal
 
 -- what one read gave

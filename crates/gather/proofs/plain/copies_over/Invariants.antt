@@ -1,4 +1,4 @@
-use Rattle.std.specs.Prelude.{◌≡◌, map, take, vec_items}
+use Rattle.gather.proofs.Common.{◌≡◌, map, take, vec_items}
 use Rattle.gather.specs.Plains.{copy_of}
 use Rattle.gather.proofs.plain.copies_over.Given as goal
 

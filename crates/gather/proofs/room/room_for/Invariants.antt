@@ -1,4 +1,4 @@
-use Rattle.std.specs.Prelude.{◌≡◌, map, take, vec_items}
+use Rattle.gather.proofs.Common.{◌≡◌, map, take, vec_items}
 use Rattle.gather.specs.Room.{longest}
 use Rattle.gather.proofs.room.room_for.Given as goal
 

@@ -1,15 +1,10 @@
 use Rattle.gather.proofs.Gaining.{among_onward}
 use Rattle.gather.proofs.Reporting.{later_then, onward}
-use Rattle.std.proofs.Common.{IsSome, Option, false, true, ◌%◌, ◌≡◌, ◌<◌, ◌==◌, ℕ, length, sym, subst, arith, inl, inr, eqb-true, eq-eqb}
-use Rattle.std.proofs.lemmas.Bool.{both_ways, cases_Bool, cases_lt}
-use Rattle.bao_text.specs.Choice.{chunk_count}
+use Rattle.gather.proofs.Common.{IsSome, Option, false, true, ◌%◌, ◌≡◌, ◌<◌, ◌==◌, ℕ, length, sym, subst, arith, inl, inr, eqb-true, eq-eqb, both_ways, cases_Bool, cases_lt, chunk_count, has_bit, holds_chunk, Fixed}
 use Rattle.gather.specs.declared.grain.Grain.TheVariants.{Chunk as ByChunk}
 use Rattle.gather.specs.Available.{HaveSlices, IsServed, slice_of}
-use Rattle.store_core.specs.Masks.{has_bit}
-use Rattle.store_core.specs.Pieces.{holds_chunk}
 use Rattle.gather.proofs.Forming.{slice_chunk}
 use Rattle.gather.proofs.Serving.{fails_on, later_slices, wanted_one}
-use Rattle.store_core.specs.declared.fixed.Fixed.{Fixed}
 use Rattle.gather.specs.Forms.{made_of}
 use Rattle.gather.proofs.salvaging.salvage.Goals as goal
 

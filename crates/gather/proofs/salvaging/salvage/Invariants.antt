@@ -1,13 +1,11 @@
 use Rattle.gather.specs.Forms.{AreSlices, made_of}
 use Rattle.gather.specs.Claims.{Among}
-use Rattle.std.specs.List.{sum_by}
+use Rattle.gather.proofs.Common.{sum_by, ◌≡◌, ◌⊎◌, ℕ, ◌<◌, List, length, chunk_count}
 use Rattle.gather.specs.Counts.{HasFailed, Reports}
 use Rattle.gather.specs.Holders.{AreLater, IsHanded}
 use Rattle.gather.specs.declared.grain.Grain.TheVariants.{Chunk as ByChunk}
 use Rattle.gather.specs.Available.{HaveSlices, IsServed}
 use Rattle.gather.proofs.salvaging.salvage.Given as goal
-use Rattle.std.specs.Prelude.{◌≡◌, ◌⊎◌, ℕ, ◌<◌, List, length}
-use Rattle.bao_text.specs.Choice.{chunk_count}
 
 abbrev pub invariant-loop-chunk : goal.invariant-loop-chunk
 invariant-loop-chunk g l = g.S.Shelf.has l.shelf l.seat

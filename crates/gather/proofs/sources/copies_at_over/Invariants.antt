@@ -1,4 +1,4 @@
-use Rattle.std.specs.Prelude.{◌≡◌, map, take}
+use Rattle.gather.proofs.Common.{◌≡◌, map, take}
 use Rattle.gather.proofs.sources.copies_at_over.Given as goal
 
 abbrev pub invariant-loop-copy : goal.invariant-loop-copy

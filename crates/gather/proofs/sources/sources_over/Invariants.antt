@@ -1,4 +1,4 @@
-use Rattle.std.specs.Prelude.{◌≡◌, map, take}
+use Rattle.gather.proofs.Common.{◌≡◌, map, take}
 use Rattle.gather.proofs.sources.sources_over.Given as goal
 
 abbrev pub invariant-loop-source : goal.invariant-loop-source

@@ -1,4 +1,4 @@
-use Rattle.std.specs.Prelude.{◌≡◌, map, take, vec_items}
+use Rattle.gather.proofs.Common.{◌≡◌, map, take, vec_items}
 use Rattle.gather.specs.Encodings.{encoding}
 use Rattle.gather.proofs.texts.holders_over.Given as goal
 

@@ -1,12 +1,8 @@
-use Rattle.std.proofs.Common.{◌-◌, ◌^◌, ◌≡◌, ◌⊎◌, ◌∙◌, ◌<◌, ℕ, Option, IsSome, IsTrue, false, true, ap, get_or, length, slice_get, sum_by, refl, sym, subst, arith, inl, inr}
-use Rattle.std.proofs.lemmas.Bool.{cases_lt}
-use Rattle.std.proofs.lemmas.List.{set-get_or}
-use Rattle.std.proofs.lemmas.Option.{slice_get_within}
+use Rattle.gather.proofs.Common.{◌-◌, ◌^◌, ◌≡◌, ◌⊎◌, ◌∙◌, ◌<◌, ℕ, Option, IsSome, IsTrue, false, true, ap, get_or, length, slice_get, sum_by, refl, sym, subst, arith, inl, inr, cases_lt, set-get_or, slice_get_within, Fixed}
 use Rattle.gather.specs.Available.{GivesSlice, IsServed}
 use Rattle.gather.specs.Counts.{Reports}
 use Rattle.gather.specs.Holders.{AreLater, IsHanded}
 use Rattle.gather.specs.Large.{IsTooLarge}
-use Rattle.store_core.specs.declared.fixed.Fixed.{Fixed}
 use Rattle.gather.proofs.Gaining.{among_onward}
 use Rattle.gather.proofs.Reporting.{among_holders, handed_here, large_wider, later_one, later_then, onward, onward_none}
 use Rattle.gather.proofs.Serving.{fails_on, get_set_after, known_some, slice_here}

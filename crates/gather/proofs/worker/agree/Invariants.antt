@@ -1,10 +1,9 @@
 use Rattle.gather.specs.Forms.{AreSlices, made_of}
 use Rattle.gather.specs.Claims.{Among}
-use Rattle.std.specs.List.{sum_by}
+use Rattle.gather.proofs.Common.{sum_by, ◌-◌, ◌^◌, ◌≡◌, ◌⊎◌, ℕ, ◌<◌, ◌≤◌, List, IfSome, IsSome, IsTrue, slice_get}
 use Rattle.gather.specs.Counts.{Reports}
 use Rattle.gather.specs.Holders.{AreLater, IsHanded}
 use Rattle.gather.proofs.worker.agree.Given as goal
-use Rattle.std.specs.Prelude.{◌-◌, ◌^◌, ◌≡◌, ◌⊎◌, ℕ, ◌<◌, ◌≤◌, List, IfSome, IsSome, IsTrue, slice_get}
 use Rattle.gather.specs.Available.{HasSlice, IsServed}
 use Rattle.gather.specs.Counts.{HasFailed}
 use Rattle.gather.specs.Large.{IsTooLarge}

@@ -1,18 +1,12 @@
-use Rattle.std.proofs.Common.{refl, sym, subst, arith}
+use Rattle.gather.proofs.Common.{refl, sym, subst, arith, piece_of, ◌≡◌, ◌/◌, ◌%◌, ◌==◌, false, true, inl, inr, eqb-true, and_parts, both_ways, cases_Bool, Piece, has_bit, in_mask, holds_chunk}
 use Rattle.gather.specs.declared.report.Report.{Report}
 use Rattle.gather.specs.Counts.{Fits, Reports}
 use Rattle.gather.specs.Holders.{IsGiven}
 use Rattle.gather.proofs.Gaining.{among_and_onward, among_committed}
-use Rattle.gather.proofs.Reporting.{starved, beside, committed_some, fetch_none, fetch_some, it_gained, narrowed, none_gained, onward, refused_done}
-use Rattle.store_core.specs.Pieces.{piece_of}
-use Rattle.std.proofs.Common.{◌≡◌, ◌/◌, ◌%◌, ◌==◌, false, true, inl, inr, eqb-true}
-use Rattle.std.proofs.lemmas.Bool.{and_parts, both_ways, cases_Bool}
+use Rattle.gather.proofs.Reporting.{starved, beside, fetch_none, fetch_some, it_gained, narrowed, none_gained, onward, refused_done, stored_some}
 use Rattle.gather.specs.Available.{slice_of}
 use Rattle.gather.proofs.Bits.{in_without}
 use Rattle.gather.proofs.Serving.{fetch_failed, rest_parts}
-use Rattle.store_core.specs.declared.history.Piece.{Piece}
-use Rattle.store_core.specs.Masks.{has_bit, in_mask}
-use Rattle.store_core.specs.Pieces.{holds_chunk}
 use Rattle.gather.specs.Forms.{made_of}
 use Rattle.gather.proofs.Forming.{made_given, made_no_more, slice_given, slice_made, slice_of_store, slice_refused}
 use Rattle.gather.proofs.worker.ask.Goals as goal
@@ -37,8 +31,8 @@ returns-in-Ok-commit-clause-reports g c =
     let y = c.fetched.new.report in
     let asked = fetch_some g.S.Shelf.fixed_of g.S.Shelf.gained g.S.Shelf.goes _ _ A A _ _ _ y (none_gained g.S.Shelf.fixed_of g.S.Shelf.gained g.S.Shelf.goes A c.args.seat.now) (λ piece is. is) c.in-Some.ensures.fits c.in-Some.ensures.fetch in
     let fits : Fits y = subst (λ (x : Report). Fits x) (sym c.in-Some.ensures.fetch.1) c.in-Some.ensures.fits in
-    let committed = committed_some g.S.Shelf.fixed_of g.S.Shelf.gained g.S.Shelf.goes _ _ A _ y _ c.saturating_add-report.result (it_gained g.S.Shelf.fixed_of g.S.Shelf.gained g.S.Shelf.goes A _ _ _ _ 0 given c.in-Ok-commit.ensures.gained) fits
-    (omega (arith, c.saturating_add-report.ensures, c.from.ensures)) in
+    let committed = stored_some g.S.Shelf.fixed_of g.S.Shelf.gained g.S.Shelf.goes _ _ A _ y _ 0 c.saturating_add-report.result y.parents (it_gained g.S.Shelf.fixed_of g.S.Shelf.gained g.S.Shelf.goes A _ _ _ _ 0 given c.in-Ok-commit.ensures.gained)
+    (omega (arith, c.saturating_add-report.ensures, c.from.ensures)) (omega (arith, fits.1)) in
     let both = onward g.S.Shelf.fixed_of g.S.Shelf.gained g.S.Shelf.goes _ _ _ A A A _ _ _ _ _ _ asked committed in
     narrowed g.S.Shelf.fixed_of g.S.Shelf.gained g.S.Shelf.goes _ _ A _ _ _ _ _ (λ piece is. made_no_more c.args.form.now g.H.Holder.gives _ _ c.in-Some.ensures.no_more _ _ _ is)
     (onward g.S.Shelf.fixed_of g.S.Shelf.gained g.S.Shelf.goes _ _ _ A A A _ _ _ _ _ _ both (beside g.S.Shelf.fixed_of g.S.Shelf.gained g.S.Shelf.goes _ _ A _ _ _ _ given c.store_parents.ensures.reports))
@@ -106,18 +100,3 @@ returns-else-eq-clause-served g c = λ are blob served slices asked. elim c.in-E
   | inl memory ↦ let no : false ≡ true = rw memory at c.if-eq.ensures in cc
   | inr other ↦ absurd (other (slice_of_store c.args.form.now (g.S.Shelf.fixed_of c.args.seat.now) c.fixed-fixed.result c.args.part.now _ c.in-Ok.piece are c.fixed-fixed.ensures c.in-Ok.ensures.slice))
 ]
-
-pub returns-then-eq-clause-no_more : goal.returns-then-eq-clause-no_more
-returns-then-eq-clause-no_more g c = made_no_more c.args.form.now g.H.Holder.gives _ _ c.in-Some.ensures.no_more
-
-pub returns-else-eq-clause-no_more : goal.returns-else-eq-clause-no_more
-returns-else-eq-clause-no_more g c = made_no_more c.args.form.now g.H.Holder.gives _ _ c.in-Some.ensures.no_more
-
-pub returns-in-Ok-commit-clause-no_more : goal.returns-in-Ok-commit-clause-no_more
-returns-in-Ok-commit-clause-no_more g c = made_no_more c.args.form.now g.H.Holder.gives _ _ c.in-Some.ensures.no_more
-
-pub returns-in-Err-clause-no_more : goal.returns-in-Err-clause-no_more
-returns-in-Err-clause-no_more g c = made_no_more c.args.form.now g.H.Holder.gives _ _ c.in-Some.ensures.no_more
-
-pub returns-in_default-clause-no_more : goal.returns-in_default-clause-no_more
-returns-in_default-clause-no_more g c = made_no_more c.args.form.now g.H.Holder.gives _ _ c.in_default.ensures.no_more

@@ -1,10 +1,7 @@
-use Rattle.std.proofs.Common.{◌∙◌, ◌≡◌, ◌-◌, ◌^◌, false, true, ap, inl, inr, refl, sym, subst}
-use Rattle.bao_check.specs.declared.checked.Checked.{Checked}
+use Rattle.gather.proofs.Common.{◌∙◌, ◌≡◌, ◌-◌, ◌^◌, false, true, ap, inl, inr, refl, sym, subst, Checked, piece_of, IsOf}
 use Rattle.gather.specs.Holders.{IsGiven}
 use Rattle.gather.proofs.Gaining.{among_onward}
 use Rattle.gather.proofs.Reporting.{beside, fetch_large, fetch_none, fetch_some, it_gained, narrowed, none_gained, onward, refused_done}
-use Rattle.store_core.specs.Pieces.{piece_of}
-use Rattle.store_core.specs.Stores.{IsOf}
 use Rattle.gather.specs.Available.{slice_of}
 use Rattle.gather.proofs.Serving.{fetch_failed, holds_last, never_large}
 use Rattle.gather.specs.Forms.{made_of}
@@ -88,15 +85,3 @@ returns-in-Err-clause-agreed g c = λ are blob served slices.
 
 pub returns-in_default-clause-agreed : goal.returns-in_default-clause-agreed
 returns-in_default-clause-agreed g c = λ are blob served slices. inl (fetch_failed _ _ _ _ c.in_default.ensures.fetch)
-
-pub returns-in_default-tail-clause-no_more : goal.returns-in_default-tail-clause-no_more
-returns-in_default-tail-clause-no_more g c = made_no_more c.args.form.now g.H.Holder.gives _ _ c.in-Some.ensures.no_more
-
-pub returns-in-TooLarge-clause-no_more : goal.returns-in-TooLarge-clause-no_more
-returns-in-TooLarge-clause-no_more g c = made_no_more c.args.form.now g.H.Holder.gives _ _ c.in-Some.ensures.no_more
-
-pub returns-in-Err-clause-no_more : goal.returns-in-Err-clause-no_more
-returns-in-Err-clause-no_more g c = made_no_more c.args.form.now g.H.Holder.gives _ _ c.in-Some.ensures.no_more
-
-pub returns-in_default-clause-no_more : goal.returns-in_default-clause-no_more
-returns-in_default-clause-no_more g c = made_no_more c.args.form.now g.H.Holder.gives _ _ c.in_default.ensures.no_more

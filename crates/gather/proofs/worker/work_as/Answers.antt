@@ -1,13 +1,9 @@
 use Rattle.gather.proofs.Gaining.{among_onward}
 use Rattle.gather.proofs.Reporting.{later_then, onward}
-use Rattle.std.proofs.Common.{IsSome, Option, false, true, ap, ◌∙◌, ◌+◌, ◌*◌, ◌%◌, ◌≡◌, ◌<◌, ◌/◌, ◌==◌, ℕ, length, sym, subst, arith, inl, inr, eqb-true, eq-eqb}
-use Rattle.std.proofs.Math.Nat.{mod-lt}
-use Rattle.std.proofs.lemmas.Bool.{both_ways, cases_Bool, cases_lt}
-use Rattle.bao_text.specs.Choice.{chunk_count}
+use Rattle.gather.proofs.Common.{IsSome, Option, false, true, ap, ◌∙◌, ◌+◌, ◌*◌, ◌%◌, ◌≡◌, ◌<◌, ◌/◌, ◌==◌, ℕ, length, sym, subst, arith, inl, inr, eqb-true, eq-eqb, mod-lt, both_ways, cases_Bool, cases_lt, chunk_count, Fixed}
 use Rattle.gather.specs.declared.grain.Grain.TheVariants.{Group as ByGroup}
 use Rattle.gather.specs.Available.{HaveSlices, IsServed}
 use Rattle.gather.proofs.Serving.{begins_within, fails_on, later_slices, round_meets, wanted_below, wanted_there}
-use Rattle.store_core.specs.declared.fixed.Fixed.{Fixed}
 use Rattle.gather.specs.Forms.{made_of}
 use Rattle.gather.proofs.Forming.{slice_group}
 use Rattle.gather.proofs.worker.work_as.Goals as goal

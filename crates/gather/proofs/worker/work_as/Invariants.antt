@@ -1,11 +1,9 @@
 use Rattle.gather.specs.Forms.{AreSlices, made_of}
 use Rattle.gather.specs.Claims.{Among}
-use Rattle.std.specs.List.{sum_by}
+use Rattle.gather.proofs.Common.{sum_by, ◌≡◌, ◌⊎◌, ℕ, ◌+◌, ◌/◌, ◌%◌, ◌<◌, List, length, chunk_count}
 use Rattle.gather.specs.Counts.{Reports}
 use Rattle.gather.specs.Holders.{AreLater, IsHanded}
 use Rattle.gather.proofs.worker.work_as.Given as goal
-use Rattle.std.specs.Prelude.{◌≡◌, ◌⊎◌, ℕ, ◌+◌, ◌/◌, ◌%◌, ◌<◌, List, length}
-use Rattle.bao_text.specs.Choice.{chunk_count}
 use Rattle.gather.specs.declared.grain.Grain.TheVariants.{Group as ByGroup}
 use Rattle.gather.specs.Available.{HaveSlices, IsServed}
 use Rattle.gather.specs.Counts.{HasFailed}

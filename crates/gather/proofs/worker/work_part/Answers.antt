@@ -1,6 +1,4 @@
-use Rattle.std.proofs.Common.{false, true, refl, ◌<◌, get_or, length, inl, inr, ℕ, ◌≡◌, sym, subst, ◌∙◌, arith}
-use Rattle.std.specs.List.{sum_by}
-use Rattle.std.proofs.lemmas.List.{set-get_or}
+use Rattle.gather.proofs.Common.{false, true, refl, ◌<◌, get_or, length, inl, inr, ℕ, ◌≡◌, sym, subst, ◌∙◌, arith, sum_by, set-get_or, slice_get_within, both_ways, cases_Bool, cases_lt, Fixed, in_mask, holds_chunk}
 use Rattle.gather.specs.declared.report.Report.{Report}
 use Rattle.gather.specs.Counts.{Reports}
 use Rattle.gather.specs.Holders.{AreLater, IsHanded}
@@ -9,13 +7,8 @@ use Rattle.gather.proofs.Gaining.{among_and_none, among_given}
 use Rattle.gather.proofs.Bits.{in_mask_zero}
 use Rattle.gather.proofs.Reporting.{counted_none, starved, still_gained, later_none, among_holders, later_one, later_then, onward, onward_none}
 use Rattle.gather.proofs.worker.work_part.Goals.{else-loop-holder-test, then-loop-holder-test+then-left-eq0}
-use Rattle.std.proofs.lemmas.Option.{slice_get_within}
-use Rattle.std.proofs.lemmas.Bool.{both_ways, cases_Bool, cases_lt}
 use Rattle.gather.specs.Available.{GivesSlice, IsServed, slice_of}
 use Rattle.gather.proofs.Serving.{fails_on, get_set_after, slice_here}
-use Rattle.store_core.specs.declared.fixed.Fixed.{Fixed}
-use Rattle.store_core.specs.Masks.{in_mask}
-use Rattle.store_core.specs.Pieces.{holds_chunk}
 use Rattle.gather.specs.Forms.{made_of}
 use Rattle.gather.proofs.worker.work_part.Goals as goal
 

@@ -1,14 +1,11 @@
 use Rattle.gather.specs.Forms.{AreSlices, made_of}
 use Rattle.gather.specs.Claims.{AmongAnd}
-use Rattle.std.specs.List.{sum_by}
+use Rattle.gather.proofs.Common.{sum_by, ◌≡◌, ◌⊎◌, ℕ, ◌<◌, ◌≤◌, List, true, false, slice_get, holds_chunk, in_mask}
 use Rattle.gather.specs.Counts.{Reports}
 use Rattle.gather.specs.Holders.{AreLater, IsHanded}
 use Rattle.gather.proofs.worker.work_part.Given as goal
-use Rattle.std.specs.Prelude.{◌≡◌, ◌⊎◌, ℕ, ◌<◌, ◌≤◌, List, true, false, slice_get}
-use Rattle.store_core.specs.Pieces.{holds_chunk}
 use Rattle.gather.specs.Available.{HasSlice, IsServed, slice_of}
 use Rattle.gather.specs.Counts.{HasFailed}
-use Rattle.store_core.specs.Masks.{in_mask}
 
 abbrev pub invariant-loop-holder : goal.invariant-loop-holder
 invariant-loop-holder g l = g.S.Shelf.has l.shelf l.seat

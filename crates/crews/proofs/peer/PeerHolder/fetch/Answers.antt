@@ -1,9 +1,4 @@
-use Rattle.std.proofs.Common.{ℕ, List, [], ◌++◌, ◌∙◌, ap, append-nil, inl, inr, refl, subst, sym}
-use Rattle.store_core.specs.declared.fault.ServeFault.{ServeFault}
-use Rattle.store_core.specs.declared.history.Call.TheVariants.{Serve}
-use Rattle.store_core.specs.declared.history.Serving.TheVariants.{Lacking, NoLength, Text}
-use Rattle.store_calls.specs.Serving.{SeatIsRefused}
-use Rattle.store_core.specs.Knowledge.{Called}
+use Rattle.crews.proofs.Common.{ℕ, List, [], ◌++◌, ◌∙◌, ap, append-nil, inl, inr, refl, subst, sym, ServeFault, Serve, Lacking, NoLength, Text, SeatIsRefused, Called}
 use Rattle.crews.specs.Peers.{Peered}
 use Rattle.crews.proofs.peer.PeerHolder.fetch.Goals as goal
 

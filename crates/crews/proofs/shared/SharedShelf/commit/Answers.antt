@@ -1,25 +1,24 @@
-use Rattle.std.proofs.Common.{◌≡◌, ◌/◌, ℕ, true, IfOk, MatchResult, count_ones, subst, sym}
-use Rattle.crews.proofs.Sharing.{commit_gains}
-use Rattle.crews.proofs.Knowing.{commit_all}
+use Rattle.crews.proofs.Common.{◌≡◌, ◌/◌, ℕ, true, count_ones, subst, sym, IsIt, Fixed, in_mask, holds_chunk, piece_of, fixed_of, Commit, refl}
+use Rattle.crews.proofs.Alone.{held_there}
+use Rattle.crews.proofs.Sharing.{goes_on, stays_same}
+use Rattle.crews.proofs.Knowing.{all_there}
 use Rattle.crews.proofs.shared.SharedShelf.commit.Goals as goal
 use Rattle.crews.specs.Seats.{GoneOn, claims_of}
-use Rattle.gather.specs.Holders.{IsIt}
-use Rattle.store_core.specs.declared.fixed.Fixed.{Fixed}
-use Rattle.store_core.specs.Masks.{in_mask}
-use Rattle.store_core.specs.Pieces.{holds_chunk, piece_of}
-use Rattle.store_shared.specs.Seats.{fixed_of}
 
-pub returns-clause-gained : goal.returns-clause-gained
-returns-clause-gained c =
-    let it : Fixed → Type 0 = λ f. MatchResult c.map_err.result (λ committed. GoneOn (IsIt (piece_of f.base c.args.piece.now)) c.args.seat.now c.commit.new.seat (count_ones committed) 0)
-    (λ _. GoneOn (IsIt (piece_of f.base c.args.piece.now)) c.args.seat.now c.commit.new.seat 0 0) in
-    subst it (sym c.requires.knows.fixed_is)
-    (commit_gains c.args.seat.now c.commit.new.seat c.args.group (piece_of (fixed_of c.args.self.now.0.now).base c.args.piece.now) c.commit.result c.map_err.result _
-    c.map_err.ensures.cases c.map_err.ensures.variant c.commit.ensures.called c.commit.ensures.same)
+pub returns-in-Ok-clause-gained : goal.returns-in-Ok-clause-gained
+returns-in-Ok-clause-gained c =
+    subst (λ (f : Fixed). GoneOn (IsIt (piece_of f.base c.args.piece.now)) c.args.seat.now c.commit.new.seat (count_ones c.in-Ok.committed) 0) (sym c.requires.knows.fixed_is)
+    (goes_on (IsIt (piece_of (fixed_of c.args.self.now.0.now).base c.args.piece.now)) c.args.seat.now c.commit.new.seat
+    (Commit c.args.group (piece_of (fixed_of c.args.self.now.0.now).base c.args.piece.now) c.in-Ok.committed) refl c.in-Ok.ensures.called)
 
-pub returns-clause-all : goal.returns-clause-all
-returns-clause-all c =
-    subst (λ (f : Fixed). IfOk c.map_err.result (λ committed. (n : ℕ) → n / 64 ≡ c.args.group → claims_of c.args.seat.now n ≡ true
-    → holds_chunk (piece_of f.base c.args.piece.now) n ≡ true → in_mask c.args.group committed n ≡ true)) (sym c.requires.knows.fixed_is)
-    (commit_all c.args.seat.now c.commit.new.seat c.args.group (piece_of (fixed_of c.args.self.now.0.now).base c.args.piece.now) c.commit.result c.map_err.result _
-    c.map_err.ensures.cases c.map_err.ensures.variant c.commit.ensures.called)
+pub returns-in-Ok-clause-all : goal.returns-in-Ok-clause-all
+returns-in-Ok-clause-all c =
+    subst (λ (f : Fixed). (n : ℕ) → n / 64 ≡ c.args.group → claims_of c.args.seat.now n ≡ true → holds_chunk (piece_of f.base c.args.piece.now) n ≡ true
+    → in_mask c.args.group c.in-Ok.committed n ≡ true) (sym c.requires.knows.fixed_is)
+    (all_there c.args.seat.now c.commit.new.seat c.args.group _ c.in-Ok.committed c.in-Ok.ensures.called)
+
+pub returns-in-Ok-clause-held : goal.returns-in-Ok-clause-held
+returns-in-Ok-clause-held c = held_there c.args.seat.now c.commit.new.seat c.args.group _ c.in-Ok.committed c.in-Ok.ensures.called
+
+pub returns-in-Err-clause-gained : goal.returns-in-Err-clause-gained
+returns-in-Err-clause-gained c = stays_same _ c.args.seat.now c.commit.new.seat c.in-Err.ensures.same

@@ -1,7 +1,6 @@
 use Rattle.crews.proofs.Sharing.{given, goes_on}
-use Rattle.gather.specs.Holders.{IsNone}
+use Rattle.crews.proofs.Common.{IsNone, Give}
 use Rattle.crews.proofs.shared.SharedShelf.give.Goals as goal
-use Rattle.store_core.specs.declared.history.Call.TheVariants.{Give}
 
 pub returns-clause-gained : goal.returns-clause-gained
 returns-clause-gained c = goes_on IsNone c.args.seat.now c.give.new.seat (Give c.args.group c.args.mask c.give.result) tt c.give.ensures.called

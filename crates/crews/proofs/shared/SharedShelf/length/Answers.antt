@@ -1,9 +1,7 @@
-use Rattle.gather.specs.Holders.{IsNone}
-use Rattle.std.proofs.Common.{sym, ◌∙◌}
+use Rattle.crews.proofs.Common.{IsNone, sym, ◌∙◌, Length}
 use Rattle.crews.proofs.Sharing.{goes_on}
 use Rattle.crews.proofs.Knowing.{length_known, length_records}
 use Rattle.crews.proofs.shared.SharedShelf.length.Goals as goal
-use Rattle.store_core.specs.declared.history.Call.TheVariants.{Length}
 
 pub returns-clause-still : goal.returns-clause-still
 returns-clause-still c =

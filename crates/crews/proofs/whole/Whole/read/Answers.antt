@@ -1,10 +1,7 @@
-use Rattle.std.proofs.Common.{◌≡◌, ◌-◌, ◌≤◌, ℕ, List, ◌++◌, drop, length, ap, arith, subst, take, ◌∙◌}
-use Rattle.std.proofs.lemmas.List.{length-take-le}
+use Rattle.crews.proofs.Common.{◌≡◌, ◌-◌, ◌≤◌, ℕ, List, ◌++◌, drop, length, ap, arith, subst, take, ◌∙◌, length-take-le, state_after, read_bytes}
 use Rattle.crews.proofs.Rereading.{full_lasts, never_lacks, read_within}
 use Rattle.crews.proofs.whole.Whole.read.Goals as goal
 use Rattle.crews.specs.Wholes.{LackedByte}
-use Rattle.store_core.specs.Histories.{state_after}
-use Rattle.store_core.specs.States.{read_bytes}
 
 pub unreachable-requires : goal.unreachable-requires
 unreachable-requires c =

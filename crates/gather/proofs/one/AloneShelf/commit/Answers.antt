@@ -1,5 +1,4 @@
-use Rattle.store_core.specs.Pieces.{piece_of}
-use Rattle.store_core.specs.Stores.{fixed_of}
+use Rattle.gather.proofs.Common.{piece_of, fixed_of}
 use Rattle.gather.proofs.Alone.{commit_claims, commit_gains}
 use Rattle.gather.proofs.Knowing.{commit_all, commit_held, commit_keeps}
 use Rattle.gather.proofs.one.AloneShelf.commit.Goals as goal

@@ -1,4 +1,4 @@
-use Rattle.store_core.specs.declared.history.Call.TheVariants.{Give}
+use Rattle.gather.proofs.Common.{Give}
 use Rattle.gather.specs.Holders.{IsNone}
 use Rattle.gather.proofs.Alone.{given, worked_one}
 use Rattle.gather.proofs.one.AloneShelf.give.Goals as goal

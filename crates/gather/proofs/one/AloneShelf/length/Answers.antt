@@ -1,7 +1,6 @@
-use Rattle.store_core.specs.declared.history.Call.TheVariants.{Length}
+use Rattle.gather.proofs.Common.{Length, ◌∙◌}
 use Rattle.gather.specs.Holders.{IsNone}
 use Rattle.gather.proofs.Alone.{worked_one}
-use Rattle.std.proofs.Common.{◌∙◌}
 use Rattle.gather.proofs.Knowing.{length_records}
 use Rattle.gather.proofs.one.AloneShelf.length.Goals as goal
 use Rattle.gather.specs.Worked.{worker}

@@ -1,5 +1,4 @@
-use Rattle.std.proofs.Common.{ℕ, List, subst}
-use Rattle.b3tree.specs.Pieces.{piece}
+use Rattle.gather.proofs.Common.{ℕ, List, subst, piece}
 use Rattle.gather.specs.Holders.{Appends}
 use Rattle.gather.specs.Places.{IsPartAt}
 use Rattle.gather.proofs.Appending.{Appends-known}
