@@ -24,7 +24,7 @@ OF = {
     "determined_shared": ["store_steps", "store_calls", "store_shared"],
     "determined_gather": ["gather", "crews"],
     "determined_files": ["bao_read", "bao_files"],
-    "determined_tasks": ["bao_tasks"],
+    "determined_tasks": ["bao_decode", "bao_tasks"],
     "determined_program": ["bao_script", "bao_request"],
     "determined_command": ["bao_command"],
     "berylwool": ["berylwool"],

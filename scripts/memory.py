@@ -99,9 +99,8 @@ def decode_beside(outboard, blob, copy):
 
 UNFINISHED = "901 unfinished"
 
-# How many MiB a gathering may have at once, one out of a pipe, a task that keeps the parents of 1 GiB, one that holds its encoding, and one that keeps next to
-# nothing.
-GATHERS, PIPES, READS, HOLDS, KEEPS = 180, 260, 120, 1100, 32
+# How many MiB a gathering may have at once, one out of a pipe, a task that keeps the parents of 1 GiB, and one that keeps next to nothing.
+GATHERS, PIPES, READS, KEEPS = 180, 260, 120, 32
 
 # How many MiB may be read: four times the encoding of 64 MiB; little, where what a holder has is false from its beginning on; little and what a pipe is read.
 FOUR_TIMES, LITTLE, OF_A_PIPE = 4 * 68, 32, 32 + 68
@@ -160,7 +159,7 @@ OUTBOARDED = (f"outboard 1G {MADE}", *decode_beside(MADE, "1G", "1G"))
 # Long files, there and back.
 LONG = [
     Row("a slice out of the middle of 1 GiB", SLICED, KEEPS, like=ISLAND),
-    Row("1 GiB encoded and decoded", ENCODED, (READS, HOLDS), like="1G"),
+    Row("1 GiB encoded and decoded", ENCODED, (READS, KEEPS), like="1G"),
     Row("1 GiB decoded beside its outboard encoding", OUTBOARDED, READS, like="1G"),
 ]
 

@@ -6,20 +6,23 @@ usage: python3 scripts/refuse.py [--lanes N] [--only TEXT] [PROGRAM]
 PROGRAM is the built bao_gather, out/bao_gather where it is left out.
 
 Holders that lie are tried, with a true one among them or none. What a terminal is shown is looked at, by a clock of the shim's. And each task is run with one call of the C library failing, and so with each
-such call in turn, until a run meets none: an allocation, a thread's start, an open, a read, a write, a close, or the question how long
-a file is (scripts/shim.c). It fails as FAULTS says, that once or from then on. What has to come is what scripts/scenarios.py gives by the
-definitions alone, of the files as the run found them, or a fault of docs/CLI.md: never another text, status or byte of OUT.
+such call in turn, until a run meets none: an allocation, a thread's start, an open, a read, a write, a sync, a rename, a close, or the
+question how long a file is (scripts/shim.c). It fails as FAULTS says, that once or from then on, or the process is killed there. What has to
+come is what scripts/scenarios.py gives by the definitions alone, of the files as the run found them, or a fault of docs/CLI.md: never another
+text or status. OUT is what it was, or all that was to be written, and no file is left beside it, but by a process that was killed.
 Prints each case, each run that ended otherwise, and last 'N passed, M failed'. The exit status is 1 where one failed. Needs cc.
 """
 import argparse
 import dataclasses
 import errno
 import functools
+import glob
 import multiprocessing
 import os
 import pty
 import re
 import resource
+import signal
 import subprocess
 import sys
 import tempfile
@@ -34,6 +37,9 @@ HERE = os.path.dirname(os.path.abspath(__file__))
 
 OUT, KEPT, STDOUT, STDERR = "out", b"kept", "standard output", "standard error"
 PLAIN = b"bao_gather: memory\n"
+
+# The new file beside OUT.
+DRAFT = re.compile(rf"(?:.*/)?{OUT}\.part[2-9]?")
 
 # The lines of --verbose; the one of a FILE that was counted, and those in its place for want of memory.
 TOLD = re.compile(rb"bao_gather: (?:left out .*|.*: not counted: no memory|.*: \d+ of \d+ groups of 64 KiB refused)\n")
@@ -68,15 +74,20 @@ def faults_of(call, *hows, on=()):
     return [Fault(call, number(it)) for it in hows] + [Fault(call, number(it), True) for it in on]
 
 
+# The process is, before the call.
+KILLED = "killed"
+
 FAULTS = [
     *faults_of("malloc", "ENOMEM", on=["ENOMEM"]),
     *faults_of("pthread_create", "EAGAIN", on=["EAGAIN"]),
-    *faults_of("open", "EIO", "ENOSPC", "EINTR", "EMFILE", on=["EIO"]),
+    *faults_of("open", "EIO", "ENOSPC", "EINTR", "EMFILE", KILLED, on=["EIO"]),
     *faults_of("statx", "EIO", "less", "more", on=["EIO", "less", "more"]),
     *faults_of("read", "EIO", "EINTR", "short", "none", on=["EIO", "short"]),
     *faults_of("pread", "EIO", "EINTR", "short", "none", on=["EIO", "short", "none"]),
-    *faults_of("write", "EIO", "ENOSPC", "EINTR", "short", "none", on=["EIO", "ENOSPC", "short"]),
-    *faults_of("close", "EIO", "EINTR", on=["EIO"]),
+    *faults_of("write", "EIO", "ENOSPC", "EINTR", "short", "none", KILLED, on=["EIO", "ENOSPC", "short"]),
+    *faults_of("fsync", "EIO", "EINTR", KILLED),
+    *faults_of("rename", "EIO", "ENOSPC", KILLED),
+    *faults_of("close", "EIO", "EINTR", KILLED, on=["EIO"]),
 ]
 
 # What changes nothing of what has to come: a file has the bytes that it has.
@@ -85,14 +96,17 @@ HARMLESS = ["short", "less", "more"]
 # What may change nothing, since there is another way, or the call may be tried again.
 AVOIDABLE_CALLS, AVOIDABLE = ["statx", "pread", "close"], [str(errno.EINTR)]
 
+# The tasks that verify what they write as they read it, in order.
+DECODES = ("decode", "decode-slice")
+
 # The faults of memory that a task has of its own, beside that without a number. Each comes from some refused allocation.
 OWN = {
     "hash": [],
     "encode": ["401"],
     "outboard": ["401"],
     "slice": ["401"],
-    "decode": ["504"],
-    "decode-slice": ["504"],
+    "decode": [],
+    "decode-slice": [],
     "gather": ["801", "806", "903", "911"],
     "replay": ["401", "701"],
 }
@@ -100,12 +114,13 @@ OWN = {
 
 @dataclass(frozen=True)
 class Ending:
-    """How a run ended: its status, what it printed, and what stands at OUT."""
+    """How a run ended: its status, what it printed, what stands at OUT, and how many files beside it."""
 
     status: int
     printed: bytes
     complaint: bytes
     out: bytes
+    beside: int = 0
 
 
 class Case:
@@ -113,15 +128,16 @@ class Case:
 
     def __init__(self, words, files, sizes=None, is_avoidable=False, pipes=()):
         self.words, self.files, self.sizes, self.pipes = words, {**files, OUT: KEPT}, sizes or {}, pipes
-        # A plain copy is checked where it lies.
-        own = [] if words[0] == "decode" and "--outboard" in words else OWN[words[0]] + (["401"] if "--encode" in words else [])
+        # An encoding is kept where it can't be read twice.
+        is_kept = words[0] in DECODES and "--outboard" not in words and ("/dev/stdin" in files or bool(pipes))
+        own = OWN[words[0]] + (["401"] if "--encode" in words else []) + (["504"] if is_kept else [])
         self.memory = {f"bao_gather: {it} memory\n".encode() for it in own} | {PLAIN}
         # The first regular FILE is opened once more, which keeps a descriptor for OUT, and what a FILE gives is read by position.
         self.is_placed = words[0] == "gather"
         # Of several workers another may do what one has no memory for: what comes then depends on the system.
         is_shared = words[0] == "gather" and not re.search(r"--workers 1\b", " ".join(words))
-        # Nothing may be written of these before all of it was read, and it isn't kept: so it is read again.
-        is_read_twice = words[0] == "encode" or words[0] == "decode" and "--outboard" in words
+        # What is written of these comes first what is known of all of it, and it isn't kept: so it is read again.
+        is_read_twice = words[0] == "encode" or "--outboard" in words and words[0] in DECODES
         self.read_twice = words[-2] if is_read_twice else None
         # A long file is encoded in another way where there is no memory for the first.
         self.needed = {PLAIN} if is_avoidable or is_shared else self.memory
@@ -172,24 +188,32 @@ class Case:
                 )
             except subprocess.TimeoutExpired:
                 return Ending(-1, b"", b"held for ever", b""), []
+        beside = glob.glob(f"{folder}/{OUT}.*")
+        for file in beside:
+            os.remove(file)
         with open(f"{folder}/{OUT}", "rb") as it:
-            ended = Ending(ran.returncode, ran.stdout, ran.stderr, it.read())
+            ended = Ending(ran.returncode, ran.stdout, ran.stderr, it.read(), len(beside))
         if not os.path.exists(met):
             return ended, []
         with open(met, encoding="utf-8") as it:
-            return ended, [line.rstrip("\n").split(" ", 1) for line in it]
+            met = [line.rstrip("\n").split(" ", 1) for line in it]
+        return ended, [[byte, DRAFT.sub(OUT, file)] for byte, file in met]
 
     def is_right(self, fault, met, ended):
         """Whether it ended as promised, where these calls were met."""
         whole = self.ending()
+        if met and fault.how == KILLED:
+            return ended.status == -signal.SIGKILL and ended.out in (KEPT, whole.out)
+        if ended.beside:
+            return False
         if fault.call == "malloc":
             if is_told_for_less(whole.complaint, ended.complaint):
                 return dataclasses.replace(ended, complaint=whole.complaint) == whole
             return self.is_of_memory(ended)
         if fault.call == "pthread_create" or fault.how in HARMLESS:
             return ended == whole
-        # What is read in order ends where a read gives nothing, and so does a copy that is verified as it is read.
-        is_in_order = fault.call == "read" or fault.call == "pread" and self.words[0] == "decode"
+        # What is read in order ends where a read gives nothing, and so does what is verified as it is read.
+        is_in_order = fault.call == "read" or fault.call == "pread" and self.words[0] in DECODES
         ends_early = is_in_order and fault.how == "none"
         changes = frozenset((file, int(byte) if ends_early else None) for byte, file in met if file in self.files and file != OUT)
         is_again = self.is_placed and fault.call == "open" and all(file in self.files and file != OUT for _, file in met)
@@ -200,15 +224,17 @@ class Case:
             # A FILE that could be opened and read gives nothing where a read of it fails, and by that it is counted.
             emptied = frozenset((file, 0) for file, _ in changes)
             return any(self.is_ending(it, places, ended, TOLD) for it in (whole, self.ending(changes), self.ending(emptied)))
-        return self.is_changed(fault, met, ended) or self.is_ending(self.ending(changes), places, ended)
+        # What is asked of a FILE may not matter, where it does for OUT.
+        wanted = [self.ending(changes), *([whole] if fault.call in AVOIDABLE_CALLS else [])]
+        return self.is_changed(fault, met, ended) or any(self.is_ending(it, places, ended) for it in wanted)
 
     def is_changed(self, fault, met, ended):
-        """A file couldn't be read again, or had changed: then a beginning of what was to come may stand at OUT."""
+        """A file couldn't be read again, or had changed."""
         if fault.call not in ("read", "pread") or self.read_twice not in {file for _, file in met}:
             return False
         whole = self.ending()
         told = (ended.status, ended.printed, ended.complaint) == (3, b"", f"bao_gather: cannot read {self.read_twice}\n".encode())
-        return whole.status == 0 and told and (ended.out == KEPT or whole.out.startswith(ended.out))
+        return whole.status == 0 and told and ended.out == KEPT
 
     def is_of_memory(self, ended):
         """It ended with a fault of memory of its own, and OUT is as it was, or whole where the line on standard output found no room."""
@@ -223,7 +249,7 @@ class Case:
         status, printed, complaint, out = wanted.status, [wanted.printed], wanted.complaint, ended.out == wanted.out
         if status == 0 and OUT in places:
             status, printed, complaint = 3, [b""], complaint + f"bao_gather: cannot write {OUT}\n".encode()
-            out = ended.out == KEPT or wanted.out.startswith(ended.out)
+            out = ended.out == KEPT
         elif status == 0 and STDOUT in places:
             printed = [wanted.printed[:k] for k in range(len(wanted.printed))]
             status, complaint = 3, complaint + b"bao_gather: cannot write output\n"

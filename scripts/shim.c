@@ -1,10 +1,10 @@
 /* Stands before calls of the C library, and has one of them fail, or all from one on.
 
-   CALL     the call that fails: malloc (and realloc), open, statx, read, pread, write, close or pthread_create
+   CALL     the call that fails: malloc (and realloc), open, statx, read, pread, write, fsync, rename, close or pthread_create
    AT       which one of them in the process, counted from 1
    HOW      a number of errno, or what happens in place of a failure:
             short (half of the bytes, and one at least, are moved), none (no byte is, as at an end),
-            less, more (a file is said to have half of its bytes, or twice as many)
+            less, more (a file is said to have half of its bytes, or twice as many), killed (the process is, before the call)
    ON       if it is there, all such calls from that one on
    CLOCK    moves (each time that is asked for is a second after the one before) or stands (all are the same)
    MET      the file to which a line is added for each call that was met: at which byte a file stood, or -, and its path,
@@ -15,6 +15,7 @@
 #include <errno.h>
 #include <fcntl.h>
 #include <pthread.h>
+#include <signal.h>
 #include <stdarg.h>
 #include <stdatomic.h>
 #include <stdio.h>
@@ -70,6 +71,8 @@ static int is_met_at(const char *call, const char *place, off_t byte) {
     long left = atomic_fetch_add(&calls, 1) + 1 - atol(at);
     if (left < 0 || (left > 0 && !getenv("ON"))) return 0;
     tell(place, byte);
+    const char *how = getenv("HOW");
+    if (how && !strcmp(how, "killed")) syscall(SYS_kill, getpid(), SIGKILL);
     return 1;
 }
 
@@ -154,6 +157,10 @@ ssize_t write(int fd, const void *from, size_t size) {
 }
 
 ssize_t __write(int fd, const void *from, size_t size) { return write(fd, from, size); }
+
+int fsync(int fd) { return is_met("fsync", path_of(fd)) ? failed() : REAL(fsync)(fd); }
+
+int rename(const char *from, const char *to) { return is_met("rename", to) ? failed() : REAL(rename)(from, to); }
 
 /* The descriptor is closed all the same, as Linux does it. */
 int close(int fd) {

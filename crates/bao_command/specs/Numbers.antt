@@ -1,7 +1,7 @@
 -- the numbers of the faults whose text has one
 use Rattle.std.specs.Prelude.{ℕ, Option, None}
 use Rattle.bao_files.specs.Faults.{number_of as file_number_of}
-use Rattle.bao_tasks.specs.DecodeFaults.{decode_number_of}
+use Rattle.bao_decode.specs.DecodeFaults.{decode_number_of}
 use Rattle.bao_tasks.specs.GatheredFaults.{gathered_number_of}
 use Rattle.bao_tasks.specs.RerunFaults.{rerun_number_of}
 use Rattle.bao_command.specs.declared.fault.Fault.{Fault}

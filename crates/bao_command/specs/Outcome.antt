@@ -26,8 +26,10 @@ IsShown (Err error) = error_kind error ≡ BrokenPipe
 abbrev pub Begun : List Text → Option (List ℕ) → Option (List ℕ) → Type 0
 Begun words old new = Keeps old new ⊎ AsksForHelp words ⊎ ((request : Request) × AsksFor words request × PrintsBeginning request old new)
 
--- what standard output holds by the exit status: after a fault other than a file's, what it held before
+-- what standard output holds by the exit status: after a fault other than a file's, what it held before; and arguments that are
+-- refused are wrong, or memory ran out
 pub record Ends (words : List Text) (old new : Option (List ℕ)) (status : ℕ) : Type 0 where
   pub done : status ≡ 0 → Done words old new
   pub file_fault : status ≡ 3 → Begun words old new
   pub fault : status ≢ 0 → status ≢ 3 → Keeps old new
+  pub refused : AreRefused words → (status ≡ 2) ⊎ (status ≡ 4)

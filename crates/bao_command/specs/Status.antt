@@ -4,8 +4,8 @@ use Rattle.bao_command.specs.declared.fault.Fault.{Fault}
 use Rattle.bao_command.specs.declared.fault.Fault.TheVariants.{Word, Root, Key, KeyAndContext, OutputRange, TooManyFiles, OutIsOutput, File, Decode, Gather, Replay}
 use Rattle.bao_check.specs.declared.fault.CheckFault.{CheckFault}
 use Rattle.bao_check.specs.declared.fault.CheckFault.TheVariants as check
-use Rattle.bao_tasks.specs.declared.decode_fault.DecodeFault.{DecodeFault}
-use Rattle.bao_tasks.specs.declared.decode_fault.DecodeFault.TheVariants as decode
+use Rattle.bao_decode.specs.declared.decode_fault.DecodeFault.{DecodeFault}
+use Rattle.bao_decode.specs.declared.decode_fault.DecodeFault.TheVariants as decode
 use Rattle.bao_files.specs.declared.fault.FileFault.{FileFault}
 use Rattle.bao_files.specs.declared.fault.FileFault.TheVariants as file
 use Rattle.bao_tasks.specs.declared.gathered_fault.GatheredFault.{GatheredFault}

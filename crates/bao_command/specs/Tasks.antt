@@ -12,8 +12,8 @@ use Rattle.bao_files.specs.declared.fault.FileFault.{FileFault}
 use Rattle.bao_files.specs.declared.fault.FileFault.TheVariants as file
 use Rattle.bao_files.specs.declared.kinds.Part.{Part}
 use Rattle.bao_files.specs.Printed.{AppendsBeginning, IsDigits, digits_line, ok_line}
-use Rattle.bao_tasks.specs.Copies.{IsCopy}
-use Rattle.bao_tasks.specs.Ranges.{IsPartText, written_count}
+use Rattle.bao_decode.specs.Copies.{IsCopy}
+use Rattle.bao_decode.specs.Ranges.{IsPartText, written_count}
 use Rattle.bao_tasks.specs.Gathered.{HasOutline}
 use Rattle.bao_tasks.specs.Replayed.{IsReplayOf}
 use Rattle.bao_request.specs.declared.tasks.Request.{Request}
@@ -122,9 +122,11 @@ abbrev pub PrintsLine : Request → Option (List ℕ) → Option (List ℕ) → 
 PrintsLine request old new =
     (mode : Mode) × (bytes : List ℕ) × HasMode request mode × WritesApart request.task × IsRight mode request.task bytes × Appends old new (line_of mode request.task bytes)
 
--- a beginning of it, if anything
+-- the same, but that a beginning of the line was printed, if anything
 abbrev pub PrintsBeginning : Request → Option (List ℕ) → Option (List ℕ) → Type 0
-PrintsBeginning request old new = (mode : Mode) × (bytes : List ℕ) × HasMode request mode × AppendsBeginning old new (line_of mode request.task bytes)
+PrintsBeginning request old new =
+    (mode : Mode) × (bytes : List ℕ) × HasMode request mode × WritesApart request.task × IsRight mode request.task bytes
+    × AppendsBeginning old new (line_of mode request.task bytes)
 
 -- what standard output holds after a fault of the request
 abbrev pub LeavesOfFile : Request → Option (List ℕ) → Option (List ℕ) → FileFault → Type 0

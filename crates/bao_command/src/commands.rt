@@ -9,7 +9,7 @@ ghost use Rattle.bao_request.specs.CommandLine.{IsHelp};
 ghost use Rattle.bao_files.specs.Printed.{IsDigits, digits_line, ok_line};
 ghost use Rattle.bao_tasks.specs.Gathered.{HasOutline, IsGathered};
 ghost use Rattle.bao_command.specs.Outcome.{AreRefused, Begun, Done};
-ghost use Rattle.bao_command.specs.Printed.{CommandPrints, told_of};
+ghost use Rattle.bao_command.specs.Printed.{CommandPrints, OnPrinted, told_of};
 ghost use Rattle.bao_command.specs.Tasks.{Answers, HasHash, HasManyFiles, HasRoot, IsBeside, IsDue, IsPastOutput, IsReplay, IsRight, IsRightCopy, IsRightPart, WritesApart, line_of, part_line};
 ghost use Rattle.bao_command.specs.Told.{worth_line};
 
@@ -17,14 +17,14 @@ use crate::fault::Fault;
 use crate::help::{show, shown_status};
 use crate::mode::mode_of;
 use b3tree::{Hash, Mode, xof_fits};
+use bao_decode::{decode_copy, decode_file};
 use bao_files::{
     Encoding, FileFault, Once, Part, Progress, Shown, bytes_of_digits, encode_file, open_file,
     print_count, print_digits, print_input, print_text, shared_len,
 };
 use bao_request::{Request, Task, parse};
 use bao_tasks::{
-    Fate, GatheredFault, Gathering, Grain, Worth, decode_copy, decode_file, gather_beside,
-    gather_files, replay_files,
+    Fate, GatheredFault, Gathering, Grain, Worth, gather_beside, gather_files, replay_files,
 };
 use clap::error::ErrorKind;
 use std::alloc::Global;
@@ -163,7 +163,7 @@ fn decode<'a, R: Files<File = File> + AllocGlobal + Threads + Sync, O: Write>(
     path: &'a str,
     out: &mut O,
 ) -> Result<(), Fault<'a>>
-    ensures prints { (bytes : List ℕ) × OnOk result (IsRightPart mode.now digits.now part.now bytes)
+    ensures prints { (bytes : List ℕ) × OnPrinted result (IsRightPart mode.now digits.now part.now bytes)
         × CommandPrints (part_line part.now bytes) (O.contents out.old) (O.contents out.new) result }
     ensures due { IfErr result (IsDue (¬ IsDigits digits.now) ⊥ ⊥ ⊥) }
 {
@@ -184,7 +184,7 @@ fn decode_beside<'a, R: Files<File = File> + AllocGlobal, O: Write>(
     path: &'a str,
     out: &mut O,
 ) -> Result<(), Fault<'a>>
-    ensures prints { (bytes : List ℕ) × OnOk result (IsRightCopy mode.now digits.now bytes)
+    ensures prints { (bytes : List ℕ) × OnPrinted result (IsRightCopy mode.now digits.now bytes)
         × CommandPrints (ok_line (length bytes)) (O.contents out.old) (O.contents out.new) result }
     ensures due { IfErr result (IsDue (¬ IsDigits digits.now) ⊥ ⊥ ⊥) }
 {
@@ -283,10 +283,10 @@ fn gather<'a, R: Files<File = File> + AllocGlobal + Threads + Sync, O: Write, E:
     out: &mut O,
     err: &mut E,
 ) -> Result<(), Fault<'a>>
-    ensures beside { OnOk result (IsBeside mode.now digits.now outboard.entry) }
-    ensures answer { (blob : List ℕ) × OnOk result (HasHash mode.now digits.now blob × (length blob ≤ 1024 * how.capacity))
+    ensures beside { OnPrinted result (IsBeside mode.now digits.now outboard.entry) }
+    ensures answer { (blob : List ℕ) × OnPrinted result (HasHash mode.now digits.now blob × (length blob ≤ 1024 * how.capacity))
         × CommandPrints (ok_line (length blob)) (O.contents out.old) (O.contents out.new) result }
-    ensures few { OnOk result (length files.now ≤ 64) }
+    ensures few { OnPrinted result (length files.now ≤ 64) }
     ensures many { 64 < length files.now → IsErrAnd result (λ fault. fault ≡ Fault.TooManyFiles) }
     ensures due { IfErr result (IsDue (¬ IsDigits digits.now) ⊥ (64 < length files.now) ⊥) }
 {
@@ -316,9 +316,9 @@ fn replay<'a, R: Files + AllocGlobal, O: Write>(
     files: &[&'a str],
     out: &mut O,
 ) -> Result<(), Fault<'a>>
-    ensures answer { (text : List ℕ) × OnOk result (IsReplay mode.now digits.now capacity (length files.now) text)
+    ensures answer { (text : List ℕ) × OnPrinted result (IsReplay mode.now digits.now capacity (length files.now) text)
         × CommandPrints text (O.contents out.old) (O.contents out.new) result }
-    ensures few { OnOk result (length files.now ≤ 64) }
+    ensures few { OnPrinted result (length files.now ≤ 64) }
     ensures many { 64 < length files.now → IsErrAnd result (λ fault. fault ≡ Fault.TooManyFiles) }
     ensures due { IfErr result (IsDue (¬ IsDigits digits.now) ⊥ (64 < length files.now) ⊥) }
 {
@@ -347,7 +347,7 @@ fn serve_task<
     err: &mut E,
     progress: &P,
 ) -> Result<(), Fault<'a>>
-    ensures prints { (bytes : List ℕ) × OnOk result (IsRight mode.now task.now bytes)
+    ensures prints { (bytes : List ℕ) × OnPrinted result (IsRight mode.now task.now bytes)
         × CommandPrints (line_of mode.now task.now bytes) (O.contents out.old) (O.contents out.new) result }
     ensures due { IfErr result (IsDue (¬ HasRoot task.now) (IsPastOutput task.now) (HasManyFiles task.now) ⊥) }
 {

@@ -3,9 +3,10 @@ ghost use Rattle.bao_command.specs.Numbers.{number_of};
 ghost use Rattle.bao_command.specs.Status.{check_status_of, decode_status_of, file_status_of, gather_status_of, gathered_status_of, replay_status_of, rerun_status_of, status_of};
 
 use bao_check::CheckFault;
+use bao_decode::DecodeFault;
 use bao_files::{FileFault, Once};
 use bao_script::ReplayScriptFault;
-use bao_tasks::{DecodeFault, GatheredFault, RerunFault};
+use bao_tasks::{GatheredFault, RerunFault};
 use gather::GatherFault;
 use std::io::Write;
 use thiserror::Error;

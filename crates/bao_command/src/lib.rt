@@ -3,7 +3,7 @@
 
 pub use commands::command;
 pub use fault::Fault;
-pub use program::{run, run_shown};
+pub use program::run;
 pub use words::own_words;
 
 mod commands;

@@ -8,9 +8,10 @@ pub use input::{
     ReadFault, is_same_file, open_file, read_file, read_input, read_sized, read_whole, shared_len,
 };
 pub use kinds::{Encoding, Part};
+pub use late_file::LateFile;
 pub use meter::Meter;
 pub use once::Once;
-pub use output::{LateFile, encode_file, encode_input, write_encoding};
+pub use output::{encode_file, encode_input, write_encoding};
 pub use progress::Progress;
 pub use reading::{hash_reader, print_input, print_reader};
 pub use shown::Shown;
@@ -20,6 +21,7 @@ mod digits;
 mod fault;
 mod input;
 mod kinds;
+mod late_file;
 mod meter;
 mod once;
 mod output;

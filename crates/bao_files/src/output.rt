@@ -5,6 +5,7 @@ ghost use Rattle.bao_text.specs.Faults.{WroteOnly};
 ghost use Rattle.bao_text.specs.Texts.{joined};
 ghost use Rattle.bao_files.specs.Encoded.{Encodes, EncodesLike, IsMadeEncoding, answer_at_path, encoding_text};
 ghost use Rattle.bao_files.specs.Again.{fault_at_paths};
+ghost use Rattle.bao_files.specs.declared.fault.FileFault.TheVariants as FileFault;
 ghost use Rattle.bao_files.specs.declared.kinds.Encoding.TheVariants as KindOf;
 ghost use Rattle.bao_text.specs.Choice.{chunk_count};
 ghost use Rattle.bao_files.specs.Printed.{IsQuiet, NamesPaths};
@@ -13,6 +14,7 @@ use crate::again::{AgainFault, write_again};
 use crate::fault::FileFault;
 use crate::input::{LEAST_SHARED_LEN, is_same_file, open_file, read_input, size_of};
 use crate::kinds::Encoding;
+use crate::late_file::LateFile;
 use crate::progress::Progress;
 use crate::shown::Shown;
 use b3tree::{Hash, Mode};
@@ -26,62 +28,6 @@ use std::fs::File;
 use std::io::{Read, Write};
 use std::rt::Files;
 use std::thread::Threads;
-use std::{fs, io};
-
-/// A file that is made anew by the first write to it, or by a flush where none came: before, the path is as it
-/// was.
-pub struct LateFile<'a, R: Files> {
-    rt: &'a R,
-    path: &'a str,
-    file: Option<R::File>,
-}
-
-impl<R: Files> Drop for LateFile<'_, R> {
-    fn drop(self) {
-        let LateFile {
-            rt: _,
-            path: _,
-            file: _,
-        } = self;
-    }
-}
-
-impl<'a, R: Files> LateFile<'a, R> {
-    /// The file at `path`, which is not made yet.
-    pub fn new(rt: &'a R, path: &'a str) -> LateFile<'a, R>
-        ensures rt { result.rt ≡ rt.entry }
-        ensures path { result.path ≡ path.entry }
-        ensures unmade { result.file ≡ None }
-    {
-        LateFile {
-            rt,
-            path,
-            file: None,
-        }
-    }
-}
-
-impl<R: Files> Write for LateFile<'_, R> {
-    fn write(&mut self, buf: &[u8]) -> io::Result<usize> {
-        if self.file.is_none() {
-            self.file = Some(fs::create(self.rt, self.path)?);
-        }
-        match &mut self.file {
-            Some(file) => file.write(buf),
-            None => Ok(0),
-        }
-    }
-
-    fn flush(&mut self) -> io::Result<()> {
-        if self.file.is_none() {
-            self.file = Some(fs::create(self.rt, self.path)?);
-        }
-        match &mut self.file {
-            Some(file) => file.flush(),
-            None => Ok(()),
-        }
-    }
-}
 
 // Writes an encoding that was made, and answers the hash that was made with it.
 fn send<W: Write>(made: (Hash, Vec<u8>), out: &mut W) -> Result<Hash, WriteFault>
@@ -302,13 +248,29 @@ pub fn encode_input<'a, R: Threads + Sync + AllocGlobal, I: Read + Source + Sync
     answer_at(written, path)
 }
 
-/// Writes this encoding in `mode` of the file at `file` to the file at `path`, made anew, and answers the hash. How far a
+// The answer, once what was written is in its place.
+fn finished<'a, R: Files>(
+    hash: Hash,
+    mut out: LateFile<'_, R>,
+    path: &'a str,
+) -> Result<Hash, FileFault<'a>>
+    ensures ok { IfOk result (λ answer. answer ≡ hash) }
+    ensures err { IfErr result (λ fault. fault ≡ FileFault.Write path.entry) }
+{
+    match out.finish() {
+        Ok(()) => Ok(hash),
+        Err(_) => Err(FileFault::Write(path)),
+    }
+}
+
+/// Writes this encoding in `mode` of the file at `file` to the file at `path`, which it replaces, and answers the hash. How far a
 /// file that is said to have at least 4 MiB has been read is told to `progress`, which has no part in the answer.
 ///
-/// After `Read`, where the file can't be opened or read, and after `Memory` and `Encoding`, out of memory, the
-/// path is as it was. After `Write` a beginning of the encoding may stand there, and so it may after `Read` where a combined
-/// encoding is written in two passes and the file can't be read again, or has changed. Where the two paths are of one file, under
-/// whatever names, it is read whole before it is written over.
+/// After each fault the path is as it was, where it can be replaced at once ([`LateFile`]). Where it can't, as a device, it is so
+/// after `Read`, where the file can't be opened or read, and after `Memory` and `Encoding`, out of memory; after `Write` a beginning of the encoding
+/// may stand there, and so it may after `Read` where a combined encoding is written in two passes and the file can't be
+/// read again, or has changed. Where the two paths are of one file then, under whatever names, it is read whole before it is written
+/// over.
 pub fn encode_file<'a, R: Files<File = File> + AllocGlobal + Threads + Sync, P: Progress + Sync>(
     rt: &R,
     mode: &Mode,
@@ -322,13 +284,16 @@ pub fn encode_file<'a, R: Files<File = File> + AllocGlobal + Threads + Sync, P: 
     ensures paths { IfErr result (NamesPaths file.entry path.entry) }
 {
     let input = open_file(rt, file)?;
-    let size = if is_same_file(rt, &input, path) {
+    let Ok(mut out) = LateFile::new(rt, path) else {
+        return Err(FileFault::Memory);
+    };
+    let size = if !out.is_replaced() && is_same_file(rt, &input, path) {
         0
     } else {
         size_of(&input, file)?
     };
     let shown = (size >= LEAST_SHARED_LEN).then_some(size);
     let mut input = Shown::over(input, shown, progress);
-    let mut out = LateFile::new(rt, path);
-    encode_input(rt, mode, encoding, &mut input, size, file, &mut out, path)
+    let hash = encode_input(rt, mode, encoding, &mut input, size, file, &mut out, path)?;
+    finished(hash, out, path)
 }

@@ -1,8 +1,13 @@
 //! The program `bao_gather`: BLAKE3 hashes of files and their Bao encodings, written and checked.
 #![tactic(auto)]
 
+use bao_command::{own_words, run};
 use std::process::ExitCode;
 
 fn main(rt: HostRuntime) -> ExitCode {
-    bao_command::run_shown(&rt, &mut rt.stdout(), &mut rt.stderr())
+    let mut err = rt.stderr();
+    match own_words(&rt) {
+        Ok(words) => run(&rt, words.as_slice(), &mut rt.stdout(), &mut err),
+        Err(fault) => ExitCode::from(fault.report(&mut err)),
+    }
 }

@@ -1,6 +1,3 @@
-pub mod CopyPasses
-pub mod Copying
 pub mod Counting
 pub mod Parts
-pub mod Ranges
 pub mod Said

@@ -1,7 +1,3 @@
-pub mod Ranges
-pub mod Copies
-pub mod CopyPass
-pub mod DecodeFaults
 pub mod Replayed
 pub mod RerunFaults
 pub mod Gathered

@@ -8,11 +8,11 @@ ghost use Rattle.bao_tasks.specs.Worth.{IsWorthAs};
 use crate::fate::Fate;
 use crate::gathered_fault::GatheredFault;
 use crate::given::{Given, held, placed};
-use crate::plain_copy::read_outboard;
 use crate::worth::{Worth, worth_of_copy, worth_of_encoding};
 use crate::writing::write_gathered;
 use b3tree::{Hash, Mode};
 use bao_check::check_outboard;
+use bao_decode::read_outboard;
 use bao_files::{FileFault, LateFile, open_file};
 use gather::{Form, GatherFault, Grain, chunks_within};
 use std::alloc::{AllocError, Global};
@@ -203,6 +203,21 @@ fn cause_of<'a>(
     }
 }
 
+// The count, once what was written is in its place.
+fn finished<'a, R: Files>(
+    count: u64,
+    mut out: LateFile<'_, R>,
+    path: &'a str,
+) -> Result<u64, GatheredFault<'a>>
+    ensures ok { IfOk result (λ answer. answer ≡ count) }
+    ensures err { IfErr result (λ fault. fault ≡ GatheredFault.File (FileFault.Write path.entry)) }
+{
+    match out.finish() {
+        Ok(()) => Ok(count),
+        Err(_) => Err(GatheredFault::File(FileFault::Write(path))),
+    }
+}
+
 // Gathers the blob out of the files, as `gather_files` and `gather_beside` say.
 fn gather_wanted<'a, R: Files<File = File> + AllocGlobal + Threads + Sync>(
     rt: &R,
@@ -222,7 +237,9 @@ fn gather_wanted<'a, R: Files<File = File> + AllocGlobal + Threads + Sync>(
         givens: Vec::new(rt.alloc()),
         longest: 0,
     };
-    let mut out = LateFile::new(rt, path);
+    let Ok(mut out) = LateFile::new(rt, path) else {
+        return Err(GatheredFault::File(FileFault::Memory));
+    };
     let mut starved = false;
     let mut met = None;
     for regular in [true, false] {
@@ -246,15 +263,15 @@ fn gather_wanted<'a, R: Files<File = File> + AllocGlobal + Threads + Sync>(
         );
         met = unfinished_by(&ended);
         if met.is_none() {
-            return ended;
+            return finished(ended?, out, path);
         }
     }
     Err(cause_of(starved, met, files, path))
 }
 
 /// Gathers the blob with this root, of at most `capacity` chunks, out of the files, each a combined encoding from a
-/// holder that nobody trusts, writes it, or its combined encoding, to the file at `path`, made anew once the blob was
-/// verified, and answers how many bytes the blob has.
+/// holder that nobody trusts, writes it, or its combined encoding, to the file at `path`, which it replaces ([`LateFile`]) once the
+/// blob was verified, and answers how many bytes the blob has.
 ///
 /// Regular files are read where they lie, and only the parts that workers ask for. What isn't a regular file, as a pipe, is opened only
 /// where the regular ones leave the blob unfinished; of it no more is read, and held, than the longest encoding of a blob of so many

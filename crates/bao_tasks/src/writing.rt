@@ -32,14 +32,22 @@ fn capacity_for(form: &Form<'_>, capacity: u32) -> u32
     }
 }
 
+// How many chunks the first store has room for: as many as the outboard encoding claims, where there is one.
+fn first_room(form: &Form<'_>, room: u32, capacity: u32) -> u32 {
+    match form {
+        Form::Slices => room,
+        Form::Bare(_) => capacity,
+    }
+}
+
 /// Gathers the blob with this root in this mode out of sources that are read by position, as files are, each from a holder that
 /// nobody trusts: combined encodings, or plain copies beside an outboard encoding. Writes it, or its combined encoding, to `out`,
 /// which is flushed, and answers how many bytes the blob has. What the sources have takes no memory but for the parts that workers ask
 /// for.
 ///
 /// The store has room for `room` chunks at first, and for `capacity` where those are too few. Beside an outboard encoding it has room
-/// for no more chunks than those of the length that this claims. The blob is written from that store, a part of 256 KiB at a time;
-/// with `encode` it is taken out first, into memory of its own.
+/// for as many as the length that this claims asks for, at most `capacity`. The blob is written from that store, a part of 256 KiB at a
+/// time; with `encode` it is taken out first, into memory of its own.
 ///
 /// Nothing is written before the blob was verified. After `Gather`, where no blob with this root and at most `capacity` chunks came
 /// together, or where there was no memory to read it from its store, and after `File` with `Encoding`, where there was none for the
@@ -69,16 +77,17 @@ pub fn write_gathered<'a, R: AllocGlobal + Threads + Sync, S: Source + Sync, W: 
         → IsWrittenOut (IsFromSource form.now S.contents S.faultless sources.now) (fixed_as root.now mode.now how.capacity) how blob (W.contents out.old) (W.contents out.new) result }
 {
     let alloc = rt.alloc();
+    let capacity = capacity_for(form, how.capacity);
     let fixed = Fixed {
         root: *root,
         mode: *mode,
-        capacity: capacity_for(form, how.capacity),
+        capacity,
         base: 0,
     };
     let manner = How {
         workers: how.workers,
         grain: how.grain,
-        room,
+        room: first_room(form, room, capacity),
     };
     match gather(rt, alloc, &fixed, form, manner, sources) {
         Ok(blob) => write_found(alloc, mode, how.encode, blob, path, out),

@@ -1,9 +1,10 @@
 // What is known of values: numbers of faults, digits, and what is made over a clock, a path or a source.
 
-ghost use Rattle.std.specs.Prelude.{◌≡◌};
+ghost use Rattle.std.specs.Prelude.{◌≡◌, IfOk};
 
 use bao_files::{FileFault, LateFile, Meter, Progress, Shown, bytes_of_digits};
 use bao_read::{ParFault, ReadFault};
+use std::alloc::AllocError;
 use std::io::Write;
 use std::rt::{Clock, Files};
 
@@ -53,17 +54,18 @@ pub fn meter_determined<'a, C: Clock, E: Write + Copy>(
     (one, other)
 }
 
-pub fn late_file_determined<'a, R: Files>(
+// Memory may run out at any time, and what stands at the path no contract sees.
+pub fn late_file_determined<'a, R: Files + AllocGlobal>(
     rt: &'a R,
     path: &'a str,
-) -> (LateFile<'a, R>, LateFile<'a, R>)
-    ensures rt { result.0.rt ≡ result.1.rt }
-    ensures path { result.0.path ≡ result.1.path }
-    ensures file { result.0.file ≡ result.1.file }
+) -> Result<(LateFile<'a, R>, LateFile<'a, R>), AllocError>
+    ensures rt { IfOk result (λ made. made.0.rt ≡ made.1.rt) }
+    ensures path { IfOk result (λ made. made.0.path ≡ made.1.path) }
+    ensures file { IfOk result (λ made. made.0.file ≡ made.1.file) }
 {
-    let one = LateFile::new(rt, path);
-    let other = LateFile::new(rt, path);
-    (one, other)
+    let one = LateFile::new(rt, path)?;
+    let other = LateFile::new(rt, path)?;
+    Ok((one, other))
 }
 
 pub fn over_determined<'a, S, P: Progress>(

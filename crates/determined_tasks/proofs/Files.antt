@@ -6,11 +6,10 @@ use Rattle.bao_check.specs.declared.fault.CheckFault.{CheckFault}
 use Rattle.bao_check.specs.declared.fault.CheckFault.TheVariants.{Short, Mismatch, Trailing, Memory, Reader}
 use Rattle.bao_check.specs.Accepted.{IsAccepted, slice_nodes}
 use Rattle.bao_check.specs.Checked.{IsPiece, piece_len, piece_mode, piece_root, piece_start, piece_text}
-use Rattle.bao_check.specs.Faults.{IsFirstFault}
 use Rattle.bao_check.specs.Streams.{BeginsAccepted, IsOfBytes}
 use Rattle.bao_check.proofs.Laws.{first_fault-not_accepted}
 use Rattle.bao_check.proofs.Streamed.{fault-not_begun}
-use Rattle.bao_tasks.specs.Ranges.{IsFileFault, IsWholeFault}
+use Rattle.bao_decode.specs.Ranges.{IsFileFault}
 use Rattle.determined_check.specs.Agreeing.{AgreeOfBytes, SamePiece}
 use Rattle.determined_check.proofs.OneFault.{one_fault, same_piece}
 use Rattle.determined_check.proofs.OneText.{one_text}
@@ -86,21 +85,3 @@ one_file_fault mode root start len all Memory f a b own also = absurd own
 one_file_fault mode root start len all Reader f a b own also = absurd own
 one_file_fault mode root start len all e Memory a b own also = absurd also
 one_file_fault mode root start len all e Reader a b own also = absurd also
-
-first_of : (mode : Mode) (root : List ℕ) (start len : ℕ) (all : List ℕ) (f : CheckFault) → IsWholeFault mode root start len all f → IsOfBytes f
-    → IsFirstFault mode root all (slice_nodes all start len) f
-first_of mode root start len all (Short at) is own = is
-first_of mode root start len all (Mismatch at) is own = is
-first_of mode root start len all (Trailing at) is own = is
-first_of mode root start len all Memory is own = absurd own
-first_of mode root start len all Reader is own = absurd own
-
-pub whole_apart : (mode : Mode) (root : List ℕ) (start len : ℕ) (all : List ℕ) (f : CheckFault) → IsWholeFault mode root start len all f → IsOfBytes f
-    → IsAccepted mode root all (slice_nodes all start len) → ⊥
-whole_apart mode root start len all f bad own accepted =
-    first_fault-not_accepted mode root all (slice_nodes all start len) f (first_of mode root start len all f bad own) accepted
-
-pub one_whole_fault : (mode : Mode) (root : List ℕ) (start len : ℕ) (all : List ℕ) (e f : CheckFault) → IsWholeFault mode root start len all e → IsWholeFault mode root start len all f
-    → IsOfBytes e → IsOfBytes f → e ≡ f
-one_whole_fault mode root start len all e f a b own also =
-    one_fault mode root all (slice_nodes all start len) e f (first_of mode root start len all e a own) (first_of mode root start len all f b also)

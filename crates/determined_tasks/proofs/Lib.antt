@@ -1,7 +1,9 @@
 pub mod Blobs
+pub mod Outcomes
 pub mod Copies
 pub mod Files
-pub mod Parts
+pub mod Texts
+pub mod Drafts
 pub mod Pieces
 pub mod Replays
 pub mod Runs

@@ -2,8 +2,8 @@
 use Rattle.std.specs.Borrow.{Bor}
 use Rattle.std.specs.Prelude.{◌≡◌, ◌⊎◌, ℕ, List}
 use Rattle.bao_files.specs.declared.fault.FileFault.TheVariants.{Memory, Read, Write}
-use Rattle.bao_tasks.specs.declared.decode_fault.DecodeFault.{DecodeFault}
-use Rattle.bao_tasks.specs.declared.decode_fault.DecodeFault.TheVariants.{Check, File}
+use Rattle.bao_decode.specs.declared.decode_fault.DecodeFault.{DecodeFault}
+use Rattle.bao_decode.specs.declared.decode_fault.DecodeFault.TheVariants.{Check, File}
 
 -- memory ran out, or writing to the one path failed, or a read of the copy at the other, which of one that never fails none does
 abbrev pub MayComeOfCopy : Type 0 → Bor (List ℕ) → Bor (List ℕ) → DecodeFault → Type 0

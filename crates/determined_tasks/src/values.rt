@@ -2,7 +2,8 @@
 
 ghost use Rattle.std.specs.Prelude.{◌≡◌, option_copied};
 
-use bao_tasks::{DecodeFault, Fate, GatheredFault, RerunFault};
+use bao_decode::DecodeFault;
+use bao_tasks::{Fate, GatheredFault, RerunFault};
 
 pub fn decode_code_determined(fault: &DecodeFault<'_>) -> (Option<u16>, Option<u16>)
     ensures { result.0 ≡ result.1 }

@@ -1,9 +1,8 @@
 use crate::bytes::{Broken, blob, failing, taking};
 use crate::inputs::encoded;
-use b3tree::Mode;
-use bao_check::{Checked, check_slice};
+use b3tree::{Hash, Mode};
+use bao_decode::{DecodeFault, write_decoded};
 use bao_files::{Encoding, FileFault, Part};
-use bao_tasks::write_part;
 use bao_text::{combined, outboard, slice};
 use std::io::ErrorKind;
 use std::process::Abort;
@@ -14,13 +13,22 @@ use std::thread::Threads;
 const LEN: usize = 4_200_001;
 
 // The range goes to a writer that takes all, and its first bytes to one that fails.
-fn part_is_written<R: AllocGlobal + Abort>(rt: &R, piece: &Checked<'_>, part: &Part, bytes: &[u8]) {
+fn part_is_written<R: AllocGlobal + Abort>(
+    rt: &R,
+    root: &Hash,
+    part: &Part,
+    text: &[u8],
+    bytes: &[u8],
+) {
+    let mode = Mode::hash();
     let mut out = taking(rt.alloc());
-    assert_eq!(rt; write_part(piece, part, &mut out), Ok(100));
+    let whole = write_decoded(rt.alloc(), &mode, root, part, &text, "in", &mut out, "out");
+    assert!(rt; matches!(whole, Ok(100)));
     assert_eq!(rt; Some(out.held.as_slice()), bytes.get(1000..1100));
     for room in [0, 10, 24, 90] {
         let mut out: Broken = failing(rt.alloc(), room, ErrorKind::Interrupted);
-        assert!(rt; write_part(piece, part, &mut out).is_err());
+        let begun = write_decoded(rt.alloc(), &mode, root, part, &text, "in", &mut out, "out");
+        assert!(rt; matches!(begun, Err(DecodeFault::File(FileFault::Write("out")))));
         assert_eq!(rt; Some(out.held.as_slice()), bytes.get(1000..1000 + room));
     }
 }
@@ -28,15 +36,13 @@ fn part_is_written<R: AllocGlobal + Abort>(rt: &R, piece: &Checked<'_>, part: &P
 // A writer that fails, after a beginning of the range.
 #[test]
 fn parts_to_writers(rt: HostRuntime) -> Result<(), Fail> {
-    let mode = Mode::hash();
     let bytes = blob(rt.alloc(), 2049)?;
-    let (root, text) = slice(rt.alloc(), &mode, bytes.as_slice(), 1000, 100)?;
-    let piece = check_slice(rt.alloc(), &mode, &root, 1000, 100, text.as_slice())?;
+    let (root, text) = slice(rt.alloc(), &Mode::hash(), bytes.as_slice(), 1000, 100)?;
     let part = Part::Slice {
         start: 1000,
         len: 100,
     };
-    part_is_written(&rt, &piece, &part, bytes.as_slice());
+    part_is_written(&rt, &root, &part, text.as_slice(), bytes.as_slice());
     Ok(())
 }
 

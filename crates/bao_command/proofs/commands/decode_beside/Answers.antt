@@ -1,9 +1,9 @@
-use Rattle.std.proofs.Common.{ℕ, List, length, OnOk, Option, Result, Ok, Err, subst, sym}
+use Rattle.std.proofs.Common.{ℕ, List, length, Option, Result, Ok, Err, subst, sym}
 use Rattle.bao_files.specs.Printed as file
 use Rattle.bao_files.specs.Printed.{ok_line}
 use Rattle.bao_files.specs.declared.fault.FileFault.{FileFault}
 use Rattle.bao_command.specs.declared.fault.Fault.{Fault}
-use Rattle.bao_command.specs.Printed.{CommandPrints, told_of}
+use Rattle.bao_command.specs.Printed.{CommandPrints, OnPrinted, told_of}
 use Rattle.bao_command.specs.Tasks.{IsRightCopy}
 use Rattle.bao_command.proofs.commands.decode_beside.Goals as goal
 
@@ -12,9 +12,9 @@ told_prints : (line : List ℕ) (old new : Option (List ℕ)) (printed : Result 
 told_prints line old new (Ok done) prints = prints
 told_prints line old new (Err fault) prints = prints
 
-on_ok : {P : Type 0} (result : Result Unit Fault) → P → OnOk result P
-on_ok (Ok done) p = p
-on_ok (Err fault) p = tt
+on_printed : {P : Type 0} (result : Result Unit Fault) → P → OnPrinted result P
+on_printed (Ok done) p = p
+on_printed (Err fault) p = λ _. p
 
 pub returns-in-Ok-clause-prints : goal.returns-in-Ok-clause-prints
 returns-in-Ok-clause-prints g c =
@@ -26,4 +26,4 @@ returns-in-Ok-clause-prints g c =
     let right : IsRightCopy mode c.args.digits.now bytes = (c.in_ok-root.root.0, (c.in_ok-root.ensures.ok, made.1)) in
     let printed = subst (λ (n : ℕ). file.Prints (file.ok_line n) old new c.print_count.result) made.2 c.print_count.ensures.prints in
     let told = told_prints (ok_line (length bytes)) old new c.print_count.result printed in
-    (bytes, on_ok c.told.result right, subst (CommandPrints (ok_line (length bytes)) old new) (sym c.told.ensures.prints) told)
+    (bytes, on_printed c.told.result right, subst (CommandPrints (ok_line (length bytes)) old new) (sym c.told.ensures.prints) told)

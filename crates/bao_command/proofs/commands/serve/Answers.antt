@@ -1,10 +1,10 @@
-use Rattle.std.proofs.Common.{OnOk, ℕ, List, Option, Result, Ok, Err, subst}
+use Rattle.std.proofs.Common.{ℕ, List, Option, Result, Ok, Err, refl, subst}
 use Rattle.b3tree.specs.declared.mode.Mode.{Mode}
 use Rattle.bao_command.specs.declared.fault.Fault.{Fault}
 use Rattle.bao_command.specs.declared.fault.Fault.TheVariants.{Word, Root, Key, KeyAndContext, OutputRange, TooManyFiles, OutIsOutput, File, Decode, Gather, Replay}
 use Rattle.bao_files.specs.declared.fault.FileFault.TheVariants as file
 use Rattle.bao_request.specs.declared.tasks.Request.{Request}
-use Rattle.bao_command.specs.Printed.{CommandPrints}
+use Rattle.bao_command.specs.Printed.{CommandPrints, OnPrinted}
 use Rattle.std.specs.Option.{option_copied}
 use Rattle.bao_command.specs.ModeWords.{GivesMode}
 use Rattle.bao_command.specs.Tasks.{Answers, HasMode, IsRight, WritesApart, line_of}
@@ -12,7 +12,7 @@ use Rattle.bao_command.proofs.commands.serve.Goals as goal
 
 -- what was printed of the line in the request's mode answers the request
 answers : (request : Request) (mode : Mode) (bytes : List ℕ) (old new : Option (List ℕ)) (result : Result Unit Fault) →
-    HasMode request mode → WritesApart request.task → OnOk result (IsRight mode request.task bytes) → CommandPrints (line_of mode request.task bytes) old new result → Answers request old new result
+    HasMode request mode → WritesApart request.task → OnPrinted result (IsRight mode request.task bytes) → CommandPrints (line_of mode request.task bytes) old new result → Answers request old new result
 answers request mode bytes old new (Ok done) has apart right prints = (mode, bytes, has, apart, right, prints)
 answers request mode bytes old new (Err Word) has apart right prints = prints
 answers request mode bytes old new (Err Root) has apart right prints = prints
@@ -23,7 +23,7 @@ answers request mode bytes old new (Err TooManyFiles) has apart right prints = p
 answers request mode bytes old new (Err OutIsOutput) has apart right prints = prints
 answers request mode bytes old new (Err (File (file.Read path))) has apart right prints = prints
 answers request mode bytes old new (Err (File (file.Write path))) has apart right prints = prints
-answers request mode bytes old new (Err (File file.Output)) has apart right prints = (mode, bytes, has, prints)
+answers request mode bytes old new (Err (File file.Output)) has apart right prints = (mode, bytes, has, apart, right refl, prints)
 answers request mode bytes old new (Err (File file.Encoding)) has apart right prints = prints
 answers request mode bytes old new (Err (File file.Memory)) has apart right prints = prints
 answers request mode bytes old new (Err (Decode fault)) has apart right prints = prints

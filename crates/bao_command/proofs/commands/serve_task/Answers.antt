@@ -1,13 +1,13 @@
-use Rattle.std.proofs.Common.{◌≤◌, ◌*◌, ℕ, List, length, OnOk, Result, Ok, Err, Bor, subst, sym}
+use Rattle.std.proofs.Common.{◌≤◌, ◌*◌, ℕ, List, length, Result, Ok, Err, Bor, subst, sym}
 use Rattle.bao_command.specs.declared.fault.Fault.{Fault}
-use Rattle.bao_command.specs.Printed.{CommandPrints}
+use Rattle.bao_command.specs.Printed.{CommandPrints, OnPrinted}
 use Rattle.bao_command.specs.Tasks.{HasHash, IsReplay, IsRight, line_of}
 use Rattle.bao_request.specs.declared.tasks.Task.{Task}
 use Rattle.bao_command.proofs.commands.serve_task.Goals as goal
 
-both : (P Q : Type 0) (result : Result Unit Fault) → OnOk result P → OnOk result Q → OnOk result (P × Q)
+both : (P Q : Type 0) (result : Result Unit Fault) → OnPrinted result P → OnPrinted result Q → OnPrinted result (P × Q)
 both P Q (Ok done) p q = (p, q)
-both P Q (Err fault) p q = tt
+both P Q (Err fault) p q = λ is. (p is, q is)
 
 pub returns-in-Gather-clause-prints : goal.returns-in-Gather-clause-prints
 returns-in-Gather-clause-prints g c =
@@ -15,13 +15,13 @@ returns-in-Gather-clause-prints g c =
     let mode = c.args.mode.now in
     let old = g.O.Write.contents c.args.out.now in
     let new = g.O.Write.contents c.gather.new.out in
-    let few : OnOk result (length c.in-Gather.files.items ≤ 64) =
-    subst (λ (files : List (Bor (List ℕ))). OnOk result (length files ≤ 64)) c.as_slice-files.ensures.value c.gather.ensures.few in
+    let few : OnPrinted result (length c.in-Gather.files.items ≤ 64) =
+    subst (λ (files : List (Bor (List ℕ))). OnPrinted result (length files ≤ 64)) c.as_slice-files.ensures.value c.gather.ensures.few in
     let answer = c.gather.ensures.answer in
-    let fits : OnOk result (HasHash mode c.in-Gather.root.now answer.0 × (length answer.0 ≤ 1024 * c.in-Gather.capacity)) =
-    subst (λ (n : ℕ). OnOk result (HasHash mode c.in-Gather.root.now answer.0 × (length answer.0 ≤ 1024 * n))) c.how_of-how.ensures.capacity answer.1 in
+    let fits : OnPrinted result (HasHash mode c.in-Gather.root.now answer.0 × (length answer.0 ≤ 1024 * c.in-Gather.capacity)) =
+    subst (λ (n : ℕ). OnPrinted result (HasHash mode c.in-Gather.root.now answer.0 × (length answer.0 ≤ 1024 * n))) c.how_of-how.ensures.capacity answer.1 in
     let prints =
-    subst (λ (task : Task). (bytes : List ℕ) × OnOk result (IsRight mode task bytes) × CommandPrints (line_of mode task bytes) old new result) (sym c.in-Gather.is)
+    subst (λ (task : Task). (bytes : List ℕ) × OnPrinted result (IsRight mode task bytes) × CommandPrints (line_of mode task bytes) old new result) (sym c.in-Gather.is)
     (answer.0, both _ _ result few (both _ _ result fits c.gather.ensures.beside), answer.2) in
     prints
 
@@ -32,12 +32,12 @@ returns-in-Replay-clause-prints g c =
     let old = g.O.Write.contents c.args.out.now in
     let new = g.O.Write.contents c.replay.new.out in
     let answer = c.replay.ensures.answer in
-    let right : OnOk result ((length c.in-Replay.files.items ≤ 64) × IsReplay mode c.in-Replay.root.now c.in-Replay.capacity (length c.in-Replay.files.items) answer.0) =
+    let right : OnPrinted result ((length c.in-Replay.files.items ≤ 64) × IsReplay mode c.in-Replay.root.now c.in-Replay.capacity (length c.in-Replay.files.items) answer.0) =
     subst
-    (λ (files : List (Bor (List ℕ))). OnOk result ((length files ≤ 64) × IsReplay mode c.in-Replay.root.now c.in-Replay.capacity (length files) answer.0))
+    (λ (files : List (Bor (List ℕ))). OnPrinted result ((length files ≤ 64) × IsReplay mode c.in-Replay.root.now c.in-Replay.capacity (length files) answer.0))
     c.as_slice.ensures.value
     (both _ _ result c.replay.ensures.few answer.1) in
     let prints =
-    subst (λ (task : Task). (bytes : List ℕ) × OnOk result (IsRight mode task bytes) × CommandPrints (line_of mode task bytes) old new result) (sym c.in-Replay.is)
+    subst (λ (task : Task). (bytes : List ℕ) × OnPrinted result (IsRight mode task bytes) × CommandPrints (line_of mode task bytes) old new result) (sym c.in-Replay.is)
     (answer.0, right, answer.2) in
     prints

@@ -13,8 +13,8 @@ returns-in-Ok-clause-available g c = λ slices blob i source is fits there known
     let handed = IsFromSource c.args.form.now g.S.Source.contents g.S.Source.faultless c.args.sources.now in
     let root = c.args.root.now in
     let mode = c.args.mode.now in
-    let same : c.capacity_for.result ≡ c.args.how.capacity = c.capacity_for.ensures.slices slices in
-    let out : IsHandedOut own_bytes handed (fixed_as root mode c.capacity_for.result) blob c.gather.result =
+    let same : c.capacity_for-capacity.result ≡ c.args.how.capacity = c.capacity_for-capacity.ensures.slices slices in
+    let out : IsHandedOut own_bytes handed (fixed_as root mode c.capacity_for-capacity.result) blob c.gather.result =
     c.gather.ensures.available slices blob i source (subst (λ (n : ℕ). IsBlob (fixed_as root mode n) blob) (sym same) is)
     (subst (λ (n : ℕ). chunk_count (length blob) ≤ n) (sym same) fits) there known sound in
     let found : (c.in-Ok.blob ≡ blob) ⊎ HasCollision handed (fixed_as root mode c.args.how.capacity) blob =
@@ -28,8 +28,8 @@ returns-in-Ok-clause-covered g c = λ slices blob is fits have.
     let handed = IsFromSource c.args.form.now g.S.Source.contents g.S.Source.faultless c.args.sources.now in
     let root = c.args.root.now in
     let mode = c.args.mode.now in
-    let same : c.capacity_for.result ≡ c.args.how.capacity = c.capacity_for.ensures.slices slices in
-    let out : IsHandedOut own_bytes handed (fixed_as root mode c.capacity_for.result) blob c.gather.result =
+    let same : c.capacity_for-capacity.result ≡ c.args.how.capacity = c.capacity_for-capacity.ensures.slices slices in
+    let out : IsHandedOut own_bytes handed (fixed_as root mode c.capacity_for-capacity.result) blob c.gather.result =
     c.gather.ensures.covered slices blob (subst (λ (n : ℕ). IsBlob (fixed_as root mode n) blob) (sym same) is)
     (subst (λ (n : ℕ). chunk_count (length blob) ≤ n) (sym same) fits) have in
     let found : (c.in-Ok.blob ≡ blob) ⊎ HasCollision handed (fixed_as root mode c.args.how.capacity) blob =
@@ -43,8 +43,8 @@ returns-in-Err-clause-available g c = λ slices blob i source is fits there know
     let handed = IsFromSource c.args.form.now g.S.Source.contents g.S.Source.faultless c.args.sources.now in
     let root = c.args.root.now in
     let mode = c.args.mode.now in
-    let same : c.capacity_for.result ≡ c.args.how.capacity = c.capacity_for.ensures.slices slices in
-    let out : IsHandedOut own_bytes handed (fixed_as root mode c.capacity_for.result) blob c.gather.result =
+    let same : c.capacity_for-capacity.result ≡ c.args.how.capacity = c.capacity_for-capacity.ensures.slices slices in
+    let out : IsHandedOut own_bytes handed (fixed_as root mode c.capacity_for-capacity.result) blob c.gather.result =
     c.gather.ensures.available slices blob i source (subst (λ (n : ℕ). IsBlob (fixed_as root mode n) blob) (sym same) is)
     (subst (λ (n : ℕ). chunk_count (length blob) ≤ n) (sym same) fits) there known sound in
     not_gathered handed (fixed_as root mode c.args.how.capacity) c.args.how blob (g.W.Write.contents c.args.out.now) (g.W.Write.contents c.args.out.now) c.in-Err.fault

@@ -1,4 +1,4 @@
-use Rattle.bao_tasks.specs.Ranges.{IsFileFault}
+use Rattle.bao_decode.specs.Ranges.{IsFileFault}
 use Rattle.determined_tasks.proofs.Files.{answers_agree, file_apart, one_file_fault}
 use Rattle.determined_tasks.proofs.decoding.read_text_determined.Goals as goal
 

@@ -1,0 +1,123 @@
+-- An encoding that is verified in one pass, and what it has of a part written in a second.
+use Rattle.std.specs.Borrow.{Bor}
+use Rattle.std.proofs.Common.{◌≡◌, ◌^◌, ◌≤◌, ℕ, List, length, take, Option, Some, None, Result, Ok, Err, IfErr, IfOk, IfSome, inl, inr, refl, sym, subst, ◌∙◌, ap, arith}
+use Rattle.std.proofs.KnownBytes.{Appends-kept, Appends-nil, Keeps-refl}
+use Rattle.std.proofs.lemmas.List.{take_all}
+use Rattle.std.specs.Io.KnownBytes.{Appends, Keeps}
+use Rattle.b3tree.specs.declared.mode.Mode.{Mode}
+use Rattle.bao_check.specs.Accepted.{slice_nodes}
+use Rattle.bao_check.specs.declared.fault.CheckFault.{CheckFault}
+use Rattle.bao_check.proofs.Laws.{first_fault-not_accepted}
+use Rattle.bao_files.specs.declared.fault.FileFault.TheVariants.{Write}
+use Rattle.bao_files.specs.declared.kinds.Part.{Part}
+use Rattle.bao_decode.specs.declared.decode_fault.DecodeFault.{DecodeFault}
+use Rattle.bao_decode.specs.declared.decode_fault.DecodeFault.TheVariants as decode
+use Rattle.bao_decode.specs.declared.copy_pass.PassFault.{PassFault}
+use Rattle.bao_decode.specs.declared.copy_pass.PassFault.TheVariants.{Check, Input, Output}
+use Rattle.bao_decode.specs.CopyPass.{first_fault_of, only_fault_of, second_fault_of}
+use Rattle.bao_decode.specs.Ranges.{IsPartText, part_bytes, part_len, part_start, written_count}
+use Rattle.bao_decode.specs.TextPass.{DecodesKnown, DraftsKnown, IsTextFault, IsWholeText, LeavesDraft, LeavesText, NamesDraftPaths, TextStops, task_of_part}
+
+module _ (mode : Mode) (root : List ℕ) (part : Part) where
+  -- an encoding that is accepted has no first fault, but that it is too long
+  long_only : (s : List ℕ) (fault : CheckFault) → IsTextFault (task_of_part mode root part) s fault → IsPartText mode root part s → 2 ^ 63 ≤ length s
+  long_only s fault (inl h) accepted = absurd (first_fault-not_accepted mode root s (slice_nodes s (part_start part) (part_len part)) fault h accepted)
+  long_only s fault (inr h) accepted = h.1
+
+  -- the first pass ended early
+  pub text_first : (contents : Option (List ℕ)) (faultless : Type 0) (file path : Bor (List ℕ)) (old some more : Option (List ℕ)) (fault : PassFault) (answer : DecodeFault)
+      → answer ≡ first_fault_of file fault → IfSome contents (λ s. TextStops (task_of_part mode root part) faultless part s some more fault)
+      → IfSome contents (λ s. DecodesKnown mode root part faultless s file path old old (Err answer))
+  text_first None faultless file path old some more fault answer is stops = tt
+  text_first (Some s) faultless file path old some more (Check f) answer is stops =
+      subst (LeavesText mode root part faultless s file path old old) (sym is) (stops.0, Keeps-refl old)
+  text_first (Some s) faultless file path old some more Input answer is stops =
+      subst (LeavesText mode root part faultless s file path old old) (sym is) (inr (inl (refl, inl stops.0, (0, Appends-nil old))))
+  text_first (Some s) faultless file path old some more Output answer is stops =
+      subst (LeavesText mode root part faultless s file path old old) (sym is) (inl (refl, Keeps-refl old))
+
+  -- the second did
+  pub text_second : (contents : Option (List ℕ)) (faultless : Type 0) (file path : Bor (List ℕ)) (old new : Option (List ℕ)) (fault : PassFault) (answer : DecodeFault)
+      → answer ≡ second_fault_of file path fault → IfSome contents (λ s. TextStops (task_of_part mode root part) faultless part s old new fault)
+      → IfSome contents (λ s. IsPartText mode root part s → DecodesKnown mode root part faultless s file path old new (Err answer))
+  text_second None faultless file path old new fault answer is stops = tt
+  text_second (Some s) faultless file path old new (Check f) answer is stops = λ accepted.
+      subst (LeavesText mode root part faultless s file path old new) (sym is) (inr (inl (refl, inr (long_only s f stops.0 accepted), stops.1)))
+  text_second (Some s) faultless file path old new Input answer is stops = λ accepted.
+      subst (LeavesText mode root part faultless s file path old new) (sym is) (inr (inl (refl, inl stops.0, stops.1)))
+  text_second (Some s) faultless file path old new Output answer is stops = λ accepted.
+      subst (LeavesText mode root part faultless s file path old new) (sym is) (inr (inr (refl, accepted, stops)))
+
+  -- all was written, and flushed or not
+  pub text_flushed_some : (contents old mid new : Option (List ℕ)) (text : List ℕ) (count : ℕ) (result : Result ℕ DecodeFault) → IsWholeText contents mode root part text
+      → count ≡ written_count part text → Appends old mid (part_bytes part text) → Keeps mid new → IfOk result (λ answer. answer ≡ count)
+      → IfOk result (λ answer. (x : List ℕ) × IsPartText mode root part x × (answer ≡ written_count part x) × Appends old new (part_bytes part x))
+  text_flushed_some contents old mid new text count (Ok answer) whole is written kept same = (text, whole.accepted, same ∙ is, Appends-kept old mid new (part_bytes part text) written kept)
+  text_flushed_some contents old mid new text count (Err fault) whole is written kept same = tt
+
+  pub text_flushed_known : (contents : Option (List ℕ)) (faultless : Type 0) (file path : Bor (List ℕ)) (old mid new : Option (List ℕ)) (text : List ℕ) (count : ℕ)
+      (result : Result ℕ DecodeFault) → IsWholeText contents mode root part text → count ≡ written_count part text → Appends old mid (part_bytes part text) → Keeps mid new
+      → IfOk result (λ answer. answer ≡ count) → IfErr result (λ fault. fault ≡ decode.File (Write path))
+      → IfSome contents (λ s. IsPartText mode root part s → DecodesKnown mode root part faultless s file path old new result)
+  text_flushed_known None faultless file path old mid new text count result whole is written kept same fault_is = tt
+  text_flushed_known (Some s) faultless file path old mid new text count (Ok answer) whole is written kept same fault_is = λ accepted. (
+    accepted,
+    same ∙ is ∙ ap (written_count part) whole.known,
+    subst (λ (x : List ℕ). Appends old new (part_bytes part x)) whole.known (Appends-kept old mid new (part_bytes part text) written kept),
+  )
+  text_flushed_known (Some s) faultless file path old mid new text count (Err fault) whole is written kept same fault_is = λ accepted.
+      let bytes : List ℕ = part_bytes part s in
+      let all : part_bytes part text ≡ take (length bytes) bytes = ap (part_bytes part) whole.known ∙ sym (take_all (length bytes) bytes (omega arith)) in
+      subst (LeavesText mode root part faultless s file path old new) (sym fault_is)
+      (inr (inr (refl, accepted, (length bytes, subst (Appends old new) all (Appends-kept old mid new (part_bytes part text) written kept)))))
+
+  -- known bytes that were verified are accepted
+  pub text_after : (contents : Option (List ℕ)) (faultless : Type 0) (file path : Bor (List ℕ)) (old new : Option (List ℕ)) (text : List ℕ) (result : Result ℕ DecodeFault)
+      → IsWholeText contents mode root part text
+      → IfSome contents (λ s. IsPartText mode root part s → DecodesKnown mode root part faultless s file path old new result)
+      → IfSome contents (λ s. DecodesKnown mode root part faultless s file path old new result)
+  text_after None faultless file path old new text result whole h = tt
+  text_after (Some s) faultless file path old new text result whole h = h (subst (IsPartText mode root part) whole.known whole.accepted)
+
+  -- a pass that is the only one ended early
+  pub draft_stopped : (contents : Option (List ℕ)) (faultless : Type 0) (file path : Bor (List ℕ)) (old new : Option (List ℕ)) (fault : PassFault) (answer : DecodeFault)
+      → answer ≡ only_fault_of file path fault → IfSome contents (λ s. TextStops (task_of_part mode root part) faultless part s old new fault)
+      → IfSome contents (λ s. DraftsKnown mode root part faultless s file path old new (Err answer))
+  draft_stopped None faultless file path old new fault answer is stops = tt
+  draft_stopped (Some s) faultless file path old new (Check f) answer is stops = subst (LeavesDraft mode root part faultless s file path old new) (sym is) stops
+  draft_stopped (Some s) faultless file path old new Input answer is stops =
+      subst (LeavesDraft mode root part faultless s file path old new) (sym is) (inr (inl (refl, stops.0, stops.1)))
+  draft_stopped (Some s) faultless file path old new Output answer is stops =
+      subst (LeavesDraft mode root part faultless s file path old new) (sym is) (inr (inr (refl, stops)))
+
+  -- it wrote all, which was flushed or not
+  pub draft_flushed : (contents : Option (List ℕ)) (faultless : Type 0) (file path : Bor (List ℕ)) (old mid new : Option (List ℕ)) (text : List ℕ) (count : ℕ)
+      (result : Result ℕ DecodeFault) → IsWholeText contents mode root part text → count ≡ written_count part text → Appends old mid (part_bytes part text) → Keeps mid new
+      → IfOk result (λ answer. answer ≡ count) → IfErr result (λ fault. fault ≡ decode.File (Write path))
+      → IfSome contents (λ s. DraftsKnown mode root part faultless s file path old new result)
+  draft_flushed None faultless file path old mid new text count result whole is written kept same fault_is = tt
+  draft_flushed (Some s) faultless file path old mid new text count (Ok answer) whole is written kept same fault_is = (
+    subst (IsPartText mode root part) whole.known whole.accepted,
+    same ∙ is ∙ ap (written_count part) whole.known,
+    subst (λ (x : List ℕ). Appends old new (part_bytes part x)) whole.known (Appends-kept old mid new (part_bytes part text) written kept),
+  )
+  draft_flushed (Some s) faultless file path old mid new text count (Err fault) whole is written kept same fault_is =
+      let bytes : List ℕ = part_bytes part s in
+      let all : part_bytes part text ≡ take (length bytes) bytes = ap (part_bytes part) whole.known ∙ sym (take_all (length bytes) bytes (omega arith)) in
+      subst (LeavesDraft mode root part faultless s file path old new) (sym fault_is)
+      (inr (inr (refl, (length bytes, subst (Appends old new) all (Appends-kept old mid new (part_bytes part text) written kept)))))
+
+-- the paths that a fault of such a pass names
+pub draft_names : (file path : Bor (List ℕ)) (fault : PassFault) (answer : DecodeFault) → answer ≡ only_fault_of file path fault → NamesDraftPaths file path answer
+draft_names file path (Check f) answer is = subst (NamesDraftPaths file path) (sym is) tt
+draft_names file path Input answer is = subst (NamesDraftPaths file path) (sym is) (inr (inl refl))
+draft_names file path Output answer is = subst (NamesDraftPaths file path) (sym is) (inr (inr refl))
+
+pub flushed_names : (file path : Bor (List ℕ)) (result : Result ℕ DecodeFault) → IfErr result (λ fault. fault ≡ decode.File (Write path)) → IfErr result (NamesDraftPaths file path)
+flushed_names file path (Ok count) fault_is = tt
+flushed_names file path (Err fault) fault_is = subst (NamesDraftPaths file path) (sym fault_is) (inr (inr refl))
+
+-- what is so of a count is so of one that is the same
+pub same_count : {E : Type 0} (P : ℕ → Type 0) (count : ℕ) (result : Result ℕ E) → IfOk result (λ answer. answer ≡ count) → P count → IfOk result P
+same_count P count (Ok answer) is p = subst P (sym is) p
+same_count P count (Err fault) is p = tt

@@ -1,0 +1,26 @@
+use Rattle.bao_decode.proofs.Decodings.{draft_flushed, draft_names, draft_stopped, flushed_names, text_flushed_some}
+use Rattle.bao_decode.proofs.decode.write_draft.Goals as goal
+
+pub returns-in-Ok-clause-some : goal.returns-in-Ok-clause-some
+returns-in-Ok-clause-some g c =
+    let done = c.in-Ok.ensures.ok in
+    text_flushed_some c.args.mode.now c.args.root.now.0 c.args.part.now (g.S.Source.contents c.args.source.now) (g.W.Write.contents c.args.out.now) (g.W.Write.contents c.text_pass.new.out)
+    (g.W.Write.contents c.flushed.new.out) done.0 c.in-Ok.count c.flushed.result done.1 done.2 done.3 c.flushed.ensures.keeps c.flushed.ensures.ok
+
+pub returns-in-Ok-clause-known : goal.returns-in-Ok-clause-known
+returns-in-Ok-clause-known g c =
+    let done = c.in-Ok.ensures.ok in
+    draft_flushed c.args.mode.now c.args.root.now.0 c.args.part.now (g.S.Source.contents c.args.source.now) (g.S.Source.faultless c.args.source.now) c.args.file c.args.path
+    (g.W.Write.contents c.args.out.now) (g.W.Write.contents c.text_pass.new.out) (g.W.Write.contents c.flushed.new.out) done.0 c.in-Ok.count c.flushed.result done.1 done.2 done.3
+    c.flushed.ensures.keeps c.flushed.ensures.ok c.flushed.ensures.err
+
+pub returns-in-Ok-clause-paths : goal.returns-in-Ok-clause-paths
+returns-in-Ok-clause-paths g c = flushed_names c.args.file c.args.path c.flushed.result c.flushed.ensures.err
+
+pub returns-clause-known : goal.returns-clause-known
+returns-clause-known g c =
+    draft_stopped c.args.mode.now c.args.root.now.0 c.args.part.now (g.S.Source.contents c.args.source.now) (g.S.Source.faultless c.args.source.now) c.args.file c.args.path
+    (g.W.Write.contents c.args.out.now) (g.W.Write.contents c.text_pass.new.out) c.in-Err.fault c.only_fault.result c.only_fault.ensures c.in-Err.ensures.err
+
+pub returns-clause-paths : goal.returns-clause-paths
+returns-clause-paths g c = draft_names c.args.file c.args.path c.in-Err.fault c.only_fault.result c.only_fault.ensures

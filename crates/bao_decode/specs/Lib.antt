@@ -1,0 +1,5 @@
+pub mod Ranges
+pub mod Copies
+pub mod CopyPass
+pub mod TextPass
+pub mod DecodeFaults

@@ -1,0 +1,77 @@
+-- What a pass over an encoding has verified, and written of a part of the blob.
+use Rattle.std.specs.Borrow.{Bor}
+use Rattle.std.specs.Prelude.{◌≡◌, ◌⊎◌, ℕ, ◌^◌, ◌≤◌, List, length, Option, IfSome, Result, Ok, Err}
+use Rattle.std.specs.Io.KnownBytes.{Appends, Keeps}
+use Rattle.b3tree.specs.declared.mode.Mode.{Mode}
+use Rattle.bao_check.specs.declared.fault.CheckFault.{CheckFault}
+use Rattle.bao_check.specs.declared.fault.CheckFault.TheVariants as check
+use Rattle.bao_check.specs.Waiting.{CheckTask, IsFaultAs}
+use Rattle.bao_files.specs.Printed.{AppendsBeginning}
+use Rattle.bao_files.specs.declared.fault.FileFault.TheVariants.{Memory, Read, Write}
+use Rattle.bao_files.specs.declared.kinds.Part.{Part}
+use Rattle.bao_decode.specs.declared.copy_pass.PassFault.{PassFault}
+use Rattle.bao_decode.specs.declared.copy_pass.PassFault.TheVariants.{Check, Input, Output}
+use Rattle.bao_decode.specs.declared.decode_fault.DecodeFault.{DecodeFault}
+use Rattle.bao_decode.specs.declared.decode_fault.DecodeFault.TheVariants as decode
+use Rattle.bao_decode.specs.Ranges.{IsPartText, part_bytes, part_len, part_start, written_count}
+
+-- what an encoding of the part is checked as
+abbrev pub task_of_part : Mode → List ℕ → Part → CheckTask
+task_of_part mode root part = record { mode = mode; root = root; start = part_start part; len = part_len part }
+
+-- this is the first fault of an encoding, or it is longer than any file
+abbrev pub IsTextFault : CheckTask → List ℕ → CheckFault → Type 0
+IsTextFault task text fault = IsFaultAs task text fault ⊎ ((fault ≡ check.Memory) × (2 ^ 63 ≤ length text))
+
+-- why a pass over these bytes ended before it wrote: by their first fault, or by a read, as none of a faultless source does
+abbrev pub StopsAs : CheckTask → Type 0 → List ℕ → PassFault → Type 0
+StopsAs task faultless text (Check fault) = IsTextFault task text fault
+StopsAs task faultless text Input = ¬ faultless
+StopsAs task faultless text Output = ⊥
+
+-- all of an encoding was verified, and it is the contents, where these are known
+pub record IsWholeText (contents : Option (List ℕ)) (mode : Mode) (root : List ℕ) (part : Part) (text : List ℕ) : Type 0 where
+  pub accepted : IsPartText mode root part text
+  pub known : IfSome contents (λ s. text ≡ s)
+
+-- what a pass over these bytes leaves, where it ends early
+abbrev pub TextStops : CheckTask → Type 0 → Part → List ℕ → Option (List ℕ) → Option (List ℕ) → PassFault → Type 0
+TextStops task faultless part text old new (Check fault) = IsTextFault task text fault × AppendsBeginning old new (part_bytes part text)
+TextStops task faultless part text old new Input = (¬ faultless) × AppendsBeginning old new (part_bytes part text)
+TextStops task faultless part text old new Output = AppendsBeginning old new (part_bytes part text)
+
+-- the first fault of an encoding, and nothing was written; or no memory, and nothing was; or a read answered a fault, which one that
+-- never fails doesn't, if it is no longer than any file; or the encoding is accepted, and writing to the other path failed
+abbrev pub LeavesText : Mode → List ℕ → Part → Type 0 → List ℕ → Bor (List ℕ) → Bor (List ℕ) → Option (List ℕ) → Option (List ℕ) → DecodeFault → Type 0
+LeavesText mode root part faultless text file path old new (decode.File fault) =
+    ((fault ≡ Memory) × Keeps old new)
+    ⊎ ((fault ≡ Read file) × ((¬ faultless) ⊎ (2 ^ 63 ≤ length text)) × AppendsBeginning old new (part_bytes part text))
+    ⊎ ((fault ≡ Write path) × IsPartText mode root part text × AppendsBeginning old new (part_bytes part text))
+LeavesText mode root part faultless text file path old new (decode.Check fault) = IsTextFault (task_of_part mode root part) text fault × Keeps old new
+
+-- what one pass leaves, each block of which is written once it was verified: the first fault of an encoding; or no memory, and nothing was
+-- written; or a read answered a fault, which one that never fails doesn't; or writing to the other path failed
+abbrev pub LeavesDraft : Mode → List ℕ → Part → Type 0 → List ℕ → Bor (List ℕ) → Bor (List ℕ) → Option (List ℕ) → Option (List ℕ) → DecodeFault → Type 0
+LeavesDraft mode root part faultless text file path old new (decode.File fault) =
+    ((fault ≡ Memory) × Keeps old new)
+    ⊎ ((fault ≡ Read file) × (¬ faultless) × AppendsBeginning old new (part_bytes part text))
+    ⊎ ((fault ≡ Write path) × AppendsBeginning old new (part_bytes part text))
+LeavesDraft mode root part faultless text file path old new (decode.Check fault) =
+    IsTextFault (task_of_part mode root part) text fault × AppendsBeginning old new (part_bytes part text)
+
+-- what is known of a fault where the encoding's bytes aren't
+abbrev pub NamesDraftPaths : Bor (List ℕ) → Bor (List ℕ) → DecodeFault → Type 0
+NamesDraftPaths file path (decode.File fault) = (fault ≡ Memory) ⊎ (fault ≡ Read file) ⊎ (fault ≡ Write path)
+NamesDraftPaths file path (decode.Check fault) = Unit {0}
+
+-- an encoding of these bytes was accepted, and what it has of the part written, or not
+abbrev pub DecodesKnown : Mode → List ℕ → Part → Type 0 → List ℕ → Bor (List ℕ) → Bor (List ℕ) → Option (List ℕ) → Option (List ℕ) → Result ℕ DecodeFault → Type 0
+DecodesKnown mode root part faultless text file path old new (Ok count) =
+    IsPartText mode root part text × (count ≡ written_count part text) × Appends old new (part_bytes part text)
+DecodesKnown mode root part faultless text file path old new (Err fault) = LeavesText mode root part faultless text file path old new fault
+
+-- the same of one pass
+abbrev pub DraftsKnown : Mode → List ℕ → Part → Type 0 → List ℕ → Bor (List ℕ) → Bor (List ℕ) → Option (List ℕ) → Option (List ℕ) → Result ℕ DecodeFault → Type 0
+DraftsKnown mode root part faultless text file path old new (Ok count) =
+    IsPartText mode root part text × (count ≡ written_count part text) × Appends old new (part_bytes part text)
+DraftsKnown mode root part faultless text file path old new (Err fault) = LeavesDraft mode root part faultless text file path old new fault

@@ -1,0 +1,146 @@
+// One pass over a plain copy that is read by position, in pieces: each is verified beside the outline, and written.
+
+ghost use Rattle.std.specs.Prelude.{◌≡◌, ℕ, ◌+◌, ◌*◌, ◌^◌, ◌<◌, ◌≤◌, List, length, take, IfErr, IfOk, IfSome};
+ghost use Rattle.std.specs.Io.KnownBytes.{Appends};
+ghost use Rattle.bao_check.specs.Bare.{AreChunksOf};
+ghost use Rattle.bao_check.specs.Beside.{bare_len};
+ghost use Rattle.bao_read.specs.Given.{GivenAt};
+ghost use Rattle.bao_text.specs.Choice.{chunk_count};
+ghost use Rattle.bao_decode.specs.CopyPass.{IsPieceOf, IsWholeCopy, PassStops, PieceStops, fault_from};
+
+use b3tree::CHUNK_LEN;
+use bao_check::{CheckFault, Outline, check_bare};
+use bao_read::Source;
+use bao_text::{chunk_count, write_text};
+use std::io::Write;
+
+// The most chunks of a piece: few enough to stay in a processor's cache.
+const PIECE_CHUNKS: u64 = 256;
+
+/// The room for a piece, and for the byte that may come after the last one.
+pub(crate) const ROOM_LEN: usize = PIECE_CHUNKS as usize * CHUNK_LEN + 1;
+
+/// Why a pass ended early.
+#[derive(Clone, Copy, Debug, PartialEq, Eq)]
+pub(crate) enum PassFault {
+    /// The copy's first fault.
+    Check(CheckFault),
+    /// A read answered a fault.
+    Input,
+    /// A write answered a fault, or took no byte.
+    Output,
+}
+
+// Puts the source's bytes from the place `at` on to the front of `buf`, as many as there are, and answers how many.
+pub(crate) fn fill_most<S: Source>(source: &S, at: u64, buf: &mut [u8]) -> Result<usize, PassFault>
+    requires { at + length buf.old ≤ 2 ^ 64 }
+    ensures size { length buf.new ≡ length buf.old }
+    ensures bound { IfOk result (λ count. count ≤ length buf.new) }
+    ensures given { IfOk result (λ count. GivenAt (S.contents source.now) at (take count buf.new)) }
+    ensures end { IfOk result (λ count. count < length buf.new → IfSome (S.contents source.now) (λ s. length s ≤ at + count)) }
+    ensures fault { IfErr result (λ fault. (fault ≡ PassFault.Input) × ¬ S.faultless source.now) }
+{
+    let mut filled = 0;
+    'reads: while filled < buf.len() {
+        match source.read_at(&mut buf[filled..], at + filled as u64) {
+            Ok(0) => return Ok(filled),
+            Ok(count) => filled += count,
+            Err(_) => return Err(PassFault::Input),
+        }
+    }
+    Ok(filled)
+}
+
+// A fault of a piece that begins at the place `start` of the copy, as one of the copy.
+fn fault_of_copy(fault: CheckFault, start: u64) -> CheckFault
+    ensures { result ≡ fault_from start fault }
+{
+    match fault {
+        CheckFault::Short { at } => CheckFault::Short {
+            at: start.saturating_add(at),
+        },
+        CheckFault::Mismatch { at } => CheckFault::Mismatch {
+            at: start.saturating_add(at),
+        },
+        CheckFault::Trailing { at } => CheckFault::Trailing {
+            at: start.saturating_add(at),
+        },
+        other => other,
+    }
+}
+
+// How many bytes are asked for of so many chunks from chunk `first` on: with the last one, one byte more.
+fn asked_len(total: u64, first: u64, count: u64) -> usize
+    requires chunks { (1 ≤ count) × (first + count ≤ chunk_count total) }
+    requires fits { 1024 * count < 2 ^ 64 }
+    ensures last { first + count ≡ chunk_count total → result ≡ bare_len total (1024 * first) (1024 * count) + 1 }
+    ensures other { first + count < chunk_count total → result ≡ bare_len total (1024 * first) (1024 * count) }
+    ensures most { result ≤ 1024 * count + 1 }
+    ensures end { 1024 * first + result ≤ 2 ^ 64 }
+{
+    let start = CHUNK_LEN as u64 * first;
+    let end = start.saturating_add(CHUNK_LEN as u64 * count).min(total);
+    let len = (end - start) as usize;
+    if first + count == chunk_count(total) {
+        len + 1
+    } else {
+        len
+    }
+}
+
+// Reads the chunks from chunk `first` on, so many, verifies them, and answers how many bytes they are. With the last chunk one
+// byte more is asked for, which must not come.
+fn read_piece<S: Source>(
+    outline: &Outline<'_>,
+    copy: &S,
+    first: u64,
+    count: u64,
+    buf: &mut [u8],
+) -> Result<usize, PassFault>
+    requires chunks { AreChunksOf outline.now first count }
+    requires room { 1024 * count < length buf.old }
+    ensures size { length buf.new ≡ length buf.old }
+    ensures bound { IfOk result (λ len. len ≤ length buf.new) }
+    ensures piece { IfOk result (λ len. IsPieceOf (S.contents copy.now) outline.now first count (take len buf.new)) }
+    ensures fault { IfErr result (PieceStops (S.contents copy.now) (S.faultless copy.now) outline.now first) }
+{
+    let total = outline.claimed();
+    let start = CHUNK_LEN as u64 * first;
+    let room = asked_len(total, first, count);
+    let len = fill_most(copy, start, &mut buf[..room])?;
+    match check_bare(outline, first, count, &buf[..len]) {
+        Ok(_) => Ok(len),
+        Err(fault) => Err(PassFault::Check(fault_of_copy(fault, start))),
+    }
+}
+
+/// Reads the copy once, in pieces through `buf`, verifies each beside the outline and writes it to `out`. Answers how many bytes
+/// the copy has.
+///
+/// Ends with the copy's first fault, where a read answers a fault, and where a write does or takes no byte; a beginning may
+/// have been written.
+pub(crate) fn copy_pass<S: Source, W: Write>(
+    outline: &Outline<'_>,
+    copy: &S,
+    buf: &mut [u8],
+    out: &mut W,
+) -> Result<u64, PassFault>
+    requires { 262144 < length buf.old }
+    ensures size { length buf.new ≡ length buf.old }
+    ensures ok { IfOk result (λ count. (bytes : List ℕ) × IsWholeCopy (S.contents copy.now) outline.now bytes × (count ≡ length bytes)
+        × Appends (W.contents out.old) (W.contents out.new) bytes) }
+    ensures err { IfErr result (λ fault. IfSome (S.contents copy.now) (λ s. PassStops outline.now (S.faultless copy.now) s (W.contents out.old) (W.contents out.new) fault)) }
+{
+    let chunks = chunk_count(outline.claimed());
+    let mut next = 0;
+    'pieces: while next < chunks {
+        let count = PIECE_CHUNKS.min(chunks - next);
+        let len = read_piece(outline, copy, next, count, buf)?;
+        match write_text(&buf[..len], out) {
+            Ok(()) => {}
+            Err(_) => return Err(PassFault::Output),
+        }
+        next += count;
+    }
+    Ok(outline.claimed())
+}

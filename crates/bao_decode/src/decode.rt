@@ -1,0 +1,333 @@
+// An encoding in a file.
+
+ghost use Rattle.std.specs.Prelude.{◌≡◌, ◌⊎◌, ◌^◌, ◌<◌, ℕ, List, [], IfErr, IfOk, IfSome, length, true, false};
+ghost use Rattle.std.specs.Borrow.{Bor};
+ghost use Rattle.std.specs.Io.KnownBytes.{Appends};
+ghost use Rattle.bao_check.specs.Checked.{IsPiece, piece_text};
+ghost use Rattle.bao_check.specs.declared.fault.CheckFault.TheVariants as CheckFault;
+ghost use Rattle.bao_decode.specs.Copies.{LeavesUnknown};
+ghost use Rattle.bao_decode.specs.DecodeFaults.{IsQuietDecode, NamesDecodePaths};
+ghost use Rattle.bao_decode.specs.Ranges.{IsFileFault, IsPartText, part_bytes, written_count};
+ghost use Rattle.bao_decode.specs.TextPass.{DecodesKnown, DraftsKnown, NamesDraftPaths};
+
+use crate::decode_fault::DecodeFault;
+use crate::plain_copy::{finished, first_fault, flushed, is_regular, only_fault, second_fault};
+use crate::text_pass::{BLOCK_LEN, slice_of, text_pass};
+use b3tree::{Hash, Mode};
+use bao_check::{CheckFault, Checked, check_stream};
+use bao_files::{FileFault, LateFile, Part, is_same_file, open_file};
+use bao_read::Source;
+use std::alloc::Global;
+use std::fs::File;
+use std::io;
+use std::io::{BufReader, Read, Write};
+use std::rt::Files;
+
+// Whether the reader has a byte left, which is then read.
+fn has_more<R: Read>(reader: &mut R) -> Result<bool, CheckFault>
+    ensures more { IfOk result (λ more. more ≡ true → IfSome (R.remaining reader.old) (λ left. 0 < length left)) }
+    ensures end { IfOk result (λ more. more ≡ false → IfSome (R.remaining reader.old) (λ left. left ≡ [])) }
+    ensures fault { IfErr result (λ fault. fault ≡ CheckFault.Reader) }
+{
+    let mut after = [0; 1];
+    match reader.read(&mut after) {
+        Ok(count) => Ok(count > 0),
+        Err(_) => Err(CheckFault::Reader),
+    }
+}
+
+// The accepted piece, unless a byte comes after its encoding.
+fn ended<'a>(piece: Checked<'a>, has_more: bool) -> Result<Checked<'a>, CheckFault>
+    requires { length (piece_text piece) < 2 ^ 64 }
+    ensures ok { IfOk result (λ whole. (whole ≡ piece.entry) × (has_more ≡ false)) }
+    ensures err { IfErr result (λ fault. (fault ≡ CheckFault.Trailing (length (piece_text piece.entry))) × (has_more ≡ true)) }
+{
+    if has_more {
+        let at = piece.text_len() as u64;
+        return Err(CheckFault::Trailing { at });
+    }
+    Ok(piece)
+}
+
+/// Reads all that `reader` has into `text`, which is empty, and checks it as the slice of `len` bytes from
+/// byte `start` on.
+///
+/// Refuses an encoding by its first fault: 501 `Short`, 502 `Mismatch`, each with the offset of its node. Where the
+/// encoding is accepted one more byte is asked for, and one that comes is 503 `Trailing` at the encoding's end. 504
+/// `Memory` comes where there is no room for a node, and 505 `Reader` where a read answers a fault. After
+/// each the vector has what was read of the encoding.
+pub fn read_text<'a, R: Read>(
+    alloc: Global,
+    mode: &Mode,
+    root: &Hash,
+    start: u64,
+    len: u64,
+    reader: &mut R,
+    text: &'a mut Vec<u8>,
+) -> Result<Checked<'a>, CheckFault>
+    requires { text.old.items ≡ [] }
+    ensures piece { IfOk result (λ piece. IsPiece piece mode.now root.now.0 start len (piece_text piece)) }
+    ensures whole { IfOk result (λ piece. IfSome (R.remaining reader.old) (λ all. all ≡ piece_text piece)) }
+    ensures fault { IfErr result (λ fault. IfSome (R.remaining reader.old) (λ all. IsFileFault mode.now root.now.0 start len all fault)) }
+{
+    let piece = check_stream(alloc, mode, root, start, len, reader, text)?;
+    ended(piece, has_more(reader)?)
+}
+
+// Room for a block of an encoding, and for what it has of the blob.
+fn rooms(alloc: Global) -> Option<(Vec<u8>, Vec<u8>)>
+    ensures { IfSome result (λ rooms. (length rooms.0.items ≡ 294912) × (length rooms.1.items ≡ 294912)) }
+{
+    let Ok(block) = vec![in alloc; 0u8; BLOCK_LEN] else {
+        return None;
+    };
+    let Ok(room) = vec![in alloc; 0u8; BLOCK_LEN] else {
+        return None;
+    };
+    Some((block, room))
+}
+
+// Writes what an encoding that was verified has of the part.
+fn write_verified<'a, S: Source, W: Write>(
+    mode: &Mode,
+    root: &Hash,
+    part: &Part,
+    source: &S,
+    file: &'a str,
+    block: &mut [u8],
+    room: &mut [u8],
+    out: &mut W,
+    path: &'a str,
+) -> Result<u64, DecodeFault<'a>>
+    requires block { length block.old ≡ 294912 }
+    requires room { length room.old ≡ 294912 }
+    ensures some { IfOk result (λ count. (text : List ℕ) × IsPartText mode.now root.now.0 part.now text × (count ≡ written_count part.now text)
+        × Appends (W.contents out.old) (W.contents out.new) (part_bytes part.now text)) }
+    ensures known { IfSome (S.contents source.now) (λ s. IsPartText mode.now root.now.0 part.now s → DecodesKnown mode.now root.now.0 part.now (S.faultless source.now) s file.entry path.entry (W.contents out.old) (W.contents out.new) result) }
+    ensures fault { IfErr result (LeavesUnknown file.entry path.entry (W.contents out.old) (W.contents out.new)) }
+{
+    match text_pass(mode, root, part, source, block, room, out) {
+        Ok(count) => flushed(count, path, out),
+        Err(fault) => Err(second_fault(fault, file, path)),
+    }
+}
+
+/// Verifies all of an encoding of the part of the blob with this root, writes what it has of the part to `out`, the file at `path`,
+/// which is flushed, and answers how many bytes the part has. `source`, the file at `file`, is read twice by position, in blocks, so that the
+/// memory that this takes is that of two blocks: once to verify it, and once to write it, where each block is verified again before what it has is
+/// written.
+///
+/// Nothing is written before all of it was verified. Refuses an encoding by its first fault (`Check`): 501 `Short`, 502 `Mismatch`, each
+/// with the offset of its node, 503 `Trailing` with the encoding's end, and 504 `Memory` where it is longer than any file;
+/// then nothing was written, nor after `File` with `Memory`. `File` with `Read` and the path comes where a read
+/// answers a fault, and where the encoding has changed between the two; after it, and after `File` with `Write` and the other
+/// path, a beginning may stand.
+pub fn write_decoded<'a, S: Source, W: Write>(
+    alloc: Global,
+    mode: &Mode,
+    root: &Hash,
+    part: &Part,
+    source: &S,
+    file: &'a str,
+    out: &mut W,
+    path: &'a str,
+) -> Result<u64, DecodeFault<'a>>
+    ensures some { IfOk result (λ count. (text : List ℕ) × IsPartText mode.now root.now.0 part.now text × (count ≡ written_count part.now text)
+        × Appends (W.contents out.old) (W.contents out.new) (part_bytes part.now text)) }
+    ensures known { IfSome (S.contents source.now) (λ s. DecodesKnown mode.now root.now.0 part.now (S.faultless source.now) s file.entry path.entry (W.contents out.old) (W.contents out.new) result) }
+    ensures fault { IfErr result (LeavesUnknown file.entry path.entry (W.contents out.old) (W.contents out.new)) }
+{
+    let Some((mut block, mut room)) = rooms(alloc) else {
+        return Err(DecodeFault::File(FileFault::Memory));
+    };
+    let mut nowhere = io::sink();
+    match text_pass(
+        mode,
+        root,
+        part,
+        source,
+        block.as_mut_slice(),
+        room.as_mut_slice(),
+        &mut nowhere,
+    ) {
+        Ok(_) => {}
+        Err(fault) => return Err(first_fault(fault, file)),
+    }
+    write_verified(
+        mode,
+        root,
+        part,
+        source,
+        file,
+        block.as_mut_slice(),
+        room.as_mut_slice(),
+        out,
+        path,
+    )
+}
+
+/// As `write_decoded`, in one pass over the encoding: what a block has is written as soon as the block was verified. So it is for an
+/// output that nobody sees before the pass has ended well.
+///
+/// Refuses an encoding by its first fault, as `write_decoded` does; after it, and after `File` with `Read` or with `Write`, a beginning may have
+/// been written. Nothing was after `File` with `Memory`.
+pub fn write_draft<'a, S: Source, W: Write>(
+    alloc: Global,
+    mode: &Mode,
+    root: &Hash,
+    part: &Part,
+    source: &S,
+    file: &'a str,
+    out: &mut W,
+    path: &'a str,
+) -> Result<u64, DecodeFault<'a>>
+    ensures some { IfOk result (λ count. (text : List ℕ) × IsPartText mode.now root.now.0 part.now text × (count ≡ written_count part.now text)
+        × Appends (W.contents out.old) (W.contents out.new) (part_bytes part.now text)) }
+    ensures known { IfSome (S.contents source.now) (λ s. DraftsKnown mode.now root.now.0 part.now (S.faultless source.now) s file.entry path.entry (W.contents out.old) (W.contents out.new) result) }
+    ensures paths { IfErr result (NamesDraftPaths file.entry path.entry) }
+{
+    let Some((mut block, mut room)) = rooms(alloc) else {
+        return Err(DecodeFault::File(FileFault::Memory));
+    };
+    match text_pass(
+        mode,
+        root,
+        part,
+        source,
+        block.as_mut_slice(),
+        room.as_mut_slice(),
+        out,
+    ) {
+        Ok(count) => flushed(count, path, out),
+        Err(fault) => Err(only_fault(fault, file, path)),
+    }
+}
+
+// Reads the encoding in `input`, the file at `path`, into `text`, which is empty, and checks it node by node, since what isn't a
+// regular file may go on after a fault.
+fn read_input_text<'a>(
+    alloc: Global,
+    mode: &Mode,
+    root: &Hash,
+    part: &Part,
+    input: File,
+    path: &'a str,
+    text: &mut Vec<u8>,
+) -> Result<(), DecodeFault<'a>>
+    requires { text.old.items ≡ [] }
+    ensures err { IfErr result IsQuietDecode }
+    ensures paths { (other : Bor (List ℕ)) → IfErr result (NamesDecodePaths path.entry other) }
+{
+    let Ok(mut reader) = BufReader::new(alloc, input) else {
+        return Err(DecodeFault::File(FileFault::Memory));
+    };
+    let (start, len) = slice_of(part);
+    match read_text(alloc, mode, root, start, len, &mut reader, text) {
+        Ok(_) => Ok(()),
+        Err(CheckFault::Reader) => Err(DecodeFault::File(FileFault::Read(path))),
+        Err(fault) => Err(DecodeFault::Check(fault)),
+    }
+}
+
+// Writes what an encoding has of the part that can't be read twice: it is kept.
+fn write_kept<'a, W: Write>(
+    alloc: Global,
+    mode: &Mode,
+    root: &Hash,
+    part: &Part,
+    input: File,
+    file: &'a str,
+    out: &mut W,
+    path: &'a str,
+) -> Result<u64, DecodeFault<'a>>
+    ensures ok { IfOk result (λ count. (bytes : List ℕ) × IsPartText mode.now root.now.0 part.now bytes × (count ≡ written_count part.now bytes)) }
+    ensures err { IfErr result IsQuietDecode }
+    ensures paths { IfErr result (NamesDecodePaths file.entry path.entry) }
+{
+    let mut text = Vec::new(alloc);
+    if let Err(fault) = read_input_text(alloc, mode, root, part, input, file, &mut text) {
+        return Err(fault);
+    }
+    let Some((mut block, mut room)) = rooms(alloc) else {
+        return Err(DecodeFault::File(FileFault::Memory));
+    };
+    write_verified(
+        mode,
+        root,
+        part,
+        &text.as_slice(),
+        file,
+        block.as_mut_slice(),
+        room.as_mut_slice(),
+        out,
+        path,
+    )
+}
+
+// Verifies the encoding in `input`, the file at `file`, and writes what it has of the part to `out`, the file at `path`.
+fn write_input<'a, R: Files<File = File>>(
+    rt: &R,
+    alloc: Global,
+    mode: &Mode,
+    root: &Hash,
+    part: &Part,
+    input: File,
+    file: &'a str,
+    out: &mut LateFile<'_, R>,
+    path: &'a str,
+) -> Result<u64, DecodeFault<'a>>
+    ensures ok { IfOk result (λ count. (bytes : List ℕ) × IsPartText mode.now root.now.0 part.now bytes × (count ≡ written_count part.now bytes)) }
+    ensures err { IfErr result IsQuietDecode }
+    ensures paths { IfErr result (NamesDecodePaths file.entry path.entry) }
+{
+    if !is_regular(&input) {
+        return write_kept(alloc, mode, root, part, input, file, out, path);
+    }
+    if out.is_replaced() {
+        return write_draft(alloc, mode, root, part, &input, file, out, path);
+    }
+    if is_same_file(rt, &input, path) {
+        return write_kept(alloc, mode, root, part, input, file, out, path);
+    }
+    write_decoded(alloc, mode, root, part, &input, file, out, path)
+}
+
+/// Checks the encoding in the file as that of the part of the blob with this root, writes what it has of the part to the file at
+/// `path`, which it replaces ([`LateFile`]) once all was accepted, and answers how many bytes the part has.
+///
+/// A regular file is read once, as `write_draft` does, and twice, as `write_decoded` does, where the output can't be replaced. Any other, as a pipe, is
+/// read node by node, since it may go on after a fault, and kept; and so is a file that an output which can't be replaced is
+/// written over, under whatever name.
+///
+/// Refuses a file that can't be opened or read (`File` with `Read`), an encoding that is not accepted (`Check`), and an output
+/// that can't be made or written (`File` with `Write`). After each fault the file at `path` is as it was, but where it can't be
+/// replaced: there a beginning may stand after a fault of writing it, and of an encoding that changes while it is read, and can't be read so.
+pub fn decode_file<'a, R: Files<File = File> + AllocGlobal>(
+    rt: &R,
+    mode: &Mode,
+    root: &Hash,
+    part: &Part,
+    file: &'a str,
+    path: &'a str,
+) -> Result<u64, DecodeFault<'a>>
+    ensures ok { IfOk result (λ count. (bytes : List ℕ) × IsPartText mode.now root.now.0 part.now bytes × (count ≡ written_count part.now bytes)) }
+    ensures err { IfErr result IsQuietDecode }
+    ensures paths { IfErr result (NamesDecodePaths file.entry path.entry) }
+{
+    let input = open_file(rt, file)?;
+    let Ok(mut out) = LateFile::new(rt, path) else {
+        return Err(DecodeFault::File(FileFault::Memory));
+    };
+    let count = write_input(
+        rt,
+        rt.alloc(),
+        mode,
+        root,
+        part,
+        input,
+        file,
+        &mut out,
+        path,
+    )?;
+    finished(count, out, path)
+}

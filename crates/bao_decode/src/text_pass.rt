@@ -1,0 +1,174 @@
+// One pass over an encoding that is read by position, in blocks: each is verified, and what it has of a part of the blob is written.
+
+ghost use Rattle.std.specs.Prelude.{◌≡◌, ℕ, ◌+◌, ◌-◌, ◌*◌, ◌/◌, ◌^◌, ◌<◌, ◌≤◌, List, [], ◌++◌, length, take, drop, None, IfErr, IfOk, IfSome};
+ghost use Rattle.std.specs.Io.KnownBytes.{Appends};
+ghost use Rattle.bao_check.specs.Checking.{HasDecodedAs, HasTakenAs};
+ghost use Rattle.bao_check.specs.Decoded.{decoded};
+ghost use Rattle.bao_check.specs.Waiting.{CheckTask, IsAcceptedAs};
+ghost use Rattle.bao_read.specs.Given.{GivenAt};
+ghost use Rattle.bao_text.specs.Cut.{claimed};
+ghost use Rattle.bao_decode.specs.Ranges.{first_decoded, first_written, last_written, part_bytes, part_len, part_start, positions, written_count};
+ghost use Rattle.bao_decode.specs.TextPass.{IsWholeText, TextStops, StopsAs, task_of_part};
+
+use crate::copy_pass::{PassFault, fill_most};
+use b3tree::{CHUNK_LEN, Hash, Mode};
+use bao_check::{CheckFault, Checking, Decoded};
+use bao_files::Part;
+use bao_read::Source;
+use bao_text::{Choice, LENGTH_LEN, claimed, write_text};
+use std::io::Write;
+
+/// How many bytes of an encoding are read at once: those of a subtree of 256 chunks, and of the parents above it.
+pub(crate) const BLOCK_LEN: usize = 288 << 10;
+
+// No encoding is read beyond this place: no file has a byte there.
+const LAST_PLACE: u64 = 1 << 63;
+
+// The slice that is checked: its first byte, and how many it has.
+pub(crate) fn slice_of(part: &Part) -> (u64, u64)
+    ensures start { result.0 ≡ part_start part.now }
+    ensures len { result.1 ≡ part_len part.now }
+{
+    match part {
+        Part::Whole => (0, u64::MAX),
+        Part::Slice { start, len } => (*start, *len),
+    }
+}
+
+// The positions that are written, of a blob of `total` bytes: the first, and the one after the last.
+fn written_of(part: &Part, total: u64) -> (u64, u64)
+    ensures first { result.0 ≡ first_written part.now total }
+    ensures last { result.1 ≡ last_written part.now total }
+    ensures order { result.0 ≤ result.1 }
+{
+    match part {
+        Part::Whole => (0, total),
+        Part::Slice { start, len } => ((*start).min(total), start.saturating_add(*len).min(total)),
+    }
+}
+
+// The position of the first byte of the first chunk that the encoding has, of a blob of `total` bytes.
+fn decoded_from(part: &Part, total: u64) -> u64
+    ensures { result ≡ first_decoded part.now total }
+{
+    let (start, len) = slice_of(part);
+    let chunk_len = CHUNK_LEN as u64;
+    Choice::of_slice(total, start, len).start() / chunk_len * chunk_len
+}
+
+// What bytes have from the place `from` on, up to and without `to`, of which the first is at the place `at`.
+fn between(bytes: &[u8], at: u64, from: u64, to: u64) -> &[u8]
+    ensures { result.now ≡ positions at from to bytes.now }
+{
+    let end = to.saturating_sub(at).min(bytes.len() as u64);
+    let start = from.saturating_sub(at).min(end);
+    &bytes[start as usize..end as usize]
+}
+
+// Reads and verifies the length that an encoding begins with, and answers it and the check that has taken it.
+fn begin<S: Source>(
+    mode: &Mode,
+    root: &Hash,
+    part: &Part,
+    source: &S,
+) -> Result<(Checking, u64), PassFault>
+    ensures begun { IfOk result (λ begun. (header : List ℕ) × (length header ≡ 8) × GivenAt (S.contents source.now) 0 header
+        × HasDecodedAs begun.0 (task_of_part mode.now root.now.0 part.now) header [] × (begun.1 ≡ claimed header)) }
+    ensures fault { IfErr result (λ fault. IfSome (S.contents source.now) (λ s. StopsAs (task_of_part mode.now root.now.0 part.now) (S.faultless source.now) s fault)) }
+{
+    let (start, len) = slice_of(part);
+    let mut checking = Checking::of_slice(mode, root, start, len);
+    let mut header = [0; LENGTH_LEN];
+    let count = fill_most(source, 0, &mut header)?;
+    if count < LENGTH_LEN {
+        return Err(PassFault::Check(CheckFault::Short { at: 0 }));
+    }
+    match checking.take(&header) {
+        Ok(()) => Ok((checking, claimed(&header))),
+        Err(fault) => Err(PassFault::Check(fault)),
+    }
+}
+
+// Reads the encoding's bytes from the place `at` on, verifies the nodes that they begin with, and puts their chunks' bytes to the
+// front of the room. There is no block after the encoding's end.
+fn next_block<S: Source>(
+    checking: &mut Checking,
+    source: &S,
+    at: u64,
+    block: &mut [u8],
+    room: &mut [u8],
+) -> Result<Option<Decoded>, PassFault>
+    requires block { (1024 ≤ length block.old) × (length block.old ≤ 2 ^ 32) }
+    requires room { length block.old ≤ length room.old }
+    ensures sizes { (length block.new ≡ length block.old) × (length room.new ≡ length room.old) }
+    ensures some { IfOk result (λ next. IfSome next (λ step. (1 ≤ step.taken) × (step.filled ≤ step.taken) × (step.filled ≤ length room.new) × (at + step.taken ≤ 2 ^ 63 + 2 ^ 32))) }
+    ensures step { (task : CheckTask) (taken blob : List ℕ) → HasDecodedAs checking.old task taken blob → at ≡ length taken
+        → IfOk result (λ next. IfSome next (λ step. (more : List ℕ) × (length more ≡ step.taken) × GivenAt (S.contents source.now) at more
+        × HasDecodedAs checking.new task (taken ++ more) (blob ++ take step.filled room.new))) }
+    ensures last { (task : CheckTask) (taken blob : List ℕ) → HasDecodedAs checking.old task taken blob → at ≡ length taken
+        → IfOk result (λ next. next ≡ None → IsAcceptedAs task taken × (decoded taken task.start task.len ≡ blob) × IfSome (S.contents source.now) (λ s. length s ≤ at)) }
+    ensures fault { (task : CheckTask) (taken : List ℕ) → HasTakenAs checking.old task taken → at ≡ length taken → GivenAt (S.contents source.now) 0 taken
+        → IfErr result (λ fault. IfSome (S.contents source.now) (λ s. StopsAs task (S.faultless source.now) s fault)) }
+{
+    if at > LAST_PLACE {
+        return Err(PassFault::Check(CheckFault::Memory));
+    }
+    let count = fill_most(source, at, block)?;
+    let decoded = match checking.decode(&block[..count], room) {
+        Ok(decoded) => decoded,
+        Err(fault) => return Err(PassFault::Check(fault)),
+    };
+    if decoded.taken > 0 {
+        return Ok(Some(decoded));
+    }
+    match checking.wants() {
+        Some(_) => Err(PassFault::Check(CheckFault::Short { at })),
+        None if count > 0 => Err(PassFault::Check(CheckFault::Trailing { at })),
+        None => Ok(None),
+    }
+}
+
+/// Reads an encoding once, in blocks, verifies it as that of the part of the blob with this root, and writes what each block has of
+/// the part to `out` once it is verified. Answers how many positions the part has, in the length that the encoding claims.
+///
+/// Ends with the encoding's first fault, where a read answers a fault, and where a write does or takes no byte; a beginning may
+/// have been written.
+pub(crate) fn text_pass<S: Source, W: Write>(
+    mode: &Mode,
+    root: &Hash,
+    part: &Part,
+    source: &S,
+    block: &mut [u8],
+    room: &mut [u8],
+    out: &mut W,
+) -> Result<u64, PassFault>
+    requires block { (1024 ≤ length block.old) × (length block.old ≤ 2 ^ 32) }
+    requires room { length block.old ≤ length room.old }
+    ensures sizes { (length block.new ≡ length block.old) × (length room.new ≡ length room.old) }
+    ensures ok { IfOk result (λ count. (text : List ℕ) × IsWholeText (S.contents source.now) mode.now root.now.0 part.now text × (count ≡ written_count part.now text)
+        × Appends (W.contents out.old) (W.contents out.new) (part_bytes part.now text)) }
+    ensures err { IfErr result (λ fault. IfSome (S.contents source.now) (λ s.
+        TextStops (task_of_part mode.now root.now.0 part.now) (S.faultless source.now) part.now s (W.contents out.old) (W.contents out.new) fault)) }
+{
+    let (mut checking, total) = begin(mode, root, part, source)?;
+    let (first, last) = written_of(part, total);
+    let base = decoded_from(part, total);
+    let (skip, end) = (first.saturating_sub(base), last.saturating_sub(base));
+    let mut at = LENGTH_LEN as u64;
+    let mut done = 0;
+    'blocks: while let Some(Decoded { taken, filled }) = next_block(
+        &mut checking,
+        source,
+        at,
+        block,
+        room,
+    )? {
+        match write_text(between(&room[..filled], done, skip, end), out) {
+            Ok(()) => {}
+            Err(_) => return Err(PassFault::Output),
+        }
+        at += taken as u64;
+        done += filled as u64;
+    }
+    Ok(last - first)
+}

@@ -1,0 +1,241 @@
+#!/usr/bin/env python3
+"""Runs the program with an OUT of each kind, and looks at what stands there afterwards, and beside it.
+
+usage: python3 scripts/replaced.py [--only TEXT] [PROGRAM]
+
+PROGRAM is the built bao_gather, out/bao_gather where it is left out.
+
+Each row of ROWS is an OUT: how it is laid out, the tasks that write to it, how these end, and what stands in the folder then. A regular OUT
+is replaced at once: so it is what it was or what was to come, a link stays a link, permissions stay, and no file is left beside it. What was to
+come is what scripts/definitions.py gives. Two runs at a time on one OUT leave what one of them was to write.
+What is to be seen where a call fails, or the process is killed, scripts/refuse.py tries.
+Prints a line for each row and task, with what was wrong, and last 'N passed, M failed'. The exit status is 1 where one failed.
+"""
+import argparse
+import os
+import subprocess
+import sys
+import tempfile
+import threading
+from dataclasses import dataclass, field
+
+sys.dont_write_bytecode = True
+import definitions as bao
+from refuse import HELD, KEPT, MODES, blob_of
+from scenarios import Programs
+
+# Three groups and a bit, and another blob of as many bytes.
+BLOB, OTHER = blob_of(200_000), bytes(200_000)
+MODE = Programs().mode_of(None, None)
+ROOT, OTHER_ROOT = MODE.hash(BLOB).hex(), MODE.hash(OTHER).hex()
+ENCODED, PARENTS = bao.combined(MODE, BLOB), bao.outboard(MODE, BLOB)
+TORN = ENCODED[:100_000] + bytes([ENCODED[100_000] ^ 1]) + ENCODED[100_001:]
+FILES = {"blob": BLOB, "blob.bao": ENCODED, "blob.obao": PARENTS, "torn.bao": TORN, "other": OTHER, "other.bao": bao.combined(MODE, OTHER)}
+
+
+
+def fault_of(text):
+    """The fault of a combined encoding that isn't accepted."""
+    try:
+        bao.checked(MODE, bytes.fromhex(ROOT), text, lambda length: bao.slice_nodes(length, 0, 2**64 - 1))
+    except bao.Fault as fault:
+        return str(fault)
+    raise AssertionError("it is accepted")
+
+
+# The tasks that write to OUT, and what each has to write.
+TASKS = {
+    "encode blob OUT": ENCODED,
+    "outboard blob OUT": PARENTS,
+    "slice 70000 1000 blob OUT": bao.slice_text(MODE, BLOB, 70_000, 1000),
+    f"decode {ROOT} blob.bao OUT": BLOB,
+    f"decode --outboard blob.obao {ROOT} blob OUT": BLOB,
+    f"gather {ROOT} OUT torn.bao blob.bao": BLOB,
+    f"gather --encode {ROOT} OUT blob.bao": ENCODED,
+}
+DECODE, GATHER = f"decode {ROOT} blob.bao OUT", f"gather {ROOT} OUT torn.bao blob.bao"
+REFUSED = {f"decode {ROOT} torn.bao OUT": fault_of(TORN), f"gather {ROOT} OUT torn.bao": "901 unfinished"}
+
+CANNOT = "cannot write {out}"
+
+# A name of the most bytes that a file system takes, so that none is left for that of a file beside it.
+LONGEST = "o" * 255
+
+
+@dataclass(frozen=True)
+class Row:
+    """An OUT: its name, the files, links and folders that are laid out, the tasks, the line of the fault that all end with, or none, and the
+    files that hold what was to come; all others stay."""
+
+    name: str
+    out: str
+    files: dict = field(default_factory=dict)
+    links: dict = field(default_factory=dict)
+    folders: tuple = ()
+    tasks: tuple = tuple(TASKS)
+    fault: str = ""
+    written: tuple = ("out",)
+    mode: int = 0o644
+
+
+TAKEN = {f"out.part{k or ''}": b"somebody's" for k in ["", *range(2, 9)]}
+
+ROWS = [
+    Row("absent", "out"),
+    Row("a regular file", "out", {"out": KEPT}),
+    Row("a file with permissions of its own", "out", {"out": KEPT}, mode=0o640),
+    Row("a file that others may run", "out", {"out": KEPT}, mode=0o755),
+    Row("a longer file", "out", {"out": bytes(1 << 20)}),
+    Row("a link to a file in another folder", "out", {"there/target": KEPT}, {"out": "there/target"}, ("there",), written=("there/target",)),
+    Row("a link to a link", "out", {"there/target": KEPT}, {"out": "link", "link": "there/target"}, ("there",), written=("there/target",)),
+    Row("a link to nothing", "out", links={"out": "target"}, written=("target",)),
+    Row("eight names beside it are taken", "out", {"out": KEPT, **TAKEN}),
+    Row("all names beside it are taken", "out", {"out": KEPT, **TAKEN, "out.part9": b"somebody's"}, fault=CANNOT, written=()),
+    Row("no name is left beside it", LONGEST, {LONGEST: KEPT}, fault=CANNOT, written=()),
+    Row("a folder", "out", folders=("out",), fault=CANNOT, written=()),
+    Row("in no folder", "nowhere/out", fault=CANNOT, written=()),
+    Row("a full device", "/dev/full", fault=CANNOT, written=()),
+    Row("a device", "/dev/null", written=()),
+    Row("one of the files, to decode", "blob.bao", tasks=(DECODE, GATHER), written=("blob.bao",)),
+    Row("one of the files, to encode", "blob", tasks=("encode blob OUT",), written=("blob",)),
+    Row("one of the files, under another name", "out", links={"out": "blob.bao"}, tasks=(DECODE, GATHER), written=("blob.bao",)),
+    *[Row(f"refused: {words.split()[0]}", "out", {"out": KEPT}, tasks=(words,), fault=why, written=()) for words, why in REFUSED.items()],
+    *[Row(f"refused, and absent: {words.split()[0]}", "out", tasks=(words,), fault=why, written=()) for words, why in REFUSED.items()],
+]
+
+
+def found(folder):
+    """All that is in a folder: of each file its bytes and permissions, of each link what it leads to."""
+    all_of = {}
+    for at, folders, files in os.walk(folder):
+        for name in [*folders, *files]:
+            path = os.path.join(at, name)
+            short = os.path.relpath(path, folder)
+            if os.path.islink(path):
+                all_of[short] = ("link", os.readlink(path))
+            elif os.path.isdir(path):
+                all_of[short] = ("folder", "")
+            else:
+                with open(path, "rb") as it:
+                    all_of[short] = (os.stat(path).st_mode & 0o7777, it.read())
+    return all_of
+
+
+def lay_out(folder, row):
+    for name in row.folders:
+        os.mkdir(f"{folder}/{name}")
+    for name, data in {**FILES, **row.files}.items():
+        with open(f"{folder}/{name}", "wb") as it:
+            it.write(data)
+        os.chmod(f"{folder}/{name}", row.mode if name in row.files else 0o644)
+    for name, target in row.links.items():
+        os.symlink(target, f"{folder}/{name}")
+
+
+def differences(before, after, row, words):
+    """What isn't there as it should be."""
+    wanted = dict(before)
+    for name in row.written:
+        mode = before[name][0] if name in before else 0o666 & ~UMASK
+        wanted[name] = (mode, TASKS[words])
+    names = sorted({*wanted, *after}, key=str)
+    said = lambda it: "nothing" if it is None else f"{it[0] if isinstance(it[0], str) else oct(it[0])}, {len(it[1])} of {it[1][:16]!r}"
+    return [f"{name[:20]}: {said(after.get(name))} in place of {said(wanted.get(name))}" for name in names if after.get(name) != wanted.get(name)]
+
+
+UMASK = os.umask(0o022)
+os.umask(UMASK)
+
+
+def run(program, folder, words, out, **how):
+    given = [out if it == "OUT" else it for it in words.split()]
+    return subprocess.run([program, *given], cwd=folder, stdin=subprocess.DEVNULL, capture_output=True, text=True, timeout=HELD, **how)
+
+
+def tried(program, row, words):
+    """Does a task with this OUT, and answers what was wrong."""
+    with tempfile.TemporaryDirectory(prefix="replaced-") as folder:
+        lay_out(folder, row)
+        before = found(folder)
+        ran = run(program, folder, words, row.out)
+        wrong = differences(before, found(folder), row, words)
+    fault = f"bao_gather: {row.fault.format(out=row.out)}\n" if row.fault else ""
+    status = 0 if not fault else 3 if row.fault == CANNOT else 1
+    got, wanted = (ran.returncode, ran.stderr), (status, fault)
+    return wrong + ([f"{got} in place of {wanted}"] if got != wanted else [])
+
+
+def through_descriptor(program):
+    """What goes to a descriptor goes to the file that is open there."""
+    wrong = []
+    for words, wanted in TASKS.items():
+        with tempfile.TemporaryDirectory(prefix="replaced-") as folder:
+            lay_out(folder, ROWS[0])
+            with open(f"{folder}/open", "w+b") as it:
+                ran = run(program, folder, words, f"/dev/fd/{it.fileno()}", pass_fds=[it.fileno()])
+                it.seek(0)
+                got = it.read()
+            if ran.returncode or got != wanted or "open.part" in os.listdir(folder):
+                wrong.append(f"{words}: {ran.returncode}, {ran.stderr!r}, {len(got)} bytes")
+    return wrong
+
+
+def into_pipe(program):
+    """A pipe gets what was to come, all of it, and nothing of what is refused."""
+    wrong = []
+    for words, wanted in [*TASKS.items(), *[(words, b"") for words in REFUSED]]:
+        with tempfile.TemporaryDirectory(prefix="replaced-") as folder:
+            lay_out(folder, ROWS[0])
+            os.mkfifo(f"{folder}/pipe")
+            # Both ends are open, so that nobody waits for the other.
+            end = os.open(f"{folder}/pipe", os.O_RDONLY | os.O_NONBLOCK)
+            held = os.open(f"{folder}/pipe", os.O_WRONLY)
+            os.set_blocking(end, True)
+            got = []
+            with open(end, "rb") as source:
+                reader = threading.Thread(target=lambda: got.append(source.read()))
+                reader.start()
+                ran = run(program, folder, words, "pipe")
+                os.close(held)
+                reader.join(HELD)
+            if got != [wanted] or ran.returncode != (1 if words in REFUSED else 0):
+                wrong.append(f"{words}: {ran.returncode}, {ran.stderr!r}, {[len(it) for it in got]} bytes")
+    return wrong
+
+
+def two_at_a_time(program):
+    """Two runs on one OUT, many times."""
+    wrong = []
+    with tempfile.TemporaryDirectory(prefix="replaced-") as folder:
+        lay_out(folder, Row("", "out", {"out": KEPT}))
+        both = [["decode", ROOT, "blob.bao", "out"], ["decode", OTHER_ROOT, "other.bao", "out"]]
+        for _ in range(100):
+            runs = [subprocess.Popen([program, *words], cwd=folder, stdout=subprocess.DEVNULL) for words in both]
+            statuses = [it.wait(HELD) for it in runs]
+            after = found(folder)
+            if statuses != [0, 0] or after["out"][1] not in (BLOB, OTHER) or any(".part" in it for it in after):
+                wrong.append(f"{statuses}, {len(after['out'][1])} bytes, {sorted(after)}")
+    return wrong
+
+
+def main():
+    asked = argparse.ArgumentParser(description=__doc__, formatter_class=argparse.RawDescriptionHelpFormatter)
+    asked.add_argument("--only", default="", help="rows alone whose name has this text in it")
+    asked.add_argument("program", nargs="?", default="out/bao_gather", metavar="PROGRAM", help="the built bao_gather (out/bao_gather)")
+    asked = asked.parse_args()
+    program = os.path.abspath(asked.program)
+    trials = [(f"{row.name}: {words.replace(ROOT, 'ROOT')}", lambda row=row, words=words: tried(program, row, words)) for row in ROWS for words in row.tasks]
+    trials += [("an open file", lambda: through_descriptor(program)), ("a pipe", lambda: into_pipe(program)), ("two runs at a time", lambda: two_at_a_time(program))]
+    passed = failed = 0
+    for name, trial in trials:
+        if asked.only not in name:
+            continue
+        wrong = trial()
+        print("\n    ".join([f"{name}: {'failed' if wrong else 'passed'}", *wrong]), flush=True)
+        passed, failed = passed + (not wrong), failed + bool(wrong)
+    print(f"{passed} passed, {failed} failed")
+    return 1 if failed else 0
+
+
+if __name__ == "__main__":
+    sys.exit(main())
