@@ -25,9 +25,20 @@ extern "C" {
 #define BW_AT_LEAST(n) static n
 #endif
 
+/* A status that nobody looks at is a fault that nobody sees: compilers that can say so do. */
+#if defined(__GNUC__)
+#define BW_USE __attribute__((warn_unused_result))
+#else
+#define BW_USE
+#endif
+
+/* The version that this header is of: 10,000 times its first number, 100 times its second, and its third. */
+#define BW_VERSION 100
+
 #define BW_HASH_LEN 32
 #define BW_CHUNK_LEN 1024
 #define BW_GROUP_CHUNKS 64
+#define BW_RANGES_MAX 55
 
 typedef uint32_t bw_status;
 
@@ -126,6 +137,12 @@ typedef struct bw_node {
     uint64_t number;
 } bw_node;
 
+/* `len` bytes from byte `at` on. */
+typedef struct bw_range {
+    uint64_t at;
+    uint64_t len;
+} bw_range;
+
 /* What bw_gather did: chunks that it committed, parents that it stored, slices that it asked for, encodings that a check refused, fetches whose
  * device failed (there is none here), refusals of memory, and 1 where a certified length was above what the store has room for. A count
  * stays at 2^64 - 1 once there. */
@@ -151,155 +168,207 @@ typedef struct bw_handle {
 /* Frees what the handle owns, if it owns something. It is empty then, and may be freed again. */
 void bw_free(bw_handle *handle);
 
+/* The version of the library that is linked, as BW_VERSION has it. */
+uint32_t bw_version(void);
+
+/* 1 where the status says that memory was refused: BW_TEXT_MEMORY, BW_STORE_MEMORY, BW_SPLIT_MEMORY, BW_SERVE_MEMORY or BW_MEMORY. Else 0. */
+uint32_t bw_is_memory(bw_status status);
+
 /* --- Hashes */
 
 /* The hash of `bytes`. */
 void bw_hash(const bw_mode *mode, const uint8_t *bytes, size_t len, uint8_t out[BW_AT_LEAST(BW_HASH_LEN)]);
 
 /* Extended output, from its byte `at` on. BW_PAST_OUTPUT. */
-bw_status bw_xof(const bw_mode *mode, const uint8_t *bytes, size_t len, uint64_t at, uint8_t *out, size_t out_len);
+BW_USE bw_status bw_xof(const bw_mode *mode, const uint8_t *bytes, size_t len, uint64_t at, uint8_t *out, size_t out_len);
 
 /* The key derived from `material` for the use that `context`, a UTF-8 text, names. BW_NOT_UTF8. */
-bw_status bw_derive_key(const uint8_t *context, size_t context_len, const uint8_t *material, size_t material_len, uint8_t *out,
-                        size_t out_len);
+BW_USE bw_status bw_derive_key(const uint8_t *context, size_t context_len, const uint8_t *material, size_t material_len, uint8_t *out,
+                               size_t out_len);
 
 /* A hasher that has taken in nothing; what the handle owned is freed. BW_MEMORY, with an empty handle. */
-bw_status bw_hasher_new(const bw_mode *mode, bw_handle *hasher);
+BW_USE bw_status bw_hasher_new(const bw_mode *mode, bw_handle *hasher);
 
 /* Takes in `bytes` after those before. BW_TOO_LONG, BW_NO_HANDLE: the hasher is as it was. */
-bw_status bw_hasher_update(bw_handle *hasher, const uint8_t *bytes, size_t len);
+BW_USE bw_status bw_hasher_update(bw_handle *hasher, const uint8_t *bytes, size_t len);
 
 /* The hash, or extended output, of what was taken in. The hasher can go on. BW_NO_HANDLE, BW_PAST_OUTPUT. */
-bw_status bw_hasher_finish(bw_handle *hasher, uint8_t out[BW_AT_LEAST(BW_HASH_LEN)]);
-bw_status bw_hasher_xof(bw_handle *hasher, uint64_t at, uint8_t *out, size_t out_len);
+BW_USE bw_status bw_hasher_finish(bw_handle *hasher, uint8_t out[BW_AT_LEAST(BW_HASH_LEN)]);
+BW_USE bw_status bw_hasher_xof(bw_handle *hasher, uint64_t at, uint8_t *out, size_t out_len);
 
-/* --- Encodings written, to the start of the caller's buffer: *used says how long they are. BW_TEXT_MEMORY, BW_ROOM. */
+/* --- Encodings written, to the start of the caller's buffer: *used says how long they are. BW_TEXT_MEMORY. BW_ROOM: the buffer is as it was, and
+ * *used says how long they would be. bw_encode and bw_outboard ask for room before they take memory or hash. */
 
-/* How long they are of a blob of `len` bytes. bw_encoded_len is 0 where that is above 2^64 - 1. A slice is at most as long as the combined
- * encoding. */
+/* How long the combined and the outboard encoding are of a blob of `len` bytes, and the slice of `slice_len` bytes from byte `start` on. 0 where
+ * that is above 2^64 - 1. A slice is at most as long as the combined encoding. */
 uint64_t bw_encoded_len(uint64_t len);
 uint64_t bw_outboard_len(uint64_t len);
+uint64_t bw_slice_len(uint64_t len, uint64_t start, uint64_t slice_len);
 
 /* The combined and the outboard encoding of a blob and the slice of `slice_len` bytes from byte `start` on, with the blob's hash. */
-bw_status bw_encode(const bw_mode *mode, const uint8_t *bytes, size_t len, uint8_t *out, size_t out_len, size_t *used,
-                    uint8_t root[BW_AT_LEAST(BW_HASH_LEN)]);
-bw_status bw_outboard(const bw_mode *mode, const uint8_t *bytes, size_t len, uint8_t *out, size_t out_len, size_t *used,
-                      uint8_t root[BW_AT_LEAST(BW_HASH_LEN)]);
-bw_status bw_slice(const bw_mode *mode, const uint8_t *bytes, size_t len, uint64_t start, uint64_t slice_len, uint8_t *out, size_t out_len,
-                   size_t *used, uint8_t root[BW_AT_LEAST(BW_HASH_LEN)]);
+BW_USE bw_status bw_encode(const bw_mode *mode, const uint8_t *bytes, size_t len, uint8_t *out, size_t out_len, size_t *used,
+                           uint8_t root[BW_AT_LEAST(BW_HASH_LEN)]);
+BW_USE bw_status bw_outboard(const bw_mode *mode, const uint8_t *bytes, size_t len, uint8_t *out, size_t out_len, size_t *used,
+                             uint8_t root[BW_AT_LEAST(BW_HASH_LEN)]);
+BW_USE bw_status bw_slice(const bw_mode *mode, const uint8_t *bytes, size_t len, uint64_t start, uint64_t slice_len, uint8_t *out,
+                          size_t out_len, size_t *used, uint8_t root[BW_AT_LEAST(BW_HASH_LEN)]);
 
 /* A slice cut out of a combined encoding, of which nothing is checked: what isn't there is left out. */
-bw_status bw_cut_slice(const uint8_t *text, size_t text_len, uint64_t start, uint64_t len, uint8_t *out, size_t out_len, size_t *used);
+BW_USE bw_status bw_cut_slice(const uint8_t *text, size_t text_len, uint64_t start, uint64_t len, uint8_t *out, size_t out_len, size_t *used);
+
+/* Which bytes of the combined encoding of a blob of `total` bytes are the slice (start, len): a server's file is asked for these ranges, and what
+ * comes, one range after another, is the encoding of the slice. *count says how many there are in `out`, whose length `room` is a number of ranges;
+ * BW_RANGES_MAX are always room enough. They are in order, and none begins where another ends. BW_TOO_LONG: the combined encoding has 2^64 bytes
+ * or more. BW_ROOM: some of `out` may have been written to. */
+BW_USE bw_status bw_slice_ranges(uint64_t total, uint64_t start, uint64_t len, bw_range *out, size_t room, size_t *count);
 
 /* --- Encodings checked: BW_OK exactly where they are accepted, or else the first fault, BW_SHORT, BW_MISMATCH or BW_TRAILING, and its
  * place in *at. No memory is taken. */
 
-bw_status bw_check_slice(const bw_mode *mode, const uint8_t root[BW_AT_LEAST(BW_HASH_LEN)], uint64_t start, uint64_t len,
-                         const uint8_t *text, size_t text_len, uint64_t *at);
-bw_status bw_check_combined(const bw_mode *mode, const uint8_t root[BW_AT_LEAST(BW_HASH_LEN)], const uint8_t *text, size_t text_len,
-                            uint64_t *at);
-bw_status bw_check_outboard(const bw_mode *mode, const uint8_t root[BW_AT_LEAST(BW_HASH_LEN)], const uint8_t *text, size_t text_len,
-                            uint64_t *at);
+BW_USE bw_status bw_check_slice(const bw_mode *mode, const uint8_t root[BW_AT_LEAST(BW_HASH_LEN)], uint64_t start, uint64_t len,
+                                const uint8_t *text, size_t text_len, uint64_t *at);
+BW_USE bw_status bw_check_combined(const bw_mode *mode, const uint8_t root[BW_AT_LEAST(BW_HASH_LEN)], const uint8_t *text, size_t text_len,
+                                   uint64_t *at);
+BW_USE bw_status bw_check_outboard(const bw_mode *mode, const uint8_t root[BW_AT_LEAST(BW_HASH_LEN)], const uint8_t *text, size_t text_len,
+                                   uint64_t *at);
 
 /* Checks chunks `first` to `first + count - 1` of a plain copy, which begin at its byte 1,024 * first, by the blob's outboard encoding, which
  * is checked with them. BW_NO_OUTBOARD: bw_check_outboard tells its fault. BW_NO_CHUNKS. Else the place in *at is one of `chunks`. */
-bw_status bw_check_bare(const bw_mode *mode, const uint8_t root[BW_AT_LEAST(BW_HASH_LEN)], const uint8_t *outboard, size_t outboard_len,
-                        uint64_t first, uint64_t count, const uint8_t *chunks, size_t chunks_len, uint64_t *at);
+BW_USE bw_status bw_check_bare(const bw_mode *mode, const uint8_t root[BW_AT_LEAST(BW_HASH_LEN)], const uint8_t *outboard,
+                               size_t outboard_len, uint64_t first, uint64_t count, const uint8_t *chunks, size_t chunks_len, uint64_t *at);
+
+/* Checks an encoding as the slice (start, len), and puts the blob's bytes of that range to the start of `out`: `len` bytes from byte `start` on, or
+ * those before the blob's end. (0, 2^64 - 1) is the combined encoding. *used says how many they are, and *total is the blob's length where the
+ * encoding certifies it, since it has the last chunk, and else 2^64 - 1. No byte is written before all are verified. BW_ROOM, before all
+ * else: `out` is as it was, and *used says how many bytes there would be. */
+BW_USE bw_status bw_decode(const bw_mode *mode, const uint8_t root[BW_AT_LEAST(BW_HASH_LEN)], uint64_t start, uint64_t len,
+                           const uint8_t *text, size_t text_len, uint8_t *out, size_t out_len, size_t *used, uint64_t *total, uint64_t *at);
 
 /* Checks a slice, and compares it with a blob. BW_OK: it is accepted, each chunk of it is the blob's, and the length that it certifies, if it
  * does, is the blob's. BW_OTHER_BLOB: the blob's hash isn't the root. BW_COLLISION: *ours is an input that hashing the blob compresses, and
  * *theirs one that checking the encoding compresses; they differ and have one chaining value. */
-bw_status bw_audit(const bw_mode *mode, const uint8_t root[BW_AT_LEAST(BW_HASH_LEN)], uint64_t start, uint64_t len,
-                   const uint8_t *text, size_t text_len, const uint8_t *blob, size_t blob_len, uint64_t *at, bw_input *ours,
-                   bw_input *theirs);
+BW_USE bw_status bw_audit(const bw_mode *mode, const uint8_t root[BW_AT_LEAST(BW_HASH_LEN)], uint64_t start, uint64_t len,
+                          const uint8_t *text, size_t text_len, const uint8_t *blob, size_t blob_len, uint64_t *at, bw_input *ours,
+                          bw_input *theirs);
 
 /* --- Encodings checked in pieces: an encoding is given a node at a time, in its order, while it comes, and none of its bytes are kept. What is
- * accepted, and else the first fault and its place, are those of bw_check_slice and bw_check_combined. A program asks bw_feed_wants for the
- * size of the next node and hands bw_feed_take so many bytes, again and again; then it hands bw_feed_finish what is left of the encoding, where it
- * ends or nothing is wanted. Each call but the first two can answer BW_NO_HANDLE. Memory is taken by the first two alone. */
+ * accepted, and else the first fault and its place, are those of bw_check_slice and bw_check_combined. A program hands bw_feed_take_many what
+ * came, again and again, and is handed the blob's bytes; then it hands bw_feed_finish what is left of the encoding, where it ends. Or it asks
+ * bw_feed_wants for the size of the next node and hands bw_feed_take so many bytes. Each call but the first two can answer BW_NO_HANDLE. Memory is
+ * taken by the first two alone. */
 
 /* A check that has taken nothing, of an encoding as the slice of `len` bytes from byte `start` on, or as the combined encoding; what the handle
  * owned is freed. BW_MEMORY, with an empty handle. */
-bw_status bw_feed_slice(const bw_mode *mode, const uint8_t root[BW_AT_LEAST(BW_HASH_LEN)], uint64_t start, uint64_t len, bw_handle *feed);
-bw_status bw_feed_combined(const bw_mode *mode, const uint8_t root[BW_AT_LEAST(BW_HASH_LEN)], bw_handle *feed);
+BW_USE bw_status bw_feed_slice(const bw_mode *mode, const uint8_t root[BW_AT_LEAST(BW_HASH_LEN)], uint64_t start, uint64_t len, bw_handle *feed);
+BW_USE bw_status bw_feed_combined(const bw_mode *mode, const uint8_t root[BW_AT_LEAST(BW_HASH_LEN)], bw_handle *feed);
 
 /* How many bytes the node has that comes next: 8 for the length, 64 for a parent, 1 to 1,024 for a chunk. 0 exactly where what was taken is an
  * accepted encoding. */
-bw_status bw_feed_wants(bw_handle *feed, size_t *size);
+BW_USE bw_status bw_feed_wants(bw_handle *feed, size_t *size);
 
-/* Takes the node that comes next, and verifies it. BW_MISMATCH: that is the first fault of every encoding that begins with what was taken and
+/* Takes the node that comes next, and verifies it. Whether it is a chunk bw_feed_take_many tells, which hands out a chunk's bytes and none of a
+ * parent: a last chunk can have 64 bytes, as a parent has. BW_MISMATCH: that is the first fault of every encoding that begins with what was taken and
  * this node, at *at. BW_TOO_MUCH, with 0 in *at. BW_OTHER_SIZE: `node` has another length than is wanted, or nothing is. The check is as it was
  * then, and can take other bytes in their place. */
-bw_status bw_feed_take(bw_handle *feed, const uint8_t *node, size_t node_len, uint64_t *at);
+BW_USE bw_status bw_feed_take(bw_handle *feed, const uint8_t *node, size_t node_len, uint64_t *at);
+
+/* Takes as many whole nodes as `bytes` begins with, of any number, verifies them eight chunks at a time, and puts the bytes of the chunks among
+ * them to the start of `out`: bytes of the blob, in order. *taken says how many bytes were taken, and *filled how many of `out` are filled. What
+ * isn't taken is less than the next node, or follows the last: hand it in again with what comes after it, or to bw_feed_finish. `out` has
+ * room for as many bytes as are given, or else BW_ROOM, and nothing is changed; from *filled to there it is 0. BW_MISMATCH: the first fault of
+ * every encoding that begins with what was taken and these bytes is at *at. BW_TOO_MUCH, with 0 in *at. After either, nodes before the fault may
+ * have been taken and `out` is 0: begin a new check from the bytes on that earlier calls handed out. Pieces of 256 KiB take little more time than
+ * their hash; small ones take several times as much, since chunks at their ends are verified one by one. */
+BW_USE bw_status bw_feed_take_many(bw_handle *feed, const uint8_t *bytes, size_t bytes_len, uint8_t *out, size_t out_len, size_t *taken,
+                                   size_t *filled, uint64_t *at);
 
 /* What is said of the whole encoding, which is what was taken and then `rest`: BW_OK exactly where it is accepted, BW_SHORT where a node comes
  * next, BW_TRAILING where none does and `rest` has bytes. BW_OTHER_SIZE: `rest` has all bytes of a node, which is to be taken first. The check
  * is as it was, and can go on. */
-bw_status bw_feed_finish(bw_handle *feed, const uint8_t *rest, size_t rest_len, uint64_t *at);
+BW_USE bw_status bw_feed_finish(bw_handle *feed, const uint8_t *rest, size_t rest_len, uint64_t *at);
 
 /* --- The store that threads share: each thread has a seat of its own, and the store lives until its last seat is freed. Nothing is taken on
  * anybody's word: what is stored comes from encodings accepted under the store's root. Chunks are in groups of 64, and a mask is of a group:
  * bit j stands for chunk 64 * group + j. Chunks, groups and the positions of a read are counted from the store's first chunk, and what a slice
  * is asked by from the blob's: in a store of bw_store_new these are the same chunk. Each call can answer BW_NO_HANDLE. */
 
-/* A store of at most `capacity` chunks, 1 to 65,536, and its first seat; what the handle owned is freed. BW_CAPACITY, BW_STORE_MEMORY,
- * BW_MEMORY: the handle is empty then. */
-bw_status bw_store_new(const bw_mode *mode, const uint8_t root[BW_AT_LEAST(BW_HASH_LEN)], uint32_t capacity, bw_handle *seat);
+/* A store of at most `capacity` chunks, 1 to 65,536, and its first seat; what the handle owned is freed. It takes the memory for all of them now,
+ * some 1,096 bytes a chunk, so 72 MB at most: where the length is known, give it the blob's number of chunks. A blob of more than 64 MiB goes
+ * without a store, by bw_check_slice or a check in pieces. BW_CAPACITY, BW_STORE_MEMORY, BW_MEMORY: the handle is empty then. */
+BW_USE bw_status bw_store_new(const bw_mode *mode, const uint8_t root[BW_AT_LEAST(BW_HASH_LEN)], uint32_t capacity, bw_handle *seat);
 
 /* Another seat of the store, which has seen the same and claims nothing; what `other` owned is freed. BW_SPLIT_MEMORY, BW_MEMORY: `other` is
  * empty then. */
-bw_status bw_seat_split(bw_handle *seat, bw_handle *other);
+BW_USE bw_status bw_seat_split(bw_handle *seat, bw_handle *other);
 
 /* Joins two seats of one store: `seat` has the claims of both, and `other` is empty. The thread that calls has both handles: the other's thread
  * has ended and was joined, say, or has handed it over. A seat that is freed while it has claims keeps their chunks from all others, so
  * give them back first, or join it. BW_OTHER_STORE where their stores differ in root, mode or capacity, and so can be told apart; that
  * stores which are alike in these aren't mixed up is a rule of above. Both handles are as they were then. No memory is taken. */
-bw_status bw_seat_join(bw_handle *seat, bw_handle *other);
+BW_USE bw_status bw_seat_join(bw_handle *seat, bw_handle *other);
 
 /* Lets two seats of one store meet: what either has seen both have seen then. Their claims stay as they are, and no reply of a later call is
  * another one by it: it is for those who reason about what their seats have seen. BW_OTHER_STORE and the thread as bw_seat_join. */
-bw_status bw_seat_meet(bw_handle *seat, bw_handle *other);
+BW_USE bw_status bw_seat_meet(bw_handle *seat, bw_handle *other);
 
 /* Claims the wanted chunks that are neither held nor claimed. BW_NO_GROUP. */
-bw_status bw_seat_take(bw_handle *seat, uint32_t group, uint64_t want, uint64_t *granted);
+BW_USE bw_status bw_seat_take(bw_handle *seat, uint32_t group, uint64_t want, uint64_t *granted);
 
 /* Ends the seat's claims among the mask. */
-bw_status bw_seat_give(bw_handle *seat, uint32_t group, uint64_t mask, uint64_t *given);
+BW_USE bw_status bw_seat_give(bw_handle *seat, uint32_t group, uint64_t mask, uint64_t *given);
+
+/* Checks an encoding as the slice (start, len), once, and stores all that it has, so that the store can serve it: each chunk of it that nobody
+ * holds and no other seat claims, whatever its group, and each parent of it; one that another seat is storing just then is held once that one is
+ * done. *committed and *parents say how many of each. Nothing has to be taken before: bw_seat_take is for seats that share out who fetches what,
+ * and of the slice's chunks the seat claims none afterwards. BW_SHORT, BW_MISMATCH, BW_TRAILING as bw_check_slice. BW_OTHER_LENGTH: nothing is
+ * stored, since the length that the encoding claims isn't the recorded one, or none is recorded yet: bw_seat_settle comes first. */
+BW_USE bw_status bw_seat_commit_all(bw_handle *seat, uint64_t start, uint64_t len, const uint8_t *text, size_t text_len,
+                                    uint64_t *committed, uint64_t *parents, uint64_t *at);
 
 /* Checks an encoding as the slice (start, len), stores exactly the chunks of the group that the seat claims and the encoding has, and ends these
- * claims. BW_SHORT, BW_MISMATCH, BW_TRAILING as bw_check_slice. */
-bw_status bw_seat_commit(bw_handle *seat, uint32_t group, uint64_t start, uint64_t len, const uint8_t *text, size_t text_len,
-                         uint64_t *committed, uint64_t *at);
+ * claims; no parents, without which no slice is served. BW_SHORT, BW_MISMATCH, BW_TRAILING as bw_check_slice. */
+BW_USE bw_status bw_seat_commit(bw_handle *seat, uint32_t group, uint64_t start, uint64_t len, const uint8_t *text, size_t text_len,
+                                uint64_t *committed, uint64_t *at);
 
 /* Checks an encoding as the slice (2^64 - 1, 1), which has the last chunk, and records its length, if none is recorded. BW_SHORT, BW_MISMATCH,
  * BW_TRAILING, BW_NO_TAIL, BW_TOO_LARGE, BW_DIFFERS. */
-bw_status bw_seat_settle(bw_handle *seat, const uint8_t *text, size_t text_len, uint64_t *at);
+BW_USE bw_status bw_seat_settle(bw_handle *seat, const uint8_t *text, size_t text_len, uint64_t *at);
 
-/* Checks an encoding as the slice (start, len), and stores its parents at boundaries of the group, so that the store can serve them: bit j of
- * *stored stands for the parent whose right part begins at chunk 64 * group + j. BW_SHORT, BW_MISMATCH, BW_TRAILING, BW_OTHER_LENGTH. */
-bw_status bw_seat_commit_parents(bw_handle *seat, uint32_t group, uint64_t start, uint64_t len, const uint8_t *text, size_t text_len,
-                                 uint64_t *stored, uint64_t *at);
+/* Checks an encoding as the slice (start, len), and stores its parents at boundaries of the group: bit j of *stored stands for the parent whose
+ * right part begins at chunk 64 * group + j. A slice's parents belong to several groups: the root of 64 MiB to group 512. So one call for
+ * the group of the chunks doesn't make the slice one that the store can serve; bw_seat_commit_all does. BW_SHORT, BW_MISMATCH, BW_TRAILING,
+ * BW_OTHER_LENGTH. */
+BW_USE bw_status bw_seat_commit_parents(bw_handle *seat, uint32_t group, uint64_t start, uint64_t len, const uint8_t *text, size_t text_len,
+                                        uint64_t *stored, uint64_t *at);
 
 /* One worker's round over one encoding, which may be the blob's combined encoding, or any bytes: N threads with a seat each are N workers, with
  * the numbers 0 to N - 1. Where no length is recorded, it cuts out the slice of the last byte and settles the length that this certifies;
  * it ends where there is none, or where it is too large. Then it goes once round all groups, from its own part of them on, takes each group's
  * chunks, cuts out their slice, commits from it and stores its parents, and gives back what is left. What it did is added to *report, which
- * begins as all 0. The answer is BW_OK also where nothing was committed; another encoding is another call. Its seat claims nothing more. */
-bw_status bw_gather(bw_handle *seat, uint32_t number, uint32_t workers, const uint8_t *text, size_t text_len, bw_report *report);
+ * begins as all 0. The answer is BW_OK also where nothing was committed; another encoding is another call. Its seat claims nothing more.
+ * Where several seats gather at once, a last round is owed: a worker passes by a group that another one claims at that time, and the other
+ * may have to give it back. So when all have ended, join their seats to one, and let it do bw_gather(&seat, 0, 1, ..) once more
+ * with each encoding that there is. A group that is lacking then is damaged in each of them: bw_seat_salvage. */
+BW_USE bw_status bw_gather(bw_handle *seat, uint32_t number, uint32_t workers, const uint8_t *text, size_t text_len, bw_report *report);
+
+/* As bw_gather by one worker, but each chunk is taken, cut out and committed by itself, so that one that is damaged costs no other: for what is left
+ * where each encoding that there is is damaged in the same group. It asks for each chunk that isn't held, which costs the way to it each time. */
+BW_USE bw_status bw_seat_salvage(bw_handle *seat, const uint8_t *text, size_t text_len, bw_report *report);
 
 /* The recorded length of the blob. BW_UNFINISHED: none is. */
-bw_status bw_seat_length(bw_handle *seat, uint64_t *len);
+BW_USE bw_status bw_seat_length(bw_handle *seat, uint64_t *len);
 
 /* Fills `out` with the bytes from byte `from` of the blob on. BW_MISSING: the first that isn't held is at *missing, and those before it are
  * filled in. */
-bw_status bw_seat_read(bw_handle *seat, uint64_t from, uint8_t *out, size_t out_len, uint64_t *missing);
+BW_USE bw_status bw_seat_read(bw_handle *seat, uint64_t from, uint8_t *out, size_t out_len, uint64_t *missing);
 
-/* Puts the encoding of the slice (start, len) to the start of `out`, also of an unfinished store. BW_NO_LENGTH, BW_LACKING, BW_SERVE_MEMORY,
- * BW_ROOM. */
-bw_status bw_seat_serve_slice(bw_handle *seat, uint64_t start, uint64_t len, uint8_t *out, size_t out_len, size_t *used, bw_node *lacking);
+/* Puts the encoding of the slice (start, len) to the start of `out`, also of an unfinished store. BW_NO_LENGTH, BW_LACKING, BW_SERVE_MEMORY.
+ * BW_ROOM: *used says how long it is, as bw_slice_len of the recorded length does. */
+BW_USE bw_status bw_seat_serve_slice(bw_handle *seat, uint64_t start, uint64_t len, uint8_t *out, size_t out_len, size_t *used, bw_node *lacking);
 
-/* Puts the whole blob to the start of `out`, once the hash of its bytes is the root. BW_UNFINISHED, BW_ROOM, BW_NOT_THE_ROOT. */
-bw_status bw_seat_finish(bw_handle *seat, uint8_t *out, size_t out_len, size_t *used);
+/* Puts the whole blob to the start of `out`, once the hash of its bytes is the root. BW_UNFINISHED, BW_NOT_THE_ROOT. BW_ROOM: *used is the blob's
+ * length. After BW_UNFINISHED and BW_NOT_THE_ROOT `out` may have been written to. */
+BW_USE bw_status bw_seat_finish(bw_handle *seat, uint8_t *out, size_t out_len, size_t *used);
 
 #ifdef __cplusplus
 }

@@ -21,6 +21,7 @@ static const size_t most = (size_t)64 << 20;
 static const size_t slice_room = 8 + 2 * GROUP_LEN;
 
 static const bw_mode plain = {0, {0}};
+static volatile bw_status kept;
 
 #define MUST(test)                                                                     \
     do {                                                                               \
@@ -155,13 +156,13 @@ static void calls(const uint8_t *bytes) {
     MUST(bw_hasher_new(&plain, &hasher) == BW_OK && bw_store_new(&plain, root, 65536, &seat) == BW_OK);
     for (int k = 0; k < ROUNDS; k++) {
         double from = now();
-        for (int i = 0; i < CALLS; i++) (void)bw_hasher_update(&hasher, bytes, 0);
+        for (int i = 0; i < CALLS; i++) kept = bw_hasher_update(&hasher, bytes, 0);
         note(&updated, from);
         from = now();
-        for (int i = 0; i < CALLS; i++) (void)bw_seat_length(&seat, &len);
+        for (int i = 0; i < CALLS; i++) kept = bw_seat_length(&seat, &len);
         note(&asked, from);
         from = now();
-        for (int i = 0; i < CALLS; i++) (void)bw_seat_take(&seat, 3, UINT64_MAX, &mask), (void)bw_seat_give(&seat, 3, UINT64_MAX, &mask);
+        for (int i = 0; i < CALLS; i++) kept = bw_seat_take(&seat, 3, UINT64_MAX, &mask), kept = bw_seat_give(&seat, 3, UINT64_MAX, &mask);
         note(&taken, from);
     }
     printf("bw_hasher_update of no bytes: %.2f ns\n", updated / CALLS * 1e9);

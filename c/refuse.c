@@ -61,6 +61,12 @@ static int gathers(const uint8_t *root, const uint8_t *blob, size_t blob_len, co
     WANT(refused || (report.committed == chunks && report.parents == chunks - 1));
     WANT(!refused || report.committed < chunks);
     WANT(!alone || report.memory <= 1);
+    /* Chunk by chunk it is the same, for those that are left. */
+    uint64_t had = report.committed;
+    left = n, once = alone;
+    status = bw_seat_salvage(&seat, text, text_len, &report);
+    left = -1, once = 0;
+    WANT(status == BW_OK && report.refused == 0 && report.failed == 0 && report.committed >= had);
     uint64_t before = report.memory;
     WANT(bw_gather(&seat, 0, 1, text, text_len, &report) == BW_OK);
     WANT(report.memory == before && report.committed == chunks && report.parents == chunks - 1);
@@ -74,8 +80,8 @@ static int gathers(const uint8_t *root, const uint8_t *blob, size_t blob_len, co
 int main(void) {
     static uint8_t blob[70000], text[80000], slice[80000], spare[80000];
     uint8_t root[BW_HASH_LEN], out[BW_HASH_LEN];
-    size_t used = 0, cut = 0, spare_len = 0;
-    uint64_t mask = 0, at = 0;
+    size_t used = 0, cut = 0, spare_len = 0, taken = 0, filled = 0;
+    uint64_t mask = 0, at = 0, parents = 0, total = 0;
     bw_node lacking = {0, 0};
     uint8_t tail[8 + 64 * 64 + BW_CHUNK_LEN];
     size_t tail_len = 0;
@@ -102,8 +108,14 @@ int main(void) {
         WANT(all == BW_OK || (all == BW_MEMORY && whole.at == NULL && ++refused));
         size_t size = 7;
         WANT(bw_feed_wants(&whole, &size) == (all == BW_OK ? BW_OK : BW_NO_HANDLE) && size == (all == BW_OK ? 8 : 7));
+        WANT(bw_encode(&plain, blob, sizeof blob, spare, 10, &spare_len, root) == BW_ROOM && spare_len == used);
+        WANT(bw_outboard(&plain, blob, sizeof blob, spare, 10, &spare_len, root) == BW_ROOM && spare_len == bw_outboard_len(sizeof blob));
+        WANT(bw_decode(&plain, root, 0, UINT64_MAX, text, used, spare, sizeof spare, &filled, &total, &at) == BW_OK);
+        WANT(filled == sizeof blob && total == sizeof blob && memcmp(spare, blob, filled) == 0);
+        WANT(bw_feed_take_many(&whole, text, used, spare, sizeof spare, &taken, &filled, &at) == (all == BW_OK ? BW_OK : BW_NO_HANDLE));
+        WANT(all != BW_OK || (taken == used && filled == sizeof blob && memcmp(spare, blob, filled) == 0 && bw_feed_finish(&whole, text, 0, &at) == BW_OK));
         if (fed == BW_OK && sliced == BW_OK) {
-            size_t taken = 0;
+            taken = 0;
             for (; bw_feed_wants(&feed, &size) == BW_OK && size != 0; taken += size)
                 WANT(size <= cut - taken && bw_feed_take(&feed, slice + taken, size, &at) == BW_OK);
             WANT(taken == cut && bw_feed_finish(&feed, slice, 0, &at) == BW_OK);
@@ -129,6 +141,7 @@ int main(void) {
             WANT(split != BW_OK || (bw_seat_take(&other, 1, 1, &mask) == BW_OK && mask == 1));
             WANT(split != BW_OK || (bw_seat_meet(&seat, &other) == BW_OK && bw_seat_join(&seat, &other) == BW_OK && other.at == NULL));
             WANT(split != BW_OK || (bw_seat_give(&seat, 1, 1, &mask) == BW_OK && mask == 1));
+            WANT(bw_seat_commit_all(&seat, 0, UINT64_MAX, text, used, &mask, &parents, &at) == BW_OK && mask == 5 && parents == 5);
         }
         left = -1;
         bw_free(&hasher), bw_free(&seat), bw_free(&other), bw_free(&feed), bw_free(&whole);

@@ -60,6 +60,15 @@ static void ask_group(worker *it, uint32_t group, uint8_t *slice, size_t slice_l
         size_t used = 0;
         uint64_t committed = 0, at = 0;
         WANT(bw_cut_slice(from->text, from->len, start, GROUP_LEN, slice, slice_len, &used) == BW_OK);
+        if (it->number % 2 != 0) { /* these do it by one call */
+            uint64_t parents = 0;
+            bw_status all = bw_seat_commit_all(&it->seat, start, GROUP_LEN, slice, used, &committed, &parents, &at);
+            WANT(all == BW_OK || all == BW_MISMATCH);
+            it->stored += committed, it->parents += parents;
+            if (all == BW_OK) left = 0;
+            else it->refused++;
+            continue;
+        }
         bw_status status = bw_seat_commit(&it->seat, group, start, GROUP_LEN, slice, used, &committed, &at);
         if (status == BW_OK) {
             uint64_t parents = 0;
@@ -190,6 +199,88 @@ static void joining(const uint8_t *root, const holder *good) {
     WANT(bw_seat_read(&second, GROUP_LEN - 1, out, 1, &at) == BW_OK);
     WANT(strcmp(bw_strerror(BW_OTHER_STORE), bw_strerror(1)) != 0);
     bw_free(&first), bw_free(&second), bw_free(&alien), bw_free(&hasher);
+}
+
+/* A blob comes in order, group by group, and after each the store serves the slice of each group that it has, and of a byte of it: the bytes
+ * that are cut out of the whole encoding. */
+static void in_order(const uint8_t *root, const holder *good) {
+    static uint8_t slice[2 * GROUP_LEN], served[2 * GROUP_LEN];
+    uint64_t chunks = (BLOB_LEN + BW_CHUNK_LEN - 1) / BW_CHUNK_LEN, groups = (chunks + 63) / 64;
+    uint64_t committed = 7, parents = 7, at = 7, all = 0, all_parents = 0;
+    size_t used = 0, len = 0;
+    bw_node lacking;
+    bw_handle seat = BW_EMPTY;
+    WANT(bw_store_new(&plain, root, (uint32_t)chunks, &seat) == BW_OK);
+    WANT(bw_cut_slice(good->text, good->len, UINT64_MAX, 1, slice, sizeof slice, &used) == BW_OK);
+    WANT(bw_seat_settle(&seat, slice, used, &at) == BW_OK);
+    for (uint64_t group = 0; group < groups; group++) {
+        WANT(bw_cut_slice(good->text, good->len, group * GROUP_LEN, GROUP_LEN, slice, sizeof slice, &used) == BW_OK);
+        WANT(bw_seat_commit_all(&seat, group * GROUP_LEN, GROUP_LEN, slice, used, &committed, &parents, &at) == BW_OK);
+        WANT(committed == (group + 1 < groups ? 64 : chunks - 64 * group) && parents >= committed - 1);
+        all += committed, all_parents += parents;
+        WANT(bw_seat_commit_all(&seat, group * GROUP_LEN, GROUP_LEN, slice, used, &committed, &parents, &at) == BW_OK && committed == 0 && parents == 0);
+        for (uint64_t k = 0; k < groups; k++)
+            for (uint64_t n = 1; n <= GROUP_LEN; n += GROUP_LEN - 1) {
+                bw_status status = bw_seat_serve_slice(&seat, k * GROUP_LEN, n, served, sizeof served, &len, &lacking);
+                WANT(status == (k <= group ? BW_OK : BW_LACKING));
+                if (k > group) continue;
+                WANT(bw_cut_slice(good->text, good->len, k * GROUP_LEN, n, slice, sizeof slice, &used) == BW_OK);
+                WANT(len == used && memcmp(served, slice, len) == 0);
+            }
+    }
+    WANT(all == chunks && all_parents == chunks - 1);
+    bw_free(&seat);
+}
+
+/* What bw_seat_commit_all stores where others claim, where the slice is of several groups, and what it refuses. */
+static void storing(const uint8_t *blob, const uint8_t *root, const holder *good) {
+    static uint8_t slice[8 * GROUP_LEN], out[8 * GROUP_LEN];
+    uint64_t committed = 7, parents = 7, at = 7, mask = 0, len = 0;
+    size_t used = 0;
+    bw_node lacking;
+    bw_handle seat = BW_EMPTY, other = BW_EMPTY;
+    WANT(bw_seat_commit_all(&seat, 0, 1, good->text, good->len, &committed, &parents, &at) == BW_NO_HANDLE);
+    WANT(bw_hasher_new(&plain, &seat) == BW_OK);
+    WANT(bw_seat_commit_all(&seat, 0, 1, good->text, good->len, &committed, &parents, &at) == BW_NO_HANDLE);
+    WANT(bw_hasher_finish(&seat, out) == BW_OK && committed == 7 && parents == 7 && at == 7);
+    WANT(bw_store_new(&plain, root, 1024, &seat) == BW_OK && bw_seat_split(&seat, &other) == BW_OK);
+    WANT(bw_cut_slice(good->text, good->len, 0, GROUP_LEN, slice, sizeof slice, &used) == BW_OK);
+    /* No length is recorded yet, or it is another one: nothing is stored. */
+    WANT(bw_seat_commit_all(&seat, 0, GROUP_LEN, slice, used, &committed, &parents, &at) == BW_OTHER_LENGTH && committed == 7 && parents == 7 && at == 7);
+    WANT(bw_seat_read(&seat, 0, out, 1, &at) == BW_MISSING);
+    WANT(bw_cut_slice(good->text, good->len, UINT64_MAX, 1, out, sizeof out, &used) == BW_OK && bw_seat_settle(&seat, out, used, &at) == BW_OK);
+    WANT(bw_cut_slice(good->text, good->len, 0, GROUP_LEN, slice, sizeof slice, &used) == BW_OK);
+    slice[0] ^= 1;
+    WANT(bw_check_slice(&plain, root, 0, GROUP_LEN, slice, used, &at) == BW_OK);
+    WANT(bw_seat_commit_all(&seat, 0, GROUP_LEN, slice, used, &committed, &parents, &at) == BW_OTHER_LENGTH && committed == 7 && parents == 7);
+    slice[0] ^= 1;
+    slice[used - 1] ^= 1;
+    WANT(bw_seat_commit_all(&seat, 0, GROUP_LEN, slice, used, &committed, &parents, &at) == BW_MISMATCH && at == used - 1024);
+    slice[used - 1] ^= 1;
+    WANT(bw_seat_commit_all(&seat, 0, GROUP_LEN, slice, used - 1, &committed, &parents, &at) == BW_SHORT && at == used - 1024);
+    WANT(bw_seat_commit_all(&seat, 0, GROUP_LEN - 1024, slice, used, &committed, &parents, &at) == BW_TRAILING && at == used - 1024);
+    WANT(committed == 7 && parents == 7 && bw_seat_read(&seat, 0, out, 1, &at) == BW_MISSING);
+    WANT(bw_seat_take(&seat, 0, UINT64_MAX, &mask) == BW_OK && mask == UINT64_MAX && bw_seat_give(&seat, 0, UINT64_MAX, &mask) == BW_OK);
+    /* What another seat claims stays its own; what the seat itself claims is stored. */
+    WANT(bw_seat_take(&other, 0, 32, &mask) == BW_OK && mask == 32 && bw_seat_take(&seat, 0, 8, &mask) == BW_OK && mask == 8);
+    WANT(bw_seat_commit_all(&seat, 0, GROUP_LEN, slice, used, &committed, &parents, &at) == BW_OK && committed == 63 && parents == 67);
+    WANT(bw_seat_serve_slice(&seat, 0, GROUP_LEN, out, sizeof out, &used, &lacking) == BW_LACKING && lacking.kind == 1 && lacking.number == 5);
+    WANT(bw_seat_give(&seat, 0, UINT64_MAX, &mask) == BW_OK && mask == 0);
+    WANT(bw_cut_slice(good->text, good->len, 5 * 1024, 1, slice, sizeof slice, &used) == BW_OK);
+    WANT(bw_seat_commit_all(&other, 5 * 1024, 1, slice, used, &committed, &parents, &at) == BW_OK && committed == 1 && parents == 0);
+    WANT(bw_seat_give(&other, 0, UINT64_MAX, &mask) == BW_OK && mask == 0);
+    WANT(bw_seat_serve_slice(&seat, 0, GROUP_LEN, out, sizeof out, &used, &lacking) == BW_OK);
+    /* A slice that begins and ends within groups, then all that is left, and an encoding in which nothing is new. */
+    WANT(bw_cut_slice(good->text, good->len, 100000, 300000, slice, sizeof slice, &used) == BW_OK);
+    WANT(bw_seat_commit_all(&seat, 100000, 300000, slice, used, &committed, &parents, &at) == BW_OK && committed == 390 - 97 + 1);
+    WANT(bw_seat_serve_slice(&other, 100000, 300000, out, sizeof out, &used, &lacking) == BW_OK && memcmp(out, slice, used) == 0);
+    WANT(bw_seat_commit_all(&other, 0, UINT64_MAX, good->text, good->len, &committed, &parents, &at) == BW_OK && committed == 977 - 64 - 294);
+    WANT(bw_seat_commit_all(&other, 0, UINT64_MAX, good->text, good->len, &committed, &parents, &at) == BW_OK && committed == 0 && parents == 0);
+    uint8_t *found = room(BLOB_LEN);
+    WANT(bw_seat_finish(&seat, found, BLOB_LEN, &used) == BW_OK && used == BLOB_LEN && memcmp(found, blob, BLOB_LEN) == 0);
+    WANT(bw_seat_length(&seat, &len) == BW_OK && len == BLOB_LEN);
+    free(found);
+    bw_free(&seat), bw_free(&other);
 }
 
 /* Each row in one piece and in two, as hash and as output. */
@@ -410,6 +501,289 @@ static void feeds(const uint8_t *blob, const uint8_t *root, holder *good) {
     bw_free(&feed);
 }
 
+/* Hands a check in pieces a text, `step` bytes at a time and more where the next node has more, and then its rest. Answers what the check
+ * says, and puts what it hands out to `out`, and how many bytes that is to *filled. */
+static bw_status poured(bw_handle *feed, const uint8_t *text, size_t len, size_t step, uint8_t *out, size_t *filled, uint64_t *at) {
+    uint8_t *part = room(len + 9);
+    size_t done = 0, window = step, taken = 7, gained = 7;
+    *filled = 0;
+    for (;;) {
+        size_t count = window < len - done ? window : len - done;
+        memset(part, 9, count + 9);
+        bw_status status = bw_feed_take_many(feed, text + done, count, part, count + 5, &taken, &gained, at);
+        for (size_t i = status == BW_OK ? gained : 0; i < count + 9; i++) WANT(part[i] == (i < count ? 0 : 9));
+        if (status != BW_OK) {
+            WANT(status == BW_MISMATCH);
+            free(part);
+            return status;
+        }
+        WANT(taken <= count && gained <= taken);
+        memcpy(out + *filled, part, gained);
+        *filled += gained, done += taken;
+        if (taken != 0) window = step;
+        else if (count == len - done) break;
+        else window *= 2;
+    }
+    free(part);
+    return bw_feed_finish(feed, text + done, len - done, at);
+}
+
+/* A slice that is poured in has the status and the place that it has at once, in steps of several sizes: as it is, cut short, with something
+ * after it, and with a byte changed. What is handed out is the blob's. */
+static void pours(const bw_mode *mode, const uint8_t *root, uint64_t start, uint64_t slice_len, uint8_t *text, size_t len, const uint8_t *blob, size_t count) {
+    static const size_t steps[] = {1, 64, 1000, 1088, 8704, 70000};
+    bw_handle feed = BW_EMPTY;
+    uint8_t *out = room(len), *longer = room(len + 1);
+    size_t filled = 0;
+    uint64_t at, wanted;
+    for (size_t k = 0; k < sizeof steps / sizeof *steps; k++) {
+        at = 7;
+        WANT(bw_feed_slice(mode, root, start, slice_len, &feed) == BW_OK);
+        WANT(poured(&feed, text, len, steps[k], out, &filled, &at) == BW_OK && at == 7);
+        WANT(filled == count && memcmp(out, blob, count) == 0);
+        for (size_t cut = 0; cut < len; cut += cut < 9 ? 1 : len / 16 + 1) {
+            WANT(bw_check_slice(mode, root, start, slice_len, text, cut, &wanted) == BW_SHORT);
+            WANT(bw_feed_slice(mode, root, start, slice_len, &feed) == BW_OK);
+            WANT(poured(&feed, text, cut, steps[k], out, &filled, &at) == BW_SHORT && at == wanted);
+            WANT(filled <= count && memcmp(out, blob, filled) == 0);
+            if (cut < 8) continue; /* another length may have another first node */
+            text[cut] ^= 32;
+            WANT(bw_check_slice(mode, root, start, slice_len, text, len, &wanted) == BW_MISMATCH);
+            WANT(bw_feed_slice(mode, root, start, slice_len, &feed) == BW_OK);
+            WANT(poured(&feed, text, len, steps[k], out, &filled, &at) == BW_MISMATCH && at == wanted);
+            WANT(filled <= count && memcmp(out, blob, filled) == 0);
+            text[cut] ^= 32;
+        }
+        memcpy(longer, text, len);
+        longer[len] = 0;
+        WANT(bw_feed_slice(mode, root, start, slice_len, &feed) == BW_OK);
+        WANT(poured(&feed, longer, len + 1, steps[k], out, &filled, &at) == BW_TRAILING && at == len);
+        WANT(filled == count && memcmp(out, blob, count) == 0);
+    }
+    bw_free(&feed);
+    free(out), free(longer);
+}
+
+static void pouring(const uint8_t *blob, const uint8_t *root, const holder *good) {
+    static uint8_t text[90000], out[90000];
+    bw_handle feed = BW_EMPTY;
+    uint8_t hash[BW_HASH_LEN];
+    size_t used = 0, taken = 7, filled = 7, size = 0;
+    uint64_t at = 7;
+    WANT(bw_feed_take_many(&feed, text, 8, out, 8, &taken, &filled, &at) == BW_NO_HANDLE);
+    WANT(bw_feed_take_many(&feed, text, 8, out, 7, &taken, &filled, &at) == BW_ROOM);
+    WANT(bw_hasher_new(&plain, &feed) == BW_OK);
+    WANT(bw_feed_take_many(&feed, text, 8, out, 8, &taken, &filled, &at) == BW_NO_HANDLE);
+    WANT(bw_hasher_finish(&feed, hash) == BW_OK && taken == 7 && filled == 7 && at == 7);
+    static const struct { uint64_t start, len, from, to; } slices[] = {
+        {5000, 3000, 4096, 8192}, {0, 1, 0, 1024}, {70000, 70000, 69632, 140288}, {UINT64_MAX, 1, 976 * 1024, BLOB_LEN}, {999000, UINT64_MAX, 975 * 1024, BLOB_LEN},
+    };
+    for (size_t k = 0; k < sizeof slices / sizeof *slices; k++) {
+        WANT(bw_cut_slice(good->text, good->len, slices[k].start, slices[k].len, text, sizeof text, &used) == BW_OK);
+        pours(&plain, root, slices[k].start, slices[k].len, text, used, blob + slices[k].from, (size_t)(slices[k].to - slices[k].from));
+    }
+    const bw_mode keyed = {1, {3}};
+    static const size_t lens[] = {0, 1, 64, 1024, 1025, 3136, 8192, 9000, 40000};
+    for (size_t k = 0; k < sizeof lens / sizeof *lens; k++) {
+        WANT(bw_encode(&keyed, blob, lens[k], text, sizeof text, &used, hash) == BW_OK);
+        if (lens[k] < 9000) pours(&keyed, hash, 0, UINT64_MAX, text, used, blob, lens[k]);
+        WANT(bw_feed_combined(&keyed, hash, &feed) == BW_OK);
+        WANT(poured(&feed, text, used, sizeof text, out, &filled, &at) == BW_OK && filled == lens[k] && memcmp(out, blob, filled) == 0);
+        WANT(bw_feed_take_many(&feed, text, 8, out, 8, &taken, &filled, &at) == BW_OK && taken == 0 && filled == 0);
+        WANT(bw_feed_wants(&feed, &size) == BW_OK && size == 0);
+    }
+    /* Node by node, it tells the chunks apart from the parents: also a last chunk of 64 bytes, as many as a parent has. */
+    WANT(bw_encode(&plain, blob, 3136, text, sizeof text, &used, hash) == BW_OK && bw_feed_combined(&plain, hash, &feed) == BW_OK);
+    static const size_t sizes[] = {8, 64, 64, 1024, 1024, 64, 1024, 64}, chunks[] = {0, 0, 0, 1, 1, 0, 1, 1};
+    for (size_t k = 0, done = 0; k < 8; done += sizes[k], k++) {
+        WANT(bw_feed_wants(&feed, &size) == BW_OK && size == sizes[k]);
+        WANT(bw_feed_take_many(&feed, text + done, size, out, size, &taken, &filled, &at) == BW_OK && taken == size && filled == (chunks[k] ? size : 0));
+    }
+    /* Whole groups of eight chunks, and a fault among them. */
+    uint8_t *big = room(BLOB_LEN + 1), *many = room(good->len);
+    WANT(bw_feed_combined(&plain, root, &feed) == BW_OK);
+    WANT(poured(&feed, good->text, good->len, 65536, many, &filled, &at) == BW_OK && filled == BLOB_LEN && memcmp(many, blob, filled) == 0);
+    memcpy(many, good->text, good->len);
+    many[good->len / 2] ^= 1;
+    uint64_t wanted = 0;
+    WANT(bw_check_combined(&plain, root, many, good->len, &wanted) == BW_MISMATCH);
+    WANT(bw_feed_combined(&plain, root, &feed) == BW_OK);
+    WANT(poured(&feed, many, good->len, 65536, big, &filled, &at) == BW_MISMATCH && at == wanted && memcmp(big, blob, filled) == 0);
+    free(big), free(many);
+    bw_free(&feed);
+}
+
+/* What an accepted encoding is decoded to: the range's bytes, and the length where it is certified. Nothing is written for any other. */
+static void decoding(const uint8_t *blob, const uint8_t *root, const holder *good) {
+    static uint8_t text[90000], out[90000], hash[BW_HASH_LEN];
+    static const struct { uint64_t start, len, count; int has_last; } slices[] = {
+        {5000, 3000, 3000, 0}, {0, 1, 1, 0}, {1023, 2, 2, 0}, {70000, 70000, 70000, 0}, {0, 0, 0, 0}, {UINT64_MAX, 1, 0, 1}, {BLOB_LEN, 5, 0, 1},
+        {BLOB_LEN - 5, UINT64_MAX, 5, 1}, {BLOB_LEN - 3000, 2999, 2999, 1}, {BLOB_LEN - 3000, 100, 100, 0}, {999000, 1003, 1003, 1},
+    };
+    size_t used = 7, need = 0, len = 0;
+    uint64_t total = 7, at = 7;
+    for (size_t k = 0; k < sizeof slices / sizeof *slices; k++) {
+        uint64_t start = slices[k].start;
+        size_t count = (size_t)slices[k].count;
+        WANT(bw_cut_slice(good->text, good->len, start, slices[k].len, text, sizeof text, &len) == BW_OK);
+        WANT(bw_slice_len(BLOB_LEN, start, slices[k].len) == len);
+        memset(out, 9, sizeof out);
+        if (count != 0) {
+            used = total = 7;
+            WANT(bw_decode(&plain, root, start, slices[k].len, text, len, out, count - 1, &need, &total, &at) == BW_ROOM && need == count && total == 7 && out[0] == 9);
+        }
+        WANT(bw_decode(&plain, root, start, slices[k].len, text, len, out, count, &used, &total, &at) == BW_OK && used == count && at == 7);
+        WANT(total == (slices[k].has_last ? BLOB_LEN : UINT64_MAX) && memcmp(out, blob + (count ? start : 0), count) == 0 && out[count] == 9);
+        WANT(bw_decode(&plain, root, start, slices[k].len, text, len, out, sizeof out, &used, &total, &at) == BW_OK && used == count && out[count] == 9);
+        /* Another root, a byte changed, bytes cut off or appended: nothing is written. */
+        for (size_t cut = 0; cut < len; cut += cut < 9 ? 1 : len / 16 + 1) {
+            memset(out, 9, 100);
+            used = total = 7;
+            uint64_t wanted = 7;
+            bw_status status = bw_check_slice(&plain, root, start, slices[k].len, text, cut, &wanted);
+            WANT(bw_decode(&plain, root, start, slices[k].len, text, cut, out, sizeof out, &used, &total, &at) == status && status == BW_SHORT && at == wanted);
+            if (cut >= 8) {
+                text[cut] ^= 1;
+                status = bw_check_slice(&plain, root, start, slices[k].len, text, len, &wanted);
+                WANT(bw_decode(&plain, root, start, slices[k].len, text, len, out, sizeof out, &used, &total, &at) == status && status == BW_MISMATCH && at == wanted);
+                text[cut] ^= 1;
+            }
+            WANT(used == 7 && total == 7);
+            for (size_t i = 0; i < 100; i++) WANT(out[i] == 9);
+            at = 7;
+        }
+        text[len] = 0;
+        WANT(bw_decode(&plain, root, start, slices[k].len, text, len + 1, out, sizeof out, &used, &total, &at) == BW_TRAILING && at == len);
+        at = 7;
+    }
+    const bw_mode keyed = {1, {5}};
+    for (size_t n = 0; n < 12000; n += n < 2 ? 1 : 1023) {
+        WANT(bw_encode(&keyed, blob, n, text, sizeof text, &len, hash) == BW_OK && bw_slice_len(n, 0, UINT64_MAX) == len);
+        WANT(bw_decode(&keyed, hash, 0, UINT64_MAX, text, len, out, n, &used, &total, &at) == BW_OK && used == n && total == n && memcmp(out, blob, n) == 0);
+        WANT(bw_decode(&plain, hash, 0, UINT64_MAX, text, len, out, n, &used, &total, &at) == BW_MISMATCH && at == 8);
+    }
+    /* A length that is claimed and can't be: the room that it asks for is told, and where it is there the check says what is wrong. */
+    memset(text, 255, 8);
+    WANT(bw_decode(&plain, root, 0, UINT64_MAX, text, 8, out, sizeof out, &used, &total, &at) == BW_ROOM && used == SIZE_MAX);
+    WANT(bw_decode(&plain, root, 0, 10, text, 8, out, sizeof out, &used, &total, &at) == BW_SHORT && at == 8);
+    WANT(bw_slice_len(UINT64_MAX, 0, UINT64_MAX) == 0 && bw_slice_len(UINT64_MAX, 5, 1) == 8 + 54 * 64 + 1024);
+}
+
+/* The ranges of a slice, one after another, are the slice that is cut out of the encoding; no two touch, and there are as few as that lets be. */
+static void ranges(const holder *good) {
+    static uint8_t slice[8 * GROUP_LEN];
+    bw_range out[BW_RANGES_MAX];
+    size_t used = 0, count = 7, again = 7;
+    static const uint64_t places[] = {0, 1, 1023, 1024, 65535, 65536, 100000, 499999, 524288, 524289, 999423, 999424, BLOB_LEN - 1, BLOB_LEN, UINT64_MAX};
+    static const uint64_t lens[] = {0, 1, 1024, 65536, 300000, UINT64_MAX};
+    for (size_t i = 0; i < sizeof places / sizeof *places; i++)
+        for (size_t k = 0; k < sizeof lens / sizeof *lens; k++) {
+            bw_status status = bw_cut_slice(good->text, good->len, places[i], lens[k], slice, sizeof slice, &used);
+            WANT(bw_slice_ranges(BLOB_LEN, places[i], lens[k], out, BW_RANGES_MAX, &count) == BW_OK && count >= 1 && out[0].at == 0 && out[0].len >= 8);
+            size_t done = 0;
+            for (size_t j = 0; j < count; j++) {
+                WANT(out[j].at <= good->len && out[j].len <= good->len - out[j].at && (j == 0 || out[j].at > out[j - 1].at + out[j - 1].len));
+                WANT(status != BW_OK || (out[j].len <= used - done && memcmp(slice + done, good->text + out[j].at, out[j].len) == 0));
+                done += (size_t)out[j].len;
+            }
+            WANT(done == used); /* also where it didn't fit */
+            WANT(bw_slice_ranges(BLOB_LEN, places[i], lens[k], out, count - 1, &again) == BW_ROOM && again == 7);
+        }
+    WANT(bw_slice_ranges(0, 5, 5, out, 1, &count) == BW_OK && count == 1 && out[0].at == 0 && out[0].len == 8);
+    WANT(bw_slice_ranges(BLOB_LEN, 0, UINT64_MAX, out, 1, &count) == BW_OK && count == 1 && out[0].len == good->len);
+    /* 2^53 chunks: on the way to the last one a left part is passed by below each of 53 parents. */
+    WANT(bw_slice_ranges(UINT64_C(1) << 63, UINT64_MAX, 1, out, BW_RANGES_MAX, &count) == BW_OK && count == 54 && out[53].len == 1024);
+    WANT(bw_slice_ranges(UINT64_MAX, 0, 1, out, BW_RANGES_MAX, &again) == BW_TOO_LONG && again == 7);
+}
+
+/* Two encodings that are damaged in the same group, at other chunks: group by group the blob isn't gathered, chunk by chunk it is. */
+static void salvaging(const uint8_t *blob, const uint8_t *root, holder *good) {
+    bw_handle seat = BW_EMPTY;
+    bw_report report = {1, 2, 3, 4, 5, 6, 0};
+    size_t used = 0;
+    uint8_t *found = room(BLOB_LEN), *other = room(good->len);
+    WANT(bw_seat_salvage(&seat, good->text, good->len, &report) == BW_NO_HANDLE && report.committed == 1 && report.memory == 6);
+    WANT(bw_hasher_new(&plain, &seat) == BW_OK && bw_seat_salvage(&seat, good->text, good->len, &report) == BW_NO_HANDLE);
+    memcpy(other, good->text, good->len);
+    good->text[300000] ^= 1;
+    other[310000] ^= 1;
+    report = (bw_report){0, 0, 0, 0, 0, 0, 0};
+    WANT(bw_store_new(&plain, root, 977, &seat) == BW_OK);
+    WANT(bw_gather(&seat, 0, 1, good->text, good->len, &report) == BW_OK && bw_gather(&seat, 0, 1, other, good->len, &report) == BW_OK);
+    WANT(report.committed == 977 - 64 && report.refused == 2 && bw_seat_finish(&seat, found, BLOB_LEN, &used) == BW_UNFINISHED);
+    WANT(bw_seat_salvage(&seat, good->text, good->len, &report) == BW_OK && report.committed == 976 && report.refused == 3);
+    WANT(bw_seat_salvage(&seat, other, good->len, &report) == BW_OK && report.committed == 977 && report.refused == 3 && report.parents == 976);
+    WANT(bw_seat_finish(&seat, found, BLOB_LEN, &used) == BW_OK && memcmp(found, blob, BLOB_LEN) == 0);
+    good->text[300000] ^= 1;
+    bw_free(&seat);
+    free(found), free(other);
+}
+
+/* A file with a combined encoding, of which byte ranges alone are read: the slice, put together out of them. */
+static size_t read_ranges(const holder *file, uint64_t total, uint64_t start, uint64_t len, uint8_t *slice) {
+    bw_range ranges[BW_RANGES_MAX];
+    size_t count = 0, done = 0;
+    WANT(bw_slice_ranges(total, start, len, ranges, BW_RANGES_MAX, &count) == BW_OK);
+    for (size_t k = 0; k < count; done += (size_t)ranges[k].len, k++) {
+        WANT(ranges[k].at + ranges[k].len <= file->len);
+        memcpy(slice + done, file->text + ranges[k].at, (size_t)ranges[k].len);
+    }
+    return done;
+}
+
+/* A blob is gathered from such a file by a program that knows nothing of the tree: the length that its first bytes claim, the slice of the last byte,
+ * which certifies it, and then slices of any size. */
+static void by_ranges(const uint8_t *blob, const uint8_t *root, const holder *file) {
+    static uint8_t slice[8 * GROUP_LEN], served[8 * GROUP_LEN];
+    uint64_t total = 0, at = 0, committed = 0, parents = 0, chunks = 0;
+    size_t used = 0;
+    bw_node lacking;
+    bw_handle seat = BW_EMPTY;
+    uint8_t *found = room(BLOB_LEN);
+    for (int i = 7; i >= 0; i--) total = total << 8 | file->text[i];
+    WANT(bw_store_new(&plain, root, (uint32_t)(total / BW_CHUNK_LEN + 1), &seat) == BW_OK);
+    WANT(bw_seat_settle(&seat, slice, read_ranges(file, total, UINT64_MAX, 1, slice), &at) == BW_OK);
+    for (uint64_t start = 0; start < total; start += 77777) {
+        size_t len = read_ranges(file, total, start, 77777, slice);
+        WANT(len == bw_slice_len(total, start, 77777));
+        WANT(bw_seat_commit_all(&seat, start, 77777, slice, len, &committed, &parents, &at) == BW_OK);
+        chunks += committed;
+        WANT(bw_seat_serve_slice(&seat, start, 77777, served, sizeof served, &used, &lacking) == BW_OK && used == len && memcmp(served, slice, len) == 0);
+    }
+    WANT(chunks == 977 && bw_seat_finish(&seat, found, BLOB_LEN, &used) == BW_OK && used == total && memcmp(found, blob, used) == 0);
+    bw_free(&seat);
+    free(found);
+}
+
+/* With no room, each call that writes tells how long what it would write is. */
+static void sizes(const uint8_t *blob, const uint8_t *root, const holder *good) {
+    static uint8_t out[90000];
+    uint8_t hash[BW_HASH_LEN];
+    size_t used = 7;
+    uint64_t committed = 0, parents = 0, at = 0;
+    bw_node lacking;
+    bw_handle seat = BW_EMPTY;
+    WANT(bw_encode(&plain, blob, BLOB_LEN, out, 0, &used, hash) == BW_ROOM && used == bw_encoded_len(BLOB_LEN));
+    WANT(bw_outboard(&plain, blob, BLOB_LEN, out, 100, &used, hash) == BW_ROOM && used == bw_outboard_len(BLOB_LEN));
+    WANT(bw_slice(&plain, blob, BLOB_LEN, 5000, 3000, out, 100, &used, hash) == BW_ROOM && used == bw_slice_len(BLOB_LEN, 5000, 3000));
+    WANT(bw_cut_slice(good->text, good->len, 5000, 3000, out, 100, &used) == BW_ROOM && used == bw_slice_len(BLOB_LEN, 5000, 3000));
+    WANT(bw_store_new(&plain, root, 1024, &seat) == BW_OK);
+    WANT(bw_cut_slice(good->text, good->len, UINT64_MAX, 1, out, sizeof out, &used) == BW_OK && bw_seat_settle(&seat, out, used, &at) == BW_OK);
+    WANT(bw_seat_commit_all(&seat, 0, UINT64_MAX, good->text, good->len, &committed, &parents, &at) == BW_OK && committed == 977 && parents == 976);
+    WANT(bw_seat_serve_slice(&seat, 5000, 3000, out, 100, &used, &lacking) == BW_ROOM && used == bw_slice_len(BLOB_LEN, 5000, 3000));
+    WANT(bw_seat_finish(&seat, out, sizeof out, &used) == BW_ROOM && used == BLOB_LEN);
+    bw_free(&seat);
+    static const bw_status memory[] = {BW_TEXT_MEMORY, BW_STORE_MEMORY, BW_SPLIT_MEMORY, BW_SERVE_MEMORY, BW_MEMORY};
+    for (bw_status status = 0, found = 0; status < 2000; status++) {
+        uint32_t is = 0;
+        for (size_t k = 0; k < sizeof memory / sizeof *memory; k++) is |= memory[k] == status;
+        WANT(bw_is_memory(status) == is);
+        found += is;
+        WANT(status != 1999 || found == 5);
+    }
+    WANT(bw_version() == BW_VERSION);
+}
+
 int main(void) {
     uint8_t root[BW_HASH_LEN];
     uint8_t *blob = room(BLOB_LEN), *found = room(BLOB_LEN);
@@ -426,7 +800,15 @@ int main(void) {
     hashes(blob, BLOB_LEN, root);
     texts(blob, root, &holders[0]);
     feeds(blob, root, &holders[0]);
+    pouring(blob, root, &holders[0]);
+    decoding(blob, root, &holders[0]);
+    ranges(&holders[0]);
+    by_ranges(blob, root, &holders[0]);
+    salvaging(blob, root, &holders[0]);
+    sizes(blob, root, &holders[0]);
     joining(root, &holders[0]);
+    in_order(root, &holders[0]);
+    storing(blob, root, &holders[0]);
 
     /* Two are damaged: one in 40 bytes all over it, and one in its second half. */
     for (size_t i = 1; i <= 40; i++) holders[1].text[holders[1].len / 41 * i] ^= 4;

@@ -19,6 +19,7 @@ import definitions as by
 
 LENGTHS = (0, 1, 63, 64, 65, 1023, 1024, 1025, 2048, 2049, 3072, 4097, 5000, 9000)
 PLACES = (0, 1, 1023, 1024, 2047, 3000, 8191, 2**63, 2**64 - 1)
+u64_pair = ctypes.c_uint64 * 2
 KEY = b"whats the Elvish word for friend"
 
 calls = c.Library(str(ROOT / "out" / "libberylwool.so")).calls
@@ -71,6 +72,77 @@ def fed(mode, hashed, start, count, text):
     return status, at.value
 
 
+def poured(mode, hashed, start, count, text, rng):
+    """The status and the place of a check of the text in pieces of any size, and what it hands out."""
+    feed, at, done, given = c.Handle(), c.u64(), 0, b""
+    assert calls.bw_feed_slice(mode, hashed, start, count, feed) == 0
+    while True:
+        part = text[done : done + rng.choice((1, 8, 64, 1000, 1088, 5000, 20000))]
+        out, taken, filled = ctypes.create_string_buffer(b"\1" * (len(part) + 1), len(part) + 1), c.size(), c.size()
+        status = calls.bw_feed_take_many(feed, part, len(part), out, len(part), taken, filled, at)
+        assert out.raw[filled.value :] == bytes(len(part) - filled.value) + b"\1", "only what is verified is written"
+        given += out.raw[: filled.value]
+        if status:
+            break
+        done += taken.value
+        if taken.value == 0:  # the next node has more, or there is none
+            out, size = ctypes.create_string_buffer(2048), c.size()
+            assert calls.bw_feed_wants(feed, size) == 0
+            part = text[done : done + size.value]
+            if not size.value or len(part) < size.value:
+                status = calls.bw_feed_finish(feed, text[done:], len(text) - done, at)
+                break
+            status = calls.bw_feed_take_many(feed, part, len(part), out, 2048, taken, filled, at)
+            given += out.raw[: filled.value]
+            if status:
+                break
+            done += taken.value
+    calls.bw_free(feed)
+    return status, at.value, given
+
+
+def decoded(mode, hashed, start, count, text, wanted, blob):
+    """Holds what a text is decoded to to the blob, or to the fault that it has."""
+    room, used, total, at = 9000, c.size(7), c.u64(7), c.u64()
+    out = ctypes.create_string_buffer(b"\1" * room, room)
+    status = calls.bw_decode(mode, hashed, start, count, text, len(text), out, room, used, total, at)
+    claimed = int.from_bytes(text[:8], "little") if len(text) >= 8 else 0
+    asked = max(min(claimed, start + count) - start, 0)
+    if asked > room:
+        assert (status, used.value, total.value, out.raw) == (1201, asked, 7, b"\1" * room)
+    elif wanted[0]:
+        assert (status, at.value, used.value, total.value, out.raw) == (*wanted, 7, 7, b"\1" * room)
+    else:
+        last = max(claimed, 1) - 1
+        end = max(min(start + max(count, 1), claimed), min(start, last) + 1)
+        certified = claimed if (end - 1) // 1024 == last // 1024 else 2**64 - 1
+        assert (status, used.value, total.value) == (0, asked, certified) and out.raw == blob[start : start + asked] + b"\1" * (room - asked)
+
+
+def stored(modes, root, hashed, asked, text, wanted, blob, tail):
+    """Holds what a store takes of a text, and then serves, to the text, or to the fault that it has."""
+    seat, committed, parents, at, used = c.Handle(), c.u64(7), c.u64(7), c.u64(), c.size()
+    assert calls.bw_store_new(modes[1], hashed, max(-(-len(blob) // 1024), 1), seat) == 0
+    assert calls.bw_seat_settle(seat, tail, len(tail), at) == 0
+    at.value = 0
+    status = calls.bw_seat_commit_all(seat, *asked, text, len(text), committed, parents, at)
+    out = ctypes.create_string_buffer(len(text) + 1)
+    served = calls.bw_seat_serve_slice(seat, *asked, out, len(text), used, c.Node())
+    if wanted[0]:
+        assert (status, at.value, committed.value, parents.value, served) == (*wanted, 7, 7, 809)
+    elif int.from_bytes(text[:8], "little") != len(blob):
+        assert (status, at.value, committed.value, parents.value, served) == (807, 0, 7, 7, 809)
+    else:
+        assert (status, served, out.raw[: used.value]) == (0, 0, text), "what was stored is served"
+        last = max(len(blob), 1) - 1
+        first = min(asked[0], last) // 1024
+        after = (max(min(asked[0] + max(asked[1], 1), len(blob)), min(asked[0], last) + 1) - 1) // 1024 + 1
+        assert committed.value == after - first
+        assert 64 * parents.value == len(text) - 8 - len(blob[1024 * first : 1024 * after])
+        assert calls.bw_seat_commit_all(seat, *asked, text, len(text), committed, parents, at) == 0 and committed.value == parents.value == 0
+    calls.bw_free(seat)
+
+
 def written(modes, blob, start, count):
     """The three texts of a blob, which the library has to write alike."""
     mode, ours = modes
@@ -78,13 +150,18 @@ def written(modes, blob, start, count):
     root, hashed, ours = mode.hash(blob), c.hash_(), ctypes.byref(ours)
     for call, words, text in ((calls.bw_encode, (), texts[0]), (calls.bw_outboard, (), texts[1]), (calls.bw_slice, (c.u64(start), c.u64(count)), texts[2])):
         assert wrote(call, ours, blob, c.size(len(blob)), *words, (hashed,), room=len(text)) == (0, text) and bytes(hashed) == root
-        assert wrote(call, ours, blob, c.size(len(blob)), *words, (hashed,), room=len(text) - 1)[0] == 1201
+        out, used = ctypes.create_string_buffer(len(text)), c.size()
+        assert call(ours, blob, c.size(len(blob)), *words, out, c.size(len(text) - 1), ctypes.byref(used), hashed) == 1201 and used.value == len(text)
+    assert calls.bw_slice_len(len(blob), start, count) == len(texts[2])
+    ranges, found = (u64_pair * 55)(), c.size()
+    assert calls.bw_slice_ranges(c.u64(len(blob)), c.u64(start), c.u64(count), ranges, c.size(55), ctypes.byref(found)) == 0
+    assert b"".join(texts[0][at : at + size] for at, size in ranges[: found.value]) == texts[2]
     return root, texts
 
 
 def main(count):
     rng, refused = random.Random(1), 0
-    for call in (calls.bw_outboard, calls.bw_slice, calls.bw_check_combined, calls.bw_check_outboard):
+    for call in (calls.bw_outboard, calls.bw_slice, calls.bw_slice_ranges, calls.bw_check_combined, calls.bw_check_outboard):
         call.restype, call.argtypes = c.u32, None
     calls.bw_encode.argtypes = calls.bw_cut_slice.argtypes = calls.bw_check_slice.argtypes = None
     blobs = [rng.randbytes(length) for length in LENGTHS]
@@ -113,6 +190,14 @@ def main(count):
             status, at = fed(modes[1], hashed, *((0, 2**64 - 1) if form == 0 else (start, length)), text)
             if (status, at) != wanted:
                 sys.exit(f"c_fuzz.py: text {number}: the library answers {status} at {at} in pieces, the definitions {wanted}")
+            asked = (0, 2**64 - 1) if form == 0 else (start, length)
+            decoded(modes[1], hashed, *asked, text, wanted, blob)
+            status, at, given = poured(modes[1], hashed, *asked, text, rng)
+            if (status, at) != wanted:
+                sys.exit(f"c_fuzz.py: text {number}: the library answers {status} at {at} where it is poured in, the definitions {wanted}")
+            stored(modes, root, hashed, asked, text, wanted, blob, by.slice_text(modes[0], blob, 2**64 - 1, 1))
+            first = min(asked[0], max(len(blob), 1) - 1) // 1024 * 1024
+            assert blob[first:].startswith(given), number
         refused += status != 0
     print(f"{count} texts, {refused} of them refused: the C library and the definitions agree")
 

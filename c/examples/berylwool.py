@@ -47,18 +47,20 @@ FUNCTIONS = {
     "bw_encode": (u32, mode, data, size, data, size, length, hash_),
     "bw_cut_slice": (u32, data, size, u64, u64, data, size, length),
     "bw_check_slice": (u32, mode, hash_, u64, u64, data, size, place),
+    "bw_decode": (u32, mode, hash_, u64, u64, data, size, data, size, length, place, place),
+    "bw_slice_len": (u64, u64, u64, u64),
     "bw_feed_slice": (u32, mode, hash_, u64, u64, handle),
     "bw_feed_combined": (u32, mode, hash_, handle),
     "bw_feed_wants": (u32, handle, length),
     "bw_feed_take": (u32, handle, data, size, place),
+    "bw_feed_take_many": (u32, handle, data, size, data, size, length, length, place),
     "bw_feed_finish": (u32, handle, data, size, place),
     "bw_store_new": (u32, mode, hash_, u32, handle),
     "bw_seat_split": (u32, handle, handle),
     "bw_seat_join": (u32, handle, handle),
     "bw_seat_take": (u32, handle, u32, u64, place),
     "bw_seat_give": (u32, handle, u32, u64, place),
-    "bw_seat_commit": (u32, handle, u32, u64, u64, data, size, place, place),
-    "bw_seat_commit_parents": (u32, handle, u32, u64, u64, data, size, place, place),
+    "bw_seat_commit_all": (u32, handle, u64, u64, data, size, place, place, place),
     "bw_seat_settle": (u32, handle, data, size, place),
     "bw_seat_length": (u32, handle, place),
     "bw_seat_read": (u32, handle, u64, data, size, place),
@@ -117,6 +119,13 @@ class Library:
         must(self.calls.bw_check_slice(self.plain, hash_(*root), start, count, text, len(text), at), at)
 
 
+    def decode(self, root: bytes, start: int, count: int, text: bytes) -> bytes:
+        """The blob's bytes of the range, once the text is accepted as that slice."""
+        out, used, total, at = ctypes.create_string_buffer(max(len(text), 1)), size(), u64(), u64()
+        must(self.calls.bw_decode(self.plain, hash_(*root), start, count, text, len(text), out, len(text), used, total, at), at)
+        return out.raw[: used.value]
+
+
 class Feed:
     """A check of a text that comes in pieces, as a slice or, with no `count`, as the combined encoding: one thread's at a time."""
 
@@ -140,6 +149,12 @@ class Feed:
         """Takes the next node. One that is refused changes nothing."""
         at = u64()
         must(self.calls.bw_feed_take(self.handle, node, len(node), at), at)
+
+    def take_many(self, text: bytes) -> "tuple[bytes, bytes]":
+        """Takes the whole nodes that the text begins with. Answers the blob's bytes among them, and what is left of the text."""
+        out, taken, filled, at = ctypes.create_string_buffer(max(len(text), 1)), size(), size(), u64()
+        must(self.calls.bw_feed_take_many(self.handle, text, len(text), out, len(text), taken, filled, at), at)
+        return out.raw[: filled.value], text[taken.value :]
 
     def finish(self, rest: bytes = b"") -> None:
         """What is said of the whole text, where `rest` ends it."""
@@ -191,15 +206,14 @@ class Seat:
     def gather(self, group: int, encodings: "list[bytes]") -> int:
         """Stores what it can of a group, chunks and parents, and answers the mask of the chunks."""
         calls, start = self.library.calls, group * GROUP_LEN
-        left, committed, stored, at, done = u64(), u64(), u64(), u64(), 0
+        left, committed, stored, at = u64(), u64(), u64(), u64()
         must(calls.bw_seat_take(self.handle, group, 2**64 - 1, left))
         for encoding in encodings:
             text = self.library.cut_slice(encoding, start, GROUP_LEN)
-            if calls.bw_seat_commit(self.handle, group, start, GROUP_LEN, text, len(text), committed, at) == 0:
-                must(calls.bw_seat_commit_parents(self.handle, group, start, GROUP_LEN, text, len(text), stored, at), at)
-                done |= committed.value
-        must(calls.bw_seat_give(self.handle, group, left.value & ~done, at))
-        return done
+            if calls.bw_seat_commit_all(self.handle, start, GROUP_LEN, text, len(text), committed, stored, at) == 0:
+                return left.value
+        must(calls.bw_seat_give(self.handle, group, left.value, at))
+        return 0
 
     def read(self, start: int, count: int) -> bytes:
         out, missing = ctypes.create_string_buffer(max(count, 1)), u64()
@@ -244,6 +258,13 @@ def main(path: str, mirror: str) -> None:
     want(status_of(library.check_slice, root, 70_000, 10, piece) == 0, "a slice is accepted")
     want(status_of(library.check_slice, root, 70_000, 10, piece[:-1] + b"?") == 502, "a damaged slice is refused")
 
+    want(library.decode(root, 70_000, 10, piece) == blob[70_000:70_010], "a slice is decoded")
+
+    feed, got, rest = Feed(library, root), b"", b""
+    for k in range(0, len(text), 7777):
+        part, rest = feed.take_many(rest + text[k : k + 7777])
+        got += part
+    want(got == blob and feed.wants() == 0 and status_of(feed.finish, rest) == 0, "a text that comes in pieces is decoded")
     feed = Feed(library, root, 70_000, 10)
     feed.check(io.BytesIO(piece))
     want(feed.wants() == 0 and status_of(feed.finish) == 0 and status_of(feed.finish, b"?") == 503, "a slice is accepted in pieces")

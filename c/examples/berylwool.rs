@@ -39,8 +39,8 @@ unsafe extern "C" {
     fn bw_seat_split(seat: &mut Handle, other: &mut Handle) -> u32;
     fn bw_seat_join(seat: &mut Handle, other: &mut Handle) -> u32;
     fn bw_seat_take(seat: &mut Handle, group: u32, want: u64, granted: &mut u64) -> u32;
-    fn bw_seat_commit(seat: &mut Handle, group: u32, start: u64, len: u64, text: *const u8, text_len: usize, committed: &mut u64, at: &mut u64) -> u32;
-    fn bw_seat_commit_parents(seat: &mut Handle, group: u32, start: u64, len: u64, text: *const u8, text_len: usize, stored: &mut u64, at: &mut u64) -> u32;
+    fn bw_seat_give(seat: &mut Handle, group: u32, mask: u64, given: &mut u64) -> u32;
+    fn bw_seat_commit_all(seat: &mut Handle, start: u64, len: u64, text: *const u8, text_len: usize, committed: &mut u64, parents: &mut u64, at: &mut u64) -> u32;
     fn bw_seat_settle(seat: &mut Handle, text: *const u8, text_len: usize, at: &mut u64) -> u32;
     fn bw_seat_read(seat: &mut Handle, from: u64, out: *mut u8, out_len: usize, missing: &mut u64) -> u32;
     fn bw_seat_serve_slice(seat: &mut Handle, start: u64, len: u64, out: *mut u8, out_len: usize, used: &mut usize, lacking: &mut Node) -> u32;
@@ -209,14 +209,19 @@ impl Seat {
         Ok(granted)
     }
 
-    /// Stores the chunks of the group that the seat claims and the text has, and the text's parents there.
-    pub fn commit(&mut self, group: u32, start: u64, len: u64, text: &[u8]) -> Result<u64, Fault> {
-        let (mut committed, mut stored, mut at) = (0, 0, 0);
-        let status = unsafe { bw_seat_commit(&mut self.handle, group, start, len, text.as_ptr(), text.len(), &mut committed, &mut at) };
+    /// Stores all that the text has as this slice, so that it can be served: how many chunks and parents.
+    pub fn commit(&mut self, start: u64, len: u64, text: &[u8]) -> Result<(u64, u64), Fault> {
+        let (mut committed, mut parents, mut at) = (0, 0, 0);
+        let status = unsafe { bw_seat_commit_all(&mut self.handle, start, len, text.as_ptr(), text.len(), &mut committed, &mut parents, &mut at) };
         told(status, at)?;
-        let status = unsafe { bw_seat_commit_parents(&mut self.handle, group, start, len, text.as_ptr(), text.len(), &mut stored, &mut at) };
-        told(status, at)?;
-        Ok(committed)
+        Ok((committed, parents))
+    }
+
+    /// Ends the seat's claims among the mask.
+    pub fn give(&mut self, group: u32, mask: u64) -> Result<u64, Fault> {
+        let mut given = 0;
+        told(unsafe { bw_seat_give(&mut self.handle, group, mask, &mut given) }, 0)?;
+        Ok(given)
     }
 
     pub fn settle(&mut self, text: &[u8]) -> Result<(), Fault> {
@@ -276,15 +281,11 @@ fn main() {
             let texts = [&bad, &text];
             scope.spawn(move || {
                 for group in 0..16 {
-                    let mut left = seat.take(group, u64::MAX).unwrap();
-                    for text in texts {
-                        if left == 0 {
-                            break;
-                        }
-                        let start = u64::from(group) * 65_536;
-                        if let Ok(committed) = seat.commit(group, start, 65_536, &cut_slice(text, start, 65_536).unwrap()) {
-                            left &= !committed;
-                        }
+                    let left = seat.take(group, u64::MAX).unwrap();
+                    let start = u64::from(group) * 65_536;
+                    let stored = left == 0 || texts.iter().any(|text| seat.commit(start, 65_536, &cut_slice(text, start, 65_536).unwrap()).is_ok());
+                    if !stored {
+                        seat.give(group, left).unwrap();
                     }
                 }
                 seat

@@ -68,9 +68,7 @@ static void *work(void *arg) {
             const copy *from = &it->copies[(it->number + k) % it->copy_count];
             uint64_t committed = 0, parents = 0;
             if (bw_cut_slice(from->text, from->len, start, GROUP_LEN, slice, slice_room, &used) != BW_OK) continue;
-            if (bw_seat_commit(&it->seat, group, start, GROUP_LEN, slice, used, &committed, &at) != BW_OK) continue;
-            must("parents", bw_seat_commit_parents(&it->seat, group, start, GROUP_LEN, slice, used, &parents, &at));
-            left &= ~committed;
+            if (bw_seat_commit_all(&it->seat, start, GROUP_LEN, slice, used, &committed, &parents, &at) == BW_OK) left = 0;
         }
         must("give", bw_seat_give(&it->seat, group, left, &left));
         bw_node lacking;

@@ -27,3 +27,7 @@ told_short (Some size) P short more less = short more less
 -- what is so of the check is so of the handle's
 pub has_feed : (so : Checking → Type 0) (held : Held) (was : Option Held) (check : Checking) → held ≡ Feed check → Some held ≡ was → so check → HasFeed so was
 has_feed so held was check is same it = subst (HasFeed so) same (subst (λ (h : Held). HasFeed so (Some h)) (sym is) it)
+
+-- and what is so of the handle's is so of the check
+pub feed_has : (so : Checking → Type 0) (held : Held) (was : Option Held) (check : Checking) → held ≡ Feed check → Some held ≡ was → HasFeed so was → so check
+feed_has so held was check is same it = subst (λ (h : Held). HasFeed so (Some h)) is (subst (λ (o : Option Held). HasFeed so o) (sym same) it)

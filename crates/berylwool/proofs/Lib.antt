@@ -1,5 +1,8 @@
+pub mod Bytes
+pub mod EachGroup
 pub mod Feeds
 pub mod HandleValues
+pub mod Parts
 pub mod Rounds
 pub mod SeatCalls
 pub mod Stores

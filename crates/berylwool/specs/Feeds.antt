@@ -3,7 +3,7 @@ use Rattle.std.specs.Prelude.{◌≡◌, ℕ, ◌<◌, List, length, IfSome, Opt
 use Rattle.bao_check.specs.declared.checking.Checking.{Checking}
 use Rattle.bao_check.specs.declared.fault.CheckFault.{CheckFault}
 use Rattle.bao_check.specs.Accepted.{slice_nodes}
-use Rattle.bao_check.specs.Checking.{HasTakenAs, IsNodeFault, wanted}
+use Rattle.bao_check.specs.Checking.{HasDecodedAs, HasTakenAs, IsNodeFault, wanted}
 use Rattle.bao_check.specs.Waiting.{CheckTask}
 use Rattle.berylwool.specs.declared.held.Held.{Held}
 use Rattle.berylwool.specs.Handles.{HasFeed}
@@ -12,6 +12,10 @@ use Rattle.berylwool.specs.Status.{IsRefused, IsStatusOf}
 -- the handle checks an encoding as that, and has taken these bytes of it, all of them good
 abbrev pub HasFed : Option Held → CheckTask → List ℕ → Type 0
 HasFed held task taken = HasFeed (λ check. HasTakenAs check task taken) held
+
+-- and these bytes of the blob were among them
+abbrev pub HasDecoded : Option Held → CheckTask → List ℕ → List ℕ → Type 0
+HasDecoded held task taken blob = HasFeed (λ check. HasDecodedAs check task taken blob) held
 
 -- this is so of whatever it checks an encoding as, and has taken of it
 abbrev pub OfTaken : (CheckTask → List ℕ → Type 0) → Checking → Type 0

@@ -1,8 +1,11 @@
 pub mod Calls
+pub mod Decoding
 pub mod Feeds
 pub mod Gathering
 pub mod Handles
 pub mod Modes
 pub mod Pairs
 pub mod CNodes
+pub mod Ranges
 pub mod Status
+pub mod Storing

@@ -1,8 +1,8 @@
-ghost use Rattle.std.specs.Prelude.{◌≡◌, ◌≢◌, ◌↔◌, ℕ, ◌-◌, ◌^◌, ◌<◌, ◌≤◌, List, [], ◌++◌, length, None};
+ghost use Rattle.std.specs.Prelude.{◌≡◌, ◌≢◌, ◌↔◌, ℕ, ◌+◌, ◌-◌, ◌^◌, ◌<◌, ◌≤◌, List, [], ◌++◌, drop, length, replicate, take, IfSome, None};
 ghost use Rattle.bao_check.specs.declared.fault.CheckFault.TheVariants.{Short};
-ghost use Rattle.bao_check.specs.Checking.{HasTakenAs, wanted};
+ghost use Rattle.bao_check.specs.Checking.{HasDecodedAs, HasTakenAs, wanted};
 ghost use Rattle.bao_check.specs.Waiting.{CheckTask, IsAcceptedAs, IsFaultAs};
-ghost use Rattle.berylwool.specs.Feeds.{HasFed, IsBelowNode, IsNextNode, IsNodeRefused, IsTextRefused, OfTaken, size_told};
+ghost use Rattle.berylwool.specs.Feeds.{HasDecoded, HasFed, IsBelowNode, IsNextNode, IsNodeRefused, IsTextRefused, OfTaken, size_told};
 ghost use Rattle.berylwool.specs.Handles.{HasFeed};
 ghost use Rattle.berylwool.specs.Modes.{mode_of};
 
@@ -10,7 +10,7 @@ use crate::checking::told;
 use crate::handle::{BwHandle, put, take, with_held};
 use crate::held::Held;
 use crate::mode::BwMode;
-use crate::status::{NO_MEMORY, OTHER_SIZE};
+use crate::status::{NO_MEMORY, OTHER_SIZE, ROOM};
 use b3tree::Hash;
 use bao_check::Checking;
 use std::alloc::Global;
@@ -29,6 +29,7 @@ pub extern "C" fn bw_feed_slice(
     feed: &mut BwHandle,
 ) -> u32
     ensures made { result ≡ 0 → HasFed feed.new.held (record { mode = mode_of mode.now; root = root.now; start = start; len = len }) [] }
+    ensures decoded { result ≡ 0 → HasDecoded feed.new.held (record { mode = mode_of mode.now; root = root.now; start = start; len = len }) [] [] }
     ensures status { result ≢ 0 → result ≡ 1203 }
     ensures empty { result ≢ 0 → feed.new.held ≡ None }
 {
@@ -52,6 +53,7 @@ pub extern "C" fn bw_feed_combined(
     feed: &mut BwHandle,
 ) -> u32
     ensures made { result ≡ 0 → HasFed feed.new.held (record { mode = mode_of mode.now; root = root.now; start = 0; len = 2 ^ 64 - 1 }) [] }
+    ensures decoded { result ≡ 0 → HasDecoded feed.new.held (record { mode = mode_of mode.now; root = root.now; start = 0; len = 2 ^ 64 - 1 }) [] [] }
     ensures status { result ≢ 0 → result ≡ 1203 }
     ensures empty { result ≢ 0 → feed.new.held ≡ None }
 {
@@ -123,6 +125,89 @@ pub extern "C" fn bw_feed_take(alloc: Global, feed: &mut BwHandle, node: &[u8], 
     ensures same { result ≢ 0 → feed.new.held ≡ feed.old.held }
 {
     with_held!(feed, alloc, Feed, |check| taken(check, node, at))
+}
+
+// Takes many nodes, as `bw_feed_take_many` does.
+fn taken_many(
+    check: &mut Checking,
+    bytes: &[u8],
+    out: &mut [u8],
+    taken: &mut usize,
+    filled: &mut usize,
+    at: &mut u64,
+) -> u32
+    requires { length bytes.now ≤ length out.old }
+    ensures taken { result ≡ 0 → (task : CheckTask) (had : List ℕ) → HasTakenAs check.old task had → HasTakenAs check.new task (had ++ take taken.new bytes.now) }
+    ensures decoded { result ≡ 0 → (task : CheckTask) (had blob : List ℕ) → HasDecodedAs check.old task had blob
+        → HasDecodedAs check.new task (had ++ take taken.new bytes.now) (blob ++ take filled.new out.new) }
+    ensures most { result ≡ 0 → IfSome (wanted check.new) (λ size. length bytes.now < taken.new + size) }
+    ensures bound { result ≡ 0 → (taken.new ≤ length bytes.now) × (filled.new ≤ taken.new) }
+    ensures rest { result ≡ 0 → drop filled.new out.new ≡ replicate (length bytes.now - filled.new) 0 ++ drop (length bytes.now) out.old }
+    ensures fault { result ≢ 0 → OfTaken (λ task had. IsNodeRefused task (had ++ bytes.now) result at.new) check.old }
+    ensures before { result ≢ 0 → (task : CheckTask) (had : List ℕ) → HasTakenAs check.old task had
+        → (used : ℕ) × (used ≤ length bytes.now) × HasTakenAs check.new task (had ++ take used bytes.now) }
+    ensures cleared { result ≢ 0 → out.new ≡ replicate (length bytes.now) 0 ++ drop (length bytes.now) out.old }
+    ensures low { result < 506 }
+{
+    let len = bytes.len();
+    match check.decode(bytes, &mut out[..len]) {
+        Ok(it) => {
+            *taken = it.taken;
+            *filled = it.filled;
+            out[it.filled..len].fill(0);
+            0
+        }
+        Err(fault) => {
+            out[..len].fill(0);
+            told(&fault, at)
+        }
+    }
+}
+
+/// Takes as many whole nodes as `bytes` begins with, verifies them, many at once, and puts the bytes of the chunks among them, in their order,
+/// to the start of `out`, which has room for as many bytes as are given. How many bytes were taken goes to `taken`, and how many of `out` are
+/// filled to `filled`: bytes of the blob. What isn't taken is less than the node that comes next, or nothing is wanted. Between `filled` and the
+/// number of bytes given `out` is 0.
+///
+/// 1201 exactly where `out` has fewer bytes than `bytes`, asked before all else, and 1202 where the handle has no check in pieces: nothing is
+/// changed then. 502 where a node hasn't the value that its place asks for, with the place in `at`: that is the first fault of every encoding
+/// that begins with what was taken and these bytes. 504 where 2^64 bytes or more would have been taken. Some nodes at the front of `bytes` have been
+/// taken then, and as many bytes of `out` as were given are 0.
+#[unsafe(no_mangle)]
+pub extern "C" fn bw_feed_take_many(
+    alloc: Global,
+    feed: &mut BwHandle,
+    bytes: &[u8],
+    out: &mut [u8],
+    taken: &mut usize,
+    filled: &mut usize,
+    at: &mut u64,
+) -> u32
+    ensures taken { result ≡ 0 → (task : CheckTask) (had : List ℕ) → HasFed feed.old.held task had → HasFed feed.new.held task (had ++ take taken.new bytes.now) }
+    ensures decoded { result ≡ 0 → (task : CheckTask) (had blob : List ℕ) → HasDecoded feed.old.held task had blob
+        → HasDecoded feed.new.held task (had ++ take taken.new bytes.now) (blob ++ take filled.new out.new) }
+    ensures most { result ≡ 0 → HasFeed (λ check. IfSome (wanted check) (λ size. length bytes.now < taken.new + size)) feed.new.held }
+    ensures bound { result ≡ 0 → (taken.new ≤ length bytes.now) × (filled.new ≤ taken.new) }
+    ensures rest { result ≡ 0 → drop filled.new out.new ≡ replicate (length bytes.now - filled.new) 0 ++ drop (length bytes.now) out.old }
+    ensures fault { result ≢ 0 → result < 506 → HasFeed (OfTaken (λ task had. IsNodeRefused task (had ++ bytes.now) result at.new)) feed.old.held }
+    ensures before { result ≢ 0 → result < 506 → (task : CheckTask) (had : List ℕ) → HasFed feed.old.held task had
+        → (used : ℕ) × (used ≤ length bytes.now) × HasFed feed.new.held task (had ++ take used bytes.now) }
+    ensures cleared { result ≢ 0 → result < 506 → out.new ≡ replicate (length bytes.now) 0 ++ drop (length bytes.now) out.old }
+    ensures room { result ≡ 1201 ↔ length out.old < length bytes.now }
+    ensures no_feed { result ≡ 1202 → (¬ HasFeed (λ _. Unit) feed.old.held) }
+    ensures status { 505 < result → result ≢ 1202 → result ≡ 1201 }
+    ensures same { 505 < result → feed.new.held ≡ feed.old.held }
+    ensures unchanged { 505 < result → out.new ≡ out.old }
+{
+    if out.len() < bytes.len() {
+        return ROOM;
+    }
+    with_held!(
+        feed,
+        alloc,
+        Feed,
+        |check| taken_many(check, bytes, out, taken, filled, at)
+    )
 }
 
 // Ends an encoding, as `bw_feed_finish` does.

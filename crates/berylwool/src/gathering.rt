@@ -5,7 +5,7 @@ ghost use Rattle.berylwool.specs.Handles.{HasSeat, SeatDid};
 
 use crate::handle::{BwHandle, with_held};
 use crews::Shared;
-use gather::{Encoded, Place, Report, work};
+use gather::{Encoded, Form, Place, Report, salvage, work};
 use std::alloc::Global;
 use store_shared::{Assembly, Seat};
 
@@ -115,6 +115,57 @@ pub extern "C" fn bw_gather(
             text,
             report,
         );
+        0
+    })
+}
+
+// A round chunk by chunk, as `bw_seat_salvage` does it.
+fn salvaged(
+    alloc: Global,
+    store: &Assembly,
+    seat: &mut Seat,
+    text: &[u8],
+    report: &BwReport,
+) -> BwReport
+    requires { IsSeatOf store.now seat.old }
+    ensures of { IsSeatOf store.now seat.new }
+    ensures gathers { GathersOn text.now (report_of report.now) (report_of result) seat.old seat.new }
+{
+    let mut sums = counts(report);
+    let mut holders = [Encoded::new(text)];
+    // A law, so that the proof has what it says: nothing runs.
+    let mode = store.mode();
+    mode.is_keyed();
+    salvage(
+        alloc,
+        &Form::Slices,
+        &Shared(store),
+        seat,
+        &mut holders,
+        &mut sums,
+    );
+    shown(&sums)
+}
+
+/// A round with one encoding, chunk by chunk: as `bw_gather` does it by one worker, but each chunk is claimed, cut out, checked and committed
+/// by itself, so that one that is damaged costs no other. For what is left where each encoding that there is is damaged in the same group.
+///
+/// 1202 exactly where the handle has no seat.
+#[unsafe(no_mangle)]
+pub extern "C" fn bw_seat_salvage(
+    alloc: Global,
+    seat: &mut BwHandle,
+    text: &[u8],
+    report: &mut BwReport,
+) -> u32
+    ensures gathers { result ≡ 0 → SeatDid (λ _ old new. GathersOn text.now (report_of report.old) (report_of report.new) old new) seat.old.held seat.new.held }
+    ensures has { result ≡ 0 ↔ HasSeat (λ _ _. Unit) seat.old.held }
+    ensures status { result ≢ 0 → result ≡ 1202 }
+    ensures same { result ≢ 0 → seat.new.held ≡ seat.old.held }
+    ensures no_report { result ≢ 0 → report.new ≡ report.old }
+{
+    with_held!(seat, alloc, Seat, |it| {
+        *report = salvaged(alloc, &it.store, &mut it.seat, text, report);
         0
     })
 }

@@ -1,19 +1,34 @@
 // That the contracts of the calls without a store determine what they answer: each function here asks one of them twice,
 // of the same, and what it ensures is that both answers are the same. Nobody calls them.
 
-ghost use Rattle.std.specs.Prelude.{◌≡◌, ◌↔◌, ◌⊎◌, ℕ, List};
+ghost use Rattle.std.specs.Prelude.{◌≡◌, ◌≢◌, ◌↔◌, ◌⊎◌, ℕ, List};
 ghost use Rattle.b3tree.specs.declared.mode.Mode.{Mode};
 ghost use Rattle.berylwool.specs.Handles.{HoldsIn};
 
+use crate::about::{bw_is_memory, bw_version};
 use crate::checking::{bw_check_combined, bw_check_outboard, bw_check_slice};
+use crate::decoding::bw_decode;
 use crate::handle::BwHandle;
 use crate::hasher::{bw_hasher_finish, bw_hasher_update};
 use crate::hashing::{bw_derive_key, bw_hash, bw_xof};
 use crate::mode::BwMode;
+use crate::sizes::bw_slice_len;
 use crate::writing::{
     bw_cut_slice, bw_encode, bw_encoded_len, bw_outboard, bw_outboard_len, bw_slice,
 };
 use std::alloc::Global;
+
+pub fn version_determined() -> (u32, u32)
+    ensures { result.0 ≡ result.1 }
+{
+    (bw_version(), bw_version())
+}
+
+pub fn is_memory_determined(status: u32) -> (u32, u32)
+    ensures { result.0 ≡ result.1 }
+{
+    (bw_is_memory(status), bw_is_memory(status))
+}
 
 pub fn hash_determined(mode: &BwMode, bytes: &[u8], ours: &mut [u8; 32], theirs: &mut [u8; 32])
     ensures { ours.new ≡ theirs.new }
@@ -65,6 +80,15 @@ pub fn outboard_len_determined(len: u64) -> (u64, u64)
     ensures { result.0 ≡ result.1 }
 {
     (bw_outboard_len(len), bw_outboard_len(len))
+}
+
+pub fn slice_len_determined(total: u64, start: u64, len: u64) -> (u64, u64)
+    ensures { result.0 ≡ result.1 }
+{
+    (
+        bw_slice_len(total, start, len),
+        bw_slice_len(total, start, len),
+    )
 }
 
 // Of an encoding that is written: one call may be out of memory (401).
@@ -198,6 +222,37 @@ pub fn check_outboard_determined(
 {
     let one = bw_check_outboard(alloc, mode, root, text, at);
     let other = bw_check_outboard(alloc, mode, root, text, place);
+    (one, other)
+}
+
+// What an encoding is decoded to. That its first fault is one is a law of the checks.
+pub fn decode_determined(
+    alloc: Global,
+    mode: &BwMode,
+    root: &[u8; 32],
+    start: u64,
+    len: u64,
+    text: &[u8],
+    ours: &mut [u8],
+    theirs: &mut [u8],
+    used: &mut usize,
+    also: &mut usize,
+    total: &mut u64,
+    its: &mut u64,
+    at: &mut u64,
+    place: &mut u64,
+) -> (u32, u32)
+    requires { ours.old ≡ theirs.old }
+    ensures accepted { result.0 ≡ 0 ↔ result.1 ≡ 0 }
+    ensures room { result.0 ≡ 1201 ↔ result.1 ≡ 1201 }
+    ensures bytes { ours.new ≡ theirs.new }
+    ensures used { ((result.0 ≡ 0) ⊎ (result.0 ≡ 1201)) → used.new ≡ also.new }
+    ensures total { result.0 ≡ 0 → total.new ≡ its.new }
+{
+    let one = bw_decode(alloc, mode, root, start, len, text, ours, used, total, at);
+    let other = bw_decode(
+        alloc, mode, root, start, len, text, theirs, also, its, place,
+    );
     (one, other)
 }
 

@@ -4,8 +4,10 @@
 //! Nothing checks what C passes: it has to meet what the header says of each parameter.
 #![tactic(auto)]
 
+mod about;
 mod auditing;
 mod checking;
+mod decoding;
 mod feeding;
 mod gathering;
 mod handle;
@@ -16,8 +18,11 @@ mod joining;
 mod laws;
 mod loose;
 mod mode;
+mod ranges;
 mod room;
 mod seats;
 mod serving;
+mod sizes;
 mod status;
+mod storing;
 mod writing;

@@ -377,12 +377,14 @@ fn finished(store: &Assembly, seat: &mut Seat, out: &mut [u8], used: &mut usize)
     ensures of { IsSeatOf store.now seat.new }
     ensures root { result ≡ 0 → HasStoresRoot (fixed_of store.now) (take used.new out.new) }
     ensures within { result ≡ 0 → used.new ≤ length out.new }
+    ensures room { result ≡ 1201 → Called (Length (Some used.new)) seat.old.view seat.new.view × (length out.old < used.new) }
     ensures status { result ≢ 0 → result ≢ 901 → result ≢ 902 → result ≡ 1201 }
 {
     let Some(length) = store.length(seat) else {
         return UNFINISHED;
     };
     if length > out.len() as u64 {
+        *used = length as usize;
         return ROOM;
     }
     let length = length as usize;
@@ -398,8 +400,8 @@ fn finished(store: &Assembly, seat: &mut Seat, out: &mut [u8], used: &mut usize)
 
 /// Puts the whole blob to the start of `out`, once the hash of its bytes is the root, and how long it is to `used`.
 ///
-/// 901 where no length is recorded or a byte isn't held, 1201 where `out` has no room, 902 where the hash isn't the root, and 1202 where the
-/// handle has no seat. The seat can go on.
+/// 901 where no length is recorded or a byte isn't held, 1201 where `out` has no room, with the blob's length in `used`, 902 where the hash isn't
+/// the root, and 1202 where the handle has no seat. The seat can go on.
 #[unsafe(no_mangle)]
 pub extern "C" fn bw_seat_finish(
     alloc: Global,
@@ -409,6 +411,7 @@ pub extern "C" fn bw_seat_finish(
 ) -> u32
     ensures root { result ≡ 0 → SeatDid (λ store _ _. HasStoresRoot (fixed_of store) (take used.new out.new)) seat.old.held seat.new.held }
     ensures within { result ≡ 0 → used.new ≤ length out.new }
+    ensures room { result ≡ 1201 → SeatDid (λ _ old new. Called (Length (Some used.new)) old.view new.view × (length out.old < used.new)) seat.old.held seat.new.held }
     ensures no_seat { result ≡ 1202 ↔ (¬ HasSeat (λ _ _. Unit) seat.old.held) }
     ensures status { result ≢ 0 → result ≢ 901 → result ≢ 902 → result ≢ 1202 → result ≡ 1201 }
     ensures stays { HasSeat (λ _ _. Unit) seat.old.held → HasSeat (λ _ _. Unit) seat.new.held }

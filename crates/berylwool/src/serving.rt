@@ -126,7 +126,7 @@ fn served(
     ensures of { IsSeatOf store.now seat.new }
     ensures serves { result ≡ 0 → Serves start len (take used.new out.new) seat.old seat.new }
     ensures within { result ≡ 0 → used.new ≤ length out.new }
-    ensures no_room { result ≡ 1201 → (text : List ℕ) × Serves start len text seat.old seat.new × (length out.old < length text) }
+    ensures no_room { result ≡ 1201 → (text : List ℕ) × Serves start len text seat.old seat.new × (length out.old < length text) × (used.new ≡ length text) }
     ensures no_length { result ≡ 808 → Called (Serve start len NoLength) seat.old.view seat.new.view }
     ensures lacking { result ≡ 809 → Called (Serve start len (Lacking (node_of lacking.new))) seat.old.view seat.new.view }
     ensures memory { result ≡ 810 → Sees seat.old.view seat.new.view }
@@ -135,10 +135,10 @@ fn served(
 {
     match store.serve_slice(seat, start, len) {
         Ok(text) => {
+            *used = text.len();
             if !room::put(text.as_slice(), out) {
                 return ROOM;
             }
-            *used = text.len();
             0
         }
         Err(ServeFault::NoLength) => 808,
@@ -154,7 +154,8 @@ fn served(
 /// bytes of the slice's nodes. `bw_encoded_len` of the recorded length is always enough room.
 ///
 /// 808 where no length is recorded, 809 where a node isn't held, with the first such in the encoding's order in `lacking`, 810 where there is no
-/// memory, 1201 where `out` has no room, and 1202 where the handle has no seat: then `out` is unchanged.
+/// memory, 1201 where `out` has no room, with how long the encoding is in `used`, and 1202 where the handle has no seat: then `out` is
+/// unchanged.
 #[unsafe(no_mangle)]
 pub extern "C" fn bw_seat_serve_slice(
     alloc: Global,
@@ -167,7 +168,7 @@ pub extern "C" fn bw_seat_serve_slice(
 ) -> u32
     ensures serves { result ≡ 0 → SeatDid (λ _ old new. Serves start len (take used.new out.new) old new) seat.old.held seat.new.held }
     ensures within { result ≡ 0 → used.new ≤ length out.new }
-    ensures no_room { result ≡ 1201 → SeatDid (λ _ old new. (text : List ℕ) × Serves start len text old new × (length out.old < length text)) seat.old.held seat.new.held }
+    ensures no_room { result ≡ 1201 → SeatDid (λ _ old new. (text : List ℕ) × Serves start len text old new × (length out.old < length text) × (used.new ≡ length text)) seat.old.held seat.new.held }
     ensures no_length { result ≡ 808 → SeatDid (λ _ old new. Called (Serve start len NoLength) old.view new.view) seat.old.held seat.new.held }
     ensures lacking { result ≡ 809 → SeatDid (λ _ old new. Called (Serve start len (Lacking (node_of lacking.new))) old.view new.view) seat.old.held seat.new.held }
     ensures memory { result ≡ 810 → SeatDid (λ _ old new. Sees old.view new.view) seat.old.held seat.new.held }

@@ -1,10 +1,28 @@
-// The statuses that no fault of the libraries has. 0 is success everywhere.
+// Statuses: those that no fault of the libraries has, and those that calls here ask about. 0 is success everywhere.
+
+/// More than 2^64 - 1 bytes. Number 201.
+pub(crate) const TOO_LONG: u32 = 201;
+
+/// Out of memory for an encoding. Number 401.
+pub(crate) const TEXT_MEMORY: u32 = 401;
 
 /// A collision is exhibited. Number 602.
 pub(crate) const COLLISION: u32 = 602;
 
+/// Out of memory for a store. Number 801.
+pub(crate) const STORE_MEMORY: u32 = 801;
+
 /// The length is above what the store has room for. Number 805.
 pub(crate) const TOO_LARGE: u32 = 805;
+
+/// Out of memory for a seat. Number 806.
+pub(crate) const SPLIT_MEMORY: u32 = 806;
+
+/// The recorded length isn't the one that an encoding claims, or there is none. Number 807.
+pub(crate) const OTHER_LENGTH: u32 = 807;
+
+/// Out of memory for a slice. Number 810.
+pub(crate) const SERVE_MEMORY: u32 = 810;
 
 /// No length is recorded, or a byte isn't held. Number 901.
 pub(crate) const UNFINISHED: u32 = 901;

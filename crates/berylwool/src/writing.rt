@@ -1,4 +1,4 @@
-ghost use Rattle.std.specs.Prelude.{◌≡◌, ◌≢◌, ◌+◌, ◌-◌, ◌*◌, ◌^◌, ◌<◌, ◌≤◌, ◌++◌, drop, length};
+ghost use Rattle.std.specs.Prelude.{◌≡◌, ◌≢◌, ◌↔◌, ◌+◌, ◌-◌, ◌*◌, ◌^◌, ◌<◌, ◌≤◌, ◌++◌, IsTrue, drop, length, min};
 ghost use Rattle.b3tree.specs.Hashing.{hash};
 ghost use Rattle.bao_text.specs.Choice.{chunk_count};
 ghost use Rattle.bao_text.specs.Texts.{combined_text, outboard_text, slice_text};
@@ -32,26 +32,42 @@ pub extern "C" fn bw_outboard_len(len: u64) -> u64
     outboard_len(len) as u64
 }
 
+// Whether a buffer has room for an encoding of so many bytes; if not, how many they are is told.
+fn fits(size: u128, out: &[u8], used: &mut usize) -> bool
+    ensures fits { IsTrue result ↔ (size ≤ length out.now) }
+    ensures told { (¬ IsTrue result) → used.new ≡ min size (2 ^ 64 - 1) }
+{
+    if size <= out.len() as u128 {
+        return true;
+    }
+    *used = match usize::try_from(size) {
+        Ok(size) => size,
+        Err(_) => usize::MAX,
+    };
+    false
+}
+
 // Hands out an encoding, how long it is, and the hash of the bytes that it is of.
 fn handed(hash: &Hash, text: &[u8], out: &mut [u8], used: &mut usize, root: &mut [u8; 32]) -> u32
     ensures text { result ≡ 0 → out.new ≡ text.now ++ drop used.new out.old }
-    ensures used { result ≡ 0 → used.new ≡ length text.now }
+    ensures used { used.new ≡ length text.now }
     ensures root { result ≡ 0 → root.new ≡ hash.now.0 }
-    ensures room { result ≡ 1201 → length out.old < length text.now }
+    ensures room { result ≡ 1201 ↔ (length out.old < length text.now) }
     ensures status { result ≢ 0 → result ≡ 1201 }
     ensures same { result ≢ 0 → out.new ≡ out.old }
 {
+    *used = text.len();
     if !put(text, out) {
         return ROOM;
     }
-    *used = text.len();
     *root = hash.0;
     0
 }
 
 /// Writes the combined encoding of `bytes` to the start of `out`, how long it is to `used`, and the hash of `bytes` to `root`.
 ///
-/// 401 when out of memory, and 1201 where `out` has no room: then `out` is unchanged.
+/// 1201 exactly where `out` has no room, asked before all else, with how long the encoding is in `used`, and 401 when out of memory: then `out` is
+/// unchanged.
 #[unsafe(no_mangle)]
 pub extern "C" fn bw_encode(
     alloc: Global,
@@ -62,12 +78,15 @@ pub extern "C" fn bw_encode(
     root: &mut [u8; 32],
 ) -> u32
     ensures text { result ≡ 0 → out.new ≡ combined_text (mode_of mode.now) bytes.now ++ drop used.new out.old }
-    ensures used { result ≡ 0 → used.new ≡ length (combined_text (mode_of mode.now) bytes.now) }
+    ensures used { result ≢ 401 → used.new ≡ length (combined_text (mode_of mode.now) bytes.now) }
     ensures root { result ≡ 0 → root.new ≡ hash (mode_of mode.now) bytes.now }
-    ensures room { result ≡ 1201 → length out.old < length (combined_text (mode_of mode.now) bytes.now) }
+    ensures room { result ≡ 1201 ↔ (length out.old < length (combined_text (mode_of mode.now) bytes.now)) }
     ensures status { result ≢ 0 → result ≢ 1201 → result ≡ 401 }
     ensures same { result ≢ 0 → out.new ≡ out.old }
 {
+    if !fits(encoded_len(bytes.len() as u64), out, used) {
+        return ROOM;
+    }
     match combined(alloc, &mode.get(), bytes) {
         Ok((hash, text)) => handed(&hash, text.as_slice(), out, used, root),
         Err(fault) => u32::from(fault.code()),
@@ -76,7 +95,8 @@ pub extern "C" fn bw_encode(
 
 /// Writes the outboard encoding of `bytes`, as `bw_encode` writes the combined one.
 ///
-/// 401 when out of memory, and 1201 where `out` has no room: then `out` is unchanged.
+/// 1201 exactly where `out` has no room, asked before all else, with how long the encoding is in `used`, and 401 when out of memory: then `out` is
+/// unchanged.
 #[unsafe(no_mangle)]
 pub extern "C" fn bw_outboard(
     alloc: Global,
@@ -87,12 +107,15 @@ pub extern "C" fn bw_outboard(
     root: &mut [u8; 32],
 ) -> u32
     ensures text { result ≡ 0 → out.new ≡ outboard_text (mode_of mode.now) bytes.now ++ drop used.new out.old }
-    ensures used { result ≡ 0 → used.new ≡ length (outboard_text (mode_of mode.now) bytes.now) }
+    ensures used { result ≢ 401 → used.new ≡ length (outboard_text (mode_of mode.now) bytes.now) }
     ensures root { result ≡ 0 → root.new ≡ hash (mode_of mode.now) bytes.now }
-    ensures room { result ≡ 1201 → length out.old < length (outboard_text (mode_of mode.now) bytes.now) }
+    ensures room { result ≡ 1201 ↔ (length out.old < length (outboard_text (mode_of mode.now) bytes.now)) }
     ensures status { result ≢ 0 → result ≢ 1201 → result ≡ 401 }
     ensures same { result ≢ 0 → out.new ≡ out.old }
 {
+    if !fits(outboard_len(bytes.len() as u64), out, used) {
+        return ROOM;
+    }
     match outboard(alloc, &mode.get(), bytes) {
         Ok((hash, text)) => handed(&hash, text.as_slice(), out, used, root),
         Err(fault) => u32::from(fault.code()),
@@ -101,7 +124,7 @@ pub extern "C" fn bw_outboard(
 
 /// Writes the slice of `len` bytes from byte `start` on of `bytes` to the start of `out`, how long it is to `used`, and the hash of `bytes` to `root`.
 ///
-/// 401 when out of memory, and 1201 where `out` has no room: then `out` is unchanged.
+/// 401 when out of memory, and 1201 where `out` has no room, with how long the encoding is in `used`: then `out` is unchanged.
 #[unsafe(no_mangle)]
 pub extern "C" fn bw_slice(
     alloc: Global,
@@ -114,7 +137,7 @@ pub extern "C" fn bw_slice(
     root: &mut [u8; 32],
 ) -> u32
     ensures text { result ≡ 0 → out.new ≡ slice_text (mode_of mode.now) bytes.now start len ++ drop used.new out.old }
-    ensures used { result ≡ 0 → used.new ≡ length (slice_text (mode_of mode.now) bytes.now start len) }
+    ensures used { result ≢ 401 → used.new ≡ length (slice_text (mode_of mode.now) bytes.now start len) }
     ensures root { result ≡ 0 → root.new ≡ hash (mode_of mode.now) bytes.now }
     ensures room { result ≡ 1201 → length out.old < length (slice_text (mode_of mode.now) bytes.now start len) }
     ensures status { result ≢ 0 → result ≢ 1201 → result ≡ 401 }
@@ -129,7 +152,7 @@ pub extern "C" fn bw_slice(
 /// Cuts the slice of `len` bytes from byte `start` on out of the combined encoding `text`, and checks nothing: what isn't there is left
 /// out. It is written to the start of `out`, and how long it is to `used`.
 ///
-/// 401 when out of memory, and 1201 where `out` has no room: then `out` is unchanged.
+/// 401 when out of memory, and 1201 where `out` has no room, with how long the encoding is in `used`: then `out` is unchanged.
 #[unsafe(no_mangle)]
 pub extern "C" fn bw_cut_slice(
     alloc: Global,
@@ -140,17 +163,17 @@ pub extern "C" fn bw_cut_slice(
     used: &mut usize,
 ) -> u32
     ensures text { result ≡ 0 → out.new ≡ cut_text text.now start len ++ drop used.new out.old }
-    ensures used { result ≡ 0 → used.new ≡ length (cut_text text.now start len) }
+    ensures used { result ≢ 401 → used.new ≡ length (cut_text text.now start len) }
     ensures room { result ≡ 1201 → length out.old < length (cut_text text.now start len) }
     ensures status { result ≢ 0 → result ≢ 1201 → result ≡ 401 }
     ensures same { result ≢ 0 → out.new ≡ out.old }
 {
     match cut_slice(alloc, text, start, len) {
         Ok(cut) => {
+            *used = cut.len();
             if !put(cut.as_slice(), out) {
                 return ROOM;
             }
-            *used = cut.len();
             0
         }
         Err(fault) => u32::from(fault.code()),

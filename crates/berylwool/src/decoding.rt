@@ -1,0 +1,111 @@
+ghost use Rattle.std.specs.Prelude.{◌≡◌, ◌≢◌, ◌↔◌, ℕ, ◌+◌, ◌-◌, ◌^◌, ◌<◌, ◌≤◌, drop, length, slice_get, take, IfSome, IsNone, None};
+ghost use Rattle.bao_check.specs.Accepted.{IsAccepted, slice_nodes};
+ghost use Rattle.bao_text.specs.Cut.{claimed};
+ghost use Rattle.store_core.specs.Pieces.{EndsBlob, piece_of};
+ghost use Rattle.berylwool.specs.Calls.{slice_piece};
+ghost use Rattle.berylwool.specs.Decoding.{AreBytesOf, asked_size, byte_of};
+ghost use Rattle.berylwool.specs.Modes.{mode_of};
+ghost use Rattle.berylwool.specs.Status.{IsRefused};
+
+use crate::checking::told;
+use crate::mode::BwMode;
+use crate::status::ROOM;
+use b3tree::{CHUNK_LEN, Hash};
+use bao_check::{Checked, check_slice};
+use bao_text::{LENGTH_LEN, claimed};
+use std::alloc::Global;
+use store_core::put_bytes;
+
+// How many bytes of the blob are asked of an encoding: those of the range that are below the length that it claims.
+fn asked(text: &[u8], start: u64, len: u64) -> u64
+    ensures value { result ≡ asked_size text.now start len }
+    ensures end { start + result < 2 ^ 64 }
+{
+    if text.len() < LENGTH_LEN {
+        return 0;
+    }
+    claimed(text)
+        .min(start.saturating_add(len))
+        .saturating_sub(start)
+}
+
+// The bytes of the piece from byte `at` of the blob on, to the end of their chunk and at most `most`, if there are any.
+fn bytes_at<'a>(piece: &Checked<'a>, at: u64, most: usize) -> Option<&'a [u8]>
+    ensures some { IfSome result (λ bytes. (0 < length bytes.now) × (length bytes.now ≤ most)) }
+    ensures are { IfSome result (λ bytes. (i : ℕ) → i < length bytes.now → byte_of (piece_of 0 piece.now) (at + i) ≡ slice_get bytes.now i) }
+    ensures none { IsNone result → 0 < most → byte_of (piece_of 0 piece.now) at ≡ None }
+{
+    let chunk_len = CHUNK_LEN as u64;
+    let bytes = piece.chunk(at / chunk_len)?;
+    let within = (at % chunk_len) as usize;
+    let count = bytes.len().min(CHUNK_LEN).saturating_sub(within).min(most);
+    if count == 0 {
+        return None;
+    }
+    Some(&bytes[within..within + count])
+}
+
+// Fills a buffer with the bytes of the piece from byte `start` of the blob on, up to the first that it hasn't, and answers how many.
+fn copied(piece: &Checked<'_>, start: u64, out: &mut [u8]) -> usize
+    requires { start + length out.old < 2 ^ 64 }
+    ensures bytes { AreBytesOf (piece_of 0 piece.now) start (length out.old) (take result out.new) }
+    ensures rest { drop result out.new ≡ drop result out.old }
+    ensures within { result ≤ length out.old }
+    ensures size { length out.new ≡ length out.old }
+{
+    let mut filled = 0;
+    while let Some(bytes) = bytes_at(piece, start + filled as u64, out.len() - filled) {
+        put_bytes(out, filled, bytes);
+        filled += bytes.len();
+    }
+    filled
+}
+
+/// Checks `text` as the slice of `len` bytes from byte `start` on of the blob with the hash `root`, and puts the blob's bytes of that range to
+/// the start of `out`, and how many they are to `used`: those below the length that the encoding claims. `total` is that length where the
+/// encoding has the last chunk, and so certifies it, and else 2^64 - 1. It takes no memory, and writes no byte that wasn't verified.
+///
+/// 1201 exactly where `out` has no room, asked before all else, with how many bytes there would be in `used`. 501 to 503 as `bw_check_slice`, with
+/// the place in `at`. `out` is unchanged then.
+#[unsafe(no_mangle)]
+pub extern "C" fn bw_decode(
+    alloc: Global,
+    mode: &BwMode,
+    root: &[u8; 32],
+    start: u64,
+    len: u64,
+    text: &[u8],
+    out: &mut [u8],
+    used: &mut usize,
+    total: &mut u64,
+    at: &mut u64,
+) -> u32
+    ensures bytes { result ≡ 0 → AreBytesOf (slice_piece 0 text.now start len) start (asked_size text.now start len) (take used.new out.new) }
+    ensures rest { result ≡ 0 → drop used.new out.new ≡ drop used.new out.old }
+    ensures within { result ≡ 0 → used.new ≤ asked_size text.now start len }
+    ensures fits { result ≡ 0 → used.new ≤ length out.new }
+    ensures certified { result ≡ 0 → EndsBlob (slice_piece 0 text.now start len) → total.new ≡ claimed text.now }
+    ensures uncertified { result ≡ 0 → (¬ EndsBlob (slice_piece 0 text.now start len)) → total.new ≡ 2 ^ 64 - 1 }
+    ensures accepted { result ≢ 1201 → (result ≡ 0 ↔ IsAccepted (mode_of mode.now) root.now text.now (slice_nodes text.now start len)) }
+    ensures fault { result ≢ 0 → result ≢ 1201 → IsRefused (mode_of mode.now) root.now text.now (slice_nodes text.now start len) result at.new }
+    ensures room { result ≡ 1201 ↔ (length out.old < asked_size text.now start len) }
+    ensures needed { result ≡ 1201 → used.new ≡ asked_size text.now start len }
+    ensures same { result ≢ 0 → out.new ≡ out.old }
+{
+    let size = asked(text, start, len) as usize;
+    if size > out.len() {
+        *used = size;
+        return ROOM;
+    }
+    match check_slice(alloc, &mode.get(), &Hash(*root), start, len, text) {
+        Ok(piece) => {
+            *used = copied(&piece, start, &mut out[..size]);
+            *total = match piece.tail() {
+                Some(tail) => tail.length(),
+                None => u64::MAX,
+            };
+            0
+        }
+        Err(fault) => told(&fault, at),
+    }
+}

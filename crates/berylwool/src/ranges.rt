@@ -1,0 +1,115 @@
+ghost use Rattle.std.specs.Prelude.{◌≡◌, ◌≢◌, ◌↔◌, ℕ, ◌+◌, ◌-◌, ◌*◌, ◌^◌, ◌<◌, ◌≤◌, List, ◌++◌, drop, length, take, true, IfSome};
+ghost use Rattle.bao_text.specs.Cut.{claimed, cut_text};
+ghost use Rattle.bao_text.specs.Nodes.{Side, subtree_nodes, subtree_size};
+ghost use Rattle.berylwool.specs.Ranges.{HavePart, parts};
+
+use crate::status::{ROOM, TOO_LONG};
+use b3tree::{CHUNK_LEN, left_len};
+use bao_text::{Choice, LENGTH_LEN, PARENT_LEN, encoded_len, subtree_size};
+
+/// A range of bytes, as C has it: `len` of them from byte `at` on.
+#[repr(C)]
+#[derive(Clone, Copy)]
+pub struct BwRange {
+    pub at: u64,
+    pub len: u64,
+}
+
+// Puts a range after the first `count` of a buffer, or makes the last of these longer, where it ends at its first byte. Answers how many
+// there are then, if the buffer has room.
+fn put_range(out: &mut [BwRange], count: usize, at: u64, len: u64) -> Option<usize>
+    requires count { count ≤ length out.old }
+    requires end { at + len < 2 ^ 64 }
+    ensures count { IfSome result (λ n. n ≤ length out.new) }
+    ensures size { length out.new ≡ length out.old }
+    ensures parts { IfSome result (λ n. (text : List ℕ) → parts text (take n out.new) ≡ parts text (take count out.old) ++ take len (drop at text)) }
+{
+    if count > 0 {
+        let last = out[count - 1];
+        if last.at <= at && at - last.at == last.len {
+            out[count - 1] = BwRange {
+                at: last.at,
+                len: last.len + len,
+            };
+            return Some(count);
+        }
+    }
+    if count == out.len() {
+        return None;
+    }
+    out[count] = BwRange { at, len };
+    Some(count + 1)
+}
+
+// Puts the ranges of the wanted nodes of the subtree over `n` bytes from chunk `number` on, which begins at the place `at` of a combined
+// encoding, after the first `count`.
+fn put_nodes(
+    choice: &Choice,
+    number: u64,
+    n: u64,
+    at: u64,
+    out: &mut [BwRange],
+    count: usize,
+) -> Option<usize>
+    requires range { 1024 * number + n ≤ 2 ^ 64 - 1 }
+    requires room { at + subtree_size n < 2 ^ 64 }
+    requires chunks { choice.now.chunks ≡ true }
+    requires count { count ≤ length out.old }
+    ensures count { IfSome result (λ n. n ≤ length out.new) }
+    ensures size { length out.new ≡ length out.old }
+    ensures parts { IfSome result (λ k. (sides : List Side) (text : List ℕ) → at + subtree_size n ≤ length text
+        → HavePart text (take count out.old) (take k out.new) (subtree_nodes choice.now number n sides at)) }
+{
+    let first = CHUNK_LEN as u64 * number;
+    if !choice.wants(first, n) {
+        return Some(count);
+    }
+    if n <= CHUNK_LEN as u64 || choice.covers(first, n) {
+        return put_range(out, count, at, subtree_size(n) as u64);
+    }
+    let upper = put_range(out, count, at, PARENT_LEN as u64)?;
+    let left_len = left_len(n);
+    let left_at = at + PARENT_LEN as u64;
+    let near = put_nodes(choice, number, left_len, left_at, out, upper)?;
+    let right_at = left_at + subtree_size(left_len) as u64;
+    put_nodes(
+        choice,
+        number + left_len / CHUNK_LEN as u64,
+        n - left_len,
+        right_at,
+        out,
+        near,
+    )
+}
+
+/// Which bytes of the combined encoding of a blob of `total` bytes are the slice of `len` bytes from byte `start` on, one range after another, from
+/// the start of `out` on, and how many ranges these are in `count`. No two of them touch. 55 are always enough room.
+///
+/// 201 exactly where the combined encoding has more than 2^64 - 1 bytes, and 1201 where `out` has no room: some of `out` may be written to then.
+#[unsafe(no_mangle)]
+pub extern "C" fn bw_slice_ranges(
+    total: u64,
+    start: u64,
+    len: u64,
+    out: &mut [BwRange],
+    count: &mut usize,
+) -> u32
+    ensures parts { result ≡ 0 → (text : List ℕ) → claimed text ≡ total → 8 + subtree_size total ≤ length text
+        → parts text (take count.new out.new) ≡ cut_text text start len }
+    ensures within { result ≡ 0 → count.new ≤ length out.new }
+    ensures too_long { result ≡ 201 ↔ (2 ^ 64 ≤ 8 + subtree_size total) }
+    ensures status { result ≢ 0 → result ≢ 201 → result ≡ 1201 }
+{
+    if encoded_len(total) > u128::from(u64::MAX) {
+        return TOO_LONG;
+    }
+    let Some(head) = put_range(out, 0, 0, LENGTH_LEN as u64) else {
+        return ROOM;
+    };
+    let choice = Choice::of_slice(total, start, len);
+    let Some(ranges) = put_nodes(&choice, 0, total, LENGTH_LEN as u64, out, head) else {
+        return ROOM;
+    };
+    *count = ranges;
+    0
+}

@@ -1,0 +1,175 @@
+ghost use Rattle.std.specs.Prelude.{◌≡◌, ◌≢◌, ◌↔◌, ◌⊎◌, ◌<◌};
+ghost use Rattle.crews.specs.Lasting.{RecordsOn};
+ghost use Rattle.store_core.specs.Machine.{groups};
+ghost use Rattle.store_core.specs.Masks.{IsMaskOf};
+ghost use Rattle.store_core.specs.Pieces.{holds_chunk, length_of, piece_of};
+ghost use Rattle.store_core.specs.Stores.{IsOf};
+ghost use Rattle.store_shared.specs.Seats.{IsGroupOf, IsSeatOf, fixed_of};
+ghost use Rattle.berylwool.specs.Calls.{IsNoSliceOf, IsSliceOf, slice_piece};
+ghost use Rattle.berylwool.specs.Handles.{HasSeat, SeatDid};
+ghost use Rattle.berylwool.specs.Storing.{CommitsGroup, EachGroup, IsOfOther, StoresAll, StoresGroup};
+
+use crate::checking::told;
+use crate::handle::{BwHandle, with_held};
+use crate::status::OTHER_LENGTH;
+use bao_check::{Checked, check_slice};
+use std::alloc::Global;
+use store_core::mask_below;
+use store_shared::{Assembly, Seat};
+
+// The mask of the group's chunks that the piece has, in a store from chunk `base` of the blob on.
+fn chunks_in(base: u64, group: u32, piece: &Checked<'_>) -> u64
+    ensures { IsMaskOf group result (λ c. holds_chunk (piece_of base piece.now) c) }
+{
+    let (first, after) = piece.chunks();
+    let before = mask_below(group, first.saturating_sub(base));
+    let until = mask_below(group, after.saturating_sub(base));
+    until & !before
+}
+
+// Claims the chunks of a group that the piece has, as far as they are free, stores those that the seat claims then, and answers how many.
+fn commit_group(store: &Assembly, seat: &mut Seat, group: u32, piece: &Checked<'_>) -> u32
+    requires seat { IsSeatOf store.now seat.old }
+    requires piece { IsOf (fixed_of store.now) piece.now }
+    requires group { IsGroupOf store.now group }
+    ensures of { IsSeatOf store.now seat.new }
+    ensures commits { CommitsGroup (fixed_of store.now) (piece_of (fixed_of store.now).base piece.now) group result seat.old.view seat.new.view }
+    ensures records { RecordsOn seat.old (length_of (piece_of (fixed_of store.now).base piece.now)) → RecordsOn seat.new (length_of (piece_of (fixed_of store.now).base piece.now)) }
+{
+    let want = chunks_in(store.base(), group, piece);
+    if want == 0 {
+        return 0;
+    }
+    let Ok(_granted) = store.take(seat, group, want) else {
+        unreachable!();
+    };
+    let Ok(mask) = store.commit(seat, group, piece) else {
+        unreachable!();
+    };
+    mask.count_ones()
+}
+
+// The same of each group, in order.
+fn commit_groups(store: &Assembly, seat: &mut Seat, piece: &Checked<'_>) -> u64
+    requires seat { IsSeatOf store.now seat.old }
+    requires piece { IsOf (fixed_of store.now) piece.now }
+    ensures of { IsSeatOf store.now seat.new }
+    ensures commits { EachGroup (CommitsGroup (fixed_of store.now) (piece_of (fixed_of store.now).base piece.now)) (groups (fixed_of store.now)) result seat.old.view seat.new.view }
+    ensures records { RecordsOn seat.old (length_of (piece_of (fixed_of store.now).base piece.now)) → RecordsOn seat.new (length_of (piece_of (fixed_of store.now).base piece.now)) }
+{
+    let mut count = 0;
+    for group in 0..store.groups() {
+        count += u64::from(commit_group(store, seat, group, piece));
+    }
+    count
+}
+
+// Stores the parents that the piece has at a group's boundaries, and answers how many.
+fn store_group(store: &Assembly, seat: &mut Seat, group: u32, piece: &Checked<'_>) -> u32
+    requires seat { IsSeatOf store.now seat.old }
+    requires piece { IsOf (fixed_of store.now) piece.now }
+    requires records { RecordsOn seat.old (length_of (piece_of (fixed_of store.now).base piece.now)) }
+    ensures of { IsSeatOf store.now seat.new }
+    ensures records { RecordsOn seat.new (length_of (piece_of (fixed_of store.now).base piece.now)) }
+    ensures stores { StoresGroup (piece_of (fixed_of store.now).base piece.now) group result seat.old.view seat.new.view }
+{
+    if piece.parents_of(u64::from(group)) == 0 {
+        return 0;
+    }
+    let Ok(mask) = store.commit_parents(seat, group, piece) else {
+        // The piece is of the store's root and mode, and of the length that is recorded.
+        unreachable!();
+    };
+    mask.count_ones()
+}
+
+// The same of each group, in order.
+fn store_groups(store: &Assembly, seat: &mut Seat, piece: &Checked<'_>) -> u64
+    requires seat { IsSeatOf store.now seat.old }
+    requires piece { IsOf (fixed_of store.now) piece.now }
+    requires records { RecordsOn seat.old (length_of (piece_of (fixed_of store.now).base piece.now)) }
+    ensures of { IsSeatOf store.now seat.new }
+    ensures stores { EachGroup (StoresGroup (piece_of (fixed_of store.now).base piece.now)) (groups (fixed_of store.now)) result seat.old.view seat.new.view }
+{
+    let mut count = 0;
+    for group in 0..store.groups() {
+        count += u64::from(store_group(store, seat, group, piece));
+    }
+    count
+}
+
+// Stores all that an encoding has, as `bw_seat_commit_all` does.
+fn stored_all(
+    alloc: Global,
+    store: &Assembly,
+    seat: &mut Seat,
+    start: u64,
+    len: u64,
+    text: &[u8],
+    committed: &mut u64,
+    parents: &mut u64,
+    at: &mut u64,
+) -> u32
+    requires { IsSeatOf store.now seat.old }
+    ensures of { IsSeatOf store.now seat.new }
+    ensures stores { result ≡ 0 → StoresAll (fixed_of store.now) (slice_piece (fixed_of store.now).base text.now start len) committed.new parents.new seat.old.view seat.new.view }
+    ensures other_length { result ≡ 807 → IsOfOther (slice_piece (fixed_of store.now).base text.now start len) seat.old.view seat.new.view }
+    ensures accepted { ((result ≡ 0) ⊎ (result ≡ 807)) → IsSliceOf store.now text.now start len }
+    ensures fault { result ≢ 0 → result ≢ 807 → IsNoSliceOf store.now text.now start len result at.new }
+    ensures same { result ≢ 0 → result ≢ 807 → seat.new ≡ seat.old }
+    ensures low { result < 808 }
+{
+    match check_slice(alloc, &store.mode(), &store.root(), start, len, text) {
+        Ok(piece) => {
+            if store.length(seat) != Some(piece.claimed()) {
+                return OTHER_LENGTH;
+            }
+            *committed = commit_groups(store, seat, &piece);
+            *parents = store_groups(store, seat, &piece);
+            0
+        }
+        Err(fault) => told(&fault, at),
+    }
+}
+
+/// Checks `text` as the slice of `len` bytes from byte `start` on under the store's root, and stores all that it has: each of its chunks that
+/// nobody holds and no other seat claims, of whatever group, and each of its parents that nobody holds or is storing. Answers how many chunks
+/// in `committed` and how many parents in `parents`. Of its chunks the seat claims none then. It takes no memory.
+///
+/// 501 to 503 as `bw_check_slice`, with the place in `at`, and 1202 where the handle has no seat: nothing is asked then. 807 where the length
+/// that the encoding claims isn't the recorded one, or there is none, which the seat has seen then: nothing is stored.
+#[unsafe(no_mangle)]
+pub extern "C" fn bw_seat_commit_all(
+    alloc: Global,
+    seat: &mut BwHandle,
+    start: u64,
+    len: u64,
+    text: &[u8],
+    committed: &mut u64,
+    parents: &mut u64,
+    at: &mut u64,
+) -> u32
+    ensures stores { result ≡ 0 → SeatDid (λ store old new. StoresAll (fixed_of store) (slice_piece (fixed_of store).base text.now start len) committed.new parents.new old.view new.view) seat.old.held seat.new.held }
+    ensures other_length { result ≡ 807 → SeatDid (λ store old new. IsOfOther (slice_piece (fixed_of store).base text.now start len) old.view new.view) seat.old.held seat.new.held }
+    ensures accepted { ((result ≡ 0) ⊎ (result ≡ 807)) → HasSeat (λ store _. IsSliceOf store text.now start len) seat.old.held }
+    ensures fault { result ≢ 0 → result ≢ 807 → result ≢ 1202 → HasSeat (λ store _. IsNoSliceOf store text.now start len result at.new) seat.old.held }
+    ensures no_seat { result ≡ 1202 ↔ (¬ HasSeat (λ _ _. Unit) seat.old.held) }
+    ensures same { result ≢ 0 → result ≢ 807 → seat.new.held ≡ seat.old.held }
+{
+    with_held!(
+        seat,
+        alloc,
+        Seat,
+        |it| stored_all(
+            alloc,
+            &it.store,
+            &mut it.seat,
+            start,
+            len,
+            text,
+            committed,
+            parents,
+            at,
+        )
+    )
+}
