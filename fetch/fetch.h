@@ -1,0 +1,144 @@
+/* One fetch: what its threads share, which mirror is asked for what, and what a connection does.
+ *
+ * The blob is fetched in units of 1 MiB, of 16 groups of 64 KiB. A group is verified as a slice of its own, put together of
+ * parents that are known to be true and of what one mirror gave: so a refusal is that mirror's own doing. */
+#ifndef BW_FETCH_FETCH_H
+#define BW_FETCH_FETCH_H
+
+#include "http.h"
+#include "out.h"
+
+#include <berylwool.h>
+#include <pthread.h>
+
+enum {
+    UNIT_LEN = 1 << 20,
+    UNIT_GROUPS = UNIT_LEN / GROUP_LEN,
+    MIRRORS_MOST = 64,
+    CONNECTIONS_MOST = 8,                   /* for each mirror */
+    PIECES_MOST = 64,                       /* in one request */
+    OUTLINE_STEP_LEAST = 65536              /* bytes of an outboard encoding, in one request */
+};
+
+/* An outboard encoding, for mirrors that have the plain file. */
+typedef struct line {
+    place place;
+    bool gone;
+    unsigned faults, lost;                  /* requests that failed, and that were ended since they took long */
+    uint64_t tried_at;                      /* where it had nothing true the last time */
+    uint64_t wrong;                         /* bytes that were refused */
+} line;
+
+typedef struct mirror {
+    place place;
+    bool is_bao;                            /* it has the combined encoding, or else the plain file */
+    bool gone, last;                        /* left out; asked only for what no better one may have */
+    const char *why;
+    unsigned in_row, faults, lost, next_line;
+    uint64_t good, bad, wrong;              /* groups that were taken, groups that were refused, bytes that were refused */
+    uint16_t *refused;                      /* for each unit, the groups that it gave falsely: it isn't asked for them again */
+} mirror;
+
+typedef struct unit {
+    uint64_t open[UNIT_GROUPS];             /* the chunks that aren't there yet */
+    uint16_t busy;                          /* groups that are being written */
+    unsigned under_way;                     /* connections that ask for it, and since when the first of them does */
+    double since;
+    uint64_t needs;                         /* how much of the outboard encoding has its parents */
+} unit;
+
+typedef struct fetch fetch;
+
+typedef struct span {
+    unsigned low, high;                     /* chunks of a group, the last one too */
+} span;
+
+typedef struct conn {
+    fetch *fetch;
+    pthread_t thread;
+    bool started;
+    mirror *mirror;
+    unsigned number;                        /* among those of its mirror */
+    http *http;
+    unit *unit;                             /* whose bytes are asked for, or NULL */
+    uint64_t unit_number;
+    uint16_t asked;                         /* its groups that are asked for */
+    span spans[UNIT_GROUPS];
+    unsigned next_group, groups_taken;
+    size_t try_at;                          /* how many bytes there have to be before the next group is tried */
+    bool was_last;
+    piece list[PIECES_MOST];
+    pieces parts;
+    uint8_t *bytes, *text, *chunks;         /* what comes, a slice, and its chunks */
+} conn;
+
+struct fetch {
+    bw_mode mode;
+    uint8_t root[BW_HASH_LEN];
+    uint64_t most;                          /* a longer claim is refused */
+    double stall;
+    bool verbose;
+
+    pthread_mutex_t lock;
+    pthread_cond_t changed;
+    mirror mirrors[MIRRORS_MOST + 1];
+    line lines[MIRRORS_MOST];
+    conn *conns;
+    unsigned mirror_count, line_count, conn_count;
+    mirror *first;                          /* what an earlier run left: it is asked alone, until it has nothing more */
+    bool quit, settled;
+    conn *outliner;                         /* who extends the outboard encoding */
+    line *outliner_by;                      /* which one it asks, and since when */
+    double outliner_since;
+    int failed;                             /* a status, once the fetch can't go on */
+    uint64_t claimed_above;                 /* the largest claim that was refused for its length */
+
+    uint64_t total, unit_count, chunks_open;
+    uint64_t drained;                       /* units that were hashed, in order, and passed on to a pipe */
+    unit *units;
+    outline outline;
+    uint64_t outline_good, outline_step;    /* the outboard encoding is known up to here, and so much is asked for next */
+    out out;
+};
+
+void fetch_lock(fetch *f);
+void fetch_unlock(fetch *f);
+
+/* Waits, under the lock, until something changed or the time is over. */
+void fetch_wait(fetch *f, double seconds);
+
+/* The rest is called under the lock. */
+
+/* Ends the fetch with a status. The first one stands. */
+void fetch_fail(fetch *f, int status);
+
+void fetch_leave_out(fetch *f, mirror *m, const char *why);
+
+/* The length is certified, by the slice of the last byte. */
+void fetch_settle(fetch *f, uint64_t total, const uint8_t *text);
+
+/* The unit that a mirror is to be asked for, or NULL. */
+unit *fetch_next(fetch *f, const mirror *m, uint64_t *number);
+
+/* The outboard encoding that is to be asked next, or NULL. One that takes long is left for another one. */
+line *fetch_next_line(fetch *f);
+
+/* Decides whether a mirror is asked last from now on. */
+void fetch_judge(mirror *m);
+
+/* Whether some mirror may still have something that is lacking. */
+bool fetch_can_go_on(fetch *f);
+
+bool unit_is_whole(const unit *it);
+
+/* Ends the requests for a unit, or with NULL all. */
+void fetch_cut(fetch *f, const unit *of);
+
+/* What a connection's thread does, until the fetch ends or its mirror is left out. */
+void *fetch_work(void *conn);
+
+/* Its handle and buffers. False: out of memory. */
+bool conn_new(conn *c, fetch *f, mirror *m, unsigned number);
+void conn_free(conn *c);
+
+#endif

@@ -1,0 +1,44 @@
+/* OUT while it comes together: a file beside it, which is renamed at the end, or for a pipe a window of the blob in memory.
+ * */
+#ifndef BW_FETCH_OUT_H
+#define BW_FETCH_OUT_H
+
+#include "tree.h"
+
+enum { WINDOW_UNITS = 16 };
+
+typedef struct out {
+    const char *path;
+    char *part, *part_bao, *part_new;       /* OUT.part; OUT.part.bao, which a failure leaves; and that while it is written */
+    bool is_pipe;
+    int fd;
+    uint64_t total;
+    uint8_t *window;
+    uint64_t window_len;
+} out;
+
+/* Names the files. False: out of memory. */
+bool out_new(out *it, const char *path);
+void out_free(out *it);
+
+/* Makes OUT.part, or the window, for a blob of so many bytes. 0, or a status. */
+int out_open(out *it, uint64_t total);
+
+/* Bytes of the blob, to their place and from it. A pipe's lie within the window. */
+bool out_put(out *it, uint64_t from, const uint8_t *bytes, size_t len);
+bool out_get(const out *it, uint64_t from, uint8_t *bytes, size_t len);
+
+/* Writes the next bytes to a pipe; of a file nothing is to be done. */
+bool out_pass(out *it, const uint8_t *bytes, size_t len);
+
+/* Has the file on the disk and renames it to OUT; what an earlier run left is removed. */
+bool out_finish(out *it);
+
+/* Takes OUT.part away. */
+void out_drop(out *it);
+
+/* Leaves OUT.part.bao: the combined encoding, with the parents that are known and the chunks that `has` gives, and holes.
+ * */
+bool out_save(out *it, const outline *known, void *with, has_bytes *has);
+
+#endif

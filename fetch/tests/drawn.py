@@ -1,0 +1,255 @@
+#!/usr/bin/env python3
+"""Runs bw-fetch against drawn mirrors, and with each request for memory refused.
+
+    drawn.py BW_FETCH MKBAO COUNT [SEED]       COUNT runs against one to three drawn mirrors of a blob of up to 192 KiB
+    drawn.py --refuse BW_FETCH MKBAO           the smallest fetch, with the Nth request for memory refused, for each N
+
+Of a drawn fetch either OUT is the blob and the status is 0, or the status is 1 and there is no OUT; it has to be 0 where a drawn mirror is true. A drawn mirror
+changes, cuts, moves, splits and lengthens what it says, or stops, at a drawn byte and a drawn moment; an earlier run may have left something, true or not. A draw
+hangs on its number alone, which is printed where a run fails. `drawn.py BW_FETCH MKBAO 1 SEED` does that one again.
+"""
+import concurrent.futures
+import os
+import pathlib
+import random
+import subprocess
+import sys
+import tempfile
+
+sys.dont_write_bytecode = True
+import hostile
+import mirrors
+
+SIDE_BY_SIDE = 16
+LONGEST = 240
+LENGTHS = [0, 1, 1023, 1024, 1025, 4096, 65_535, 65_536, 65_537, 100_000, 131_073, 196_608]
+TRUE = ("good", "onerange", "severalwhole", "several416", "reversed")
+WHOLE = ("never", "e404", "e500", "loop", "close", "nothttp", "norange", "shifted", "badparts", "noise", "zeros", "unplaced", "gzip", "longer", "huge")
+
+
+class Drawn(mirrors.Mirror):
+    """A mirror whose address tells its draw: /SEED-NUMBER-LENGTH/FILE."""
+
+    def setup(self):
+        super().setup()
+        self.mode, self.value = "good", ""
+
+    def draw(self):
+        name, _, file = self.path[1:].partition("/")
+        seed, number, length = (int(it) for it in name.split("-"))
+        return *manner(seed, number), f"{length}{file[4:]}"
+
+    def answer(self):
+        mode, dice, file = self.draw()
+        self.path = "/" + file
+        self.dice, self.drawn = dice, mode
+        self.mode, self.value = ("good", "") if mode in ACTS else (mode, "")
+        super().answer()
+
+    def send_body(self, code, kind, place, body):
+        act = ACTS.get(self.drawn)
+        if act:
+            act(self, code, kind, place, bytearray(body))
+        else:
+            super().send_body(code, kind, place, body)
+
+
+def cut(it, code, kind, place, body):
+    """Ends within the body."""
+    it.send_response(code)
+    it.send_header("Content-Type", kind)
+    if place:
+        it.send_header("Content-Range", place)
+    it.send_header("Content-Length", str(len(body)))
+    it.end_headers()
+    it.wfile.write(body[:it.dice.randrange(len(body) + 1)])
+    it.close_connection = True
+
+
+def changed(it, code, kind, place, body):
+    """One to four bytes of an answer are others."""
+    for _ in range(it.dice.randrange(1, 5)):
+        if body:
+            body[it.dice.randrange(len(body))] ^= 1 + it.dice.randrange(255)
+    mirrors.Mirror.send_body(it, code, kind, place, body)
+
+
+def sometimes(it, code, kind, place, body):
+    """As before, in one of three answers."""
+    (changed if it.dice.random() < 0.34 else mirrors.Mirror.send_body)(it, code, kind, place, body)
+
+
+def shorter(it, code, kind, place, body):
+    """Fewer bytes than were asked for, with the length that belongs to them."""
+    mirrors.Mirror.send_body(it, code, kind, place, body[:it.dice.randrange(len(body) + 1)])
+
+
+def longer(it, code, kind, place, body):
+    """More bytes than were asked for."""
+    mirrors.Mirror.send_body(it, code, kind, place, body + it.dice.randbytes(it.dice.randrange(1, 200_000)))
+
+
+def moved(it, code, kind, place, body):
+    """Bytes that were moved by some."""
+    by = it.dice.randrange(1, 100)
+    mirrors.Mirror.send_body(it, code, kind, place, body[by:] + body[:by])
+
+
+def pieces(it, code, kind, place, body):
+    """True, in many small writes."""
+    it.send_response(code)
+    it.send_header("Content-Type", kind)
+    if place:
+        it.send_header("Content-Range", place)
+    it.send_header("Content-Length", str(len(body)))
+    it.end_headers()
+    while body:
+        size = it.dice.randrange(1, 20_000)
+        it.wfile.write(body[:size])
+        it.wfile.flush()
+        body = body[size:]
+
+
+def other_range(it, code, kind, place, body):
+    """A Content-Range that isn't one."""
+    words = ["bytes 5-2/9", "bytes */9", "bytes 0-18446744073709551615/*", "lines 1-2/3", "bytes 18446744073709551000-18446744073709551614/*", "", "bytes 0-"]
+    mirrors.Mirror.send_body(it, 206, "application/octet-stream", it.dice.choice(words), body)
+
+
+def other_parts(it, code, kind, place, body):
+    """A body of parts that is none."""
+    junk = [b"Content-Range: bytes 0-99999999999/9\r\n\r\n", b"x" * 700, b"\r\n\r\n", b"--THIS--", b"Content-Range: bytes 9-1/9\r\n", it.dice.randbytes(300), bytes(body)]
+    text = b"".join(it.dice.choice(junk) for _ in range(it.dice.randrange(1, 9)))
+    mirrors.Mirror.send_body(it, 206, "multipart/byteranges; boundary=THIS", None, text)
+
+
+def stops(it, code, kind, place, body):
+    """Says nothing more, at a drawn byte."""
+    it.send_response(code)
+    it.send_header("Content-Type", kind)
+    if place:
+        it.send_header("Content-Range", place)
+    it.send_header("Content-Length", str(len(body) + 1))
+    it.end_headers()
+    it.wfile.write(body[:it.dice.randrange(len(body) + 1)])
+    it.wfile.flush()
+    it.say_nothing()
+
+
+ACTS = {it.__name__: it for it in (cut, changed, sometimes, shorter, longer, moved, pieces, other_range, other_parts, stops)}
+TRUE_ACTS = ("pieces",)
+
+
+def manner(seed, number):
+    """How mirror `number` of a draw behaves, and its dice."""
+    dice = random.Random(f"{seed} {number}")
+    kind = dice.random()
+    if kind < 0.25:
+        return dice.choice(TRUE), dice
+    if kind < 0.55:
+        return dice.choice(WHOLE if dice.random() < 0.9 else WHOLE[:1]), dice
+    return dice.choice([it for it in ACTS if it != "stops" or dice.random() < 0.3]), dice
+
+
+def is_true(mode):
+    return mode in TRUE or mode in TRUE_ACTS
+
+
+class Blobs:
+    """A blob of each length, with its encodings and its root."""
+
+    def __init__(self, folder, mkbao):
+        self.folder, self.of = folder, {}
+        for length in LENGTHS:
+            blob = random.Random(length).randbytes(length)
+            (folder / str(length)).write_bytes(blob)
+            root = subprocess.run([mkbao, folder / str(length)], check=True, capture_output=True, text=True).stdout.strip()
+            self.of[length] = blob, root
+
+
+def left_before(dice, encoding):
+    """An OUT.part.bao: a true one that was cut, or of which some bytes are others, or noise."""
+    text = bytearray(encoding if dice.random() < 0.8 else dice.randbytes(len(encoding)))
+    for _ in range(dice.randrange(6)):
+        at = dice.randrange(len(text))
+        end = min(len(text), at + dice.choice((1, 64, 5000)))
+        text[at:end] = bytes(end - at)
+    return bytes(text[:dice.choice((len(text), dice.randrange(len(text) + 1)))])
+
+
+def run_drawn(seed, fetch, blobs, port):
+    """None, or what is wrong."""
+    dice = random.Random(seed)
+    length = dice.choice(LENGTHS)
+    blob, root = blobs.of[length]
+    count = dice.randrange(1, 4)
+    kinds = [dice.choice(["blob.bao", "blob"]) for _ in range(count)]
+    urls = [f"http://127.0.0.1:{port}/{seed}-{i}-{length}/{kind}" for i, kind in enumerate(kinds)]
+    modes = [manner(seed, i)[0] for i in range(count)]
+    must = any(is_true(it) for it in modes)
+    pipe = dice.random() < 0.2
+    with tempfile.TemporaryDirectory() as folder:
+        out = pathlib.Path(folder) / "out"
+        if dice.random() < 0.25:
+            (pathlib.Path(folder) / "out.part.bao").write_bytes(left_before(dice, (blobs.folder / f"{length}.bao").read_bytes()))
+        words = [fetch, "-v", "--stall", "60" if must else "0.5", "-c", str(dice.randrange(1, 4)), root, "-" if pipe else out, *urls]
+        ran = subprocess.run(words, capture_output=True, timeout=LONGEST)
+        got = ran.stdout if pipe else out.read_bytes() if out.exists() else None
+    right = ran.returncode == 0 and got == blob
+    none = ran.returncode == 1 and (got is None or pipe and blob.startswith(got)) and not must
+    if right or none:
+        return None
+    return f"draw {seed}, {length} bytes, {list(zip(kinds, modes))}: status {ran.returncode}\n{ran.stderr.decode(errors='replace')[-2000:]}"
+
+
+def drawn(fetch, mkbao, count, first="1"):
+    with tempfile.TemporaryDirectory() as folder:
+        blobs = Blobs(pathlib.Path(folder), mkbao)
+        them = mirrors.Mirrors(folder, ["good"], Drawn)
+        with concurrent.futures.ThreadPoolExecutor(SIDE_BY_SIDE) as pool:
+            found = pool.map(lambda seed: run_drawn(seed, fetch, blobs, them.ports[0]), range(int(first), int(first) + int(count)))
+            wrong = [it for it in found if it]
+        them.end()
+    for it in wrong[:5]:
+        print(it)
+    print(f"{count} draws passed" if not wrong else f"{len(wrong)} of {count} draws failed")
+    return 1 if wrong else 0
+
+
+def refuse(fetch, mkbao):
+    with tempfile.TemporaryDirectory() as folder:
+        place = hostile.Place(folder, (fetch, mkbao), 3000)
+        urls = place.serve("bao plain")
+        try:
+            asked = sum(refuse_each(place, fetch, urls[kind:kind + 1], tail) for kind in (0, 1) for tail in ("", "+"))
+        finally:
+            place.end()
+    print(f"{asked} refusals passed")
+    return 0
+
+
+def refuse_each(place, fetch, urls, tail):
+    """How many requests for memory were refused, one in each run."""
+    for number in range(1, 100_000):
+        ran = subprocess.run([fetch, "-c", "1", place.root, place.out, *urls], capture_output=True, timeout=LONGEST, env={**os.environ, "BW_REFUSE": f"{number}{tail}"})
+        got = place.out.read_bytes() if place.out.exists() else None
+        fine = (ran.returncode == 0 and got == place.blob) or (ran.returncode in (1, 4) and got is None)
+        if not fine:
+            sys.exit(f"drawn.py: request {number}{tail} for memory refused, {urls}: status {ran.returncode}\n{ran.stderr.decode(errors='replace')[-2000:]}")
+        for it in place.folder.glob("out*"):
+            it.unlink()
+        if not ran.stderr.endswith(b"refused\n"):
+            return number - 1
+    sys.exit("drawn.py: there is no end of requests for memory")
+
+
+def main(words):
+    hostile.isolate()
+    if words[0] == "--refuse":
+        return refuse(*(pathlib.Path(it).resolve() for it in words[1:3]))
+    fetch, mkbao = (pathlib.Path(it).resolve() for it in words[:2])
+    return drawn(fetch, mkbao, *words[2:4])
+
+
+if __name__ == "__main__":
+    sys.exit(main(sys.argv[1:]) if len(sys.argv) > 3 else __doc__)

@@ -1,0 +1,420 @@
+#!/usr/bin/env python3
+"""Runs bw-fetch against hostile mirrors on loopback.
+
+    hostile.py BW_FETCH MKBAO [NAME .. | -NAME ..]
+
+A case has mirrors, a length, words and the wanted status. With 0 OUT has to be the blob, to the byte; with another status there must be no OUT. It runs in a
+network of its own, where the kernel allows that. Ports are the system's; no case depends on how quick anything is. Its last line is 'N cases passed'.
+"""
+import concurrent.futures
+import fcntl
+import os
+import pathlib
+import random
+import signal
+import socket
+import struct
+import subprocess
+import sys
+import tempfile
+
+SIDE_BY_SIDE = 4
+HERE = pathlib.Path(__file__).resolve().parent
+LONGEST = 240                           # seconds that a run may take, far above what any has to: it would hang
+KEY = "77686174732074686520456c7669736820776f726420666f7220667269656e64"
+
+# A mirror is FILE@MODE[=VALUE]; of FILE, `bao` is the combined encoding, `plain` the blob, `bare` the blob without an outboard encoding beside it, `false`
+# and `short` the blob beside one that is damaged at its end, or of a shorter blob; @dead is a port where nobody listens, and @good is left out.
+# name, length, mirrors, words, status
+CASES = [
+    ("one .bao", 3_000_000, "bao", "", 0),
+    ("one plain", 3_000_000, "plain", "", 0),
+    ("empty .bao", 0, "bao", "", 0),
+    ("empty plain", 0, "plain", "", 0),
+    ("one byte", 1, "bao plain", "", 0),
+    ("1024 bytes", 1024, "bao plain", "", 0),
+    ("1025 bytes", 1025, "plain bao", "", 0),
+    ("3072 bytes plain", 3072, "plain", "", 0),
+    ("64 KiB and a byte", 65_537, "plain bao", "", 0),
+    ("1 MiB", 1 << 20, "plain", "", 0),
+    ("1 MiB and a byte", (1 << 20) + 1, "plain bao", "", 0),
+    ("1 MiB and a byte, to a pipe", (1 << 20) + 1, "bao", "-", 0),
+    ("64 MiB", 1 << 26, "plain bao", "", 0),
+    ("64 MiB and a byte", (1 << 26) + 1, "plain bao", "", 0),
+    ("64 MiB and a byte, to a pipe", (1 << 26) + 1, "plain bao", "-", 0),
+    ("empty, to a pipe", 0, "bao", "-", 0),
+    ("eight connections", 9_000_000, "bao plain", "-c 8", 0),
+    ("one connection", 3_000_000, "bao@flip bao", "-c 1", 0),
+    ("two liars of four", 20_000_000, "bao@noise bao bao@flip bao", "", 0),
+    ("two liars of four, plain", 20_000_000, "plain@noise plain plain@flip plain", "", 0),
+    ("two liars of four, to a pipe", 20_000_000, "bao@noise bao plain@flip plain", "-", 0),
+    ("all lie", 5_000_000, "bao@noise plain@flip", "", 1),
+    ("zeros", 5_000_000, "bao@zeros plain@zeros", "", 1),
+    ("a byte of each mebibyte, elsewhere in each", 20_000_000, "bao@some=1 bao@some=2 bao@some=3", "", 0),
+    ("a byte of each mebibyte, plain", 20_000_000, "plain@some=1 plain@some=2 plain@some=3", "", 0),
+    ("the same byte in both", 3_000_000, "bao@at=1500000 bao@at=1500000", "", 1),
+    ("the root's parent in one", 3_000_000, "bao@at=20 bao", "", 0),
+    ("the root's parent in all", 3_000_000, "bao@at=20 bao@at=30", "", 1),
+    ("the claim in one", 3_000_000, "bao@at=2 bao", "", 0),
+    ("one has the beginning, the other the end", 9_000_000, "bao@to=5000000 bao@from=4400000", "", 0),
+    ("one has the beginning, the other not all of the end", 9_000_000, "bao@to=4400000 bao@from=5000000", "", 1),
+    ("truncates", 8_000_000, "bao@trunc bao", "", 0),
+    ("truncates, alone", 3_000_000, "bao@trunc", "", 1),
+    ("truncates, plain and alone", 3_000_000, "plain@trunc", "", 1),
+    ("stalls", 9_000_000, "bao@stall bao", "--stall 60", 0),
+    ("stalls, plain", 9_000_000, "plain@stall plain", "--stall 60", 0),
+    ("stalls, alone", 3_000_000, "bao@stall", "--stall 0.5", 1),
+    ("drips", 3_000_000, "bao@drip plain", "--stall 60", 0),
+    ("drips, alone", 3_000_000, "bao@drip", "--stall 0.5", 1),
+    ("never answers", 8_000_000, "bao@never plain", "--stall 60", 0),
+    ("two never answer", 3_000_000, "bao@never plain@never plain", "--stall 60", 0),
+    ("two stall", 3_000_000, "bao@stall plain@stall bao", "--stall 60", 0),
+    ("the outboard encoding of the first stalls", 9_000_000, "plain@stall bare bare plain", "--stall 60", 0),
+    ("never answers, alone", 8_000_000, "bao@never", "--stall 0.5", 1),
+    ("headers without an end", 3_000_000, "bao@headers bao", "--stall 600", 0),
+    ("headers without an end, alone", 3_000_000, "bao@headers", "--stall 600", 1),
+    ("headers that drip, alone", 3_000_000, "bao@dripheaders", "--stall 0.5", 1),
+    ("a body without an end", 3_000_000, "bao@endless bao", "", 0),
+    ("a body without an end, plain and alone", 3_000_000, "plain@endless", "", 0),
+    ("slow beside a quick one", 6_000_000, "bao@slow=60000 bao", "", 0),
+    ("late", 3_000_000, "bao@late=0.05", "", 0),
+    ("redirected", 3_000_000, "-@good bao@redirect=#0", "", 0),
+    ("redirected, plain", 3_000_000, "-@good plain@redirect=#0", "", 0),
+    ("redirected in a circle, and to a file", 3_000_000, "bao@loop bao@tofile bao", "", 0),
+    ("redirected to a file alone", 3_000_000, "bao@tofile", "", 1),
+    ("no ranges", 3_000_000, "bao@norange plain", "", 0),
+    ("no ranges, alone", 3_000_000, "bao@norange", "", 1),
+    ("no ranges of a short file", 30_000, "bao@norange", "", 0),
+    ("no ranges of a short file, plain", 30_000, "plain@norange", "", 0),
+    ("one range at a time", 5_000_000, "bao@onerange", "", 0),
+    ("several ranges are the whole file", 5_000_000, "bao@severalwhole", "", 0),
+    ("several ranges are 416", 5_000_000, "bao@several416", "", 0),
+    ("several ranges, plain, one at a time", 5_000_000, "plain@onerange", "", 0),
+    ("parts in another order", 5_000_000, "bao@reversed", "", 0),
+    ("parts of a short file put together", 60_000, "bao@coalesced", "", 0),
+    ("parts that claim more than they have", 5_000_000, "bao@badparts bao", "", 0),
+    ("shifted ranges", 3_000_000, "bao@shifted plain", "", 0),
+    ("shifted ranges, alone", 3_000_000, "bao@shifted", "", 1),
+    ("ranges that don't say where they are", 3_000_000, "bao@unplaced", "", 1),
+    ("not HTTP", 3_000_000, "bao@nothttp bao", "", 0),
+    ("closes", 3_000_000, "bao@close bao", "", 0),
+    ("500 and 404", 3_000_000, "bao@e500 plain@e404 bao", "", 0),
+    ("403 and 503, alone", 3_000_000, "bao@e403 plain@e503", "", 1),
+    ("says that it is gzip", 3_000_000, "bao@gzip bao", "", 0),
+    ("a longer claim", 3_000_000, "bao@longer plain@longer plain", "", 0),
+    ("a claim of 2^64 - 1 bytes, alone", 3_000_000, "bao@huge", "", 1),
+    ("a claim of 2^64 - 1 bytes, plain", 3_000_000, "plain@huge plain", "", 0),
+    ("no outboard encoding", 3_000_000, "bare", "", 1),
+    ("an outboard encoding at the second alone", 3_000_000, "bare plain", "", 0),
+    ("an outboard encoding at a liar alone", 3_000_000, "bare plain@noise", "", 1),
+    ("an outboard encoding at one that lies of the blob", 3_000_000, "bare plain@to=200000", "", 0),
+    ("a false outboard encoding at the first", 3_000_000, "false plain", "", 0),
+    ("a false outboard encoding alone", 3_000_000, "false", "", 1),
+    ("an outboard encoding of a shorter blob first", 3_000_000, "short plain", "", 0),
+    ("an outboard encoding of a shorter blob alone", 3_000_000, "short", "", 1),
+    ("nobody listens at one", 3_000_000, "bao bao@dead", "", 0),
+    ("nobody listens", 3_000_000, "bao@dead", "", 1),
+    ("at most as long as it is", 100_000, "bao", "--max 100000", 0),
+    ("longer than wanted", 100_000, "bao", "--max 99999", 1),
+    ("longer than wanted, plain", 100_000, "plain", "--max 99999", 1),
+    ("300 MiB", 300 << 20, "bao plain", "", 0),
+]
+
+FILES = {"bao": "blob.bao", "plain": "blob", "bare": "bare", "false": "false", "short": "short"}
+
+
+class Failure(Exception):
+    pass
+
+
+def want(so, what):
+    if not so:
+        raise Failure(what)
+
+
+class Place:
+    """A folder with a blob and its encodings, and mirrors of it."""
+
+    def __init__(self, folder, tools, length, key=""):
+        self.folder, self.fetch, mkbao = pathlib.Path(folder), *tools
+        seed = random.Random(length).randbytes(min(length, 1 << 24))
+        self.blob = b"".join(seed[8:] + at.to_bytes(8, "little") for at in range(length // (1 << 24) + 1))[:length] if length >= 1 << 24 else seed
+        self.put("blob", self.blob)
+        self.root = subprocess.run([mkbao, self.folder / "blob", *([key] if key else [])], check=True, capture_output=True, text=True).stdout.strip()
+        self.out, self.server, self.said = self.folder / "out", None, ""
+        obao = (self.folder / "blob.obao").read_bytes()
+        self.put("bare", self.blob)
+        self.put("false", self.blob)
+        self.put("false.obao", obao[:-1] + bytes([obao[-1] ^ 1]) if len(obao) > 8 else b"\1" * 8)
+        self.put("short", self.blob)
+        chunks = (length + 1023) // 1024
+        if chunks > 4 and chunks % 2 == 0:                  # all parents but the last, and the length to which they belong
+            self.put("short.obao", ((chunks - 1) * 1024).to_bytes(8, "little") + obao[8:-64])
+
+    def put(self, name, content):
+        (self.folder / name).write_bytes(content)
+
+    def serve(self, mirrors):
+        """Starts mirrors, and answers their addresses."""
+        self.end()
+        asked = [it.partition("@") for it in mirrors.split()]
+        modes = [mode or "good" for _, _, mode in asked]
+        self.server = subprocess.Popen([sys.executable, HERE / "mirrors.py", self.folder, *(it for it in modes if it != "dead")], stdin=subprocess.PIPE,
+                                       stdout=subprocess.PIPE, text=True)
+        ports = iter(self.server.stdout.readline().split())
+        ports = [1 if mode == "dead" else next(ports) for mode in modes]
+        return [f"http://127.0.0.1:{port}/{FILES[file]}" for (file, _, _), port in zip(asked, ports) if file != "-"]
+
+    def end(self):
+        if self.server:
+            self.server.stdin.close()
+            self.server.wait()
+            self.server.stdout.close()
+            self.server = None
+
+    def run(self, words, urls, status, out=None, **more):
+        """Runs bw-fetch, and looks at its status and at OUT."""
+        out = out or self.out
+        ran = subprocess.run([self.fetch, "-v", *words, self.root, out, *urls], capture_output=True, timeout=LONGEST, **more)
+        self.said = ran.stderr.decode(errors="replace")
+        want(ran.returncode == status, f"status {ran.returncode}, and not {status}")
+        got = ran.stdout if out == "-" else self.out.read_bytes() if self.out.exists() else None
+        if status == 0:
+            want(got == self.blob, "OUT isn't the blob")
+            left = sorted(it.name for it in self.folder.glob("out?*"))
+            want(not left, f"{left} are left")
+        elif out != "-":
+            want(got is None, "there is an OUT")
+            want(not (self.folder / "out.part").exists(), "there is an OUT.part")
+
+
+def run_case(place, mirrors, words, status):
+    words = words.split()
+    out = "-" if "-" in words else None
+    place.run([it for it in words if it != "-"], place.serve(mirrors), status, out)
+
+
+# --- Cases that take more than one run, or other words
+
+def resumes(place):
+    """What a failure leaves is a mirror of the next run: here it has what the second mirror lacks."""
+    place.run([], place.serve("bao@some=1 bao@to=5000000"), 1)
+    want((place.folder / "out.part.bao").exists(), "there is no OUT.part.bao")
+    place.run([], place.serve("bao@from=4400000"), 0)
+
+
+def the_rest_alone(place):
+    """The second mirror of the case before hasn't the blob by itself."""
+    place.run([], place.serve("bao@from=4400000"), 1)
+
+
+def resumes_alone(place):
+    """An OUT.part.bao that has all needs no mirror that answers, and none is asked."""
+    for mirrors in ("bao@dead", "bao"):
+        place.put("out.part.bao", (place.folder / "blob.bao").read_bytes())
+        urls = place.serve(mirrors)
+        place.run([], urls, 0)
+        want(f"{urls[0]}: 0 bytes, " in place.said, "the mirror was asked")
+
+
+def part_is_not_trusted(place):
+    """An OUT.part.bao of noise costs nothing but itself, and is no mirror of the run after."""
+    place.put("out.part.bao", random.Random(3).randbytes(2_000_000))
+    place.run([], place.serve("bao"), 0)
+
+
+def keeps_salvage(place):
+    """A chunk that both mirrors have damaged is all that is lacking after two runs; a third mirror brings it."""
+    for _ in range(2):
+        place.run([], place.serve("bao@at=1500000 bao@at=1500000"), 1)
+    want("unfinished: 1 KiB of 2930 are" in place.said, "more is lacking than a chunk")
+    place.run([], place.serve("bao"), 0)
+
+
+def keeps_old_out(place):
+    """A failure leaves the OUT of before as it was."""
+    place.put("out", b"before")
+    for mirrors in ("bao@noise", "bao@at=150000"):
+        ran = subprocess.run([place.fetch, place.root, place.out, *place.serve(mirrors)], capture_output=True, timeout=LONGEST)
+        want(ran.returncode == 1 and place.out.read_bytes() == b"before", "the OUT of before has changed")
+    place.run([], place.serve("bao"), 0)
+
+
+def interrupted(place, number):
+    """A signal while a mirror has given half and says nothing more: what came is kept."""
+    urls = place.serve("bao@half")
+    ran = subprocess.Popen([place.fetch, "--stall", "600", "-c", "1", place.root, place.out, *urls], stderr=subprocess.PIPE)
+    want(place.server.stdout.readline() == "blocked\n", "the mirror didn't begin to say nothing")
+    ran.send_signal(number)
+    _, said = ran.communicate(timeout=LONGEST)
+    want(ran.returncode == 1 and b"interrupted" in said, f"status {ran.returncode}: {said}")
+    want(not place.out.exists() and not (place.folder / "out.part").exists(), "there is an OUT")
+    place.run([], place.serve("bao@from=4400000"), 0)
+
+
+def sigint(place):
+    interrupted(place, signal.SIGINT)
+
+
+def sigterm(place):
+    interrupted(place, signal.SIGTERM)
+
+
+def keyed(place):
+    """Under a key of its own, and not without it."""
+    place.put("key", KEY.encode() + b"\n")
+    urls = place.serve("plain bao")
+    place.run([], urls, 1)
+    place.run(["--key-file", place.folder / "key"], urls, 0)
+
+
+def mirrors_in_a_file(place):
+    urls = place.serve("bao@noise bao")
+    place.put("list", ("# mirrors\n\n" + "\n".join(f"  {it}  " for it in urls) + "\n").encode())
+    place.run(["--mirrors", place.folder / "list"], [], 0)
+
+
+def outboard_elsewhere(place):
+    """By its address, and as a local file; the false one before it costs nothing but itself."""
+    urls = place.serve("bare bare plain")
+    place.run(["--outboard", urls[2] + ".obao"], urls[:2], 0)
+    place.run(["--outboard", place.folder / "false.obao", "--outboard", place.folder / "blob.obao"], urls[:2], 0)
+
+
+def two_outboards(place):
+    """Two outboard encodings that are damaged in different places."""
+    obao = bytearray((place.folder / "blob.obao").read_bytes())
+    for name, at in (("one", 100_000), ("two", 150_000)):
+        place.put(name, obao[:at] + bytes([obao[at] ^ 1]) + obao[at + 1:])
+    urls = place.serve("bare")
+    place.run(["--outboard", place.folder / "one"], urls, 1)
+    place.run(["--outboard", place.folder / "one", "--outboard", place.folder / "two"], urls, 0)
+
+
+def local_mirrors(place):
+    """A local path is a mirror, too; one that isn't there is left out."""
+    place.run([], [place.folder / "none.bao", place.folder / "blob.bao"], 0)
+    place.run([], [place.folder / "none", place.folder / "blob"], 0)
+
+
+def blame_is_exact(place):
+    """Of four mirrors the liars alone have false bytes."""
+    urls = place.serve("bao@flip bao plain@some=1 plain")
+    place.run([], urls, 0)
+    for url, lies in zip(urls, (True, False, True, False)):
+        said = [it for it in place.said.splitlines() if it.startswith(f"bw-fetch: {url}: ") and "groups taken" in it]
+        want(len(said) == 1, f"{len(said)} lines of {url}")
+        want(lies or ", 0 of them false;" in said[0] and " 0 refused" in said[0], f"a true mirror is blamed: {said[0]}")
+
+
+def unwritable(place):
+    """OUT in a folder that isn't there, and a pipe that nobody reads."""
+    urls = place.serve("bao")
+    ran = subprocess.run([place.fetch, place.root, place.folder / "none" / "out", *urls], capture_output=True, timeout=LONGEST)
+    want(ran.returncode == 3, f"status {ran.returncode}")
+    end, other = os.pipe()
+    os.close(end)
+    ran = subprocess.run([place.fetch, place.root, "-", *urls], stdout=other, stderr=subprocess.PIPE, timeout=LONGEST)
+    os.close(other)
+    want(ran.returncode == 3, f"status {ran.returncode}")
+
+
+def no_room(place):
+    """OUT that may not become as long as the blob."""
+    urls = place.serve("bao")
+    ran = subprocess.run([place.fetch, place.root, place.out, *urls], capture_output=True, timeout=LONGEST,
+                         preexec_fn=lambda: (signal.signal(signal.SIGXFSZ, signal.SIG_IGN), __import__("resource").setrlimit(__import__("resource").RLIMIT_FSIZE, (1 << 20, 1 << 20))))
+    want(ran.returncode == 3 and not list(place.folder.glob("out*")), f"status {ran.returncode}")
+
+
+def one_at_a_time(place):
+    """Another bw-fetch that writes the same OUT isn't disturbed."""
+    urls = place.serve("bao@half bao")
+    first = subprocess.Popen([place.fetch, "--stall", "600", "-c", "1", place.root, place.out, urls[0]], stderr=subprocess.PIPE)
+    want(place.server.stdout.readline() == "blocked\n", "the mirror didn't begin to say nothing")
+    ran = subprocess.run([place.fetch, place.root, place.out, urls[1]], capture_output=True, timeout=LONGEST)
+    want(ran.returncode == 3, f"status {ran.returncode}")
+    want((place.folder / "out.part").exists(), "the other's OUT.part is gone")
+    first.send_signal(signal.SIGINT)
+    first.communicate(timeout=LONGEST)
+    want(first.returncode == 1, f"status {first.returncode}")
+
+
+def usage(place):
+    root, out, url = place.root, place.out, "http://127.0.0.1:1/blob.bao"
+    for words in ([], [root], [root, out], [root[1:], out, url], ["g" + root[1:], out, url], ["-c", "0", root, out, url], ["-c", "9", root, out, url],
+                  ["--stall", "0", root, out, url], ["--stall", "x", root, out, url], ["--max", "-1", root, out, url], ["--none", root, out, url],
+                  ["--key-file", place.folder / "blob", root, out, url], [root, out, *[url] * 65]):
+        ran = subprocess.run([place.fetch, *words], capture_output=True, timeout=LONGEST)
+        want(ran.returncode == 2 and not ran.stdout and ran.stderr, f"status {ran.returncode} of {words}")
+    for words in (["--key-file", place.folder / "none", root, out, url], ["--mirrors", place.folder / "none", root, out]):
+        ran = subprocess.run([place.fetch, *words], capture_output=True, timeout=LONGEST)
+        want(ran.returncode == 3, f"status {ran.returncode} of {words}")
+    ran = subprocess.run([place.fetch, "--help"], capture_output=True, timeout=LONGEST)
+    want(ran.returncode == 0 and ran.stdout.startswith(b"usage: bw-fetch") and not ran.stderr, "help")
+
+
+# function, length, key
+LONGER = [
+    (resumes, 9_000_000, ""), (the_rest_alone, 9_000_000, ""), (resumes_alone, 3_000_000, ""), (part_is_not_trusted, 3_000_000, ""), (keeps_salvage, 3_000_000, ""),
+    (keeps_old_out, 300_000, ""), (sigint, 9_000_000, ""), (sigterm, 9_000_000, ""), (keyed, 300_000, KEY), (mirrors_in_a_file, 300_000, ""),
+    (outboard_elsewhere, 3_000_000, ""), (two_outboards, 3_000_000, ""), (local_mirrors, 3_000_000, ""), (blame_is_exact, 20_000_000, ""),
+    (unwritable, 3_000_000, ""), (no_room, 3_000_000, ""), (one_at_a_time, 9_000_000, ""), (usage, 10, ""),
+]
+
+
+def isolate():
+    """Begins anew in a network of its own, where there is nothing but loopback; says so where that isn't allowed."""
+    os.environ["no_proxy"] = "127.0.0.1"
+    if os.environ.get("BW_FETCH_ALONE"):
+        with socket.socket(socket.AF_INET, socket.SOCK_DGRAM) as it:
+            request = struct.pack("16sh", b"lo", 1)         # IFF_UP
+            fcntl.ioctl(it, 0x8914, request)                # SIOCSIFFLAGS
+        return
+    words = ["unshare", "-rn", sys.executable]
+    try:
+        allowed = subprocess.run([*words, "-c", "pass"], capture_output=True).returncode == 0
+    except OSError:
+        allowed = False
+    if allowed:
+        os.environ["BW_FETCH_ALONE"] = "1"
+        os.execvp(words[0], [*words, *sys.argv])
+    print("hostile.py: no network of its own is allowed here: the machine's loopback is used")
+
+
+def try_one(tools, row):
+    """What is wrong with a case, or None."""
+    name, length, key, run = row
+    with tempfile.TemporaryDirectory() as folder:
+        place = Place(folder, tools, length, key)
+        try:
+            run(place)
+            return None
+        except (Failure, OSError, subprocess.TimeoutExpired) as it:
+            return f"{name}: {it}\n{place.said[-3000:]}"
+        finally:
+            place.end()
+
+
+def is_wanted(name, words):
+    """A word asks for the cases with it in their name, and a word with - before it leaves them out."""
+    asked = [it for it in words if not it.startswith("-")]
+    return not any(it[1:] in name for it in words if it.startswith("-")) and (not asked or any(it in name for it in asked))
+
+
+def main(fetch, mkbao, *words):
+    isolate()
+    tools = pathlib.Path(fetch).resolve(), pathlib.Path(mkbao).resolve()
+    rows = [(name, length, "", lambda place, row=row: run_case(place, *row)) for name, length, *row in CASES]
+    rows += [(it.__name__.replace("_", " "), length, key, it) for it, length, key in LONGER]
+    rows = [it for it in rows if is_wanted(it[0], words)]
+    with concurrent.futures.ThreadPoolExecutor(SIDE_BY_SIDE) as pool:
+        wrong = [it for it in pool.map(lambda row: try_one(tools, row), rows) if it]
+    for it in wrong:
+        print(f"hostile.py: {it}")
+    print(f"{len(rows)} cases passed" if not wrong else f"{len(wrong)} of {len(rows)} cases failed")
+    return 1 if wrong else 0
+
+
+if __name__ == "__main__":
+    sys.exit(main(*sys.argv[1:]) if len(sys.argv) > 2 else __doc__)

@@ -1,0 +1,255 @@
+"""Mirrors on loopback for the tests of bw-fetch, most of them hostile.
+
+    mirrors.py FOLDER MODE[=VALUE] ..
+
+prints a port for each mode, then a line 'blocked' each time that a mirror of mode `half` begins to say nothing more. It ends with its standard
+input, or after SECONDS. `Mirrors` is the same for a test that is written in Python.
+"""
+import http.server
+import os
+import random
+import re
+import socketserver
+import sys
+import threading
+import time
+
+SECONDS = 600
+FOREVER = 3600
+
+
+def ranges_of(header, size):
+    """The ranges asked for, as (start, end) without the end; None where there are none, and [] where none is there."""
+    asked = re.match(r"bytes=([\d,\s-]+)$", header or "")
+    if not asked:
+        return None
+    found = []
+    for it in asked[1].split(","):
+        first, last = it.strip().split("-")
+        start, end = int(first), min(size, int(last or size) + 1)
+        if start < end:
+            found.append((start, end))
+    return found
+
+
+class Mirror(http.server.BaseHTTPRequestHandler):
+    protocol_version = "HTTP/1.1"
+    disable_nagle_algorithm = True
+
+    def log_message(self, *words):
+        pass
+
+    def setup(self):
+        super().setup()
+        self.mode, self.value = self.server.mode, self.server.value
+
+    def do_GET(self):
+        try:
+            self.answer()
+        except OSError:
+            self.close_connection = True
+
+    # --- Answers that need no file
+
+    def redirect(self, to):
+        self.send_response(302)
+        self.send_header("Location", to)
+        self.send_header("Content-Length", "0")
+        self.end_headers()
+
+    def say_nothing(self):
+        self.server.ended.wait(FOREVER)
+        self.close_connection = True
+
+    def endless_headers(self):
+        self.wfile.write(b"HTTP/1.1 206 Partial Content\r\n")
+        while not self.server.ended.is_set():
+            self.wfile.write(b"X-Filler: " + b"x" * 900 + b"\r\n")
+
+    def dripping_headers(self):
+        self.wfile.write(b"HTTP/1.1 206 Partial Content\r\n")
+        while not self.server.ended.wait(0.05):
+            self.wfile.write(b"X: x\r\n")
+
+    def answered(self):
+        """Whether the mode's answer is one without a file; it was given then."""
+        mode = self.mode
+        if mode == "never":
+            self.say_nothing()
+        elif mode in ("e403", "e404", "e500", "e503"):
+            self.send_error(int(mode[1:]))
+        elif mode == "redirect":
+            self.redirect(f"http://127.0.0.1:{self.value}{self.path}")
+        elif mode == "loop":
+            self.redirect(self.path)
+        elif mode == "tofile":
+            self.redirect(f"file://{self.server.folder}/{os.path.basename(self.path)}")
+        elif mode == "headers":
+            self.endless_headers()
+        elif mode == "dripheaders":
+            self.dripping_headers()
+        elif mode == "nothttp":
+            self.wfile.write(random.Random(1).randbytes(4000))
+            self.close_connection = True
+        elif mode == "close":
+            self.close_connection = True
+        else:
+            return False
+        return True
+
+    # --- The file's bytes
+
+    def changed(self, body, start, size, path):
+        """The bytes from `start` on, as the mode has them."""
+        mode, value = self.mode, self.value
+        dice = random.Random(f"{self.path}{start}{value}")
+        if mode == "noise":
+            return bytearray(dice.randbytes(len(body)))
+        if mode == "zeros":
+            return bytearray(len(body))
+        if mode == "flip":                                      # a byte of each group
+            for at in range(0, len(body), 65536):
+                body[min(len(body) - 1, at + dice.randrange(65536))] ^= 1 + dice.randrange(255)
+        if mode == "some":                                      # a byte of each mebibyte of the file, at its own place for each mirror
+            for at in range(int(value) * 100_003 % (1 << 20), size, 1 << 20):
+                if start <= at < start + len(body):
+                    body[at - start] ^= 255
+        if mode == "at":                                        # one byte of the file
+            if start <= int(value) < start + len(body):
+                body[int(value) - start] ^= 1
+        if mode in ("longer", "huge") and not path.endswith(value or "-"):
+            claim = ((size << 20) + 77 if mode == "longer" else (1 << 64) - 1).to_bytes(8, "little")
+            for at in range(start, min(8, start + len(body))):
+                body[at - start] = claim[at]
+        if mode == "to":                                        # true up to here
+            for at in range(max(start, int(value)), start + len(body)):
+                body[at - start] ^= 1
+        if mode == "from":                                      # true from here on, and in the topmost parents
+            for at in range(max(start, 8 + 64 * 40), min(start + len(body), int(value))):
+                body[at - start] ^= 1
+        return body
+
+    def multipart(self, parts, size):
+        """A body of several parts, as the mode has them."""
+        if self.mode == "reversed":
+            parts = parts[::-1]
+        if self.mode == "coalesced":
+            parts = [(parts[0][0], self.bytes_of(parts[0][0], parts[-1][0] + len(parts[-1][1])))]
+        out = b"\r\n"
+        for start, body in parts:
+            end = start + len(body) + (4096 if self.mode == "badparts" else -1)
+            out += b"--THIS\r\nContent-Type: application/octet-stream\r\nContent-Range: bytes %d-%d/%d\r\n\r\n" % (start, end, size) + bytes(body) + b"\r\n"
+        return out + b"--THIS--\r\n"
+
+    def bytes_of(self, start, end):
+        with open(self.file, "rb") as file:
+            file.seek(start)
+            return self.changed(bytearray(file.read(end - start)), start, os.path.getsize(self.file), self.file)
+
+    def answer(self):
+        if self.answered():
+            return
+        self.file = os.path.join(self.server.folder, os.path.basename(self.path))
+        try:
+            size = os.path.getsize(self.file)
+        except OSError:
+            return self.send_error(404)
+        asked = None if self.mode == "norange" else ranges_of(self.headers.get("Range"), size)
+        if asked is not None and len(asked) > 1 and self.mode == "severalwhole":
+            asked = None
+        if asked == [] or (asked and len(asked) > 1 and self.mode == "several416"):
+            return self.send_error(416)
+        if asked and self.mode == "onerange":
+            asked = asked[:1]
+        if self.mode == "half" and asked and asked[-1][1] > size // 2 and sum(end - start for start, end in asked) > 20_000:
+            print("blocked", flush=True)
+            return self.say_nothing()
+        parts = [(start, self.bytes_of(start, end)) for start, end in asked or [(0, size)]]
+        if len(parts) > 1:
+            self.send_body(206, "multipart/byteranges; boundary=THIS", None, self.multipart(parts, size))
+        else:
+            start, body = parts[0]
+            shift = 4096 if self.mode == "shifted" else 0
+            self.send_body(206 if asked else 200, "application/octet-stream", f"bytes {start + shift}-{start + len(body) - 1 + shift}/{size}" if asked else None, body)
+
+    def send_body(self, code, kind, place, body):
+        mode = self.mode
+        self.send_response(code)
+        self.send_header("Content-Type", kind)
+        if place and mode != "unplaced":
+            self.send_header("Content-Range", place)
+        if mode == "gzip":
+            self.send_header("Content-Encoding", "gzip")
+        if mode == "endless":
+            self.send_header("Connection", "close")
+        else:
+            self.send_header("Content-Length", str(len(body)))
+        self.end_headers()
+        if mode == "endless":
+            self.wfile.write(body)
+            while not self.server.ended.is_set():
+                self.wfile.write(bytes(65536))
+        elif mode == "trunc":
+            self.wfile.write(body[:len(body) * 6 // 10])
+            self.close_connection = True
+        elif mode == "stall" and len(body) > 20_000:
+            self.wfile.write(body[:len(body) // 3])
+            self.wfile.flush()
+            self.say_nothing()
+        elif mode == "drip":
+            for at in range(len(body)):
+                self.wfile.write(body[at:at + 1])
+                if self.server.ended.wait(0.05):
+                    return
+        elif mode == "slow":
+            step = int(self.value) // 20
+            for at in range(0, len(body), step):
+                self.wfile.write(body[at:at + step])
+                if self.server.ended.wait(0.05):
+                    return
+        else:
+            if mode == "late":
+                time.sleep(float(self.value))
+            self.wfile.write(body)
+
+
+class Server(socketserver.ThreadingMixIn, http.server.HTTPServer):
+    daemon_threads = True
+    request_queue_size = 128
+
+    def handle_error(self, request, address):
+        pass
+
+
+class Mirrors:
+    """The servers, one for each mode, in threads of this process."""
+
+    def __init__(self, folder, modes, handler=Mirror):
+        self.servers, self.ports = [], []
+        for word in modes:
+            mode, _, value = word.partition("=")
+            server = Server(("127.0.0.1", 0), handler)
+            server.folder, server.mode, server.ended = str(folder), mode, threading.Event()
+            server.value = str(self.ports[int(value[1:])]) if value.startswith("#") else value
+            self.servers.append(server)
+            self.ports.append(server.server_port)
+            threading.Thread(target=server.serve_forever, args=(0.05,), daemon=True).start()
+
+    def end(self):
+        for it in self.servers:
+            it.ended.set()
+            it.shutdown()
+            it.server_close()
+
+
+def end_late():
+    time.sleep(SECONDS)
+    os._exit(0)
+
+
+if __name__ == "__main__":
+    servers = Mirrors(sys.argv[1], sys.argv[2:])
+    print(*servers.ports, flush=True)
+    threading.Thread(target=end_late, daemon=True).start()
+    sys.stdin.read()
+    os._exit(0)

@@ -1,0 +1,403 @@
+/* What a connection does: certifies the length, extends the outboard encoding, fetches a unit. */
+#define _GNU_SOURCE
+#include "fetch.h"
+
+#include <stdio.h>
+#include <stdlib.h>
+#include <string.h>
+
+enum {
+    IN_ROW_MOST = 5,                        /* faults in a row, and a mirror is left out */
+    LINE_FAULTS_MOST = 5,
+    BYTES_MOST = UNIT_LEN + UNIT_LEN / BW_CHUNK_LEN * PARENT_LEN + PATH_MOST * PARENT_LEN,
+    OUTLINE_STEP = 1 << 20,
+    TRY_AFTER = 16384
+};
+
+static const double nap = 0.2, back_off = 0.1;
+static const char too_many[] = "too many faults in a row", no_length[] = "it certifies no length";
+
+bool conn_new(conn *c, fetch *f, mirror *m, unsigned number) {
+    *c = (conn){.fetch = f, .mirror = m, .number = number};
+    c->http = http_new(f->stall);
+    c->bytes = malloc(BYTES_MOST);
+    c->text = malloc(GROUP_SLICE_MOST);
+    c->chunks = malloc(GROUP_LEN);
+    c->parts = (pieces){c->list, 0, PIECES_MOST};
+    return c->http && c->bytes && c->text && c->chunks;
+}
+
+void conn_free(conn *c) {
+    http_free(c->http);
+    free(c->bytes);
+    free(c->text);
+    free(c->chunks);
+}
+
+static void say(const conn *c, const place *of, const char *what) {
+    if (c->fetch->verbose) fprintf(stderr, "bw-fetch: %s: %s\n", of->url, what);
+}
+
+/* Gives pieces their room, one after another. How much that is. */
+static size_t lay_out(pieces *of, uint8_t *at) {
+    size_t used = 0;
+    for (size_t i = 0; i < of->count; i++) of->list[i].bytes = at + used, used += of->list[i].len;
+    return used;
+}
+
+static http_answer get(conn *c, place *of, pieces *wanted, http_came *came) {
+    http_answer r = http_get(c->http, of, wanted, came, c);
+    if (r == HTTP_SHORT || r == HTTP_NO_RANGES) say(c, of, http_why(c->http));
+    if (r != HTTP_MEMORY) return r;
+    fetch_lock(c->fetch);
+    fetch_fail(c->fetch, 4);
+    fetch_unlock(c->fetch);
+    return r;
+}
+
+/* --- The length */
+
+/* What a file claims in its first bytes, if that is no more than is wanted. */
+static bool get_claim(conn *c, place *of, uint64_t *total) {
+    fetch *f = c->fetch;
+    uint8_t claim[CLAIM_LEN];
+    piece it = {.len = CLAIM_LEN, .bytes = claim};
+    if (get(c, of, &(pieces){&it, 1, 1}, NULL) != HTTP_ALL) return false;
+    *total = length_claimed(claim);
+    if (*total <= f->most) return true;
+    say(c, of, "it claims more bytes than are wanted");
+    fetch_lock(f);
+    if (*total > f->claimed_above) f->claimed_above = *total;
+    fetch_unlock(f);
+    return false;
+}
+
+/* Checks what came as the slice of the last chunk, and settles the length by it. */
+static bool settle_by(conn *c, uint64_t total, const origin *from, uint64_t *at) {
+    fetch *f = c->fetch;
+    size_t len = slice_put(total, UINT64_MAX, 1, from, c->text, GROUP_SLICE_MOST);
+    *at = 0;
+    if (!len || bw_check_slice(&f->mode, f->root, UINT64_MAX, 1, c->text, len, at)) return false;
+    fetch_lock(f);
+    fetch_settle(f, total, c->text);
+    fetch_unlock(f);
+    return true;
+}
+
+/* From a combined encoding: two requests, for what it claims and for its last chunk with the parents above it. */
+static bool settle_bao(conn *c) {
+    mirror *m = c->mirror;
+    uint64_t total, at;
+    c->parts.count = 0;
+    if (!get_claim(c, &m->place, &total)) return false;
+    if (!slice_ranges(total, UINT64_MAX, 1, NULL, &c->parts)) return false;
+    size_t len = lay_out(&c->parts, c->bytes);
+    if (get(c, &m->place, &c->parts, NULL) != HTTP_ALL) return false;
+    if (settle_by(c, total, &(origin){.combined = &c->parts}, &at)) return true;
+    say(c, &m->place, "its last chunk isn't the root's");
+    fetch_lock(c->fetch);
+    m->bad++, m->wrong += len;
+    fetch_unlock(c->fetch);
+    return false;
+}
+
+/* From the parents in an outboard encoding, and the last chunk of a plain file. */
+static bool settle_plain(conn *c, line *by) {
+    mirror *m = c->mirror;
+    uint64_t total, at;
+    c->parts.count = 0;
+    if (!get_claim(c, &by->place, &total) || !slice_parents(total, UINT64_MAX, 1, &c->parts)) return false;
+    size_t parents = lay_out(&c->parts, c->bytes);
+    uint64_t last = (chunks_of(total) - 1) * BW_CHUNK_LEN;
+    piece chunk = {.at = last, .len = (size_t)(total - last), .bytes = c->bytes + parents};
+    pieces plain = {&chunk, 1, 1};
+    if (get(c, &by->place, &c->parts, NULL) != HTTP_ALL || get(c, &m->place, &plain, NULL) != HTTP_ALL) return false;
+    if (settle_by(c, total, &(origin){.outboard = &c->parts, .plain = &plain}, &at)) return true;
+    /* A parent that is refused is the outboard encoding's own. A chunk may be refused since the claim is false: nobody is
+     * blamed. */
+    if (at >= CLAIM_LEN + parents) return false;
+    say(c, &by->place, "it isn't the root's");
+    fetch_lock(c->fetch);
+    by->wrong += parents;
+    fetch_unlock(c->fetch);
+    return false;
+}
+
+/* The outboard encoding that the mirror is tried beside, each in turn, or NULL. */
+static line *line_in_turn(const conn *c) {
+    fetch *f = c->fetch;
+    for (unsigned i = 0; i < f->line_count; i++) {
+        line *it = &f->lines[c->mirror->next_line++ % f->line_count];
+        if (!it->gone) return it;
+    }
+    return NULL;
+}
+
+/* One try. Whether it went well. */
+static bool settle(conn *c, line *by) {
+    if (c->mirror->is_bao) return settle_bao(c);
+    return by && settle_plain(c, by);
+}
+
+/* --- The outboard encoding */
+
+/* How much is asked for after a request that went well: twice as much, up to a quarter of what is known. So a fault costs
+ * no more than what was true before it, and checking all from the start on no more than some checks of the whole. */
+static uint64_t next_step(uint64_t step, uint64_t good) {
+    uint64_t most = good / 4 > OUTLINE_STEP ? good / 4 : OUTLINE_STEP;
+    return 2 * step < most ? 2 * step : most;
+}
+
+/* Asks for the parts, which are what isn't known from `good` up to `came`, and learns what is true. Nobody else learns that
+ * meanwhile. */
+static void extend_outline(conn *c, line *by, uint64_t good, uint64_t came) {
+    fetch *f = c->fetch;
+    uint64_t at = good;
+    http_answer r = get(c, &by->place, &c->parts, NULL);
+    for (size_t i = c->parts.count; i--;) {
+        piece *it = &c->parts.list[i];
+        if (it->have < it->len) came = it->at + it->have;
+    }
+    bw_status checked = bw_check_outboard(&f->mode, f->root, f->outline.text, (size_t)came, &at);
+    if (checked == BW_OK) at = bw_outboard_len(f->total);
+    fetch_lock(f);
+    outline_learn_prefix(&f->outline, good, at);
+    f->outline_good = at;
+    f->outline.asked_from = f->outline.asked_to = 0;
+    bool went_well = r == HTTP_ALL && checked != BW_MISMATCH;
+    f->outline_step = went_well ? next_step(f->outline_step, at) : OUTLINE_STEP_LEAST;
+    if (checked == BW_MISMATCH) by->wrong += came - at;
+    if (!went_well) by->tried_at = at;
+    by->faults += r == HTTP_SHORT || r == HTTP_NO_RANGES || (r == HTTP_CUT && at == good);
+    by->lost += r == HTTP_CUT;
+    if (by->faults >= LINE_FAULTS_MOST) by->gone = true;
+    fetch_unlock(f);
+    if (checked == BW_MISMATCH) say(c, &by->place, "a parent isn't the root's");
+}
+
+/* --- A unit */
+
+static bool is_asked(const conn *c, unsigned group) {
+    return c->asked >> group & 1;
+}
+
+static uint64_t group_start(const conn *c, unsigned group) {
+    return c->unit_number * UNIT_LEN + (uint64_t)group * GROUP_LEN;
+}
+
+/* Adds a range of the blob to what is asked for. */
+static bool plan_range(conn *c, uint64_t start, uint64_t end) {
+    fetch *f = c->fetch;
+    if (end > f->total) end = f->total;
+    if (c->mirror->is_bao) return slice_ranges(f->total, start, end - start, &f->outline, &c->parts);
+    piece *last = c->parts.count ? &c->parts.list[c->parts.count - 1] : NULL;
+    if (last && last->at + last->len == start) return last->len += (size_t)(end - start), true;
+    if (c->parts.count == c->parts.room) return false;
+    c->parts.list[c->parts.count++] = (piece){.at = start, .len = (size_t)(end - start)};
+    return true;
+}
+
+/* Plans a request for what is open in the unit, of groups that the mirror hasn't given falsely. Groups that lie side by
+ * side and are open to their ends are asked for as one range. What a request has no room for is left to a later one. Under
+ * the lock. */
+static void plan_unit(conn *c) {
+    uint16_t refused = c->mirror->refused[c->unit_number], run = 0;
+    uint64_t start = 0, end = 0;
+    c->parts.count = 0, c->asked = 0, c->next_group = c->groups_taken = 0, c->try_at = TRY_AFTER;
+    for (unsigned g = 0; g < UNIT_GROUPS; g++) {
+        uint64_t open = c->unit->open[g];
+        if (!open || refused >> g & 1) continue;
+        span it = {(unsigned)__builtin_ctzll(open), 63 - (unsigned)__builtin_clzll(open)};
+        uint64_t from = group_start(c, g) + it.low * BW_CHUNK_LEN, to = group_start(c, g) + (it.high + 1) * BW_CHUNK_LEN;
+        if (run && from != end) {
+            if (!plan_range(c, start, end)) return;
+            c->asked |= run, run = 0;
+        }
+        if (!run) start = from;
+        end = to, run |= (uint16_t)(1 << g), c->spans[g] = it;
+    }
+    if (run && plan_range(c, start, end)) c->asked |= run;
+}
+
+/* Waits until nobody writes the group, and claims the writing. False: nothing of the mask is open any more. Under the lock.
+ * */
+static bool begin_write(conn *c, unsigned group, uint64_t mask) {
+    fetch *f = c->fetch;
+    while (c->unit->busy >> group & 1) fetch_wait(f, nap);
+    if (f->failed || !(c->unit->open[group] & mask)) return false;
+    c->unit->busy |= (uint16_t)(1 << group);
+    return true;
+}
+
+static void end_write(conn *c, unsigned group, uint64_t mask, bool ok) {
+    fetch *f = c->fetch;
+    unit *it = c->unit;
+    it->busy &= (uint16_t)~(1 << group);
+    if (!ok) fetch_fail(f, 3);
+    if (ok) f->chunks_open -= (uint64_t)__builtin_popcountll(it->open[group] & mask), it->open[group] &= ~mask;
+    if (unit_is_whole(it)) fetch_cut(f, it);
+    pthread_cond_broadcast(&f->changed);
+}
+
+/* Keeps an accepted slice of some chunks of a group. */
+static void keep(conn *c, unsigned group, span it, uint64_t start, uint64_t len) {
+    fetch *f = c->fetch;
+    unsigned count = it.high - it.low + 1;
+    uint64_t mask = (count == 64 ? UINT64_MAX : ((uint64_t)1 << count) - 1) << it.low;
+    size_t used = slice_chunks(f->total, start, len, c->text, c->chunks);
+    fetch_lock(f);
+    outline_learn(&f->outline, start, len, c->text);
+    bool mine = begin_write(c, group, mask);
+    fetch_unlock(f);
+    if (!mine) return;
+    bool ok = out_put(&f->out, start, c->chunks, used);
+    fetch_lock(f);
+    end_write(c, group, mask, ok);
+    fetch_unlock(f);
+}
+
+typedef enum taken { LACKING, TAKEN, REFUSED } taken;
+
+/* Verifies some chunks of a group as a slice, out of what came. */
+static taken take(conn *c, unsigned group, span it) {
+    fetch *f = c->fetch;
+    uint64_t start = group_start(c, group) + it.low * BW_CHUNK_LEN, len = (it.high - it.low + 1) * BW_CHUNK_LEN, at;
+    origin from = {.known = &f->outline};
+    if (c->mirror->is_bao) from.combined = &c->parts;
+    else from.plain = &c->parts;
+    size_t text_len = slice_put(f->total, start, len, &from, c->text, GROUP_SLICE_MOST);
+    if (!text_len) return LACKING;
+    if (bw_check_slice(&f->mode, f->root, start, len, c->text, text_len, &at)) return REFUSED;
+    keep(c, group, it, start, len);
+    return TAKEN;
+}
+
+/* What is refused is tried chunk by chunk, out of the same bytes. How many of its bytes were false. */
+static uint64_t salvage(conn *c, unsigned group) {
+    span of = c->spans[group];
+    uint64_t wrong = 0;
+    for (unsigned i = of.low; i <= of.high; i++) {
+        if (take(c, group, (span){i, i}) != TAKEN) wrong += BW_CHUNK_LEN;
+        else c->groups_taken++;
+    }
+    return wrong;
+}
+
+static taken take_group(conn *c, unsigned group) {
+    fetch *f = c->fetch;
+    mirror *m = c->mirror;
+    taken r = take(c, group, c->spans[group]);
+    if (r == LACKING) return r;
+    uint64_t wrong = r == REFUSED ? salvage(c, group) : 0;
+    fetch_lock(f);
+    if (r == TAKEN) m->good++, c->groups_taken++;
+    else m->bad++, m->wrong += wrong, m->refused[c->unit_number] |= (uint16_t)(1 << group);
+    fetch_judge(m);
+    fetch_unlock(f);
+    return r;
+}
+
+/* Takes the groups that came, in order, as far as they go. */
+static void take_ready(conn *c) {
+    for (; c->next_group < UNIT_GROUPS; c->next_group++) {
+        if (is_asked(c, c->next_group) && take_group(c, c->next_group) == LACKING) return;
+    }
+}
+
+/* While bytes come. A mirror that has just been found out isn't heard to the end. */
+static bool unit_came(void *with) {
+    conn *c = with;
+    size_t have = 0;
+    for (size_t i = 0; i < c->parts.count; i++) have += c->parts.list[i].have;
+    if (have < c->try_at) return true;
+    take_ready(c);
+    c->try_at = have + TRY_AFTER;
+    fetch_lock(c->fetch);
+    bool goes_on = c->was_last || !c->mirror->last;
+    fetch_unlock(c->fetch);
+    return goes_on;
+}
+
+static http_answer fetch_unit(conn *c) {
+    lay_out(&c->parts, c->bytes);
+    http_answer r = get(c, &c->mirror->place, &c->parts, unit_came);
+    take_ready(c);
+    return r;
+}
+
+/* --- Turns: under the lock */
+
+static void settle_turn(conn *c) {
+    fetch *f = c->fetch;
+    mirror *m = c->mirror;
+    line *by = m->is_bao ? NULL : line_in_turn(c);
+    fetch_unlock(f);
+    bool ok = settle(c, by);
+    fetch_lock(f);
+    if (ok || f->settled) m->in_row = 0;
+    else m->in_row++, m->faults++, fetch_wait(f, back_off);
+}
+
+static void outline_turn(conn *c, line *by) {
+    fetch *f = c->fetch;
+    uint64_t good = f->outline_good;
+    f->outliner = c, f->outliner_by = by, f->outliner_since = seconds_now();
+    c->parts.count = 0;
+    uint64_t end = outline_gaps(&f->outline, good, f->outline_step, &c->parts);
+    f->outline.asked_from = good, f->outline.asked_to = end;
+    fetch_unlock(f);
+    extend_outline(c, by, good, end);
+    fetch_lock(f);
+    f->outliner = NULL;
+    pthread_cond_broadcast(&f->changed);
+}
+
+static void unit_turn(conn *c, unit *it, uint64_t number) {
+    fetch *f = c->fetch;
+    mirror *m = c->mirror;
+    if (!it->under_way++) it->since = seconds_now();
+    c->unit = it, c->unit_number = number, c->was_last = m->last;
+    plan_unit(c);
+    fetch_unlock(f);
+    http_answer r = fetch_unit(c);
+    fetch_lock(f);
+    c->unit = NULL, it->under_way--;
+    pthread_cond_broadcast(&f->changed);
+    if (r == HTTP_CUT && !f->quit && unit_is_whole(it)) m->lost++, fetch_judge(m);
+    if (r == HTTP_NO_RANGES) fetch_leave_out(f, m, "it serves no ranges");
+    if (r == HTTP_SHORT) m->faults++;
+    /* Each request decides about all groups that it asks for, or takes one, or is a fault: so there is an end of them. */
+    bool decided = c->next_group == UNIT_GROUPS;
+    if (decided || c->groups_taken || r == HTTP_CUT) m->in_row = 0;
+    else m->in_row++, fetch_wait(f, back_off * m->in_row);
+}
+
+/* How many faults in a row a mirror may have. A local file gives the same again, and a plain one is tried beside each
+ * outboard encoding. */
+static unsigned in_row_most(const fetch *f, const mirror *m) {
+    unsigned most = m->place.is_local ? 1 : IN_ROW_MOST;
+    return !f->settled && !m->is_bao && f->line_count > most ? f->line_count : most;
+}
+
+void *fetch_work(void *with) {
+    conn *c = with;
+    fetch *f = c->fetch;
+    mirror *m = c->mirror;
+    uint64_t number = 0;
+    fetch_lock(f);
+    while (!f->quit && !f->failed && !m->gone) {
+        line *by = NULL;
+        unit *it = NULL;
+        http_clear(c->http);
+        if (f->first && f->first != m) fetch_wait(f, nap);
+        else if (m->in_row >= in_row_most(f, m)) fetch_leave_out(f, m, f->settled ? too_many : no_length);
+        else if (!f->settled && !c->number) settle_turn(c);
+        else if (!f->settled) fetch_wait(f, nap);
+        else if (!m->is_bao && (by = fetch_next_line(f))) outline_turn(c, by);
+        else if ((it = fetch_next(f, m, &number))) unit_turn(c, it, number);
+        else if (f->first == m) fetch_leave_out(f, m, NULL);
+        else fetch_wait(f, nap);
+    }
+    fetch_unlock(f);
+    return NULL;
+}
