@@ -4,7 +4,7 @@ SHELL := bash
 .SHELLFLAGS := -eu -o pipefail -c
 .DEFAULT_GOAL := help
 .DELETE_ON_ERROR:
-.PHONY: help build run try install dist sum test wrong-bodies scenarios docs c-library c-install c-test c-bench bench refuse memory stress fmt FORCE
+.PHONY: help build run try install dist sum test wrong-bodies scenarios docs c-library c-install c-test c-bench fetch fetch-install fetch-test fetch-bench bench refuse replaced memory stress statement cites fmt FORCE
 
 PREFIX ?= /usr/local
 
@@ -25,24 +25,46 @@ SOURCES := crates.txt HANDLES $(filter-out $(foreach it,$(ASIDE),crates/$(it)/%)
 help:
 	@echo 'make build                proves the program bao_gather and builds it, as out/bao_gather'
 	@echo 'make run ARGS="WORD .."   builds where something changed, and runs bao_gather on the words'
-	@echo 'make try ARGS="WORD .."   runs bao_gather on the words within a minute, unproved, in the folder crates/bao_gather'
+	@echo 'make try ARGS="WORD .."   runs bao_gather within minutes, unproved, in the folder crates/bao_gather'
 	@echo 'make sum                  prints the checksum of the built bao_gather'
-	@echo 'make install PREFIX=DIR   copies bao_gather to DIR/bin, its manual page and completions to DIR/share (PREFIX is /usr/local if left out; DESTDIR goes before it)'
-	@echo 'make dist                 makes the folder of a release, out/dist, of a commit: programs for both processor levels, manual page, completions, checksums'
-	@echo 'make test                 the gate: a look at laws and wrong bodies, what make scenarios does, rt ci (every proof from nothing, the must-fail edits, the tests and the programs), then what make docs, make refuse, make memory and make c-test do'
+	@echo 'make install PREFIX=DIR   copies bao_gather to DIR/bin, its manual page and completions to DIR/share'
+	@echo '                          (PREFIX is /usr/local if left out; DESTDIR goes before it)'
+	@echo 'make dist                 makes the folder of a release, out/dist, of a commit: programs for both processor levels,'
+	@echo '                          manual page, completions, checksums'
+	@echo 'make test                 the gate: a look at laws, wrong bodies and documents, what make scenarios does, rt ci (every'
+	@echo '                          proof from nothing, the must-fail edits, the tests and the programs), then what make docs,'
+	@echo '                          make refuse, make replaced, make memory, make c-test and make fetch-test do'
 	@echo 'make wrong-bodies         tries the wrong bodies, those that the gate leaves out too, of all crates or of CRATES="NAME .."'
-	@echo 'make docs                 runs the shell examples of README and docs/CLI.md and compares what they print, and compares the wanted figures of docs/BENCH.md with scripts/bench.py'
+	@echo 'make docs                 runs the shell examples of the documents, and holds the documents to the sources'
+	@echo 'make statement CALL="b3tree::hash" prints a contract, of a call, a type or a crate, with every definition'
+	@echo '                          behind it, in reading order'
+	@echo 'make cites NAME=IsPiece   prints what cites a definition'
 	@echo 'make scenarios            holds what the programs of scenarios have to print to replies made by the definitions alone'
-	@echo 'make c-library            proves the C library and builds it, as out/libberylwool.a and out/libberylwool.so (needs cc and binutils)'
-	@echo 'make c-install PREFIX=DIR copies the C library to DIR/lib, its header to DIR/include and its manual pages to DIR/share/man, with what pkg-config asks for'
-	@echo 'make c-test               holds c/berylwool.h to the sources, and runs the C tests, under what is installed of sanitizers, valgrind, clang and rustc'
+	@echo 'make c-library            proves the C library and builds it, as out/libberylwool.a and .so (needs cc and binutils)'
+	@echo 'make c-install PREFIX=DIR copies the C library to DIR/lib, its header to DIR/include and its manual pages to'
+	@echo '                          DIR/share/man, with what pkg-config asks for'
+	@echo 'make c-test               holds c/berylwool.h to the sources, and runs the C tests, under what is installed of'
+	@echo '                          sanitizers, valgrind, clang and rustc'
 	@echo 'make c-bench              measures calls of the C library in one thread, and prints their times'
-	@echo 'make bench                measures times and prints them with their ratios, beside b3sum where it is installed and beside what is wanted'
-	@echo 'make refuse               runs the tests of the libraries with one allocation refused after another, and each task where holders lie, and with one allocation, read, write or other call failing after another (needs cc and binutils)'
-	@echo 'make memory               runs the program where holders are large, many or endless, and holds it to bounds of memory and of what it reads (needs cc)'
+	@echo 'make fetch                builds bw-fetch, which gathers a blob over HTTP, as out/bw-fetch, over the C library (needs cc,'
+	@echo '                          pkg-config and libcurl with its headers)'
+	@echo 'make fetch-install PREFIX=DIR copies bw-fetch to DIR/bin'
+	@echo 'make fetch-test           runs bw-fetch against hostile mirrors on loopback, under what is installed of sanitizers;'
+	@echo '                          DRAWN=N for another number of fetches from drawn mirrors than 2000'
+	@echo 'make fetch-bench          measures bw-fetch beside curl and aria2c, where they are installed, over mirrors on loopback'
+	@echo '                          (needs nginx)'
+	@echo 'make bench                measures times and prints them with their ratios, beside b3sum where it is installed and'
+	@echo '                          beside what is wanted; with RECORD=1 it adds them to bench/history.tsv'
+	@echo 'make refuse               runs the tests of the libraries and each task where holders lie, and with one allocation, read,'
+	@echo '                          write or other call failing after another (needs cc and binutils)'
+	@echo 'make replaced             runs the program with an OUT of each kind, and looks at what stands there afterwards,'
+	@echo '                          and beside it'
+	@echo 'make memory               runs the program where holders are large, many or endless, and holds it to bounds of memory'
+	@echo '                          and of what it reads (needs cc)'
 	@echo 'make stress               runs the tests that start threads 200 times, many at once'
 	@echo 'make fmt                  lays out the files of each crate'
-	@echo 'CPU=x86-64 or CPU=x86-64-v3 picks the processor level, which is $(CPU) if left out; JOBS=N is the number of jobs of a proof, or of wrong bodies at a time'
+	@echo 'CPU=x86-64 or CPU=x86-64-v3 picks the processor level, which is $(CPU) if left out;'
+	@echo 'JOBS=N is the number of jobs of a proof, or of wrong bodies at a time'
 
 build: out/bao_gather
 
@@ -73,15 +95,23 @@ dist:
 test:
 	@python3 scripts/laws.py
 	@python3 scripts/wrong_bodies.py --read --strict
+	@python3 scripts/prose.py
+	@python3 scripts/rooms.py
+	@python3 scripts/readmes.py --read
+	@python3 scripts/statement.py --read
+	@python3 scripts/promises.py
+	@python3 scripts/bench.py --read
+	@python3 scripts/manual.py out/manual
 	@python3 scripts/scenarios.py
 	rt ci
 	@python3 scripts/docs.py crates/bao_gather/out/bao_gather
-	@python3 scripts/bench.py --read
 	@python3 scripts/refuse_libraries.py
 	@python3 scripts/refuse.py crates/bao_gather/out/bao_gather
+	@python3 scripts/replaced.py crates/bao_gather/out/bao_gather
 	@python3 scripts/memory.py crates/bao_gather/out/bao_gather
 	@python3 scripts/proved_by_ci.py berylwool
 	@$(MAKE) --no-print-directory c-test
+	@if $(HAS_CURL); then $(MAKE) --no-print-directory fetch-test; else echo 'left out: make fetch-test, since libcurl with its headers is not installed here'; fi
 
 wrong-bodies:
 	@python3 scripts/wrong_bodies.py $(if $(JOBS),--jobs $(JOBS)) $(CRATES)
@@ -91,21 +121,38 @@ scenarios:
 
 docs: out/bao_gather
 	@python3 scripts/docs.py out/bao_gather
+	@python3 scripts/prose.py
+	@python3 scripts/rooms.py
+	@python3 scripts/readmes.py --read
+	@python3 scripts/statement.py --read
+	@python3 scripts/promises.py
 	@python3 scripts/bench.py --read
 
 # With the C library where there is a C compiler.
 bench: out/bao_gather out/bench $(if $(shell command -v cc),out/c/compare)
-	@python3 scripts/bench.py
+	@python3 scripts/bench.py $(if $(RECORD),--record)
 
 refuse: out/bao_gather
 	@python3 scripts/refuse_libraries.py
 	@python3 scripts/refuse.py
+
+replaced: out/bao_gather
+	@python3 scripts/replaced.py
 
 memory: out/bao_gather
 	@python3 scripts/memory.py
 
 stress:
 	@python3 scripts/stress.py $(CRATES)
+
+# CALL and NAME by the environment, so that a quote in them stays a word.
+statement: export SAID := $(CALL)
+statement:
+	@python3 scripts/statement.py $$SAID
+
+cites: export SAID := $(NAME)
+cites:
+	@python3 scripts/statement.py --cites $$SAID
 
 fmt:
 	@for crate in crates/*/; do (cd "$$crate" && rt fmt); done
@@ -174,3 +221,26 @@ out/c/compare: c/compare.c c/berylwool.h out/libberylwool.a
 
 c-bench: c-library
 	@cc -std=c11 -O2 -Wall -Wextra -Ic c/bench.c out/libberylwool.a -o out/c/bench && out/c/bench
+
+# bw-fetch is C on the C library and libcurl, and isn't proved. Whether libcurl is there is asked before the C library is proved.
+HAS_CURL := pkg-config --exists libcurl 2>/dev/null
+NEEDS_CURL = @$(HAS_CURL) || { echo 'bw-fetch needs pkg-config and libcurl with its headers (of Debian: pkg-config libcurl4-openssl-dev).' >&2; exit 1; }
+FETCH_FLAGS := -std=c11 -O2 -Wall -Wextra -pthread -Ic
+
+out/bw-fetch: $(wildcard fetch/*.c fetch/*.h) c/berylwool.h out/libberylwool.a
+	@cc $(FETCH_FLAGS) $$(pkg-config --cflags libcurl) $(filter %.c %.a,$^) $$(pkg-config --libs libcurl) -o $@
+
+fetch:
+	$(NEEDS_CURL)
+	@$(MAKE) --no-print-directory out/bw-fetch
+
+fetch-install: fetch
+	install -D -m 755 out/bw-fetch '$(DESTDIR)$(PREFIX)/bin/bw-fetch'
+
+fetch-test:
+	$(NEEDS_CURL)
+	@$(MAKE) --no-print-directory out/libberylwool.a
+	@python3 fetch/tests/all.py $(DRAWN)
+
+fetch-bench: fetch
+	@python3 fetch/tests/measure.py out/bw-fetch

@@ -3,9 +3,15 @@
 
 Every command is run several times, in turns and twice in a row, and its least time counts. A figure that isn't what is wanted is said to be
 missed, and that is no failure: this fails only where a program fails, where two of them print different hashes, or where what was decoded or
-gathered isn't what was encoded. Where there is a C compiler the most memory is measured that tasks have at once. What is wanted stands here alone, in CALLS, MEMORY,
-PEAKS and RATIOS: docs/BENCH.md repeats it, and --read compares."""
+gathered isn't what was encoded. Where there is a C compiler the most memory is measured that tasks have at once. OUT is in memory (MEMORY_FOLDER), where
+there is room for it, since a sync would measure the device; one row has it on a disk. What is wanted stands here alone, in CALLS, MEMORY, PEAKS and RATIOS, and
+why it is missed in WHY.
+
+bench/history.tsv has a row for each run, with its figures; a figure may be a range, as 1.2 to 1.5. --record adds the row of this run. --write measures nothing:
+it makes the table of docs/BENCH.md and the plot docs/bench.svg out of the history, and --read says whether they are that."""
 import argparse
+import contextlib
+import datetime
 import filecmp
 import os
 import re
@@ -22,6 +28,7 @@ from peak import Launcher
 
 ROOT = os.path.dirname(os.path.dirname(os.path.abspath(__file__)))
 PROGRAM = f"{ROOT}/out/bao_gather"
+MEMORY_FOLDER = "/dev/shm"
 IN_PROCESS = f"{ROOT}/out/bench"
 # It is there where there is a C compiler.
 OF_C = f"{ROOT}/out/c/compare"
@@ -104,6 +111,7 @@ OUTBOARD = "bao_gather outboard"
 ENCODE = "bao_gather encode"
 SLICED = "bao_gather slice of 100 bytes"
 DECODE = "bao_gather decode"
+DECODE_TO_DISK = "bao_gather decode, OUT on a disk"
 DECODE_BESIDE = "bao_gather decode --outboard"
 GATHER = "bao_gather gather, one true file"
 GATHER_BESIDE = "bao_gather gather --outboard, one true copy"
@@ -172,6 +180,7 @@ ROWS = [
     (ENCODE, "whole program, several threads, writes a file"),
     (SLICED, "whole program, of the middle of the file, writes a file"),
     (DECODE, "whole program, one thread, checks the file's combined encoding, writes the file"),
+    (DECODE_TO_DISK, "as before, with OUT in the folder of temporary files, whose device its sync waits for"),
     (DECODE_BESIDE, "whole program, verifies the file beside its outboard encoding, writes it"),
     (HASH_GATHERED, "whole program, as a user runs it, of the first 64 MiB"),
     (GATHER, "whole program, four workers, of the combined encoding of the first 64 MiB"),
@@ -329,10 +338,10 @@ def wanted_figures():
     return found | {f"{name}, ns": wanted for name, wanted in CALLS if wanted}
 
 
-def is_missed(wanted, figure):
+def is_missed(wanted, figure, processors=os.cpu_count() or 1):
     """Whether the figure isn't what is wanted, where that begins with a number. One for four processors counts where there are as many."""
     said = re.match(r"(at least|at most|below|about) ([0-9.]+)( on four processors)?", wanted)
-    if not said or (said[3] and (os.cpu_count() or 1) < 4):
+    if not said or (said[3] and processors < 4):
         return False
     number = float(said[2])
     return {"at least": figure < number, "at most": figure > number, "below": figure >= number, "about": figure > ABOUT * number}[said[1]]
@@ -343,17 +352,152 @@ def judged(wanted, figure):
     return f" (wanted: {wanted}{'; MISSED' if is_missed(wanted, figure) else ''})" if wanted else ""
 
 
+HISTORY = f"{ROOT}/bench/history.tsv"
+DOCUMENT = f"{ROOT}/docs/BENCH.md"
+PLOT = f"{ROOT}/docs/bench.svg"
+# The columns before the figures.
+RUN = ["date", "commit", "machine", "build", "load", "mib", "runs", "what"]
+BEGIN, END = "<!-- made by scripts/bench.py --write -->", "<!-- made so far -->"
+
+# Why a figure is missed that is, as far as it is known.
+WHY = {
+    ratio_name("several threads", "hash", POOL_FOUR): "virtual processors share cores: see the row of 16 KiB",
+    ratio_name("one thread", AUDIT, "hash"): "the piece's chunks are read once more, out of memory and not out of a cache",
+    ratio_name("one thread", GATHER_TEXTS, HASH_OF_GATHERED): "two fresh 64 MiB, beside the check and the hash",
+    ratio_name("as a user runs it", GATHER, HASH_GATHERED): "more than half goes to making the store: a list of zeros, and the table's copy of it",
+    ratio_name("several threads", COMMITS_ONE, COMMITS_FOUR): "starting four threads takes up to 4 ms, beside 13 of work",
+    ratio_name("several threads", ENCODE, HASH_ONE): "the file is read and hashed once more, on one thread, while the encoding is written",
+    ratio_name("several threads", READS_ONE, READS_FOUR): "virtual processors share cores: see the row of 16 KiB",
+    "a shared store keeps, MB": "4.2 of it are for parents",
+    "a shared store takes at most, MB": "the list of zeros and the table's copy of it",
+}
+
+# What the plot shows, from top to bottom.
+PLOTTED = [
+    ("hash: b3sum's time / ours, one thread", ratio_name("one thread", B3SUM_ONE, "hash")),
+    ("check: of a combined encoding / hash, one thread", ratio_name("one thread", CHECK, "hash")),
+    ("decode: the program's / hash on one thread", ratio_name("several threads", DECODE, HASH_ONE)),
+    ("gather: the program's, one true file / hash on four threads", ratio_name("as a user runs it", GATHER, HASH_GATHERED)),
+]
+
+
+def history():
+    """Returns the runs: of each its cells by their columns."""
+    with open(HISTORY, encoding="utf-8") as it:
+        head, *lines = it.read().rstrip("\n").split("\n")
+    return [dict(zip(head.split("\t"), line.split("\t"))) for line in lines]
+
+
+def put_history(rows):
+    columns = [*RUN, *wanted_figures()]
+    columns += sorted({name for row in rows for name in row} - set(columns))
+    lines = ["\t".join(row.get(name, "") for name in columns) for row in rows]
+    with open(HISTORY, "w", encoding="utf-8") as it:
+        it.write("\n".join(["\t".join(columns), *lines]) + "\n")
+
+
+def record(figures, load, mib, runs):
+    """Adds a row of this run."""
+    commit = output(["git", "-C", ROOT, "rev-parse", "--short", "HEAD"]).strip()
+    if output(["git", "-C", ROOT, "status", "--porcelain", "--untracked-files=no"]).strip():
+        commit += " and changes"
+    with open(f"{ROOT}/out/cpu", encoding="utf-8") as it:
+        build = it.read().strip()
+    machine = f"{processor()}, {os.cpu_count()} processors"
+    told = [datetime.date.today().isoformat(), commit, machine, build, f"{load:.1f} before", str(mib), str(runs), ""]
+    put_history([*history(), dict(zip(RUN, told)) | {name: f"{figure:.2f}" for name, figure in figures.items()}])
+
+
+def ends_of(cell):
+    """Returns the least and the most of a figure or a range."""
+    first, _, last = cell.partition(" to ")
+    return float(first), float(last or first)
+
+
+def in_short(least, most):
+    return f"{least:g}" if least == most else f"{least:g} to {most:g}"
+
+
+def missed_by(name, wanted, cell):
+    """What is said of a figure that is missed."""
+    misses = [is_missed(wanted, it, 4) for it in ends_of(cell)]
+    if not any(misses):
+        return ""
+    return f"{'missed' if all(misses) else 'at times missed'}: {WHY.get(name, 'it is not known why')}"
+
+
+def table(rows):
+    """Returns the table of the document: each figure as it was measured last, and over all runs, with what is wanted."""
+    lines = ["| figure | last | on | over all runs | wanted | missed |", "|---|---|---|---|---|---|"]
+    for name, wanted in wanted_figures().items():
+        measured = [(row["date"], row[name]) for row in rows if row.get(name)]
+        if measured:
+            ends = [end for _, cell in measured for end in ends_of(cell)]
+            date, cell = measured[-1]
+            lines.append(f"| {name} | {cell} | {date} | {in_short(min(ends), max(ends))} | {wanted} | {missed_by(name, wanted, cell)} |")
+        else:
+            lines.append(f"| {name} | | | | {wanted} | not measured yet |")
+    return "\n".join(lines)
+
+
+def plot(rows):
+    """Returns the plot: a panel for each figure, with a bar or a point for each run that has it, and a line at what is wanted."""
+    shown = [row for row in rows if any(row.get(name) for _, name in PLOTTED)]
+    step, left, high, room = 56, 46, 110, 44
+    width, height = left + step * len(shown) + 20, (high + room) * len(PLOTTED) + 60
+    out = [f'<svg xmlns="http://www.w3.org/2000/svg" width="{width}" height="{height}" viewBox="0 0 {width} {height}" font-family="sans-serif" font-size="11">']
+    out += ['<rect width="100%" height="100%" fill="white"/>']
+    for panel, (title, name) in enumerate(PLOTTED):
+        top = panel * (high + room) + 24
+        cells = [(number, ends_of(row[name])) for number, row in enumerate(shown) if row.get(name)]
+        goal = float(re.search("[0-9.]+", wanted_figures()[name])[0])
+        most = max([goal, *(end for _, ends in cells for end in ends)]) * 1.1
+        at = lambda value: top + high - value / most * high
+        out += [f'<text x="{left}" y="{top - 8}" font-weight="bold">{title} (wanted: {wanted_figures()[name].split(":")[0]})</text>']
+        out += [f'<path d="M{left} {top}V{top + high}H{width - 20}" fill="none" stroke="black"/>']
+        for value in (0, most / 1.1):
+            out += [f'<text x="{left - 6}" y="{at(value) + 4:.1f}" text-anchor="end">{value:.2g}</text>']
+        out += [f'<path d="M{left} {at(goal):.1f}H{width - 20}" stroke="firebrick" stroke-dasharray="4 3"/>']
+        for number, (least, last) in cells:
+            x = left + step * number + step // 2
+            bar = f'<path d="M{x} {at(least):.1f}V{at(last):.1f}" stroke="steelblue" stroke-width="7" stroke-linecap="round"/>'
+            out += [f'<circle cx="{x}" cy="{at(last):.1f}" r="3.5" fill="steelblue"/>' if least == last else bar]
+            out += [f'<text x="{x + 7}" y="{at(last) + 4:.1f}">{in_short(least, last).split(" to ")[-1]}</text>']
+    for number, row in enumerate(shown):
+        x, y = left + step * number + step // 2, (high + room) * len(PLOTTED)
+        out += [f'<text x="{x}" y="{y}" text-anchor="middle">{row["date"][5:]}</text>', f'<text x="{x}" y="{y + 14}" text-anchor="middle">{row["build"][:9]}</text>']
+        out += [f'<text x="{x}" y="{y + 28}" text-anchor="middle">{row["mib"]} MiB</text>']
+    return "\n".join([*out, "</svg>"]) + "\n"
+
+
+def made():
+    """Returns the document and the plot as they are to be."""
+    rows = history()
+    with open(DOCUMENT, encoding="utf-8") as it:
+        text = it.read()
+    if text.count(BEGIN) != 1 or text.count(END) != 1:
+        fail(f"docs/BENCH.md has to have one line {BEGIN} and one {END}")
+    before, rest = text.split(BEGIN)
+    return {DOCUMENT: f"{before}{BEGIN}\n\n{table(rows)}\n\n{END}{rest.split(END)[1]}", PLOT: plot(rows)}
+
+
+def write_documents():
+    for file, text in made().items():
+        with open(file, "w", encoding="utf-8") as it:
+            it.write(text)
+    return 0
+
+
 def read_document():
-    """Compares what docs/BENCH.md says is wanted with what is, and says where it differs."""
-    told = {}
-    with open(f"{ROOT}/docs/BENCH.md", encoding="utf-8") as it:
-        for line in it:
-            cells = [cell.strip() for cell in line.strip().strip("|").split("|")]
-            if line.startswith("|") and cells[-1] != "wanted" and not re.fullmatch("[|-]+", line.strip()):
-                told[cells[0]] = cells[-1]
-    wanted = wanted_figures()
-    wrong = [f"{name}: {told.get(name, 'nothing')!r} in place of {wanted.get(name, 'nothing')!r}" for name in [*wanted, *(set(told) - set(wanted))] if told.get(name) != wanted.get(name)]
-    print("\n".join([f"docs/BENCH.md: {len(told)} wanted figures, {len(wrong)} differ from scripts/bench.py", *wrong]))
+    """Says whether the document and the plot are those of the history and of what is wanted."""
+    wrong = []
+    for file, text in made().items():
+        with open(file, encoding="utf-8") as it:
+            if it.read() != text:
+                wrong.append(f"{os.path.relpath(file, ROOT)} isn't what python3 scripts/bench.py --write makes of bench/history.tsv")
+    unknown = sorted({name for row in history() for name in row} - set(RUN) - set(wanted_figures()))
+    wrong += [f"bench/history.tsv has a figure of which nothing is wanted: {it}" for it in unknown]
+    print("\n".join([*wrong, f"docs/BENCH.md: {len(history())} runs, {len(wanted_figures())} wanted figures, {len(wrong)} differences"]))
     return 1 if wrong else 0
 
 
@@ -428,8 +572,23 @@ def gatherings(room, held, made):
     yield Command(GATHER_BESIDE, gather("--outboard", parents, held.root, made, held.blob), held.blob)
 
 
-def measure(room, mib, runs):
-    path, made = f"{room}/input", f"{room}/made"
+@contextlib.contextmanager
+def folder_in_memory(room, size):
+    """A folder for what is written, in memory, or where there is no room for so many bytes the other one."""
+    try:
+        has_room = shutil.disk_usage(MEMORY_FOLDER).free > size
+    except OSError:
+        has_room = False
+    if not has_room:
+        print(f"there is no room in {MEMORY_FOLDER}: what is written goes to a disk, and its sync is in the times", flush=True)
+        yield room
+        return
+    with tempfile.TemporaryDirectory(prefix="bench-", dir=MEMORY_FOLDER) as folder:
+        yield folder
+
+
+def measure(room, memory, mib, runs):
+    path, made, on_disk = f"{room}/input", f"{memory}/made", f"{room}/made"
     with open(path, "wb") as it:
         for _ in range(mib):
             it.write(os.urandom(MIB))
@@ -450,16 +609,18 @@ def measure(room, mib, runs):
     output([PROGRAM, "outboard", path, parents])
     commands.append(Command(SLICED, [PROGRAM, "slice", str(mib * MIB // 2), "100", path, made]))
     commands.append(Command(DECODE, [PROGRAM, "decode", root, encoding, made], path))
+    commands.append(Command(DECODE_TO_DISK, [PROGRAM, "decode", root, encoding, on_disk], path))
     commands.append(Command(DECODE_BESIDE, [PROGRAM, "decode", "--outboard", parents, root, path, made], path))
     held = holders(room, path)
     commands += gatherings(room, held, made)
     times, hashes = Times(), set()
     for _ in range(runs):
         for it in commands:
-            printed = times.run(it.name, it.words, made, it.status)
-            if made not in it.words:
+            out = on_disk if it.name == DECODE_TO_DISK else made
+            printed = times.run(it.name, it.words, out, it.status)
+            if out not in it.words:
                 hashes.add(printed[:64])
-            if it.like and not filecmp.cmp(made, it.like, shallow=False):
+            if it.like and not filecmp.cmp(out, it.like, shallow=False):
                 fail(f"what {it.name} wrote isn't {os.path.basename(it.like)}")
         times.run(HASH_GATHERED, [PROGRAM, "hash", held.blob])
         times.run_in_process(IN_PROCESS, path)
@@ -487,42 +648,48 @@ def main():
     parser = argparse.ArgumentParser(description=__doc__)
     parser.add_argument("--mib", type=int, default=256, help="the size of the file, in MiB")
     parser.add_argument("--runs", type=int, default=7, help="how often each command is run")
-    parser.add_argument("--read", action="store_true", help="measure nothing, and compare docs/BENCH.md with what is wanted")
+    parser.add_argument("--record", action="store_true", help="add the figures of this run to bench/history.tsv, and write the documents")
+    parser.add_argument("--write", action="store_true", help="measure nothing, and make the table of docs/BENCH.md and the plot out of bench/history.tsv")
+    parser.add_argument("--read", action="store_true", help="measure nothing, and say whether these are what --write makes")
     words = parser.parse_args()
-    if words.read:
-        sys.exit(read_document())
+    if words.read or words.write:
+        sys.exit(read_document() if words.read else write_documents())
+    load = os.getloadavg()[0]
     print(f"processor: {processor()}; processors: {os.cpu_count()}")
     print(f"rt version: {output(['rt', 'version']).strip()}")
     with open(f"{ROOT}/out/cpu", encoding="utf-8") as it:
         print(f"built for: {it.read().strip()}")
     print(f"file: {words.mib} MiB of random bytes; runs: {words.runs}, in turns, of which the least counts", flush=True)
     with tempfile.TemporaryDirectory(prefix="bench-") as room:
-        least, peaks = measure(room, words.mib, words.runs)
+        with folder_in_memory(room, 3 * words.mib * MIB) as memory:
+            least, peaks = measure(room, memory, words.mib, words.runs)
     print(f"\n{'seconds':>8}  what")
     for name, how in ROWS:
         if name in least:
             print(f"{least[name]:8.4f}  {name} ({how})")
-    missed = []
+    missed, figures = [], {}
 
-    def tell(figure, decimals, name, wanted, how=""):
+    def tell(figure, decimals, name, wanted, how="", unit=""):
         print(f"{figure:8.{decimals}f}  {name}{how}{judged(wanted, figure)}")
         missed.extend([name] if is_missed(wanted, figure) else [])
+        if wanted:
+            figures[name + unit] = figure
 
     if any(name in least for name, _ in CALLS):
         print(f"\n{'ns':>8}  a call of the C library")
         for name, wanted in CALLS:
-            tell(least[name] * 1e9, 1, name, wanted)
+            tell(least[name] * 1e9, 1, name, wanted, unit=", ns")
     else:
         print("\nThere is no C compiler, so there are no times of the C library.")
     print(f"\n{'MB':>8}  what")
     for name, how, wanted in MEMORY:
         if name in least:
-            tell(least[name] / 1e6, 1, name, wanted, f" ({how})")
+            tell(least[name] / 1e6, 1, name, wanted, f" ({how})", ", MB")
     if peaks:
         print(f"\n{'MiB':>8}  of memory at once, beside those of the file")
         for name, wanted in [it for it in PEAKS if it[0] in peaks]:
             peak, size = (it / MIB for it in peaks[name])
-            tell(peak, 1, peak_name(name), wanted, f" (file: {size:.1f})")
+            tell(peak, 1, peak_name(name), wanted, f" (file: {size:.1f})", ", MiB")
     else:
         print("\nThere is no C compiler, so there are no figures of memory at once.")
     print(f"\n{'ratio':>8}  of which times")
@@ -530,6 +697,9 @@ def main():
         if first in least and second in least:
             tell(least[first] / least[second], 2, ratio_name(how, first, second), wanted)
     print(f"\nmissed: {len(missed)} of {len(wanted_figures())} wanted figures")
+    if words.record:
+        record(figures, load, words.mib, words.runs)
+        write_documents()
 
 
 if __name__ == "__main__":
