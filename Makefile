@@ -48,7 +48,7 @@ help:
 	@echo 'make c-bench              measures calls of the C library in one thread, and prints their times'
 	@echo 'make fetch                builds bw-fetch, which gathers a blob over HTTP, as out/bw-fetch, over the C library (needs cc,'
 	@echo '                          pkg-config and libcurl with its headers)'
-	@echo 'make fetch-install PREFIX=DIR copies bw-fetch to DIR/bin'
+	@echo 'make fetch-install PREFIX=DIR copies bw-fetch to DIR/bin, its manual page to DIR/share/man'
 	@echo 'make fetch-test           runs bw-fetch against hostile mirrors on loopback, under what is installed of sanitizers;'
 	@echo '                          DRAWN=N for another number of fetches from drawn mirrors than 2000'
 	@echo 'make fetch-bench          measures bw-fetch beside curl and aria2c, where they are installed, over mirrors on loopback'
@@ -236,6 +236,7 @@ fetch:
 
 fetch-install: fetch
 	install -D -m 755 out/bw-fetch '$(DESTDIR)$(PREFIX)/bin/bw-fetch'
+	install -D -m 644 fetch/bw-fetch.1 '$(DESTDIR)$(PREFIX)/share/man/man1/bw-fetch.1'
 
 fetch-test:
 	$(NEEDS_CURL)

@@ -8,6 +8,7 @@ what isn't installed; with BERYLWOOL_CI in the environment nothing of these may 
 """
 import os
 import pathlib
+import re
 import shutil
 import subprocess
 import sys
@@ -54,6 +55,19 @@ def build_example():
     run("cc", *WARNINGS, "-Wno-unused-function", f"-I{ROOT}/c", f"-I{ROOT}/fetch", "-c", example, "-o", OUT / "example.o")
 
 
+def compare_manual(program):
+    """The manual page has the options that the program prints, and no others; and its statuses."""
+    printed = subprocess.run([program, "--help"], check=True, capture_output=True, text=True).stdout
+    page = (ROOT / "fetch" / "bw-fetch.1").read_text().replace("\\-", "-")
+    options = lambda text: set(re.findall(r"(?<![\w-])--?[a-z][a-z-]*", text))
+    told = options("\n".join(line for line in page.split("\n") if line.startswith(".BR -")))
+    if options(printed) != told:
+        sys.exit(f"all.py: fetch/bw-fetch.1 and --help differ in {sorted(options(printed) ^ told)}")
+    statuses = re.findall(r"(?m)^\.B (\d)$", page)
+    if statuses != re.findall(r"\b(\d) [a-z]", printed.split("Statuses:")[1]):
+        sys.exit(f"all.py: fetch/bw-fetch.1 has the statuses {statuses}")
+
+
 def main(drawn="2000"):
     OUT.mkdir(parents=True, exist_ok=True)
     sources, missing = sorted((ROOT / "fetch").glob("*.c")), []
@@ -65,6 +79,7 @@ def main(drawn="2000"):
     else:
         missing.append("clang")
     build_example()
+    compare_manual(plain)
     run(sys.executable, HERE / "hostile.py", plain, mkbao)
     run(sys.executable, HERE / "drawn.py", plain, mkbao, drawn)
     run(sys.executable, HERE / "drawn.py", "--refuse", refuses, mkbao)
