@@ -18,6 +18,9 @@
 
 enum { DONE, NOT_FETCHED, USAGE, FILE_FAULT, NO_MEMORY, OTHER_ROOT };
 
+/* What is read back at once, so that it is in a near cache when it is hashed. */
+enum { DRAIN_LEN = 262144 };
+
 static const double STALL_LEAST = 0.1, STALL_MOST = 3600, KIB = 1024, MIB = 1048576;
 
 static const char usage_text[] =
@@ -237,8 +240,8 @@ static int start(fetch *f, unsigned each) {
 static void stop(fetch *f) {
     fetch_lock(f);
     f->quit = true;
-    fetch_cut(f, NULL);
-    pthread_cond_broadcast(&f->changed);
+    fetch_cut(f, NULL, NULL);
+    fetch_tell(f);
     fetch_unlock(f);
     for (unsigned i = 0; i < f->conn_count; i++) {
         if (f->conns[i].started) pthread_join(f->conns[i].thread, NULL);
@@ -247,10 +250,13 @@ static void stop(fetch *f) {
     f->conn_count = 0;
 }
 
-/* One line on a terminal: bytes, rate, time left, mirrors. Under the lock. */
+/* One line on a terminal, ten times a second at most and at the end: bytes, rate, time left, mirrors. Under the lock. */
 static void show(const fetch *f, double began, const char *end) {
-    if (!f->settled || !isatty(STDERR_FILENO)) return;
-    double took = seconds_now() - began, all = (double)f->total / MIB, left = (double)f->chunks_open / KIB;
+    static double shown;
+    double now = seconds_now(), took = now - began;
+    if (!f->settled || (!*end && now - shown < 0.1) || !isatty(STDERR_FILENO)) return;
+    shown = now;
+    double all = (double)f->total / MIB, left = (double)f->chunks_open / KIB;
     double had = all > left ? all - left : 0, rate = took > 0 ? had / took : 0;
     unsigned live = 0, last = 0;
     for (unsigned i = 0; i < f->mirror_count; i++) {
@@ -263,10 +269,14 @@ static void show(const fetch *f, double began, const char *end) {
 
 /* Hashes the unit that comes next, as it stands in OUT.part or is passed on. Its status. */
 static int drain(fetch *f, bw_handle *hasher, uint8_t *bytes) {
-    uint64_t from = f->drained * UNIT_LEN, left = f->total - from;
-    size_t len = left < UNIT_LEN ? (size_t)left : UNIT_LEN;
-    if (!out_get(&f->out, from, bytes, len) || !out_pass(&f->out, bytes, len)) return FILE_FAULT;
-    return bw_hasher_update(hasher, bytes, len) ? OTHER_ROOT : DONE;
+    uint64_t from = f->drained * UNIT_LEN, end = f->total - from < UNIT_LEN ? f->total : from + UNIT_LEN;
+    while (from < end) {
+        size_t len = end - from < DRAIN_LEN ? (size_t)(end - from) : DRAIN_LEN;
+        if (!out_get(&f->out, from, bytes, len) || !out_pass(&f->out, bytes, len)) return FILE_FAULT;
+        if (bw_hasher_update(hasher, bytes, len)) return OTHER_ROOT;
+        from += len;
+    }
+    return DONE;
 }
 
 /* Until each unit was hashed, in order, or the fetch can't go on. */
@@ -281,12 +291,12 @@ static int watch(fetch *f, bw_handle *hasher, uint8_t *bytes) {
             status = drain(f, hasher, bytes);
             fetch_lock(f);
             f->drained += !status;
-            pthread_cond_broadcast(&f->changed);
+            if (f->out.is_pipe) pthread_cond_broadcast(&f->changed);
             continue;
         }
         if (!fetch_can_go_on(f)) break;
         show(f, began, "");
-        fetch_wait(f, 0.2);
+        fetch_wait(f, &f->whole, 0.2);
     }
     show(f, began, "\n");
     if (!status) status = f->failed;
@@ -342,7 +352,7 @@ static void not_fetched(fetch *f) {
 
 static int run(fetch *f, unsigned each) {
     bw_handle hasher = BW_EMPTY;
-    uint8_t *bytes = malloc(UNIT_LEN), found[BW_HASH_LEN];
+    uint8_t *bytes = malloc(DRAIN_LEN), found[BW_HASH_LEN];
     int status = bytes && !bw_hasher_new(&f->mode, &hasher) ? start(f, each) : no_memory();
     if (!status) status = watch(f, &hasher, bytes);
     stop(f);
@@ -372,7 +382,10 @@ static void end(fetch *f) {
 }
 
 int main(int argc, char **argv) {
-    static fetch f = {.lock = PTHREAD_MUTEX_INITIALIZER, .changed = PTHREAD_COND_INITIALIZER};
+    static fetch f = {
+        .lock = PTHREAD_MUTEX_INITIALIZER, .changed = PTHREAD_COND_INITIALIZER,
+        .whole = PTHREAD_COND_INITIALIZER, .written = PTHREAD_COND_INITIALIZER,
+    };
     words w;
     int status = read_words(&f, &w, argc, argv);
     if (status) return status < 0 ? DONE : status;

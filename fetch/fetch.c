@@ -5,7 +5,7 @@
 #include <string.h>
 #include <time.h>
 
-enum { BAD_ENOUGH = 4, LOST_ENOUGH = 3 };
+enum { BAD_ENOUGH = 4, LOST_ENOUGH = 3, STALLS_ALONE = 12 };
 
 /* How long a unit is left to one mirror, in seconds, before an idle one is asked for it as well; and then a third one. */
 static const double patience = 1;
@@ -18,27 +18,47 @@ void fetch_unlock(fetch *f) {
     pthread_mutex_unlock(&f->lock);
 }
 
-void fetch_wait(fetch *f, double seconds) {
+void fetch_wait(fetch *f, pthread_cond_t *until, double seconds) {
     struct timespec t;
     clock_gettime(CLOCK_REALTIME, &t);
     t.tv_nsec += (long)(seconds * 1e9);
     t.tv_sec += t.tv_nsec / 1000000000, t.tv_nsec %= 1000000000;
-    pthread_cond_timedwait(&f->changed, &f->lock, &t);
+    pthread_cond_timedwait(until, &f->lock, &t);
+}
+
+void fetch_tell(fetch *f) {
+    pthread_cond_broadcast(&f->changed);
+    pthread_cond_broadcast(&f->whole);
 }
 
 void fetch_fail(fetch *f, int status) {
     if (!f->failed) f->failed = status;
-    pthread_cond_broadcast(&f->changed);
+    fetch_tell(f);
 }
 
 void fetch_leave_out(fetch *f, mirror *m, const char *why) {
     if (m->gone) return;
     m->gone = true, m->why = why;
     if (f->first == m) f->first = NULL;
-    pthread_cond_broadcast(&f->changed);
+    fetch_tell(f);
+}
+
+bool fetch_leave_alone(fetch *f, place *it, double seconds) {
+    double now = seconds_now(), most = STALLS_ALONE * f->stall, until = now + (seconds < most ? seconds : most);
+    bool is_new = it->later <= now;
+    if (until > it->later) it->later = until;
+    return is_new;
+}
+
+bool place_waits(const place *it) {
+    return it->later > seconds_now();
 }
 
 /* --- The table of what is lacking */
+
+uint64_t units_of(uint64_t total) {
+    return total ? (total - 1) / UNIT_LEN + 1 : 1;
+}
 
 bool unit_is_whole(const unit *it) {
     for (unsigned g = 0; g < UNIT_GROUPS; g++) {
@@ -57,7 +77,7 @@ static bool may_have(const fetch *f, const mirror *m, const unit *it) {
 }
 
 static bool make_table(fetch *f, uint64_t total) {
-    f->unit_count = (total + UNIT_LEN - 1) / UNIT_LEN + !total;
+    f->unit_count = units_of(total);
     f->units = calloc((size_t)f->unit_count, sizeof *f->units);
     bool ok = outline_new(&f->outline, total) && f->units;
     for (unsigned i = 0; i < f->mirror_count && ok; i++) {
@@ -102,16 +122,20 @@ void fetch_settle(fetch *f, uint64_t total, const uint8_t *text) {
     outline_learn(&f->outline, UINT64_MAX, 1, text);
     f->settled = true;
     if (!keep_last_chunk(f, text)) fetch_fail(f, 3);
-    pthread_cond_broadcast(&f->changed);
+    for (unsigned i = 0; i < f->conn_count; i++) {
+        conn *c = &f->conns[i];
+        if (c->opens && c->claimed == total && !unit_is_whole(&f->units[c->unit_number])) conn_adopt(c);
+    }
+    fetch_tell(f);
 }
 
 /* --- Who is asked for what */
 
-/* Whether some other mirror, that isn't asked last, may have what is open in a unit. */
+/* Whether some other mirror, that isn't asked last or left alone, may have what is open in a unit. */
 static bool better_one_has(const fetch *f, const unit *it) {
     for (unsigned i = 0; i < f->mirror_count; i++) {
         const mirror *m = &f->mirrors[i];
-        if (!m->gone && !m->last && may_have(f, m, it)) return true;
+        if (!m->gone && !m->last && !place_waits(&m->place) && may_have(f, m, it)) return true;
     }
     return false;
 }
@@ -154,12 +178,17 @@ static bool is_better_line(const line *it, const line *than) {
     return !than || it->faults + it->lost < than->faults + than->lost;
 }
 
-/* The best of those that haven't been tried where the outboard encoding goes on. */
+/* Whether it hasn't been tried where the outboard encoding goes on. */
+static bool may_extend(const fetch *f, const line *it) {
+    return !it->gone && it->tried_at != f->outline_good;
+}
+
+/* The best of those that aren't left alone. */
 static line *best_line(fetch *f, const line *but) {
     line *best = NULL;
     for (unsigned i = 0; i < f->line_count; i++) {
         line *it = &f->lines[i];
-        if (it != but && !it->gone && it->tried_at != f->outline_good && is_better_line(it, best)) best = it;
+        if (it != but && may_extend(f, it) && !place_waits(&it->place) && is_better_line(it, best)) best = it;
     }
     return best;
 }
@@ -176,14 +205,17 @@ line *fetch_next_line(fetch *f) {
 
 /* Whether the outboard encoding may still become longer. */
 static bool outline_can_grow(fetch *f) {
-    return f->outliner || best_line(f, NULL);
+    for (unsigned i = 0; i < f->line_count; i++) {
+        if (may_extend(f, &f->lines[i])) return true;
+    }
+    return f->outliner;
 }
 
 bool fetch_can_go_on(fetch *f) {
     if (f->settled && !f->outliner) f->outline_good = outline_known(&f->outline, f->outline_good);
     for (unsigned i = 0; i < f->mirror_count; i++) {
         const mirror *m = &f->mirrors[i];
-        if (m->gone) continue;
+        if (m->gone || (!f->settled && m->is_mute)) continue;
         if (!f->settled) return true;
         for (uint64_t u = f->drained; u < f->unit_count; u++) {
             const unit *it = &f->units[u];
@@ -193,10 +225,10 @@ bool fetch_can_go_on(fetch *f) {
     return false;
 }
 
-void fetch_cut(fetch *f, const unit *of) {
+void fetch_cut(fetch *f, const unit *of, const conn *but) {
     for (unsigned i = 0; i < f->conn_count; i++) {
         conn *c = &f->conns[i];
-        if (c->http && (!of || c->unit == of)) http_cut(c->http);
+        if (c->http && c != but && (!of || c->unit == of)) http_cut(c->http);
     }
 }
 

@@ -33,6 +33,7 @@ typedef struct mirror {
     place place;
     bool is_bao;                            /* it has the combined encoding, or else the plain file */
     bool gone, last;                        /* left out; asked only for what no better one may have */
+    bool is_mute;                           /* it isn't asked for the length any more */
     const char *why;
     unsigned in_row, faults, lost, next_line;
     uint64_t good, bad, wrong;              /* groups that were taken, groups that were refused, bytes that were refused */
@@ -60,6 +61,12 @@ typedef struct conn {
     mirror *mirror;
     unsigned number;                        /* among those of its mirror */
     http *http;
+    http_answer answer;                     /* the last one, and whether it counts as a fault where it is one */
+    bool counts;
+    bool opens;                             /* the length isn't certified yet, and its unit is asked for already */
+    uint64_t claimed;                       /* the length that the mirror claims then */
+    enum { UNSURE, CERTIFIED, REFUTED } opening;
+    size_t certifying;                      /* so many of the first pieces certify it */
     unit *unit;                             /* whose bytes are asked for, or NULL */
     uint64_t unit_number;
     uint16_t asked;                         /* its groups that are asked for */
@@ -80,7 +87,8 @@ struct fetch {
     bool verbose;
 
     pthread_mutex_t lock;
-    pthread_cond_t changed;
+    pthread_cond_t changed, whole, written; /* there may be something to ask for, or nothing more; a unit is whole, or likewise;
+                                             * a group was written, or couldn't be */
     mirror mirrors[MIRRORS_MOST + 1];
     line lines[MIRRORS_MOST];
     conn *conns;
@@ -104,17 +112,21 @@ struct fetch {
 void fetch_lock(fetch *f);
 void fetch_unlock(fetch *f);
 
-/* Waits, under the lock, until something changed or the time is over. */
-void fetch_wait(fetch *f, double seconds);
+/* Waits, under the lock, until one of `changed` or `whole` is told or the time is over. */
+void fetch_wait(fetch *f, pthread_cond_t *until, double seconds);
 
 /* The rest is called under the lock. */
+
+/* Tells all that wait. */
+void fetch_tell(fetch *f);
 
 /* Ends the fetch with a status. The first one stands. */
 void fetch_fail(fetch *f, int status);
 
 void fetch_leave_out(fetch *f, mirror *m, const char *why);
 
-/* The length is certified, by the slice of the last byte. */
+/* The length is certified, by the slice of the last byte. Units that were asked for already, under the same claim, are under
+ * way from now on. */
 void fetch_settle(fetch *f, uint64_t total, const uint8_t *text);
 
 /* The unit that a mirror is to be asked for, or NULL. */
@@ -123,22 +135,51 @@ unit *fetch_next(fetch *f, const mirror *m, uint64_t *number);
 /* The outboard encoding that is to be asked next, or NULL. One that takes long is left for another one. */
 line *fetch_next_line(fetch *f);
 
+/* Leaves a place alone for as long as it asks, and at most for 12 stall times. False: it is left alone already. */
+bool fetch_leave_alone(fetch *f, place *it, double seconds);
+bool place_waits(const place *it);
+
 /* Decides whether a mirror is asked last from now on. */
 void fetch_judge(mirror *m);
 
 /* Whether some mirror may still have something that is lacking. */
 bool fetch_can_go_on(fetch *f);
 
+uint64_t units_of(uint64_t total);
 bool unit_is_whole(const unit *it);
 
-/* Ends the requests for a unit, or with NULL all. */
-void fetch_cut(fetch *f, const unit *of);
+/* Ends the requests for a unit, or with NULL all, but for that of one connection. */
+void fetch_cut(fetch *f, const unit *of, const conn *but);
 
-/* What a connection's thread does, until the fetch ends or its mirror is left out. */
-void *fetch_work(void *conn);
+/* --- A connection */
 
 /* Its handle and buffers. False: out of memory. */
 bool conn_new(conn *c, fetch *f, mirror *m, unsigned number);
 void conn_free(conn *c);
+
+/* What a connection's thread does, until the fetch ends or its mirror is left out. */
+void *fetch_work(void *conn);
+
+/* One try to certify the length, from the mirror and, where it has the plain file, from an outboard encoding. Whether it went
+ * well. The connection may have been given a unit then, which it has asked for. */
+bool conn_settle(conn *c, line *by);
+
+/* The unit that was asked for together with the length is the connection's. Under the lock. */
+void conn_adopt(conn *c);
+
+/* Takes the groups of its unit that came, in order, as far as they go. */
+void conn_take(conn *c);
+
+/* The same, while bytes come. False: nothing more is wanted. */
+bool conn_came(void *conn);
+
+/* One exchange, and what follows from its answer for all connections. */
+http_answer conn_get(conn *c, place *of, pieces *wanted, http_came *came);
+http_answer conn_heard(conn *c, place *of, http_answer answer);
+
+void conn_say(const conn *c, const place *of, const char *what);
+
+/* Gives pieces their room, one after another. How much that is. */
+size_t pieces_lay_out(pieces *of, uint8_t *at);
 
 #endif

@@ -1,8 +1,10 @@
 #define _GNU_SOURCE
 #include "http.h"
 
+#include <ctype.h>
 #include <curl/curl.h>
 #include <errno.h>
+#include <inttypes.h>
 #include <stdio.h>
 #include <stdlib.h>
 #include <string.h>
@@ -17,6 +19,7 @@ enum {
     SLACK_OF_PART = 512,
     RANGES_MOST = 64,
     RANGE_DIGITS = 42,
+    NEAR = 65536,                           /* gaps of so many bytes are asked for as well, by one range */
     BUFFER_LEN = 131072,
     REDIRECTS_MOST = 5,
     RATE_LEAST = 1024,
@@ -37,7 +40,8 @@ struct http {
     body_state state;
     uint64_t came, most;                    /* body bytes: so far, and how many are taken at most */
     uint64_t at, left;                      /* the file's position of the next byte, and how many more of its part follow */
-    bool ranged, multipart, too_much, refused_several;
+    bool ranged, multipart, too_much, refused_several, at_end;
+    double wait;                            /* what Retry-After asks for, in seconds, or -1 */
     char line[LINE_MOST];
     size_t line_len;
     char range[RANGES_MOST * RANGE_DIGITS];
@@ -54,11 +58,11 @@ static bool is_whole(const piece *it) {
     return it->have == it->len;
 }
 
-static bool all_whole(const piece *list, size_t count) {
-    for (size_t i = 0; i < count; i++) {
-        if (!is_whole(&list[i])) return false;
-    }
-    return true;
+/* How many of the pieces lack something. */
+static size_t lacking(const piece *list, size_t count) {
+    size_t n = 0;
+    for (size_t i = 0; i < count; i++) n += !is_whole(&list[i]);
+    return n;
 }
 
 /* --- An answer's body */
@@ -75,6 +79,17 @@ static bool read_content_range(const char *text, uint64_t *from, uint64_t *len) 
     if (sscanf(text, "bytes %llu-%llu", &first, &last) != 2 || last < first || last - first == UINT64_MAX) return false;
     *from = first, *len = last - first + 1;
     return true;
+}
+
+/* "120", or a date (RFC 9110, 10.2.3). In seconds from now, or -1. */
+static double read_retry_after(const char *text) {
+    char *end;
+    if (isdigit((unsigned char)*text)) {
+        double seconds = (double)strtoull(text, &end, 10);
+        return end[strspn(end, " \t\r\n")] ? -1 : seconds;
+    }
+    time_t at = curl_getdate(text, NULL), now = time(NULL);
+    return at < 0 ? -1 : at > now ? difftime(at, now) : 0;
 }
 
 /* Hands bytes of the file to the pieces that they belong to. A piece is filled from its first byte on. */
@@ -127,11 +142,15 @@ static size_t take_part_body(http *it, const uint8_t *bytes, size_t len) {
 static void begin_body(http *it) {
     long code = 0;
     curl_easy_getinfo(it->easy, CURLINFO_RESPONSE_CODE, &code);
-    const piece *last = &it->asked[it->asked_count - 1];
+    uint64_t end = 0;
+    for (size_t i = 0; i < it->asked_count; i++) {
+        const piece *of = &it->asked[i];
+        if (!is_whole(of) && of->at + of->len > end) end = of->at + of->len;
+    }
     it->state = REFUSED;
     if (code == 206 && it->multipart) it->state = PART_HEADERS, it->left = 0;
     else if (code == 206 && it->ranged) it->state = ONE_BODY;
-    else if (code == 200 && last->at + last->len <= it->most) it->state = ONE_BODY, it->at = 0;
+    else if (code == 200 && end <= it->most) it->state = ONE_BODY, it->at = 0;
     else if (code == 200) it->too_much = true;
 }
 
@@ -157,10 +176,12 @@ static size_t on_header(char *line, size_t one, size_t len, void *with) {
     (void)one;
     if ((it->header_bytes += len) > HEADERS_MOST) return 0;
     snprintf(text, sizeof text, "%.*s", (int)(len < LINE_MOST ? len : LINE_MOST - 1), line);
-    if (!strncasecmp(text, "http/", 5)) it->ranged = it->multipart = false;
+    if (!strncasecmp(text, "http/", 5)) it->ranged = it->multipart = false, it->wait = -1;
     const char *range = value_of(text, "content-range:"), *type = value_of(text, "content-type:");
+    const char *later = value_of(text, "retry-after:");
     if (range) it->ranged = read_content_range(range, &it->at, &it->left);
     if (type) it->multipart = value_of(type, "multipart/byteranges");
+    if (later) it->wait = read_retry_after(later);
     return len;
 }
 
@@ -189,6 +210,8 @@ static bool set_options(http *it) {
     if (!r) r = curl_easy_setopt(it->easy, CURLOPT_HEADERFUNCTION, on_header);
     if (!r) r = curl_easy_setopt(it->easy, CURLOPT_HEADERDATA, it);
     if (!r) r = curl_easy_setopt(it->easy, CURLOPT_ERRORBUFFER, it->why);
+    const char *authorities = getenv("SSL_CERT_FILE");
+    if (!r && authorities) r = curl_easy_setopt(it->easy, CURLOPT_CAINFO, authorities);
     return !r;
 }
 
@@ -244,21 +267,32 @@ static CURLcode drive(http *it, http_came *came, void *with, bool *cut) {
     return CURLE_RECV_ERROR;
 }
 
-static bool set_request(http *it, piece *list, size_t count) {
-    bool secure = !strncasecmp(it->of->url, "https:", 6);
-    const char *schemes = secure ? "https" : "http,https";
+/* Writes the ranges of what the pieces lack, or one range from the first of it to the last. How many bytes are asked for, or 0
+ * where there is no room. */
+static uint64_t write_ranges(http *it, const piece *list, size_t count, bool as_one) {
     size_t used = 0;
     uint64_t sum = 0;
     for (size_t i = 0; i < count; i++) {
         unsigned long long first = list[i].at + list[i].have, last = list[i].at + list[i].len - 1;
         if (is_whole(&list[i])) continue;
         used += (size_t)snprintf(it->range + used, sizeof it->range - used, "%s%llu-%llu", used ? "," : "", first, last);
-        if (used >= sizeof it->range) return false;
+        if (used >= sizeof it->range) return 0;
         sum += list[i].len - list[i].have;
     }
+    if (!as_one) return sum;
+    uint64_t first = list[0].at + list[0].have, end = list[count - 1].at + list[count - 1].len;
+    snprintf(it->range, sizeof it->range, "%" PRIu64 "-%" PRIu64, first, end - 1);
+    return end - first;
+}
+
+static bool set_request(http *it, piece *list, size_t count, bool as_one) {
+    bool secure = !strncasecmp(it->of->url, "https:", 6);
+    const char *schemes = secure ? "https" : "http,https";
+    uint64_t sum = write_ranges(it, list, count, as_one);
+    if (!sum) return false;
     it->asked = list, it->asked_count = count, it->header_bytes = 0;
     it->state = NOTHING_YET, it->came = it->left = 0, it->most = sum + SLACK + count * SLACK_OF_PART;
-    it->ranged = it->multipart = it->too_much = false, it->line_len = 0, it->why[0] = 0;
+    it->ranged = it->multipart = it->too_much = false, it->wait = -1, it->line_len = 0, it->why[0] = 0;
     CURLcode r = curl_easy_setopt(it->easy, CURLOPT_URL, it->of->url);
     if (!r) r = curl_easy_setopt(it->easy, CURLOPT_RANGE, it->range);
     if (!r) r = curl_easy_setopt(it->easy, CURLOPT_PROTOCOLS_STR, schemes);
@@ -266,21 +300,23 @@ static bool set_request(http *it, piece *list, size_t count) {
     return !r;
 }
 
-/* One request for some pieces. */
-static http_answer ask(http *it, piece *list, size_t count, http_came *came, void *with) {
+/* One request for some pieces, of several ranges or of one. */
+static http_answer ask(http *it, piece *list, size_t count, bool as_one, http_came *came, void *with) {
     bool cut = false;
-    if (!set_request(it, list, count)) return HTTP_MEMORY;
+    if (!set_request(it, list, count, as_one)) return HTTP_MEMORY;
     if (curl_multi_add_handle(it->multi, it->easy)) return HTTP_MEMORY;
     CURLcode r = drive(it, came, with, &cut);
     curl_multi_remove_handle(it->multi, it->easy);
     const char *why = it->too_much ? "it serves no ranges" : r ? curl_easy_strerror(r) : "other bytes came than were asked for";
     if (!it->why[0]) snprintf(it->why, sizeof it->why, "%s", why);
-    if (all_whole(list, count)) return HTTP_ALL;
+    if (!lacking(list, count)) return HTTP_ALL;
     long code = 0;
     curl_easy_getinfo(it->easy, CURLINFO_RESPONSE_CODE, &code);
     it->refused_several = code == 400 || code == 416 || code == 501;
+    it->at_end = !r && it->state == ONE_BODY;
     if (cut) return HTTP_CUT;
     if (r == CURLE_OUT_OF_MEMORY) return HTTP_MEMORY;
+    if ((code == 429 || code == 503) && it->wait >= 0) return HTTP_LATER;
     return it->too_much ? HTTP_NO_RANGES : HTTP_SHORT;
 }
 
@@ -293,6 +329,7 @@ static http_answer read_file(http *it, place *of, pieces *wanted, http_came *cam
             if (n < 0 && errno == EINTR) continue;
             if (n <= 0) {
                 snprintf(it->why, sizeof it->why, "%s", n ? strerror(errno) : "it ends before");
+                it->at_end = !n;
                 return HTTP_SHORT;
             }
             to->have += (size_t)n;
@@ -303,22 +340,47 @@ static http_answer read_file(http *it, place *of, pieces *wanted, http_came *cam
     return HTTP_ALL;
 }
 
+/* How many pieces are asked for as one range: each begins near the end of the one before, and the first and the last lack
+ * something. */
+static size_t near_ones(const piece *list, size_t count) {
+    size_t n = 1;
+    for (size_t i = 1; i < count; i++) {
+        uint64_t end = list[i - 1].at + list[i - 1].len;
+        if (list[i].at < end || list[i].at - end > NEAR) break;
+        if (!is_whole(&list[i])) n = i + 1;
+    }
+    return n;
+}
+
 http_answer http_get(http *it, place *of, pieces *wanted, http_came *came, void *with) {
     it->of = of;
-    if (all_whole(wanted->list, wanted->count)) return HTTP_ALL;
+    size_t several = lacking(wanted->list, wanted->count);
+    if (!several) return HTTP_ALL;
     if (of->fd >= 0) return read_file(it, of, wanted, came, with);
-    if (wanted->count > 1 && !atomic_load(&of->one_range)) {
-        http_answer r = ask(it, wanted->list, wanted->count, came, with);
+    if (several > 1 && !atomic_load(&of->one_range)) {
+        http_answer r = ask(it, wanted->list, wanted->count, false, came, with);
         /* Several ranges may be too many for a server that knows one: it gives the whole file, one range alone, or an
          * error. */
         bool one_alone = r == HTTP_SHORT && (it->state == ONE_BODY || it->refused_several);
         if (r != HTTP_NO_RANGES && !one_alone) return r;
         atomic_store(&of->one_range, true);
     }
-    for (size_t i = 0; i < wanted->count; i++) {
+    for (size_t i = 0, n; i < wanted->count; i += n) {
+        n = 1;
         if (is_whole(&wanted->list[i])) continue;
-        http_answer r = ask(it, &wanted->list[i], 1, came, with);
+        n = near_ones(&wanted->list[i], wanted->count - i);
+        http_answer r = ask(it, &wanted->list[i], n, true, came, with);
         if (r != HTTP_ALL) return r;
     }
     return HTTP_ALL;
+}
+
+http_answer http_begin(http *it, place *of, piece *first) {
+    it->at_end = false;
+    http_answer r = http_get(it, of, &(pieces){first, 1, 1}, NULL, NULL);
+    return r == HTTP_SHORT && it->at_end ? HTTP_ALL : r;
+}
+
+double http_wait(const http *it) {
+    return it->wait;
 }

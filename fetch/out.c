@@ -90,6 +90,14 @@ bool out_get(const out *it, uint64_t from, uint8_t *bytes, size_t len) {
     return read_at(it->fd, from, bytes, len) || say(it->part);
 }
 
+void out_write_back(const out *it, uint64_t from, uint64_t len) {
+#ifdef SYNC_FILE_RANGE_WRITE
+    if (!it->is_pipe) sync_file_range(it->fd, (off_t)from, (off_t)len, SYNC_FILE_RANGE_WRITE);
+#else
+    (void)it, (void)from, (void)len;
+#endif
+}
+
 bool out_pass(out *it, const uint8_t *bytes, size_t len) {
     while (it->is_pipe && len) {
         ssize_t n = write(STDOUT_FILENO, bytes, len);

@@ -28,6 +28,9 @@ int out_open(out *it, uint64_t total);
 bool out_put(out *it, uint64_t from, const uint8_t *bytes, size_t len);
 bool out_get(const out *it, uint64_t from, uint8_t *bytes, size_t len);
 
+/* Has the disk begin with a range of the file, so that less is left to out_finish. */
+void out_write_back(const out *it, uint64_t from, uint64_t len);
+
 /* Writes the next bytes to a pipe; of a file nothing is to be done. */
 bool out_pass(out *it, const uint8_t *bytes, size_t len);
 

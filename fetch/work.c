@@ -1,21 +1,22 @@
-/* What a connection does: certifies the length, extends the outboard encoding, fetches a unit. */
+/* What a connection does: extends the outboard encoding, fetches a unit, and takes turns. */
 #define _GNU_SOURCE
 #include "fetch.h"
 
 #include <stdio.h>
 #include <stdlib.h>
-#include <string.h>
 
 enum {
     IN_ROW_MOST = 5,                        /* faults in a row, and a mirror is left out */
     LINE_FAULTS_MOST = 5,
-    BYTES_MOST = UNIT_LEN + UNIT_LEN / BW_CHUNK_LEN * PARENT_LEN + PATH_MOST * PARENT_LEN,
+    PATH_LEN = PATH_MOST * PARENT_LEN,
+    BYTES_MOST = UNIT_LEN + UNIT_LEN / BW_CHUNK_LEN * PARENT_LEN + PATH_LEN + BW_CHUNK_LEN + PATH_LEN,
     OUTLINE_STEP = 1 << 20,
-    TRY_AFTER = 16384
+    TRY_AFTER = GROUP_LEN                   /* bytes that come before what came is tried again */
 };
 
 static const double nap = 0.2, back_off = 0.1;
 static const char too_many[] = "too many faults in a row", no_length[] = "it certifies no length";
+static const char no_ranges[] = "it serves no ranges";
 
 bool conn_new(conn *c, fetch *f, mirror *m, unsigned number) {
     *c = (conn){.fetch = f, .mirror = m, .number = number};
@@ -34,109 +35,30 @@ void conn_free(conn *c) {
     free(c->chunks);
 }
 
-static void say(const conn *c, const place *of, const char *what) {
+void conn_say(const conn *c, const place *of, const char *what) {
     if (c->fetch->verbose) fprintf(stderr, "bw-fetch: %s: %s\n", of->url, what);
 }
 
-/* Gives pieces their room, one after another. How much that is. */
-static size_t lay_out(pieces *of, uint8_t *at) {
+size_t pieces_lay_out(pieces *of, uint8_t *at) {
     size_t used = 0;
     for (size_t i = 0; i < of->count; i++) of->list[i].bytes = at + used, used += of->list[i].len;
     return used;
 }
 
-static http_answer get(conn *c, place *of, pieces *wanted, http_came *came) {
-    http_answer r = http_get(c->http, of, wanted, came, c);
-    if (r == HTTP_SHORT || r == HTTP_NO_RANGES) say(c, of, http_why(c->http));
-    if (r != HTTP_MEMORY) return r;
-    fetch_lock(c->fetch);
-    fetch_fail(c->fetch, 4);
-    fetch_unlock(c->fetch);
-    return r;
-}
-
-/* --- The length */
-
-/* What a file claims in its first bytes, if that is no more than is wanted. */
-static bool get_claim(conn *c, place *of, uint64_t *total) {
+http_answer conn_heard(conn *c, place *of, http_answer answer) {
     fetch *f = c->fetch;
-    uint8_t claim[CLAIM_LEN];
-    piece it = {.len = CLAIM_LEN, .bytes = claim};
-    if (get(c, of, &(pieces){&it, 1, 1}, NULL) != HTTP_ALL) return false;
-    *total = length_claimed(claim);
-    if (*total <= f->most) return true;
-    say(c, of, "it claims more bytes than are wanted");
+    c->answer = answer, c->counts = true;
+    if (answer == HTTP_SHORT || answer == HTTP_NO_RANGES) conn_say(c, of, http_why(c->http));
+    if (answer == HTTP_LATER) conn_say(c, of, "it asks to be asked later");
     fetch_lock(f);
-    if (*total > f->claimed_above) f->claimed_above = *total;
+    if (answer == HTTP_MEMORY) fetch_fail(f, 4);
+    if (answer == HTTP_LATER) c->counts = fetch_leave_alone(f, of, http_wait(c->http));
     fetch_unlock(f);
-    return false;
+    return answer;
 }
 
-/* Checks what came as the slice of the last chunk, and settles the length by it. */
-static bool settle_by(conn *c, uint64_t total, const origin *from, uint64_t *at) {
-    fetch *f = c->fetch;
-    size_t len = slice_put(total, UINT64_MAX, 1, from, c->text, GROUP_SLICE_MOST);
-    *at = 0;
-    if (!len || bw_check_slice(&f->mode, f->root, UINT64_MAX, 1, c->text, len, at)) return false;
-    fetch_lock(f);
-    fetch_settle(f, total, c->text);
-    fetch_unlock(f);
-    return true;
-}
-
-/* From a combined encoding: two requests, for what it claims and for its last chunk with the parents above it. */
-static bool settle_bao(conn *c) {
-    mirror *m = c->mirror;
-    uint64_t total, at;
-    c->parts.count = 0;
-    if (!get_claim(c, &m->place, &total)) return false;
-    if (!slice_ranges(total, UINT64_MAX, 1, NULL, &c->parts)) return false;
-    size_t len = lay_out(&c->parts, c->bytes);
-    if (get(c, &m->place, &c->parts, NULL) != HTTP_ALL) return false;
-    if (settle_by(c, total, &(origin){.combined = &c->parts}, &at)) return true;
-    say(c, &m->place, "its last chunk isn't the root's");
-    fetch_lock(c->fetch);
-    m->bad++, m->wrong += len;
-    fetch_unlock(c->fetch);
-    return false;
-}
-
-/* From the parents in an outboard encoding, and the last chunk of a plain file. */
-static bool settle_plain(conn *c, line *by) {
-    mirror *m = c->mirror;
-    uint64_t total, at;
-    c->parts.count = 0;
-    if (!get_claim(c, &by->place, &total) || !slice_parents(total, UINT64_MAX, 1, &c->parts)) return false;
-    size_t parents = lay_out(&c->parts, c->bytes);
-    uint64_t last = (chunks_of(total) - 1) * BW_CHUNK_LEN;
-    piece chunk = {.at = last, .len = (size_t)(total - last), .bytes = c->bytes + parents};
-    pieces plain = {&chunk, 1, 1};
-    if (get(c, &by->place, &c->parts, NULL) != HTTP_ALL || get(c, &m->place, &plain, NULL) != HTTP_ALL) return false;
-    if (settle_by(c, total, &(origin){.outboard = &c->parts, .plain = &plain}, &at)) return true;
-    /* A parent that is refused is the outboard encoding's own. A chunk may be refused since the claim is false: nobody is
-     * blamed. */
-    if (at >= CLAIM_LEN + parents) return false;
-    say(c, &by->place, "it isn't the root's");
-    fetch_lock(c->fetch);
-    by->wrong += parents;
-    fetch_unlock(c->fetch);
-    return false;
-}
-
-/* The outboard encoding that the mirror is tried beside, each in turn, or NULL. */
-static line *line_in_turn(const conn *c) {
-    fetch *f = c->fetch;
-    for (unsigned i = 0; i < f->line_count; i++) {
-        line *it = &f->lines[c->mirror->next_line++ % f->line_count];
-        if (!it->gone) return it;
-    }
-    return NULL;
-}
-
-/* One try. Whether it went well. */
-static bool settle(conn *c, line *by) {
-    if (c->mirror->is_bao) return settle_bao(c);
-    return by && settle_plain(c, by);
+http_answer conn_get(conn *c, place *of, pieces *wanted, http_came *came) {
+    return conn_heard(c, of, http_get(c->http, of, wanted, came, c));
 }
 
 /* --- The outboard encoding */
@@ -148,12 +70,18 @@ static uint64_t next_step(uint64_t step, uint64_t good) {
     return 2 * step < most ? 2 * step : most;
 }
 
+/* Faults of an outboard encoding. It is left out after too many of them. Under the lock. */
+static void blame_line(line *by, unsigned faults) {
+    by->faults += faults;
+    if (by->faults >= LINE_FAULTS_MOST) by->gone = true;
+}
+
 /* Asks for the parts, which are what isn't known from `good` up to `came`, and learns what is true. Nobody else learns that
  * meanwhile. */
 static void extend_outline(conn *c, line *by, uint64_t good, uint64_t came) {
     fetch *f = c->fetch;
     uint64_t at = good;
-    http_answer r = get(c, &by->place, &c->parts, NULL);
+    http_answer r = conn_get(c, &by->place, &c->parts, NULL);
     for (size_t i = c->parts.count; i--;) {
         piece *it = &c->parts.list[i];
         if (it->have < it->len) came = it->at + it->have;
@@ -164,15 +92,15 @@ static void extend_outline(conn *c, line *by, uint64_t good, uint64_t came) {
     outline_learn_prefix(&f->outline, good, at);
     f->outline_good = at;
     f->outline.asked_from = f->outline.asked_to = 0;
-    bool went_well = r == HTTP_ALL && checked != BW_MISMATCH;
+    bool went_well = r == HTTP_ALL && checked != BW_MISMATCH, is_later = r == HTTP_LATER && checked != BW_MISMATCH;
     f->outline_step = went_well ? next_step(f->outline_step, at) : OUTLINE_STEP_LEAST;
     if (checked == BW_MISMATCH) by->wrong += came - at;
-    if (!went_well) by->tried_at = at;
-    by->faults += r == HTTP_SHORT || r == HTTP_NO_RANGES || (r == HTTP_CUT && at == good);
+    if (!went_well && !is_later) by->tried_at = at;
+    bool is_fault = r == HTTP_SHORT || r == HTTP_NO_RANGES || (r == HTTP_LATER && c->counts) || (r == HTTP_CUT && at == good);
     by->lost += r == HTTP_CUT;
-    if (by->faults >= LINE_FAULTS_MOST) by->gone = true;
+    blame_line(by, is_fault);
     fetch_unlock(f);
-    if (checked == BW_MISMATCH) say(c, &by->place, "a parent isn't the root's");
+    if (checked == BW_MISMATCH) conn_say(c, &by->place, "a parent isn't the root's");
 }
 
 /* --- A unit */
@@ -197,17 +125,35 @@ static bool plan_range(conn *c, uint64_t start, uint64_t end) {
     return true;
 }
 
+static span span_of(uint64_t open) {
+    return (span){(unsigned)__builtin_ctzll(open), 63 - (unsigned)__builtin_clzll(open)};
+}
+
+static void begin_unit(conn *c) {
+    unit *it = &c->fetch->units[c->unit_number];
+    if (!it->under_way++) it->since = seconds_now();
+    c->unit = it, c->was_last = c->mirror->last;
+    c->asked = 0, c->next_group = c->groups_taken = 0, c->try_at = TRY_AFTER;
+}
+
+void conn_adopt(conn *c) {
+    begin_unit(c);
+    for (unsigned g = 0; g < UNIT_GROUPS; g++) {
+        if (c->unit->open[g]) c->asked |= (uint16_t)(1 << g), c->spans[g] = span_of(c->unit->open[g]);
+    }
+}
+
 /* Plans a request for what is open in the unit, of groups that the mirror hasn't given falsely. Groups that lie side by
  * side and are open to their ends are asked for as one range. What a request has no room for is left to a later one. Under
  * the lock. */
 static void plan_unit(conn *c) {
     uint16_t refused = c->mirror->refused[c->unit_number], run = 0;
     uint64_t start = 0, end = 0;
-    c->parts.count = 0, c->asked = 0, c->next_group = c->groups_taken = 0, c->try_at = TRY_AFTER;
+    c->parts.count = 0;
     for (unsigned g = 0; g < UNIT_GROUPS; g++) {
         uint64_t open = c->unit->open[g];
         if (!open || refused >> g & 1) continue;
-        span it = {(unsigned)__builtin_ctzll(open), 63 - (unsigned)__builtin_clzll(open)};
+        span it = span_of(open);
         uint64_t from = group_start(c, g) + it.low * BW_CHUNK_LEN, to = group_start(c, g) + (it.high + 1) * BW_CHUNK_LEN;
         if (run && from != end) {
             if (!plan_range(c, start, end)) return;
@@ -223,20 +169,24 @@ static void plan_unit(conn *c) {
  * */
 static bool begin_write(conn *c, unsigned group, uint64_t mask) {
     fetch *f = c->fetch;
-    while (c->unit->busy >> group & 1) fetch_wait(f, nap);
+    while (c->unit->busy >> group & 1) pthread_cond_wait(&f->written, &f->lock);
     if (f->failed || !(c->unit->open[group] & mask)) return false;
     c->unit->busy |= (uint16_t)(1 << group);
     return true;
 }
 
-static void end_write(conn *c, unsigned group, uint64_t mask, bool ok) {
+/* Whether the unit is whole by that. Under the lock. */
+static bool end_write(conn *c, unsigned group, uint64_t mask, bool ok) {
     fetch *f = c->fetch;
     unit *it = c->unit;
     it->busy &= (uint16_t)~(1 << group);
+    pthread_cond_broadcast(&f->written);
     if (!ok) fetch_fail(f, 3);
     if (ok) f->chunks_open -= (uint64_t)__builtin_popcountll(it->open[group] & mask), it->open[group] &= ~mask;
-    if (unit_is_whole(it)) fetch_cut(f, it);
-    pthread_cond_broadcast(&f->changed);
+    if (!unit_is_whole(it)) return false;
+    fetch_cut(f, it, c);
+    pthread_cond_broadcast(&f->whole);
+    return true;
 }
 
 /* Keeps an accepted slice of some chunks of a group. */
@@ -252,8 +202,9 @@ static void keep(conn *c, unsigned group, span it, uint64_t start, uint64_t len)
     if (!mine) return;
     bool ok = out_put(&f->out, start, c->chunks, used);
     fetch_lock(f);
-    end_write(c, group, mask, ok);
+    bool is_whole = end_write(c, group, mask, ok);
     fetch_unlock(f);
+    if (is_whole) out_write_back(&f->out, c->unit_number * UNIT_LEN, UNIT_LEN);
 }
 
 typedef enum taken { LACKING, TAKEN, REFUSED } taken;
@@ -272,13 +223,15 @@ static taken take(conn *c, unsigned group, span it) {
     return TAKEN;
 }
 
-/* What is refused is tried chunk by chunk, out of the same bytes. How many of its bytes were false. */
-static uint64_t salvage(conn *c, unsigned group) {
-    span of = c->spans[group];
+/* What is refused is tried in halves, out of the same bytes, down to a chunk. How many of its bytes were false. */
+static uint64_t salvage(conn *c, unsigned group, span of) {
+    if (of.low == of.high) return BW_CHUNK_LEN;
+    unsigned middle = (of.low + of.high) / 2;
+    const span halves[] = {{of.low, middle}, {middle + 1, of.high}};
     uint64_t wrong = 0;
-    for (unsigned i = of.low; i <= of.high; i++) {
-        if (take(c, group, (span){i, i}) != TAKEN) wrong += BW_CHUNK_LEN;
-        else c->groups_taken++;
+    for (int i = 0; i < 2; i++) {
+        if (take(c, group, halves[i]) == TAKEN) c->groups_taken++;
+        else wrong += salvage(c, group, halves[i]);
     }
     return wrong;
 }
@@ -288,7 +241,7 @@ static taken take_group(conn *c, unsigned group) {
     mirror *m = c->mirror;
     taken r = take(c, group, c->spans[group]);
     if (r == LACKING) return r;
-    uint64_t wrong = r == REFUSED ? salvage(c, group) : 0;
+    uint64_t wrong = r == REFUSED ? salvage(c, group, c->spans[group]) : 0;
     fetch_lock(f);
     if (r == TAKEN) m->good++, c->groups_taken++;
     else m->bad++, m->wrong += wrong, m->refused[c->unit_number] |= (uint16_t)(1 << group);
@@ -297,45 +250,90 @@ static taken take_group(conn *c, unsigned group) {
     return r;
 }
 
-/* Takes the groups that came, in order, as far as they go. */
-static void take_ready(conn *c) {
+void conn_take(conn *c) {
     for (; c->next_group < UNIT_GROUPS; c->next_group++) {
         if (is_asked(c, c->next_group) && take_group(c, c->next_group) == LACKING) return;
     }
 }
 
-/* While bytes come. A mirror that has just been found out isn't heard to the end. */
-static bool unit_came(void *with) {
+/* A mirror that has just been found out isn't heard to the end, nor one whose unit is whole by others. */
+bool conn_came(void *with) {
     conn *c = with;
-    size_t have = 0;
-    for (size_t i = 0; i < c->parts.count; i++) have += c->parts.list[i].have;
-    if (have < c->try_at) return true;
-    take_ready(c);
+    size_t have = 0, len = 0;
+    for (size_t i = 0; i < c->parts.count; i++) have += c->parts.list[i].have, len += c->parts.list[i].len;
+    if (have < c->try_at && have < len) return true;
+    conn_take(c);
     c->try_at = have + TRY_AFTER;
     fetch_lock(c->fetch);
-    bool goes_on = c->was_last || !c->mirror->last;
+    bool goes_on = have == len || ((c->was_last || !c->mirror->last) && !unit_is_whole(c->unit));
     fetch_unlock(c->fetch);
     return goes_on;
 }
 
-static http_answer fetch_unit(conn *c) {
-    lay_out(&c->parts, c->bytes);
-    http_answer r = get(c, &c->mirror->place, &c->parts, unit_came);
-    take_ready(c);
-    return r;
+/* --- Turns: under the lock */
+
+static void end_unit(conn *c) {
+    fetch *f = c->fetch;
+    mirror *m = c->mirror;
+    unit *it = c->unit;
+    http_answer r = c->answer;
+    c->unit = NULL, it->under_way--;
+    if (!unit_is_whole(it)) fetch_tell(f);
+    if (r == HTTP_CUT && !f->quit && unit_is_whole(it)) m->lost++, fetch_judge(m);
+    if (r == HTTP_NO_RANGES) fetch_leave_out(f, m, no_ranges);
+    if (r == HTTP_SHORT || (r == HTTP_LATER && c->counts)) m->faults++;
+    /* Each request decides about all groups that it asks for, or takes one, or is a fault: so there is an end of them. */
+    bool decided = c->next_group == UNIT_GROUPS;
+    if (decided || c->groups_taken || r == HTTP_CUT) m->in_row = 0;
+    else if (c->counts) m->in_row++, fetch_wait(f, &f->changed, back_off * m->in_row);
 }
 
-/* --- Turns: under the lock */
+static void unit_turn(conn *c, uint64_t number) {
+    fetch *f = c->fetch;
+    c->unit_number = number;
+    begin_unit(c);
+    plan_unit(c);
+    fetch_unlock(f);
+    pieces_lay_out(&c->parts, c->bytes);
+    conn_get(c, &c->mirror->place, &c->parts, conn_came);
+    conn_take(c);
+    fetch_lock(f);
+    end_unit(c);
+}
+
+/* The outboard encoding that the mirror is tried beside, each in turn, or NULL. */
+static line *line_in_turn(const conn *c) {
+    fetch *f = c->fetch;
+    for (unsigned i = 0; i < f->line_count; i++) {
+        line *it = &f->lines[c->mirror->next_line++ % f->line_count];
+        if (!it->gone && !place_waits(&it->place)) return it;
+    }
+    return NULL;
+}
+
+static bool some_line_waits(const fetch *f) {
+    for (unsigned i = 0; i < f->line_count; i++) {
+        if (!f->lines[i].gone && place_waits(&f->lines[i].place)) return true;
+    }
+    return false;
+}
 
 static void settle_turn(conn *c) {
     fetch *f = c->fetch;
     mirror *m = c->mirror;
     line *by = m->is_bao ? NULL : line_in_turn(c);
+    if (!m->is_bao && !by && some_line_waits(f)) {
+        fetch_wait(f, &f->changed, nap);
+        return;
+    }
     fetch_unlock(f);
-    bool ok = settle(c, by);
+    bool ok = conn_settle(c, by);
     fetch_lock(f);
-    if (ok || f->settled) m->in_row = 0;
-    else m->in_row++, m->faults++, fetch_wait(f, back_off);
+    if (c->unit) end_unit(c);
+    else if (ok || f->settled) m->in_row = 0;
+    else if (m->is_bao && c->answer == HTTP_NO_RANGES) fetch_leave_out(f, m, no_ranges);
+    else if (by && c->answer == HTTP_LATER && place_waits(&by->place)) blame_line(by, c->counts);
+    else if (c->counts) m->in_row++, m->faults++, fetch_wait(f, &f->changed, back_off);
 }
 
 static void outline_turn(conn *c, line *by) {
@@ -349,27 +347,7 @@ static void outline_turn(conn *c, line *by) {
     extend_outline(c, by, good, end);
     fetch_lock(f);
     f->outliner = NULL;
-    pthread_cond_broadcast(&f->changed);
-}
-
-static void unit_turn(conn *c, unit *it, uint64_t number) {
-    fetch *f = c->fetch;
-    mirror *m = c->mirror;
-    if (!it->under_way++) it->since = seconds_now();
-    c->unit = it, c->unit_number = number, c->was_last = m->last;
-    plan_unit(c);
-    fetch_unlock(f);
-    http_answer r = fetch_unit(c);
-    fetch_lock(f);
-    c->unit = NULL, it->under_way--;
-    pthread_cond_broadcast(&f->changed);
-    if (r == HTTP_CUT && !f->quit && unit_is_whole(it)) m->lost++, fetch_judge(m);
-    if (r == HTTP_NO_RANGES) fetch_leave_out(f, m, "it serves no ranges");
-    if (r == HTTP_SHORT) m->faults++;
-    /* Each request decides about all groups that it asks for, or takes one, or is a fault: so there is an end of them. */
-    bool decided = c->next_group == UNIT_GROUPS;
-    if (decided || c->groups_taken || r == HTTP_CUT) m->in_row = 0;
-    else m->in_row++, fetch_wait(f, back_off * m->in_row);
+    fetch_tell(f);
 }
 
 /* How many faults in a row a mirror may have. A local file gives the same again, and a plain one is tried beside each
@@ -377,6 +355,13 @@ static void unit_turn(conn *c, unit *it, uint64_t number) {
 static unsigned in_row_most(const fetch *f, const mirror *m) {
     unsigned most = m->place.is_local ? 1 : IN_ROW_MOST;
     return !f->settled && !m->is_bao && f->line_count > most ? f->line_count : most;
+}
+
+/* After too many faults in a row a mirror is left out. One that certifies no length may have other parts of the blob truly: it
+ * waits for another one that does. */
+static void give_up(fetch *f, mirror *m) {
+    if (f->settled || f->first == m) fetch_leave_out(f, m, f->settled ? too_many : no_length);
+    else m->is_mute = true, m->why = no_length, fetch_tell(f);
 }
 
 void *fetch_work(void *with) {
@@ -387,16 +372,17 @@ void *fetch_work(void *with) {
     fetch_lock(f);
     while (!f->quit && !f->failed && !m->gone) {
         line *by = NULL;
-        unit *it = NULL;
         http_clear(c->http);
-        if (f->first && f->first != m) fetch_wait(f, nap);
-        else if (m->in_row >= in_row_most(f, m)) fetch_leave_out(f, m, f->settled ? too_many : no_length);
+        if (m->is_mute && f->settled) m->is_mute = false, m->why = NULL, m->in_row = 0;
+        if (m->is_mute || (f->first && f->first != m)) fetch_wait(f, &f->changed, nap);
+        else if (m->in_row >= in_row_most(f, m)) give_up(f, m);
+        else if (place_waits(&m->place)) fetch_wait(f, &f->changed, nap);
         else if (!f->settled && !c->number) settle_turn(c);
-        else if (!f->settled) fetch_wait(f, nap);
+        else if (!f->settled) fetch_wait(f, &f->changed, nap);
         else if (!m->is_bao && (by = fetch_next_line(f))) outline_turn(c, by);
-        else if ((it = fetch_next(f, m, &number))) unit_turn(c, it, number);
+        else if (fetch_next(f, m, &number)) unit_turn(c, number);
         else if (f->first == m) fetch_leave_out(f, m, NULL);
-        else fetch_wait(f, nap);
+        else fetch_wait(f, &f->changed, nap);
     }
     fetch_unlock(f);
     return NULL;

@@ -1,7 +1,7 @@
 #!/usr/bin/env python3
 """Builds bw-fetch in several ways and runs its tests on each.
 
-    all.py [DRAWN]        DRAWN fetches from drawn mirrors; 2000 where it is left out
+    all.py [DRAWN]        DRAWN fetches from drawn mirrors; 10000 where it is left out
 
 At the top of the repository, after the C library was built. Needs cc and libcurl with its headers. With clang and the sanitizers of cc it does more, and names
 what isn't installed; with BERYLWOOL_CI in the environment nothing of these may be missing. Its last line is 'bw-fetch passed'.
@@ -18,7 +18,7 @@ ROOT = HERE.parent.parent
 OUT = ROOT / "out" / "fetch"
 ARCHIVE = ROOT / "out" / "libberylwool.a"
 WARNINGS = "-std=c11 -Wall -Wextra -Werror -pthread".split()
-WRAPPED = "-Wl,--wrap=malloc,--wrap=calloc,--wrap=realloc,--wrap=curl_global_init"
+WRAPPED = "-Wl,--wrap=malloc,--wrap=calloc,--wrap=realloc,--wrap=curl_global_init,--wrap=fsync"
 SANITIZERS = {"asan": "-fsanitize=address,undefined", "tsan": "-fsanitize=thread"}
 
 # The large cases show nothing more under a sanitizer, where they take long.
@@ -68,7 +68,7 @@ def compare_manual(program):
         sys.exit(f"all.py: fetch/bw-fetch.1 has the statuses {statuses}")
 
 
-def main(drawn="2000"):
+def main(drawn="10000"):
     OUT.mkdir(parents=True, exist_ok=True)
     sources, missing = sorted((ROOT / "fetch").glob("*.c")), []
     plain = build("cc", "plain", [], sources)
@@ -89,7 +89,7 @@ def main(drawn="2000"):
             continue
         program = build("cc", name, [flag], sources)
         run(sys.executable, HERE / "hostile.py", program, mkbao, *(f"-{it}" for it in LARGE))
-        run(sys.executable, HERE / "drawn.py", program, mkbao, int(drawn) // 5 + 1)
+        run(sys.executable, HERE / "drawn.py", program, mkbao, int(drawn) // 25 + 1)
     for name in missing:
         print(f"not run, since it isn't here: {name}")
     if missing and os.environ.get("BERYLWOOL_CI"):

@@ -136,7 +136,15 @@ def stops(it, code, kind, place, body):
     it.say_nothing()
 
 
-ACTS = {it.__name__: it for it in (cut, changed, sometimes, shorter, longer, moved, pieces, other_range, other_parts, stops)}
+def busy(it, code, kind, place, body):
+    """Asks to wait for no time, or for none that can be told; and every other time it gives what is asked for."""
+    if it.dice.random() < 0.5:
+        return mirrors.Mirror.send_body(it, code, kind, place, body)
+    words = ["0", "soon", "", "-1", "1 2", "Thu, 01 Jan 1970 00:00:00 GMT", "x" * 3000]
+    it.ask_to_wait(it.dice.choice((429, 503)), it.dice.choice(words))
+
+
+ACTS = {it.__name__: it for it in (busy, cut, changed, sometimes, shorter, longer, moved, pieces, other_range, other_parts, stops)}
 TRUE_ACTS = ("pieces",)
 
 
@@ -218,14 +226,24 @@ def drawn(fetch, mkbao, count, first="1"):
 
 def refuse(fetch, mkbao):
     with tempfile.TemporaryDirectory() as folder:
-        place = hostile.Place(folder, (fetch, mkbao), 3000)
+        place = hostile.Place(folder, (fetch, mkbao), 20_000)
         urls = place.serve("bao plain")
         try:
             asked = sum(refuse_each(place, fetch, urls[kind:kind + 1], tail) for kind in (0, 1) for tail in ("", "+"))
+            refuse_flush(place, fetch, urls)
         finally:
             place.end()
     print(f"{asked} refusals passed")
     return 0
+
+
+def refuse_flush(place, fetch, urls):
+    """A disk that can't be flushed: OUT is as it was, since it is renamed after that."""
+    place.put("out", b"before")
+    ran = subprocess.run([fetch, place.root, place.out, *urls], capture_output=True, timeout=LONGEST, env={**os.environ, "BW_REFUSE": "fsync"})
+    left = sorted(it.name for it in place.folder.glob("out*"))
+    if ran.returncode != 3 or place.out.read_bytes() != b"before" or left != ["out"]:
+        sys.exit(f"drawn.py: fsync refused: status {ran.returncode}, {left}")
 
 
 def refuse_each(place, fetch, urls, tail):

@@ -10,17 +10,25 @@ import concurrent.futures
 import fcntl
 import os
 import pathlib
+import pty
 import random
+import re
+import shutil
 import signal
 import socket
 import struct
 import subprocess
 import sys
 import tempfile
+import time
+
+sys.dont_write_bytecode = True
+import mirrors
 
 SIDE_BY_SIDE = 4
 HERE = pathlib.Path(__file__).resolve().parent
 LONGEST = 240                           # seconds that a run may take, far above what any has to: it would hang
+HEAD = 12_288                           # bytes of a file that are asked for at first
 KEY = "77686174732074686520456c7669736820776f726420666f7220667269656e64"
 
 # A mirror is FILE@MODE[=VALUE]; of FILE, `bao` is the combined encoding, `plain` the blob, `bare` the blob without an outboard encoding beside it, `false`
@@ -98,6 +106,14 @@ CASES = [
     ("ranges that don't say where they are", 3_000_000, "bao@unplaced", "", 1),
     ("not HTTP", 3_000_000, "bao@nothttp bao", "", 0),
     ("closes", 3_000_000, "bao@close bao", "", 0),
+    ("asks to wait a second", 3_000_000, "bao@later=1", "", 0),
+    ("asks to wait a second, for data", 3_000_000, "bao@laterdata=1", "", 0),
+    ("asks to wait until a date", 3_000_000, "bao@laterdate=2", "", 0),
+    ("asks to wait a second, plain", 3_000_000, "plain@later=1", "", 0),
+    ("asks to wait a second, plain and for data", 3_000_000, "plain@laterdata=1", "-c 1", 0),
+    ("asks to wait no time, again and again", 3_000_000, "bao@busy=0", "", 1),
+    ("asks to wait in words that tell no time", 3_000_000, "bao@busy=soon", "", 1),
+    ("asks to wait beside one that is refused", 3_000_000, "bao@noise plain@later=1", "", 0),
     ("500 and 404", 3_000_000, "bao@e500 plain@e404 bao", "", 0),
     ("403 and 503, alone", 3_000_000, "bao@e403 plain@e503", "", 1),
     ("says that it is gzip", 3_000_000, "bao@gzip bao", "", 0),
@@ -157,13 +173,21 @@ class Place:
     def serve(self, mirrors):
         """Starts mirrors, and answers their addresses."""
         self.end()
+        self.put("requests", b"")
         asked = [it.partition("@") for it in mirrors.split()]
         modes = [mode or "good" for _, _, mode in asked]
         self.server = subprocess.Popen([sys.executable, HERE / "mirrors.py", self.folder, *(it for it in modes if it != "dead")], stdin=subprocess.PIPE,
                                        stdout=subprocess.PIPE, text=True)
         ports = iter(self.server.stdout.readline().split())
         ports = [1 if mode == "dead" else next(ports) for mode in modes]
-        return [f"http://127.0.0.1:{port}/{FILES[file]}" for (file, _, _), port in zip(asked, ports) if file != "-"]
+        schemes = ["https" if mode.startswith("tls:") else "http" for mode in modes]
+        return [f"{scheme}://127.0.0.1:{port}/{FILES[file]}" for (file, _, _), scheme, port in zip(asked, schemes, ports) if file != "-"]
+
+    def requests(self, url):
+        """The ranges of each request that the server of an address got, in order, as (start, end) without the end."""
+        port = url.split(":")[2].split("/")[0]
+        lines = [it.split() for it in (self.folder / "requests").read_text().splitlines()]
+        return [mirrors.ranges_of(it[1], 1 << 62) for it in lines if it[0] == port]
 
     def end(self):
         if self.server:
@@ -297,6 +321,132 @@ def local_mirrors(place):
     place.run([], [place.folder / "none", place.folder / "blob"], 0)
 
 
+def units_asked(requests):
+    """Where the last range of each request begins that asks for more than 512 KiB."""
+    return [it[-1][0] for it in requests if sum(end - start for start, end in it) > 1 << 19]
+
+
+def one_round_trip(place):
+    """The length of a .bao costs one request: the next one brings what certifies it, and with it the first unit of the blob."""
+    urls = place.serve("bao@late=0.05")
+    place.run(["-c", "1"], urls, 0)
+    asked = place.requests(urls[0])
+    want(asked[0] == [(0, HEAD)], f"the first request is for {asked[0]}")
+    want(len(asked) == 1 + 6 and len(units_asked(asked)) == 6, f"{len(asked)} requests for six units")
+    want("; 0 faults" in place.said, "a fault is told")
+
+
+def short_in_one_request(place):
+    """A .bao of 12 KiB or less comes with its first bytes. A plain file takes one request for its parents, and two for its bytes."""
+    urls = place.serve("bao plain")
+    place.run([], urls[:1], 0)
+    want(place.requests(urls[0]) == [[(0, HEAD)]], f"{place.requests(urls[0])}")
+    want("; 0 faults" in place.said, "a fault is told")
+    place.run(["-c", "1"], urls[1:], 0)
+    want(len(place.requests(urls[1])) == 3, f"{place.requests(urls[1])}")
+
+
+def near_ranges(place):
+    """A server that knows one range at a time is asked for parents that are near each other at once: for some more requests than units."""
+    urls = place.serve("bao@onerange")
+    place.run(["-c", "1"], urls, 0)
+    asked = place.requests(urls[0])
+    want(len(asked) <= 2 + 8 + 6, f"{len(asked)} requests")
+    want(sum(len(it) > 1 for it in asked) == 1, "several ranges were asked for more than once")
+
+
+def no_unit_twice(place):
+    """Mirrors that are asked for the length at the same time are asked for different units with it."""
+    urls = place.serve("bao@late=0.3 bao@late=0.3 bao@late=0.3")
+    place.run([], urls, 0)
+    units = [it for url in urls for it in units_asked(place.requests(url)[1:2])]
+    want(len(units) == len(set(units)) == 3, f"units that begin at {units} were asked for")
+
+
+def left_alone(place):
+    """A mirror that asks to wait for an hour is asked once, while another one gives all. Alone, it is asked five times, 12 stall times apart."""
+    urls = place.serve("bao@busy=3600 bao")
+    place.run(["-c", "1"], urls, 0)
+    want(len(place.requests(urls[0])) <= 1, f"{len(place.requests(urls[0]))} requests")
+    place.out.unlink()
+    urls = place.serve("bao@busy=3600")
+    began = time.monotonic()
+    place.run(["--stall", "0.1"], urls, 1)
+    want(time.monotonic() - began > 12 * 0.1, "it wasn't left alone")
+    want(len(place.requests(urls[0])) == 5, f"{len(place.requests(urls[0]))} requests")
+
+
+def read_all(terminal):
+    said = b""
+    with open(terminal, "rb", buffering=0) as it:
+        while True:
+            try:
+                said += it.read(4096)
+            except OSError:                 # nobody has its other end
+                return said.decode()
+
+
+def progress(place):
+    """A line on a terminal, with bytes, rate, time left and mirrors; and none where there is no terminal."""
+    urls = place.serve("bao@noise bao")
+    place.run([], urls, 0)
+    want("\r" not in place.said, "progress without a terminal")
+    ours, theirs = pty.openpty()
+    ran = subprocess.Popen([place.fetch, place.root, place.out, *urls], stdout=subprocess.DEVNULL, stderr=theirs)
+    os.close(theirs)
+    said = read_all(ours)
+    ran.wait(LONGEST)
+    want(ran.returncode == 0 and "ok 20000000" in said, said)
+    want(re.search(r"\r19\.1 of 19\.1 MiB  [\d.]+ MiB/s  0 s left  2 of 2 mirrors, 1 of them last ", said), said)
+
+
+def make_certificate(place):
+    pair = ["-keyout", place.folder / "key.pem", "-out", place.folder / "cert.pem"]
+    words = ["openssl", "req", "-x509", "-newkey", "rsa:2048", "-nodes", "-days", "2", "-subj", "/CN=127.0.0.1", "-addext", "subjectAltName=IP:127.0.0.1"]
+    subprocess.run([*words, *pair], check=True, capture_output=True)
+
+
+def believing(place):
+    return {"env": {**os.environ, "SSL_CERT_FILE": str(place.folder / "cert.pem")}}
+
+
+def over_https(place):
+    """A certificate is believed where SSL_CERT_FILE has who signed it. From https no redirect leads to http; from http one leads to https."""
+    make_certificate(place)
+    urls = place.serve("bao@tls:good plain@tls:good bao@upgrade=#0 -@good bao@tls:redirect=#3")
+    place.run([], urls[:1], 1)
+    for url in urls[:3]:
+        place.run([], [url], 0, **believing(place))
+    place.out.unlink()
+    place.run([], urls[3:], 1, **believing(place))
+
+
+def http2(place):
+    """nginx over TLS is spoken to in HTTP/2, also for several ranges in one request."""
+    make_certificate(place)
+    with socket.socket() as it:
+        it.bind(("127.0.0.1", 0))
+        port = it.getsockname()[1]
+    temps = " ".join(f"{it}_temp_path {place.folder}/tmp;" for it in ("client_body", "proxy", "fastcgi", "uwsgi", "scgi"))
+    place.put("nginx.conf", (
+        f"daemon off; master_process off; user root; pid {place.folder}/nginx.pid; error_log {place.folder}/error.log;\nevents {{ worker_connections 64; }}\n"
+        f"http {{ {temps} log_format it '$server_protocol $status $http_range'; access_log {place.folder}/access.log it;\n"
+        f"server {{ listen 127.0.0.1:{port} ssl http2; ssl_certificate cert.pem; ssl_certificate_key key.pem; root {place.folder}; }} }}\n").encode())
+    nginx = subprocess.Popen(["nginx", "-p", place.folder, "-c", place.folder / "nginx.conf"], stderr=subprocess.DEVNULL)
+    try:
+        for _ in range(100):
+            with socket.socket() as it:
+                if it.connect_ex(("127.0.0.1", port)) == 0:
+                    break
+            time.sleep(0.1)
+        place.run([], [f"https://127.0.0.1:{port}/blob.bao"], 0, **believing(place))
+    finally:
+        nginx.terminate()
+        nginx.wait()
+    lines = (place.folder / "access.log").read_text().splitlines()
+    want(lines and all(it.startswith("HTTP/2.0 206 ") for it in lines) and any("," in it for it in lines), f"{lines}")
+
+
 def blame_is_exact(place):
     """Of four mirrors the liars alone have false bytes."""
     urls = place.serve("bao@flip bao plain@some=1 plain")
@@ -359,8 +509,12 @@ LONGER = [
     (resumes, 9_000_000, ""), (the_rest_alone, 9_000_000, ""), (resumes_alone, 3_000_000, ""), (part_is_not_trusted, 3_000_000, ""), (keeps_salvage, 3_000_000, ""),
     (keeps_old_out, 300_000, ""), (sigint, 9_000_000, ""), (sigterm, 9_000_000, ""), (keyed, 300_000, KEY), (mirrors_in_a_file, 300_000, ""),
     (outboard_elsewhere, 3_000_000, ""), (two_outboards, 3_000_000, ""), (local_mirrors, 3_000_000, ""), (blame_is_exact, 20_000_000, ""),
-    (unwritable, 3_000_000, ""), (no_room, 3_000_000, ""), (one_at_a_time, 9_000_000, ""), (usage, 10, ""),
+    (unwritable, 3_000_000, ""), (no_room, 3_000_000, ""), (one_at_a_time, 9_000_000, ""), (usage, 10, ""), (one_round_trip, 6_000_000, ""), (short_in_one_request, 10_000, ""), (no_unit_twice, 6_000_000, ""),
+    (near_ranges, 6_000_000, ""),
+    (left_alone, 3_000_000, ""), (progress, 20_000_000, ""),
 ]
+# function, length, programs that it needs
+WITH_PROGRAMS = [(over_https, 300_000, ["openssl"]), (http2, 6_000_000, ["openssl", "nginx"])]
 
 
 def isolate():
@@ -407,6 +561,12 @@ def main(fetch, mkbao, *words):
     tools = pathlib.Path(fetch).resolve(), pathlib.Path(mkbao).resolve()
     rows = [(name, length, "", lambda place, row=row: run_case(place, *row)) for name, length, *row in CASES]
     rows += [(it.__name__.replace("_", " "), length, key, it) for it, length, key in LONGER]
+    for it, length, needs in WITH_PROGRAMS:
+        missing = [name for name in needs if not shutil.which(name)]
+        if missing:
+            print(f"hostile.py: not run, since {' and '.join(missing)} isn't here: {it.__name__.replace('_', ' ')}")
+        else:
+            rows.append((it.__name__.replace("_", " "), length, "", it))
     rows = [it for it in rows if is_wanted(it[0], words)]
     with concurrent.futures.ThreadPoolExecutor(SIDE_BY_SIDE) as pool:
         wrong = [it for it in pool.map(lambda row: try_one(tools, row), rows) if it]

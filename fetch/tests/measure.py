@@ -130,7 +130,9 @@ def rows_of(fetch, root, nginx):
     }
     name, words = hash_words()
     if name:
-        rows[f"curl, 1 true, then {name}"] = (["sh", "-c", f"curl -s -o out {plain[0]} && {words} > {os.devnull}"], "out")
+        both = f"curl -s -o out {plain[0]} && {words} > {os.devnull}"
+        rows[f"curl, 1 true, then {name}"] = (["sh", "-c", both], "out")
+        rows[f"curl, 1 true, then {name}, then sync"] = (["sh", "-c", f"{both} && sync out"], "out")
     if shutil.which("aria2c"):
         rows["aria2c, metalink, 4 plain, 2 lie"] = (
             ["aria2c", "-q", "--follow-metalink=false", "-s", "4", "-x", "4", "-k", "1M", "--file-allocation=none", "--allow-overwrite=true", "-M", "it.meta4", "-d", ".",
@@ -172,7 +174,7 @@ def measure(fetch, size, runs):
                     got[name].append(run_once(launcher, words, out, folder, work))
         finally:
             nginx.end()
-    print(f"{size} MiB, {runs} runs in turns")
+    print(f"{size} MiB, {runs} runs in turns, load {os.getloadavg()[0]:.1f}")
     print("| what | wall, least | wall, middle | processor, middle | memory, most | bytes that came | right |\n|---|---|---|---|---|---|---|")
     for name, them in got.items():
         wall, used, memory, came, right = zip(*them)
@@ -219,7 +221,7 @@ def measure_late(fetch):
                 began = time.monotonic()
                 subprocess.run([fetch, "-c", "1", "--max", str(size), root, folder / "out", f"http://127.0.0.1:{them.ports[0]}/blob.bao"], check=True, capture_output=True)
                 took = time.monotonic() - began
-                print(f"{size} bytes, one connection, answers {what}: {took:.2f} s, {them.before_data} requests until the length was certified, {them.requests} in all")
+                print(f"{size} bytes, one connection, answers {what}: {took:.2f} s, {them.before_data} requests before the first for a unit, {them.requests} in all")
                 them.end()
 
 
@@ -230,7 +232,7 @@ class Counting(mirrors.Mirror):
             counts.requests += 1
             several = self.headers.get("Range", "")
             asked = mirrors.ranges_of(several, 1 << 62)
-            counts.before_data += counts.requests == counts.before_data + 1 and sum(end - start for start, end in asked) < 8192
+            counts.before_data += counts.requests == counts.before_data + 1 and sum(end - start for start, end in asked) < 1 << 16
         super().answer()
 
 

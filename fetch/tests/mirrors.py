@@ -1,15 +1,18 @@
 """Mirrors on loopback for the tests of bw-fetch, most of them hostile.
 
-    mirrors.py FOLDER MODE[=VALUE] ..
+    mirrors.py FOLDER [tls:]MODE[=VALUE] ..
 
-prints a port for each mode, then a line 'blocked' each time that a mirror of mode `half` begins to say nothing more. It ends with its standard
-input, or after SECONDS. `Mirrors` is the same for a test that is written in Python.
+prints a port for each mode, then a line 'blocked' each time that a mirror of mode `half` begins to say nothing more. FOLDER/requests gets a line for each
+request: port, range, path. With tls: it is https, by FOLDER/key.pem and FOLDER/cert.pem. It ends with its standard input, or after SECONDS.
+`Mirrors` is the same for a test that is written in Python.
 """
+import email.utils
 import http.server
 import os
 import random
 import re
 import socketserver
+import ssl
 import sys
 import threading
 import time
@@ -45,9 +48,15 @@ class Mirror(http.server.BaseHTTPRequestHandler):
 
     def do_GET(self):
         try:
+            self.note()
             self.answer()
         except OSError:
             self.close_connection = True
+
+    def note(self):
+        if self.server.log:
+            with open(self.server.log, "ab", buffering=0) as file:
+                file.write(f"{self.server.server_port} {self.headers.get('Range', '-')} {self.path}\n".encode())
 
     # --- Answers that need no file
 
@@ -71,6 +80,30 @@ class Mirror(http.server.BaseHTTPRequestHandler):
         while not self.server.ended.wait(0.05):
             self.wfile.write(b"X: x\r\n")
 
+    def ask_to_wait(self, code, when):
+        self.send_response(code)
+        self.send_header("Retry-After", when)
+        self.send_header("Content-Length", "0")
+        self.end_headers()
+
+    def later(self):
+        """Asks the first request to wait for some seconds, in the mode's way; who doesn't is never answered. Whether the answer was given."""
+        server, how, seconds = self.server, self.mode, int(self.value)
+        if how == "laterdata" and sum(end - start for start, end in ranges_of(self.headers.get("Range"), 1 << 62) or []) < 20_000:
+            return False
+        date = int(time.time()) + seconds
+        clock, until = (time.time(), date) if how == "laterdate" else (time.monotonic(), time.monotonic() + seconds)
+        with server.lock:
+            is_first = server.until is None
+            if is_first:
+                server.until = until
+            server.impatient |= not is_first and clock < server.until
+        if is_first:
+            self.ask_to_wait(429 if how == "laterdate" else 503, email.utils.formatdate(date, usegmt=True) if how == "laterdate" else str(seconds))
+        elif server.impatient:
+            self.send_error(404)
+        return is_first or server.impatient
+
     def answered(self):
         """Whether the mode's answer is one without a file; it was given then."""
         mode = self.mode
@@ -80,6 +113,8 @@ class Mirror(http.server.BaseHTTPRequestHandler):
             self.send_error(int(mode[1:]))
         elif mode == "redirect":
             self.redirect(f"http://127.0.0.1:{self.value}{self.path}")
+        elif mode == "upgrade":
+            self.redirect(f"https://127.0.0.1:{self.value}{self.path}")
         elif mode == "loop":
             self.redirect(self.path)
         elif mode == "tofile":
@@ -93,6 +128,10 @@ class Mirror(http.server.BaseHTTPRequestHandler):
             self.close_connection = True
         elif mode == "close":
             self.close_connection = True
+        elif mode == "busy":
+            self.ask_to_wait(503, self.value)
+        elif mode in ("later", "laterdata", "laterdate"):
+            return self.later()
         else:
             return False
         return True
@@ -224,11 +263,17 @@ class Server(socketserver.ThreadingMixIn, http.server.HTTPServer):
 class Mirrors:
     """The servers, one for each mode, in threads of this process."""
 
-    def __init__(self, folder, modes, handler=Mirror):
+    def __init__(self, folder, modes, handler=Mirror, log=None):
         self.servers, self.ports = [], []
         for word in modes:
-            mode, _, value = word.partition("=")
+            secure = word.startswith("tls:")
+            mode, _, value = word.removeprefix("tls:").partition("=")
             server = Server(("127.0.0.1", 0), handler)
+            if secure:
+                context = ssl.SSLContext(ssl.PROTOCOL_TLS_SERVER)
+                context.load_cert_chain(f"{folder}/cert.pem", f"{folder}/key.pem")
+                server.socket = context.wrap_socket(server.socket, server_side=True, do_handshake_on_connect=False)
+            server.log, server.lock, server.until, server.impatient = log, threading.Lock(), None, False
             server.folder, server.mode, server.ended = str(folder), mode, threading.Event()
             server.value = str(self.ports[int(value[1:])]) if value.startswith("#") else value
             self.servers.append(server)
@@ -248,7 +293,7 @@ def end_late():
 
 
 if __name__ == "__main__":
-    servers = Mirrors(sys.argv[1], sys.argv[2:])
+    servers = Mirrors(sys.argv[1], sys.argv[2:], log=f"{sys.argv[1]}/requests")
     print(*servers.ports, flush=True)
     threading.Thread(target=end_late, daemon=True).start()
     sys.stdin.read()

@@ -3,10 +3,12 @@
  *
  *     BW_REFUSE=N        the Nth request is refused
  *     BW_REFUSE=N+       it is, and all after it
+ *     BW_REFUSE=fsync    none is, but each fsync fails
  *
  * Where that many were made, the last line on standard error is 'refused'. */
 #include <curl/curl.h>
 
+#include <errno.h>
 #include <pthread.h>
 #include <stdbool.h>
 #include <stddef.h>
@@ -21,10 +23,12 @@ void *__wrap_malloc(size_t len);
 void *__wrap_calloc(size_t count, size_t len);
 void *__wrap_realloc(void *at, size_t len);
 CURLcode __wrap_curl_global_init(long flags);
+int __real_fsync(int fd);
+int __wrap_fsync(int fd);
 
 static pthread_mutex_t lock = PTHREAD_MUTEX_INITIALIZER;
 static long made = 0, number = -1;
-static bool all_after = false, refused = false;
+static bool all_after = false, refused = false, no_fsync = false;
 
 static void say(void) {
     static const char text[] = "refused\n";
@@ -36,6 +40,7 @@ __attribute__((constructor)) static void begin(void) {
     if (!word) return;
     number = strtol(word, NULL, 10);
     all_after = strchr(word, '+') != NULL;
+    no_fsync = !strcmp(word, "fsync");
     atexit(say);
 }
 
@@ -69,4 +74,10 @@ static char *copy(const char *text) {
 /* libcurl takes its memory by these too. */
 CURLcode __wrap_curl_global_init(long flags) {
     return curl_global_init_mem(flags, __wrap_malloc, free, __wrap_realloc, copy, __wrap_calloc);
+}
+
+int __wrap_fsync(int fd) {
+    if (!no_fsync) return __real_fsync(fd);
+    errno = EIO;
+    return -1;
 }
