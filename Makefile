@@ -4,7 +4,7 @@ SHELL := bash
 .SHELLFLAGS := -eu -o pipefail -c
 .DEFAULT_GOAL := help
 .DELETE_ON_ERROR:
-.PHONY: help build run try install dist sum test wrong-bodies scenarios docs c-library c-install c-test c-bench fetch fetch-install fetch-test fetch-bench bench refuse replaced memory stress statement cites fmt FORCE
+.PHONY: help build run try install dist sum test proofs trials c-trials wrong-bodies scenarios docs c-library c-install c-test c-bench fetch fetch-install fetch-test fetch-bench bench refuse replaced memory stress statement cites fmt FORCE
 
 PREFIX ?= /usr/local
 
@@ -50,7 +50,7 @@ help:
 	@echo '                          pkg-config and libcurl with its headers)'
 	@echo 'make fetch-install PREFIX=DIR copies bw-fetch to DIR/bin, its manual page to DIR/share/man'
 	@echo 'make fetch-test           runs bw-fetch against hostile mirrors on loopback, under what is installed of sanitizers;'
-	@echo '                          DRAWN=N for another number of fetches from drawn mirrors than 2000'
+	@echo '                          DRAWN=N for another number of fetches from drawn mirrors than 10000'
 	@echo 'make fetch-bench          measures bw-fetch beside curl and aria2c, where they are installed, over mirrors on loopback'
 	@echo '                          (needs nginx)'
 	@echo 'make bench                measures times and prints them with their ratios, beside b3sum where it is installed and'
@@ -102,14 +102,22 @@ test:
 	@python3 scripts/promises.py
 	@python3 scripts/bench.py --read
 	@python3 scripts/manual.py out/manual
-	@python3 scripts/scenarios.py
-	rt ci
+	@$(MAKE) --no-print-directory -j 2 proofs scenarios
 	@python3 scripts/docs.py crates/bao_gather/out/bao_gather
+	@python3 scripts/proved_by_ci.py berylwool
+	@$(MAKE) --no-print-directory -j 2 --output-sync=recurse trials c-trials
+
+# The parts of make test that take long, two at a time, so that no processor waits for one of them.
+proofs:
+	rt ci
+
+trials:
 	@python3 scripts/refuse_libraries.py
 	@python3 scripts/refuse.py crates/bao_gather/out/bao_gather
 	@python3 scripts/replaced.py crates/bao_gather/out/bao_gather
 	@python3 scripts/memory.py crates/bao_gather/out/bao_gather
-	@python3 scripts/proved_by_ci.py berylwool
+
+c-trials:
 	@$(MAKE) --no-print-directory c-test
 	@if $(HAS_CURL); then $(MAKE) --no-print-directory fetch-test; else echo 'left out: make fetch-test, since libcurl with its headers is not installed here'; fi
 
