@@ -1,12 +1,12 @@
 -- The root of the tree and what comes out of it (BLAKE3 paper, 2.3 and 2.6).
-use Rattle.std.specs.Prelude.{ℕ, refl, ◌/◌, ◌%◌, List, map, take, slice_index, bit_or}
+use Rattle.std.specs.Prelude.{ℕ, ◌/◌, ◌%◌, List, map, take, slice_index, bit_or}
 use Rattle.std.specs.List.{range_with_len}
 use Rattle.b3word.specs.declared.input.Input.{Input}
 use Rattle.b3word.specs.Compression.{out}
 use Rattle.b3tree.specs.declared.mode.Mode.{Mode}
-use Rattle.b3tree.specs.Bytes.{bytes_of, words_of}
-use Rattle.b3tree.specs.Flags.{derive_key_material, root}
-use Rattle.b3tree.specs.Modes.{mode_with, of_context}
+use Rattle.b3tree.specs.Bytes.{bytes_of}
+use Rattle.b3tree.specs.Flags.{root}
+use Rattle.b3tree.specs.Modes.{of_context_key, of_context}
 use Rattle.b3tree.specs.Tree.{top_input}
 
 -- the input x with the flag ROOT
@@ -21,9 +21,13 @@ root_hash x = take 32 (bytes_of (out x))
 unfoldable pub hash : Mode → List ℕ → List ℕ
 hash mode s = root_hash (rooted (top_input mode 0 s))
 
--- the material of key derivation: its key is the hash of the context
+-- the key of a context: its hash, as the first step of key derivation has it
+abbrev pub context_key : List ℕ → List ℕ
+context_key context = hash of_context context
+
+-- derivation of keys from material, for the use that the context names
 abbrev pub derived : List ℕ → Mode
-derived context = mode_with (words_of 8 (hash of_context context)) derive_key_material refl
+derived context = of_context_key (context_key context)
 
 -- block n of the output of the root x: the 64 bytes of its output with the counter n
 abbrev pub output_block : Input → ℕ → List ℕ

@@ -3,7 +3,7 @@ use Rattle.std.specs.Prelude.{◌≡◌, ℕ, ◌%◌, List, refl}
 use Rattle.b3word.specs.Compression.{iv}
 use Rattle.b3tree.specs.declared.mode.Mode.{Mode}
 use Rattle.b3tree.specs.Bytes.{words_of}
-use Rattle.b3tree.specs.Flags.{keyed_hash, derive_key_context}
+use Rattle.b3tree.specs.Flags.{keyed_hash, derive_key_context, derive_key_material}
 
 -- the eight words of the key
 abbrev pub key_words : Mode → List ℕ
@@ -24,6 +24,10 @@ plain = mode_with iv 0 refl
 -- keyed hashing, with the 32 bytes of a key
 abbrev pub keyed : List ℕ → Mode
 keyed key = mode_with (words_of 8 key) keyed_hash refl
+
+-- derivation of keys from material, with the 32 bytes of the key of a context
+abbrev pub of_context_key : List ℕ → Mode
+of_context_key key = mode_with (words_of 8 key) derive_key_material refl
 
 -- the first step of key derivation, which hashes the context
 abbrev pub of_context : Mode

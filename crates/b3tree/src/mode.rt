@@ -17,8 +17,8 @@ pub struct Mode {
 }
 
 impl Mode {
-    ghost use Rattle.b3tree.specs.Modes.{key_words, keyed, mode_flags, of_context, plain};
-    ghost use Rattle.b3tree.specs.Hashing.{derived};
+    ghost use Rattle.b3tree.specs.Modes.{of_context_key, key_words, keyed, mode_flags, of_context, plain};
+    ghost use Rattle.b3tree.specs.Hashing.{context_key, derived};
     ghost use Rattle.b3tree.specs.Valid.{IsKeyed};
 
     /// Plain hashing: the IV as key words, and no flags.
@@ -45,9 +45,26 @@ impl Mode {
     pub fn derive(context: &str) -> Mode
         ensures { result ≡ derived context.now }
     {
-        let key = hash(&Mode::of_context(), context.as_bytes());
+        Mode::from_context_key(Mode::context_key(context.as_bytes()))
+    }
+
+    /// The key of a context, 32 bytes: the hash of `context` under the IV and the flag DERIVE_KEY_CONTEXT. It is no
+    /// secret. Who keeps it spares a hash of the context for each mode.
+    ///
+    /// BLAKE3 takes contexts of UTF-8; here any bytes are hashed.
+    pub fn context_key(context: &[u8]) -> [u8; 32]
+        ensures { result ≡ context_key context.now }
+    {
+        hash(&Mode::of_context(), context).0
+    }
+
+    /// Derivation of keys from material, with the key of the context, as `context_key` has it:
+    /// `Mode::derive(context)` is `Mode::from_context_key(Mode::context_key(context))`.
+    pub fn from_context_key(key: [u8; 32]) -> Mode
+        ensures { result ≡ of_context_key key }
+    {
         Mode {
-            key: words_of(&key.0),
+            key: words_of(&key),
             domain: DERIVE_KEY_MATERIAL,
         }
     }

@@ -1,8 +1,8 @@
 -- What an accepted encoding has as a chunk, it certifies.
 use Rattle.std.proofs.Common.{◌≡◌, ◌⊎◌, ℕ, zero, suc, ◌+◌, ◌-◌, ◌*◌, ◌/◌, ◌<◌, ◌≤◌, ◌==◌, ◌&&◌, None, Some, Bool, List, [], ◌∷◌, ◌++◌, length, take, drop, true, false, refl, sym, ap, subst, ◌∙◌, arith, inl, inr, length-drop}
 use Rattle.std.specs.List.{AllByRecursion, Contains}
-use Rattle.std.proofs.lemmas.Bool.{cases_Bool, cases_lt, eqb-true}
-use Rattle.std.proofs.lemmas.List.{length-take-le}
+use Rattle.std.proofs.lemmas.Bool.{cases_Bool, cases_lt, eqb-true, le-ltb, lt-ltb}
+use Rattle.std.proofs.lemmas.List.{append-nil, length-take-le}
 use Rattle.std.proofs.lemmas.List.Concat.{flat_map-append}
 use Rattle.std.proofs.lemmas.List.Elements.{Contains-append_left, Contains-append_right}
 use Rattle.b3word.specs.declared.input.Input.{Input}
@@ -23,9 +23,11 @@ use Rattle.bao_check.specs.Accepted.{IsAccepted, bytes_at, part_value, places_of
 use Rattle.bao_check.specs.Certificate.{Begins, Certificate, Follows, IsParent, Step, half, step_input}
 use Rattle.bao_check.specs.Inputs.{is_top, marked, place_inputs, text_inputs, way_inputs, whole_chunk}
 use Rattle.bao_check.specs.Pieces.{chunk_in}
+use Rattle.bao_check.specs.Steps.{steps_to}
 use Rattle.bao_check.specs.Walk.{AreGood, Meets}
 use Rattle.bao_check.proofs.Lists.{Contains-cons_cases, Contains-head, Contains-tail, nodes_size}
 use Rattle.bao_check.proofs.Parts.{AreGood-split, PartsGood, below, placed_nodes-parent}
+use Rattle.bao_check.proofs.Stepping.{is_over-parent, steps_outside, steps_to-append}
 use Rattle.bao_check.proofs.Walking.{chunk_node}
 
 -- the way goes to the right there
@@ -53,9 +55,11 @@ Begins-root mode root (step ∷ steps) last h = h
 -- these places.
 record Way (asked : Asked) (mode : Mode) (text : List ℕ) (places : List (ℕ × TreeNode)) (number n k : ℕ) (bytes : List ℕ) : Type 0 where
   steps : List Step
+  steps_are : steps ≡ steps_to text places k
   holds : Starts asked mode steps (last_chunk_input mode k bytes)
   inputs : (x : Input) → Contains (way_inputs asked.top mode steps k bytes) x → Contains (text_inputs mode text places) x
   parents : AreBytes text → AllByRecursion IsParent steps
+  from : number ≤ k
   within : k + 1 ≤ number + chunk_count n
   size : length bytes ≤ 1024
   full : k + 1 < number + chunk_count n → length bytes ≡ 1024
@@ -96,10 +100,12 @@ way-here asked mode text at number n sides source top one fits meets =
     let len : length (take n (drop at text)) ≡ n = length-take-le n (drop at text) (omega arith) in
     record {
       steps = [];
+      steps_are = refl;
       holds = meets;
       inputs = λ x h. Contains-append_left (whole_chunk (is_top sides) mode number (take n (drop at text))) [] x
           (subst (λ (t : Bool). Contains (whole_chunk t mode number (take n (drop at text))) x) top h);
       parents = λ _. tt;
+      from = omega arith;
       within = omega arith;
       size = omega arith;
       full = λ less. omega arith;
@@ -213,9 +219,10 @@ parent_there text at there valid =
 way-near : (asked : Asked) (mode : Mode) (text : List ℕ) (at number n : ℕ) (sides : List Side) (source k : ℕ) (bytes : List ℕ) (near far : List (ℕ × TreeNode))
     → asked.top ≡ is_top sides → 1024 < n → at + 64 ≤ length text
     → Meets asked (parent_input mode (part_value left (take 64 (drop at text))) (part_value right (take 64 (drop at text))))
+    → (k < number + left_len n / 1024 → steps_to text far k ≡ [])
     → Way (below left (take 64 (drop at text))) mode text near number (left_len n) k bytes
     → Way asked mode text ((at, parent_node number n sides source) ∷ (near ++ far)) number n k bytes
-way-near asked mode text at number n sides source k bytes near far top more there meets way =
+way-near asked mode text at number n sides source k bytes near far top more there meets none way =
     let l : ℕ = left_len n in
     let parts : Parts n l = left_len-Parts n more in
     let bs : List ℕ = take 64 (drop at text) in
@@ -227,11 +234,18 @@ way-near asked mode text at number n sides source k bytes near far top more ther
     let count : chunk_count n ≡ l / 1024 + chunk_count (n - l) = chunk_count-parts n more in
     let some : 1 ≤ chunk_count (n - l) = omega arith in
     let inner : k + 1 ≤ number + l / 1024 = omega (arith, way.within) in
+    let before : k < number + l / 1024 = omega (arith, inner) in
+    let over : steps_to text (q ∷ (near ++ far)) k ≡ step ∷ steps_to text (near ++ far) k =
+    rw (is_over-parent number n k sides source way.from (omega (arith, inner)), lt-ltb k (number + l / 1024) before) refl in
+    let rest : steps_to text (near ++ far) k ≡ steps_to text near k =
+    steps_to-append text near far k ∙ ap (λ (more : List Step). steps_to text near k ++ more) (none before) ∙ append-nil (steps_to text near k) in
     record {
       steps = step ∷ way.steps;
+      steps_are = ap (λ (more : List Step). step ∷ more) (way.steps_are ∙ sym rest) ∙ sym over;
       holds = (meets, Follows-below left bs mode way.steps (last_chunk_input mode k bytes) way.holds);
       inputs = inputs-step asked mode text q near far near step way.steps k bytes (text_inputs-near mode text near far) first way.inputs;
       parents = λ valid. (parent_there text at there valid, way.parents valid);
+      from = way.from;
       within = omega arith;
       size = way.size;
       full = λ _. near_full number l k bytes near_count parts.whole way.full way.ends inner;
@@ -242,9 +256,10 @@ way-near asked mode text at number n sides source k bytes near far top more ther
 way-far : (asked : Asked) (mode : Mode) (text : List ℕ) (at number n : ℕ) (sides : List Side) (source k : ℕ) (bytes : List ℕ) (near far : List (ℕ × TreeNode))
     → asked.top ≡ is_top sides → 1024 < n → at + 64 ≤ length text
     → Meets asked (parent_input mode (part_value left (take 64 (drop at text))) (part_value right (take 64 (drop at text))))
+    → (number + left_len n / 1024 ≤ k → steps_to text near k ≡ [])
     → Way (below right (take 64 (drop at text))) mode text far (number + left_len n / 1024) (n - left_len n) k bytes
     → Way asked mode text ((at, parent_node number n sides source) ∷ (near ++ far)) number n k bytes
-way-far asked mode text at number n sides source k bytes near far top more there meets way =
+way-far asked mode text at number n sides source k bytes near far top more there meets none way =
     let l : ℕ = left_len n in
     let parts : Parts n l = left_len-Parts n more in
     let bs : List ℕ = take 64 (drop at text) in
@@ -255,11 +270,17 @@ way-far asked mode text at number n sides source k bytes near far top more there
     let near_count : chunk_count l ≡ l / 1024 = chunk_count-left n more in
     let count : chunk_count n ≡ l / 1024 + chunk_count (n - l) = chunk_count-parts n more in
     let some : 1 ≤ chunk_count (n - l) = omega arith in
+    let over : steps_to text (q ∷ (near ++ far)) k ≡ step ∷ steps_to text (near ++ far) k =
+    rw (is_over-parent number n k sides source (omega (arith, way.from)) (omega (arith, way.within)), le-ltb k (number + l / 1024) way.from) refl in
+    let rest : steps_to text (near ++ far) k ≡ steps_to text far k =
+    steps_to-append text near far k ∙ ap (λ (first : List Step). first ++ steps_to text far k) (none way.from) in
     record {
       steps = step ∷ way.steps;
+      steps_are = ap (λ (more : List Step). step ∷ more) (way.steps_are ∙ sym rest) ∙ sym over;
       holds = (meets, Follows-below right bs mode way.steps (last_chunk_input mode k bytes) way.holds);
       inputs = inputs-step asked mode text q near far far step way.steps k bytes (text_inputs-far mode text near far) first way.inputs;
       parents = λ valid. (parent_there text at there valid, way.parents valid);
+      from = omega (arith, way.from);
       within = omega (arith, way.within);
       size = way.size;
       full = λ less. way.full (omega arith);
@@ -297,10 +318,12 @@ way-levels (suc levels) asked choice mode text at number n sides source k bytes 
             (elim (chunk_in-append text near far k bytes among) [
               | inl here ↦
                   way-near asked mode text at number n sides source k bytes near far top more both.there both.meets
+                  (λ before. steps_outside choice text (number + l / 1024) (n - l) (at + 64 + nodes_size near_nodes) k (source + 64 + subtree_size l) (sides ++ right ∷ []) (λ h. omega (arith, before, h.0)))
                   (way-levels levels (below left bs) choice mode text (at + 64) number l (sides ++ left ∷ []) (source + 64) k bytes
                   (omega (arith, parts.whole, parts.below)) (is_top-below sides left) both.near_good here)
               | inr here ↦
                   way-far asked mode text at number n sides source k bytes near far top more both.there both.meets
+                  (λ after. steps_outside choice text number l (at + 64) k (source + 64) (sides ++ left ∷ []) (λ h. omega (arith, after, h.1, chunk_count-left n more)))
                   (way-levels levels (below right bs) choice mode text (at + 64 + nodes_size near_nodes) (number + l / 1024) (n - l) (sides ++ right ∷ []) (source + 64 + subtree_size l) k bytes
                   (omega (arith, parts.some)) (is_top-below sides right) both.far_good here)
             ])
@@ -311,6 +334,7 @@ way-levels (suc levels) asked choice mode text at number n sides source k bytes 
 -- `total` of the blob the last chunk ends it, and each other is whole.
 pub record IsCertified (mode : Mode) (root text : List ℕ) (places : List (ℕ × TreeNode)) (total number : ℕ) (bytes : List ℕ) : Type 0 where
   pub steps : List Step
+  pub steps_are : steps ≡ steps_to text places number
   pub holds : Begins mode root steps (last_chunk_input mode number bytes)
   pub inputs : (x : Input) → Contains (way_inputs true mode steps number bytes) x → Contains (text_inputs mode text places) x
   pub parents : AreBytes text → AllByRecursion IsParent steps
@@ -342,6 +366,7 @@ chosen_certified choice mode root text total accepted number bytes there =
     way-levels total asked choice mode text 8 0 total [] 8 number bytes (omega arith) refl accepted.good there in
     record {
       steps = way.steps;
+      steps_are = way.steps_are;
       holds = Begins-root mode root way.steps (last_chunk_input mode number bytes) way.holds;
       inputs = way.inputs;
       parents = way.parents;

@@ -1,7 +1,9 @@
 -- The bytes of the chunks among the nodes that a check in pieces takes.
-use Rattle.std.proofs.Common.{◌≡◌, ℕ, suc, ◌+◌, ◌-◌, ◌*◌, ◌/◌, ◌<◌, ◌≤◌, List, [], ◌∷◌, ◌++◌, length, take, drop, map, sum_by, Option, None, Some, IfSome, true, false, if◌then◌else◌, refl, sym, ap, subst, ◌∙◌, arith, inl, inr, length-append, length-drop}
+use Rattle.std.proofs.Common.{◌≡◌, ℕ, ◌+◌, ◌-◌, ◌*◌, ◌/◌, ◌<◌, ◌≤◌, List, [], ◌∷◌, ◌++◌, length, take, drop, map, sum_by, Option, None, Some, IfSome, Bool, true, false, if◌then◌else◌, refl, sym, ap, subst, ◌∙◌, arith, inl, inr, length-append, length-drop}
 use Rattle.std.proofs.Math.Seq.{take-add}
-use Rattle.std.proofs.lemmas.Bool.{cases_Bool, cases_lt}
+use Rattle.std.specs.Option.{option_map}
+use Rattle.std.proofs.lemmas.Bool.{cases_lt}
+use Rattle.std.proofs.lemmas.Bool.Decides.{leb_tells}
 use Rattle.std.proofs.lemmas.List.{append-nil, append_assoc, drop-drop, drop_at, length-take-le, take-append-drop, take_all, take_at}
 use Rattle.std.proofs.lemmas.List.Sums.{sum_by-append}
 use Rattle.b3tree.specs.declared.mode.Mode.{Mode}
@@ -11,13 +13,13 @@ use Rattle.bao_text.specs.Choice.{of_slice, wants}
 use Rattle.bao_text.specs.Cut.{claimed}
 use Rattle.bao_text.specs.Nodes.{TreeNode, Side, chunk_nodes, left, right, size, subtree_nodes, subtree_size}
 use Rattle.bao_text.proofs.NodeNaming.{bare, bare-anywhere}
-use Rattle.bao_text.proofs.SubtreeNodes.{parent_node, subtree_nodes-leaf, subtree_nodes-parent, subtree_nodes-unwanted}
+use Rattle.bao_text.proofs.SubtreeNodes.{subtree_nodes-leaf, subtree_nodes-parent, subtree_nodes-unwanted}
 use Rattle.bao_check.specs.declared.fault.CheckFault.{CheckFault}
 use Rattle.bao_check.specs.declared.fault.CheckFault.TheVariants.{Short, Mismatch, Trailing, Memory, Reader}
 use Rattle.bao_check.specs.declared.part.Part.{Part}
 use Rattle.bao_check.specs.Checking.{IsNodeFault}
 use Rattle.bao_check.specs.Decoded.{Decodes, Kind, chunk_bytes, decoded, kind, kinds_size, subtree_kinds, waiting_kinds}
-use Rattle.bao_check.specs.Waiting.{AllPass, AllStop, CheckTask, HasRefused, HasRefusedIn, HasTaken, IsFaultAs}
+use Rattle.bao_check.specs.Waiting.{AllPass, AllStop, CheckTask, HasRefused, HasRefusedIn, HasTaken, IsFaultAs, chunk_waits, is_chunk_first, last_part, next_size, part_size}
 use Rattle.bao_check.specs.Whole.{HasWholeAhead}
 use Rattle.bao_check.proofs.Feeding.{all_taken_from, whole_there}
 use Rattle.bao_check.proofs.Sizes.{wants_whole}
@@ -375,3 +377,30 @@ after_length taken bytes header nodes k front back =
 pub all_after_length : (taken bytes header nodes : List ℕ) → header ≡ take 8 bytes → nodes ≡ drop 8 bytes → (taken ++ header) ++ nodes ≡ taken ++ bytes
 all_after_length taken bytes header nodes front back =
     append_assoc taken header nodes ∙ ap (λ (s : List ℕ). taken ++ s) ((λ i. front i ++ back i) ∙ take-append-drop 8 bytes)
+
+-- what one node has of the blob: a chunk its bytes, and a parent none
+one_decodes : (choice : Choice) (before after : List Part) (node : List ℕ) (first : Option Part) (n : ℕ) → last_part before ≡ first → option_map part_size first ≡ Some n
+    → ((part : Part) → last_part before ≡ Some part → part.len ≤ 1024 → Decodes choice before after node node)
+    → ((part : Part) → last_part before ≡ Some part → 1024 < part.len → Decodes choice before after node [])
+    → Decodes choice before after node (if is_chunk_first first then node else [])
+one_decodes choice before after node None n is some chunk parent = let none : None ≡ Some n = some in cc
+one_decodes choice before after node (Some part) n is some chunk parent = elim (leb_tells part.len 1024) [
+  | inl one ↦ subst (λ (b : Bool). Decodes choice before after node (if b then node else [])) (sym one.0) (chunk part is one.1)
+  | inr more ↦ subst (λ (b : Bool). Decodes choice before after node (if b then node else [])) (sym more.0) (parent part is more.1)
+]
+
+pub node_decodes : (choice : Choice) (before after : List Part) (node : List ℕ) (n : ℕ) → next_size before ≡ Some n
+    → ((part : Part) → last_part before ≡ Some part → part.len ≤ 1024 → Decodes choice before after node node)
+    → ((part : Part) → last_part before ≡ Some part → 1024 < part.len → Decodes choice before after node [])
+    → Decodes choice before after node (if chunk_waits before then node else [])
+node_decodes choice before after node n some chunk parent = one_decodes choice before after node (last_part before) n refl some chunk parent
+
+-- What comes after a node, once it was taken: its bytes are the blob's where it is a chunk.
+pub decodes_node : (choice : Choice) (before after : List Part) (taken node blob own more : List ℕ) (start len : ℕ) → Decodes choice before after node own
+    → decoded (taken ++ (node ++ more)) start len ≡ blob ++ chunk_bytes (waiting_kinds choice before) (node ++ more)
+    → decoded ((taken ++ node) ++ more) start len ≡ (blob ++ own) ++ chunk_bytes (waiting_kinds choice after) more
+decodes_node choice before after taken node blob own more start len decodes is =
+    ap (λ (s : List ℕ). decoded s start len) (append_assoc taken node more)
+    ∙ is
+    ∙ ap (λ (s : List ℕ). blob ++ s) (decodes more)
+    ∙ sym (append_assoc blob own (chunk_bytes (waiting_kinds choice after) more))

@@ -1,8 +1,7 @@
 -- The laws of accepted encodings, from what they certify and what a certificate binds.
-use Rattle.std.proofs.Common.{◌≡◌, ℕ, Some, List, ◌∷◌, ◌++◌, sym, subst, ◌∙◌, arith, inl, inr}
+use Rattle.std.proofs.Common.{ℕ, List, ◌∷◌, ◌++◌, sym, subst, ◌∙◌, arith, inl, inr}
 use Rattle.std.specs.List.{AllByRecursion}
 use Rattle.b3tree.specs.declared.mode.Mode.{Mode}
-use Rattle.b3tree.specs.Valid.{AreBytes}
 use Rattle.bao_text.specs.Cut.{claimed}
 use Rattle.bao_text.specs.Nodes.{TreeNode}
 use Rattle.bao_check.specs.declared.fault.CheckFault.{CheckFault}
@@ -12,17 +11,11 @@ use Rattle.bao_check.specs.Certificate.{Certificate}
 use Rattle.bao_check.specs.Faults.{IsFirstBad, IsFirstFault}
 use Rattle.bao_check.specs.Inputs.{blob_inputs, certificate_inputs, text_inputs}
 use Rattle.bao_check.specs.Laws.{AcceptedBinds, WrittenAccepted}
-use Rattle.bao_check.specs.Pieces.{chunk_in}
 use Rattle.bao_check.proofs.Binding.{certificate_binds}
 use Rattle.bao_check.proofs.Certified.{IsCertified, certificate_of, certified}
 use Rattle.bao_check.proofs.Lists.{All-second}
 use Rattle.bao_check.proofs.Naming.{Named-within}
 use Rattle.bao_check.proofs.Written.{combined_accepted, outboard_accepted, slice_accepted}
-
--- what an accepted encoding of bytes has as a chunk, it certifies
-pub chunk_certificate : (mode : Mode) (root text : List ℕ) (start len number : ℕ) (bytes : List ℕ) → IsAccepted mode root text (slice_nodes text start len) → AreBytes text
-    → chunk_in text (places_of (slice_nodes text start len)) number ≡ Some bytes → Certificate mode root number bytes
-chunk_certificate mode root text start len number bytes accepted valid there = certificate_of (certified mode root text start len accepted number bytes there) valid
 
 pub accepted_binds : AcceptedBinds
 accepted_binds mode root text blob start len number bytes keyed valid_blob valid_text is accepted there =

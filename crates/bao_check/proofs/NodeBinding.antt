@@ -104,12 +104,12 @@ bound_small top mode choice blob text at number n sides source top_is hb ht one 
     ]
 
 -- where a parent's input is the blob's, so are its two values and its bytes
-record SameParent (mode : Mode) (number : ℕ) (s parent : List ℕ) : Type 0 where
-  near : part_value left parent ≡ subtree_cv mode number (take (left_len (length s)) s)
-  far : part_value right parent ≡ subtree_cv mode (number + left_len (length s) / 1024) (drop (left_len (length s)) s)
-  bytes : parent ≡ parent_text mode number s
+pub record SameParent (mode : Mode) (number : ℕ) (s parent : List ℕ) : Type 0 where
+  pub near : part_value left parent ≡ subtree_cv mode number (take (left_len (length s)) s)
+  pub far : part_value right parent ≡ subtree_cv mode (number + left_len (length s) / 1024) (drop (left_len (length s)) s)
+  pub bytes : parent ≡ parent_text mode number s
 
-same_parent : (top : Bool) (mode : Mode) (number : ℕ) (s parent : List ℕ) → AreBytes parent → length parent ≡ 64
+pub same_parent : (top : Bool) (mode : Mode) (number : ℕ) (s parent : List ℕ) → AreBytes parent → length parent ≡ 64
     → marked top (subtree_parent mode number s) ≡ marked top (parent_input mode (part_value left parent) (part_value right parent)) → SameParent mode number s parent
 same_parent top mode number s parent bytes whole equal =
     let l : ℕ = left_len (length s) in
@@ -242,7 +242,7 @@ at_node mode blob text (place ∷ places) m bytes all there = elim (cases_Bool (
 ]
 
 -- a place is of a node
-node_there : (at : ℕ) (nodes : List TreeNode) (place : ℕ × TreeNode) → Contains (placed_nodes at nodes) place → Contains nodes place.1
+pub node_there : (at : ℕ) (nodes : List TreeNode) (place : ℕ × TreeNode) → Contains (placed_nodes at nodes) place → Contains nodes place.1
 node_there at nodes place there =
     All-member (λ place. Contains nodes place.1) (placed_nodes at nodes) (placed_nodes-All (λ node. Contains nodes node) at nodes (All-from_members (λ node. Contains nodes node) nodes (λ x h. h))) place there
 

@@ -145,7 +145,7 @@ one_good asked mode text at number n sides source there meets = (
 )
 
 -- the values in a parent's encoding
-near_value : (mode : Mode) (first : ℕ) (s : List ℕ) → IsKeyed mode → 1024 < length s → 1024 * first + length s < 2 ^ 64
+pub near_value : (mode : Mode) (first : ℕ) (s : List ℕ) → IsKeyed mode → 1024 < length s → 1024 * first + length s < 2 ^ 64
     → part_value left (parent_text mode first s) ≡ subtree_cv mode first (take (left_len (length s)) s)
 unfolding part_value
 near_value mode first s keyed more fits =
@@ -158,7 +158,7 @@ near_value mode first s keyed more fits =
     ap (words_of 8) (take_at (bytes_of (cv near)) (bytes_of (cv far)) 32 size)
     ∙ words_of-cv near (top_input-IsInput mode first (take l s) keyed (omega (arith, parts.below)))
 
-far_value : (mode : Mode) (first : ℕ) (s : List ℕ) → IsKeyed mode → 1024 < length s → 1024 * first + length s < 2 ^ 64
+pub far_value : (mode : Mode) (first : ℕ) (s : List ℕ) → IsKeyed mode → 1024 < length s → 1024 * first + length s < 2 ^ 64
     → part_value right (parent_text mode first s) ≡ subtree_cv mode (first + left_len (length s) / 1024) (drop (left_len (length s)) s)
 unfolding part_value
 far_value mode first s keyed more fits =

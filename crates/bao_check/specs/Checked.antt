@@ -1,5 +1,5 @@
 -- What a checked piece is of.
-use Rattle.std.specs.Prelude.{◌≡◌, ℕ, ◌-◌, List, Some, is_some, true}
+use Rattle.std.specs.Prelude.{◌≡◌, ℕ, ◌-◌, ◌≤◌, List, Some, is_some, length, true}
 use Rattle.std.proofs.Math.Bool.{Bool-set}
 use Rattle.b3tree.specs.declared.mode.Mode.{Mode}
 use Rattle.bao_text.specs.Choice.{chunk_count}
@@ -10,6 +10,7 @@ use Rattle.bao_check.specs.Bodies.{text_of}
 use Rattle.bao_check.specs.Certificate.{Certificate, IsLast}
 use Rattle.bao_check.specs.Pieces.{chunk_in}
 use Rattle.bao_check.specs.Accepted.{places_of, slice_nodes}
+use Rattle.bao_check.specs.Steps.{steps_to}
 
 abbrev pub piece_mode : Checked → Mode
 piece_mode piece = piece.mode
@@ -48,12 +49,19 @@ HoldsLast piece = is_some (chunk_in (piece_text piece) (piece_places piece) (chu
 pub HoldsLast-prop : (piece : Checked) → IsProp (HoldsLast piece)
 HoldsLast-prop piece = Bool-set _ _
 
+-- A certificate that the bytes, at most 1024 of them, are chunk `number`. Its steps are the parents that the piece's own
+-- encoding has over that chunk: no others, and none left out.
+pub record HasCertificate (piece : Checked) (number : ℕ) (bytes : List ℕ) : Type 0 where
+  pub certificate : Certificate (piece_mode piece) (piece_root piece) number bytes
+  pub steps_are : certificate.steps ≡ steps_to (piece_text piece) (piece_places piece) number
+  pub size : length bytes ≤ 1024
+
 -- the piece's encoding has the last chunk of a blob of `total` bytes, and a certificate of it that is last
 pub record HasLastCertificate (piece : Checked) (total : ℕ) : Type 0 where
   pub bytes : List ℕ
   pub there : chunk_in (piece_text piece) (piece_places piece) (chunk_count total - 1) ≡ Some bytes
-  pub certificate : Certificate (piece_mode piece) (piece_root piece) (chunk_count total - 1) bytes
-  pub last : IsLast certificate
+  pub own : HasCertificate piece (chunk_count total - 1) bytes
+  pub last : IsLast own.certificate
 
 -- the piece is this encoding, accepted as the slice (start, len) under the root in the mode
 pub record IsPiece (piece : Checked) (mode : Mode) (root : List ℕ) (start len : ℕ) (text : List ℕ) : Type 0 where

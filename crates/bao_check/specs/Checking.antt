@@ -1,10 +1,10 @@
 -- What a check in pieces has taken, and what it says.
-use Rattle.std.specs.Prelude.{◌≡◌, ℕ, ◌^◌, ◌<◌, ◌≤◌, List, [], ◌++◌, length, nat_eq, Option, Some, if◌then◌else◌}
+use Rattle.std.specs.Prelude.{◌≡◌, ℕ, ◌^◌, ◌<◌, ◌≤◌, List, [], ◌++◌, length, nat_eq, Bool, false, Option, Some, if◌then◌else◌}
 use Rattle.bao_check.specs.declared.checking.Checking.{Checking}
 use Rattle.bao_check.specs.declared.fault.CheckFault.{CheckFault}
 use Rattle.bao_check.specs.declared.fault.CheckFault.TheVariants.{Short, Mismatch, Trailing, Memory, Reader}
 use Rattle.bao_check.specs.Decoded.{chunk_bytes, decoded, waiting_kinds}
-use Rattle.bao_check.specs.Waiting.{CheckTask, IsFaultAs, WaitsIn, next_size}
+use Rattle.bao_check.specs.Waiting.{CheckTask, IsFaultAs, WaitsIn, chunk_waits, next_size}
 
 -- what it checks an encoding as
 abbrev pub task_of : Checking → CheckTask
@@ -13,6 +13,10 @@ task_of check = record { mode = check.mode; root = check.root.0; start = check.s
 -- how many bytes it wants next, if any: first the 8 of the length
 abbrev pub wanted : Checking → Option ℕ
 wanted check = if nat_eq check.at 0 then Some 8 else next_size check.waiting.items
+
+-- whether that is a chunk
+abbrev pub chunk_wanted : Checking → Bool
+chunk_wanted check = if nat_eq check.at 0 then false else chunk_waits check.waiting.items
 
 -- It checks an encoding as that, and has taken these bytes of it, all of them good.
 pub record HasTakenAs (check : Checking) (task : CheckTask) (taken : List ℕ) : Type 0 where

@@ -5,9 +5,11 @@ pub mod Inputs
 pub mod Faults
 pub mod Pieces
 pub mod Parents
+pub mod Steps
 pub mod Beside
 pub mod Walk
 pub mod Ways
+pub mod HasPart
 pub mod Forms
 pub mod Spans
 pub mod Bodies

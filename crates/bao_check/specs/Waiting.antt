@@ -1,5 +1,5 @@
 -- What is still to come of an encoding that is checked in pieces: the wanted nodes of subtrees.
-use Rattle.std.specs.Prelude.{◌≡◌, ◌⊎◌, ℕ, ◌+◌, ◌-◌, ◌<◌, ◌≤◌, false, List, [], ◌∷◌, ◌++◌, length, take, map, slice_get, nat_le, Option, if◌then◌else◌}
+use Rattle.std.specs.Prelude.{◌≡◌, ◌⊎◌, ℕ, ◌+◌, ◌-◌, ◌<◌, ◌≤◌, Bool, false, List, [], ◌∷◌, ◌++◌, length, take, map, slice_get, nat_le, Option, None, Some, if◌then◌else◌}
 use Rattle.std.specs.Option.{option_map}
 use Rattle.b3tree.specs.declared.mode.Mode.{Mode}
 use Rattle.b3tree.specs.declared.values.Cv.{Cv}
@@ -37,6 +37,14 @@ part_size part = if nat_le part.len 1024 then part.len else 64
 -- how many the node has that comes next
 abbrev pub next_size : List Part → Option ℕ
 next_size parts = option_map part_size (last_part parts)
+
+-- whether that node is a chunk
+abbrev pub is_chunk_first : Option Part → Bool
+is_chunk_first None = false
+is_chunk_first (Some part) = nat_le part.len 1024
+
+abbrev pub chunk_waits : List Part → Bool
+chunk_waits parts = is_chunk_first (last_part parts)
 
 -- what a parent asks of its part with this value
 abbrev pub below_parent : Cv → Asked

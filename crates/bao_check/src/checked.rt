@@ -3,7 +3,6 @@ ghost use Rattle.std.specs.Option.{option_copied};
 ghost use Rattle.bao_text.specs.Choice.{of_slice};
 ghost use Rattle.b3tree.specs.Hashing.{hash};
 ghost use Rattle.b3tree.specs.Valid.{AreBytes};
-ghost use Rattle.bao_check.specs.Certificate.{Certificate};
 ghost use Rattle.bao_check.specs.Laws.{BindsChunk};
 ghost use Rattle.bao_check.specs.Pieces.{chunk_in};
 ghost use Rattle.bao_check.specs.Spans.{chunk_place};
@@ -45,7 +44,7 @@ pub struct Checked<'a> {
 }
 
 impl<'a> Checked<'a> {
-    ghost use Rattle.bao_check.specs.Checked.{HasLastCertificate, IsPiece, piece_claimed, piece_len, piece_mode, piece_nodes, piece_places, piece_root, piece_start, piece_text, HoldsLast};
+    ghost use Rattle.bao_check.specs.Checked.{HasCertificate, HasLastCertificate, IsPiece, piece_claimed, piece_len, piece_mode, piece_nodes, piece_places, piece_root, piece_start, piece_text, HoldsLast};
     ghost use Rattle.bao_check.specs.Beside.{IsOfChunks, beside_text};
     ghost use Rattle.bao_check.specs.Outline.{outline_claimed, outline_text};
     ghost use Rattle.bao_check.specs.Tail.{tail_piece};
@@ -193,12 +192,12 @@ impl<'a> Checked<'a> {
 
     /// The bytes of chunk `i`, where they stand: there exactly where the piece holds that chunk.
     ///
-    /// The root, the parents on the way and these bytes are its certificate. So for each blob with the
-    /// root they are the blob's chunk `i`, or a collision is exhibited, one
+    /// The root, the piece's own parents over the chunk and these bytes, at most 1,024, are its certificate.
+    /// So for each blob with the root they are the blob's chunk `i`, or a collision is exhibited, one
     /// input of the blob's and one of the encoding's.
     pub fn chunk(&self, i: u64) -> Option<&'a [u8]>
         ensures value { option_copied result ≡ chunk_in (piece_text self.now) (piece_places self.now) i }
-        ensures certificate { IfSome result (λ bytes. Certificate (piece_mode self.now) (piece_root self.now) i bytes.now) }
+        ensures certificate { IfSome result (λ bytes. HasCertificate self.now i bytes.now) }
         ensures binds { (blob : List ℕ) → AreBytes blob → hash (piece_mode self.now) blob ≡ piece_root self.now
             → IfSome result (λ bytes. BindsChunk (piece_mode self.now) (piece_text self.now) (piece_start self.now) (piece_len self.now) blob i bytes.now) }
     {

@@ -1,4 +1,4 @@
-ghost use Rattle.std.specs.Prelude.{◌≡◌, ◌↔◌, ℕ, ◌+◌, ◌-◌, ◌^◌, ◌<◌, ◌≤◌, List, [], ◌++◌, length, take, true, IfErr, IfOk, IfSome, IsNone, IsTrue, MatchResult, OnErr, OnOk, Some};
+ghost use Rattle.std.specs.Prelude.{◌≡◌, ◌↔◌, ℕ, ◌+◌, ◌-◌, ◌^◌, ◌<◌, ◌≤◌, List, [], ◌++◌, length, take, true, if◌then◌else◌, IfErr, IfOk, IfSome, IsNone, IsTrue, MatchResult, OnErr, OnOk, Some};
 ghost use Rattle.bao_check.specs.declared.fault.CheckFault.TheVariants.{Mismatch, Short, Trailing};
 ghost use Rattle.bao_check.specs.Decoded.{chunk_bytes, decoded, waiting_kinds};
 ghost use Rattle.bao_check.specs.Streams.{IsOfBytes};
@@ -7,7 +7,7 @@ ghost use Rattle.bao_check.specs.Waiting.{AreParts, AreParts-prop, CheckTask, Is
 use crate::asked::{Asked, meets};
 use crate::decoding::take_nodes;
 use crate::fault::CheckFault;
-use crate::waiting::{Waiting, node_size, push_wanted, take_node};
+use crate::waiting::{Waiting, is_chunk_next, node_size, push_wanted, take_node};
 use arrayvec::ArrayVec;
 use b3tree::{Cv, Hash, Mode, top_input};
 use bao_text::{Choice, LENGTH_LEN, claimed};
@@ -76,7 +76,7 @@ pub struct Checking {
 }
 
 impl Checking {
-    ghost use Rattle.bao_check.specs.Checking.{HasDecodedAs, HasTakenAs, IsNodeFault, wanted};
+    ghost use Rattle.bao_check.specs.Checking.{HasDecodedAs, HasTakenAs, IsNodeFault, chunk_wanted, wanted};
 
     /// A check of an encoding as the slice of `len` bytes from byte `start` on of the blob with the hash `root` in `mode`. It
     /// has taken nothing.
@@ -121,6 +121,14 @@ impl Checking {
         node_size(&self.waiting)
     }
 
+    /// Whether the node that comes next is a chunk: bytes of the blob, as `take` says of them. Its size alone doesn't
+    /// tell, since a last chunk may have 64 bytes, as a parent has.
+    pub fn wants_chunk(&self) -> bool
+        ensures { result ≡ chunk_wanted self.now }
+    {
+        self.at > 0 && is_chunk_next(&self.waiting)
+    }
+
     /// Whether what was taken is an accepted encoding.
     pub fn is_done(&self) -> bool
         ensures { (task : CheckTask) (taken : List ℕ) → HasTakenAs self.now task taken → IsTrue result ↔ IsAcceptedAs task taken }
@@ -141,6 +149,8 @@ impl Checking {
         ensures refused { (task : CheckTask) (taken : List ℕ) → HasTakenAs self.old task taken
             → IfErr result (λ fault. IsOfBytes fault → (more : List ℕ) → ¬ IsAcceptedAs task ((taken ++ node.now) ++ more)) }
         ensures begun { (task : CheckTask) → HasTakenAs self.old task [] → OnOk result (HasDecodedAs self.new task node.now []) }
+        ensures decoded { (task : CheckTask) (taken blob : List ℕ) → HasDecodedAs self.old task taken blob
+            → OnOk result (HasDecodedAs self.new task (taken ++ node.now) (blob ++ (if chunk_wanted self.old then node.now else []))) }
         ensures unchanged { OnErr result (self.new ≡ self.old) }
     {
         let len = node.len() as u64;

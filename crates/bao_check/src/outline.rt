@@ -22,8 +22,8 @@ pub struct Outline<'a> {
 impl<'a> Outline<'a> {
     ghost use Rattle.bao_check.specs.Outline.{IsOutline, outline_claimed, outline_mode, outline_root, outline_text};
 
-    // The outline that an accepted encoding is.
-    pub(crate) fn new(mode: &Mode, root: &Hash, text: &'a [u8]) -> Outline<'a>
+    /// The outline that an accepted outboard encoding is.
+    pub fn new(mode: &Mode, root: &Hash, text: &'a [u8]) -> Outline<'a>
         requires { IsAccepted mode.now root.now.0 text.now (outboard_nodes text.now) }
         ensures { IsOutline result mode.now root.now.0 text.now }
     {

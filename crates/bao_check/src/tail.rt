@@ -46,8 +46,8 @@ impl<'a> Tail<'a> {
         self.piece.mode()
     }
 
-    /// The length of the blob in bytes: 1,024 times the last chunk's number, and its size. The root, the parents
-    /// on the way to that chunk and its bytes are a certificate that is last: the way goes to the right at each
+    /// The length of the blob in bytes: 1,024 times the last chunk's number, and its size. The root, the piece's
+    /// own parents over that chunk and its bytes are a certificate that is last: the way goes to the right at each
     /// parent.
     ///
     /// For each blob with the root it is the blob's length, or a collision is

@@ -2,7 +2,7 @@ ghost use Rattle.std.specs.Prelude.{◌≡◌, ◌+◌, ◌-◌, ◌*◌, ◌/�
 ghost use Rattle.b3tree.specs.Tree.{left_len};
 ghost use Rattle.bao_check.specs.declared.part.Part.{Part};
 ghost use Rattle.bao_check.specs.Decoded.{Decodes, subtree_kinds, waiting_kinds};
-ghost use Rattle.bao_check.specs.Waiting.{AreParts, HasRefused, HasTaken, IsBefore, below_parent, last_part, next_size, part_size};
+ghost use Rattle.bao_check.specs.Waiting.{AreParts, HasRefused, HasTaken, IsBefore, below_parent, chunk_waits, last_part, next_size, part_size};
 
 use crate::asked::{Asked, meets};
 use crate::fault::CheckFault;
@@ -39,6 +39,16 @@ pub(crate) fn node_size(waiting: &Waiting) -> Option<usize>
 {
     let part = next_part(waiting)?;
     Some(size(&part))
+}
+
+// Whether that node is a chunk.
+pub(crate) fn is_chunk_next(waiting: &Waiting) -> bool
+    ensures { result ≡ chunk_waits waiting.now.items }
+{
+    match next_part(waiting) {
+        Some(part) => part.len <= CHUNK_LEN as u64,
+        None => false,
+    }
 }
 
 // Puts the subtree over `len` bytes from chunk `number` on before all that waits, if it is wanted.

@@ -150,6 +150,18 @@ pub fn derive_determined(context: &str) -> (Mode, Mode)
     (Mode::derive(context), Mode::derive(context))
 }
 
+pub fn context_key_determined(context: &[u8]) -> ([u8; 32], [u8; 32])
+    ensures { result.0 ≡ result.1 }
+{
+    (Mode::context_key(context), Mode::context_key(context))
+}
+
+pub fn from_context_key_determined(key: [u8; 32]) -> (Mode, Mode)
+    ensures { result.0 ≡ result.1 }
+{
+    (Mode::from_context_key(key), Mode::from_context_key(key))
+}
+
 pub fn xof_fits_determined(at: u64, len: u64) -> (bool, bool)
     ensures { result.0 ≡ result.1 }
 {

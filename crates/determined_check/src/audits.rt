@@ -3,10 +3,11 @@
 ghost use Rattle.std.specs.Prelude.{◌≡◌, ◌↔◌, ℕ, IsErr, None, Ok, Some};
 ghost use Rattle.b3word.specs.declared.input.Input.{Input};
 ghost use Rattle.determined_check.specs.Agreeing.{SamePiece};
+ghost use Rattle.bao_bind.specs.declared.verdict.ParentVerdict.TheVariants.{Agrees as ParentsAgree, OtherLength};
 ghost use Rattle.bao_bind.specs.declared.verdict.Verdict.TheVariants.{Agrees};
 
 use b3tree::Input;
-use bao_bind::{AuditFault, Verdict, audit, audit_all};
+use bao_bind::{AuditFault, ParentVerdict, Verdict, audit, audit_all, audit_parents};
 use bao_check::Checked;
 
 pub fn audit_code_determined(a: &AuditFault, b: &AuditFault) -> (u16, u16)
@@ -26,6 +27,23 @@ pub fn audit_determined(
     ensures agrees { (result.0 ≡ Ok Agrees) ↔ (result.1 ≡ Ok Agrees) }
 {
     (audit(blob, a), audit(blob, b))
+}
+
+// Of two pieces that are the same. Which collision it exhibits isn't determined.
+pub fn audit_parents_determined(
+    blob: &[u8],
+    a: &Checked<'_>,
+    b: &Checked<'_>,
+) -> (
+    Result<ParentVerdict, AuditFault>,
+    Result<ParentVerdict, AuditFault>,
+)
+    requires { SamePiece a.now b.now }
+    ensures other_root { IsErr result.0 ↔ IsErr result.1 }
+    ensures agrees { (result.0 ≡ Ok ParentsAgree) ↔ (result.1 ≡ Ok ParentsAgree) }
+    ensures other_length { (result.0 ≡ Ok OtherLength) ↔ (result.1 ≡ Ok OtherLength) }
+{
+    (audit_parents(blob, a), audit_parents(blob, b))
 }
 
 // Which collision it exhibits isn't determined; of which piece it is, is.

@@ -2,7 +2,7 @@
 // determined, and no answer tells.
 
 ghost use Rattle.std.specs.Prelude.{◌≡◌, ◌↔◌, IfSome, IsSome, option_copied};
-ghost use Rattle.bao_check.specs.Accepted.{IsAccepted, slice_nodes};
+ghost use Rattle.bao_check.specs.Accepted.{IsAccepted, outboard_nodes, slice_nodes};
 ghost use Rattle.bao_check.specs.Tail.{tail_piece};
 ghost use Rattle.bao_text.specs.Rest.{rest_of};
 ghost use Rattle.determined_check.specs.Agreeing.{SameOutline, SamePiece};
@@ -132,6 +132,20 @@ pub fn tail_length_determined(a: &Tail<'_>, b: &Tail<'_>) -> (u64, u64)
     ensures { result.0 ≡ result.1 }
 {
     (a.length(), b.length())
+}
+
+pub fn outline_determined<'a>(
+    mode: &Mode,
+    root: &Hash,
+    text: &'a [u8],
+) -> (Outline<'a>, Outline<'a>)
+    requires { IsAccepted mode.now root.now.0 text.now (outboard_nodes text.now) }
+    ensures { SameOutline result.0 result.1 }
+{
+    (
+        Outline::new(mode, root, text),
+        Outline::new(mode, root, text),
+    )
 }
 
 pub fn outline_root_determined(a: &Outline<'_>, b: &Outline<'_>) -> (Hash, Hash)

@@ -1,11 +1,10 @@
-use Rattle.std.proofs.Common.{◌≡◌, ◌+◌, ◌-◌, ◌<◌, List, [], ◌∷◌, ◌++◌, ℕ, length, take, Some, refl, sym, ap, subst, ◌∙◌, arith, IfErr}
-use Rattle.std.proofs.lemmas.List.{append-nil, length-take-le, take-take, take_all}
+use Rattle.std.proofs.Common.{◌≡◌, ◌+◌, ◌-◌, List, [], ◌∷◌, ◌++◌, ℕ, length, take, Some, refl, sym, ap, subst, ◌∙◌, arith}
+use Rattle.std.proofs.lemmas.List.{length-take-le}
 use Rattle.std.proofs.lemmas.Result.{err_from_is_err_and}
 use Rattle.std.proofs.lemmas.Slice.{take-put_mid}
-use Rattle.std.specs.Prelude.{OnOk}
 use Rattle.bao_check.specs.declared.part.Part.{Part}
-use Rattle.bao_check.specs.Decoded.{Decodes, chunk_bytes, kinds_size, subtree_kinds}
-use Rattle.bao_check.specs.Waiting.{AreParts, HasRefused, last_part, part_size}
+use Rattle.bao_check.specs.Decoded.{chunk_bytes, subtree_kinds}
+use Rattle.bao_check.specs.Waiting.{last_part, part_size}
 use Rattle.bao_check.specs.Whole.{HasWholeAhead}
 use Rattle.bao_check.proofs.ChunkBytes.{kinds_size-some, refused_front, whole_decodes, whole_size, whole_taken_from}
 use Rattle.bao_check.proofs.Feeding.{first_of, part_taken}

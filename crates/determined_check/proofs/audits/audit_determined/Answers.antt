@@ -1,3 +1,4 @@
+use Rattle.std.proofs.Common.{◌↔◌, IsErr}
 use Rattle.determined_check.proofs.Audited.{one_root, one_verdict}
 use Rattle.determined_check.proofs.audits.audit_determined.Goals as goal
 
@@ -7,4 +8,6 @@ returns-clause-other_root c =
 
 pub returns-clause-agrees : goal.returns-clause-agrees
 returns-clause-agrees c =
-    one_verdict c.args.blob.now c.args.a.now c.args.b.now c.audit.result c.audit-2.result c.requires c.audit.ensures.other_root c.audit-2.ensures.other_root c.audit.ensures.says c.audit-2.ensures.says
+    let errs : IsErr c.audit.result ↔ IsErr c.audit-2.result =
+    one_root c.args.blob.now c.args.a.now c.args.b.now c.audit.result c.audit-2.result c.requires c.audit.ensures.other_root c.audit-2.ensures.other_root in
+    one_verdict c.args.blob.now c.args.a.now c.args.b.now c.audit.result c.audit-2.result c.requires errs c.audit.ensures.says c.audit-2.ensures.says

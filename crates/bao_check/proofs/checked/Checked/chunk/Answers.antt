@@ -1,10 +1,10 @@
 use Rattle.std.proofs.Common.{◌≡◌, ℕ, List, Option, None, Some, IfSome, sym}
 use Rattle.std.specs.Option.{option_copied}
 use Rattle.b3tree.specs.Valid.{AreBytes, IsKeyed}
-use Rattle.bao_check.specs.Certificate.{Certificate}
-use Rattle.bao_check.specs.Checked.{piece_mode, piece_root, piece_text}
+use Rattle.bao_check.specs.Checked.{HasCertificate, piece_mode, piece_root, piece_text}
 use Rattle.bao_check.specs.Laws.{BindsChunk}
-use Rattle.bao_check.proofs.Laws.{accepted_binds, chunk_certificate}
+use Rattle.bao_check.proofs.Laws.{accepted_binds}
+use Rattle.bao_check.proofs.Tails.{certified_chunk, own_certificate}
 use Rattle.std.specs.Borrow.{Bor}
 use Rattle.bao_check.proofs.checked.Checked.chunk.Goals as goal
 
@@ -15,10 +15,8 @@ IfSome-copied (Some b) o P same each = each b.now (sym same)
 
 pub returns-clause-certificate : goal.returns-clause-certificate
 returns-clause-certificate c =
-    IfSome-copied c.bytes.result _ (λ bytes. Certificate (piece_mode c.args.self.now) (piece_root c.args.self.now) c.args.i bytes) c.bytes.ensures
-    (λ bytes there.
-    chunk_certificate (piece_mode c.args.self.now) (piece_root c.args.self.now) (piece_text c.args.self.now) c.args.self.now.start c.args.self.now.len c.args.i bytes
-    c.args.self.now.accepted c.is_of_bytes.ensures there)
+    IfSome-copied c.bytes.result _ (λ bytes. HasCertificate c.args.self.now c.args.i bytes) c.bytes.ensures
+    (λ bytes there. own_certificate c.args.self.now c.args.i bytes (certified_chunk c.args.self.now c.args.i bytes there) c.is_of_bytes.ensures)
 
 pub returns-clause-binds : goal.returns-clause-binds
 returns-clause-binds c = λ blob valid is.

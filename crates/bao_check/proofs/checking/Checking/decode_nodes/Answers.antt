@@ -1,8 +1,7 @@
-use Rattle.std.proofs.Common.{◌≡◌, ◌<◌, ◌+◌, ◌-◌, ℕ, List, [], ◌++◌, length, take, sym, ap, subst, ◌∙◌, arith, length-append}
+use Rattle.std.proofs.Common.{◌≡◌, ◌+◌, ◌-◌, ℕ, List, ◌++◌, length, take, sym, subst, ◌∙◌, arith, length-append}
 use Rattle.std.proofs.lemmas.List.{length-take-le}
 use Rattle.std.proofs.lemmas.Result.{err_from_is_err_and}
 use Rattle.bao_check.specs.declared.fault.CheckFault.{CheckFault}
-use Rattle.bao_check.specs.Checking.{HasDecodedAs, HasTakenAs, task_of}
 use Rattle.bao_check.specs.Decoded.{Decodes}
 use Rattle.bao_check.specs.Waiting.{CheckTask, HasRefusedIn, HasTaken}
 use Rattle.bao_check.proofs.ChunkBytes.{decodes-taken}

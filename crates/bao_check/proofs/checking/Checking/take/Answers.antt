@@ -1,8 +1,10 @@
-use Rattle.std.proofs.Common.{◌≡◌, ℕ, ◌<◌, List, [], ◌++◌, sym, subst, ◌∙◌, arith, length-append}
+use Rattle.std.proofs.Common.{◌≡◌, ℕ, ◌<◌, List, [], ◌++◌, length, if◌then◌else◌, Some, false, nat_eq, refl, sym, subst, ◌∙◌, arith, length-append}
+use Rattle.std.proofs.lemmas.Bool.{ne_eqb}
 use Rattle.std.proofs.lemmas.Result.{err_from_is_err_and}
 use Rattle.bao_check.specs.declared.fault.CheckFault.{CheckFault}
 use Rattle.bao_check.specs.Checking.{task_of}
-use Rattle.bao_check.specs.Waiting.{CheckTask, HasRefused, HasTaken}
+use Rattle.bao_check.specs.Waiting.{CheckTask, HasRefused, HasTaken, chunk_waits, next_size}
+use Rattle.bao_check.proofs.ChunkBytes.{decodes_node, node_decodes}
 use Rattle.bao_check.proofs.Feeding.{WaitsIn-taken, begun_fault, node_fault, node_refused, nothing, refused_fault}
 use Rattle.bao_check.proofs.checking.Checking.take.Goals as goal
 
@@ -62,3 +64,19 @@ returns-clause-taken c = λ task taken it.
       at_is = omega (arith, it.at_is, length-append taken node);
       waits = λ _. WaitsIn-taken task check.choice check.waiting.items c.take_node.new.waiting.items taken node step (it.waits begun);
     }
+
+pub returns-clause-decoded : goal.returns-clause-decoded
+returns-clause-decoded c = λ task taken blob it.
+    let check = c.args.self.now in
+    let node : List ℕ = c.args.node.now in
+    let begun : 0 < check.at = omega (arith, c.if-self-eq0.false) in
+    let own : List ℕ = if chunk_waits check.waiting.items then node else [] in
+    let later : nat_eq check.at 0 ≡ false = ne_eqb check.at 0 c.if-self-eq0.false in
+    let wants : (if nat_eq check.at 0 then Some 8 else next_size check.waiting.items) ≡ next_size check.waiting.items = rw (later) refl in
+    let next : next_size check.waiting.items ≡ Some (length node) = sym wants ∙ c.requires in
+    let decodes = node_decodes check.choice check.waiting.items c.take_node.new.waiting.items node (length node) next c.in_ok-take_node.ensures.chunk c.in_ok-take_node.ensures.parent in
+    rw (later) (record {
+      has_taken = returns-clause-taken c task taken it.has_taken;
+      begins = λ zero. absurd (omega (arith, zero, begun));
+      decodes = λ _ more. decodes_node check.choice check.waiting.items c.take_node.new.waiting.items taken node blob own more task.start task.len decodes (it.decodes begun (node ++ more));
+    })
