@@ -1,11 +1,15 @@
 -- Pairs that are found.
 use Rattle.std.proofs.Common.{◌≡◌, ◌≢◌, List, None, Some, Option, Bool, true, false, refl, sym, ap, subst, ◌∙◌}
-use Rattle.std.specs.Prelude.{Contains, IsTrue}
+use Rattle.std.specs.Prelude.{Contains, IsTrue, not}
 use Rattle.b3word.specs.declared.input.Input.{Input}
 use Rattle.b3word.specs.Compression.{cv}
 use Rattle.bao_check.specs.Inputs.{Names}
 use Rattle.bao_bind.specs.declared.pair.Pair.{Pair}
 use Rattle.bao_bind.specs.Search.{Finds}
+
+pub not_false : (b : Bool) → not b ≡ false → b ≡ true
+not_false true h = refl
+not_false false h = cc
 
 -- what a test of a fact tells
 pub told : {P : Type 0} (b : Bool) → ((IsTrue b → P) × (P → IsTrue b)) → b ≡ true → P

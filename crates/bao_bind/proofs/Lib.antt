@@ -4,3 +4,5 @@ mod TreeChunks
 mod Walks
 mod Audits
 mod First
+mod Comparing
+mod ParentAudits

@@ -28,10 +28,10 @@ unfolding subtree_inputs
 part_subtree top mode first s = refl
 
 -- an input of the tree over s is one of the part's
-part_there : (top : Bool) (mode : Mode) (first : ℕ) (s : List ℕ) (x : Input) → Contains (subtree_inputs top mode first s) x → Contains (part_inputs top mode first s) x
+pub part_there : (top : Bool) (mode : Mode) (first : ℕ) (s : List ℕ) (x : Input) → Contains (subtree_inputs top mode first s) x → Contains (part_inputs top mode first s) x
 part_there top mode first s x h = subst (λ (xs : List Input). Contains xs x) (part_subtree top mode first s) h
 
-there_part : (top : Bool) (mode : Mode) (first : ℕ) (s : List ℕ) (x : Input) → Contains (part_inputs top mode first s) x → Contains (subtree_inputs top mode first s) x
+pub there_part : (top : Bool) (mode : Mode) (first : ℕ) (s : List ℕ) (x : Input) → Contains (part_inputs top mode first s) x → Contains (subtree_inputs top mode first s) x
 there_part top mode first s x h = subst (λ (xs : List Input). Contains xs x) (sym (part_subtree top mode first s)) h
 
 chunk_there : (top : Bool) (mode : Mode) (first : ℕ) (s : List ℕ) (x : Input) → length s ≤ 1024 → Contains (whole_chunk top mode first s) x → Contains (part_inputs top mode first s) x

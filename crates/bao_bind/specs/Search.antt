@@ -15,6 +15,11 @@ abbrev pub Finds : List Input → List Input → Type 0 → Option Pair → Type
 Finds ours theirs same None = same
 Finds ours theirs same (Some pair) = Names ours theirs pair.ours pair.theirs
 
+-- A collision is found exactly where this doesn't hold.
+abbrev pub FindsOnly : List Input → List Input → Type 0 → Option Pair → Type 0
+FindsOnly ours theirs same None = same
+FindsOnly ours theirs same (Some pair) = (¬ same) × Names ours theirs pair.ours pair.theirs
+
 -- Chunk `number` of the tree over s from chunk `first` on is `bytes`; and where it is the last chunk of the
 -- n bytes from chunk `from` on, s ends with it.
 pub record TreeHasChunk (first : ℕ) (s : List ℕ) (from n number : ℕ) (bytes : List ℕ) : Type 0 where

@@ -1,13 +1,16 @@
 -- What an audit of a piece against a blob says.
-use Rattle.std.specs.Prelude.{◌≡◌, ℕ, ◌+◌, ◌<◌, List, length, Option, None, Some, slice_index_or}
+use Rattle.std.specs.Prelude.{◌≡◌, ◌≢◌, ℕ, ◌+◌, ◌<◌, List, length, Option, None, Some, slice_index_or}
 use Rattle.b3word.specs.declared.input.Input.{Input}
 use Rattle.b3tree.specs.Hashing.{hash}
 use Rattle.bao_text.specs.Choice.{chunk_count}
 use Rattle.bao_check.specs.declared.checked.Checked.{Checked}
 use Rattle.bao_check.specs.Checked.{HoldsLast, piece_claimed, piece_mode, piece_places, piece_root, piece_text}
 use Rattle.bao_check.specs.Inputs.{Names, blob_inputs, text_inputs}
+use Rattle.bao_check.specs.Parents.{parent_in, parent_of}
 use Rattle.bao_check.specs.Pieces.{chunk_in, chunk_of}
 use Rattle.bao_bind.specs.declared.part.Part.{Part}
+use Rattle.bao_bind.specs.declared.verdict.ParentVerdict.{ParentVerdict}
+use Rattle.bao_bind.specs.declared.verdict.ParentVerdict.TheVariants as parents
 use Rattle.bao_bind.specs.declared.verdict.Verdict.{Verdict}
 use Rattle.bao_bind.specs.declared.verdict.Verdict.TheVariants.{Agrees, Collision}
 
@@ -27,6 +30,16 @@ NamesFrom blob piece x y =
 abbrev pub Says : List ℕ → Checked → Verdict → Type 0
 Says blob piece Agrees = AgreesWith blob piece
 Says blob piece (Collision ours theirs) = (¬ AgreesWith blob piece) × NamesFrom blob piece ours theirs
+
+-- Each parent of the piece is the blob's parent at that boundary.
+abbrev pub HasParentsOf : List ℕ → Checked → Type 0
+HasParentsOf blob piece = (m : ℕ) (bytes : List ℕ) → parent_in (piece_text piece) (piece_places piece) m ≡ Some bytes → parent_of (piece_mode piece) blob m ≡ Some bytes
+
+-- what a verdict on its parents says of a blob and a piece
+abbrev pub SaysOfParents : List ℕ → Checked → ParentVerdict → Type 0
+SaysOfParents blob piece parents.Agrees = (piece_claimed piece ≡ length blob) × HasParentsOf blob piece
+SaysOfParents blob piece parents.OtherLength = piece_claimed piece ≢ length blob
+SaysOfParents blob piece (parents.Collision ours theirs) = (piece_claimed piece ≡ length blob) × (¬ HasParentsOf blob piece) × NamesFrom blob piece ours theirs
 
 -- The bytes are the blob's chunk of that number, and end the blob where they end the length that the piece
 -- claims.

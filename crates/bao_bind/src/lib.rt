@@ -3,9 +3,11 @@
 //! Nothing here takes memory.
 #![tactic(auto)]
 
+pub use apart::audit_parents;
 pub use bind::{audit, audit_all};
-pub use verdict::{AuditFault, Verdict};
+pub use verdict::{AuditFault, ParentVerdict, Verdict};
 
+mod apart;
 mod bind;
 mod chunks;
 mod pair;

@@ -19,6 +19,23 @@ pub enum Verdict {
     },
 }
 
+/// What an audit of a piece's parents against a blob with its root finds.
+#[derive(Clone, Copy, Debug, PartialEq, Eq)]
+pub enum ParentVerdict {
+    /// The piece claims the blob's length, and each parent of the piece is the blob's parent at that boundary.
+    Agrees,
+    /// The length that the piece claims isn't the blob's, so its boundaries needn't be those of the blob's tree.
+    OtherLength,
+    /// The piece claims the blob's length, and some parent isn't the blob's. Then these two inputs of the compression
+    /// function differ and have one chaining value.
+    Collision {
+        /// One of those that hashing the blob compresses.
+        ours: Input,
+        /// One of those that checking the piece compresses.
+        theirs: Input,
+    },
+}
+
 /// Why a piece can't be audited against a blob.
 #[derive(Clone, Copy, Debug, PartialEq, Eq, Error)]
 pub enum AuditFault {

@@ -1,16 +1,13 @@
-use Rattle.std.proofs.Common.{◌≡◌, None, Some, Option, Bool, true, false, refl, sym, subst, ◌∙◌, arith}
+use Rattle.std.proofs.Common.{◌≡◌, None, Some, Option, sym, subst, ◌∙◌, arith}
 use Rattle.std.proofs.lemmas.Slice.Eq.{bytes_eq-Decides}
-use Rattle.std.specs.Prelude.{not, IfSome}
+use Rattle.std.specs.Prelude.{IfSome}
 use Rattle.bao_check.specs.Checked.{piece_claimed, piece_places, piece_text}
 use Rattle.bao_check.specs.Pieces.{chunk_in}
 use Rattle.bao_bind.specs.declared.part.Part.{Part}
 use Rattle.bao_bind.specs.Verdict.{IsOurs}
 use Rattle.bao_bind.proofs.Audits.{audit_finds, chunk_range, chunk_size, disagrees}
+use Rattle.bao_bind.proofs.Found.{not_false}
 use Rattle.bao_bind.proofs.bind.audit.Goals as goal
-
-not_false : (b : Bool) → not b ≡ false → b ≡ true
-not_false true h = refl
-not_false false h = cc
 
 -- the chunk that isn't the blob's
 told_some : (P : Part → Type 0) (found : Option Part) (chunk : Part) → found ≡ Some chunk → IfSome found P → P chunk
