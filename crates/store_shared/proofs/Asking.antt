@@ -1,6 +1,9 @@
 -- What stands where a call does, and that what a settled length meets is one of the answers of the store.
 use Rattle.std.proofs.Common.{◌≡◌, ℕ, ◌==◌, List, [], ◌∷◌, ◌++◌, Option, None, Some, inl, inr, refl, sym, ap, subst, ◌∙◌}
 use Rattle.std.proofs.lemmas.Bool.{cases_Bool}
+use Rattle.b3tree.specs.Valid.{AreBytes, IsKeyed}
+use Rattle.bao_check.specs.Accepted.{IsAccepted}
+use Rattle.bao_check.specs.Checked.{HoldsLast, piece_mode, piece_nodes, piece_root, piece_text}
 use Rattle.bao_check.specs.declared.checked.Checked.{Checked}
 use Rattle.store_core.specs.declared.fixed.Fixed.{Fixed}
 use Rattle.store_core.specs.declared.history.Call.{Call}
@@ -13,8 +16,11 @@ use Rattle.store_core.specs.Events.{IsRightReply, after_call, settling}
 use Rattle.store_core.specs.Histories.{IsLegal, state_after}
 use Rattle.store_core.specs.Pieces.{length_of, piece_of}
 use Rattle.store_core.specs.States.{State, empty}
+use Rattle.store_core.specs.Stores.{ClaimBinds, IsOf}
 use Rattle.store_core.specs.Views.{names_of}
+use Rattle.store_core.proofs.Bound.{claim_binds}
 use Rattle.store_core.proofs.Lasting.{legal-append, run-append}
+use Rattle.store_core.proofs.SlotStates.{accepted_piece}
 use Rattle.store_shared.specs.Seats.{Gripped}
 use Rattle.store_core.specs.Knowledge.{Called, Did, event_of}
 use Rattle.store_shared.specs.Calls.{MaySettle, SeatSettles}
@@ -38,6 +44,13 @@ same_there call old new called same =
 pub length_there : (old new : SeatView) (recorded : Option ℕ) → Called (Length recorded) old new → (state_after new.seen).recorded ≡ recorded
 length_there old new recorded called =
     ap (λ (s : State). s.recorded) (same_there (Length recorded) old new called (λ s. refl)) ∙ sym (right_there (Length recorded) old new called)
+
+-- the length of a tail of the store's root and mode is the blob's, or a collision is exhibited
+pub tail_binds : (fixed : Fixed) (piece : Checked) → IsKeyed fixed.mode → AreBytes (piece_text piece)
+    → IsAccepted (piece_mode piece) (piece_root piece) (piece_text piece) (piece_nodes piece) → HoldsLast piece → IsOf fixed piece
+    → ClaimBinds fixed (piece_of fixed.base piece)
+tail_binds fixed piece keyed bytes accepted last of =
+    claim_binds fixed (piece_of fixed.base piece) keyed (accepted_piece fixed piece bytes accepted of) last
 
 never_other : (o : Option ℕ) (l : ℕ) → OtherRoot ≡ settling o l → ⊥
 never_other None l e = cc

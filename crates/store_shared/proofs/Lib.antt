@@ -1,4 +1,5 @@
 pub mod Claiming
 pub mod Asking
+pub mod ParentsHeld
 pub mod Mirroring
 pub mod Uniting

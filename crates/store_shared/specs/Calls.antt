@@ -1,13 +1,17 @@
 -- Calls of a shared store: each is an event of its history.
-use Rattle.std.specs.Prelude.{◌≡◌, ℕ, false, true}
+use Rattle.std.specs.Prelude.{◌≡◌, ◌⊎◌, ℕ, ◌/◌, false, true, List, is_some, length}
 use Rattle.bao_check.specs.declared.checked.Checked.{Checked}
 use Rattle.store_core.specs.declared.fixed.Fixed.{Fixed}
 use Rattle.store_core.specs.declared.history.Call.TheVariants.{Parents, Settle}
+use Rattle.store_core.specs.declared.history.Piece.{Piece}
 use Rattle.store_core.specs.declared.history.Settling.{Settling}
 use Rattle.store_core.specs.declared.history.Settling.TheVariants.{Settled, Known, Differs, OtherRoot, TooLarge}
 use Rattle.store_core.specs.declared.history.Storing.TheVariants as storing
+use Rattle.store_core.specs.declared.view.SeatView.{SeatView}
 use Rattle.store_core.specs.Events.{has_room}
-use Rattle.store_core.specs.Pieces.{length_of, piece_of}
+use Rattle.store_core.specs.Histories.{state_after}
+use Rattle.store_core.specs.Laws.{CollidesWith, IsBlob, IsSettled}
+use Rattle.store_core.specs.Pieces.{holds_parent, length_of, piece_of}
 use Rattle.store_core.specs.Stores.{IsOf}
 use Rattle.store_shared.specs.declared.fault.ParentsFault.{ParentsFault}
 use Rattle.store_shared.specs.declared.fault.ParentsFault.TheVariants as unstored
@@ -26,6 +30,16 @@ SeatSettles fixed old new piece TooLarge = IsOf fixed piece × (has_room fixed (
 SeatSettles fixed old new piece Settled = MaySettle fixed piece × Called (Settle (piece_of fixed.base piece) Settled) old.view new.view
 SeatSettles fixed old new piece Known = MaySettle fixed piece × Called (Settle (piece_of fixed.base piece) Known) old.view new.view
 SeatSettles fixed old new piece Differs = MaySettle fixed piece × Called (Settle (piece_of fixed.base piece) Differs) old.view new.view
+
+-- For each blob with the store's root the length is the blob's, or a collision is exhibited from the blob and the piece by which a
+-- Settle, in what the seat has seen, recorded it.
+abbrev pub SeatLengthBinds : SeatView → ℕ → Type 0
+SeatLengthBinds view l = (blob : List ℕ) → IsBlob view.fixed blob
+    → (l ≡ length blob) ⊎ ((from : IsSettled view.fixed view.seen l) × CollidesWith view.fixed blob from.piece)
+
+-- The seat has seen each parent held that the piece holds at a boundary of the group.
+abbrev pub AreParentsHeld : SeatView → ℕ → Piece → Type 0
+AreParentsHeld view group piece = (m : ℕ) → m / 64 ≡ group → holds_parent piece m ≡ true → is_some ((state_after view.seen).parents m) ≡ true
 
 abbrev pub number_of : ParentsFault → ℕ
 number_of unstored.OtherRoot = 804

@@ -1,4 +1,4 @@
-ghost use Rattle.std.specs.Prelude.{◌≡◌, ◌↔◌, ◌^◌, ◌<◌, ◌≤◌, ◌*◌, IfErr, IfOk, IfSome, IsOk, IsErrOf, OnErr, length};
+ghost use Rattle.std.specs.Prelude.{◌≡◌, ◌≢◌, ◌↔◌, ◌^◌, ◌<◌, ◌≤◌, ◌*◌, IfErr, IfOk, IfSome, IsOk, IsErrOf, OnErr, length};
 
 use crate::fault::{NoGroup, OtherRoot, ParentsFault, SplitFault};
 use crate::masks::put_masks;
@@ -33,9 +33,10 @@ impl Assembly {
     ghost use Rattle.store_calls.specs.Serving.{SeatIsRefused, SeatSliceBinds};
     ghost use Rattle.store_core.specs.Machine.{groups};
     ghost use Rattle.store_core.specs.Pieces.{piece_of};
-    ghost use Rattle.store_core.specs.Stores.{ChunksBind, IsOf, filled_count, missing_in};
+    ghost use Rattle.store_core.specs.declared.history.Settling.TheVariants.{OtherRoot as RootIsOther};
+    ghost use Rattle.store_core.specs.Stores.{ChunksBind, ClaimBinds, IsOf, filled_count, missing_in};
     ghost use Rattle.store_calls.specs.Reading.{SeatDidRead, SeatReadBinds};
-    ghost use Rattle.store_shared.specs.Calls.{SeatIsUnstored, SeatSettles};
+    ghost use Rattle.store_shared.specs.Calls.{AreParentsHeld, SeatIsUnstored, SeatLengthBinds, SeatSettles};
     ghost use Rattle.store_shared.specs.Seats.{IsGroupOf, IsSeatOf, fixed_of};
     ghost use Rattle.store_core.specs.Knowledge.{AreAllNames, AreMet, ArePartsOf, Called, IsMerged, KeepsClaims, LooksRound, NoneIsClaimedByBoth, opening_view};
 
@@ -260,12 +261,19 @@ impl Assembly {
     ///
     /// 804 `OtherRoot`, asked before all else, where the piece is of another root or mode, and 805 `TooLarge` where the
     /// length is above 1,024 times the capacity, or the store's first chunk isn't the blob's. Nothing is then asked.
+    ///
+    /// For each blob with the store's root, the length of a piece that isn't `OtherRoot` is the blob's; or a collision is
+    /// exhibited, one input of the blob's and one of this piece's.
     pub fn settle(&self, seat: &mut Seat, tail: &Tail<'_>) -> Settling
         requires of { IsSeatOf self.now seat.old }
         ensures of { IsSeatOf self.now seat.new }
         ensures settles { SeatSettles (fixed_of self.now) seat.old seat.new (tail_piece tail.now) result }
+        ensures binds { result ≢ RootIsOther → ClaimBinds (fixed_of self.now) (piece_of (fixed_of self.now).base (tail_piece tail.now)) }
     {
         let fixed = self.words.fixed();
+        // Laws, so that the proof has what they say: nothing runs.
+        fixed.mode.is_keyed();
+        tail.is_last();
         if !fixed.is_of(&tail.root(), &tail.mode()) {
             return Settling::OtherRoot;
         }
@@ -277,8 +285,8 @@ impl Assembly {
 
     /// Stores parents of the piece at boundaries of a group, and answers their mask: bit j stands for the parent whose right
     /// part begins at chunk 64 * group + j. They are parents that the piece holds, and that nobody holds or is storing
-    /// yet: 0 for a group that isn't there. A seat with all names that there are stores all that it has not seen held. It
-    /// takes no memory.
+    /// yet: 0 for a group that isn't there. A seat with all names that there are stores all that it has not seen held, so
+    /// that then the piece's parents at boundaries of the group are all held. It takes no memory.
     ///
     /// 804 `OtherRoot`, asked before all else, where the piece is of another root or mode: nothing is then asked. 807
     /// `OtherLength` where the length that it claims isn't the recorded one, or there is none.
@@ -298,6 +306,7 @@ impl Assembly {
         ensures called { IfOk result (λ stored. Called (Parents group (piece_of (fixed_of self.now).base piece.now) (Stored stored)) seat.old.view seat.new.view) }
         ensures refused { IfErr result (λ fault. SeatIsUnstored (fixed_of self.now) group piece.now fault seat.old seat.new) }
         ensures alone { AreAllNames seat.old.view.names → IfOk result (λ stored. AreAllParents seat.old.view group (piece_of (fixed_of self.now).base piece.now) (Stored stored)) }
+        ensures held { AreAllNames seat.old.view.names → IfOk result (λ _. AreParentsHeld seat.new.view group (piece_of (fixed_of self.now).base piece.now)) }
         ensures absent { (¬ IsGroupOf self.now group) → IfOk result (λ stored. stored ≡ 0) }
         ensures binds { IfOk result (λ _. SeatParentsBind seat.new.view) }
     {
@@ -330,12 +339,19 @@ impl Assembly {
     }
 
     /// The recorded length in bytes, if there is one: there is none where the store's base isn't 0. It takes no memory.
+    ///
+    /// For each blob with the store's root it is the blob's length; or a collision is exhibited, one input of the blob's
+    /// and one of the piece's by which it was settled.
     pub fn length(&self, seat: &mut Seat) -> Option<u64>
         requires of { IsSeatOf self.now seat.old }
         ensures of { IsSeatOf self.now seat.new }
         ensures called { Called (Length result) seat.old.view seat.new.view }
+        ensures binds { IfSome result (λ l. SeatLengthBinds seat.new.view l) }
+        ensures fits { IfSome result (λ l. l ≤ 1024 * (fixed_of self.now).capacity) }
         ensures whole { IfSome result (λ l. (fixed_of self.now).base ≡ 0) }
     {
+        // A law, so that the proof has what it says: nothing runs.
+        self.words.fixed().mode.is_keyed();
         self.words.length(&mut seat.grip)
     }
 

@@ -7,7 +7,6 @@ use Rattle.bao_check.specs.declared.checked.Checked.{Checked}
 use Rattle.store_core.specs.declared.fixed.Fixed.{Fixed}
 use Rattle.store_core.specs.declared.history.Call.TheVariants.{Read}
 use Rattle.store_core.specs.declared.history.Event.{Event}
-use Rattle.store_core.specs.declared.micro.MicroStep.{MicroStep}
 use Rattle.store_core.specs.declared.micro.MicroStep.TheVariants.{Load}
 use Rattle.store_core.specs.declared.view.SeatView.{SeatView}
 use Rattle.store_core.specs.declared.view.StoredWord.{StoredWord}
@@ -17,7 +16,7 @@ use Rattle.store_core.specs.Laws.{IsCommitted, IsRead, IsSound}
 use Rattle.store_core.specs.Machine.{Machine, ReadUnderWay, copied, groups, is_shown, is_whole, loaded_group, position, read_of, shown_byte, store_of}
 use Rattle.store_core.specs.Masks.{has_bit}
 use Rattle.store_core.specs.Pieces.{places_in}
-use Rattle.store_core.specs.Schedules.{IsLegalStep, after_step, is_last_load, read_after, read_before}
+use Rattle.store_core.specs.Schedules.{after_step, is_last_load, read_after, read_before}
 use Rattle.store_core.specs.MachineInvariant.{IsReadSoFar}
 use Rattle.store_core.specs.ScheduleRuns.{carried_on}
 use Rattle.store_core.specs.States.{State, byte_at, empty, read_bytes}
@@ -27,10 +26,10 @@ use Rattle.store_core.proofs.Lasting.{held_lasts, legal_is_sound, run-append}
 use Rattle.store_core.proofs.Loading.{carried_loaded, over_same}
 use Rattle.store_core.proofs.Origins.{held_is_committed}
 use Rattle.store_core.proofs.ReadLaws.{is_read, read_is}
-use Rattle.store_core.proofs.Running.{IsBefore, before_is, loaded_part, one_step, past_none}
+use Rattle.store_core.proofs.Running.{IsBefore, before_is, load_step, loaded_part, past_none}
 use Rattle.store_core.proofs.MachineInvariants.{chunk_fits, chunk_valid}
 use Rattle.store_steps.specs.Layout.{cell_at, claim_word, held_word, length_word}
-use Rattle.store_steps.specs.Machines.{IsAtMachine, IsUnderWay}
+use Rattle.store_steps.specs.Machines.{IsAtMachine, IsReading, IsUnderWay}
 use Rattle.store_steps.specs.Plays.{Loads}
 use Rattle.store_steps.specs.Reads.{group_end, is_last, read_events}
 use Rattle.store_steps.specs.Rule.{ViewFits, HasView, RuleHolds}
@@ -71,7 +70,7 @@ stops_at s at len n none = elim (cases_lt n (length (read_bytes s at len))) [
 ]
 
 module _ (fixed : Fixed) (pieces : List Checked) (s : Table Unit (List SeatView)) (m : Machine) (id group at len : ℕ) (view new : SeatView)
-    (here : IsAtMachine fixed pieces s m id view) (there : group < groups fixed) (legal : IsLegalStep fixed pieces m (Load id at len))
+    (here : IsAtMachine fixed pieces s m id view) (there : group < groups fixed) (reading : IsReading m id at len)
     (group_is : group ≡ loaded_group fixed (read_before m id at len)) (loads : Loads group at len (held_word s.words group) view new)
     (after : RuleHolds fixed (stepped s group (held_word s.words group) id [] (new ∷ []) keeps)) where
   abbrev seen : State
@@ -138,10 +137,10 @@ module _ (fixed : Fixed) (pieces : List Checked) (s : Table Unit (List SeatView)
   -- the read before the load, as it was seen and as the machine has it
   in_view : IsBefore seen at len before
   in_view = before_is seen (m.seat id).reading at len
-      (λ r is. let on : IsUnderWay fixed new r = read_on fixed pieces s m id view here new loads.looked.between _ loads.looked.goes_on r is in on.part) legal.1
+      (λ r is. let on : IsUnderWay fixed new r = read_on fixed pieces s m id view here new loads.looked.between _ loads.looked.goes_on r is in on.part) reading
 
   in_words : IsBefore (store_of m) at len before
-  in_words = before_is (store_of m) (m.seat id).reading at len (here.stands.served.reads id) legal.1
+  in_words = before_is (store_of m) (m.seat id).reading at len (here.stands.served.reads id) reading
 
   begins : (length before.bytes ≡ 0) ⊎ (position before < limit)
   begins = begun (m.seat id).reading at len limit (λ r is. let on : IsUnderWay fixed view r = read_is_of fixed pieces s m id view here r is in on.below)
@@ -340,18 +339,17 @@ module _ (fixed : Fixed) (pieces : List Checked) (s : Table Unit (List SeatView)
   ]
 
 pub load_is_load : LoadIsLoad
-load_is_load fixed pieces s m id group at len view new here there legal group_is loads after =
+load_is_load fixed pieces s m id group at len view new here there reading group_is loads after =
     let found : ℕ = held_word s.words group in
-    let step : MicroStep = Load id at len in
-    let next : Machine = after_step fixed pieces m step (load_reply fixed m id at len) in
+    let next : Machine = after_step fixed pieces m (Load id at len) (load_reply fixed m id at len) in
     let same : set s.words group found ≡ s.words = set-get_or s.words group 0 in (
       record {
-        legal = legal;
+        legal = λ few. (few, reading);
         right = refl;
         stands = stands_after fixed pieces s m id view here new next
             (λ c. seat_is fixed pieces s m id view here c ∙ sym (loads.looked.claims_are c))
             (λ k c other. refl)
-            group found (one_step fixed pieces m step (load_reply fixed m id at len) tt here.stands.served legal refl).served
+            group found (load_step fixed pieces m id at len (load_reply fixed m id at len) here.stands.served reading).served
             (λ c w below cell. ap (λ (words : List ℕ). cell_at fixed words (129 * c + w)) same ∙ here.stands.cells c w below cell)
             (λ g below. ap (λ (words : List ℕ). held_word words g) same ∙ here.stands.held g below)
             (λ c below. ap (λ (words : List ℕ). has_bit (claim_word fixed words (c / 64)) (c % 64)) same ∙ here.stands.claimed c below)
@@ -360,8 +358,8 @@ load_is_load fixed pieces s m id group at len view new here there legal group_is
             ap (λ (words : List StoredWord). stored words (129 * c + w)) loads.looked.written_are
             ∙ stored_is fixed pieces s m id view here c w (rw (eq-eqb id id refl) at wrote) by below)
             (λ k c w other wrote by below. (rw (ne_eqb k id other) at wrote, refl))
-            (λ r is. read_stays fixed pieces s m id group at len view new here there legal group_is loads after r (rw (eq-eqb id id refl) at is))
+            (λ r is. read_stays fixed pieces s m id group at len view new here there reading group_is loads after r (rw (eq-eqb id id refl) at is))
             (λ k other. rw (ne_eqb k id other) refl);
       },
-      events_are fixed pieces s m id group at len view new here there legal group_is loads after,
+      events_are fixed pieces s m id group at len view new here there reading group_is loads after,
     )

@@ -1,46 +1,87 @@
--- What leaves the machine of schedules: loads that stand in, copies, and Hash, which is no step on the words. And its start.
+-- What leaves the machine of schedules: loads that stand in, copies, steps on the words of parents, and Hash, which is no step
+-- on the words. And its start.
 use Rattle.std.proofs.Common.{◌∷◌, List, set, slice_index, inl, inr, ◌++◌, ◌≡◌, ℕ, eqb-true, ◌+◌, ◌*◌, ◌/◌, ◌%◌, ◌==◌, Bool, true, false, not, ◌&&◌, ◌||◌, [], None, Some, refl, sym, ap, subst, ◌∙◌, arith, append-nil}
+use Rattle.std.specs.Int.{bit_not, w64}
+use Rattle.std.specs.Int.Bits.{bit_and, bit_or}
 use Rattle.std.proofs.lemmas.Bool.{and_right, both_ways, cases_Bool}
 use Rattle.std.proofs.lemmas.List.{set-get_or}
 use mathlib.Core.Option.{Option as Home, some}
 use lib.ListN.{get_elem?}
+use Rattle.atomic_table.specs.Table.{State as Table}
 use Rattle.atomic_table.proofs.Lists.{at_longer}
+use Rattle.bao_check.specs.declared.checked.Checked.{Checked}
 use Rattle.store_core.specs.declared.fixed.Fixed.{Fixed}
+use Rattle.store_core.specs.declared.history.Event.{Event}
 use Rattle.store_core.specs.declared.micro.MicroStep.TheVariants.{Hash}
 use Rattle.store_core.specs.declared.view.SeatView.{SeatView}
 use Rattle.store_core.specs.declared.view.StoredWord.{StoredWord}
 use Rattle.store_core.specs.Histories.{IsLegal, state_after}
-use Rattle.store_core.specs.Machine.{Machine}
+use Rattle.store_core.specs.Machine.{Machine, ReadUnderWay}
 use Rattle.store_core.specs.Masks.{in_mask}
 use Rattle.store_core.specs.Names.{Name}
 use Rattle.store_core.specs.States.{claims}
 use Rattle.store_core.specs.Views.{seat_claims, split_first, split_second, stored}
 use Rattle.store_core.proofs.Joining.{split_keeps}
 use Rattle.store_core.proofs.Running.{one_step, start_served}
-use Rattle.store_steps.specs.Layout.{cell_place, claim_place, length_place, word_count}
-use Rattle.store_steps.specs.Machines.{StandsForMachine}
+use Rattle.store_steps.specs.Layout.{cell_place, claim_place, length_place, parent_claim_place, parent_claim_word, parent_held_place, parent_held_word, parent_word_place, word_count}
+use Rattle.store_steps.specs.Machines.{IsAtMachine, IsUnderWay, StandsForMachine}
 use Rattle.store_steps.specs.Rule.{HasView}
-use Rattle.store_steps.specs.Simulates.{AbsentStays, CopyStays, HashIsNoStep, LookStays, OpeningIsStart, PartStays, after_load}
+use Rattle.store_steps.specs.Simulates.{AbsentStays, ClaimParentsStays, CopyParentStays, CopyStays, HashIsNoStep, LookStays, OpeningIsStart, PartStays, PublishParentsStays, StoreParentStays, after_load}
+use Rattle.store_steps.specs.Tells.{IsStoringNow}
 use Rattle.store_core.proofs.Bits.{has_bit-zero}
 use Rattle.store_steps.proofs.CellSteps.{seen_legal}
 use Rattle.store_steps.proofs.Lists.{one_part}
 use Rattle.store_steps.proofs.Opening.{the_view, zero_at, zero_bit}
 use Rattle.store_steps.proofs.Regrouping.{at_end}
-use Rattle.store_steps.proofs.Simulating.{read_on, stays_after, stays_stored, still_read}
+use Rattle.store_steps.proofs.Simulating.{read_on, stays_after, stays_aside, stays_stored, still_read}
 
 pub look_stays : LookStays
 look_stays fixed pieces s m id place view new events here looked =
     stays_after fixed pieces s m id view here new place looked.claims_are (λ n. ap (λ (words : List StoredWord). stored words n) looked.written_are)
     (read_on fixed pieces s m id view here new looked.between _ looked.goes_on)
 
+-- a read under way goes on where the seat has seen no more
+unseen_read : (fixed : Fixed) (pieces : List Checked) (s : Table Unit (List SeatView)) (m : Machine) (id : ℕ) (view new : SeatView) → IsAtMachine fixed pieces s m id view
+    → new.fixed ≡ view.fixed → new.seen ≡ view.seen → (r : ReadUnderWay) → (m.seat id).reading ≡ Some r → IsUnderWay fixed new r
+unseen_read fixed pieces s m id view new here of seen =
+    still_read fixed pieces s m id view here new [] of (seen ∙ sym (append-nil view.seen))
+    (subst (λ (h : List Event). IsLegal new.fixed h) (sym seen) (subst (λ (f : Fixed). IsLegal f view.seen) (sym of) (seen_legal fixed s here.kept id view here.is_seat)))
+
+-- a load of a seat whose view stays leaves the machine
+same_stays : (fixed : Fixed) (pieces : List Checked) (s : Table Unit (List SeatView)) (m : Machine) (id place : ℕ) (view new : SeatView) → IsAtMachine fixed pieces s m id view
+    → new ≡ view → StandsForMachine fixed (after_load s place id new) m
+same_stays fixed pieces s m id place view new here same =
+    stays_after fixed pieces s m id view here new place (λ c. ap (λ (v : SeatView). seat_claims v c) same) (λ n. ap (λ (v : SeatView). stored v.written n) same)
+    (unseen_read fixed pieces s m id view new here (ap (λ (v : SeatView). v.fixed) same) (ap (λ (v : SeatView). v.seen) same))
+
 pub copy_stays : CopyStays
 copy_stays fixed pieces s m id c w view new here low cell copied = (
   here.stands.cells c w low cell,
-  stays_after fixed pieces s m id view here new (cell_place fixed (129 * c + w)) (λ d. ap (λ (v : SeatView). seat_claims v d) copied.same)
-      (λ n. ap (λ (v : SeatView). stored v.written n) copied.same)
-      (still_read fixed pieces s m id view here new [] (ap (λ (v : SeatView). v.fixed) copied.same) (ap (λ (v : SeatView). v.seen) copied.same ∙ sym (append-nil view.seen))
-      (subst (λ (v : SeatView). IsLegal v.fixed v.seen) (sym copied.same) (seen_legal fixed s here.kept id view here.is_seat))),
+  same_stays fixed pieces s m id (cell_place fixed (129 * c + w)) view new here copied.same,
 )
+
+pub copy_parent_stays : CopyParentStays
+copy_parent_stays fixed pieces s m id b w view new here copied =
+    same_stays fixed pieces s m id (parent_word_place fixed (8 * b + w)) view new here copied.same
+
+pub claim_parents_stays : ClaimParentsStays
+claim_parents_stays fixed pieces s m id group asked view new here told =
+    let stores : IsStoringNow group (bit_and asked (bit_not w64 (parent_claim_word fixed s.words group))) view new = told.stores in
+    stays_aside fixed pieces s m id view here new (parent_claim_place fixed group) (bit_or (parent_claim_word fixed s.words group) asked) (omega arith)
+    (λ c. ap (λ (v : SeatView). seat_claims v c) stores) (λ n. ap (λ (v : SeatView). stored v.written n) stores)
+    (unseen_read fixed pieces s m id view new here (ap (λ (v : SeatView). v.fixed) stores) (ap (λ (v : SeatView). v.seen) stores))
+
+pub store_parent_stays : StoreParentStays
+store_parent_stays fixed pieces s m id b w value view new here stores =
+    stays_aside fixed pieces s m id view here new (parent_word_place fixed (8 * b + w)) value (omega arith)
+    (λ c. ap (λ (v : SeatView). seat_claims v c) stores) (λ n. ap (λ (v : SeatView). stored v.written n) stores)
+    (unseen_read fixed pieces s m id view new here (ap (λ (v : SeatView). v.fixed) stores) (ap (λ (v : SeatView). v.seen) stores))
+
+pub publish_parents_stays : PublishParentsStays
+publish_parents_stays fixed pieces s m id group mask piece view new here told =
+    stays_aside fixed pieces s m id view here new (parent_held_place fixed group) (bit_or (parent_held_word fixed s.words group) mask) (omega arith)
+    told.called.claims_are (λ n. ap (λ (words : List StoredWord). stored words n) told.written_are)
+    (read_on fixed pieces s m id view here new told.called.between _ told.called.goes_on)
 
 -- no chunk is in a mask of 0
 in_none : (group c : ℕ) → in_mask group 0 c ≡ false
@@ -123,14 +164,11 @@ appended fixed words homes views parts m none stands =
 
 pub part_stays : PartStays
 part_stays fixed pieces s m id place view new here told =
-    let legal : IsLegal view.fixed view.seen = seen_legal fixed s here.kept id view here.is_seat in
     let same : set s.words place (slice_index s.words place) ≡ s.words = set-get_or s.words place 0 in
     let first : StandsForMachine fixed (after_load s place id (split_first view)) m = stays_after fixed pieces s m id view here (split_first view) place
     (λ c. ap (λ (names : List Name). claims names (state_after view.seen) c) (split_keeps view)) (λ n. refl)
-    (still_read fixed pieces s m id view here (split_first view) [] refl (sym (append-nil view.seen)) legal) in (
-      stays_after fixed pieces s m id view here new place (λ c. ap (λ (v : SeatView). seat_claims v c) told.same) (λ n. ap (λ (v : SeatView). stored v.written n) told.same)
-          (still_read fixed pieces s m id view here new [] (ap (λ (v : SeatView). v.fixed) told.same) (ap (λ (v : SeatView). v.seen) told.same ∙ sym (append-nil view.seen))
-          (subst (λ (v : SeatView). IsLegal v.fixed v.seen) (sym told.same) legal)),
+    (unseen_read fixed pieces s m id view (split_first view) here refl refl) in (
+      same_stays fixed pieces s m id place view new here told.same,
       appended fixed s.words s.homes (set s.views id (split_first view ∷ [])) (split_second view ∷ []) m
           (λ part v there c. ap (λ (x : SeatView). seat_claims x c) (one_part (split_second view) v part there).1 ∙ told.parts.no_claims c)
           (subst (λ (words : List ℕ). StandsForMachine fixed (record { words = words; homes = s.homes; views = set s.views id (split_first view ∷ []) }) m) same first),

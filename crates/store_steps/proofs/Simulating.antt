@@ -1,5 +1,5 @@
 -- What a step of a seat with one view changes, and that the table then stands for the machine after it.
-use Rattle.std.proofs.Common.{◌≡◌, ◌≢◌, ℕ, zero, suc, ◌+◌, ◌*◌, ◌/◌, ◌%◌, ◌<◌, ◌==◌, true, false, ◌||◌, List, [], ◌∷◌, Option, Some, is_some, option_map, set, refl, sym, ap, subst, ◌∙◌, inl, inr, eqb-true, ◌++◌, append_assoc, slice_index}
+use Rattle.std.proofs.Common.{◌≡◌, ◌≢◌, ℕ, zero, suc, ◌+◌, ◌*◌, ◌/◌, ◌%◌, ◌<◌, ◌≤◌, ◌==◌, true, false, ◌||◌, List, [], ◌∷◌, Option, Some, is_some, option_map, set, refl, sym, ap, subst, ◌∙◌, arith, inl, inr, eqb-true, ◌++◌, append_assoc, slice_index}
 use Rattle.std.proofs.lemmas.Bool.{both_ways, cases_Bool, cases_eq, false_from_ne_true}
 use Rattle.std.proofs.lemmas.List.{set-get_or}
 use mathlib.Core.Option.{some, some-injective, some-ne-none}
@@ -19,12 +19,13 @@ use Rattle.store_core.specs.States.{State, byte_at, empty}
 use Rattle.store_core.specs.Views.{seat_claims, stored, without_chunks}
 use Rattle.store_core.proofs.Lasting.{legal-append, legal_is_sound, run-append}
 use Rattle.store_core.proofs.MachineInvariants.{byte_lasts, claim_seat, claimed_hidden, seat_claim}
-use Rattle.store_steps.specs.Layout.{cell_at, claim_word, held_word, length_code, length_word}
+use Rattle.store_steps.specs.Layout.{cell_at, cell_place, claim_place, claim_word, held_word, length_code, length_place, length_word, parents_place}
 use Rattle.store_steps.specs.Machines.{HasClaim, HasRead, HasStored, IsAtMachine, IsUnderWay, StandsForMachine}
 use Rattle.store_steps.specs.Rule.{HasView}
 use Rattle.store_steps.specs.Simulates.{after_load}
 use Rattle.store_core.specs.Knowledge.{GoesOn}
 use Rattle.store_steps.proofs.Lists.{one_part}
+use Rattle.store_steps.proofs.WrittenWords.{left}
 
 -- a seat that has other views
 pub set_at : {A : Type 0} (xs : List A) (i : ℕ) (x y : A) → get_elem? xs i ≡ some x → get_elem? (set xs i y) i ≡ some y
@@ -201,17 +202,30 @@ module _ (fixed : Fixed) (pieces : List Checked) (s : Table Unit (List SeatView)
         ];
       }
 
-  -- a load leaves the words: the table stands for the same machine where the seat's claims and stored words stay
-  pub stays_after : (new : SeatView) (place : ℕ) → ((c : ℕ) → seat_claims new c ≡ seat_claims view c)
-      → ((number : ℕ) → stored new.written number ≡ stored view.written number)
-      → ((r : ReadUnderWay) → (m.seat id).reading ≡ Some r → IsUnderWay fixed new r) → StandsForMachine fixed (after_load s place id new) m
-  stays_after new place claims written reads =
-      let same : set s.words place (slice_index s.words place) ≡ s.words = set-get_or s.words place 0 in
-      stands_after new m (λ c. seat_is c ∙ sym (claims c)) (λ k c other. refl) place (slice_index s.words place) here.stands.served
-      (λ c w below cell. ap (λ (words : List ℕ). cell_at fixed words (129 * c + w)) same ∙ here.stands.cells c w below cell)
-      (λ g there. ap (λ (words : List ℕ). held_word words g) same ∙ here.stands.held g there)
-      (λ c there. ap (λ (words : List ℕ). has_bit (claim_word fixed words (c / 64)) (c % 64)) same ∙ here.stands.claimed c there)
-      (ap (λ (words : List ℕ). length_word fixed words) same ∙ here.stands.recorded)
+  -- a step that leaves all words but those of parents: the table stands for the same machine where the seat's claims and
+  -- stored words stay
+  stays_where : (new : SeatView) (i n : ℕ) → ((place : ℕ) → place < parents_place fixed → slice_index (set s.words i n) place ≡ slice_index s.words place)
+      → ((c : ℕ) → seat_claims new c ≡ seat_claims view c) → ((number : ℕ) → stored new.written number ≡ stored view.written number)
+      → ((r : ReadUnderWay) → (m.seat id).reading ≡ Some r → IsUnderWay fixed new r) → StandsForMachine fixed (stepped s i n id [] (new ∷ []) keeps) m
+  stays_where new i n leaves claims written reads =
+      stands_after new m (λ c. seat_is c ∙ sym (claims c)) (λ k c other. refl) i n here.stands.served
+      (λ c w below cell. leaves (cell_place fixed (129 * c + w)) (omega (arith, below, cell)) ∙ here.stands.cells c w below cell)
+      (λ g there. leaves g (omega (arith, there)) ∙ here.stands.held g there)
+      (λ c there. ap (λ (w : ℕ). has_bit w (c % 64)) (leaves (claim_place fixed (c / 64)) (omega (arith, there))) ∙ here.stands.claimed c there)
+      (leaves (length_place fixed) (omega arith) ∙ here.stands.recorded)
       (λ c w wrote by below. written (129 * c + w) ∙ stored_is c w wrote by below)
       (λ k c w other wrote by below. (wrote, refl))
       reads (λ k other. refl)
+
+  -- as does a load
+  pub stays_after : (new : SeatView) (place : ℕ) → ((c : ℕ) → seat_claims new c ≡ seat_claims view c)
+      → ((number : ℕ) → stored new.written number ≡ stored view.written number)
+      → ((r : ReadUnderWay) → (m.seat id).reading ≡ Some r → IsUnderWay fixed new r) → StandsForMachine fixed (after_load s place id new) m
+  stays_after new place =
+      stays_where new place (slice_index s.words place) (λ p low. ap (λ (words : List ℕ). slice_index words p) (set-get_or s.words place 0))
+
+  -- and a step that writes a word of parents
+  pub stays_aside : (new : SeatView) (i n : ℕ) → parents_place fixed ≤ i → ((c : ℕ) → seat_claims new c ≡ seat_claims view c)
+      → ((number : ℕ) → stored new.written number ≡ stored view.written number)
+      → ((r : ReadUnderWay) → (m.seat id).reading ≡ Some r → IsUnderWay fixed new r) → StandsForMachine fixed (stepped s i n id [] (new ∷ []) keeps) m
+  stays_aside new i n high = stays_where new i n (λ p low. left s.words i n p (λ e. omega (arith, e, low, high)))

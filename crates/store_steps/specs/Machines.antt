@@ -1,11 +1,12 @@
 -- Which machine of schedules a table stands for, and when a step on its words is one of the machine's.
-use Rattle.std.specs.Prelude.{◌≡◌, ℕ, ◌+◌, ◌*◌, ◌/◌, ◌%◌, ◌<◌, ◌↔◌, true, ◌||◌, List, [], ◌∷◌, Option, Some, is_some, length}
+use Rattle.std.specs.Prelude.{◌≡◌, ℕ, ◌+◌, ◌*◌, ◌/◌, ◌%◌, ◌<◌, ◌≤◌, ◌↔◌, true, ◌||◌, List, [], ◌∷◌, Option, Some, is_some, IfSome, length}
 use mathlib.Core.Option.{some}
 use lib.ListN.{get_elem?}
 use Rattle.atomic_table.specs.Table.{State as Table, keeps, stepped}
 use Rattle.bao_check.specs.declared.checked.Checked.{Checked}
 use Rattle.store_core.specs.declared.fixed.Fixed.{Fixed}
 use Rattle.store_core.specs.declared.micro.MicroStep.{MicroStep}
+use Rattle.store_core.specs.declared.micro.MicroStep.TheVariants.{Load}
 use Rattle.store_core.specs.declared.micro.Reply.{Reply}
 use Rattle.store_core.specs.declared.view.SeatView.{SeatView}
 use Rattle.store_core.specs.Histories.{state_after}
@@ -64,6 +65,18 @@ pub record IsMachineStep (fixed : Fixed) (pieces : List Checked) (table : Table 
   pub legal : IsLegalStep fixed pieces m step
   pub right : IsReply fixed m step reply
   pub stands : StandsForMachine fixed (stepped table place word seat [] (new ∷ []) keeps) (after_step fixed pieces m step reply)
+
+-- the seat has no read under way, or this one
+abbrev pub IsReading : Machine → ℕ → ℕ → ℕ → Type 0
+IsReading m seat at len = IfSome (m.seat seat).reading (λ r. (r.at ≡ at) × (r.len ≡ len))
+
+-- A load for a read of any length is the machine's Load, with this reply. That is legal of at most 65,536 bytes, which a
+-- schedule's read may ask for.
+pub record IsMachineLoad (fixed : Fixed) (pieces : List Checked) (table : Table Unit (List SeatView)) (place word seat : ℕ) (new : SeatView)
+    (m : Machine) (at len : ℕ) (reply : Option Reply) : Type 0 where
+  pub legal : len ≤ 65536 → IsLegalStep fixed pieces m (Load seat at len)
+  pub right : IsReply fixed m (Load seat at len) reply
+  pub stands : StandsForMachine fixed (stepped table place word seat [] (new ∷ []) keeps) (after_step fixed pieces m (Load seat at len) reply)
 
 -- a seat with one view, in a table that keeps the rule and stands for a machine
 pub record IsAtMachine (fixed : Fixed) (pieces : List Checked) (table : Table Unit (List SeatView)) (m : Machine) (seat : ℕ) (view : SeatView) : Type 0 where

@@ -9,7 +9,7 @@ use Rattle.store_core.specs.declared.history.Call.TheVariants.{Read}
 use Rattle.store_core.specs.declared.history.Event.{Event}
 use Rattle.store_core.specs.declared.history.Piece.{Piece}
 use Rattle.store_core.specs.declared.history.Settling.TheVariants.{TooLarge}
-use Rattle.store_core.specs.declared.micro.MicroStep.TheVariants.{Claim, GiveBack, Hash, Length, Load, Publish, Settle, Write}
+use Rattle.store_core.specs.declared.micro.MicroStep.TheVariants.{Claim, GiveBack, Hash, Length, Publish, Settle, Write}
 use Rattle.store_core.specs.declared.micro.Reply.{Reply}
 use Rattle.store_core.specs.declared.micro.Reply.TheVariants.{Committed, Given, Granted, LengthIs, Settling}
 use Rattle.store_core.specs.declared.view.SeatView.{SeatView}
@@ -24,9 +24,9 @@ use Rattle.store_core.specs.States.{State}
 use Rattle.store_core.specs.Views.{seat_claims, split_first, split_second}
 use Rattle.store_steps.specs.Asks.{AreClaimed, AreHeldClaims, AreWordsStored}
 use Rattle.store_core.specs.Knowledge.{Looked, event_of, opening_view}
-use Rattle.store_steps.specs.Layout.{cell_at, cell_place, claim_place, claim_word, held_word, length_place, length_word, word_count}
-use Rattle.store_steps.specs.Machines.{IsAtMachine, IsMachineStep, StandsForMachine}
-use Rattle.store_steps.specs.Plays.{LoadsLength, CopiesWord, Gives, Loads, PartsInTwo, Publishes, SettlesLength, TakesChunks, length_in}
+use Rattle.store_steps.specs.Layout.{cell_at, cell_place, claim_place, claim_word, held_word, length_place, length_word, parent_at, parent_claim_place, parent_claim_word, parent_held_place, parent_held_word, parent_word_place, word_count}
+use Rattle.store_steps.specs.Machines.{IsAtMachine, IsMachineLoad, IsMachineStep, IsReading, StandsForMachine}
+use Rattle.store_steps.specs.Plays.{ClaimsParents, CopiesParent, CopiesWord, Gives, Loads, LoadsLength, PartsInTwo, Publishes, PublishesParents, SettlesLength, StoresParent, TakesChunks, length_in}
 use Rattle.store_steps.specs.Reads.{read_events}
 use Rattle.store_steps.specs.Rule.{RuleHolds}
 use Rattle.store_steps.specs.Tells.{Stores}
@@ -78,8 +78,8 @@ LengthIsLength = (fixed : Fixed) (pieces : List Checked) (table : Table Unit (Li
     → IsMachineStep fixed pieces table (length_place fixed) (length_word fixed table.words) seat new m
     (Length seat) (Some (LengthIs (length_in (length_word fixed table.words))))
 
--- A load of the held word of the group where a read goes on is Load. It is the read's last where the machine's is, and
--- then its event has the machine's bytes.
+-- A load of the held word of the group where a read goes on is Load, whatever the read's length. It is the read's last where
+-- the machine's is, and then its event has the machine's bytes.
 abbrev pub load_reply : Fixed → Machine → ℕ → ℕ → ℕ → Option Reply
 load_reply fixed m seat at len = if is_last_load fixed m seat at len then Some (end_reply (read_after fixed m seat at len)) else None
 
@@ -88,10 +88,10 @@ load_events fixed m seat at len view = if is_last_load fixed m seat at len then 
 
 abbrev pub LoadIsLoad : Type 0
 LoadIsLoad = (fixed : Fixed) (pieces : List Checked) (table : Table Unit (List SeatView)) (m : Machine) (seat group at len : ℕ) (view new : SeatView)
-    → IsAtMachine fixed pieces table m seat view → group < groups fixed → IsLegalStep fixed pieces m (Load seat at len)
+    → IsAtMachine fixed pieces table m seat view → group < groups fixed → IsReading m seat at len
     → group ≡ loaded_group fixed (read_before m seat at len) → (loads : Loads group at len (held_word table.words group) view new)
     → RuleHolds fixed (stepped table group (held_word table.words group) seat [] (new ∷ []) keeps)
-    → IsMachineStep fixed pieces table group (held_word table.words group) seat new m (Load seat at len) (load_reply fixed m seat at len)
+    → IsMachineLoad fixed pieces table group (held_word table.words group) seat new m at len (load_reply fixed m seat at len)
     × (read_events view group at len (state_after (view.seen ++ loads.looked.between)) ≡ load_events fixed m seat at len view)
 
 -- Words of zeros and the first seat's view stand for the machine's start.
@@ -130,6 +130,30 @@ abbrev pub AbsentStays : Type 0
 AbsentStays = (fixed : Fixed) (pieces : List Checked) (table : Table Unit (List SeatView)) (m : Machine) (seat place group mask : ℕ) (piece : Piece) (view new : SeatView)
     → IsAtMachine fixed pieces table m seat view → Gives group mask 0 view new ⊎ Publishes group piece 0 view new
     → StandsForMachine fixed (after_load table place seat new) m
+
+-- The machine has no parents. So steps on their words leave it: a claim of parents,
+abbrev pub ClaimParentsStays : Type 0
+ClaimParentsStays = (fixed : Fixed) (pieces : List Checked) (table : Table Unit (List SeatView)) (m : Machine) (seat group asked : ℕ) (view new : SeatView)
+    → IsAtMachine fixed pieces table m seat view → ClaimsParents group asked (parent_claim_word fixed table.words group) view new
+    → StandsForMachine fixed (stepped table (parent_claim_place fixed group) (bit_or (parent_claim_word fixed table.words group) asked) seat [] (new ∷ []) keeps) m
+
+-- a store of a word of a parent,
+abbrev pub StoreParentStays : Type 0
+StoreParentStays = (fixed : Fixed) (pieces : List Checked) (table : Table Unit (List SeatView)) (m : Machine) (seat boundary w value : ℕ) (view new : SeatView)
+    → IsAtMachine fixed pieces table m seat view → StoresParent boundary w value view new
+    → StandsForMachine fixed (stepped table (parent_word_place fixed (8 * boundary + w)) value seat [] (new ∷ []) keeps) m
+
+-- a publish of parents,
+abbrev pub PublishParentsStays : Type 0
+PublishParentsStays = (fixed : Fixed) (pieces : List Checked) (table : Table Unit (List SeatView)) (m : Machine) (seat group mask : ℕ) (piece : Piece) (view new : SeatView)
+    → IsAtMachine fixed pieces table m seat view → PublishesParents group piece mask view new
+    → StandsForMachine fixed (stepped table (parent_held_place fixed group) (bit_or (parent_held_word fixed table.words group) mask) seat [] (new ∷ []) keeps) m
+
+-- and a copy of a word of one.
+abbrev pub CopyParentStays : Type 0
+CopyParentStays = (fixed : Fixed) (pieces : List Checked) (table : Table Unit (List SeatView)) (m : Machine) (seat boundary w : ℕ) (view new : SeatView)
+    → IsAtMachine fixed pieces table m seat view → CopiesParent boundary w (parent_at fixed table.words (8 * boundary + w)) view new
+    → StandsForMachine fixed (after_load table (parent_word_place fixed (8 * boundary + w)) seat new) m
 
 -- The table after a seat with one view parted: a new seat has the second view.
 abbrev pub parted_table : Table Unit (List SeatView) → ℕ → SeatView → Table Unit (List SeatView)

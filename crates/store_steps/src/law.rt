@@ -1,9 +1,10 @@
 ghost use Rattle.store_steps.specs.Renames.{EnterStays, JoinRenames, LeaveRenames, MeetStays, MergeStays};
-ghost use Rattle.store_steps.specs.Simulates.{AbsentStays, CopyStays, GiveIsGiveBack, HashIsNoStep, LengthIsLength, LoadIsLoad, LookIsTooLarge, LookStays, OpeningIsStart, PartStays, PublishIsPublish, SettleIsSettle, StoreIsWrite, TakeIsClaim};
+ghost use Rattle.store_steps.specs.Simulates.{AbsentStays, ClaimParentsStays, CopyParentStays, CopyStays, GiveIsGiveBack, HashIsNoStep, LengthIsLength, LoadIsLoad, LookIsTooLarge, LookStays, OpeningIsStart, PartStays, PublishIsPublish, PublishParentsStays, SettleIsSettle, StoreIsWrite, StoreParentStays, TakeIsClaim};
 
 /// Each step on the words is the step of its name of the machine of schedules: where words and views stand for a machine,
 /// and the rule holds, the step is legal there, its reply is the machine's, and afterwards words and views stand for the
-/// machine after it. A law: nothing runs.
+/// machine after it. So is a load for a read of any length, but that it is legal of at most 65,536 bytes, as a schedule's
+/// is. A law: nothing runs.
 pub fn steps_are_the_machines()
     ensures take { TakeIsClaim }
     ensures give { GiveIsGiveBack }
@@ -24,6 +25,16 @@ pub fn side_steps_stay()
     ensures copy { CopyStays }
     ensures absent { AbsentStays }
     ensures part { PartStays }
+{}
+
+/// The machine has no parents, and each step on the words of parents leaves it: where they are claimed, stored word by word,
+/// published and copied. With the loads that stand in for a step, this is all that a call that stores or serves parents
+/// does. A law: nothing runs.
+pub fn parents_leave_the_machine()
+    ensures claim { ClaimParentsStays }
+    ensures store { StoreParentStays }
+    ensures publish { PublishParentsStays }
+    ensures copy { CopyParentStays }
 {}
 
 /// Seats that join, merge, meet and leave each other, a joined seat counting as one: words and views then stand for the

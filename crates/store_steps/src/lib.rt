@@ -4,7 +4,9 @@
 
 pub use fault::NewFault;
 pub use grip::Grip;
-pub use law::{joined_seats_are_renamed, side_steps_stay, steps_are_the_machines};
+pub use law::{
+    joined_seats_are_renamed, parents_leave_the_machine, side_steps_stay, steps_are_the_machines,
+};
 pub use words::Words;
 
 mod fault;

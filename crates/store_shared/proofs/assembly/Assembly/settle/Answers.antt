@@ -3,11 +3,31 @@ use Rattle.bao_check.specs.declared.checked.Checked.{Checked}
 use Rattle.bao_check.specs.Tail.{tail_piece}
 use Rattle.store_core.specs.declared.fixed.Fixed.{Fixed}
 use Rattle.store_core.specs.Events.{has_room}
+use Rattle.store_core.specs.Pieces.{piece_of}
+use Rattle.store_core.specs.Stores.{ClaimBinds}
 use Rattle.store_core.proofs.SlotStates.{is_of_piece}
 use Rattle.store_shared.specs.Seats.{Gripped}
 use Rattle.store_shared.specs.Calls.{MaySettle, SeatSettles}
-use Rattle.store_shared.proofs.Asking.{called, settled}
+use Rattle.store_shared.proofs.Asking.{called, settled, tail_binds}
 use Rattle.store_shared.proofs.assembly.Assembly.settle.Goals as goal
+
+pub returns-then-not-has_room-clause-binds : goal.returns-then-not-has_room-clause-binds
+returns-then-not-has_room-clause-binds c = λ _.
+    let piece : Checked = tail_piece c.args.tail.now in
+    let fixed : Fixed = c.fixed-fixed.result in
+    let is = c.is_of.ensures.0 c.if-not-is_of.false in
+    subst (λ (f : Fixed). ClaimBinds f (piece_of f.base piece)) c.fixed-fixed.ensures
+    (tail_binds fixed piece c.is_keyed.ensures c.is_last.ensures.bytes c.is_last.ensures.accepted c.is_last.ensures.last
+    (is_of_piece fixed piece c.root.result c.mode.result c.root.ensures c.mode.ensures is.0 is.1))
+
+pub returns-clause-binds : goal.returns-clause-binds
+returns-clause-binds c = λ _.
+    let piece : Checked = tail_piece c.args.tail.now in
+    let fixed : Fixed = c.fixed-fixed.result in
+    let is = c.is_of.ensures.0 c.if-not-is_of.false in
+    subst (λ (f : Fixed). ClaimBinds f (piece_of f.base piece)) c.fixed-fixed.ensures
+    (tail_binds fixed piece c.is_keyed.ensures c.is_last.ensures.bytes c.is_last.ensures.accepted c.is_last.ensures.last
+    (is_of_piece fixed piece c.root.result c.mode.result c.root.ensures c.mode.ensures is.0 is.1))
 
 pub returns-clause-settles : goal.returns-clause-settles
 returns-clause-settles c =
