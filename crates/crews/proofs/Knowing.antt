@@ -1,6 +1,12 @@
 -- What a call of a shared store leaves its seat to know.
-use Rattle.crews.proofs.Common.{◌≡◌, ◌≢◌, ℕ, ◌/◌, ◌%◌, ◌==◌, true, ◌&&◌, List, [], ◌∷◌, ◌++◌, Option, None, Some, IfSome, refl, sym, ap, subst, ◌∙◌, inl, inr, eqb-true, eq-eqb, and_from, and_parts, cases_Bool, Checked, IsWanted, Fixed, Commit, Length, Settle, Take, Event, Piece, Settling, Differs, Known, OtherRoot, Settled, TooLarge, is_free, recorded_after, settling, IsLegal, state_after, has_bit, in_mask, holds_chunk, length_of, piece_of, State, empty, legal-append, record_lasts, run-append, SeatSettles, length_there, right_there, Gripped, Called, event_of}
-use Rattle.crews.specs.Lasting.{RecordsOn}
+use Rattle.crews.proofs.Common.{◌≡◌, not, is_some, both_ways, AreAllNames, SeatIsUnstored, Parents, Named, some_bytes, after, ◌≢◌, ℕ, ◌/◌, ◌%◌, ◌==◌, true, ◌&&◌, List, [], ◌∷◌, ◌++◌, Option, None, Some, IfSome, refl, sym, ap, subst, ◌∙◌, inl, inr, eqb-true, eq-eqb, and_from, and_parts, cases_Bool, Checked, IsWanted, Fixed, Commit, Length, Settle, Take, Event, Piece, Settling, Differs, Known, OtherRoot, Settled, TooLarge, is_free, recorded_after, settling, IsLegal, state_after, has_bit, in_mask, holds_chunk, length_of, piece_of, State, empty, legal-append, record_lasts, run-append, SeatSettles, length_there, right_there, Gripped, Called, event_of}
+use Rattle.crews.specs.Lasting.{HasParentOn, RecordsOn}
+use Rattle.gather.specs.Available.{IsOfOtherLength}
+use Rattle.store_calls.specs.Parents.{AreAllParents}
+use Rattle.store_core.proofs.ParentOrigins.{parent_lasts}
+use Rattle.store_core.specs.Pieces.{holds_parent}
+use Rattle.store_core.specs.declared.history.Storing.TheVariants as storing
+use Rattle.store_shared.specs.declared.fault.ParentsFault.TheVariants as unstored
 use Rattle.crews.specs.Seats.{claims_of}
 use Rattle.crews.proofs.Sharing.{claimed_there}
 
@@ -60,3 +66,37 @@ settle_records fixed old new piece Known settles small same = settled_there old 
 settle_records fixed old new piece Differs settles small same = settled_there old new (piece_of fixed.base piece) Differs settles.1
 settle_records fixed old new piece OtherRoot settles small same = absurd (same refl)
 settle_records fixed old new piece TooLarge settles small same = absurd (small refl)
+
+-- All parents of a piece at boundaries of the group are held after a seat with all names stored them, and whatever follows.
+pub parents_there : (old new : Gripped) (group : ℕ) (piece : Piece) (mask : ℕ) → Called (Parents group piece (storing.Stored mask)) old.view new.view
+    → (AreAllNames old.view.names → AreAllParents old.view group piece (storing.Stored mask)) → (m : ℕ) → m / 64 ≡ group → holds_parent piece m ≡ true → HasParentOn new m
+parents_there old new group piece mask called alone m here has all more legal =
+    let before : List Event = old.view.seen ++ called.between in
+    let last : Event = event_of old.view (Parents group piece (storing.Stored mask)) in
+    let wanted = alone (subst (λ (ns : List Named). AreAllNames ns) called.goes_on.names_are all) in
+    let legal_before : IsLegal new.view.fixed before = (legal-append new.view.fixed empty before (last ∷ [])
+    (subst (λ (h : List Event). IsLegal new.view.fixed h) called.goes_on.seen_is called.goes_on.legal)).0 in
+    let then : state_after new.view.seen ≡ after (state_after before) last = ap state_after called.goes_on.seen_is ∙ run-append empty before (last ∷ []) in
+    let now : is_some ((state_after new.view.seen).parents m) ≡ true =
+    elim (cases_Bool (in_mask group mask m)) [
+      | inl hit ↦ subst (λ (s : State). is_some (s.parents m) ≡ true) (sym then) (rw hit has)
+      | inr miss ↦ elim (cases_Bool (is_some ((state_after old.view.seen).parents m))) [
+        | inl some ↦
+            let there = some_bytes ((state_after old.view.seen).parents m) some in
+            let stays : is_some ((state_after before).parents m) ≡ true =
+            ap is_some (parent_lasts new.view.fixed old.view.seen called.between m there.0 legal_before there.1) in
+            subst (λ (s : State). is_some (s.parents m) ≡ true) (sym then) (rw miss stays)
+        | inr none ↦ absurd (both_ways _ miss (and_from (m / 64 == group) (has_bit mask (m % 64)) (eq-eqb (m / 64) group here) (wanted.bits m here ∙ and_from _ _ has (ap not none))))
+      ]
+    ] in
+    let known = some_bytes ((state_after new.view.seen).parents m) now in
+    ap is_some (parent_lasts new.view.fixed new.view.seen more m known.0 legal known.1)
+
+-- why none are stored
+pub unstored_refused : (fixed : Fixed) (old new : Gripped) (group : ℕ) (piece : Checked) → SeatIsUnstored fixed group piece unstored.OtherLength old new
+    → IsOfOtherLength RecordsOn old (piece_of fixed.base piece)
+unstored_refused fixed old new group piece called l is same =
+    let legal = (legal-append new.view.fixed empty (old.view.seen ++ called.between) (event_of old.view (Parents group (piece_of fixed.base piece) storing.OtherLength) ∷ [])
+    (subst (λ (h : List Event). IsLegal new.view.fixed h) called.goes_on.seen_is called.goes_on.legal)).0 in
+    (right_there (Parents group (piece_of fixed.base piece) storing.OtherLength) old.view new.view called).1
+    (is called.between (subst (λ (f : Fixed). IsLegal f (old.view.seen ++ called.between)) called.goes_on.fixed_is legal) ∙ ap (λ (n : ℕ). Some n) same)

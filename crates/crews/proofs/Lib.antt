@@ -8,3 +8,4 @@ pub mod Alone
 pub mod Whence
 pub mod Rereading
 pub mod HandingOut
+pub mod Giving

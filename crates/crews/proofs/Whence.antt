@@ -1,8 +1,8 @@
 -- What workers leave to the seat with which theirs were joined: each piece is one that was handed over.
-use Rattle.crews.proofs.Common.{◌≡◌, ℕ, suc, ◌<◌, true, false, List, [], ◌∷◌, ◌++◌, length, map, get_or, Contains, refl, sym, ap, subst, ◌∙◌, arith, inl, inr, All, both_ways, false_from_ne_true, sum_by-cons, All-member, Contains-cons_cases, none_failed, IsHanded, IsFrom, from_wider, Fixed, Event, Piece, Named, SeatView, events_of, state_after, Name, has_name, claims, mine, names_of, seat_claims, Assembly, opening_view, AreAllNames, IsLent, get_or_from_slice_get, slice_get_within}
+use Rattle.crews.proofs.Common.{◌≡◌, ℕ, suc, ◌<◌, true, false, List, [], ◌∷◌, ◌++◌, length, map, get_or, Contains, refl, sym, ap, subst, ◌∙◌, arith, inl, inr, All, both_ways, false_from_ne_true, All-member, Contains-cons_cases, IsHanded, IsFrom, from_wider, Fixed, Event, Piece, Named, SeatView, events_of, state_after, Name, has_name, claims, mine, names_of, seat_claims, Assembly, opening_view, AreAllNames, IsLent, get_or_from_slice_get, slice_get_within}
 use Rattle.crews.specs.declared.crew.Crew.{Crew}
 use Rattle.crews.specs.Closing.{IsLeft}
-use Rattle.crews.specs.Crews.{Each, IsHandedTo, Worked, all_faults, faults_of}
+use Rattle.crews.specs.Crews.{Each, IsHandedTo, Worked}
 use Rattle.crews.specs.Joined.{AreCallsOf, AreClaimsOf, HasAllNamesOf, HaveAllNames, names_in}
 use Rattle.crews.specs.Seats.{BeginsAfter, KeepsItsOwn}
 
@@ -45,12 +45,6 @@ opening_all fixed view is =
         | inr never ↦ absurd (omega (arith, never.1))
       ];
     })
-
--- no device of holders that count no fault fails
-pub no_faults : {H : Type 0} (count : H → ℕ) → ((holder : H) → count holder ≡ 0) → (crews : List (Crew H)) → all_faults count crews ≡ 0
-no_faults count quiet [] = refl
-no_faults count quiet (crew ∷ crews) =
-    omega (arith, sum_by-cons (faults_of count) crew crews, none_failed count quiet crew.holders.items, no_faults count quiet crews)
 
 -- a seat that has seen nothing has made no call
 no_calls : (view : SeatView) → view.seen ≡ [] → mine view ≡ []

@@ -1,5 +1,5 @@
 -- What a worker knows of a shared store by its seat, and that it lasts.
-use Rattle.std.specs.Prelude.{◌≡◌, ℕ, true, List, ◌++◌, map, Contains, Some}
+use Rattle.std.specs.Prelude.{◌≡◌, ℕ, true, List, ◌++◌, map, Contains, Some, is_some}
 use Rattle.std.proofs.Common.{append_assoc, inl, inr, subst, sym, ap, ◌∙◌}
 use Rattle.std.proofs.lemmas.List.Elements.{Contains-append_cases}
 use Rattle.bao_check.proofs.Lists.{All-member}
@@ -43,6 +43,10 @@ pub record IsAlone (view : SeatView) : Type 0 where
 abbrev pub HoldsOn : Gripped → ℕ → Type 0
 HoldsOn seat c = IsFromNow (λ (s : State). is_held s c ≡ true) seat
 
+-- a parent is held, if the seat has all names that there are
+abbrev pub HasParentOn : Gripped → ℕ → Type 0
+HasParentOn seat m = AreAllNames seat.view.names → IsFromNow (λ (s : State). is_some (s.parents m) ≡ true) seat
+
 -- the seat itself claims the chunk, if it is alone
 abbrev pub IsBusyOn : Gripped → ℕ → Type 0
 IsBusyOn seat c = IsAlone seat.view → claims_of seat c ≡ true
@@ -65,9 +69,14 @@ alone_on handed old new n q gone alone =
           ]);
     }
 
-pub lasts : Lasts GoneOn claims_of RecordsOn HoldsOn IsBusyOn
+parent_last : (handed : Piece → Type 0) (s t : Gripped) (n q m : ℕ) → GoneOn handed s t n q → HasParentOn s m → HasParentOn t m
+parent_last handed s t n q m gone is all =
+    lasts_on (λ (x : State). is_some (x.parents m) ≡ true) handed s t n q gone (is (subst (λ (ns : List Named). AreAllNames ns) gone.names_are all))
+
+pub lasts : Lasts GoneOn claims_of RecordsOn HoldsOn HasParentOn IsBusyOn
 lasts = record {
   length = records_last;
   chunk = holds_last;
+  parent = parent_last;
   frees = λ handed s t n q c gone among busy. inl (λ alone. among c (busy (alone_on handed s t n q gone alone)));
 }

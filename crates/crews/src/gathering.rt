@@ -57,7 +57,6 @@ fn gather_within<R: Threads + Sync, H: Holder + Send + Drop, L: Lists<H>>(
     lists: &L,
 ) -> Result<Whole, GatherFault>
     requires whole { fixed.now.base ≡ 0 }
-    requires quiet { (holder : H) → H.count holder ≡ 0 }
     ensures gathers { Gathers own_bytes (IsLent (made_of form.now H.gives) (L.over lists.now)) fixed.now result }
     ensures available { AreSlices form.now → (blob : List ℕ) → IsBlob fixed.now blob → chunk_count (length blob) ≤ fixed.now.capacity
         → HaveAll how.grain (made_of form.now H.gives) (L.over lists.now) fixed.now.mode blob
@@ -74,8 +73,8 @@ fn gather_within<R: Threads + Sync, H: Holder + Send + Drop, L: Lists<H>>(
     )
 }
 
-// The blob with this root in this mode, from whatever such lists of holders are over. No device of them counts a fault. All workers
-// go one round. Then their seats are joined to one, which goes round once more, alone.
+// The blob with this root in this mode, from whatever such lists of holders are over. All workers go one round. Then their seats are
+// joined to one, which goes round once more, alone.
 pub(crate) fn gather_from<R: Threads + Sync, H: Holder + Send + Drop, L: Lists<H>>(
     rt: &R,
     alloc: Global,
@@ -85,7 +84,6 @@ pub(crate) fn gather_from<R: Threads + Sync, H: Holder + Send + Drop, L: Lists<H
     lists: &L,
 ) -> Result<Whole, GatherFault>
     requires whole { fixed.now.base ≡ 0 }
-    requires quiet { (holder : H) → H.count holder ≡ 0 }
     ensures gathers { Gathers own_bytes (IsLent (made_of form.now H.gives) (L.over lists.now)) fixed.now result }
     ensures available { AreSlices form.now → (blob : List ℕ) → IsBlob fixed.now blob → chunk_count (length blob) ≤ fixed.now.capacity
         → HaveAll how.grain (made_of form.now H.gives) (L.over lists.now) fixed.now.mode blob

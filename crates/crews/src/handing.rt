@@ -16,7 +16,7 @@ use std::thread::Threads;
 use store_shared::{Assembly, Seat};
 
 // The blob of a store whose seats were joined to this one, after the closing rounds over a list of all holders. The report is
-// that of the workers, of which there are so many, and no device of the holders counts a fault.
+// that of the workers, of which there are so many.
 pub(crate) fn hand_out<R: Threads + Sync, H: Holder + Drop, L: Lists<H>>(
     rt: &R,
     alloc: Global,
@@ -30,9 +30,7 @@ pub(crate) fn hand_out<R: Threads + Sync, H: Holder + Drop, L: Lists<H>>(
 ) -> Result<Whole, GatherFault>
     requires of { IsSeatOf assembly seat }
     requires workers { 0 < workers }
-    requires quiet { (holder : H) → H.count holder ≡ 0 }
     requires left { IsLeft (IsLent (made_of form.now H.gives) (L.over lists.now)) seat.view }
-    requires failed { report.failed ≡ 0 }
     requires large { IsTrue report.too_large → IsTooLarge (IsLent (made_of form.now H.gives) (L.over lists.now)) (fixed_of assembly) }
     ensures gathers { Gathers own_bytes (IsLent (made_of form.now H.gives) (L.over lists.now)) (fixed_of assembly) result }
     ensures available { AreSlices form.now → (blob : List ℕ) → IsBlob (fixed_of assembly) blob → (fixed_of assembly).base ≡ 0 → chunk_count (length blob) ≤ (fixed_of assembly).capacity

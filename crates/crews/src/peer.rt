@@ -1,4 +1,7 @@
-ghost use Rattle.std.specs.Prelude.{◌≡◌, ◌<◌, ◌≤◌, IsErrOf, OnErr, OnOk};
+ghost use Rattle.std.specs.Prelude.{◌≡◌, ◌<◌, ◌≤◌, ◌++◌, ℕ, List, IsErrOf, OnErr, OnOk};
+ghost use Rattle.store_core.specs.declared.history.Serving.TheVariants.{Text};
+ghost use Rattle.store_core.specs.Histories.{state_after};
+ghost use Rattle.store_core.specs.Serves.{serving};
 ghost use Rattle.store_shared.specs.Seats.{IsSeatOf};
 
 use gather::{Holder, HolderFault};
@@ -55,6 +58,8 @@ impl<'a> Holder for Peer<'a> {
 
     /// Appends the slice that the store serves, or nothing where it has no length or lacks a node. No device fails.
     ///
+    /// Where the store has a length and holds all nodes of the slice, as far as the seat has seen, that slice's encoding is appended.
+    ///
     /// What isn't empty is the slice of each blob with the store's root; or a collision is exhibited, two different inputs with
     /// one chaining value, one of the blob's and one of a piece's that was committed to the store, by which its length was settled,
     /// or whose parents were stored.
@@ -63,8 +68,10 @@ impl<'a> Holder for Peer<'a> {
         ensures no_more { Unit {0} → Unit {0} }
         ensures unchanged { OnErr result (into.new.items ≡ into.old.items) }
         ensures device { IsErrOf result Device → 0 < 0 }
+        ensures lost { IsErrOf result Device → Unit {0} }
         ensures counts { 0 ≤ 0 }
         ensures same { self.new.assembly ≡ self.old.assembly }
+        ensures gives { OnOk result ((text : List ℕ) → serving (state_after self.old.seat.view.seen) start len ≡ Text text → into.new.items ≡ into.old.items ++ text) }
         ensures fetches { OnOk result (Fetches start len into.old.items into.new.items self.old.seat.view self.new.seat.view) }
         ensures starves { OnErr result (Starves start len self.old.seat.view self.new.seat.view) }
     {

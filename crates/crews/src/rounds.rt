@@ -11,7 +11,48 @@ use std::alloc::Global;
 use std::thread::{Threads, for_each_mut};
 use store_shared::Assembly;
 
-// One crew's round, with which its report goes on. It is the crew with this number, from 0.
+// All crews' first rounds, at once: each crew passes the gate, and begins its report anew.
+pub(crate) fn first_round<R: Threads + Sync, H: Holder + Send, G: Gate + Sync>(
+    rt: &R,
+    alloc: Global,
+    assembly: &Assembly,
+    form: &Form<'_>,
+    crews: &mut [Crew<H>],
+    gate: &G,
+)
+    requires count { (0 < length crews.old) × (length crews.old ≤ 64) }
+    requires of { All (λ crew. IsSeatOf assembly.now crew.seat) crews.old }
+    ensures { Each (Worked assembly.now (made_of form.now H.gives) H.count) crews.old crews.new }
+{
+    let workers = crews.len();
+    for_each_mut(
+        rt,
+        crews,
+        workers,
+        &|number: usize, crew: &mut Crew<H>|
+            requires { (number < workers) × (workers ≤ 64) × IsSeatOf assembly.now crew.now.seat }
+            ensures { Worked assembly.entry.now (made_of form.entry.now H.gives) H.count crew.entry.now crew.exit.now }
+        {
+            gate.pass(number);
+            crew.report = Report::new();
+            let place = Place {
+                number: number as u32,
+                workers: workers as u32,
+            };
+            work_as(
+                alloc,
+                form,
+                &Shared(assembly),
+                &mut crew.seat,
+                crew.holders.as_mut_slice(),
+                place,
+                &mut crew.report,
+            );
+        },
+    );
+}
+
+// One crew's closing round, with which its report goes on. It is the crew with this number, from 0.
 fn go_round<H: Holder>(
     alloc: Global,
     assembly: &Assembly,
@@ -36,47 +77,6 @@ fn go_round<H: Holder>(
         crew.holders.as_mut_slice(),
         place,
         &mut crew.report,
-    );
-}
-
-// One crew's first round: it passes the gate, and begins its report anew.
-fn begin<H: Holder, G: Gate>(
-    alloc: Global,
-    assembly: &Assembly,
-    form: &Form<'_>,
-    gate: &G,
-    number: usize,
-    crews: usize,
-    crew: &mut Crew<H>,
-)
-    requires of { IsSeatOf assembly.now crew.old.seat }
-    requires number { (number < crews) × (crews ≤ 64) }
-    ensures { Worked assembly.now (made_of form.now H.gives) H.count crew.old crew.new }
-{
-    gate.pass(number);
-    crew.report = Report::new();
-    go_round(alloc, assembly, form, number, crews, crew);
-}
-
-// All crews' first rounds, at once.
-pub(crate) fn first_round<R: Threads + Sync, H: Holder + Send, G: Gate + Sync>(
-    rt: &R,
-    alloc: Global,
-    assembly: &Assembly,
-    form: &Form<'_>,
-    crews: &mut [Crew<H>],
-    gate: &G,
-)
-    requires count { (0 < length crews.old) × (length crews.old ≤ 64) }
-    requires of { All (λ crew. IsSeatOf assembly.now crew.seat) crews.old }
-    ensures { Each (Worked assembly.now (made_of form.now H.gives) H.count) crews.old crews.new }
-{
-    let workers = crews.len();
-    for_each_mut(
-        rt,
-        crews,
-        workers,
-        &|number, crew| { begin(alloc, assembly, form, gate, number, workers, crew) },
     );
 }
 

@@ -10,7 +10,7 @@ pub struct Shared<'a>(pub &'a Assembly);
 impl Shelf for Shared<'_> {
     ghost use Rattle.store_shared.specs.Seats.{IsSeatOf};
     ghost use Rattle.crews.specs.Going.{goes};
-    ghost use Rattle.crews.specs.Lasting.{HoldsOn, IsBusyOn, RecordsOn, lasts};
+    ghost use Rattle.crews.specs.Lasting.{HasParentOn, HoldsOn, IsBusyOn, RecordsOn, lasts};
     ghost use Rattle.crews.specs.Seats.{GoneOn, claims_of, fixed_of};
 
     type Seat = Seat;
@@ -28,6 +28,8 @@ impl Shelf for Shared<'_> {
     ghost records = { λ seat l. RecordsOn seat l };
 
     ghost holds = { λ seat c. HoldsOn seat c };
+
+    ghost has_parent = { λ seat m. HasParentOn seat m };
 
     ghost busy = { λ seat c. IsBusyOn seat c };
 

@@ -1,4 +1,5 @@
 ghost use Rattle.std.specs.Prelude.{◌≡◌, ◌≢◌, ◌↔◌, ◌⊎◌, ◌-◌, ◌<◌, ◌++◌, [], Err, IfErr, IfOk, IsErrOf, Ok, IsTrue, drop, length, min, take};
+ghost use Rattle.bao_text.specs.Texts.{slice_text};
 ghost use Rattle.gather.specs.declared.fault.FinishFault.TheVariants.{Unfinished};
 ghost use Rattle.gather.specs.Finished.{Binds, IsFinished};
 ghost use Rattle.store_core.specs.Histories.{state_after};
@@ -8,8 +9,9 @@ ghost use Rattle.crews.specs.Wholes.{IsFull, IsTopRead, ReadOn, WasUnfinished};
 
 use crate::reading::{read_part, top_by_seats};
 use crate::shared::Shared;
-use b3tree::{Input, root_hash, rooted};
+use b3tree::{Input, Mode, root_hash, rooted};
 use bao_read::LEAST_RANGE_LEN;
+use bao_text::{Memory, slice};
 use gather::{FinishFault, GatherFault, Shelf, judge};
 use std::alloc::{AllocError, Global};
 use std::marker::Model;
@@ -148,6 +150,30 @@ impl Whole {
         let mut blob = vec![in alloc; 0u8; self.len as usize]?;
         self.read(0, blob.as_mut_slice());
         Ok(blob)
+    }
+
+    /// The encoding of the slice (`start`, `len`) of the blob in this mode, byte for byte as `bao_text::slice` makes it.
+    ///
+    /// 401 `Memory` where there is none for it, or for the blob's bytes beside it; nothing else refuses it. The blob is as
+    /// it was in either case.
+    ///
+    /// It is made of the bytes, all of which are read and hashed, and not of the parents that the store holds. A store that
+    /// has all bytes may lack parents: a text that claims another length leaves chunks there, and none of its parents. And a
+    /// parent that is held may be another's with the blob's value, where the two collide. What is made of the bytes is the
+    /// slice in any case.
+    pub fn serve_slice(
+        &mut self,
+        alloc: Global,
+        mode: &Mode,
+        start: u64,
+        len: u64,
+    ) -> Result<Vec<u8>, Memory>
+        ensures same { self.new ≡ self.old }
+        ensures slice { IfOk result (λ text. text.items ≡ slice_text mode.now self.old start len) }
+    {
+        let blob = self.to_vec(alloc).map_err(|_| Memory)?;
+        let (_, text) = slice(alloc, mode, blob.as_slice(), start, len)?;
+        Ok(text)
     }
 }
 

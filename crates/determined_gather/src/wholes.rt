@@ -2,6 +2,8 @@
 
 ghost use Rattle.std.specs.Prelude.{◌≡◌, IfOk};
 
+use b3tree::Mode;
+use bao_text::Memory;
 use crews::Whole;
 use std::alloc::{AllocError, Global};
 
@@ -47,5 +49,23 @@ pub fn to_vec_determined(
 {
     let one = a.to_vec(alloc);
     let other = b.to_vec(alloc);
+    (one, other)
+}
+
+// Memory alone may refuse it.
+pub fn serve_slice_determined(
+    alloc: Global,
+    a: &mut Whole,
+    b: &mut Whole,
+    mode: &Mode,
+    start: u64,
+    len: u64,
+) -> (Result<Vec<u8>, Memory>, Result<Vec<u8>, Memory>)
+    requires same { a.old ≡ b.old }
+    ensures texts { IfOk result.0 (λ x. IfOk result.1 (λ y. x.items ≡ y.items)) }
+    ensures same { a.new ≡ b.new }
+{
+    let one = a.serve_slice(alloc, mode, start, len);
+    let other = b.serve_slice(alloc, mode, start, len);
     (one, other)
 }

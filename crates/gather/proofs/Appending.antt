@@ -1,5 +1,5 @@
 -- What is known of a text that follows.
-use Rattle.gather.proofs.Common.{◌≡◌, ◌⊎◌, ℕ, List, ◌++◌, length, take, drop, Option, None, Some, refl, sym, ap, ◌∙◌, inl, drop_at, take-append-drop}
+use Rattle.gather.proofs.Common.{◌≡◌, ◌⊎◌, ℕ, List, [], ◌++◌, length, take, drop, Option, None, Some, refl, sym, ap, subst, ◌∙◌, inl, drop_at, take-append-drop}
 use Rattle.gather.specs.Holders.{Appends}
 use Rattle.gather.specs.Places.{AreKnown, IsLost, OfBytes}
 
@@ -24,3 +24,7 @@ of_known (Some s) P known = λ fits. known s (refl, fits)
 -- what followed is taken back
 pub undone : (n : ℕ) (old mid new : List ℕ) → n ≡ length old → take (length old) mid ≡ old → new ≡ take n mid → new ≡ old
 undone n old mid new here kept back = back ∙ ap (λ (k : ℕ). take k mid) here ∙ kept
+
+-- what follows nothing is all
+pub appended_all : (P : List ℕ → Type 0) (old new : List ℕ) → old ≡ [] → Appends P old new → P new
+appended_all P old new none it = subst P (sym (it.is ∙ ap (λ (xs : List ℕ). xs ++ it.text) none)) it.given

@@ -1,5 +1,6 @@
 -- What is made of what holders give, and what of that is known of slices.
-use Rattle.gather.proofs.Common.{◌≡◌, ◌∙◌, ◌↔◌, ℕ, ◌-◌, ◌*◌, ◌^◌, List, IfOk, IsOk, Ok, Err, Result, false, true, ap, sym, subst, Checked, CheckFault, IsAccepted, slice_nodes, bare_len, IsPiece, outline_claimed, Mode, slice_text, piece_of, IsOf, Fixed, Piece}
+use Rattle.gather.proofs.Common.{◌≡◌, ◌∙◌, ◌↔◌, ℕ, ◌-◌, ◌*◌, ◌^◌, List, [], length, IfOk, IsOk, Ok, Err, Result, false, true, ap, arith, length-append, of_slice, sym, subst, Checked, CheckFault, IsAccepted, slice_nodes, bare_len, IsPiece, outline_claimed, Mode, slice_text, piece_of, IsOf, Fixed, Piece}
+use Rattle.bao_text.specs.Texts.{length_text, subtree_text}
 use Rattle.gather.specs.Available.{GivesSlice, IsServed, slice_of}
 use Rattle.gather.proofs.Serving.{is_of, slice_good, slice_is}
 use Rattle.gather.specs.declared.form.Form.{Form}
@@ -67,6 +68,24 @@ end_given form gives mode blob holder part text given are end slice same is =
     let at = slice_end form part are end in
     slice_given form gives mode blob holder part text given are (subst (λ (n : ℕ). GivesSlice (made_of form gives) mode blob n part.len holder) (sym at.0)
     (subst (λ (n : ℕ). GivesSlice (made_of form gives) mode blob (2 ^ 64 - 1) n holder) (sym at.1) slice)) same is
+
+-- no slice is empty, so a holder that gives nothing but the blob's doesn't give nothing
+never_empty : (mode : Mode) (blob : List ℕ) (start len : ℕ) → [] ≡ slice_text mode blob start len → ⊥
+never_empty mode blob start len none =
+    let no : 0 ≡ length (slice_text mode blob start len) = ap length none in
+    absurd (omega (arith, no, length-append (length_text (length blob)) (subtree_text (of_slice (length blob) start len) mode 0 blob)))
+
+pub slice_lost : {H : Type 0} (form : Form) (gives : H → ℕ → ℕ → List ℕ → Type 0) (mode : Mode) (blob : List ℕ) (holder : H) (part : Part) → AreSlices form
+    → GivesSlice (made_of form gives) mode blob part.start part.len holder → gives holder part.start part.len [] → ⊥
+slice_lost form gives mode blob holder part are slices lost =
+    never_empty mode blob part.start part.len (slices [] (made_slices form gives holder part.start part.len [] are lost))
+
+pub end_lost : {H : Type 0} (form : Form) (gives : H → ℕ → ℕ → List ℕ → Type 0) (mode : Mode) (blob : List ℕ) (holder : H) (part : Part) → AreSlices form
+    → IsEnd form part → GivesSlice (made_of form gives) mode blob (2 ^ 64 - 1) 1 holder → gives holder part.start part.len [] → ⊥
+end_lost form gives mode blob holder part are end slice lost =
+    let at = slice_end form part are end in
+    slice_lost form gives mode blob holder part are (subst (λ (n : ℕ). GivesSlice (made_of form gives) mode blob n part.len holder) (sym at.0)
+    (subst (λ (n : ℕ). GivesSlice (made_of form gives) mode blob (2 ^ 64 - 1) n holder) (sym at.1) slice)) lost
 
 -- it is accepted as that slice
 pub slice_made : (form : Form) (fixed known : Fixed) (part : Part) (text : List ℕ) (piece : Checked) (blob : List ℕ) (start len : ℕ) → AreSlices form → part.start ≡ start → part.len ≡ len

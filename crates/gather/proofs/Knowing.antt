@@ -1,7 +1,9 @@
 -- What a call of a one-thread store leaves its worker to know.
-use Rattle.gather.proofs.Common.{◌≡◌, ◌≢◌, ℕ, ◌/◌, ◌%◌, ◌==◌, true, ◌&&◌, Option, None, Some, Result, Ok, Err, IfErr, IfOk, IfSome, OnErr, MatchResult, refl, sym, subst, ◌∙◌, eqb-true, eq-eqb, and_from, and_parts, Checked, StoreFault, Take, Commit, Piece, Settling, Settled, Known, Differs, OtherRoot, TooLarge, Stored, Store, is_free, settling, has_bit, in_mask, holds_chunk, length_of, piece_of, State, claims, is_held, DidStore, IsEvent, IsSame, IsUnstored, Settles, fixed_of, state_of}
-use Rattle.gather.specs.Available.{IsWanted, Keeps, KeepsBut}
-use Rattle.gather.specs.Lasting.{HoldsChunk, Records}
+use Rattle.gather.proofs.Common.{◌≡◌, ◌≢◌, ℕ, ◌↔◌, ◌⊎◌, inl, inr, ap, not, is_some, IsErrOf, IsOf, IsMaskOf, both_ways, cases_Bool, ◌/◌, ◌%◌, ◌==◌, true, ◌&&◌, Option, None, Some, Result, Ok, Err, IfErr, IfOk, IfSome, OnErr, MatchResult, refl, sym, subst, ◌∙◌, eqb-true, eq-eqb, and_from, and_parts, Checked, StoreFault, Take, Commit, Piece, Settling, Settled, Known, Differs, OtherRoot, TooLarge, Stored, Store, is_free, settling, has_bit, in_mask, holds_chunk, length_of, piece_of, State, claims, is_held, DidStore, IsEvent, IsSame, IsUnstored, Settles, fixed_of, state_of}
+use Rattle.gather.specs.Available.{IsOfOtherLength, IsWanted, Keeps, KeepsBut}
+use Rattle.gather.specs.Lasting.{HasParent, HoldsChunk, Records}
+use Rattle.store_core.specs.Pieces.{holds_parent}
+use Rattle.store_core.specs.declared.fault.StoreFault.TheVariants as fault
 use Rattle.gather.specs.Worked.{worker, worker_claims}
 use Rattle.gather.proofs.Alone.{unstored_same}
 
@@ -64,3 +66,26 @@ settle_records old new piece TooLarge settles small same = absurd (small refl)
 pub length_records : (store : Store) (result : Option ℕ) → result ≡ (state_of store).recorded → IfSome result (λ l. Records store l)
 length_records store None is = tt
 length_records store (Some l) is = sym is
+
+-- All parents of a piece at boundaries of the group are held once they were stored: those of the mask were, and the others had been.
+pub parents_held : (old new : Store) (group : ℕ) (piece : Checked) (result : Result ℕ StoreFault) → IfOk result (λ mask. DidStore old new group piece (Stored mask))
+    → IfOk result (λ mask. IsMaskOf group mask (λ m. holds_parent (piece_of (fixed_of old).base piece) m && not (is_some ((state_of old).parents m))))
+    → IfOk result (λ _. (m : ℕ) → m / 64 ≡ group → holds_parent (piece_of (fixed_of old).base piece) m ≡ true → HasParent new m)
+parents_held old new group piece (Ok mask) did all = λ m here has. elim (cases_Bool (in_mask group mask m)) [
+  | inl hit ↦ subst (λ (s : State). is_some (s.parents m) ≡ true) (sym (did worker).after) (rw hit has)
+  | inr miss ↦ elim (cases_Bool (is_some ((state_of old).parents m))) [
+    | inl before ↦ subst (λ (s : State). is_some (s.parents m) ≡ true) (sym (did worker).after) (rw miss before)
+    | inr none ↦ absurd (both_ways _ miss (and_from (m / 64 == group) (has_bit mask (m % 64)) (eq-eqb (m / 64) group here) (all.bits m here ∙ and_from _ _ has (ap not none))))
+  ]
+]
+parents_held old new group piece (Err fault) did all = tt
+
+-- why none are stored
+pub parents_refused : (old : Store) (piece : Checked) (result : Result ℕ StoreFault) → IsErrOf result fault.OtherRoot ↔ (¬ IsOf (fixed_of old) piece)
+    → IsErrOf result fault.OtherLength ↔ (IsOf (fixed_of old) piece × ((state_of old).recorded ≢ Some (length_of (piece_of (fixed_of old).base piece)))) → result ≢ Err fault.NoGroup
+    → IfErr result (λ why. (why ≡ fault.Memory) ⊎ (¬ IsOf (fixed_of old) piece) ⊎ IsOfOtherLength Records old (piece_of (fixed_of old).base piece))
+parents_refused old piece (Ok mask) root long never = tt
+parents_refused old piece (Err fault.Memory) root long never = inl refl
+parents_refused old piece (Err fault.NoGroup) root long never = absurd (never refl)
+parents_refused old piece (Err fault.OtherRoot) root long never = inr (inl (root.0 refl))
+parents_refused old piece (Err fault.OtherLength) root long never = inr (inr (λ l is same. (long.0 refl).1 (is ∙ ap (λ (n : ℕ). Some n) same)))

@@ -1,7 +1,10 @@
 -- What a worker's report gains, from one seat to the next.
-use Rattle.gather.proofs.Common.{◌≡◌, ◌⊎◌, ℕ, zero, suc, ◌+◌, ◌<◌, ◌≤◌, List, [], ◌∷◌, length, get_or, set, None, Some, slice_get, true, Bool, IsTrue, refl, sym, subst, ◌∙◌, length-set, arith, inl, inr, slice_get-get_or, sum_by, sum_by-set, CheckFault, Short, Mismatch, Trailing, Memory, Reader, Fixed, Piece}
+use Rattle.gather.proofs.Common.{◌≡◌, ◌⊎◌, ℕ, zero, suc, ◌+◌, ◌<◌, ◌≤◌, List, [], ◌∷◌, length, get_or, set, None, Some, slice_get, true, Bool, IsTrue, refl, sym, ap, subst, ◌∙◌, length-set, arith, inl, inr, slice_get-get_or, sum_by, sum_by-set, CheckFault, Short, Mismatch, Trailing, Memory, Reader, Fixed, Piece}
+use Rattle.gather.specs.declared.holder.HolderFault.{HolderFault}
+use Rattle.gather.specs.declared.holder.HolderFault.TheVariants.{Device}
+use Rattle.gather.specs.declared.holder.HolderFault.TheVariants as unfetched
 use Rattle.gather.specs.declared.report.Report.{Report}
-use Rattle.gather.specs.Counts.{FailsNoLess, Fits, Goes, IsAnswered, Reports, asked_once, checked_once, failed_once, memory_once, plus, refused_once}
+use Rattle.gather.specs.Counts.{FailsNoLess, Fits, Goes, HasFailed, IsAnswered, Reports, asked_once, checked_once, failed_once, lost_once, memory_once, plus, refused_once}
 use Rattle.gather.specs.Holders.{AreLater, GivesNoMore, IsGiven, IsHanded, IsIt, IsNone}
 use Rattle.gather.specs.Large.{EndsTooFar, IsTooLarge}
 
@@ -46,6 +49,11 @@ handed_here gives xs i x below piece is = record { place = i; holder = get_or xs
 -- what is handed over is handed over by more
 pub large_wider : (handed wider : Piece → Type 0) → ((piece : Piece) → handed piece → wider piece) → (fixed : Fixed) → IsTooLarge handed fixed → IsTooLarge wider fixed
 large_wider handed wider more fixed large = record { piece = large.piece; from = more large.piece large.from; large = large.large }
+
+-- a fetch without a text: its device failed, or memory was refused
+pub lost_or_failed : {P : Type 0} (x y : Report) (fault : HolderFault) → y ≡ lost_once fault x → (fault ≡ Device → P) → HasFailed y ⊎ P
+lost_or_failed x y Device told lost = inr (lost refl)
+lost_or_failed x y unfetched.Memory told lost = inl (omega (arith, ap (λ (r : Report). r.memory) told))
 
 module _ {S : Type 0} (fixed_of : S → Fixed) (gained : (Piece → Type 0) → S → S → ℕ → ℕ → Type 0) (goes : Goes fixed_of gained) where
   -- nothing was called
@@ -178,6 +186,13 @@ module _ {S : Type 0} (fixed_of : S → Fixed) (gained : (Piece → Type 0) → 
   fetch_none s A B a b x y no_more fits (inl failed) = fetch_lost s A B a b x y no_more fits (inr failed)
   fetch_none s A B a b x y no_more fits (inr refused) = subst (λ (z : Report). Reports fixed_of gained s s A B a b x z) (sym refused.1)
       (starved s s A B a b x (asked_once x) fits (fetch_some s s A B a b x (asked_once x) (none_gained A s) no_more fits (refused.0, refl)))
+
+  pub fetch_fault : (s : S) (A B : Piece → Type 0) (a b : ℕ) (x y z : Report) (fault : HolderFault) → ((piece : Piece) → B piece → A piece) → Fits x → y ≡ asked_once x
+      → z ≡ lost_once fault y → a ≤ b → (fault ≡ Device → a < b) → Reports fixed_of gained s s A B a b x z
+  fetch_fault s A B a b x y z Device no_more fits asked lost up more =
+      fetch_none s A B a b x z no_more fits (inl (more refl, subst (λ (r : Report). z ≡ failed_once r) asked lost))
+  fetch_fault s A B a b x y z unfetched.Memory no_more fits asked lost up more =
+      fetch_none s A B a b x z no_more fits (inr (up, subst (λ (r : Report). z ≡ memory_once r) asked lost))
 
   -- a text that a check refused
   refused_some : (s : S) (A B : Piece → Type 0) (a b : ℕ) (x : Report) (fault : CheckFault) → ((piece : Piece) → B piece → A piece) → Fits x → a ≤ b

@@ -1,10 +1,10 @@
 -- What a worker does with the slices of a blob that a holder gives.
-use Rattle.gather.proofs.Common.{◌≢◌, eqb-true, eq-eqb, ◌≡◌, ◌⊎◌, ℕ, ◌+◌, ◌-◌, ◌*◌, ◌/◌, ◌%◌, ◌^◌, ◌<◌, ◌≤◌, ◌==◌, ◌&&◌, not, Bool, true, false, List, [], ◌∷◌, zero, suc, get_or, set, slice_get, IfSome, IsSome, Option, None, Some, length, refl, sym, ap, subst, ◌∙◌, arith, inl, inr, ltb-true, mul_comm, nat_lt, get_or_from_slice_get, and_parts, both_ways, cases_Bool, cases_lt, lt-ltb, add-mod_right, div-lt_iff_lt-mul, mod-eq_of_lt, mul-lt-mul_of_pos_right, Mode, IsAccepted, slice_nodes, HoldsLast, IsPiece, Checked, slice_text, Fixed, Piece, has_room, IsMaskOf, has_bit, in_mask, EndsBlob, length_of, piece_of, IsOf}
+use Rattle.gather.proofs.Common.{◌≢◌, eqb-true, eq-eqb, ◌≡◌, ℕ, ◌+◌, ◌-◌, ◌*◌, ◌/◌, ◌%◌, ◌^◌, ◌<◌, ◌≤◌, ◌==◌, ◌&&◌, not, Bool, true, false, List, [], ◌∷◌, zero, suc, get_or, set, slice_get, IfSome, IsSome, Option, None, Some, length, refl, sym, ap, subst, ◌∙◌, arith, inl, inr, ltb-true, mul_comm, nat_lt, get_or_from_slice_get, and_parts, both_ways, cases_Bool, cases_lt, lt-ltb, add-mod_right, div-lt_iff_lt-mul, mod-eq_of_lt, mul-lt-mul_of_pos_right, Mode, IsAccepted, slice_nodes, HoldsLast, IsPiece, Checked, slice_text, Fixed, Piece, has_room, IsMaskOf, has_bit, in_mask, EndsBlob, length_of, piece_of, IsOf}
 use Rattle.gather.proofs.Bits.{has_bit_zero}
 use Rattle.gather.specs.Holders.{AreLater}
 use Rattle.gather.specs.declared.grain.Grain.{Grain}
 use Rattle.gather.specs.Available.{GivesSlice, HasSlice, HasTrue, HaveSlices, IsServed, IsWanted, slice_of}
-use Rattle.gather.specs.Counts.{HasFailed, asked_once, failed_once, memory_once}
+use Rattle.gather.specs.Counts.{HasFailed, memory_once}
 use Rattle.gather.specs.declared.report.Report.{Report}
 use Rattle.gather.specs.Large.{EndsTooFar}
 
@@ -41,14 +41,12 @@ never_large fixed piece blob start len served is large =
     let long : length_of piece ≡ length blob = ap (λ (p : Piece). length_of p) is ∙ served.claims start len in
     both_ways _ large.above (ap (λ (l : ℕ). has_room fixed l) long ∙ served.fits)
 
--- a fetch without a text is one that failed
-pub fetch_failed : (a b : ℕ) (x y : Report) → ((a < b) × (y ≡ failed_once (asked_once x))) ⊎ ((a ≤ b) × (y ≡ memory_once (asked_once x))) → HasFailed y
-fetch_failed a b x y (inl failed) = inr (subst (λ (r : Report). 0 < r.failed) (sym failed.1) (omega arith))
-fetch_failed a b x y (inr starved) = inl (subst (λ (r : Report). 0 < r.memory) (sym starved.1) (omega arith))
+-- a fetch that memory was refused to counts that
+pub memory_counts : (x y : Report) → y ≡ memory_once x → HasFailed y
+memory_counts x y is = subst (λ (r : Report). 0 < r.memory) (sym is) (omega arith)
 
 pub fails_on : (x y : Report) → (x.memory ≤ y.memory) × (x.failed ≤ y.failed) → HasFailed x → HasFailed y
-fails_on x y no_less (inl memory) = inl (omega (arith, memory, no_less.0))
-fails_on x y no_less (inr failed) = inr (omega (arith, failed, no_less.1))
+fails_on x y no_less memory = omega (arith, memory, no_less.0)
 
 not_true : (b : Bool) → not b ≡ true → b ≡ false
 not_true true is = let no : false ≡ true = is in cc

@@ -1,5 +1,5 @@
 -- What comes of a holder that gives the slices of one blob alone.
-use Rattle.std.specs.Prelude.{◌≡◌, ◌⊎◌, ℕ, ◌*◌, ◌/◌, ◌%◌, ◌^◌, ◌-◌, ◌<◌, ◌≤◌, Bool, true, false, List, length, Some, slice_get}
+use Rattle.std.specs.Prelude.{◌≡◌, ◌≢◌, ◌⊎◌, ℕ, ◌*◌, ◌/◌, ◌%◌, ◌^◌, ◌-◌, ◌<◌, ◌≤◌, Bool, true, false, List, length, Some, slice_get}
 use Rattle.b3tree.specs.declared.mode.Mode.{Mode}
 use Rattle.bao_check.specs.Accepted.{IsAccepted, slice_nodes}
 use Rattle.bao_text.specs.Choice.{chunk_count}
@@ -72,12 +72,17 @@ Keeps old new = (c : ℕ) → old c ≡ true → new c ≡ true
 abbrev pub KeepsBut : ℕ → ℕ → (ℕ → Bool) → (ℕ → Bool) → Type 0
 KeepsBut group mask old new = (c : ℕ) → old c ≡ true → in_mask group mask c ≡ false → new c ≡ true
 
--- What a seat knows lasts: a recorded length, and a chunk that is held. A chunk that was claimed by somebody is held, or
--- was claimed before, where the seat claims nothing more than it did.
-pub record Lasts {S : Type 0} (gained : (Piece → Type 0) → S → S → ℕ → ℕ → Type 0) (claims : S → ℕ → Bool) (records holds busy : S → ℕ → Type 0) : Type 1 where
+-- What a seat knows lasts: a recorded length, and a chunk and a parent that are held. A chunk that was claimed by somebody is
+-- held, or was claimed before, where the seat claims nothing more than it did.
+pub record Lasts {S : Type 0} (gained : (Piece → Type 0) → S → S → ℕ → ℕ → Type 0) (claims : S → ℕ → Bool) (records holds has_parent busy : S → ℕ → Type 0) : Type 1 where
   pub length : (handed : Piece → Type 0) (s t : S) (n q l : ℕ) → gained handed s t n q → records s l → records t l
   pub chunk : (handed : Piece → Type 0) (s t : S) (n q c : ℕ) → gained handed s t n q → holds s c → holds t c
+  pub parent : (handed : Piece → Type 0) (s t : S) (n q m : ℕ) → gained handed s t n q → has_parent s m → has_parent t m
   pub frees : (handed : Piece → Type 0) (s t : S) (n q c : ℕ) → gained handed s t n q → Among (claims s) (claims t) → busy t c → busy s c ⊎ holds t c
+
+-- the piece claims another length than the recorded one, if there is one
+abbrev pub IsOfOtherLength : {S : Type 0} → (S → ℕ → Type 0) → S → Piece → Type 0
+IsOfOtherLength records seat piece = (l : ℕ) → records seat l → l ≢ length_of piece
 
 -- The length is recorded, and if it is the blob's, each chunk of the blob is held, or was claimed by somebody before.
 pub record IsFilled {S : Type 0} (records holds busy : S → ℕ → Type 0) (old new : S) (blob : List ℕ) : Type 0 where

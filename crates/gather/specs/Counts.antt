@@ -1,9 +1,12 @@
 -- What a report counts.
-use Rattle.std.specs.Prelude.{◌≡◌, ◌⊎◌, ℕ, ◌+◌, ◌-◌, ◌^◌, ◌<◌, ◌≤◌, Bool, false, min, IsTrue, Option, None, Some}
+use Rattle.std.specs.Prelude.{◌≡◌, ◌⊎◌, ℕ, ◌+◌, ◌-◌, ◌^◌, ◌<◌, ◌≤◌, Bool, false, min, IsTrue}
 use Rattle.bao_check.specs.declared.fault.CheckFault.{CheckFault}
-use Rattle.bao_check.specs.declared.fault.CheckFault.TheVariants.{Short, Mismatch, Trailing, Memory, Reader}
+use Rattle.bao_check.specs.declared.fault.CheckFault.TheVariants.{Short, Mismatch, Trailing, Reader}
+use Rattle.bao_check.specs.declared.fault.CheckFault.TheVariants as refusal
 use Rattle.store_core.specs.declared.fixed.Fixed.{Fixed}
 use Rattle.store_core.specs.declared.history.Piece.{Piece}
+use Rattle.gather.specs.declared.holder.HolderFault.{HolderFault}
+use Rattle.gather.specs.declared.holder.HolderFault.TheVariants.{Device, Memory}
 use Rattle.gather.specs.declared.report.Report.{Report}
 use Rattle.gather.specs.Claims.{Among}
 use Rattle.gather.specs.Holders.{IsNone}
@@ -34,18 +37,17 @@ abbrev pub checked_once : CheckFault → Report → Report
 checked_once (Short at) report = refused_once report
 checked_once (Mismatch at) report = refused_once report
 checked_once (Trailing at) report = refused_once report
-checked_once Memory report = memory_once report
+checked_once refusal.Memory report = memory_once report
 checked_once Reader report = refused_once report
 
--- What a fetch counts, by the text that it gave, or none, and by its holder's count of device faults before and after.
-abbrev pub IsFetch : {A : Type 0} → ℕ → ℕ → Option A → Report → Report → Type 0
-IsFetch before after (Some text) report report' = (before ≤ after) × (report' ≡ asked_once report)
-IsFetch before after None report report' =
-    ((before < after) × (report' ≡ failed_once (asked_once report))) ⊎ ((before ≤ after) × (report' ≡ memory_once (asked_once report)))
+-- a fetch that gave no text, by its fault
+abbrev pub lost_once : HolderFault → Report → Report
+lost_once Device report = failed_once report
+lost_once Memory report = memory_once report
 
--- memory was refused, or a device failed
+-- memory was refused: the one failure that excuses a worker. A device that fails is its holder's own, and excuses none.
 abbrev pub HasFailed : Report → Type 0
-HasFailed report = (0 < report.memory) ⊎ (0 < report.failed)
+HasFailed report = 0 < report.memory
 
 -- counts of both go up
 abbrev pub FailsNoLess : Report → Report → Type 0

@@ -10,6 +10,7 @@ use Rattle.store_core.specs.declared.history.Piece.{Piece}
 use Rattle.store_core.specs.declared.store.Store.{Store}
 use Rattle.store_core.specs.Events.{IsRightReply, after, after_call}
 use Rattle.store_core.proofs.Lasting.{recorded_from}
+use Rattle.store_core.proofs.ParentOrigins.{parents_from}
 use Rattle.store_core.specs.Histories.{AreLegalFrom, run}
 use Rattle.store_core.specs.Masks.{has_bit, in_mask}
 use Rattle.store_core.specs.Names.{Name}
@@ -26,6 +27,9 @@ Records store l = (state_of store).recorded ≡ Some l
 
 abbrev pub HoldsChunk : Store → ℕ → Type 0
 HoldsChunk store c = is_held (state_of store) c ≡ true
+
+abbrev pub HasParent : Store → ℕ → Type 0
+HasParent store m = is_some ((state_of store).parents m) ≡ true
 
 abbrev pub IsBusy : Store → ℕ → Type 0
 IsBusy store c = is_claimed (state_of store) c ≡ true
@@ -99,11 +103,22 @@ work_frees handed s t n q c worked among busy =
           inl (some_claims worker ((state_of s).claim c) (among c now))
     ]
 
-pub lasts_work : Lasts HasWorked worker_claims Records HoldsChunk IsBusy
+some_parent : (o : Option (List ℕ)) → is_some o ≡ true → (bytes : List ℕ) × (o ≡ Some bytes)
+some_parent (Some bytes) is = (bytes, refl)
+some_parent None is = let no : false ≡ true = is in cc
+
+-- a parent that is held stays so
+work_parent : (handed : Piece → Type 0) (s t : Store) (n q m : ℕ) → HasWorked handed s t n q → HasParent s m → HasParent t m
+work_parent handed s t n q m worked is =
+    let there = some_parent ((state_of s).parents m) is in
+    subst (λ (x : State). is_some (x.parents m) ≡ true) (sym worked.after) (ap is_some (parents_from (fixed_of s) (state_of s) worked.events worked.legal m there.0 there.1))
+
+pub lasts_work : Lasts HasWorked worker_claims Records HoldsChunk HasParent IsBusy
 lasts_work = record {
   length = λ handed s t n q l worked is.
       subst (λ (x : State). x.recorded ≡ Some l) (sym worked.after) (recorded_from (fixed_of s) (state_of s) worked.events worked.legal l is);
   chunk = λ handed s t n q c worked is.
       subst (λ (x : State). is_held x c ≡ true) (sym worked.after) (run_holds (fixed_of s) (state_of s) worked.events worked.legal c is);
+  parent = work_parent;
   frees = work_frees;
 }

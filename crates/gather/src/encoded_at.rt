@@ -1,4 +1,4 @@
-ghost use Rattle.std.specs.Prelude.{◌≡◌, ℕ, ◌+◌, ◌-◌, ◌^◌, ◌<◌, ◌≤◌, ◌++◌, length, IsErrOf, OnErr, OnOk};
+ghost use Rattle.std.specs.Prelude.{◌≡◌, ℕ, [], ◌+◌, ◌-◌, ◌^◌, ◌<◌, ◌≤◌, ◌++◌, length, IsErrOf, OnErr, OnOk};
 ghost use Rattle.bao_text.specs.Cut.{cut_text, slice_len};
 ghost use Rattle.gather.specs.declared.holder.HolderFault.TheVariants.{Device};
 ghost use Rattle.gather.specs.Holders.{Appends, GivesNoMore};
@@ -37,12 +37,13 @@ impl<'a, S: Source> Holder for EncodedAt<'a, S> {
     /// is asked for.
     ///
     /// `Device` where a read answered a fault, one of the kind `Interrupted` too, which is not tried again.
-    #[tactic(auto, using(crate::proofs::Appending::of_known, crate::proofs::Appending::undone))]
+    #[tactic(auto, using(crate::proofs::Appending::of_known, crate::proofs::Appending::undone, crate::proofs::Lending::lost_cut))]
     fn fetch(&mut self, start: u64, len: u64, into: &mut Vec<u8>) -> Result<(), HolderFault>
         ensures appended { OnOk result (Appends (IsCutAt (S.contents self.old.source.now) (S.faultless self.old.source.now) start len) into.old.items into.new.items) }
         ensures no_more { GivesNoMore (λ holder start len text. IsCutAt (S.contents holder.source.now) (S.faultless holder.source.now) start len text) self.old self.new }
         ensures unchanged { OnErr result (into.new.items ≡ into.old.items) }
         ensures device { IsErrOf result Device → self.old.faults < self.new.faults }
+        ensures lost { IsErrOf result Device → IsCutAt (S.contents self.old.source.now) (S.faultless self.old.source.now) start len [] }
         ensures counts { self.old.faults ≤ self.new.faults }
         ensures failed { IsErrOf result Device → S.faultless self.old.source.now → ⊥ }
         ensures same { self.new.source.now ≡ self.old.source.now }

@@ -1,4 +1,4 @@
-ghost use Rattle.std.specs.Prelude.{◌≡◌, ℕ, List, ◌<◌, ◌≤◌, ◌++◌, IsErrOf, OnErr, OnOk};
+ghost use Rattle.std.specs.Prelude.{◌≡◌, ℕ, List, [], ◌<◌, ◌≤◌, ◌++◌, IsErrOf, OnErr, OnOk};
 ghost use Rattle.gather.specs.declared.holder.HolderFault.TheVariants.{Device};
 ghost use Rattle.gather.specs.Holders.{Appends, GivesNoMore};
 
@@ -30,11 +30,15 @@ pub trait Holder {
     /// `Device` only where the count of faults rose during the call, `Memory` only where a growth was refused; `into`
     /// is then unchanged. Once the count is 2^64 - 1 it stays, and a fetch whose device fails answers Ok and appends
     /// nothing. The count never goes down.
+    ///
+    /// A device that fails gives nothing: the empty text is then one of those that the holder may give as this slice. So a
+    /// holder that gives nothing but the slice of a blob, which is never empty, doesn't fail where it is asked for it.
     fn fetch(&mut self, start: u64, len: u64, into: &mut Vec<u8>) -> Result<(), HolderFault>
         ensures appended { OnOk result (Appends (gives self.old start len) into.old.items into.new.items) }
         ensures no_more { GivesNoMore gives self.old self.new }
         ensures unchanged { OnErr result (into.new.items ≡ into.old.items) }
         ensures device { IsErrOf result Device → count self.old < count self.new }
+        ensures lost { IsErrOf result Device → gives self.old start len [] }
         ensures counts { count self.old ≤ count self.new };
 
     /// How many faults of its device it has counted.
@@ -73,6 +77,7 @@ impl<'a> Holder for Encoded<'a> {
         ensures no_more { GivesNoMore IsCut self.old self.new }
         ensures unchanged { OnErr result (into.new.items ≡ into.old.items) }
         ensures device { IsErrOf result Device → 0 < 0 }
+        ensures lost { IsErrOf result Device → IsCut self.old start len [] }
         ensures counts { 0 ≤ 0 }
         ensures same { encoding self.new ≡ encoding self.old }
         ensures cut { OnOk result (into.new.items ≡ into.old.items ++ cut_text (encoding self.old) start len) }

@@ -28,7 +28,7 @@ struct Alone;
 
 impl Shelf for Alone {
     ghost use Rattle.gather.specs.Working.{goes_work};
-    ghost use Rattle.gather.specs.Lasting.{HoldsChunk, IsBusy, Records, lasts_work};
+    ghost use Rattle.gather.specs.Lasting.{HasParent, HoldsChunk, IsBusy, Records, lasts_work};
     ghost use Rattle.store_core.specs.Stores.{fixed_of};
 
     type Seat = Store;
@@ -46,6 +46,8 @@ impl Shelf for Alone {
     ghost records = { λ store l. Records store l };
 
     ghost holds = { λ store c. HoldsChunk store c };
+
+    ghost has_parent = { λ store m. HasParent store m };
 
     ghost busy = { λ store c. IsBusy store c };
 
@@ -112,9 +114,10 @@ impl Shelf for Alone {
 ///
 /// The worker asks for the groups of a whole blob, so the store has to be of one: its base is 0. Then it is enough that, of a blob
 /// with the root for which the store has room, one of the holders gives the slice of the last byte, and for each group of its
-/// chunks one gives the group's slice, whatever they give as other slices. Where neither memory was refused nor a device failed,
-/// nor an accepted encoding certifies a length that is too large, a length is recorded then, and if it is that blob's, each of
-/// its chunks is held, or was claimed by somebody before.
+/// chunks one gives the group's slice, whatever they give as other slices. Where memory wasn't refused, nor an accepted encoding
+/// certifies a length that is too large, a length is recorded then, and if it is that blob's, each of its chunks is held, or was
+/// claimed by somebody before. Other holders' devices may fail: one that fails gives the empty text, which is no slice, so that
+/// a holder that gives the blob's slice is one whose device doesn't fail there.
 ///
 /// The report's `committed` is the number of chunks stored and `parents` that of parents, `failed` is at most what
 /// the holders' counts rose together, and `too_large` is set only where an accepted encoding certifies a length

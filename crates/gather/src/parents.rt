@@ -1,12 +1,13 @@
-ghost use Rattle.std.specs.Prelude.{map};
+ghost use Rattle.std.specs.Prelude.{◌≡◌, ◌⊎◌, ◌<◌, ℕ, true, map};
 ghost use Rattle.bao_check.specs.Checked.{piece_nodes};
 ghost use Rattle.bao_text.specs.NodeNames.{name};
 ghost use Rattle.gather.specs.Available.{Keeps};
 ghost use Rattle.gather.specs.Claims.{Among};
-ghost use Rattle.gather.specs.Counts.{Reports};
+ghost use Rattle.gather.specs.Counts.{HasFailed, Reports};
 ghost use Rattle.gather.specs.Groups.{AreGroups, IsNext};
 ghost use Rattle.gather.specs.Holders.{IsIt};
-ghost use Rattle.store_core.specs.Pieces.{piece_of};
+ghost use Rattle.store_core.specs.Pieces.{holds_parent, length_of, piece_of};
+ghost use Rattle.store_core.specs.Stores.{IsOf};
 
 use crate::masks::MAX_GROUPS;
 use crate::report::Report;
@@ -46,7 +47,8 @@ fn next_group(groups: &[bool; GROUPS], from: u32) -> Option<u32>
     None
 }
 
-// Stores the piece's parents, one group that has any of their boundaries after another.
+// Stores the piece's parents, one group that has any of their boundaries after another. Where it claims the recorded length, all of
+// them are known to be held then, or memory was refused.
 pub(crate) fn store_parents<S: Shelf>(
     shelf: &S,
     seat: &mut S::Seat,
@@ -58,6 +60,8 @@ pub(crate) fn store_parents<S: Shelf>(
     ensures reports { Reports S.fixed_of S.gained seat.old seat.new (IsIt (piece_of (S.fixed_of seat.old).base piece.now)) (IsIt (piece_of (S.fixed_of seat.old).base piece.now)) 0 0 report.old report.new }
     ensures claims { Among (S.claims seat.old) (S.claims seat.new) }
     ensures keeps { Keeps (S.claims seat.old) (S.claims seat.new) }
+    ensures parents { IsOf (S.fixed_of seat.old) piece.now → S.records seat.old (length_of (piece_of (S.fixed_of seat.old).base piece.now))
+        → HasFailed report.new ⊎ ((m : ℕ) → m < 65536 → holds_parent (piece_of (S.fixed_of seat.old).base piece.now) m ≡ true → S.has_parent seat.new m) }
 {
     report.fits();
     let groups = boundary_groups(piece);

@@ -14,68 +14,6 @@ const END: u128 = u64::MAX as u128;
 // The most bytes that are asked for at once: a group's chunks with their parents are fewer.
 const READ_LEN: u128 = 1 << 17;
 
-// Appends what one read gives from the place `at` on, of at most `room` bytes, and answers how many came: none only
-// where there is no byte.
-fn append_some<S: Source>(
-    source: &S,
-    at: u64,
-    room: usize,
-    into: &mut Vec<u8>,
-) -> Result<usize, HolderFault>
-    requires { 0 < room }
-    ensures gains { IfOk result (λ count. ReadFrom (S.contents source.now) at into.old.items into.new.items count) }
-    ensures most { IfOk result (λ count. count ≤ room) }
-    ensures none { IfOk result (λ count. count ≡ 0 → IfSome (S.contents source.now) (λ bytes. length bytes ≤ at)) }
-    ensures kept { take (length into.old.items) into.new.items ≡ into.old.items }
-    ensures device { IsErrOf result Device → S.faultless source.now → ⊥ }
-{
-    let start = into.len();
-    if into.resize(start.saturating_add(room), 0).is_err() {
-        return Err(HolderFault::Memory);
-    }
-    match source.read_at(&mut into.as_mut_slice()[start..], at) {
-        Ok(count) => {
-            into.truncate(start + count);
-            Ok(count)
-        }
-        Err(_) => Err(HolderFault::Device),
-    }
-}
-
-// Appends `len` bytes of the source from the place `at` on, as far as it has them, and answers whether all came. Room is
-// taken as they come.
-#[tactic(auto, using(crate::proofs::Reading::read_more))]
-pub(crate) fn append_part<S: Source>(
-    source: &S,
-    at: u128,
-    len: u128,
-    into: &mut Vec<u8>,
-) -> Result<bool, HolderFault>
-    requires { at + len < 2 ^ 128 }
-    ensures part { OnOk result (OfBytes (S.contents source.now) (λ bytes. into.new.items ≡ into.old.items ++ piece bytes at len)) }
-    ensures whole { IfOk result (λ whole. OfBytes (S.contents source.now) (λ bytes. 0 < len → whole ≡ nat_le (at + len) (length bytes))) }
-    ensures none { IfOk result (λ whole. len ≡ 0 → whole ≡ true) }
-    ensures all { IfOk result (λ whole. whole ≡ true → length into.new.items ≡ length into.old.items + len) }
-    ensures few { OnOk result (length into.new.items ≤ length into.old.items + len) }
-    ensures kept { take (length into.old.items) into.new.items ≡ into.old.items }
-    ensures device { IsErrOf result Device → S.faultless source.now → ⊥ }
-{
-    let mut came = 0;
-    'reads: while came < len {
-        let place = at + came;
-        if place >= END {
-            return Ok(false);
-        }
-        let room = READ_LEN.min(len - came).min(END - place);
-        let count = append_some(source, place as u64, room as usize, into)?;
-        if count == 0 {
-            return Ok(false);
-        }
-        came += count as u128;
-    }
-    Ok(true)
-}
-
 // What a source has, as bytes that lie at places.
 #[derive(Drop)]
 pub(crate) struct Placed<'a, S: Source>(pub(crate) &'a S);
@@ -89,8 +27,53 @@ impl<'a, S: Source> Places for Placed<'a, S> {
 
     ghost fails = { λ placed fault. fault ≡ Device → S.faultless placed.0.now → ⊥ };
 
+    // By as many reads as it takes. Room is taken as the bytes come.
+    #[tactic(auto, using(crate::proofs::Reading::read_more))]
     fn append(&self, at: u128, len: u128, into: &mut Vec<u8>) -> Result<bool, HolderFault> {
-        append_part(self.0, at, len, into)
+        let mut came = 0;
+        'reads: while came < len {
+            let place = at + came;
+            if place >= END {
+                return Ok(false);
+            }
+            let room = READ_LEN.min(len - came).min(END - place) as usize;
+            let start = into.len();
+            if into.resize(start.saturating_add(room), 0).is_err() {
+                return Err(HolderFault::Memory);
+            }
+            match self
+                .0
+                .read_at(&mut into.as_mut_slice()[start..], place as u64)
+            {
+                Ok(count) => {
+                    into.truncate(start + count);
+                    if count == 0 {
+                        return Ok(false);
+                    }
+                    came += count as u128;
+                }
+                Err(_) => return Err(HolderFault::Device),
+            }
+        }
+        Ok(true)
+    }
+}
+
+// A fault of a fetch that isn't counted, once what the fetch appended is taken back: one of the device is none.
+pub(crate) fn passed_over(
+    fault: HolderFault,
+    before: usize,
+    into: &mut Vec<u8>,
+) -> Result<(), HolderFault>
+    requires { before ≤ length into.old.items }
+    ensures back { into.new.items ≡ take before into.old.items }
+    ensures device { IsErrOf result Device → ⊥ }
+    ensures ok { OnOk result (fault ≡ Device) }
+{
+    into.truncate(before);
+    match fault {
+        HolderFault::Device => Ok(()),
+        HolderFault::Memory => Err(HolderFault::Memory),
     }
 }
 

@@ -1,4 +1,4 @@
-ghost use Rattle.std.specs.Prelude.{◌≡◌, ◌<◌, ◌≤◌, ◌++◌, IfOk, IsErrOf, OnErr, OnOk, map, vec_items};
+ghost use Rattle.std.specs.Prelude.{◌≡◌, [], ◌<◌, ◌≤◌, ◌++◌, IfOk, IsErrOf, OnErr, OnOk, map, vec_items};
 ghost use Rattle.b3tree.specs.Pieces.{piece};
 ghost use Rattle.gather.specs.declared.holder.HolderFault.TheVariants.{Device};
 ghost use Rattle.gather.specs.Holders.{Appends, GivesNoMore};
@@ -35,6 +35,7 @@ impl<'a> Holder for Plain<'a> {
         ensures no_more { GivesNoMore IsPartOf self.old self.new }
         ensures unchanged { OnErr result (into.new.items ≡ into.old.items) }
         ensures device { IsErrOf result Device → 0 < 0 }
+        ensures lost { IsErrOf result Device → IsPartOf self.old start len [] }
         ensures counts { 0 ≤ 0 }
         ensures same { copy_of self.new ≡ copy_of self.old }
         ensures part { OnOk result (into.new.items ≡ into.old.items ++ piece (copy_of self.old) start len) }

@@ -1,12 +1,13 @@
-ghost use Rattle.std.specs.Prelude.{◌≡◌, ◌+◌, ◌-◌, ◌^◌, ◌<◌, ◌≤◌, ◌++◌, length, IsErrOf, OnErr, OnOk};
+ghost use Rattle.std.specs.Prelude.{◌≡◌, [], ◌+◌, ◌-◌, ◌^◌, ◌<◌, ◌≤◌, ◌++◌, length, IsErrOf, OnErr, OnOk};
 ghost use Rattle.b3tree.specs.Pieces.{piece};
 ghost use Rattle.gather.specs.declared.holder.HolderFault.TheVariants.{Device};
 ghost use Rattle.gather.specs.Holders.{Appends, GivesNoMore};
 ghost use Rattle.gather.specs.Places.{IsPartAt, OfBytes};
 
 use crate::holder::{Holder, HolderFault};
-use crate::places::{append_part, taken_back};
+use crate::places::{Placed, taken_back};
 use bao_read::Source;
+use bao_text::Places;
 
 /// The holder over a plain copy of a blob that is read by position, which nobody has checked. Its memory doesn't grow with
 /// the copy. It keeps the source by reference.
@@ -35,11 +36,13 @@ impl<'a, S: Source> Holder for PlainAt<'a, S> {
     /// min(start, N) up to and without min(start + len, N). Room is taken as they come.
     ///
     /// `Device` where a read answered a fault, one of the kind `Interrupted` too, which is not tried again.
+    #[tactic(auto, using(crate::proofs::Appending::of_known, crate::proofs::Appending::undone, crate::proofs::Lending::lost_piece))]
     fn fetch(&mut self, start: u64, len: u64, into: &mut Vec<u8>) -> Result<(), HolderFault>
         ensures appended { OnOk result (Appends (IsPartAt (S.contents self.old.source.now) (S.faultless self.old.source.now) start len) into.old.items into.new.items) }
         ensures no_more { GivesNoMore (λ holder start len text. IsPartAt (S.contents holder.source.now) (S.faultless holder.source.now) start len text) self.old self.new }
         ensures unchanged { OnErr result (into.new.items ≡ into.old.items) }
         ensures device { IsErrOf result Device → self.old.faults < self.new.faults }
+        ensures lost { IsErrOf result Device → IsPartAt (S.contents self.old.source.now) (S.faultless self.old.source.now) start len [] }
         ensures counts { self.old.faults ≤ self.new.faults }
         ensures failed { IsErrOf result Device → S.faultless self.old.source.now → ⊥ }
         ensures same { self.new.source.now ≡ self.old.source.now }
@@ -47,7 +50,7 @@ impl<'a, S: Source> Holder for PlainAt<'a, S> {
         ensures few { OnOk result (length into.new.items ≤ length into.old.items + len) }
     {
         let before = into.len();
-        match append_part(self.source, u128::from(start), u128::from(len), into) {
+        match Placed(self.source).append(u128::from(start), u128::from(len), into) {
             Ok(_) => Ok(()),
             Err(fault) => taken_back(fault, before, &mut self.faults, into),
         }

@@ -1,6 +1,7 @@
 ghost use Rattle.std.specs.Prelude.{◌≡◌};
-ghost use Rattle.gather.specs.Counts.{Fits, checked_once, memory_once, no_counts};
+ghost use Rattle.gather.specs.Counts.{Fits, asked_once, checked_once, lost_once, memory_once, no_counts};
 
+use crate::holder::HolderFault;
 use bao_check::CheckFault;
 
 /// What a worker did. Counts stay at 2^64 - 1 once there.
@@ -46,6 +47,23 @@ impl Report {
         let _parents = self.parents;
         let _memory = self.memory;
         let _failed = self.failed;
+    }
+
+    // Counts a fetch.
+    pub(crate) fn count_asked(&mut self)
+        ensures { self.new ≡ asked_once self.old }
+    {
+        self.asked = self.asked.saturating_add(1);
+    }
+
+    // Counts a fetch that gave no text.
+    pub(crate) fn count_lost(&mut self, fault: HolderFault)
+        ensures { self.new ≡ lost_once fault self.old }
+    {
+        match fault {
+            HolderFault::Device => self.failed = self.failed.saturating_add(1),
+            HolderFault::Memory => self.memory = self.memory.saturating_add(1),
+        }
     }
 
     // Counts a growth that was refused.

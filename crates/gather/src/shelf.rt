@@ -4,11 +4,11 @@ ghost use Rattle.store_core.specs.declared.history.Settling.TheVariants.{OtherRo
 ghost use Rattle.gather.specs.Claims.{Among, AmongAnd, Without};
 ghost use Rattle.bao_check.specs.Tail.{tail_piece};
 ghost use Rattle.store_core.specs.declared.history.Piece.{Piece};
-ghost use Rattle.gather.specs.Available.{IsWanted, Keeps, KeepsBut, Lasts};
+ghost use Rattle.gather.specs.Available.{IsOfOtherLength, IsWanted, Keeps, KeepsBut, Lasts};
 ghost use Rattle.store_core.specs.declared.fault.StoreFault.TheVariants.{Memory};
 ghost use Rattle.store_core.specs.Masks.{in_mask};
 ghost use Rattle.store_core.specs.Stores.{IsOf};
-ghost use Rattle.store_core.specs.Pieces.{holds_chunk, piece_of};
+ghost use Rattle.store_core.specs.Pieces.{holds_chunk, holds_parent, piece_of};
 ghost use Rattle.gather.specs.Counts.{Goes, Still};
 ghost use Rattle.gather.specs.Holders.{IsIt, IsNone};
 ghost use Rattle.gather.specs.Large.{EndsTooFar};
@@ -46,11 +46,14 @@ pub trait Shelf {
     // A chunk is known to be held.
     ghost holds: { Self.Seat → ℕ → Type 0 };
 
+    // A parent is known to be held, by the chunk that its right part begins with.
+    ghost has_parent: { Self.Seat → ℕ → Type 0 };
+
     // Somebody may claim a chunk.
     ghost busy: { Self.Seat → ℕ → Type 0 };
 
     // What is known lasts.
-    ghost lasts: { Lasts gained claims records holds busy };
+    ghost lasts: { Lasts gained claims records holds has_parent busy };
 
     /// The root and the mode of the store's blob, how many chunks it has room for, and from which of the blob's on.
     fn fixed(&self, seat: &Self::Seat) -> Fixed
@@ -96,7 +99,7 @@ pub trait Shelf {
         ensures refused { IfErr result (λ fault. (fault ≡ Memory) ⊎ (¬ IsOf (fixed_of seat.old) piece.now)) };
 
     /// Stores parents of the piece at boundaries of a group, and answers their mask: bit j stands for the parent whose
-    /// right part begins at chunk 64 * group + j.
+    /// right part begins at chunk 64 * group + j. All parents of the piece there are known to be held then.
     ///
     /// At a fault nothing is stored: 701 where there was no memory, 804 where the piece is of another root or mode, 807
     /// where the length that it claims isn't the recorded one, or there is none.
@@ -110,7 +113,9 @@ pub trait Shelf {
         ensures has { has self.now seat.new }
         ensures gained { MatchResult result (λ stored. gained (IsIt (piece_of (fixed_of seat.old).base piece.now)) seat.old seat.new 0 (count_ones stored)) (λ _. gained (IsIt (piece_of (fixed_of seat.old).base piece.now)) seat.old seat.new 0 0) }
         ensures claims { Among (claims seat.old) (claims seat.new) }
-        ensures keeps { Keeps (claims seat.old) (claims seat.new) };
+        ensures keeps { Keeps (claims seat.old) (claims seat.new) }
+        ensures parents { IfOk result (λ _. (m : ℕ) → m / 64 ≡ group → holds_parent (piece_of (fixed_of seat.old).base piece.now) m ≡ true → has_parent seat.new m) }
+        ensures refused { IfErr result (λ fault. (fault ≡ Memory) ⊎ (¬ IsOf (fixed_of seat.old) piece.now) ⊎ IsOfOtherLength records seat.old (piece_of (fixed_of seat.old).base piece.now)) };
 
     /// Records the length in bytes that a piece with the last chunk certifies, if none is recorded.
     fn settle(&self, seat: &mut Self::Seat, tail: &Tail<'_>) -> Settling

@@ -1,10 +1,10 @@
 ghost use Rattle.std.specs.Prelude.{◌≡◌, IfOk, map};
 
-use crate::encoded_at::EncodedAt;
 use crate::holder::{Holder, HolderFault};
 use crate::lists::Lists;
-use crate::plain_at::PlainAt;
+use crate::places::{Placed, passed_over};
 use bao_read::Source;
+use bao_text::{Places, append_cut};
 use std::alloc::{AllocError, Global};
 
 /// The holder over a source that may be a combined encoding. A read that fails gives nothing, and isn't counted.
@@ -18,13 +18,12 @@ impl<'a, S: Source> Holder for SourceAt<'a, S> {
 
     ghost gives = { λ holder start len text. IsCutAt (S.contents holder.0.now) (S.faultless holder.0.now) start len text };
 
-    #[tactic(auto, using(crate::proofs::Lending::lost_appends))]
+    #[tactic(auto, using(crate::proofs::Appending::undone))]
     fn fetch(&mut self, start: u64, len: u64, into: &mut Vec<u8>) -> Result<(), HolderFault> {
-        let mut holder = EncodedAt::new(self.0);
-        match holder.fetch(start, len, into) {
+        let before = into.len();
+        match append_cut(&Placed(self.0), start, len, into) {
             Ok(()) => Ok(()),
-            Err(HolderFault::Device) => Ok(()),
-            Err(HolderFault::Memory) => Err(HolderFault::Memory),
+            Err(fault) => passed_over(fault, before, into),
         }
     }
 
@@ -44,13 +43,12 @@ impl<'a, S: Source> Holder for CopyAt<'a, S> {
 
     ghost gives = { λ holder start len text. IsPartAt (S.contents holder.0.now) (S.faultless holder.0.now) start len text };
 
-    #[tactic(auto, using(crate::proofs::Lending::lost_part))]
+    #[tactic(auto, using(crate::proofs::Appending::undone, crate::proofs::Lending::lost_part))]
     fn fetch(&mut self, start: u64, len: u64, into: &mut Vec<u8>) -> Result<(), HolderFault> {
-        let mut holder = PlainAt::new(self.0);
-        match holder.fetch(start, len, into) {
-            Ok(()) => Ok(()),
-            Err(HolderFault::Device) => Ok(()),
-            Err(HolderFault::Memory) => Err(HolderFault::Memory),
+        let before = into.len();
+        match Placed(self.0).append(u128::from(start), u128::from(len), into) {
+            Ok(_) => Ok(()),
+            Err(fault) => passed_over(fault, before, into),
         }
     }
 

@@ -1,4 +1,4 @@
-ghost use Rattle.std.specs.Prelude.{IfSome, IsSome, IsTrue, List, length, true, false, ◌⊎◌, ◌≡◌, ℕ, ◌-◌, ◌*◌, ◌^◌, ◌<◌, ◌≤◌, Bool, nat_lt, sum_by};
+ghost use Rattle.std.specs.Prelude.{IfSome, IsSome, IsTrue, List, length, true, false, ◌⊎◌, ◌≡◌, ℕ, ◌-◌, ◌*◌, ◌^◌, ◌<◌, ◌≤◌, [], Bool, IfNone, nat_lt, sum_by};
 ghost use Rattle.gather.specs.Claims.{Among, AmongAnd};
 ghost use Rattle.bao_text.specs.Choice.{chunk_count};
 ghost use Rattle.store_core.specs.Masks.{in_mask};
@@ -6,12 +6,12 @@ ghost use Rattle.gather.specs.Available.{GivesSlice, HasSlice, HaveSlices, IsFil
 ghost use Rattle.gather.specs.declared.grain.Grain.TheVariants.{Group as ByGroup};
 ghost use Rattle.gather.specs.Forms.{AreSlices, IsLengthOf, IsPart, made_of};
 ghost use Rattle.store_core.specs.Pieces.{holds_chunk};
-ghost use Rattle.gather.specs.Counts.{Fits, HasFailed, IsFetch, Reports};
+ghost use Rattle.gather.specs.Counts.{HasFailed, Reports};
 ghost use Rattle.gather.specs.Large.{IsTooLarge};
 ghost use Rattle.gather.specs.Holders.{AreLater, GivesNoMore, IsGiven, IsHanded};
 
 use crate::form::{Form, Part};
-use crate::holder::{Holder, HolderFault};
+use crate::holder::Holder;
 use crate::masks::{MAX_GROUPS, without};
 use crate::parents::store_parents;
 use crate::report::Report;
@@ -26,34 +26,6 @@ use store_core::{Settling, StoreFault, mask_below};
 pub struct Place {
     pub number: u32,
     pub workers: u32,
-}
-
-// One fetch of a text, with its counts, into the room that a worker has for one: the last text goes.
-fn fetched<'a, H: Holder>(
-    holder: &mut H,
-    part: &Part,
-    room: &'a mut Vec<u8>,
-    report: &mut Report,
-) -> Option<&'a Vec<u8>>
-    ensures fetch { IsFetch (H.count holder.old) (H.count holder.new) result report.old report.new }
-    ensures gives { IfSome result (λ text. H.gives holder.old part.now.start part.now.len text.now.items) }
-    ensures no_more { GivesNoMore H.gives holder.old holder.new }
-    ensures fits { Fits report.old }
-{
-    report.fits();
-    report.asked = report.asked.saturating_add(1);
-    room.clear();
-    match holder.fetch(part.start, part.len, room) {
-        Ok(()) => Some(room),
-        Err(HolderFault::Device) => {
-            report.failed = report.failed.saturating_add(1);
-            None
-        }
-        Err(HolderFault::Memory) => {
-            report.count_memory();
-            None
-        }
-    }
 }
 
 // Asks one holder for the last chunk, settles the length that its text certifies, stores the text's parents, and
@@ -78,11 +50,18 @@ fn ask_end<S: Shelf, H: Holder>(
     ensures large { IsTrue result → IsTooLarge (IsGiven (made_of form.now H.gives) holder.old) (S.fixed_of seat.old) }
 {
     let part = form.end();
-    let Some(text) = fetched(holder, &part, room, report) else {
-        return false;
-    };
+    report.fits();
+    report.count_asked();
+    room.clear();
+    match holder.fetch(part.start, part.len, room) {
+        Ok(()) => {}
+        Err(fault) => {
+            report.count_lost(fault);
+            return false;
+        }
+    }
     let fixed = shelf.fixed(seat);
-    match form.check(alloc, &fixed, &part, text.as_slice()) {
+    match form.check(alloc, &fixed, &part, room.as_slice()) {
         Ok(piece) => {
             let Some(tail) = piece.tail() else {
                 return false;
@@ -142,8 +121,8 @@ pub(crate) fn agree<S: Shelf, H: Holder>(
     }
 }
 
-// Asks one holder for a part of a blob, commits what its text holds of a group's chunks that are left, stores the text's
-// parents, and answers those that are left then.
+// Asks one holder for a part of a blob, whose text comes in the place of the last one. Commits what it holds of a group's
+// chunks that are left, stores its parents, and answers the chunks that are left then.
 #[tactic(auto, using(crate::proofs::Forming::made_no_more))]
 fn ask<S: Shelf, H: Holder>(
     alloc: Global,
@@ -154,7 +133,7 @@ fn ask<S: Shelf, H: Holder>(
     part: &Part,
     group: u32,
     left: u64,
-    room: &mut Vec<u8>,
+    text: &mut Vec<u8>,
     report: &mut Report,
 ) -> u64
     requires has { S.has shelf.now seat.old }
@@ -170,9 +149,16 @@ fn ask<S: Shelf, H: Holder>(
         → ((c : ℕ) → in_mask group left c ≡ true → (S.claims seat.old c ≡ true) × (holds_chunk (slice_of (S.fixed_of seat.old) blob part.now.start part.now.len) c ≡ true))
         → HasFailed report.new ⊎ ((c : ℕ) → in_mask group result c ≡ false) }
 {
-    let Some(text) = fetched(holder, part, room, report) else {
-        return left;
-    };
+    report.fits();
+    report.count_asked();
+    text.clear();
+    match holder.fetch(part.start, part.len, text) {
+        Ok(()) => {}
+        Err(fault) => {
+            report.count_lost(fault);
+            return left;
+        }
+    }
     let fixed = shelf.fixed(seat);
     match form.check(alloc, &fixed, part, text.as_slice()) {
         Ok(piece) => match shelf.commit(seat, group, &piece) {

@@ -3,8 +3,8 @@ use Rattle.crews.specs.declared.crew.Crew.{Crew}
 use Rattle.crews.specs.Crews.{IsHandedTo, all_of}
 use Rattle.crews.specs.Joined.{AreCallsOf, AreClaimsOf, HasAllNamesOf, HaveAllNames}
 use Rattle.crews.specs.Seats.{BeginsAfter}
-use Rattle.crews.proofs.Summing.{all_each, failed_all, large_all}
-use Rattle.crews.proofs.Whence.{handed_wide, left_to_one, lent_all, no_faults, opening_all}
+use Rattle.crews.proofs.Summing.{all_each, large_all}
+use Rattle.crews.proofs.Whence.{handed_wide, left_to_one, lent_all, opening_all}
 use Rattle.crews.proofs.gathering.gather_within.Goals as goal
 
 pub all_joined-seat-requires-clause-crews : goal.all_joined-seat-requires-clause-crews
@@ -36,13 +36,6 @@ hand_out-requires-clause-left g c = λ _ _.
     (subst (λ (crews : List (Crew g.row.H.Denot)). AreCallsOf stays crews joined) put c.all_joined-seat.ensures.calls)
     (subst (λ (crews : List (Crew g.row.H.Denot)). HasAllNamesOf stays crews joined) put c.all_joined-seat.ensures.has)
     (subst (λ (crews : List (Crew g.row.H.Denot)). AreClaimsOf stays crews joined) put c.all_joined-seat.ensures.claims)
-
-pub hand_out-requires-clause-failed : goal.hand_out-requires-clause-failed
-hand_out-requires-clause-failed g c =
-    let put = with_items_is c.in_ok-crews.crews c.first_round.new.crews (omega (arith, c.first_round.ensures.len, c.as_mut_slice.ensures.len)) in
-    let told : c.all_reports-report.result ≡ all_of c.first_round.new.crews = c.all_reports-report.ensures ∙ ap all_of (c.as_slice.ensures.value ∙ put) in
-    let few = failed_all c.in_ok-assembly.assembly (made_of c.args.form.now g.H.Holder.gives) g.H.Holder.count _ c.first_round.new.crews c.first_round.ensures in
-    omega (arith, few, ap (λ (report : Report). report.failed) told, no_faults g.H.Holder.count c.requires.quiet c.first_round.new.crews)
 
 pub hand_out-requires-clause-large : goal.hand_out-requires-clause-large
 hand_out-requires-clause-large g c = λ _ _ large.

@@ -80,7 +80,7 @@ returns-in-Err-ended-clause-available g c = λ form blob is first room there.
     let told = why_unfinished c.in-Err-ended.fault c.closing_rounds.new.report (sym c.why.ensures ∙ cc) in
     unfinished_handed _ gives g.H.Holder.count handed fixed c.args.seat c.closing_rounds.new.seat c.certify-ended.result.1.view c.look_round.new.seat.view holders
     c.closing_rounds.new.holders c.args.report c.closing_rounds.new.report wide c.requires.of.knows.fixed_is met.of.knows.fixed_is c.requires.left met.reports
-    c.certify-ended.ensures.on c.look_round.ensures.looked c.args.grain blob c.requires.quiet keyed is first room c.args.assembly.words.limit
+    c.certify-ended.ensures.on c.look_round.ensures.looked c.args.grain blob keyed is first room c.args.assembly.words.limit
     (there holders (subst (λ (all : List g.row.H.Denot). g.L.Lists.over c.args.lists.now all) (sym c.as_mut_slice.ensures.value) c.in-Ok.ensures) (omega (arith, room, c.args.assembly.words.limit)))
-    (subst (λ (f : Fixed). IsLegal f c.certify-ended.result.1.view.seen) of.knows.fixed_is of.knows.legal) c.requires.failed told.1
+    (subst (λ (f : Fixed). IsLegal f c.certify-ended.result.1.view.seen) of.knows.fixed_is of.knows.legal) told.1
     (λ slices has. met.served form blob slices has) (c.certify-ended.ensures.unfinished (c.in-Err-ended.is ∙ ap unfinished_by told.0)))

@@ -2,7 +2,7 @@ use Rattle.gather.proofs.Common.{length, sym, ◌<◌, ◌≤◌, ◌⊎◌, ℕ
 use Rattle.gather.proofs.texts.gather_within.Goals as goal
 use Rattle.gather.proofs.Answering.{certifies_none, certifies_ok, gathers_none, gathers_ok, out_by, store_refused, why_gathers, why_unfinished}
 use Rattle.gather.proofs.Binding.{handed_cut, of_blob, of_none}
-use Rattle.gather.proofs.Handing.{large_pair, none_failed, text_true, unfinished_pair}
+use Rattle.gather.proofs.Handing.{large_pair, text_true, unfinished_pair}
 use Rattle.gather.proofs.Lending.{slices_mapped}
 use Rattle.gather.proofs.Reporting.{large_wider}
 use Rattle.gather.proofs.Serving.{true_slices}
@@ -87,8 +87,7 @@ returns-clause-covered c = λ blob is room have.
     out_by vec_items cut fixed blob (Err c.why.result) (returns-clause-gathers c) is (λ e. large ((returns-clause-gathers c).too_large e)) (λ e.
     let told = why_unfinished c.in-Err-finish_one.fault report (sym c.why.ensures ∙ cc) in
     elim (available blob is refl room (slices_mapped encoding cut_gives ByGroup c.args.mode blob holders texts over have)) [
-      | inl (inl memory) ↦ absurd (omega (arith, memory, told.1))
-      | inl (inr failed) ↦ absurd (omega (arith, failed, met.failed, none_failed (λ (holder : Encoded). 0) (λ holder. refl) c.run_one-report.new.holders))
+      | inl memory ↦ absurd (omega (arith, memory, told.1))
       | inr (inl too) ↦ large (large_wider _ cut (handed_cut holders texts over) fixed too)
       | inr (inr filled) ↦
           unfinished_pair cut fixed store c.run_one-report.new.store met.worked.chunks met.worked.parents blob made.fixed_is c.is_keyed.ensures is made.state

@@ -1,14 +1,16 @@
-use Rattle.gather.proofs.Common.{refl, sym, subst, arith, piece_of, ◌≡◌, ◌/◌, ◌%◌, ◌==◌, false, true, inl, inr, eqb-true, and_parts, both_ways, cases_Bool, Piece, has_bit, in_mask, holds_chunk}
+use Rattle.gather.proofs.Common.{Err, ap, refl, sym, subst, arith, piece_of, ◌≡◌, ◌/◌, ◌%◌, ◌==◌, false, true, inl, inr, eqb-true, and_parts, both_ways, cases_Bool, Piece, has_bit, in_mask, holds_chunk}
+use Rattle.gather.specs.declared.holder.HolderFault.{HolderFault}
 use Rattle.gather.specs.declared.report.Report.{Report}
 use Rattle.gather.specs.Counts.{Fits, Reports}
 use Rattle.gather.specs.Holders.{IsGiven}
 use Rattle.gather.proofs.Gaining.{among_and_onward, among_committed}
-use Rattle.gather.proofs.Reporting.{starved, beside, fetch_none, fetch_some, it_gained, narrowed, none_gained, onward, refused_done, stored_some}
+use Rattle.gather.proofs.Appending.{appended_all}
+use Rattle.gather.proofs.Reporting.{starved, beside, fetch_fault, fetch_some, lost_or_failed, it_gained, narrowed, none_gained, onward, refused_done, stored_some}
 use Rattle.gather.specs.Available.{slice_of}
 use Rattle.gather.proofs.Bits.{in_without}
-use Rattle.gather.proofs.Serving.{fetch_failed, rest_parts}
+use Rattle.gather.proofs.Serving.{rest_parts}
 use Rattle.gather.specs.Forms.{made_of}
-use Rattle.gather.proofs.Forming.{made_given, made_no_more, slice_given, slice_made, slice_of_store, slice_refused}
+use Rattle.gather.proofs.Forming.{made_given, made_no_more, slice_given, slice_lost, slice_made, slice_of_store, slice_refused}
 use Rattle.gather.proofs.worker.ask.Goals as goal
 
 pub returns-in-Ok-commit-clause-claims : goal.returns-in-Ok-commit-clause-claims
@@ -18,27 +20,32 @@ returns-in-Ok-commit-clause-claims g c = λ before among.
 
 pub returns-in-Err-clause-reports : goal.returns-in-Err-clause-reports
 returns-in-Err-clause-reports g c =
-    refused_done g.S.Shelf.fixed_of g.S.Shelf.gained g.S.Shelf.goes _ _ _ _ _ _ _ _ c.in-Err.fault (λ piece is. made_no_more c.args.form.now g.H.Holder.gives _ _ c.in-Some.ensures.no_more _ _ _ is) c.in-Some.ensures.fits c.in-Some.ensures.fetch c.count_refused.ensures
+    fetch_fault g.S.Shelf.fixed_of g.S.Shelf.gained g.S.Shelf.goes _ _ _ _ _ _ _ _ c.in-Err.fault (λ piece is. made_no_more c.args.form.now g.H.Holder.gives _ _ c.in-Err.ensures.no_more _ _ _ is) c.fits.ensures c.count_asked.ensures c.count_lost.ensures
+    c.in-Err.ensures.counts (λ device. c.in-Err.ensures.device (ap (λ (f : HolderFault). Err f) device))
 
-pub returns-in_default-clause-reports : goal.returns-in_default-clause-reports
-returns-in_default-clause-reports g c =
-    fetch_none g.S.Shelf.fixed_of g.S.Shelf.gained g.S.Shelf.goes _ _ _ _ _ _ _ (λ piece is. made_no_more c.args.form.now g.H.Holder.gives _ _ c.in_default.ensures.no_more _ _ _ is) c.in_default.ensures.fits c.in_default.ensures.fetch
+pub returns-in-Err-clause-served : goal.returns-in-Err-clause-served
+returns-in-Err-clause-served g c = λ are blob served slices asked.
+    elim (lost_or_failed _ _ c.in-Err.fault c.count_lost.ensures (λ device. c.in-Err.ensures.lost (ap (λ (f : HolderFault). Err f) device))) [
+      | inl failed ↦ inl failed
+      | inr lost ↦ absurd (slice_lost c.args.form.now g.H.Holder.gives (g.S.Shelf.fixed_of c.args.seat.now).mode blob c.args.holder.now c.args.part.now are slices lost)
+    ]
+
+pub returns-in-Err-check-clause-reports : goal.returns-in-Err-check-clause-reports
+returns-in-Err-check-clause-reports g c =
+    refused_done g.S.Shelf.fixed_of g.S.Shelf.gained g.S.Shelf.goes _ _ _ _ _ _ _ _ c.in-Err-check.fault (λ piece is. made_no_more c.args.form.now g.H.Holder.gives _ _ c.in-Ok.ensures.no_more _ _ _ is) c.fits.ensures (c.in-Ok.ensures.counts, c.count_asked.ensures) c.count_refused.ensures
 
 pub returns-in-Ok-commit-clause-reports : goal.returns-in-Ok-commit-clause-reports
 returns-in-Ok-commit-clause-reports g c =
     let A = IsGiven (made_of c.args.form.now g.H.Holder.gives) c.args.holder.now in
-    let given : A (piece_of (g.S.Shelf.fixed_of c.args.seat.now).base c.in-Ok.piece) = made_given c.args.form.now g.H.Holder.gives c.args.holder.now c.args.part.now c.as_slice.result.now _ (piece_of (g.S.Shelf.fixed_of c.args.seat.now).base c.in-Ok.piece) c.as_slice.ensures.value c.in-Some.ensures.gives (c.in-Ok.ensures.made _) in
-    let y = c.fetched.new.report in
-    let asked = fetch_some g.S.Shelf.fixed_of g.S.Shelf.gained g.S.Shelf.goes _ _ A A _ _ _ y (none_gained g.S.Shelf.fixed_of g.S.Shelf.gained g.S.Shelf.goes A c.args.seat.now) (λ piece is. is) c.in-Some.ensures.fits c.in-Some.ensures.fetch in
-    let fits : Fits y = subst (λ (x : Report). Fits x) (sym c.in-Some.ensures.fetch.1) c.in-Some.ensures.fits in
+    let given : A (piece_of (g.S.Shelf.fixed_of c.args.seat.now).base c.in-Ok-check.piece) = made_given c.args.form.now g.H.Holder.gives c.args.holder.now c.args.part.now c.as_slice.result.now _ (piece_of (g.S.Shelf.fixed_of c.args.seat.now).base c.in-Ok-check.piece) c.as_slice.ensures.value (appended_all _ _ _ c.clear.ensures.items c.in-Ok.ensures.appended) (c.in-Ok-check.ensures.made _) in
+    let y = c.count_asked.new.self in
+    let asked = fetch_some g.S.Shelf.fixed_of g.S.Shelf.gained g.S.Shelf.goes _ _ A A _ _ _ y (none_gained g.S.Shelf.fixed_of g.S.Shelf.gained g.S.Shelf.goes A c.args.seat.now) (λ piece is. is) c.fits.ensures (c.in-Ok.ensures.counts, c.count_asked.ensures) in
+    let fits : Fits y = subst (λ (x : Report). Fits x) (sym c.count_asked.ensures) c.fits.ensures in
     let committed = stored_some g.S.Shelf.fixed_of g.S.Shelf.gained g.S.Shelf.goes _ _ A _ y _ 0 c.saturating_add-report.result y.parents (it_gained g.S.Shelf.fixed_of g.S.Shelf.gained g.S.Shelf.goes A _ _ _ _ 0 given c.in-Ok-commit.ensures.gained)
     (omega (arith, c.saturating_add-report.ensures, c.from.ensures)) (omega (arith, fits.1)) in
     let both = onward g.S.Shelf.fixed_of g.S.Shelf.gained g.S.Shelf.goes _ _ _ A A A _ _ _ _ _ _ asked committed in
-    narrowed g.S.Shelf.fixed_of g.S.Shelf.gained g.S.Shelf.goes _ _ A _ _ _ _ _ (λ piece is. made_no_more c.args.form.now g.H.Holder.gives _ _ c.in-Some.ensures.no_more _ _ _ is)
+    narrowed g.S.Shelf.fixed_of g.S.Shelf.gained g.S.Shelf.goes _ _ A _ _ _ _ _ (λ piece is. made_no_more c.args.form.now g.H.Holder.gives _ _ c.in-Ok.ensures.no_more _ _ _ is)
     (onward g.S.Shelf.fixed_of g.S.Shelf.gained g.S.Shelf.goes _ _ _ A A A _ _ _ _ _ _ both (beside g.S.Shelf.fixed_of g.S.Shelf.gained g.S.Shelf.goes _ _ A _ _ _ _ given c.store_parents.ensures.reports))
-
-pub returns-in_default-clause-served : goal.returns-in_default-clause-served
-returns-in_default-clause-served g c = λ are blob served slices asked. inl (fetch_failed _ _ _ _ c.in_default.ensures.fetch)
 
 pub returns-in-Ok-commit-clause-fewer : goal.returns-in-Ok-commit-clause-fewer
 returns-in-Ok-commit-clause-fewer g c = λ n hit. (rest_parts c.args.group c.args.left c.in-Ok-commit.committed _ n c.without.ensures hit).0
@@ -60,43 +67,43 @@ returns-in-Ok-commit-clause-kept g c = λ n asked claimed.
 pub returns-in-Ok-commit-clause-served : goal.returns-in-Ok-commit-clause-served
 returns-in-Ok-commit-clause-served g c = λ are blob served slices asked.
     let F = g.S.Shelf.fixed_of c.args.seat.now in
-    let text = slice_given c.args.form.now g.H.Holder.gives F.mode blob c.args.holder.now c.args.part.now c.as_slice.result.now _ are slices c.as_slice.ensures.value c.in-Some.ensures.gives in
-    let is : piece_of (g.S.Shelf.fixed_of c.args.seat.now).base c.in-Ok.piece ≡ slice_of F blob c.args.part.now.start c.args.part.now.len =
-    slice_made c.args.form.now F _ c.args.part.now _ c.in-Ok.piece blob _ _ are refl refl text c.in-Ok.ensures.slice in
+    let text = slice_given c.args.form.now g.H.Holder.gives F.mode blob c.args.holder.now c.args.part.now c.as_slice.result.now _ are slices c.as_slice.ensures.value (appended_all _ _ _ c.clear.ensures.items c.in-Ok.ensures.appended) in
+    let is : piece_of (g.S.Shelf.fixed_of c.args.seat.now).base c.in-Ok-check.piece ≡ slice_of F blob c.args.part.now.start c.args.part.now.len =
+    slice_made c.args.form.now F _ c.args.part.now _ c.in-Ok-check.piece blob _ _ are refl refl text c.in-Ok-check.ensures.slice in
     inr (λ n. elim (cases_Bool (in_mask c.args.group c.without.result n)) [
       | inr out ↦ out
       | inl rest ↦
           let parts = rest_parts c.args.group c.args.left c.in-Ok-commit.committed _ n c.without.ensures rest in
           let here : n / 64 ≡ c.args.group = eqb-true (n / 64) c.args.group (and_parts (n / 64 == c.args.group) (has_bit c.args.left (n % 64)) parts.0).0 in
           let known = asked n parts.0 in
-          let has : holds_chunk (piece_of (g.S.Shelf.fixed_of c.args.seat.now).base c.in-Ok.piece) n ≡ true = subst (λ (piece : Piece). holds_chunk piece n ≡ true) (sym is) known.1 in
+          let has : holds_chunk (piece_of (g.S.Shelf.fixed_of c.args.seat.now).base c.in-Ok-check.piece) n ≡ true = subst (λ (piece : Piece). holds_chunk piece n ≡ true) (sym is) known.1 in
           absurd (both_ways _ parts.1 (c.in-Ok-commit.ensures.all n here known.0 has))
     ])
 
-pub returns-in-Err-clause-served : goal.returns-in-Err-clause-served
-returns-in-Err-clause-served g c = λ are blob served slices asked.
+pub returns-in-Err-check-clause-served : goal.returns-in-Err-check-clause-served
+returns-in-Err-check-clause-served g c = λ are blob served slices asked.
     let F = g.S.Shelf.fixed_of c.args.seat.now in
-    let text = slice_given c.args.form.now g.H.Holder.gives F.mode blob c.args.holder.now c.args.part.now c.as_slice.result.now _ are slices c.as_slice.ensures.value c.in-Some.ensures.gives in
-    absurd (slice_refused c.args.form.now F c.fixed-fixed.result c.args.part.now _ blob _ are served c.fixed-fixed.ensures text c.in-Err.ensures.slice)
+    let text = slice_given c.args.form.now g.H.Holder.gives F.mode blob c.args.holder.now c.args.part.now c.as_slice.result.now _ are slices c.as_slice.ensures.value (appended_all _ _ _ c.clear.ensures.items c.in-Ok.ensures.appended) in
+    absurd (slice_refused c.args.form.now F c.fixed-fixed.result c.args.part.now _ blob _ are served c.fixed-fixed.ensures text c.in-Err-check.ensures.slice)
 
 pub returns-then-eq-clause-reports : goal.returns-then-eq-clause-reports
 returns-then-eq-clause-reports g c =
     let A = IsGiven (made_of c.args.form.now g.H.Holder.gives) c.args.holder.now in
-    let given : A (piece_of (g.S.Shelf.fixed_of c.args.seat.now).base c.in-Ok.piece) = made_given c.args.form.now g.H.Holder.gives c.args.holder.now c.args.part.now c.as_slice.result.now _ (piece_of (g.S.Shelf.fixed_of c.args.seat.now).base c.in-Ok.piece) c.as_slice.ensures.value c.in-Some.ensures.gives (c.in-Ok.ensures.made _) in
-    let asked = fetch_some g.S.Shelf.fixed_of g.S.Shelf.gained g.S.Shelf.goes _ _ _ _ _ _ _ _ (it_gained g.S.Shelf.fixed_of g.S.Shelf.gained g.S.Shelf.goes A _ _ _ 0 0 given c.in-Err-commit.ensures.gained) (λ piece is. made_no_more c.args.form.now g.H.Holder.gives _ _ c.in-Some.ensures.no_more _ _ _ is)
-    c.in-Some.ensures.fits c.in-Some.ensures.fetch in
-    subst (λ (y : Report). Reports g.S.Shelf.fixed_of g.S.Shelf.gained c.args.seat.now c.commit.new.seat A (IsGiven (made_of c.args.form.now g.H.Holder.gives) c.fetched.new.holder)
-    (g.H.Holder.count c.args.holder.now) (g.H.Holder.count c.fetched.new.holder) c.args.report.now y) (sym c.count_memory.ensures) (starved g.S.Shelf.fixed_of g.S.Shelf.gained g.S.Shelf.goes _ _ _ _ _ _ _ _ c.in-Some.ensures.fits asked)
+    let given : A (piece_of (g.S.Shelf.fixed_of c.args.seat.now).base c.in-Ok-check.piece) = made_given c.args.form.now g.H.Holder.gives c.args.holder.now c.args.part.now c.as_slice.result.now _ (piece_of (g.S.Shelf.fixed_of c.args.seat.now).base c.in-Ok-check.piece) c.as_slice.ensures.value (appended_all _ _ _ c.clear.ensures.items c.in-Ok.ensures.appended) (c.in-Ok-check.ensures.made _) in
+    let asked = fetch_some g.S.Shelf.fixed_of g.S.Shelf.gained g.S.Shelf.goes _ _ _ _ _ _ _ _ (it_gained g.S.Shelf.fixed_of g.S.Shelf.gained g.S.Shelf.goes A _ _ _ 0 0 given c.in-Err-commit.ensures.gained) (λ piece is. made_no_more c.args.form.now g.H.Holder.gives _ _ c.in-Ok.ensures.no_more _ _ _ is)
+    c.fits.ensures (c.in-Ok.ensures.counts, c.count_asked.ensures) in
+    subst (λ (y : Report). Reports g.S.Shelf.fixed_of g.S.Shelf.gained c.args.seat.now c.commit.new.seat A (IsGiven (made_of c.args.form.now g.H.Holder.gives) c.fetch.new.self)
+    (g.H.Holder.count c.args.holder.now) (g.H.Holder.count c.fetch.new.self) c.args.report.now y) (sym c.count_memory.ensures) (starved g.S.Shelf.fixed_of g.S.Shelf.gained g.S.Shelf.goes _ _ _ _ _ _ _ _ c.fits.ensures asked)
 
 pub returns-else-eq-clause-reports : goal.returns-else-eq-clause-reports
 returns-else-eq-clause-reports g c =
     let A = IsGiven (made_of c.args.form.now g.H.Holder.gives) c.args.holder.now in
-    let given : A (piece_of (g.S.Shelf.fixed_of c.args.seat.now).base c.in-Ok.piece) = made_given c.args.form.now g.H.Holder.gives c.args.holder.now c.args.part.now c.as_slice.result.now _ (piece_of (g.S.Shelf.fixed_of c.args.seat.now).base c.in-Ok.piece) c.as_slice.ensures.value c.in-Some.ensures.gives (c.in-Ok.ensures.made _) in
-    fetch_some g.S.Shelf.fixed_of g.S.Shelf.gained g.S.Shelf.goes _ _ _ _ _ _ _ _ (it_gained g.S.Shelf.fixed_of g.S.Shelf.gained g.S.Shelf.goes A _ _ _ 0 0 given c.in-Err-commit.ensures.gained) (λ piece is. made_no_more c.args.form.now g.H.Holder.gives _ _ c.in-Some.ensures.no_more _ _ _ is)
-    c.in-Some.ensures.fits c.in-Some.ensures.fetch
+    let given : A (piece_of (g.S.Shelf.fixed_of c.args.seat.now).base c.in-Ok-check.piece) = made_given c.args.form.now g.H.Holder.gives c.args.holder.now c.args.part.now c.as_slice.result.now _ (piece_of (g.S.Shelf.fixed_of c.args.seat.now).base c.in-Ok-check.piece) c.as_slice.ensures.value (appended_all _ _ _ c.clear.ensures.items c.in-Ok.ensures.appended) (c.in-Ok-check.ensures.made _) in
+    fetch_some g.S.Shelf.fixed_of g.S.Shelf.gained g.S.Shelf.goes _ _ _ _ _ _ _ _ (it_gained g.S.Shelf.fixed_of g.S.Shelf.gained g.S.Shelf.goes A _ _ _ 0 0 given c.in-Err-commit.ensures.gained) (λ piece is. made_no_more c.args.form.now g.H.Holder.gives _ _ c.in-Ok.ensures.no_more _ _ _ is)
+    c.fits.ensures (c.in-Ok.ensures.counts, c.count_asked.ensures)
 
 pub returns-else-eq-clause-served : goal.returns-else-eq-clause-served
 returns-else-eq-clause-served g c = λ are blob served slices asked. elim c.in-Err-commit.ensures.refused [
   | inl memory ↦ let no : false ≡ true = rw memory at c.if-eq.ensures in cc
-  | inr other ↦ absurd (other (slice_of_store c.args.form.now (g.S.Shelf.fixed_of c.args.seat.now) c.fixed-fixed.result c.args.part.now _ c.in-Ok.piece are c.fixed-fixed.ensures c.in-Ok.ensures.slice))
+  | inr other ↦ absurd (other (slice_of_store c.args.form.now (g.S.Shelf.fixed_of c.args.seat.now) c.fixed-fixed.result c.args.part.now _ c.in-Ok-check.piece are c.fixed-fixed.ensures c.in-Ok-check.ensures.slice))
 ]

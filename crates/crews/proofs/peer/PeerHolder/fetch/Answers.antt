@@ -1,5 +1,7 @@
-use Rattle.crews.proofs.Common.{ℕ, List, [], ◌++◌, ◌∙◌, ap, append-nil, inl, inr, refl, subst, sym, ServeFault, Serve, Lacking, NoLength, Text, SeatIsRefused, Called}
+use Rattle.crews.proofs.Common.{ℕ, List, [], ◌++◌, ◌∙◌, ap, append-nil, inl, inr, refl, rules, eqb-true, length, vec_len, ◌≡◌, subst, sym, ServeFault, Serve, Lacking, NoLength, Text, SeatIsRefused, Called}
+use Rattle.std.proofs.lemmas.List.{nil_from_length}
 use Rattle.crews.specs.Peers.{Peered}
+use Rattle.crews.proofs.Giving.{fetch_gives}
 use Rattle.crews.proofs.peer.PeerHolder.fetch.Goals as goal
 
 pub returns-in-Err-NoLength-clause-fetches : goal.returns-in-Err-NoLength-clause-fetches
@@ -25,3 +27,24 @@ returns-in-Ok-extend_from_slice-clause-fetches c =
     let called : Called (Serve c.args.start c.args.len (Text text)) c.args.self.now.seat.view c.serve_slice.new.seat.view =
     subst (λ (p : Peered). Called (Serve c.args.start c.args.len (Text text)) p.seat.view c.serve_slice.new.seat.view) c.self.view_is c.in-Ok.ensures.served in
     record { text = text; is = c.in-Ok-extend_from_slice.ensures.items ∙ ap (λ (xs : List ℕ). c.args.into.now.items ++ xs) c.as_slice.ensures.value; served = inl called; binds = inr c.in-Ok.ensures.binds }
+
+pub returns-in-Err-NoLength-clause-gives : goal.returns-in-Err-NoLength-clause-gives
+returns-in-Err-NoLength-clause-gives c = fetch_gives _ _ _ _ _ _ (returns-in-Err-NoLength-clause-fetches c)
+
+pub returns-in-Err-Lacking-clause-gives : goal.returns-in-Err-Lacking-clause-gives
+returns-in-Err-Lacking-clause-gives c = fetch_gives _ _ _ _ _ _ (returns-in-Err-Lacking-clause-fetches c)
+
+pub returns-in-Ok-extend_from_slice-clause-gives : goal.returns-in-Ok-extend_from_slice-clause-gives
+returns-in-Ok-extend_from_slice-clause-gives c = fetch_gives _ _ _ _ _ _ (returns-in-Ok-extend_from_slice-clause-fetches c)
+
+pub returns-then-is_empty-clause-fetches : goal.returns-then-is_empty-clause-fetches
+returns-then-is_empty-clause-fetches c =
+    let text = c.in-Ok.text.items in
+    let called : Called (Serve c.args.start c.args.len (Text text)) c.args.self.now.seat.view c.serve_slice.new.seat.view =
+    subst (λ (p : Peered). Called (Serve c.args.start c.args.len (Text text)) p.seat.view c.serve_slice.new.seat.view) c.self.view_is c.in-Ok.ensures.served in
+    let long : vec_len c.args.into.now ≡ length c.args.into.now.items = search rules in
+    let empty : c.args.into.now.items ≡ [] = nil_from_length c.args.into.now.items (sym long ∙ eqb-true (vec_len c.args.into.now) 0 (sym c.if-is_empty.ensures)) in
+    record { text = text; is = ap (λ (xs : List ℕ). xs ++ text) (sym empty); served = inl called; binds = inr c.in-Ok.ensures.binds }
+
+pub returns-then-is_empty-clause-gives : goal.returns-then-is_empty-clause-gives
+returns-then-is_empty-clause-gives c = fetch_gives _ _ _ _ _ _ (returns-then-is_empty-clause-fetches c)

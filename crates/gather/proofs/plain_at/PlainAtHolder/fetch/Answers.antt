@@ -1,7 +1,7 @@
-use Rattle.gather.proofs.Common.{ℕ, List, subst, piece}
+use Rattle.gather.proofs.Common.{ℕ, List, subst}
 use Rattle.gather.specs.Holders.{Appends}
 use Rattle.gather.specs.Places.{IsPartAt}
-use Rattle.gather.proofs.Appending.{Appends-known}
+use Rattle.gather.proofs.Lending.{part_appends}
 use Rattle.gather.proofs.plain_at.PlainAtHolder.fetch.Goals as goal
 
 pub returns-in-Ok-clause-appended : goal.returns-in-Ok-clause-appended
@@ -9,8 +9,8 @@ returns-in-Ok-clause-appended g c =
     let contents = g.S.Source.contents c.args.self.now.source.now in
     let faultless : Type 0 = g.S.Source.faultless c.args.self.now.source.now in
     let old : List ℕ = c.args.into.now.items in
-    let new : List ℕ = c.append_part.new.into.items in
+    let new : List ℕ = c.append.new.into.items in
     let known : Appends (IsPartAt contents faultless c.from.result c.from-2.result) old new =
-    Appends-known contents faultless old new (λ (s : List ℕ). piece s c.from.result c.from-2.result) c.in-Ok.ensures.kept c.in-Ok.ensures.part in
+    part_appends contents faultless c.from.result c.from-2.result old new c.in-Ok.ensures.kept c.in-Ok.ensures.part in
     subst (λ (start : ℕ). Appends (IsPartAt contents faultless start c.args.len) old new) c.from.ensures
     (subst (λ (len : ℕ). Appends (IsPartAt contents faultless c.from.result len) old new) c.from-2.ensures known)
