@@ -1,10 +1,11 @@
 -- A hash as a part of extended output.
-use Rattle.std.specs.Prelude.{◌≡◌, ℕ, List, Option, None, Some, Result, IfSome}
+use Rattle.std.specs.Prelude.{◌≡◌, ℕ, List, Option, None, Some, Result, Ok, Err, IfSome}
 use Rattle.std.proofs.Common.{ap, sym, subst, ◌∙◌}
 use Rattle.b3tree.specs.declared.mode.Mode.{Mode}
 use Rattle.b3tree.specs.Hashing.{stream}
 use Rattle.bao_files.specs.declared.fault.FileFault.{FileFault}
-use Rattle.bao_files.specs.Printed.{Prints, digits_line}
+use Rattle.bao_files.specs.declared.fault.FileFault.TheVariants.{Read, Write, Output, Encoding, Memory}
+use Rattle.bao_files.specs.Printed.{OnOutput, OnOutputFault, Prints, digits_line}
 
 -- the 32 bytes at 0 are those at `at`, where that is 0
 pub prints_hash : (mode : Mode) (s digits : List ℕ) (at len : ℕ) (old new : Option (List ℕ)) (result : Result Unit FileFault)
@@ -22,3 +23,15 @@ pub prints_known : (mode : Mode) (known : Option (List ℕ)) (remaining : Option
 prints_known mode None remaining digits at len old new result at_is len_is is printed = tt
 prints_known mode (Some s) remaining digits at len old new result at_is len_is is printed =
     λ same. prints_hash mode s digits at len old new result at_is len_is is printed
+
+-- what is so in any case
+on_fault : {P : Type 0} (fault : FileFault) → P → OnOutputFault fault P
+on_fault (Read path) p = tt
+on_fault (Write path) p = tt
+on_fault Output p = p
+on_fault Encoding p = tt
+on_fault Memory p = tt
+
+pub on_output : {P : Type 0} (result : Result Unit FileFault) → P → OnOutput result P
+on_output (Ok done) p = p
+on_output (Err fault) p = on_fault fault p

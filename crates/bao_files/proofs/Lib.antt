@@ -2,3 +2,5 @@ pub mod SecondPass
 pub mod Results
 pub mod Hashes
 pub mod Encodings
+pub mod Disks
+pub mod HeldFiles

@@ -1,5 +1,5 @@
 -- A subtree that is read again: where its parents part, and what its two parts, read again, make.
-use Rattle.std.proofs.Common.{◌≡◌, ℕ, ◌+◌, ◌-◌, ◌*◌, ◌/◌, ◌^◌, ◌<◌, ◌≤◌, max, List, ◌++◌, length, take, drop, Option, Some, None, Result, Ok, Err, refl, sym, ap, subst, ◌∙◌, arith, length-append, length-drop}
+use Rattle.std.proofs.Common.{◌≡◌, ℕ, ◌+◌, ◌-◌, ◌*◌, ◌/◌, ◌^◌, ◌<◌, ◌≤◌, max, List, ◌++◌, length, take, drop, Option, Some, None, IfSome, Result, Ok, Err, IfOk, refl, sym, ap, subst, ◌∙◌, arith, length-append, length-drop}
 use Rattle.std.proofs.KnownBytes.{Appends-nil, Appends-trans}
 use Rattle.std.proofs.Math.Seq.{take-append-add}
 use Rattle.std.proofs.lemmas.List.{drop_at, length-take-le, take-append-le, take-take, take_all, take_at}
@@ -7,6 +7,7 @@ use Rattle.std.specs.Io.KnownBytes.{Appends}
 use Rattle.b3word.specs.declared.input.Input.{Input}
 use Rattle.b3word.specs.Compression.{cv, out}
 use Rattle.b3tree.specs.declared.mode.Mode.{Mode}
+use Rattle.b3tree.specs.declared.values.Cv.{Cv}
 use Rattle.b3tree.specs.Bytes.{bytes_of, words_of}
 use Rattle.b3tree.specs.Hashing.{hash, root_hash, rooted}
 use Rattle.b3tree.specs.Pieces.{piece}
@@ -26,7 +27,9 @@ use Rattle.bao_text.proofs.Everything.{length-parent_text, length-subtree_text, 
 use Rattle.bao_text.proofs.PieceTexts.{length-whole_text}
 use Rattle.bao_text.proofs.SubtreeText.{Parts, left_len-Parts, subtree_text-leaf, subtree_text-parent}
 use Rattle.bao_files.specs.declared.again.AgainFault.{AgainFault}
+use Rattle.bao_files.specs.declared.ahead.Piece.{Piece}
 use Rattle.bao_files.specs.Again.{Replaces, Sends, WritesAgain}
+use Rattle.bao_files.specs.Ahead.{IsPieceOf, IsRead, IsUnread}
 use Rattle.bao_files.specs.Encoded.{AppendsPart}
 
 -- what a beginning of the first part is of both
@@ -250,6 +253,11 @@ joins contents total mode first l parent near_parents far_parents before near fa
 pub chunk_whole : (total : ℕ) (mode : Mode) (first : ℕ) (s : List ℕ) → 1024 * first < max total 1 → length s ≤ 1024 → whole_text total mode first s ≡ s
 chunk_whole total mode first s begins one =
     subtree_text-leaf (of_combined total) mode first s (wants_all (of_combined total) (1024 * first) (length s) refl begins) one
+
+-- of a piece of which nothing was read, all is true that is noted
+pub read_none : (contents : Option (List ℕ)) (choice : Choice) (mode : Mode) (it : Piece) → IsUnread it → IsRead contents choice mode it
+read_none contents choice mode it is =
+    subst (λ (value : Result (Option Cv) AgainFault). IfOk value (λ made. IfSome made (λ v. IsPieceOf contents choice mode it.first it.len v.0 it.text.items))) (sym is) tt
 
 -- nothing was written of a subtree
 pub unread : (contents : Option (List ℕ)) (total : ℕ) (mode : Mode) (first : ℕ) (parents before : List ℕ) (old : Option (List ℕ)) (result : Result Unit AgainFault) (fault : AgainFault)

@@ -2,5 +2,9 @@ pub mod Printed
 pub mod Reading
 pub mod Encoded
 pub mod Again
+pub mod Ahead
+pub mod Disks
+pub mod Extents
 pub mod Faults
+pub mod HeldFiles
 pub mod ProgressLine

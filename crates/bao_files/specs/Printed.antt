@@ -53,3 +53,15 @@ NamesPaths input output Memory = Unit {0}
 abbrev pub Prints : List ℕ → Option (List ℕ) → Option (List ℕ) → Result Unit FileFault → Type 0
 Prints line old new (Ok done) = Appends old new line
 Prints line old new (Err fault) = Leaves line old new fault
+
+-- this holds where all that was to be printed was, and where standard output took a beginning of it and then no more
+abbrev pub OnOutputFault : FileFault → Type 0 → Type 0
+OnOutputFault (Read path) holds = Unit {0}
+OnOutputFault (Write path) holds = Unit {0}
+OnOutputFault Output holds = holds
+OnOutputFault Encoding holds = Unit {0}
+OnOutputFault Memory holds = Unit {0}
+
+abbrev pub OnOutput : Result Unit FileFault → Type 0 → Type 0
+OnOutput (Ok done) holds = holds
+OnOutput (Err fault) holds = OnOutputFault fault holds

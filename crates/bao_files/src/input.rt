@@ -101,7 +101,7 @@ pub fn open_file<'a, R: Files>(rt: &R, path: &'a str) -> Result<R::File, FileFau
 }
 
 // How many bytes the file at `path` says it has.
-pub(crate) fn size_of<'a, F: OpenFile>(file: &F, path: &'a str) -> Result<u64, FileFault<'a>>
+fn size_of<'a, F: OpenFile>(file: &F, path: &'a str) -> Result<u64, FileFault<'a>>
     ensures { IfErr result (λ fault. fault ≡ FileFault.Read path.entry) }
 {
     match file.metadata() {

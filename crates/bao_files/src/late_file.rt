@@ -1,4 +1,4 @@
-ghost use Rattle.std.specs.Prelude.{◌≡◌, IfOk, None};
+ghost use Rattle.std.specs.Prelude.{◌≡◌, IfOk, None, string_bytes};
 
 use std::alloc::{AllocError, Global};
 use std::fs::{File, OpenFile, OpenOptions, Permissions};
@@ -101,7 +101,7 @@ impl Place {
 /// by the first write, as far as it can be, and written there.
 pub struct LateFile<'a, R: Files> {
     rt: &'a R,
-    path: &'a str,
+    path: String,
     place: Option<Place>,
     file: Option<R::File>,
     is_drafted: bool,
@@ -127,14 +127,14 @@ impl<R: Files> Drop for LateFile<'_, R> {
 
 impl<'a, R: Files + AllocGlobal> LateFile<'a, R> {
     /// The file at `path`, to which nothing was written. There is none where there is no memory for its names.
-    pub fn new(rt: &'a R, path: &'a str) -> Result<LateFile<'a, R>, AllocError>
+    pub fn new(rt: &'a R, path: &str) -> Result<LateFile<'a, R>, AllocError>
         ensures rt { IfOk result (λ it. it.rt ≡ rt.entry) }
-        ensures path { IfOk result (λ it. it.path ≡ path.entry) }
+        ensures path { IfOk result (λ it. string_bytes it.path ≡ path.now) }
         ensures unmade { IfOk result (λ it. it.file ≡ None) }
     {
         Ok(LateFile {
             rt,
-            path,
+            path: String::from_str(rt.alloc(), path)?,
             place: place_of(rt, path)?,
             file: None,
             is_drafted: false,
@@ -151,7 +151,7 @@ impl<R: Files> LateFile<'_, R> {
     // Makes the file that is written to.
     fn make(&mut self) -> io::Result<()> {
         let Some(place) = &mut self.place else {
-            self.file = Some(fs::create(self.rt, self.path)?);
+            self.file = Some(fs::create(self.rt, self.path.as_str())?);
             return Ok(());
         };
         let permissions = permissions_of(self.rt, place.target.as_str())?;

@@ -1,9 +1,12 @@
 //! Files and standard streams read and written: bytes hashed, encoded, printed as digits, each through a function over any
-//! reader or writer. How far a long read has come is shown while it goes on.
+//! reader or writer, or over any files by their paths ([`Disk`]). How far a long read has come is shown while it goes on.
 #![tactic(auto)]
 
 pub use digits::{bytes_of_digits, print_count, print_digits, print_output, print_text};
+pub use disk::Disk;
+pub use extent::Extent;
 pub use fault::FileFault;
+pub use held::{Held, HeldInput};
 pub use input::{
     ReadFault, is_same_file, open_file, read_file, read_input, read_sized, read_whole, shared_len,
 };
@@ -11,14 +14,19 @@ pub use kinds::{Encoding, Part};
 pub use late_file::LateFile;
 pub use meter::Meter;
 pub use once::Once;
-pub use output::{encode_file, encode_input, write_encoding};
+pub use output::{encode_file, encode_input, encode_on, write_encoding};
 pub use progress::Progress;
-pub use reading::{hash_reader, print_input, print_reader};
+pub use reading::{hash_reader, print_file, print_input, print_reader};
 pub use shown::Shown;
+pub use system::System;
 
 mod again;
+mod ahead;
 mod digits;
+mod disk;
+mod extent;
 mod fault;
+mod held;
 mod input;
 mod kinds;
 mod late_file;
@@ -29,3 +37,4 @@ mod progress;
 mod progress_line;
 mod reading;
 mod shown;
+mod system;

@@ -1,27 +1,30 @@
-ghost use Rattle.std.specs.Prelude.{◌≡◌, ℕ, ◌+◌, ◌-◌, ◌*◌, ◌<◌, ◌≤◌, List, length, IfErr, IfOk, IfSome, OnOk, Some};
+ghost use Rattle.std.specs.Prelude.{◌≡◌, ℕ, ◌+◌, ◌-◌, ◌*◌, ◌<◌, ◌≤◌, List, length, IfErr, IfOk, IfSome, OnErr, OnOk, Some};
 ghost use Rattle.std.specs.Io.KnownBytes.{Appends};
 ghost use Rattle.b3tree.specs.Hashing.{hash};
 ghost use Rattle.bao_text.specs.Faults.{WroteOnly};
 ghost use Rattle.bao_text.specs.Texts.{joined};
+ghost use Rattle.bao_files.specs.Disks.{AreOf, KeepsFiles, Puts};
 ghost use Rattle.bao_files.specs.Encoded.{Encodes, EncodesLike, IsMadeEncoding, answer_at_path, encoding_text};
 ghost use Rattle.bao_files.specs.Again.{fault_at_paths};
+ghost use Rattle.bao_files.specs.Ahead.{AreUnread};
 ghost use Rattle.bao_files.specs.declared.fault.FileFault.TheVariants as FileFault;
 ghost use Rattle.bao_files.specs.declared.kinds.Encoding.TheVariants as KindOf;
 ghost use Rattle.bao_text.specs.Choice.{chunk_count};
 ghost use Rattle.bao_files.specs.Printed.{IsQuiet, NamesPaths};
 
 use crate::again::{AgainFault, write_again};
+use crate::ahead::Pieces;
+use crate::disk::{Disk, size_of};
 use crate::fault::FileFault;
-use crate::input::{LEAST_SHARED_LEN, is_same_file, open_file, read_input, size_of};
+use crate::input::{LEAST_SHARED_LEN, read_input};
 use crate::kinds::Encoding;
-use crate::late_file::LateFile;
 use crate::progress::Progress;
 use crate::shown::Shown;
+use crate::system::System;
 use b3tree::{Hash, Mode};
-use bao_read::{PIECE_LEN, Source, WORKERS, outboard_source, slice_source};
+use bao_read::{Source, WORKERS, outboard_source, slice_source};
 use bao_text::{
-    WriteFault, outboard, outboard_len, slice, subtree_size, write_combined, write_text,
-    write_texts,
+    WriteFault, outboard, outboard_len, slice, write_combined, write_text, write_texts,
 };
 use std::alloc::Global;
 use std::fs::File;
@@ -112,14 +115,12 @@ fn in_one(alloc: Global, texts: Vec<Vec<u8>>, len: u128) -> Option<Vec<u8>>
     Some(all)
 }
 
-// What a first pass over an input keeps for the second one: the hash, the outboard encoding, and room for a piece and for
-// its encoding.
+// What a first pass over an input keeps for the second one: the hash, the outboard encoding, and room for the pieces.
 #[derive(Drop)]
 struct Kept {
     hash: Hash,
     text: Vec<u8>,
-    piece: Vec<u8>,
-    room: Vec<u8>,
+    pieces: Pieces,
 }
 
 // A first pass over an input that is said to have `size` bytes. Where the bytes are few or not so many, and where a read or
@@ -132,21 +133,14 @@ fn kept_by_position<R: Threads + Sync, I: Source + Sync>(
     size: u64,
 ) -> Option<Kept>
     ensures long { IfSome result (λ _. 4194304 ≤ size) }
-    ensures piece { IfSome result (λ kept. length kept.piece.items ≡ 262144) }
+    ensures pieces { IfSome result (λ kept. AreUnread kept.pieces) }
     ensures all { IfSome result (λ kept. IfSome (I.contents input.now) (λ s. IsMadeEncoding mode.now KindOf.Outboard size s kept.hash.0 kept.text.items)) }
     ensures some { IfSome result (λ kept. (bytes : List ℕ) × IsMadeEncoding mode.now KindOf.Outboard size bytes kept.hash.0 kept.text.items) }
 {
     let (hash, texts) = encoding_by_position(rt, alloc, mode, Encoding::Outboard, input, size)?;
     let text = in_one(alloc, texts, outboard_len(size))?;
-    let piece = vec![in alloc; 0u8; PIECE_LEN].ok()?;
-    let room_len = subtree_size(PIECE_LEN as u64) as usize;
-    let room = Vec::with_capacity(alloc, room_len).ok()?;
-    Some(Kept {
-        hash,
-        text,
-        piece,
-        room,
-    })
+    let pieces = Pieces::new(alloc).ok()?;
+    Some(Kept { hash, text, pieces })
 }
 
 // A fault of a second pass, as one of the program.
@@ -160,7 +154,8 @@ fn fault_again<'a>(fault: AgainFault, file: &'a str, path: &'a str) -> FileFault
 }
 
 // A second pass, which writes the combined encoding to the file at `path`, of bytes that have the hash which the first one kept.
-fn encode_again<'a, I: Source, W: Write>(
+fn encode_again<'a, R: Threads + Sync, I: Source + Sync, W: Write>(
+    rt: &R,
     mode: &Mode,
     input: &I,
     size: u64,
@@ -171,25 +166,16 @@ fn encode_again<'a, I: Source, W: Write>(
 ) -> Result<Hash, FileFault<'a>>
     requires long { 1024 < size }
     requires text { length kept.text.items ≡ 8 + 64 * (chunk_count size - 1) }
-    requires piece { 1024 ≤ length kept.piece.items }
+    requires pieces { AreUnread kept.pieces }
     ensures { (bytes : List ℕ) → IsMadeEncoding mode.now KindOf.Outboard size bytes kept.hash.0 kept.text.items
         → EncodesLike (I.contents input.now) mode.now bytes file.entry path.entry (W.contents out.old) (W.contents out.new) result }
 {
     let Kept {
         hash,
         text,
-        mut piece,
-        mut room,
+        mut pieces,
     } = kept;
-    let written = write_again(
-        mode,
-        input,
-        size,
-        text.as_slice(),
-        piece.as_mut_slice(),
-        &mut room,
-        out,
-    );
+    let written = write_again(rt, mode, input, size, text.as_slice(), &mut pieces, out);
     match written {
         Ok(()) => Ok(hash),
         Err(fault) => Err(fault_again(fault, file, path)),
@@ -238,7 +224,7 @@ pub fn encode_input<'a, R: Threads + Sync + AllocGlobal, I: Read + Source + Sync
     if let Encoding::Combined = encoding
         && let Some(kept) = kept_by_position(rt, alloc, mode, input, size)
     {
-        return encode_again(mode, input, size, kept, file, out, path);
+        return encode_again(rt, mode, input, size, kept, file, out, path);
     }
     if let Some(made) = encoding_by_position(rt, alloc, mode, encoding, input, size) {
         return answer_at(send_all(made, out), path);
@@ -248,29 +234,46 @@ pub fn encode_input<'a, R: Threads + Sync + AllocGlobal, I: Read + Source + Sync
     answer_at(written, path)
 }
 
-// The answer, once what was written is in its place.
-fn finished<'a, R: Files>(
-    hash: Hash,
-    mut out: LateFile<'_, R>,
-    path: &'a str,
-) -> Result<Hash, FileFault<'a>>
-    ensures ok { IfOk result (λ answer. answer ≡ hash) }
-    ensures err { IfErr result (λ fault. fault ≡ FileFault.Write path.entry) }
-{
-    match out.finish() {
-        Ok(()) => Ok(hash),
-        Err(_) => Err(FileFault::Write(path)),
-    }
-}
-
-/// Writes this encoding in `mode` of the file at `file` to the file at `path`, which it replaces, and answers the hash. How far a
+/// Writes this encoding in `mode` of the file at `file` to the file at `path`, which it replaces, both on `disk`, and answers the hash. How far a
 /// file that is said to have at least 4 MiB has been read is told to `progress`, which has no part in the answer.
 ///
-/// After each fault the path is as it was, where it can be replaced at once ([`LateFile`]). Where it can't, as a device, it is so
-/// after `Read`, where the file can't be opened or read, and after `Memory` and `Encoding`, out of memory; after `Write` a beginning of the encoding
-/// may stand there, and so it may after `Read` where a combined encoding is written in two passes and the file can't be
-/// read again, or has changed. Where the two paths are of one file then, under whatever names, it is read whole before it is written
-/// over.
+/// After each fault all files are as they were, where the one at `path` can be replaced at once ([`Disk::is_replaced`]). Where it
+/// can't, as a device, it is so after `Read`, where the file can't be opened or read, and after `Memory` and `Encoding`, out of
+/// memory; after `Write` a beginning of the encoding may stand there, and so it may after `Read` where a combined encoding is
+/// written in two passes and the file can't be read again, or has changed. Where the two paths are of one file then, under whatever
+/// names, it is read whole before it is written over.
+pub fn encode_on<'a, R: AllocGlobal + Threads + Sync, D: Disk, P: Progress + Sync>(
+    rt: &R,
+    disk: &mut D,
+    mode: &Mode,
+    encoding: Encoding,
+    file: &'a str,
+    path: &'a str,
+    progress: &P,
+) -> Result<Hash, FileFault<'a>>
+    ensures done { IfOk result (λ h. (bytes : List ℕ) × AreOf (D.at disk.old file.now) bytes × (h.0 ≡ hash mode.now bytes)
+        × Puts (D.at disk.old) (D.at disk.new) path.now (Some (encoding_text mode.now encoding bytes))) }
+    ensures kept { OnErr result (KeepsFiles (D.at disk.old) (D.at disk.new)) }
+    ensures fault { IfErr result IsQuiet }
+    ensures paths { IfErr result (NamesPaths file.entry path.entry) }
+{
+    let input = disk.open(file)?;
+    let Ok(mut out) = disk.draft(path) else {
+        return Err(FileFault::Memory);
+    };
+    let size = if !disk.is_replaced(&out) && disk.is_same(&input, path) {
+        0
+    } else {
+        size_of(disk, &input, file)?
+    };
+    let shown = (size >= LEAST_SHARED_LEN).then_some(size);
+    let mut input = Shown::over(input, shown, progress);
+    let hash = encode_input(rt, mode, encoding, &mut input, size, file, &mut out, path)?;
+    disk.finish(out, path)?;
+    Ok(hash)
+}
+
+/// As [`encode_on`], on the system's own files. Nothing is known of what they hold.
 pub fn encode_file<'a, R: Files<File = File> + AllocGlobal + Threads + Sync, P: Progress + Sync>(
     rt: &R,
     mode: &Mode,
@@ -283,17 +286,6 @@ pub fn encode_file<'a, R: Files<File = File> + AllocGlobal + Threads + Sync, P: 
     ensures fault { IfErr result IsQuiet }
     ensures paths { IfErr result (NamesPaths file.entry path.entry) }
 {
-    let input = open_file(rt, file)?;
-    let Ok(mut out) = LateFile::new(rt, path) else {
-        return Err(FileFault::Memory);
-    };
-    let size = if !out.is_replaced() && is_same_file(rt, &input, path) {
-        0
-    } else {
-        size_of(&input, file)?
-    };
-    let shown = (size >= LEAST_SHARED_LEN).then_some(size);
-    let mut input = Shown::over(input, shown, progress);
-    let hash = encode_input(rt, mode, encoding, &mut input, size, file, &mut out, path)?;
-    finished(hash, out, path)
+    let mut system = System::new(rt);
+    encode_on(rt, &mut system, mode, encoding, file, path, progress)
 }

@@ -3,11 +3,15 @@ ghost use Rattle.std.specs.Io.KnownBytes.{Consumes, IsAtEnd};
 ghost use Rattle.b3tree.specs.declared.mode.Mode.{Mode};
 ghost use Rattle.b3tree.specs.Hashing.{stream};
 ghost use Rattle.b3tree.specs.Taken.{Holds};
-ghost use Rattle.bao_files.specs.Printed.{Prints, digits_line};
+ghost use Rattle.bao_files.specs.Disks.{AreOf};
+ghost use Rattle.bao_files.specs.Printed.{OnOutput, Prints, digits_line};
 
 use crate::digits::{print_digits, print_output};
+use crate::disk::{Disk, len_hint};
 use crate::fault::FileFault;
 use crate::input::ReadFault;
+use crate::progress::Progress;
+use crate::shown::Shown;
 use b3tree::{Hash, Hasher, Mode};
 use bao_read::{Source, WORKERS, hash_source};
 use std::alloc::Global;
@@ -136,4 +140,27 @@ pub fn print_input<'a, R: AllocGlobal + Threads + Sync, I: Read + Source + Sync,
         }
     }
     print_reader(rt.alloc(), mode, input, path, at, len, out)
+}
+
+/// As `print_input`, of the file at `file`, from its start on. How far one that is said to have at least 4 MiB has been read is told
+/// to `progress`, which has no part in the answer. `Read` comes too where the file can't be opened.
+pub fn print_file<'a, R: AllocGlobal + Threads + Sync, D: Disk, W: Write, P: Progress + Sync>(
+    rt: &R,
+    disk: &D,
+    mode: &Mode,
+    file: &'a str,
+    at: u64,
+    len: u32,
+    out: &mut W,
+    progress: &P,
+) -> Result<(), FileFault<'a>>
+    requires { at + len ≤ 2 ^ 64 - 1 }
+    ensures prints { (bytes : List ℕ) × OnOutput result (AreOf (D.at disk.now file.now) bytes)
+        × Prints (digits_line (stream mode.now bytes at len)) (W.contents out.old) (W.contents out.new) result }
+    ensures fault { IfErr result (λ fault. (fault ≡ FileFault.Memory) ⊎ (fault ≡ FileFault.Output) ⊎ (fault ≡ FileFault.Read file.entry)) }
+{
+    let input = disk.open(file)?;
+    let hint = len_hint(disk, &input);
+    let mut input = Shown::over(input, hint, progress);
+    print_input(rt, mode, &mut input, hint, file, at, len, out)
 }

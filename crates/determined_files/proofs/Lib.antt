@@ -1,3 +1,4 @@
 pub mod Contents
+pub mod OnDisks
 pub mod Readers
 pub mod Writers

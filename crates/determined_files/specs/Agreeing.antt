@@ -1,5 +1,6 @@
 -- Answers to the same question: they are the same.
 use Rattle.std.specs.Prelude.{◌≡◌, ◌≢◌, ◌⊎◌, ℕ, List, Option, Result, Ok, Err}
+use Rattle.bao_files.specs.Disks.{FileState, IsKnown}
 use Rattle.bao_files.specs.declared.fault.FileFault.{FileFault}
 use Rattle.bao_files.specs.declared.fault.FileFault.TheVariants.{Read, Write, Output}
 use Rattle.bao_files.specs.declared.fault.FileFault.TheVariants as file
@@ -35,3 +36,7 @@ IsBeforeWriting encoding (Write path) = ⊥
 IsBeforeWriting encoding Output = ⊥
 IsBeforeWriting encoding file.Encoding = Unit {0}
 IsBeforeWriting encoding file.Memory = Unit {0}
+
+-- what is at each path of which it was known before
+abbrev pub SameWhereKnown : (List ℕ → FileState) → (List ℕ → FileState) → (List ℕ → FileState) → Type 0
+SameWhereKnown before one other = (path : List ℕ) → IsKnown (before path) → one path ≡ other path

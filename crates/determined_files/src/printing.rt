@@ -3,12 +3,14 @@
 ghost use Rattle.std.specs.Prelude.{◌≡◌, ◌+◌, ◌-◌, ◌^◌, ◌≤◌, ◌⊎◌, ℕ, List, IfErr, IfSome, Some};
 ghost use Rattle.b3tree.specs.declared.mode.Mode.{Mode};
 ghost use Rattle.b3tree.specs.Taken.{Holds};
+ghost use Rattle.bao_files.specs.Disks.{Stored};
 ghost use Rattle.bao_files.specs.Printed.{IsQuiet};
 ghost use Rattle.determined_files.specs.Agreeing.{SameWritten};
 
 use b3tree::{Hasher, Mode};
 use bao_files::{
-    FileFault, print_count, print_digits, print_input, print_output, print_reader, print_text,
+    Disk, FileFault, Progress, print_count, print_digits, print_file, print_input, print_output,
+    print_reader, print_text,
 };
 use bao_read::Source;
 use std::alloc::Global;
@@ -135,5 +137,38 @@ pub fn print_input_determined<
     (
         print_input(rt, mode, a, len_hint, path, at, len, ours),
         print_input(rt, mode, b, other_hint, path, at, len, theirs),
+    )
+}
+
+// So may they here, where the bytes of the file are known.
+pub fn print_file_determined<
+    'a,
+    R: AllocGlobal + Threads + Sync,
+    D: Disk,
+    E: Disk,
+    V: Write,
+    W: Write,
+    P: Progress + Sync,
+>(
+    rt: &R,
+    our_disk: &D,
+    their_disk: &E,
+    mode: &Mode,
+    file: &'a str,
+    at: u64,
+    len: u32,
+    ours: &mut V,
+    theirs: &mut W,
+    progress: &P,
+) -> (Result<(), FileFault<'a>>, Result<(), FileFault<'a>>)
+    requires end { at + len ≤ 2 ^ 64 - 1 }
+    requires files { D.at our_disk.now file.now ≡ E.at their_disk.now file.now }
+    requires same { V.contents ours.old ≡ W.contents theirs.old }
+    ensures { (s : List ℕ) → D.at our_disk.now file.now ≡ Stored s → IfSome (V.contents ours.old) (λ _.
+        SameWritten IsQuiet (V.contents ours.new) (W.contents theirs.new) result.0 result.1) }
+{
+    (
+        print_file(rt, our_disk, mode, file, at, len, ours, progress),
+        print_file(rt, their_disk, mode, file, at, len, theirs, progress),
     )
 }

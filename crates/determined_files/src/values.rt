@@ -1,6 +1,6 @@
 // What is known of values: numbers of faults, digits, and what is made over a clock, a path or a source.
 
-ghost use Rattle.std.specs.Prelude.{◌≡◌, IfOk};
+ghost use Rattle.std.specs.Prelude.{◌≡◌, IfOk, string_bytes};
 
 use bao_files::{FileFault, LateFile, Meter, Progress, Shown, bytes_of_digits};
 use bao_read::{ParFault, ReadFault};
@@ -54,13 +54,13 @@ pub fn meter_determined<'a, C: Clock, E: Write + Copy>(
     (one, other)
 }
 
-// Memory may run out at any time, and what stands at the path no contract sees.
+// Memory may run out at any time, and what stands at the path no contract of it sees.
 pub fn late_file_determined<'a, R: Files + AllocGlobal>(
     rt: &'a R,
-    path: &'a str,
+    path: &str,
 ) -> Result<(LateFile<'a, R>, LateFile<'a, R>), AllocError>
     ensures rt { IfOk result (λ made. made.0.rt ≡ made.1.rt) }
-    ensures path { IfOk result (λ made. made.0.path ≡ made.1.path) }
+    ensures path { IfOk result (λ made. string_bytes made.0.path ≡ string_bytes made.1.path) }
     ensures file { IfOk result (λ made. made.0.file ≡ made.1.file) }
 {
     let one = LateFile::new(rt, path)?;

@@ -1,10 +1,11 @@
 // Encodings that `bao_files` writes to writers that hold the same.
 
-ghost use Rattle.std.specs.Prelude.{◌≡◌, IfOk, IfSome, Some};
-ghost use Rattle.determined_files.specs.Agreeing.{IsBeforeWriting, SameWritten};
+ghost use Rattle.std.specs.Prelude.{◌≡◌, ℕ, List, IfOk, IfSome, OnErr, OnOk, Some};
+ghost use Rattle.bao_files.specs.Disks.{IsKnown};
+ghost use Rattle.determined_files.specs.Agreeing.{IsBeforeWriting, SameWhereKnown, SameWritten};
 
 use b3tree::{Hash, Mode};
-use bao_files::{Encoding, FileFault, encode_input, write_encoding};
+use bao_files::{Disk, Encoding, FileFault, Progress, encode_input, encode_on, write_encoding};
 use bao_read::Source;
 use bao_text::WriteFault;
 use std::alloc::Global;
@@ -62,5 +63,34 @@ pub fn encode_input_determined<
     (
         encode_input(rt, mode, encoding, a, size, file, ours, path),
         encode_input(rt, mode, encoding, b, other_size, file, theirs, path),
+    )
+}
+
+// Any of the faults may come at any time. Where the file's bytes are known, so is the hash, and so is what is at each path of
+// which it was known before.
+pub fn encode_on_determined<
+    'a,
+    R: AllocGlobal + Threads + Sync,
+    D: Disk,
+    E: Disk,
+    P: Progress + Sync,
+>(
+    rt: &R,
+    ours: &mut D,
+    theirs: &mut E,
+    mode: &Mode,
+    encoding: Encoding,
+    file: &'a str,
+    path: &'a str,
+    progress: &P,
+) -> (Result<Hash, FileFault<'a>>, Result<Hash, FileFault<'a>>)
+    requires { (at : List ℕ) → D.at ours.old at ≡ E.at theirs.old at }
+    ensures hash { IsKnown (D.at ours.old file.now) → IfOk result.0 (λ a. IfOk result.1 (λ b. a ≡ b)) }
+    ensures put { IsKnown (D.at ours.old file.now) → OnOk result.0 (OnOk result.1 (SameWhereKnown (D.at ours.old) (D.at ours.new) (E.at theirs.new))) }
+    ensures kept { OnErr result.0 (OnErr result.1 (SameWhereKnown (D.at ours.old) (D.at ours.new) (E.at theirs.new))) }
+{
+    (
+        encode_on(rt, ours, mode, encoding, file, path, progress),
+        encode_on(rt, theirs, mode, encoding, file, path, progress),
     )
 }

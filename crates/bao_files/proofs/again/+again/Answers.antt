@@ -25,11 +25,11 @@ write_subtree-returns-then-n-clause-written g t c = λ total before choice has l
       sends_same again (whole_text total c.args.mode.now c.args.first again) (g.W.Write.contents c.args.out.now) (g.W.Write.contents c.send.new.out) c.send.result (sym text) c.send.ensures,
     )
 
-pub write_subtree-returns-in_err-read_piece-clause-written : goal.write_subtree-returns-in_err-read_piece-clause-written
-write_subtree-returns-in_err-read_piece-clause-written g t c = λ total before choice has len value.
-    let p = err_from_is_err_and c.from_residual-in_err-read_piece.result c.from_residual-in_err-read_piece.ensures.1 in
+pub write_subtree-returns-in_err-fetch-clause-written : goal.write_subtree-returns-in_err-fetch-clause-written
+write_subtree-returns-in_err-fetch-clause-written g t c = λ total before choice has len value.
+    let p = err_from_is_err_and c.from_residual-in_err-fetch.result c.from_residual-in_err-fetch.ensures.1 in
     unread (g.S.Source.contents c.args.source.now) total c.args.mode.now c.args.first c.args.parents.now before (g.W.Write.contents c.args.out.now)
-    c.from_residual-in_err-read_piece.result p.0 p.1 has (omega (arith, len, c.requires.some))
+    c.from_residual-in_err-fetch.result p.0 p.1 has (omega (arith, len, c.requires.some))
 
 pub write_parts-returns-in_err-send-clause-written : goal.write_parts-returns-in_err-send-clause-written
 write_parts-returns-in_err-send-clause-written g t c = λ total before choice has len.

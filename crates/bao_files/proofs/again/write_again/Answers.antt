@@ -6,8 +6,15 @@ use Rattle.bao_text.specs.Pieces.{HasParents, whole_text}
 use Rattle.bao_text.specs.Texts.{combined_text, length_text}
 use Rattle.bao_files.specs.Again.{Sends}
 use Rattle.bao_files.specs.Encoded.{AppendsPart}
-use Rattle.bao_files.proofs.SecondPass.{combined_again, hash_again, kept_parents, part_first, sends_after, sends_err, sends_same}
+use Rattle.bao_files.proofs.SecondPass.{combined_again, hash_again, kept_parents, part_first, read_none, sends_after, sends_err, sends_same}
 use Rattle.bao_files.proofs.again.write_again.Goals as goal
+
+pub write_parts-requires-clause-read : goal.write_parts-requires-clause-read
+write_parts-requires-clause-read g c = λ _ _.
+    let contents = g.S.Source.contents c.args.source.now in
+    let choice = c.of_combined-choice.result in
+    let mode = c.args.mode.now in
+    (read_none contents choice mode c.args.pieces.now.now c.requires.pieces.0, read_none contents choice mode c.args.pieces.now.next c.requires.pieces.1)
 
 pub returns-in_err-send : goal.returns-in_err-send
 returns-in_err-send g c = λ before text len.

@@ -5,7 +5,7 @@ use Rattle.bao_files.proofs.Encodings.{made_len}
 use Rattle.bao_files.proofs.output.encode_input.Goals as goal
 
 pub encode_again-requires-clause-text : goal.encode_again-requires-clause-text
-encode_again-requires-clause-text g c =
+encode_again-requires-clause-text g c = λ _ _.
     let made = c.in-Some.ensures.some in
     made_len c.args.mode.now c.args.size made.0 c.in-Some.kept.hash.0 c.in-Some.kept.text.items made.1
 

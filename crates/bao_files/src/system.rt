@@ -1,0 +1,85 @@
+use crate::disk::Disk;
+use crate::extent::Extent;
+use crate::fault::FileFault;
+use crate::input::{is_same_file, open_file};
+use crate::late_file::LateFile;
+use std::alloc::AllocError;
+use std::fs;
+use std::fs::{File, OpenFile};
+use std::rt::Files;
+
+/// The system's own files. What they hold isn't known.
+pub struct System<'a, R> {
+    rt: &'a R,
+}
+
+impl<R> Drop for System<'_, R> {
+    fn drop(self) {
+        let System { rt: _ } = self;
+    }
+}
+
+impl<'a, R> System<'a, R> {
+    /// The files that `rt` leads to.
+    pub fn new(rt: &'a R) -> System<'a, R> {
+        System { rt }
+    }
+}
+
+// What metadata says of a file.
+fn extent_of(metadata: &fs::Metadata) -> Extent {
+    Extent {
+        len: metadata.len(),
+        is_regular: metadata.is_file(),
+    }
+}
+
+impl<'a, R: Files<File = File> + AllocGlobal> Disk for System<'a, R> {
+    ghost use Rattle.bao_files.specs.Disks.{Unknown};
+
+    type Input = File;
+
+    type Draft = LateFile<'a, R>;
+
+    ghost at = { λ _ _. Unknown };
+
+    ghost faultless = { λ _. ⊥ };
+
+    fn open<'p>(&self, path: &'p str) -> Result<File, FileFault<'p>> {
+        open_file(self.rt, path)
+    }
+
+    fn extent(&self, input: &File) -> Option<Extent> {
+        match input.metadata() {
+            Ok(metadata) => Some(extent_of(&metadata)),
+            Err(_) => None,
+        }
+    }
+
+    fn look(&self, path: &str) -> Option<Extent> {
+        match fs::metadata(self.rt, path) {
+            Ok(metadata) => Some(extent_of(&metadata)),
+            Err(_) => None,
+        }
+    }
+
+    fn is_same(&self, input: &File, path: &str) -> bool {
+        is_same_file(self.rt, input, path)
+    }
+
+    fn draft(&self, path: &str) -> Result<LateFile<'a, R>, AllocError> {
+        LateFile::new(self.rt, path)
+    }
+
+    fn is_replaced(&self, draft: &LateFile<'a, R>) -> bool {
+        draft.is_replaced()
+    }
+
+    fn finish<'p>(&mut self, draft: LateFile<'a, R>, path: &'p str) -> Result<(), FileFault<'p>> {
+        let mut draft = draft;
+        match draft.finish() {
+            Ok(()) => Ok(()),
+            Err(_) => Err(FileFault::Write(path)),
+        }
+    }
+}
