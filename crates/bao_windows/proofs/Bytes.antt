@@ -1,0 +1,97 @@
+-- Bytes of a blob that are known at places, one after another.
+use Rattle.std.proofs.Common.{◌≡◌, ◌⊎◌, ℕ, ◌+◌, ◌-◌, ◌*◌, ◌<◌, ◌≤◌, nat_lt, List, [], ◌++◌, length, take, drop, get_or, Some, slice_get, slice_index, ◌∙◌, sym, ap, subst, arith, inl, inr, refl, append-nil, append_assoc, min, ◌%◌, length-append, length-drop, length-take, length-take-le}
+use Rattle.std.proofs.lemmas.Bool.{cases_order}
+use Rattle.std.proofs.lemmas.List.{get_or-drop, get_or-take, get_or_append_left, get_or-append_right}
+use Rattle.std.proofs.lemmas.Option.{cond_some, slice_get-get_or}
+use Rattle.bao_check.specs.Pieces.{chunk_of}
+use Rattle.bao_text.specs.Choice.{chunk_count}
+use Rattle.gather.specs.Large.{HasCollision}
+use Rattle.store_core.specs.declared.fixed.Fixed.{Fixed}
+use Rattle.store_core.specs.declared.history.Piece.{Piece}
+use Rattle.bao_windows.specs.Windows.{Adds, AreBytesAt}
+
+-- the bytes are the blob's from this place on, each of them, or it is so
+abbrev pub AreAt : List ℕ → Type 0 → ℕ → List ℕ → Type 0
+AreAt blob P at bytes = (i : ℕ) → i < length bytes → (slice_get blob (at + i) ≡ Some (slice_index bytes i)) ⊎ P
+
+pub place_of : (i n : ℕ) → (i < n) ⊎ (n ≤ i)
+place_of i n = elim (cases_order i n) [
+  | inl same ↦ inr (omega (arith, same))
+  | inr (inl low) ↦ inl low
+  | inr (inr high) ↦ inr (omega (arith, high))
+]
+
+-- those of one place and those that come next
+pub both : (blob : List ℕ) (P : Type 0) (at : ℕ) (xs ys : List ℕ) → AreAt blob P at xs → AreAt blob P (at + length xs) ys → AreAt blob P at (xs ++ ys)
+both blob P at xs ys first second i less = elim (place_of i (length xs)) [
+  | inl low ↦ elim (first i low) [
+    | inl same ↦ inl (same ∙ ap (λ (x : ℕ). Some x) (sym (get_or_append_left xs ys 0 i low)))
+    | inr named ↦ inr named
+  ]
+  | inr high ↦ elim (second (i - length xs) (omega (arith, less, high, length-append xs ys))) [
+    | inl same ↦
+        let place : at + length xs + (i - length xs) ≡ at + i = omega (arith, high) in
+        inl (ap (λ (q : ℕ). slice_get blob q) (sym place) ∙ same ∙ ap (λ (x : ℕ). Some x) (sym (get_or-append_right xs ys (length xs) i 0 refl high)))
+    | inr named ↦ inr named
+  ]
+]
+
+-- a beginning of them
+pub first_of : (blob : List ℕ) (P : Type 0) (at n : ℕ) (bytes : List ℕ) → n ≤ length bytes → AreAt blob P at bytes → AreAt blob P at (take n bytes)
+first_of blob P at n bytes within each i less =
+    let low : i < n = omega (arith, less, length-take-le n bytes within) in
+    elim (each i (omega (arith, low, within))) [
+      | inl same ↦ inl (same ∙ ap (λ (x : ℕ). Some x) (sym (get_or-take n bytes i 0 low)))
+      | inr named ↦ inr named
+    ]
+
+-- a chunk of the blob is of its bytes
+pub chunk_byte : (blob bytes : List ℕ) (c i : ℕ) → chunk_of blob c ≡ Some bytes → i < length bytes → slice_get blob (1024 * c + i) ≡ Some (slice_index bytes i)
+chunk_byte blob bytes c i chunk below =
+    let part : List ℕ = take 1024 (drop (1024 * c) blob) in
+    let is : part ≡ bytes = (cond_some (nat_lt c (chunk_count (length blob))) part bytes chunk).1 in
+    let long : length part ≡ length bytes = ap length is in
+    let low : i < 1024 = omega (arith, below, long, length-take 1024 (drop (1024 * c) blob)) in
+    let inside : 1024 * c + i < length blob = omega (arith, below, long, length-take 1024 (drop (1024 * c) blob), length-drop (1024 * c) blob) in
+    let byte : get_or blob (1024 * c + i) 0 ≡ get_or bytes i 0 =
+    sym (get_or-drop (1024 * c) blob i 0) ∙ (sym (get_or-take 1024 (drop (1024 * c) blob) i 0 low) ∙ ap (λ (xs : List ℕ). get_or xs i 0) is) in
+    slice_get-get_or blob (1024 * c + i) 0 inside ∙ ap (λ (x : ℕ). Some x) byte
+
+-- and it has as many as the blob has there
+pub chunk_long : (blob bytes : List ℕ) (c e : ℕ) → chunk_of blob c ≡ Some bytes → 1024 * c < e → e ≤ length blob → (e % 1024 ≡ 0) ⊎ (e ≡ length blob)
+    → length bytes ≡ min 1024 (e - 1024 * c)
+chunk_long blob bytes c e chunk below within ends =
+    let part : List ℕ = take 1024 (drop (1024 * c) blob) in
+    let is : part ≡ bytes = (cond_some (nat_lt c (chunk_count (length blob))) part bytes chunk).1 in
+    let long : length part ≡ length bytes = ap length is in
+    elim ends [
+      | inl whole ↦ omega (arith, long, below, within, whole, length-take 1024 (drop (1024 * c) blob), length-drop (1024 * c) blob)
+      | inr all ↦ omega (arith, long, below, within, all, length-take 1024 (drop (1024 * c) blob), length-drop (1024 * c) blob)
+    ]
+
+pub none_at : (handed : Piece → Type 0) (fixed : Fixed) (at : ℕ) (bytes : List ℕ) → length bytes ≡ 0 → AreBytesAt handed fixed at bytes
+none_at handed fixed at bytes none blob is i less = absurd (omega (arith, less, none))
+
+pub both_at : (handed : Piece → Type 0) (fixed : Fixed) (at : ℕ) (xs ys : List ℕ) → AreBytesAt handed fixed at xs → AreBytesAt handed fixed (at + length xs) ys
+    → AreBytesAt handed fixed at (xs ++ ys)
+both_at handed fixed at xs ys first second blob is = both blob (HasCollision handed fixed blob) at xs ys (first blob is) (second blob is)
+
+pub first_at : (handed : Piece → Type 0) (fixed : Fixed) (at n : ℕ) (bytes : List ℕ) → n ≤ length bytes → AreBytesAt handed fixed at bytes → AreBytesAt handed fixed at (take n bytes)
+first_at handed fixed at n bytes within each blob is = first_of blob (HasCollision handed fixed blob) at n bytes within (each blob is)
+
+pub adds_none : (handed : Piece → Type 0) (fixed : Fixed) (at : ℕ) (old : List ℕ) → Adds handed fixed at 0 old old
+adds_none handed fixed at old = record { bytes = []; is = sym (append-nil old); size = refl; each = none_at handed fixed at [] refl }
+
+-- and more follow
+pub adds_more : (handed : Piece → Type 0) (fixed : Fixed) (at m n : ℕ) (old mid new : List ℕ) → Adds handed fixed at m old mid → Adds handed fixed (at + m) n mid new
+    → Adds handed fixed at (m + n) old new
+adds_more handed fixed at m n old mid new first second =
+    let xs : List ℕ = first.bytes in
+    let ys : List ℕ = second.bytes in
+    let next : AreBytesAt handed fixed (at + length xs) ys = subst (λ (k : ℕ). AreBytesAt handed fixed (at + k) ys) (sym first.size) second.each in
+    record {
+      bytes = xs ++ ys;
+      is = second.is ∙ ap (λ (s : List ℕ). s ++ ys) first.is ∙ append_assoc old xs ys;
+      size = omega (arith, length-append xs ys, first.size, second.size);
+      each = both_at handed fixed at xs ys first.each next;
+    }

@@ -1,0 +1,11 @@
+pub mod Bytes
+pub mod Pieces
+pub mod Sources
+pub mod Served
+pub mod Turns
+pub mod Parts
+pub mod Covered
+pub mod Answering
+pub mod Slots
+pub mod Finishing
+pub mod Writing

@@ -1,0 +1,75 @@
+-- The bytes of a window's slots.
+use Rattle.std.proofs.Common.{◌≡◌, ℕ, ◌+◌, ◌-◌, ◌*◌, ◌<◌, ◌≤◌, min, suc, List, [], ◌∷◌, ◌++◌, length, take, drop, get_or, slice_index_or, ◌∙◌, sym, ap, subst, arith, inl, inr, refl, None, append-nil, length-append}
+use Rattle.std.proofs.lemmas.Grind.{flat_map-append}
+use Rattle.std.proofs.lemmas.List.{drop_more, take-append-drop, take_more}
+use Rattle.store_core.specs.declared.fixed.Fixed.{Fixed}
+use Rattle.store_core.specs.declared.history.Piece.{Piece}
+use Rattle.bao_windows.proofs.Bytes.{both_at, none_at, place_of}
+use Rattle.bao_windows.specs.declared.window.Slot.{Slot}
+use Rattle.bao_windows.specs.Windows.{Adds, AreBytesAt, AreOfSlot, window_bytes}
+
+-- where the bytes of a part end
+next_at : (handed : Piece → Type 0) (fixed : Fixed) (start total k : ℕ) (n : ℕ) (rest : List ℕ) → n ≡ min 65536 (total - (start + 65536 * k))
+    → length rest ≤ total - (start + 65536 * (k + 1)) → AreBytesAt handed fixed (start + 65536 * (k + 1)) rest → AreBytesAt handed fixed (start + 65536 * k + n) rest
+next_at handed fixed start total k n rest size few each = elim (place_of n 65536) [
+  | inl low ↦ none_at handed fixed (start + 65536 * k + n) rest (omega (arith, size, few, low))
+  | inr high ↦
+      let same : start + 65536 * (k + 1) ≡ start + 65536 * k + n = omega (arith, size, high) in
+      subst (λ (at : ℕ). AreBytesAt handed fixed at rest) same each
+]
+
+-- those of slots from number k on
+pub filled : (handed : Piece → Type 0) (fixed : Fixed) (start total k : ℕ) (window : List Slot)
+    → ((i n : ℕ) (d : Slot) → n ≡ k + i → i < length window → AreOfSlot handed fixed start total n (slice_index_or window i d).bytes.items)
+    → (length (window_bytes window) ≡ min (65536 * length window) (total - (start + 65536 * k))) × AreBytesAt handed fixed (start + 65536 * k) (window_bytes window)
+filled handed fixed start total k [] each = (omega arith, none_at handed fixed (start + 65536 * k) [] refl)
+filled handed fixed start total k (slot ∷ rest) each =
+    let head : AreOfSlot handed fixed start total k slot.bytes.items = each 0 k slot (omega arith) (omega arith) in
+    let tail = filled handed fixed start total (k + 1) rest (λ i n d same less. each (suc i) n d (omega (arith, same)) (omega (arith, less))) in
+    let long = length-append slot.bytes.items (window_bytes rest) in (
+      omega (arith, long, head.size, tail.0),
+      both_at handed fixed (start + 65536 * k) slot.bytes.items (window_bytes rest) head.each
+          (next_at handed fixed start total k (length slot.bytes.items) (window_bytes rest) head.size (omega (arith, tail.0)) tail.1),
+    )
+
+-- the bytes before a slot, its own, and those after it
+pub parted_at : (window : List Slot) (i : ℕ) (slot : Slot) → i < length window → slot ≡ get_or window i slot
+    → window_bytes window ≡ window_bytes (take i window) ++ (slot.bytes.items ++ window_bytes (drop (i + 1) window))
+parted_at window i slot within is =
+    let rest : drop i window ≡ slot ∷ drop (i + 1) window = drop_more window i slot within ∙ ap (λ (s : Slot). s ∷ drop (i + 1) window) (sym is) in
+    ap window_bytes (sym (take-append-drop i window))
+    ∙ flat_map-append (λ (s : Slot). s.bytes.items) (take i window) (drop i window)
+    ∙ ap (λ (ss : List Slot). window_bytes (take i window) ++ window_bytes ss) rest
+
+-- those before a slot, and its own
+pub with_next : (window : List Slot) (i : ℕ) (slot : Slot) → i < length window → slot ≡ get_or window i slot → window_bytes (take (i + 1) window) ≡ window_bytes (take i window) ++ slot.bytes.items
+with_next window i slot within is =
+    ap window_bytes (take_more window i slot within ∙ ap (λ (s : Slot). take i window ++ s ∷ []) (sym is))
+    ∙ (flat_map-append (λ (s : Slot). s.bytes.items) (take i window) (slot ∷ []) ∙ ap (λ (xs : List ℕ). window_bytes (take i window) ++ xs) (append-nil slot.bytes.items))
+
+-- what is so of all slots without a fault
+pub none_faulty : (window : List Slot) (P : ℕ → Slot → Type 0) → ((i : ℕ) (d : Slot) → i < length window → (slice_index_or window i d).fault ≡ None)
+    → ((i : ℕ) (d : Slot) → i < length window → (slice_index_or window i d).fault ≡ None → P i (slice_index_or window i d))
+    → (i n : ℕ) (d : Slot) → n ≡ 0 + i → i < length window → P n (slice_index_or window i d)
+none_faulty window P clean holds i n d same less = let at : i ≡ n = omega (arith, same) in subst (λ (k : ℕ). P k (slice_index_or window i d)) at (holds i d less (clean i d less))
+
+-- the bytes of a window whose slots have no fault
+pub window_filled : (handed : Piece → Type 0) (fixed : Fixed) (start total : ℕ) (window : List Slot)
+    → ((i : ℕ) (d : Slot) → i < length window → (slice_index_or window i d).fault ≡ None → AreOfSlot handed fixed start total i (slice_index_or window i d).bytes.items)
+    → ((i : ℕ) (d : Slot) → i < length window → (slice_index_or window i d).fault ≡ None)
+    → (length (window_bytes window) ≡ min (65536 * length window) (total - start)) × AreBytesAt handed fixed start (window_bytes window)
+window_filled handed fixed start total window tried clean =
+    let both = filled handed fixed start total 0 window
+    (none_faulty window (λ (n : ℕ) (slot : Slot). AreOfSlot handed fixed start total n slot.bytes.items) clean tried) in
+    let place : start + 65536 * 0 ≡ start = omega arith in
+    (omega (arith, both.0), subst (λ (at : ℕ). AreBytesAt handed fixed at (window_bytes window)) place both.1)
+
+-- the bytes of a slot that was filled by itself
+pub slot_filled : (handed : Piece → Type 0) (fixed : Fixed) (start total number at len : ℕ) (old new : List ℕ) → at ≡ start + 65536 * number → len ≡ min 65536 (total - at) → old ≡ []
+    → Adds handed fixed at len old new → AreOfSlot handed fixed start total number new
+slot_filled handed fixed start total number at len old new place size none adds =
+    let same : adds.bytes ≡ new = sym (adds.is ∙ ap (λ (xs : List ℕ). xs ++ adds.bytes) none) in
+    record {
+      size = omega (arith, ap (λ (xs : List ℕ). length xs) same, adds.size, size, place);
+      each = subst (λ (n : ℕ). AreBytesAt handed fixed n new) place (subst (λ (xs : List ℕ). AreBytesAt handed fixed at xs) same adds.each);
+    }

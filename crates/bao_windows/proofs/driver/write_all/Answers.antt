@@ -1,0 +1,76 @@
+use Rattle.std.proofs.Common.{◌≡◌, ℕ, ◌+◌, ◌-◌, ◌*◌, [], length, arith, refl, subst, sym, ◌∙◌, inl, inr}
+use Rattle.gather.proofs.Finishing.{alike, differs}
+use Rattle.b3tree.specs.Hashing.{hash}
+use Rattle.bao_windows.proofs.Bytes.{place_of}
+use Rattle.bao_windows.proofs.Finishing.{none_is}
+use Rattle.bao_windows.proofs.Writing.{begun_more, begun_so, more, nothing, room_left}
+use Rattle.bao_windows.specs.Windows.{IsFrom, fixed_for}
+use Rattle.bao_windows.specs.Written.{IsBegun, WroteOf}
+use Rattle.bao_windows.proofs.driver.write_all.Goals as goal
+
+pub windows-init : goal.windows-init
+windows-init g c = record { place = omega arith; aligned = inl refl; size = refl; wrote = nothing _ _ _ _ _ }
+
+pub write_window-requires-clause-room : goal.write_window-requires-clause-room
+write_window-requires-clause-room g c = λ _ _.
+    room_left (IsFrom c.args.wanted.now g.S.Source.contents g.S.Source.faultless c.args.sources.now) (fixed_for c.args.wanted.now) c.windows.at (c.args.total - c.windows.at)
+    (g.W.Write.contents c.args.out.now) (g.W.Write.contents c.windows.out) c.new-hasher.result c.windows.hasher c.args.wanted.now.mode c.new-hasher.ensures c.windows.invariant.wrote
+    (omega (arith, c.windows.invariant.place, c.ranges.total))
+
+pub windows-preserved : goal.windows-preserved
+windows-preserved g c =
+    let handed = IsFrom c.args.wanted.now g.S.Source.contents g.S.Source.faultless c.args.sources.now in
+    let fixed = fixed_for c.args.wanted.now in
+    let at : ℕ = c.windows.at in
+    let next : ℕ = c.in-Ok.next in
+    let n : ℕ = next - at in
+    let place : at ≡ 0 + at = omega arith in
+    let long : at + n ≡ next = omega (arith, c.in-Ok.ensures.next) in
+    let old = g.W.Write.contents c.args.out.now in
+    let mid = g.W.Write.contents c.windows.out in
+    let new = g.W.Write.contents c.write_window.new.out in
+    record {
+      place = omega (arith, c.in-Ok.ensures.next, c.windows-test.true);
+      aligned = elim (place_of (65536 * length c.windows.window) (c.args.total - at)) [
+        | inl low ↦ inl (omega (arith, low, c.in-Ok.ensures.next, c.windows.invariant.aligned, c.windows-test.true))
+        | inr high ↦ inr (omega (arith, high, c.in-Ok.ensures.next, c.windows-test.true))
+      ];
+      size = c.write_window.auto.window ∙ c.windows.invariant.size;
+      wrote = subst (λ (k : ℕ). WroteOf handed fixed 0 k old new c.new-hasher.result c.write_window.new.hasher) long
+          (more handed fixed 0 at n old mid new c.new-hasher.result c.windows.hasher c.write_window.new.hasher c.windows.invariant.wrote
+          (subst (λ (k : ℕ). WroteOf handed fixed k n mid new c.windows.hasher c.write_window.new.hasher) place c.in-Ok.ensures.wrote));
+    }
+
+pub returns-in-Err-clause-begun : goal.returns-in-Err-clause-begun
+returns-in-Err-clause-begun g c =
+    let handed = IsFrom c.args.wanted.now g.S.Source.contents g.S.Source.faultless c.args.sources.now in
+    let fixed = fixed_for c.args.wanted.now in
+    let place : c.windows.at ≡ 0 + c.windows.at = omega arith in
+    begun_more handed fixed 0 c.windows.at (g.W.Write.contents c.args.out.now) (g.W.Write.contents c.windows.out) (g.W.Write.contents c.write_window.new.out) c.new-hasher.result c.windows.hasher
+    c.windows.invariant.wrote
+    (subst (λ (k : ℕ). IsBegun handed fixed k (g.W.Write.contents c.windows.out) (g.W.Write.contents c.write_window.new.out)) place c.write_window.ensures.begun)
+
+pub returns-then-ne-clause-begun : goal.returns-then-ne-clause-begun
+returns-then-ne-clause-begun g c = begun_so _ _ 0 c.windows.at _ _ _ _ c.windows.invariant.wrote
+
+pub returns-clause-begun : goal.returns-clause-begun
+returns-clause-begun g c = begun_so _ _ 0 c.windows.at _ _ _ _ c.windows.invariant.wrote
+
+pub returns-then-ne-clause-none : goal.returns-then-ne-clause-none
+returns-then-ne-clause-none g c = λ _ lengths.
+    let mode = c.args.wanted.now.mode in
+    let root = c.args.wanted.now.root in
+    let wrote = c.windows.invariant.wrote in
+    let size : length wrote.0 ≡ c.args.total = omega (arith, wrote.1, c.windows.invariant.place, c.windows-test.false) in
+    let hashed : c.finalize.result.0 ≡ hash mode wrote.0 = c.finalize.ensures mode wrote.0 (wrote.2.took mode [] c.new-hasher.ensures) in
+    none_is (IsFrom c.args.wanted.now g.S.Source.contents g.S.Source.faultless c.args.sources.now) mode root wrote.0 c.args.total wrote.2.each size
+    (λ same. differs c.finalize.result.0 root.0 (sym c.if-ne.true ∙ c.ne.ensures) (hashed ∙ same)) lengths
+
+pub returns-clause-blob : goal.returns-clause-blob
+returns-clause-blob g c =
+    let mode = c.args.wanted.now.mode in
+    let root = c.args.wanted.now.root in
+    let wrote = c.windows.invariant.wrote in
+    let size : length wrote.0 ≡ c.args.total = omega (arith, wrote.1, c.windows.invariant.place, c.windows-test.false) in
+    let hashed : c.finalize.result.0 ≡ hash mode wrote.0 = c.finalize.ensures mode wrote.0 (wrote.2.took mode [] c.new-hasher.ensures) in
+    (wrote.0, sym hashed ∙ alike c.finalize.result.0 root.0 (sym c.if-ne.false ∙ c.ne.ensures), size, wrote.2.each, wrote.2.wrote)

@@ -1,0 +1,7 @@
+use Rattle.std.proofs.Common.{take}
+use Rattle.bao_windows.specs.Windows.{window_bytes}
+use Rattle.bao_windows.specs.Written.{TookIn}
+use Rattle.bao_windows.proofs.output.take_in.Given as goal
+
+abbrev pub invariant-loop-slot : goal.invariant-loop-slot
+invariant-loop-slot l = TookIn l.initial.hasher l.hasher (window_bytes (take l.slot-index l.window))

@@ -1,0 +1,34 @@
+use Rattle.std.proofs.Common.{◌≡◌, ◌+◌, ◌*◌, ℕ, Bool, List, false, true, IfOk, Result, subst, refl, arith}
+use Rattle.std.specs.declared.alloc.AllocError.{AllocError}
+use Rattle.bao_windows.proofs.Slots.{slot_filled}
+use Rattle.bao_windows.specs.Available.{LacksGroup}
+use Rattle.bao_windows.specs.Windows.{Adds, IsFrom, fixed_for}
+use Rattle.bao_windows.proofs.window.fill_slot.Goals as goal
+
+pub returns : goal.returns
+returns g c =
+    let wanted = c.args.wanted.now in
+    let sources = c.args.sources.now in
+    let before : ℕ = c.saturating_mul-before.result in
+    let at : ℕ = c.args.start + before in
+    let len : ℕ = c.min.result in
+    let whole : before ≡ 65536 * c.args.number = omega (arith, c.saturating_mul-before.ensures, c.if-before-total.false, c.ranges.total) in
+    let place : at ≡ c.args.start + 65536 * c.args.number = omega (arith, whole) in
+    let old : List ℕ = c.clear.new.self.items in
+    let new : List ℕ = c.take_group-taken.new.into.items in
+    record {
+      filled = λ clean. slot_filled (IsFrom wanted g.S.Source.contents g.S.Source.faultless sources) (fixed_for wanted) c.args.start c.args.total c.args.number at len old new place c.min.ensures c.clear.ensures.items
+          (subst (λ (r : Result Bool AllocError). IfOk r (λ took. took ≡ true → Adds (IsFrom wanted g.S.Source.contents g.S.Source.faultless sources) (fixed_for wanted) at len old new))
+          (c.fault_of-slot.ensures.none clean) c.take_group-taken.ensures.took refl);
+      fault = c.fault_of-slot.ensures.fault;
+      missing = λ is.
+          let lacks : LacksGroup g.S.Source.contents g.S.Source.faultless wanted sources at len =
+          subst (λ (r : Result Bool AllocError). IfOk r (λ took. took ≡ false → LacksGroup g.S.Source.contents g.S.Source.faultless wanted sources at len))
+          (c.fault_of-slot.ensures.unfinished is) c.take_group-taken.ensures.lacks refl in
+          record {
+            at = at;
+            whole = omega (arith, whole, c.requires.aligned);
+            below = omega (arith, c.if-before-total.false);
+            lacks = subst (λ (n : ℕ). LacksGroup g.S.Source.contents g.S.Source.faultless wanted sources at n) c.min.ensures lacks;
+          };
+    }

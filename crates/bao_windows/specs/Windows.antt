@@ -1,0 +1,107 @@
+-- Parts of a blob that are gathered, and what is known of their bytes.
+use Rattle.std.specs.Prelude.{◌≡◌, ◌⊎◌, ℕ, ◌+◌, ◌-◌, ◌*◌, ◌<◌, ◌≤◌, min, Bool, true, false, List, ◌++◌, length, Option, Some, slice_get, slice_index, slice_index_or}
+use Rattle.std.specs.List.{flat_map}
+use Rattle.b3tree.specs.Hashing.{hash}
+use Rattle.b3tree.specs.Valid.{AreBytes}
+use Rattle.bao_check.specs.declared.checked.Checked.{Checked}
+use Rattle.bao_check.specs.Checked.{piece_mode, piece_places, piece_root, piece_text}
+use Rattle.bao_check.specs.Inputs.{NamesCollision}
+use Rattle.bao_check.specs.Pieces.{chunk_in}
+use Rattle.bao_check.specs.declared.outline.Outline.{Outline}
+use Rattle.gather.specs.declared.fault.GatherFault.{GatherFault}
+use Rattle.gather.specs.declared.form.Form.{Form}
+use Rattle.gather.specs.declared.form.Form.TheVariants.{Slices, Bare}
+use Rattle.gather.specs.Large.{HasCollision, fixed_as}
+use Rattle.gather.specs.Lists.{IsFromSource}
+use Rattle.store_core.specs.declared.fixed.Fixed.{Fixed}
+use Rattle.store_core.specs.declared.history.Piece.{Piece}
+use Rattle.store_core.specs.Laws.{IsBlob}
+use Rattle.store_core.specs.Pieces.{piece_of, places_in}
+use Rattle.bao_windows.specs.declared.wanted.Wanted.{Wanted}
+use Rattle.bao_windows.specs.declared.window.Slot.{Slot}
+
+-- the root and the mode of the blob, from its first chunk on
+abbrev pub fixed_for : Wanted → Fixed
+fixed_for wanted = fixed_as wanted.root wanted.mode 0
+
+-- the piece is a slice that is cut out of one of the sources, or made of a part of one of them beside the outboard encoding
+abbrev pub IsFrom : {S : Type 0} → Wanted → (S → Option (List ℕ)) → (S → Type 0) → List S → Piece → Type 0
+IsFrom wanted contents faultless sources = IsFromSource wanted.form contents faultless sources
+
+-- the form is that of plain copies beside this outline
+abbrev pub IsBeside : Form → Outline → Type 0
+IsBeside Slices outline = ⊥
+IsBeside (Bare beside) outline = beside.now ≡ outline
+
+-- Each of these bytes is, for each blob with the root, that blob's byte at its place, from this one on; or a collision is exhibited from a
+-- piece that was handed over.
+abbrev pub AreBytesAt : (Piece → Type 0) → Fixed → ℕ → List ℕ → Type 0
+AreBytesAt handed fixed at bytes = (blob : List ℕ) → IsBlob fixed blob → (i : ℕ) → i < length bytes
+    → (slice_get blob (at + i) ≡ Some (slice_index bytes i)) ⊎ HasCollision handed fixed blob
+
+-- it is the length of each blob with the root, or a collision is exhibited
+abbrev pub IsLengthOfEach : (Piece → Type 0) → Fixed → ℕ → Type 0
+IsLengthOfEach handed fixed l = (blob : List ℕ) → IsBlob fixed blob → (l ≡ length blob) ⊎ HasCollision handed fixed blob
+
+-- so many bytes follow, of each blob with the root, from this place on
+pub record Adds (handed : Piece → Type 0) (fixed : Fixed) (at len : ℕ) (old new : List ℕ) : Type 0 where
+  pub bytes : List ℕ
+  pub is : new ≡ old ++ bytes
+  pub size : length bytes ≡ len
+  pub each : AreBytesAt handed fixed at bytes
+
+-- they do where they were taken, and else nothing does
+abbrev pub Takes : Bool → (Piece → Type 0) → Fixed → ℕ → ℕ → List ℕ → List ℕ → Type 0
+Takes true handed fixed at len old new = Adds handed fixed at len old new
+Takes false handed fixed at len old new = new ≡ old
+
+-- each of these bytes is, for each blob with a checked piece's root, that blob's byte at its place, or a collision is exhibited from the piece
+abbrev pub AreOfPiece : Checked → ℕ → List ℕ → Type 0
+AreOfPiece piece at bytes = (blob : List ℕ) → AreBytes blob → hash (piece_mode piece) blob ≡ piece_root piece → (i : ℕ) → i < length bytes
+    → (slice_get blob (at + i) ≡ Some (slice_index bytes i)) ⊎ NamesCollision (piece_mode piece) blob (piece_text piece) (piece_places piece)
+
+-- so many of a checked piece's bytes follow
+pub record AddsOf (piece : Checked) (at len : ℕ) (old new : List ℕ) : Type 0 where
+  pub bytes : List ℕ
+  pub is : new ≡ old ++ bytes
+  pub size : length bytes ≡ len
+  pub each : AreOfPiece piece at bytes
+
+-- A piece lacks a chunk of those that `len` bytes from a place on begin in: it doesn't hold the chunk, or not with as many bytes as it has of
+-- these.
+pub record LacksChunk (piece : Piece) (at len : ℕ) : Type 0 where
+  pub number : ℕ
+  pub from : at ≤ 1024 * number
+  pub below : 1024 * number < at + len
+  pub lacks : (bytes : List ℕ) → chunk_in piece.text (places_in piece) number ≡ Some bytes → length bytes ≡ min 1024 (at + len - 1024 * number) → ⊥
+
+-- so many bytes of the piece follow, or nothing does, since it lacks a chunk of them
+abbrev pub TakesOf : Bool → Checked → ℕ → ℕ → List ℕ → List ℕ → Type 0
+TakesOf true piece at len old new = AddsOf piece at len old new
+TakesOf false piece at len old new = (new ≡ old) × LacksChunk (piece_of 0 piece) at len
+
+-- the bytes of a window: those of its slots, one after another
+abbrev pub window_bytes : List Slot → List ℕ
+window_bytes window = flat_map (λ slot. slot.bytes.items) window
+
+-- how many bytes of a blob of `total` bytes slot number `number` of a window has that begins at a place
+abbrev pub slot_len : ℕ → ℕ → ℕ → ℕ
+slot_len start total number = min 65536 (total - (start + 65536 * number))
+
+-- the bytes are those of that slot
+pub record AreOfSlot (handed : Piece → Type 0) (fixed : Fixed) (start total number : ℕ) (bytes : List ℕ) : Type 0 where
+  pub size : length bytes ≡ slot_len start total number
+  pub each : AreBytesAt handed fixed (start + 65536 * number) bytes
+
+-- the source that has its turn, where so many are asked in a round that begins with the first
+pub record IsInTurn (first count turn place : ℕ) : Type 0 where
+  pub up : first + turn < count → place ≡ first + turn
+  pub over : count ≤ first + turn → place + count ≡ first + turn
+
+-- one of the window's slots has this fault
+pub record HasFault (window : List Slot) (fault : GatherFault) : Type 0 where
+  pub number : ℕ
+  pub slot : Slot
+  pub below : number < length window
+  pub there : slice_index_or window number slot ≡ slot
+  pub is : slot.fault ≡ Some fault

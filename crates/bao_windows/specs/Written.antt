@@ -1,0 +1,79 @@
+-- What is written of a blob of any length, window by window.
+use Rattle.std.specs.Prelude.{◌≡◌, ◌⊎◌, ℕ, ◌+◌, ◌^◌, ◌<◌, ◌≤◌, List, ◌++◌, length, take, MatchResult, Option, Result}
+use Rattle.std.specs.Io.KnownBytes.{Appends}
+use Rattle.b3tree.specs.declared.hasher.Hasher.{Hasher}
+use Rattle.b3tree.specs.declared.mode.Mode.{Mode}
+use Rattle.b3tree.specs.Hashing.{hash}
+use Rattle.b3tree.specs.Taken.{Holds}
+use Rattle.bao_text.specs.Choice.{chunk_count}
+use Rattle.gather.specs.declared.fault.GatherFault.TheVariants.{NotTheRoot, Starved, Unfinished}
+use Rattle.gather.specs.HandedOut.{IsExcused}
+use Rattle.gather.specs.Large.{AreTheBlob, HasCollision}
+use Rattle.store_core.specs.declared.fixed.Fixed.{Fixed}
+use Rattle.store_core.specs.declared.history.Piece.{Piece}
+use Rattle.store_core.specs.Laws.{IsBlob}
+use Rattle.bao_windows.specs.declared.fault.WindowsFault.{WindowsFault}
+use Rattle.bao_windows.specs.declared.fault.WindowsFault.TheVariants.{Gather, Write}
+use Rattle.bao_windows.specs.declared.wanted.Wanted.{Wanted}
+use Rattle.bao_windows.specs.Windows.{AreBytesAt, fixed_for}
+
+-- a hasher took these in, after what it had
+abbrev pub TookIn : Hasher → Hasher → List ℕ → Type 0
+TookIn old new bytes = (mode : Mode) (s : List ℕ) → Holds old mode s → Holds new mode (s ++ bytes)
+
+-- the hasher has room for so many bytes more, after those that it has taken in
+pub record HasRoomFor (hasher : Hasher) (len : ℕ) : Type 0 where
+  pub mode : Mode
+  pub taken : List ℕ
+  pub holds : Holds hasher mode taken
+  pub fits : length taken + len < 2 ^ 64
+
+-- These bytes, from a place on, are those of each blob with the root; they were written, and taken into the hash.
+pub record IsWritten (handed : Piece → Type 0) (fixed : Fixed) (at : ℕ) (bytes : List ℕ) (old new : Option (List ℕ)) (before after : Hasher) : Type 0 where
+  pub each : AreBytesAt handed fixed at bytes
+  pub wrote : Appends old new bytes
+  pub took : TookIn before after bytes
+
+-- so many bytes were
+abbrev pub WroteOf : (Piece → Type 0) → Fixed → ℕ → ℕ → Option (List ℕ) → Option (List ℕ) → Hasher → Hasher → Type 0
+WroteOf handed fixed at len old new before after = (bytes : List ℕ) × (length bytes ≡ len) × IsWritten handed fixed at bytes old new before after
+
+-- What was written are bytes of each blob with the root, from a place on, each of them; or a collision is exhibited.
+abbrev pub IsBegun : (Piece → Type 0) → Fixed → ℕ → Option (List ℕ) → Option (List ℕ) → Type 0
+IsBegun handed fixed at old new = (bytes : List ℕ) × AreBytesAt handed fixed at bytes × Appends old new bytes
+
+-- a beginning of these bytes was written
+abbrev pub WroteBeginning : Option (List ℕ) → Option (List ℕ) → List ℕ → Type 0
+WroteBeginning old new bytes = (count : ℕ) × (count ≤ length bytes) × Appends old new (take count bytes)
+
+-- a blob of `count` bytes with the root, and of no more chunks than these, was written; it is each blob with the root, or a collision is exhibited
+abbrev pub WroteBlob : (Piece → Type 0) → Wanted → ℕ → Option (List ℕ) → Option (List ℕ) → ℕ → Type 0
+WroteBlob handed wanted capacity old new count =
+    (blob : List ℕ) × (hash wanted.mode blob ≡ wanted.root.0) × (chunk_count (length blob) ≤ capacity) × (count ≡ length blob)
+    × AreTheBlob handed (fixed_for wanted) blob × Appends old new blob
+
+-- so many bytes of each blob with the root, from the first on, were, and their hash is the root
+abbrev pub WroteAll : (Piece → Type 0) → Wanted → ℕ → Option (List ℕ) → Option (List ℕ) → Type 0
+WroteAll handed wanted total old new =
+    (bytes : List ℕ) × (hash wanted.mode bytes ≡ wanted.root.0) × (length bytes ≡ total) × AreBytesAt handed (fixed_for wanted) 0 bytes × Appends old new bytes
+
+-- no source has some part of a window, or there is no memory, or writing failed
+abbrev pub IsOfWindow : WindowsFault → Type 0
+IsOfWindow fault = (fault ≡ Gather Unfinished) ⊎ (fault ≡ Gather Starved) ⊎ (fault ≡ Write)
+
+-- or what was written hasn't the root
+abbrev pub IsOfWriting : WindowsFault → Type 0
+IsOfWriting fault = IsOfWindow fault ⊎ (fault ≡ Gather NotTheRoot)
+
+-- the fault isn't one of what was gathered from
+abbrev pub IsExcusedWrite : WindowsFault → Type 0
+IsExcusedWrite (Gather fault) = IsExcused fault
+IsExcusedWrite Write = Unit {0}
+
+-- this blob was written, or the fault isn't one of what was gathered from
+abbrev pub IsWrittenOut : List ℕ → Option (List ℕ) → Option (List ℕ) → Result ℕ WindowsFault → Type 0
+IsWrittenOut blob old new result = MatchResult result (λ count. (count ≡ length blob) × Appends old new blob) IsExcusedWrite
+
+-- each blob with the root has more chunks than these, or a collision is exhibited
+abbrev pub AreTooLong : (Piece → Type 0) → Fixed → ℕ → Type 0
+AreTooLong handed fixed capacity = (blob : List ℕ) → IsBlob fixed blob → (capacity < chunk_count (length blob)) ⊎ HasCollision handed fixed blob

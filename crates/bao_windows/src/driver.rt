@@ -1,0 +1,204 @@
+ghost use Rattle.std.specs.Prelude.{◌≡◌, ℕ, ◌+◌, ◌-◌, ◌*◌, ◌%◌, ◌^◌, ◌<◌, ◌≤◌, ◌⊎◌, List, length, min, IfErr, IfOk, IsErrOf, MatchResult, OnOk, Some, slice_get};
+ghost use Rattle.std.specs.Io.KnownBytes.{Keeps};
+ghost use Rattle.bao_text.specs.Choice.{chunk_count};
+ghost use Rattle.bao_text.specs.Texts.{combined_text};
+ghost use Rattle.gather.specs.Available.{HaveSlices};
+ghost use Rattle.gather.specs.declared.fault.GatherFault.TheVariants as GatherFault;
+ghost use Rattle.gather.specs.Forms.{AreSlices};
+ghost use Rattle.gather.specs.Large.{HasCollision, IsOfNone};
+ghost use Rattle.gather.specs.Lists.{source_gives};
+ghost use Rattle.store_core.specs.Laws.{IsBlob};
+ghost use Rattle.bao_windows.specs.declared.fault.WindowsFault.TheVariants as WindowsFault;
+ghost use Rattle.bao_windows.specs.Available.{HasNoEnd, IsMissing};
+ghost use Rattle.bao_windows.specs.Windows.{IsFrom, IsLengthOfEach, fixed_for};
+ghost use Rattle.bao_windows.specs.Written.{AreTooLong, HasRoomFor, IsBegun, IsOfWindow, IsOfWriting, IsWrittenOut, WroteAll, WroteBlob, WroteOf};
+
+use crate::fault::WindowsFault;
+use crate::length::certified_length;
+use crate::output::{take_in, write_slots};
+use crate::wanted::Wanted;
+use crate::window::{Slot, fill_window, new_window};
+use b3tree::Hasher;
+use bao_check::GROUP_BYTES;
+use bao_read::Source;
+use bao_text::chunk_count;
+use gather::GatherFault;
+use std::alloc::Global;
+use std::io::Write;
+use std::thread::Threads;
+
+// Gathers the window that begins with byte `at`, takes it into the hash and writes it, once all of it is there, and answers where it ends.
+fn write_window<R: Threads + Sync, S: Source + Sync, W: Write>(
+    rt: &R,
+    alloc: Global,
+    wanted: &Wanted<'_>,
+    workers: u32,
+    sources: &[S],
+    total: u64,
+    at: u64,
+    window: &mut [Slot],
+    hasher: &mut Hasher,
+    out: &mut W,
+) -> Result<u64, WindowsFault>
+    requires aligned { at % 65536 ≡ 0 }
+    requires below { at < total }
+    requires room { HasRoomFor hasher.old (total - at) }
+    ensures next { IfOk result (λ next. next ≡ at + min (65536 * length window.old) (total - at)) }
+    ensures wrote { IfOk result (λ next. WroteOf (IsFrom wanted.now S.contents S.faultless sources.now) (fixed_for wanted.now) at (next - at) (W.contents out.old) (W.contents out.new) hasher.old hasher.new) }
+    ensures begun { IsBegun (IsFrom wanted.now S.contents S.faultless sources.now) (fixed_for wanted.now) at (W.contents out.old) (W.contents out.new) }
+    ensures fault { IfErr result IsOfWindow }
+    ensures missing { IsErrOf result (WindowsFault.Gather GatherFault.Unfinished) → IsMissing S.contents S.faultless wanted.now sources.now total }
+{
+    match fill_window(rt, alloc, wanted, workers, sources, at, total, window) {
+        Ok(()) => {}
+        Err(fault) => return Err(WindowsFault::Gather(fault)),
+    }
+    take_in(window, hasher);
+    match write_slots(window, out) {
+        Ok(()) => {}
+        Err(fault) => return Err(fault),
+    }
+    let count = GROUP_BYTES.saturating_mul(window.len() as u64);
+    Ok(at + count.min(total - at))
+}
+
+// Writes all windows of a blob of `total` bytes in their order, and then compares the hash of what was written with the root.
+fn write_all<R: Threads + Sync, S: Source + Sync, W: Write>(
+    rt: &R,
+    alloc: Global,
+    wanted: &Wanted<'_>,
+    workers: u32,
+    sources: &[S],
+    total: u64,
+    window: &mut [Slot],
+    out: &mut W,
+) -> Result<(), WindowsFault>
+    requires some { 0 < length window.old }
+    ensures blob { OnOk result (WroteAll (IsFrom wanted.now S.contents S.faultless sources.now) wanted.now total (W.contents out.old) (W.contents out.new)) }
+    ensures begun { IsBegun (IsFrom wanted.now S.contents S.faultless sources.now) (fixed_for wanted.now) 0 (W.contents out.old) (W.contents out.new) }
+    ensures none { IsErrOf result (WindowsFault.Gather GatherFault.NotTheRoot) → IsLengthOfEach (IsFrom wanted.now S.contents S.faultless sources.now) (fixed_for wanted.now) total
+        → IsOfNone (IsFrom wanted.now S.contents S.faultless sources.now) (fixed_for wanted.now) }
+    ensures missing { IsErrOf result (WindowsFault.Gather GatherFault.Unfinished) → IsMissing S.contents S.faultless wanted.now sources.now total }
+    ensures fault { IfErr result IsOfWriting }
+{
+    let mut hasher = Hasher::new(&wanted.mode);
+    let mut at: u64 = 0;
+    'windows: while at < total {
+        match write_window(
+            rt,
+            alloc,
+            wanted,
+            workers,
+            sources,
+            total,
+            at,
+            window,
+            &mut hasher,
+            out,
+        ) {
+            Ok(next) => at = next,
+            Err(fault) => return Err(fault),
+        }
+    }
+    if hasher.finalize() != wanted.root {
+        return Err(WindowsFault::Gather(GatherFault::NotTheRoot));
+    }
+    Ok(())
+}
+
+// As `write_windows`, for every form of sources.
+fn write_certified<R: AllocGlobal + Threads + Sync, S: Source + Sync, W: Write>(
+    rt: &R,
+    wanted: &Wanted<'_>,
+    workers: u32,
+    capacity: u64,
+    sources: &[S],
+    out: &mut W,
+) -> Result<u64, WindowsFault>
+    ensures blob { IfOk result (WroteBlob (IsFrom wanted.now S.contents S.faultless sources.now) wanted.now capacity (W.contents out.old) (W.contents out.new)) }
+    ensures begun { IsBegun (IsFrom wanted.now S.contents S.faultless sources.now) (fixed_for wanted.now) 0 (W.contents out.old) (W.contents out.new) }
+    ensures too_long { IsErrOf result (WindowsFault.Gather GatherFault.TooLarge) → AreTooLong (IsFrom wanted.now S.contents S.faultless sources.now) (fixed_for wanted.now) capacity }
+    ensures kept { IsErrOf result (WindowsFault.Gather GatherFault.TooLarge) → Keeps (W.contents out.old) (W.contents out.new) }
+    ensures none { IsErrOf result (WindowsFault.Gather GatherFault.NotTheRoot) → IsOfNone (IsFrom wanted.now S.contents S.faultless sources.now) (fixed_for wanted.now) }
+    ensures missing { IsErrOf result (WindowsFault.Gather GatherFault.Unfinished) → HasNoEnd S.contents S.faultless wanted.now sources.now
+        ⊎ ((total : ℕ) × IsLengthOfEach (IsFrom wanted.now S.contents S.faultless sources.now) (fixed_for wanted.now) total × IsMissing S.contents S.faultless wanted.now sources.now total) }
+{
+    let alloc = rt.alloc();
+    let total = match certified_length(alloc, wanted, sources) {
+        Ok(total) => total,
+        Err(missing) => return Err(WindowsFault::Gather(missing)),
+    };
+    if chunk_count(total) > capacity {
+        return Err(WindowsFault::Gather(GatherFault::TooLarge));
+    }
+    let Ok(mut window) = new_window(alloc, total) else {
+        return Err(WindowsFault::Gather(GatherFault::Memory));
+    };
+    match write_all(
+        rt,
+        alloc,
+        wanted,
+        workers,
+        sources,
+        total,
+        window.as_mut_slice(),
+        out,
+    ) {
+        Ok(()) => {}
+        Err(fault) => return Err(fault),
+    }
+    match out.flush() {
+        Ok(()) => Ok(total),
+        Err(_) => Err(WindowsFault::Write),
+    }
+}
+
+/// Gathers the blob with this root, of any length, out of sources that are read by position, as files are, each from a holder that nobody
+/// trusts, writes it to `out`, which is flushed, and answers how many bytes it has.
+///
+/// The length is certified first, as `certified_length` says. Then the blob comes in windows of 4,096 chunks, one after another. So many
+/// workers, at least 1 and at most 64, fill a window, each with groups of 64 chunks that follow one another. A group is asked of the sources
+/// in turn, of each at most once, until one has all of its chunks; with `Grain::Chunk` each chunk of a group that none has whole is then
+/// asked for by itself. Beside an outboard encoding sources are asked for as many bytes as the chunks have. A source of which a read
+/// answers a fault has nothing then. A byte is taken only of a slice that is accepted under the root in the mode. A window is written once
+/// all of it is there, so that the memory is that of one window, and of what the workers fetch, whatever the blob's length.
+///
+/// 901 `Unfinished` where no source has the last chunk, or some group, nor, where chunks are asked for, some chunk of it; 805 `TooLarge` where
+/// the blob has more chunks than `capacity`, before a byte is written; 902 `NotTheRoot` where the hash of what was written isn't the root;
+/// 903 `Memory` where there is none for a window, and 911 `Starved` where there is none for what a source gives. `Write` where writing
+/// failed.
+///
+/// Whatever is answered, what was written are bytes of each blob with the root, from the first on, or a collision is exhibited, two different
+/// inputs with one chaining value, one of the blob's and one of a slice's that is accepted under the root and came from one of the sources.
+/// At 805 each blob with the root has more chunks than the capacity, and at 902 there is none, or a collision is exhibited.
+///
+/// Where one of the sources never fails, its bytes are known, and they are the combined encoding of a blob with the root, of at most
+/// `capacity` chunks, that blob is written, or there was no memory, or writing failed, or a collision is exhibited. Nor need any source be
+/// whole: it is enough that what one gives as the slice of the last byte is known to be the blob's, and for each group of the
+/// blob's chunks what one gives as the group's slice, or with `Grain::Chunk` for each chunk as the chunk's.
+pub fn write_windows<R: AllocGlobal + Threads + Sync, S: Source + Sync, W: Write>(
+    rt: &R,
+    wanted: &Wanted<'_>,
+    workers: u32,
+    capacity: u64,
+    sources: &[S],
+    out: &mut W,
+) -> Result<u64, WindowsFault>
+    ensures blob { IfOk result (WroteBlob (IsFrom wanted.now S.contents S.faultless sources.now) wanted.now capacity (W.contents out.old) (W.contents out.new)) }
+    ensures begun { IsBegun (IsFrom wanted.now S.contents S.faultless sources.now) (fixed_for wanted.now) 0 (W.contents out.old) (W.contents out.new) }
+    ensures too_long { IsErrOf result (WindowsFault.Gather GatherFault.TooLarge) → AreTooLong (IsFrom wanted.now S.contents S.faultless sources.now) (fixed_for wanted.now) capacity }
+    ensures kept { IsErrOf result (WindowsFault.Gather GatherFault.TooLarge) → Keeps (W.contents out.old) (W.contents out.new) }
+    ensures none { IsErrOf result (WindowsFault.Gather GatherFault.NotTheRoot) → IsOfNone (IsFrom wanted.now S.contents S.faultless sources.now) (fixed_for wanted.now) }
+    ensures missing { IsErrOf result (WindowsFault.Gather GatherFault.Unfinished) → HasNoEnd S.contents S.faultless wanted.now sources.now
+        ⊎ ((total : ℕ) × IsLengthOfEach (IsFrom wanted.now S.contents S.faultless sources.now) (fixed_for wanted.now) total × IsMissing S.contents S.faultless wanted.now sources.now total) }
+    ensures covered { AreSlices wanted.now.form → (blob : List ℕ) → IsBlob (fixed_for wanted.now) blob → length blob < 2 ^ 64 → chunk_count (length blob) ≤ capacity
+        → HaveSlices wanted.now.grain (source_gives S.contents S.faultless) wanted.now.mode blob sources.now
+        → IsWrittenOut blob (W.contents out.old) (W.contents out.new) result ⊎ HasCollision (IsFrom wanted.now S.contents S.faultless sources.now) (fixed_for wanted.now) blob }
+    ensures available { AreSlices wanted.now.form → (blob : List ℕ) (i : ℕ) (source : S) → IsBlob (fixed_for wanted.now) blob → length (combined_text wanted.now.mode blob) < 2 ^ 64
+        → chunk_count (length blob) ≤ capacity → slice_get sources.now i ≡ Some source → S.contents source ≡ Some (combined_text wanted.now.mode blob) → S.faultless source
+        → IsWrittenOut blob (W.contents out.old) (W.contents out.new) result ⊎ HasCollision (IsFrom wanted.now S.contents S.faultless sources.now) (fixed_for wanted.now) blob }
+{
+    // For the prover alone: the flags of a mode are apart from the tree's.
+    wanted.mode.is_keyed();
+    write_certified(rt, wanted, workers, capacity, sources, out)
+}

@@ -1,0 +1,66 @@
+ghost use Rattle.std.specs.Prelude.{◌≡◌, ◌+◌, ◌%◌, ◌^◌, ◌<◌, false, true, IfOk};
+ghost use Rattle.bao_windows.specs.Available.{LacksGroup, LacksOne};
+ghost use Rattle.bao_windows.specs.Windows.{Adds, IsFrom, fixed_for};
+
+use crate::appending::CHUNK_BYTES;
+use crate::taking::{Part, take_any};
+use crate::wanted::Wanted;
+use bao_check::GROUP_BYTES;
+use bao_read::Source;
+use gather::Grain;
+use std::alloc::{AllocError, Global};
+
+// Takes the chunks of a part one by one, each from the first source in turn that has it, up to one that none has.
+fn take_chunks<S: Source>(
+    alloc: Global,
+    wanted: &Wanted<'_>,
+    sources: &[S],
+    last: &mut usize,
+    part: Part,
+    room: &mut Vec<u8>,
+    into: &mut Vec<u8>,
+) -> Result<bool, AllocError>
+    requires aligned { part.at % 1024 ≡ 0 }
+    requires range { part.at + part.len < 2 ^ 64 }
+    ensures took { IfOk result (λ took. took ≡ true → Adds (IsFrom wanted.now S.contents S.faultless sources.now) (fixed_for wanted.now) part.at part.len into.old.items into.new.items) }
+    ensures lacks { IfOk result (λ took. took ≡ false → LacksOne S.contents S.faultless wanted.now sources.now part.at part.len) }
+{
+    let mut came: u64 = 0;
+    'chunks: while came < part.len {
+        let chunk = Part {
+            at: part.at + came,
+            len: CHUNK_BYTES.min(part.len - came),
+        };
+        if !take_any(alloc, wanted, sources, last, chunk, CHUNK_BYTES, room, into)? {
+            return Ok(false);
+        }
+        came += chunk.len;
+    }
+    Ok(true)
+}
+
+// Takes the chunks of a group, which are this part: from the first source in turn that has all of them, or else, where the grain is a
+// chunk, each from the first that has it.
+pub(crate) fn take_group<S: Source>(
+    alloc: Global,
+    wanted: &Wanted<'_>,
+    sources: &[S],
+    last: &mut usize,
+    part: Part,
+    room: &mut Vec<u8>,
+    into: &mut Vec<u8>,
+) -> Result<bool, AllocError>
+    requires aligned { part.at % 65536 ≡ 0 }
+    requires some { 0 < part.len }
+    requires range { part.at + part.len < 2 ^ 64 }
+    ensures took { IfOk result (λ took. took ≡ true → Adds (IsFrom wanted.now S.contents S.faultless sources.now) (fixed_for wanted.now) part.at part.len into.old.items into.new.items) }
+    ensures lacks { IfOk result (λ took. took ≡ false → LacksGroup S.contents S.faultless wanted.now sources.now part.at part.len) }
+{
+    if take_any(alloc, wanted, sources, last, part, GROUP_BYTES, room, into)? {
+        return Ok(true);
+    }
+    match wanted.grain {
+        Grain::Group => Ok(false),
+        Grain::Chunk => take_chunks(alloc, wanted, sources, last, part, room, into),
+    }
+}

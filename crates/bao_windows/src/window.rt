@@ -1,0 +1,165 @@
+ghost use Rattle.std.specs.Prelude.{◌≡◌, ◌⊎◌, ℕ, ◌+◌, ◌-◌, ◌*◌, ◌%◌, ◌<◌, ◌≤◌, min, length, vec_len, false, true, None, Ok, Some, IfErr, IfOk, IfSome, IsErrOf, OnOk, slice_index_or};
+ghost use Rattle.gather.specs.declared.fault.GatherFault.TheVariants.{Starved, Unfinished};
+ghost use Rattle.bao_windows.specs.Available.{IsMissing, IsTried};
+ghost use Rattle.bao_windows.specs.Windows.{AreBytesAt, HasFault, IsFrom, fixed_for, window_bytes};
+
+use crate::group::take_group;
+use crate::taking::Part;
+use crate::wanted::Wanted;
+use bao_check::GROUP_BYTES;
+use bao_read::Source;
+use gather::GatherFault;
+use std::alloc::{AllocError, Global};
+use std::thread::{Threads, for_each_mut};
+
+// How many groups of 64 chunks a window has: 4,096 chunks, 4 MiB.
+const WINDOW_GROUPS: usize = 64;
+
+// The room for one group of a window, and what is kept of it from window to window.
+#[derive(Drop)]
+pub(crate) struct Slot {
+    pub(crate) bytes: Vec<u8>,
+    // What a source gave last.
+    room: Vec<u8>,
+    // The source that had a part last.
+    last: usize,
+    // Why the group isn't whole.
+    fault: Option<GatherFault>,
+}
+
+// An empty window for a blob of `total` bytes: at least one slot, at most 64, and no more than the blob has groups.
+pub(crate) fn new_window(alloc: Global, total: u64) -> Result<Vec<Slot>, AllocError>
+    ensures { IfOk result (λ window. 0 < vec_len window) }
+{
+    let count = total.div_ceil(GROUP_BYTES).clamp(1, WINDOW_GROUPS as u64);
+    let count = count as usize;
+    let mut window = Vec::with_capacity(alloc, count)?;
+    'slots: while window.len() < count {
+        window.push(Slot {
+            bytes: Vec::new(alloc),
+            room: Vec::new(alloc),
+            last: 0,
+            fault: None,
+        })?;
+    }
+    Ok(window)
+}
+
+// Why a group isn't whole, if it isn't, of which all chunks were taken, or not.
+fn fault_of(taken: Result<bool, AllocError>) -> Option<GatherFault>
+    ensures none { result ≡ None → taken ≡ Ok true }
+    ensures unfinished { result ≡ Some Unfinished → taken ≡ Ok false }
+    ensures fault { IfSome result (λ fault. (fault ≡ Unfinished) ⊎ (fault ≡ Starved)) }
+{
+    match taken {
+        Ok(true) => None,
+        Ok(false) => Some(GatherFault::Unfinished),
+        Err(_) => Some(GatherFault::Starved),
+    }
+}
+
+// Fills the slot with this number of a window that begins with byte `start` of a blob of `total` bytes.
+fn fill_slot<S: Source>(
+    alloc: Global,
+    wanted: &Wanted<'_>,
+    sources: &[S],
+    start: u64,
+    total: u64,
+    number: usize,
+    slot: &mut Slot,
+)
+    requires aligned { start % 65536 ≡ 0 }
+    requires within { start ≤ total }
+    ensures { IsTried S.contents S.faultless wanted.now sources.now start total number slot.new }
+{
+    slot.bytes.clear();
+    slot.fault = None;
+    let before = GROUP_BYTES.saturating_mul(number as u64);
+    if before >= total - start {
+        return;
+    }
+    let at = start + before;
+    let part = Part {
+        at,
+        len: GROUP_BYTES.min(total - at),
+    };
+    let taken = take_group(
+        alloc,
+        wanted,
+        sources,
+        &mut slot.last,
+        part,
+        &mut slot.room,
+        &mut slot.bytes,
+    );
+    slot.fault = fault_of(taken);
+}
+
+// Fills all slots of a window, on so many threads at the most.
+fn fill_slots<R: Threads + Sync, S: Source + Sync>(
+    rt: &R,
+    alloc: Global,
+    wanted: &Wanted<'_>,
+    workers: u32,
+    sources: &[S],
+    start: u64,
+    total: u64,
+    window: &mut [Slot],
+)
+    requires aligned { start % 65536 ≡ 0 }
+    requires within { start ≤ total }
+    ensures { (i : ℕ) (d : Slot) → i < length window.old → IsTried S.contents S.faultless wanted.now sources.now start total i (slice_index_or window.new i d) }
+{
+    for_each_mut(
+        rt,
+        window,
+        workers.clamp(1, 64) as usize,
+        &|number, slot| { fill_slot(alloc, wanted, sources, start, total, number, slot) },
+    );
+}
+
+// The first fault of a window's slots.
+fn first_fault(window: &[Slot]) -> Result<(), GatherFault>
+    ensures none { OnOk result ((i : ℕ) (d : Slot) → i < length window.now → (slice_index_or window.now i d).fault ≡ None) }
+    ensures some { IfErr result (HasFault window.now) }
+{
+    for slot in window {
+        if let Some(fault) = slot.fault {
+            return Err(fault);
+        }
+    }
+    Ok(())
+}
+
+// Fills a window with the bytes of the blob from byte `start` on, as far as it has slots and the blob, of `total` bytes, goes.
+//
+// So many workers, at least 1 and at most 64, take the window's groups, each as many in a row. A group is asked of the sources, of each at
+// most once, first of the one that had the slot's group in the window before, until one has all of its chunks; with `Grain::Chunk`
+// each chunk of a group that none has whole is then asked for by itself. A source of which a read answers a fault has nothing then. What
+// a source has is accepted under the root, in the mode, before a byte of it is taken.
+//
+// Each byte is that of each blob with the root at its place, or a collision is exhibited, two different inputs with one chaining value, one
+// of the blob's and one of a slice's that is accepted under the root and came from one of the sources.
+//
+// 901 `Unfinished` where no source has some group, nor, where chunks are asked for, some chunk of it; and 911 `Starved` where there is no
+// memory for what one gives.
+pub(crate) fn fill_window<R: Threads + Sync, S: Source + Sync>(
+    rt: &R,
+    alloc: Global,
+    wanted: &Wanted<'_>,
+    workers: u32,
+    sources: &[S],
+    start: u64,
+    total: u64,
+    window: &mut [Slot],
+) -> Result<(), GatherFault>
+    requires aligned { start % 65536 ≡ 0 }
+    requires within { start ≤ total }
+    ensures size { OnOk result (length (window_bytes window.new) ≡ min (65536 * length window.old) (total - start)) }
+    ensures each { OnOk result (AreBytesAt (IsFrom wanted.now S.contents S.faultless sources.now) (fixed_for wanted.now) start (window_bytes window.new)) }
+    ensures fault { IfErr result (λ fault. (fault ≡ Unfinished) ⊎ (fault ≡ Starved)) }
+    ensures missing { IsErrOf result Unfinished → IsMissing S.contents S.faultless wanted.now sources.now total }
+{
+    fill_slots(rt, alloc, wanted, workers, sources, start, total, window);
+    first_fault(window)
+}

@@ -1,0 +1,74 @@
+// Who the holders are and what they have, in which form, how many workers there are, the grain and the capacity have no part in a length that
+// is certified, or in what is written. Which fault is answered depends on what each holder has, and isn't determined.
+
+ghost use Rattle.std.specs.Prelude.{◌≡◌, ◌⊎◌, ℕ, List, IfOk, IfSome};
+ghost use Rattle.bao_windows.specs.Windows.{IsFrom, fixed_for};
+ghost use Rattle.determined_windows.specs.Agreeing.{SameBlob};
+ghost use Rattle.gather.specs.Large.{HasCollision};
+ghost use Rattle.store_core.specs.Laws.{IsBlob};
+
+use bao_read::Source;
+use bao_windows::{Wanted, WindowsFault, certified_length, write_windows};
+use gather::GatherFault;
+use std::alloc::Global;
+use std::io::Write;
+use std::thread::Threads;
+
+// Two lengths that are certified under one root are one, for every blob that has it, or a collision is exhibited from a piece of a source.
+pub fn certified_length_determined<S: Source, T: Source>(
+    alloc: Global,
+    wanted: &Wanted<'_>,
+    other: &Wanted<'_>,
+    sources: &[S],
+    other_sources: &[T],
+) -> (Result<u64, GatherFault>, Result<u64, GatherFault>)
+    requires root { wanted.now.root ≡ other.now.root }
+    requires mode { wanted.now.mode ≡ other.now.mode }
+    ensures { IfOk result.0 (λ m. IfOk result.1 (λ n. (blob : List ℕ) → IsBlob (fixed_for wanted.now) blob → (m ≡ n)
+        ⊎ HasCollision (IsFrom wanted.now S.contents S.faultless sources.now) (fixed_for wanted.now) blob
+        ⊎ HasCollision (IsFrom other.now T.contents T.faultless other_sources.now) (fixed_for other.now) blob)) }
+{
+    (
+        certified_length(alloc, wanted, sources),
+        certified_length(alloc, other, other_sources),
+    )
+}
+
+// Where both wrote a blob, it is the same, or the two are a collision.
+pub fn write_windows_determined<
+    R: AllocGlobal + Threads + Sync,
+    S: Source + Sync,
+    T: Source + Sync,
+    V: Write,
+    W: Write,
+>(
+    rt: &R,
+    wanted: &Wanted<'_>,
+    other: &Wanted<'_>,
+    workers: u32,
+    other_workers: u32,
+    capacity: u64,
+    other_capacity: u64,
+    sources: &[S],
+    other_sources: &[T],
+    ours: &mut V,
+    theirs: &mut W,
+) -> (Result<u64, WindowsFault>, Result<u64, WindowsFault>)
+    requires root { wanted.now.root ≡ other.now.root }
+    requires mode { wanted.now.mode ≡ other.now.mode }
+    requires same { V.contents ours.old ≡ W.contents theirs.old }
+    ensures { IfSome (V.contents ours.old) (λ _. IfOk result.0 (λ m. IfOk result.1 (λ n.
+        SameBlob wanted.now.mode wanted.now.root.0 (V.contents ours.old) (V.contents ours.new) (W.contents theirs.new) m n))) }
+{
+    (
+        write_windows(rt, wanted, workers, capacity, sources, ours),
+        write_windows(
+            rt,
+            other,
+            other_workers,
+            other_capacity,
+            other_sources,
+            theirs,
+        ),
+    )
+}
