@@ -8,7 +8,7 @@ PROGRAM is the built bao_gather, out/bao_gather where it is left out.
 Each case of ROWS is a run, or several, of which all but the last make files for the next. What has to come is what the case put there itself: the blob that the
 holders have, or a fault of docs/CLI.md at a place that scripts/definitions.py gives, and then OUT as it was. A run may have so much memory at once
 (scripts/peak.c), and where that is looked at it may read so many bytes (scripts/shim.c), which says what no clock can: that a large holder isn't
-read for nothing. Zeros are sparse, so that they take no room on the disk; the rest takes 4 GB.
+read for nothing. Zeros are sparse, so that they take no room on the disk; the rest takes 7 GB.
 Prints a line for each case, with what was wrong, and last 'N passed, M failed'. The exit status is 1 where one failed. Needs cc.
 """
 import argparse
@@ -41,7 +41,10 @@ PRINT_ROOT = ["encode", "outboard", "slice"]
 # combined encoding and its plain copy with one changed byte in the middle, and NAME.padded, its outboard encoding with 3 GiB of zeros behind it. A name with a
 # number at its end, as 4M.torn.3, is another name of a file.
 NOTHING = "0"
-BLOBS = {NOTHING: 0, "64K": 64 * KIB, "64K+1": 64 * KIB + 1, "4M": 4 * MIB, "64M": 64 * MIB, "64M+1": 64 * MIB + 1, "1G": GIB}
+BLOBS = {NOTHING: 0, "64K": 64 * KIB, "64K+1": 64 * KIB + 1, "4M": 4 * MIB, "64M": 64 * MIB, "64M+1": 64 * MIB + 1, "300M+1": 300 * MIB + 1, "1G": GIB}
+
+# Of NAME, by the end of their names: copies of which a byte of each group of another third is changed, as combined encodings and as plain copies.
+THIRDS = {f"{kind}{third}": (third, kind == "enc") for kind in ("enc", "raw") for third in range(3)}
 
 # Files of zeros.
 ZEROS = {"zeros-3G": 3 * GIB, "zeros-1T": TIB}
@@ -99,8 +102,9 @@ def decode_beside(outboard, blob, copy):
 
 UNFINISHED = "901 unfinished"
 
-# How many MiB a gathering may have at once, one out of a pipe, a task that keeps the parents of 1 GiB, and one that keeps next to nothing.
-GATHERS, PIPES, READS, KEEPS = 180, 260, 120, 32
+# How many MiB a gathering may have at once window by window, a task that holds 64 MiB, one out of a pipe, one that keeps the parents of 1 GiB, and one that
+# keeps next to nothing.
+WINDOW, GATHERS, PIPES, READS, KEEPS = 40, 180, 260, 120, 32
 
 # How many MiB may be read: four times the encoding of 64 MiB; little, where what a holder has is false from its beginning on; little and what a pipe is read.
 FOUR_TIMES, LITTLE, OF_A_PIPE = 4 * 68, 32, 32 + 68
@@ -112,12 +116,12 @@ TRUE_AND_ZEROS = [counted("64M.bao", 0, "64M"), counted("zeros-3G", 1, NOTHING)]
 
 # Holders that are many, or large.
 HOLDERS = [
-    Row("twenty holders with one damaged chunk in common", gather("64M", *TWENTY), GATHERS, UNFINISHED, read=FOUR_TIMES),
-    Row("these twenty, each counted", gather("64M", *TWENTY, how="--verbose"), GATHERS, UNFINISHED, told=[counted(it, 1, "64M") for it in TWENTY]),
-    Row("a damaged holder beside one of 3 GiB of zeros", BESIDE_ZEROS[0], GATHERS, UNFINISHED, read=LITTLE),
-    Row("a damaged holder beside one of 1 TiB of zeros", BESIDE_ZEROS[1], GATHERS, UNFINISHED, read=LITTLE),
-    Row("a true holder beside one of 3 GiB of zeros, each counted", TRUE_BESIDE_ZEROS, GATHERS, like="64M", told=TRUE_AND_ZEROS, read=FOUR_TIMES),
-    Row("a plain copy of 3 GiB of zeros alone", gather_beside("4M.obao", "4M", "zeros-3G"), GATHERS, UNFINISHED, read=LITTLE),
+    Row("twenty holders with one damaged chunk in common", gather("64M", *TWENTY), WINDOW, UNFINISHED, read=FOUR_TIMES),
+    Row("these twenty, each counted", gather("64M", *TWENTY, how="--verbose"), WINDOW, UNFINISHED, told=[counted(it, 1, "64M") for it in TWENTY]),
+    Row("a damaged holder beside one of 3 GiB of zeros", BESIDE_ZEROS[0], WINDOW, UNFINISHED, read=LITTLE),
+    Row("a damaged holder beside one of 1 TiB of zeros", BESIDE_ZEROS[1], WINDOW, UNFINISHED, read=LITTLE),
+    Row("a true holder beside one of 3 GiB of zeros, each counted", TRUE_BESIDE_ZEROS, WINDOW, like="64M", told=TRUE_AND_ZEROS, read=FOUR_TIMES),
+    Row("a plain copy of 3 GiB of zeros alone", gather_beside("4M.obao", "4M", "zeros-3G"), WINDOW, UNFINISHED, read=LITTLE),
     Row("a plain copy of 3 GiB of zeros to decode", decode_beside("4M.obao", "4M", "zeros-3G"), GATHERS, "502 mismatch at 0", read=LITTLE),
 ]
 
@@ -163,6 +167,32 @@ LONG = [
     Row("1 GiB decoded beside its outboard encoding", OUTBOARDED, READS, like="1G"),
 ]
 
+# How many MiB a gathering may have at once beside the parents of 300 MiB.
+BESIDE_PARENTS = 64
+
+
+def gather_long(blob, *files, how=""):
+    return gather(blob, *files, how=f"--long {how}")
+
+
+# Blobs of any length, window by window.
+ANY_LENGTH = [
+    Row("300 MiB and a byte out of three encodings, each with another third damaged", gather_long("300M+1", *(f"300M+1.enc{k}" for k in range(3))), WINDOW, like="300M+1"),
+    Row(
+        "300 MiB and a byte out of three plain copies, each with another third damaged",
+        gather_long("300M+1", *(f"300M+1.raw{k}" for k in range(3)), how="--outboard 300M+1.obao"),
+        BESIDE_PARENTS,
+        like="300M+1",
+    ),
+    Row("64 MiB, of any length", gather_long("64M", "64M.bao"), WINDOW, like="64M", read=FOUR_TIMES),
+    Row("a byte more than a store has room for", gather("64M+1", "64M+1.bao"), GATHERS, "805 too large", read=LITTLE),
+    Row("a byte more than a store has room for, of any length", gather_long("64M+1", "64M+1.bao"), WINDOW, like="64M+1"),
+    Row("twenty holders with one damaged chunk in common, of any length", gather_long("64M", *TWENTY), WINDOW, UNFINISHED, read=FOUR_TIMES),
+    Row("a damaged holder beside one of 1 TiB of zeros, of any length", gather_long("4M", "4M.torn", "zeros-1T"), WINDOW, UNFINISHED, read=LITTLE),
+    Row("an endless pipe beside a damaged holder, of any length", gather_long("4M", "4M.torn", STDIN), PIPES, UNFINISHED, piped=ZEROS_COME, read=OF_A_PIPE),
+    Row("64 MiB gathered over their encoding, of any length", (f"encode 64M {OUT}", *gather_long("64M", "64M.torn", OUT)), GATHERS, like="64M"),
+]
+
 # FILE and OUT are one: what is written over was read before.
 OVER_ITSELF = [
     Row("64 MiB decoded over their encoding", (f"encode 64M {OUT}", f"decode @64M {OUT} {OUT}"), GATHERS, like="64M"),
@@ -185,7 +215,7 @@ UNOPENED = [
     Row("a file that may not be read before a true holder", LOCKED_TRUE, GATHERS, like="4M", told=[f"left out {LOCKED}: can't be read", TRUE]),
 ]
 
-ROWS = [*HOLDERS, *OUTBOARDS, *PIPED, *LONG, *OVER_ITSELF, *UNOPENED]
+ROWS = [*HOLDERS, *OUTBOARDS, *PIPED, *LONG, *ANY_LENGTH, *OVER_ITSELF, *UNOPENED]
 
 
 def blob_of(row):
@@ -243,6 +273,12 @@ class Files:
         elif kind in ("torn", "worn"):
             self.copy(f"{stem}.bao" if kind == "torn" else stem, path)
             self.change(path, middle(BLOBS[stem], is_encoded=kind == "torn"))
+        elif kind in THIRDS:
+            third, is_encoded = THIRDS[kind]
+            self.copy(f"{stem}.bao" if is_encoded else stem, path)
+            groups = -(-bao.chunks_of(BLOBS[stem]) // GROUP_LEN)
+            for group in range(groups * third // 3, groups * (third + 1) // 3):
+                self.change(path, place(BLOBS[stem], GROUP_LEN * group, is_encoded))
         elif kind == "padded":
             self.copy(f"{stem}.obao", path)
             self.lengthen(path, os.path.getsize(path) + 3 * GIB)
@@ -312,10 +348,20 @@ class Files:
             os.remove(self.path(name))
 
 
+@functools.cache
+def places(length):
+    """Where the chunks of so many bytes lie in their combined encoding, one after another."""
+    return [it.offset for it in bao.slice_nodes(length, 0, 2**64 - 1) if not it.is_parent]
+
+
+def place(length, number, is_encoded):
+    """Where a chunk lies: among the bytes, or in their combined encoding."""
+    return places(length)[number] if is_encoded else bao.CHUNK_LEN * number
+
+
 def middle(length, is_encoded):
-    """Where the chunk in the middle of so many bytes lies: among them, or in their combined encoding."""
-    number = bao.chunks_of(length) // 2
-    return bao.place_of(length, number) if is_encoded else bao.CHUNK_LEN * number
+    """Where the one in their middle does."""
+    return place(length, bao.chunks_of(length) // 2, is_encoded)
 
 
 class Trial:

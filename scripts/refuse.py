@@ -107,9 +107,12 @@ OWN = {
     "slice": ["401"],
     "decode": [],
     "decode-slice": [],
-    "gather": ["801", "806", "903", "911"],
+    "gather": ["903", "911"],
     "replay": ["401", "701"],
 }
+
+# Those of a gathering that makes an encoding, and so needs a store.
+STORED = ["401", "801", "806"]
 
 
 @dataclass(frozen=True)
@@ -130,7 +133,7 @@ class Case:
         self.words, self.files, self.sizes, self.pipes = words, {**files, OUT: KEPT}, sizes or {}, pipes
         # An encoding is kept where it can't be read twice.
         is_kept = words[0] in DECODES and "--outboard" not in words and ("/dev/stdin" in files or bool(pipes))
-        own = OWN[words[0]] + (["401"] if "--encode" in words else []) + (["504"] if is_kept else [])
+        own = OWN[words[0]] + (STORED if "--encode" in words else []) + (["504"] if is_kept else [])
         self.memory = {f"bao_gather: {it} memory\n".encode() for it in own} | {PLAIN}
         # The first regular FILE is opened once more, which keeps a descriptor for OUT, and what a FILE gives is read by position.
         self.is_placed = words[0] == "gather"
@@ -346,6 +349,10 @@ def tasks(options):
     yield case(f"gather --salvage --capacity 100 {root} out first second", torn)
     yield case(f"gather --salvage --verbose --workers 1 --capacity 100 {root} out first nofile second", torn)
     yield case(f"gather --salvage --outboard parents --workers 1 {root} out third fourth", {"parents": parents, **worn})
+    yield case(f"gather --long {root} out piece whole", {"piece": piece, "whole": whole})
+    yield case(f"gather --long --salvage --verbose --workers 3 {root} out first nofile second", torn)
+    yield case(f"gather --long --workers 1 {root} out damaged", {"damaged": damaged})
+    yield case(f"gather --long --outboard parents {root} out marred blob", {"parents": parents, "marred": marred, "blob": blob})
     yield case(f"decode --outboard parents {root} blob out", {"parents": parents, "blob": blob})
     yield case(f"replay --capacity 100 {root} script whole damaged", {"script": steps, "whole": whole, "damaged": damaged})
 
@@ -480,6 +487,8 @@ def holders():
     yield Case(["gather", "--verbose", "--capacity", "100", root, OUT, "pipe", "nofile", *names, "whole"], files, pipes=["pipe"])
     yield gather(["nofile", *names], "--verbose", "--capacity", "100")
     yield gather(names)
+    yield gather(names, "--long")
+    yield gather(["whole", *names], "--long", "--salvage", "--workers", "1")
     yield gather(names, "--salvage", "--capacity", "100")
     yield gather(["whole", *names], "--salvage", "--capacity", "100", "--workers", "1")
     yield gather([*names[:10], "whole"])

@@ -52,9 +52,10 @@ TASKS = {
     f"decode --outboard blob.obao {ROOT} blob OUT": BLOB,
     f"gather {ROOT} OUT torn.bao blob.bao": BLOB,
     f"gather --encode {ROOT} OUT blob.bao": ENCODED,
+    f"gather --long {ROOT} OUT torn.bao blob.bao": BLOB,
 }
 DECODE, GATHER = f"decode {ROOT} blob.bao OUT", f"gather {ROOT} OUT torn.bao blob.bao"
-REFUSED = {f"decode {ROOT} torn.bao OUT": fault_of(TORN), f"gather {ROOT} OUT torn.bao": "901 unfinished"}
+REFUSED = {f"decode {ROOT} torn.bao OUT": fault_of(TORN), f"gather {ROOT} OUT torn.bao": "901 unfinished", f"gather --long {ROOT} OUT torn.bao": "901 unfinished"}
 
 CANNOT = "cannot write {out}"
 

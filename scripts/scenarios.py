@@ -721,7 +721,7 @@ class Programs:
         self.told = []
         while words:
             word = words.pop(0)
-            if word in ("--salvage", "--encode", "--verbose"):
+            if word in ("--long", "--salvage", "--encode", "--verbose"):
                 options[word] = ""
             elif word.startswith("--"):
                 options[word] = words.pop(0)
@@ -730,6 +730,8 @@ class Programs:
         name, *given = plain
         try:
             root = self.root_of(given[0]) if name in ("decode", "decode-slice", "gather", "replay") else None
+            if "--long" in options and ("--encode" in options or options["--capacity"] != "65536"):
+                raise Refused(2, "usage: long excludes capacity and encode")
             mode = self.mode_of(options.get("--key"), options.get("--context"))
             if name in self.OUTS and given[self.OUTS[name]] in self.STANDARD_OUTPUT:
                 raise Refused(2, "usage: OUT is standard output")
@@ -813,10 +815,11 @@ class Programs:
         answer, opened, is_done = Refused(3, f"cannot read {files[0]}"), [], False
         grains = [GROUP_LEN, 1] if "--salvage" in options else [GROUP_LEN]
         # What isn't a regular file is opened only where the regular ones leave the blob unfinished.
+        capacity = 2**54 if "--long" in options else int(options["--capacity"])
         for names in [regular] if found == regular else [regular, found]:
             if names and not is_done:
                 opened = names
-                answer = self.gathered(mode, root, int(options["--capacity"]), outline, [self.given(it, options, outline) for it in names], grains)
+                answer = self.gathered(mode, root, capacity, outline, [self.given(it, options, outline) for it in names], grains)
                 is_done = not isinstance(answer, Refused) or str(answer) not in ("901 unfinished", "805 too large")
         for it in files if "--verbose" in options else []:
             if it in self.irregular and it not in opened:

@@ -1,5 +1,5 @@
 -- what a task prints, and what it writes to its file OUT
-use Rattle.std.specs.Prelude.{◌≡◌, ◌≢◌, ◌<◌, ◌≤◌, ℕ, ◌+◌, ◌-◌, ◌*◌, ◌^◌, List, length, Option, Some, None, Result, Ok, Err, codes}
+use Rattle.std.specs.Prelude.{◌≡◌, ◌≢◌, ◌⊎◌, ◌<◌, ◌≤◌, ℕ, ◌+◌, ◌-◌, ◌*◌, ◌^◌, true, List, length, Option, Some, None, Result, Ok, Err, codes}
 use Rattle.std.specs.Borrow.{Bor}
 use Rattle.std.specs.Io.KnownBytes.{Appends, Keeps}
 use Rattle.std.specs.Option.{option_copied}
@@ -7,14 +7,14 @@ use Rattle.b3tree.specs.declared.mode.Mode.{Mode}
 use Rattle.b3tree.specs.declared.values.Hash.{Hash as Root32}
 use Rattle.b3tree.specs.Hashing.{hash, stream}
 use Rattle.bao_command.specs.declared.fault.Fault.{Fault}
-use Rattle.bao_command.specs.declared.fault.Fault.TheVariants.{Word, Root, Key, KeyAndContext, OutputRange, TooManyFiles, OutIsOutput, File, Decode as Undecoded, Gather as Ungathered, Replay as Unreplayed}
+use Rattle.bao_command.specs.declared.fault.Fault.TheVariants.{Word, Root, Key, KeyAndContext, OutputRange, TooManyFiles, OutIsOutput, LongAndOthers, File, Decode as Undecoded, Gather as Ungathered, Replay as Unreplayed}
 use Rattle.bao_files.specs.declared.fault.FileFault.{FileFault}
 use Rattle.bao_files.specs.declared.fault.FileFault.TheVariants as file
 use Rattle.bao_files.specs.declared.kinds.Part.{Part}
 use Rattle.bao_files.specs.Printed.{AppendsBeginning, IsDigits, digits_line, ok_line}
 use Rattle.bao_decode.specs.Copies.{IsCopy}
 use Rattle.bao_decode.specs.Ranges.{IsPartText, written_count}
-use Rattle.bao_tasks.specs.Gathered.{HasOutline}
+use Rattle.bao_tasks.specs.Gathered.{Fits, HasOutline}
 use Rattle.bao_tasks.specs.Replayed.{IsReplayOf}
 use Rattle.bao_request.specs.declared.tasks.Request.{Request}
 use Rattle.bao_request.specs.declared.tasks.Task.{Task}
@@ -33,7 +33,7 @@ line_of mode (Hash at length file) bytes = digits_line (stream mode bytes at len
 line_of mode (Encode encoding file out) bytes = digits_line (hash mode bytes)
 line_of mode (Decode root part file out) bytes = part_line part bytes
 line_of mode (DecodeCopy root outboard copy out) bytes = ok_line (length bytes)
-line_of mode (Gather root workers capacity outboard salvage encode verbose files out) bytes = ok_line (length bytes)
+line_of mode (Gather root workers capacity long outboard salvage encode verbose files out) bytes = ok_line (length bytes)
 line_of mode (Replay root capacity script files) bytes = bytes
 
 -- the task's root, where it has one, is 64 hexadecimal digits
@@ -42,7 +42,7 @@ HasRoot (Hash at length file) = Unit {0}
 HasRoot (Encode encoding file out) = Unit {0}
 HasRoot (Decode root part file out) = IsDigits root.now
 HasRoot (DecodeCopy root outboard copy out) = IsDigits root.now
-HasRoot (Gather root workers capacity outboard salvage encode verbose files out) = IsDigits root.now
+HasRoot (Gather root workers capacity long outboard salvage encode verbose files out) = IsDigits root.now
 HasRoot (Replay root capacity script files) = IsDigits root.now
 
 -- the path isn't one of the three names of standard output
@@ -55,7 +55,7 @@ WritesApart (Hash at length file) = Unit {0}
 WritesApart (Encode encoding file out) = IsNoOutput out.now
 WritesApart (Decode root part file out) = IsNoOutput out.now
 WritesApart (DecodeCopy root outboard copy out) = IsNoOutput out.now
-WritesApart (Gather root workers capacity outboard salvage encode verbose files out) = IsNoOutput out.now
+WritesApart (Gather root workers capacity long outboard salvage encode verbose files out) = IsNoOutput out.now
 WritesApart (Replay root capacity script files) = Unit {0}
 
 -- the output that the task asks for ends after 2^64 - 1
@@ -64,8 +64,17 @@ IsPastOutput (Hash at length file) = ¬ (at + length ≤ 2 ^ 64 - 1)
 IsPastOutput (Encode encoding file out) = ⊥
 IsPastOutput (Decode root part file out) = ⊥
 IsPastOutput (DecodeCopy root outboard copy out) = ⊥
-IsPastOutput (Gather root workers capacity outboard salvage encode verbose files out) = ⊥
+IsPastOutput (Gather root workers capacity long outboard salvage encode verbose files out) = ⊥
 IsPastOutput (Replay root capacity script files) = ⊥
+
+-- A blob of any length is asked for, and a capacity that isn't the one that counts where none is given, or an encoding in its place.
+abbrev pub IsMixed : Task → Type 0
+IsMixed (Hash at length file) = ⊥
+IsMixed (Encode encoding file out) = ⊥
+IsMixed (Decode root part file out) = ⊥
+IsMixed (DecodeCopy root outboard copy out) = ⊥
+IsMixed (Gather root workers capacity long outboard salvage encode verbose files out) = (long ≡ true) × ((capacity ≢ 65536) ⊎ (encode ≡ true))
+IsMixed (Replay root capacity script files) = ⊥
 
 -- the task has more than 64 files
 abbrev pub HasManyFiles : Task → Type 0
@@ -73,12 +82,14 @@ HasManyFiles (Hash at length file) = ⊥
 HasManyFiles (Encode encoding file out) = ⊥
 HasManyFiles (Decode root part file out) = ⊥
 HasManyFiles (DecodeCopy root outboard copy out) = ⊥
-HasManyFiles (Gather root workers capacity outboard salvage encode verbose files out) = 64 < length files.items
+HasManyFiles (Gather root workers capacity long outboard salvage encode verbose files out) = 64 < length files.items
 HasManyFiles (Replay root capacity script files) = 64 < length files.items
 
--- The arguments are refused only with reason: for the root, for where the output ends, for how many files there are, and for where OUT is.
-abbrev pub IsDue : Type 0 → Type 0 → Type 0 → Type 0 → Fault → Type 0
-IsDue root past many mixed fault = (fault ≡ Root → root) × (fault ≡ OutputRange → past) × (fault ≡ TooManyFiles → many) × (fault ≡ OutIsOutput → mixed)
+-- The arguments are refused only with reason: for the root, for where the output ends, for how many files there are, for where OUT is, and
+-- for what excludes each other.
+abbrev pub IsDue : Type 0 → Type 0 → Type 0 → Type 0 → Type 0 → Fault → Type 0
+IsDue root past many out mixed fault =
+    (fault ≡ Root → root) × (fault ≡ OutputRange → past) × (fault ≡ TooManyFiles → many) × (fault ≡ OutIsOutput → out) × (fault ≡ LongAndOthers → mixed)
 
 -- the text of a part of the blob with this root, in hexadecimal digits, is accepted
 abbrev pub IsRightPart : Mode → List ℕ → Part → List ℕ → Type 0
@@ -102,15 +113,15 @@ IsBeside mode root None = Unit {0}
 IsBeside mode root (Some outboard) = (key : List ℕ) × ((decode_of root ≡ Ok key) × HasOutline mode key)
 
 -- what the bytes have to be: a text that is decoded is accepted under the root that the arguments give, or a plain copy is beside an
--- outboard encoding that is; a blob that is gathered, from at most 64 files, has that root and no more chunks than the capacity,
+-- outboard encoding that is; a blob that is gathered, from at most 64 files, has that root and, where it mayn't be of any length, no more chunks than the capacity,
 -- and an outboard encoding that it is gathered beside was accepted under that root; and a schedule's replies are those of its run
 abbrev pub IsRight : Mode → Task → List ℕ → Type 0
 IsRight mode (Hash at length file) bytes = Unit {0}
 IsRight mode (Encode encoding file out) bytes = Unit {0}
 IsRight mode (Decode root part file out) bytes = IsRightPart mode root.now part bytes
 IsRight mode (DecodeCopy root outboard copy out) bytes = IsRightCopy mode root.now bytes
-IsRight mode (Gather root workers capacity outboard salvage encode verbose files out) bytes =
-    (length files.items ≤ 64) × ((HasHash mode root.now bytes × (length bytes ≤ 1024 * capacity)) × IsBeside mode root.now outboard)
+IsRight mode (Gather root workers capacity long outboard salvage encode verbose files out) bytes =
+    (length files.items ≤ 64) × ((HasHash mode root.now bytes × Fits long capacity (length bytes)) × IsBeside mode root.now outboard)
 IsRight mode (Replay root capacity script files) bytes = (length files.items ≤ 64) × IsReplay mode root.now capacity (length files.items) bytes
 
 -- the mode that the request's key and context give
@@ -144,6 +155,7 @@ LeavesOf request old new KeyAndContext = Keeps old new
 LeavesOf request old new OutputRange = Keeps old new
 LeavesOf request old new TooManyFiles = Keeps old new
 LeavesOf request old new OutIsOutput = Keeps old new
+LeavesOf request old new LongAndOthers = Keeps old new
 LeavesOf request old new (File fault) = LeavesOfFile request old new fault
 LeavesOf request old new (Undecoded fault) = Keeps old new
 LeavesOf request old new (Ungathered fault) = Keeps old new

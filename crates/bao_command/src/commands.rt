@@ -1,4 +1,4 @@
-ghost use Rattle.std.specs.Prelude.{◌≡◌, ◌≢◌, ◌⊎◌, true, false, if◌then◌else◌, ◌+◌, ◌-◌, ◌*◌, ◌^◌, ◌<◌, ◌≤◌, ℕ, List, length, map, string_bytes, IfErr, IfOk, IfSome, IsErrAnd, OnOk};
+ghost use Rattle.std.specs.Prelude.{◌≡◌, ◌≢◌, ◌⊎◌, true, false, if◌then◌else◌, ◌+◌, ◌-◌, ◌*◌, ◌^◌, ◌<◌, ◌≤◌, ℕ, List, length, map, string_bytes, IfErr, IfOk, IsErrAnd, OnOk};
 ghost use Rattle.bao_command.specs.declared.fault.Fault.TheVariants as Fault;
 ghost use Rattle.gather.specs.declared.grain.Grain.TheVariants as Grain;
 ghost use Rattle.std.specs.Io.KnownBytes.{Appends, Keeps};
@@ -7,10 +7,10 @@ ghost use Rattle.clap.specs.Words.{kind_of};
 ghost use Rattle.hex.specs.Hex.{decode_of};
 ghost use Rattle.bao_request.specs.CommandLine.{IsHelp};
 ghost use Rattle.bao_files.specs.Printed.{IsDigits, digits_line, ok_line};
-ghost use Rattle.bao_tasks.specs.Gathered.{HasOutline, IsGathered};
+ghost use Rattle.bao_tasks.specs.Gathered.{Fits};
 ghost use Rattle.bao_command.specs.Outcome.{AreRefused, Begun, Done};
 ghost use Rattle.bao_command.specs.Printed.{CommandPrints, OnPrinted, told_of};
-ghost use Rattle.bao_command.specs.Tasks.{Answers, HasHash, HasManyFiles, HasRoot, IsBeside, IsDue, IsPastOutput, IsReplay, IsRight, IsRightCopy, IsRightPart, WritesApart, line_of, part_line};
+ghost use Rattle.bao_command.specs.Tasks.{Answers, HasHash, HasManyFiles, HasRoot, IsBeside, IsDue, IsMixed, IsPastOutput, IsReplay, IsRight, IsRightCopy, IsRightPart, WritesApart, line_of, part_line};
 ghost use Rattle.bao_command.specs.Told.{worth_line};
 
 use crate::fault::Fault;
@@ -23,9 +23,7 @@ use bao_files::{
     print_count, print_digits, print_input, print_text, shared_len,
 };
 use bao_request::{Request, Task, parse};
-use bao_tasks::{
-    Fate, GatheredFault, Gathering, Grain, Worth, gather_beside, gather_files, replay_files,
-};
+use bao_tasks::{Fate, Form, Gathering, Grain, Worth, gather_beside, gather_files, replay_files};
 use clap::error::ErrorKind;
 use std::alloc::Global;
 use std::fs::File;
@@ -36,6 +34,9 @@ use std::thread::Threads;
 
 // The most files that a task takes.
 const MOST_FILES: usize = 64;
+
+// The capacity of a blob that is gathered, in chunks, where none is given.
+const MOST_CHUNKS: u32 = 65_536;
 
 /// Runs the program on `words`, its name first, with `out` and `err` as its standard output and error,
 /// and answers the exit status: 0 done, 1 a text or a blob that is refused, 2 wrong arguments, 3 a file fault, 4 out of
@@ -76,9 +77,11 @@ fn serve<
 >(rt: &R, request: &Request<'a>, out: &mut O, err: &mut E, progress: &P) -> Result<(), Fault<'a>>
     ensures answer { Answers request.now (O.contents out.old) (O.contents out.new) result }
     ensures root { ¬ HasRoot request.now.task → IsErrAnd result (λ fault. fault ≡ Fault.Root) }
-    ensures due { IfErr result (IsDue (¬ HasRoot request.now.task) (IsPastOutput request.now.task) (HasManyFiles request.now.task) (¬ WritesApart request.now.task)) }
+    ensures mixed { HasRoot request.now.task → IsMixed request.now.task → IsErrAnd result (λ fault. fault ≡ Fault.LongAndOthers) }
+    ensures due { IfErr result (IsDue (¬ HasRoot request.now.task) (IsPastOutput request.now.task) (HasManyFiles request.now.task) (¬ WritesApart request.now.task) (IsMixed request.now.task)) }
 {
     check_root(&request.task)?;
+    check_long(&request.task)?;
     let mode = mode_of(request.key, request.context)?;
     if writes_apart(&request.task) {
         serve_task(rt, &mode, &request.task, out, err, progress)
@@ -90,7 +93,7 @@ fn serve<
 // The answer of printing, as a fault of the program.
 fn told<'a>(printed: Result<(), FileFault<'a>>) -> Result<(), Fault<'a>>
     ensures prints { result ≡ told_of printed.entry }
-    ensures due { IfErr result (IsDue ⊥ ⊥ ⊥ ⊥) }
+    ensures due { IfErr result (IsDue ⊥ ⊥ ⊥ ⊥ ⊥) }
 {
     match printed {
         Ok(()) => Ok(()),
@@ -120,7 +123,7 @@ fn hash<'a, R: Files<File = File> + AllocGlobal + Threads + Sync, O: Write, P: P
     progress: &P,
 ) -> Result<(), Fault<'a>>
     ensures prints { (bytes : List ℕ) × CommandPrints (digits_line (stream mode.now bytes at len)) (O.contents out.old) (O.contents out.new) result }
-    ensures due { IfErr result (IsDue ⊥ (¬ (at + len ≤ 2 ^ 64 - 1)) ⊥ ⊥) }
+    ensures due { IfErr result (IsDue ⊥ (¬ (at + len ≤ 2 ^ 64 - 1)) ⊥ ⊥ ⊥) }
 {
     if !xof_fits(at, u64::from(len)) {
         return Err(Fault::OutputRange);
@@ -145,7 +148,7 @@ fn encode<'a, R: Files<File = File> + AllocGlobal + Threads + Sync, O: Write, P:
     progress: &P,
 ) -> Result<(), Fault<'a>>
     ensures prints { (bytes : List ℕ) × CommandPrints (digits_line (hash_of mode.now bytes)) (O.contents out.old) (O.contents out.new) result }
-    ensures due { IfErr result (IsDue ⊥ ⊥ ⊥ ⊥) }
+    ensures due { IfErr result (IsDue ⊥ ⊥ ⊥ ⊥ ⊥) }
 {
     match encode_file(rt, mode, encoding, file, path, progress) {
         Ok(hash) => told(print_digits(rt.alloc(), &hash.0, out)),
@@ -165,7 +168,7 @@ fn decode<'a, R: Files<File = File> + AllocGlobal + Threads + Sync, O: Write>(
 ) -> Result<(), Fault<'a>>
     ensures prints { (bytes : List ℕ) × OnPrinted result (IsRightPart mode.now digits.now part.now bytes)
         × CommandPrints (part_line part.now bytes) (O.contents out.old) (O.contents out.new) result }
-    ensures due { IfErr result (IsDue (¬ IsDigits digits.now) ⊥ ⊥ ⊥) }
+    ensures due { IfErr result (IsDue (¬ IsDigits digits.now) ⊥ ⊥ ⊥ ⊥) }
 {
     let root = root_of(digits)?;
     match decode_file(rt, mode, &root, part, file, path) {
@@ -186,7 +189,7 @@ fn decode_beside<'a, R: Files<File = File> + AllocGlobal, O: Write>(
 ) -> Result<(), Fault<'a>>
     ensures prints { (bytes : List ℕ) × OnPrinted result (IsRightCopy mode.now digits.now bytes)
         × CommandPrints (ok_line (length bytes)) (O.contents out.old) (O.contents out.new) result }
-    ensures due { IfErr result (IsDue (¬ IsDigits digits.now) ⊥ ⊥ ⊥) }
+    ensures due { IfErr result (IsDue (¬ IsDigits digits.now) ⊥ ⊥ ⊥ ⊥) }
 {
     let root = root_of(digits)?;
     match decode_copy(rt, mode, &root, outboard, copy, path) {
@@ -235,9 +238,17 @@ fn grain_of(salvage: bool) -> Grain
 }
 
 // How a blob is gathered, as the arguments have it.
-fn how_of(workers: u32, capacity: u32, salvage: bool, encode: bool, verbose: bool) -> Gathering
+fn how_of(
+    workers: u32,
+    capacity: u32,
+    long: bool,
+    salvage: bool,
+    encode: bool,
+    verbose: bool,
+) -> Gathering
     ensures workers { result.workers ≡ workers }
     ensures capacity { result.capacity ≡ capacity }
+    ensures long { result.long ≡ long }
     ensures encode { result.encode ≡ encode }
     ensures count { result.count ≡ verbose }
     ensures grain { result.grain ≡ (if salvage then Grain.Chunk else Grain.Group) }
@@ -245,33 +256,15 @@ fn how_of(workers: u32, capacity: u32, salvage: bool, encode: bool, verbose: boo
     Gathering {
         workers,
         capacity,
+        long,
         encode,
         count: verbose,
         grain: grain_of(salvage),
     }
 }
 
-// Gathers the blob out of the files, which are plain copies where an outboard encoding is named.
-fn gather_by<'a, R: Files<File = File> + AllocGlobal + Threads + Sync>(
-    rt: &R,
-    mode: &Mode,
-    root: &Hash,
-    how: Gathering,
-    outboard: Option<&'a str>,
-    files: &[&'a str],
-    path: &'a str,
-    fates: &mut [Fate],
-) -> Result<u64, GatheredFault<'a>>
-    ensures ok { IfOk result (λ count. (blob : List ℕ) × IsGathered how mode.now root.now.0 blob × (count ≡ length blob)) }
-    ensures beside { OnOk result (IfSome outboard.entry (λ _. HasOutline mode.now root.now.0)) }
-{
-    match outboard {
-        Some(outboard) => gather_beside(rt, mode, root, how, outboard, files, path, fates),
-        None => gather_files(rt, mode, root, how, files, path, fates),
-    }
-}
-
-// Gathers the blob out of the files, says where it is asked what each of them is worth, and prints how many bytes it has.
+// Gathers the blob out of the files, which are plain copies where an outboard encoding is named. It says where it is
+// asked what each of them is worth, and prints how many bytes the blob has.
 fn gather<'a, R: Files<File = File> + AllocGlobal + Threads + Sync, O: Write, E: Write>(
     rt: &R,
     mode: &Mode,
@@ -284,11 +277,11 @@ fn gather<'a, R: Files<File = File> + AllocGlobal + Threads + Sync, O: Write, E:
     err: &mut E,
 ) -> Result<(), Fault<'a>>
     ensures beside { OnPrinted result (IsBeside mode.now digits.now outboard.entry) }
-    ensures answer { (blob : List ℕ) × OnPrinted result (HasHash mode.now digits.now blob × (length blob ≤ 1024 * how.capacity))
+    ensures answer { (blob : List ℕ) × OnPrinted result (HasHash mode.now digits.now blob × Fits how.long how.capacity (length blob))
         × CommandPrints (ok_line (length blob)) (O.contents out.old) (O.contents out.new) result }
     ensures few { OnPrinted result (length files.now ≤ 64) }
     ensures many { 64 < length files.now → IsErrAnd result (λ fault. fault ≡ Fault.TooManyFiles) }
-    ensures due { IfErr result (IsDue (¬ IsDigits digits.now) ⊥ (64 < length files.now) ⊥) }
+    ensures due { IfErr result (IsDue (¬ IsDigits digits.now) ⊥ (64 < length files.now) ⊥ ⊥) }
 {
     if files.len() > MOST_FILES {
         return Err(Fault::TooManyFiles);
@@ -298,7 +291,10 @@ fn gather<'a, R: Files<File = File> + AllocGlobal + Threads + Sync, O: Write, E:
         return Err(Fault::File(FileFault::Memory));
     };
     let fates_of = fates.as_mut_slice();
-    let gathered = gather_by(rt, mode, &root, how, outboard, files, path, fates_of);
+    let gathered = match outboard {
+        Some(outboard) => gather_beside(rt, mode, &root, how, outboard, files, path, fates_of),
+        None => gather_files(rt, mode, &root, &Form::Slices, how, files, path, fates_of),
+    };
     tell(how.count, files, fates.as_slice(), err);
     match gathered {
         Ok(count) => told(print_count(rt.alloc(), count, out)),
@@ -320,7 +316,7 @@ fn replay<'a, R: Files + AllocGlobal, O: Write>(
         × CommandPrints text (O.contents out.old) (O.contents out.new) result }
     ensures few { OnPrinted result (length files.now ≤ 64) }
     ensures many { 64 < length files.now → IsErrAnd result (λ fault. fault ≡ Fault.TooManyFiles) }
-    ensures due { IfErr result (IsDue (¬ IsDigits digits.now) ⊥ (64 < length files.now) ⊥) }
+    ensures due { IfErr result (IsDue (¬ IsDigits digits.now) ⊥ (64 < length files.now) ⊥ ⊥) }
 {
     if files.len() > MOST_FILES {
         return Err(Fault::TooManyFiles);
@@ -349,7 +345,7 @@ fn serve_task<
 ) -> Result<(), Fault<'a>>
     ensures prints { (bytes : List ℕ) × OnPrinted result (IsRight mode.now task.now bytes)
         × CommandPrints (line_of mode.now task.now bytes) (O.contents out.old) (O.contents out.new) result }
-    ensures due { IfErr result (IsDue (¬ HasRoot task.now) (IsPastOutput task.now) (HasManyFiles task.now) ⊥) }
+    ensures due { IfErr result (IsDue (¬ HasRoot task.now) (IsPastOutput task.now) (HasManyFiles task.now) ⊥ ⊥) }
 {
     match task {
         Task::Hash { at, length, file } => hash(rt, mode, *at, *length, file, out, progress),
@@ -374,6 +370,7 @@ fn serve_task<
             root,
             workers,
             capacity,
+            long,
             outboard,
             salvage,
             encode,
@@ -381,7 +378,7 @@ fn serve_task<
             files,
             out: path,
         } => {
-            let how = how_of(*workers, *capacity, *salvage, *encode, *verbose);
+            let how = how_of(*workers, *capacity, *long, *salvage, *encode, *verbose);
             let files = files.as_slice();
             gather(rt, mode, root, how, *outboard, files, path, out, err)
         }
@@ -407,6 +404,22 @@ fn check_root<'a>(task: &Task<'a>) -> Result<(), Fault<'a>>
     match bytes_of_digits(root) {
         Some(_) => Ok(()),
         None => Err(Fault::Root),
+    }
+}
+
+// A blob of any length goes without a capacity and without its encoding.
+fn check_long<'a>(task: &Task<'a>) -> Result<(), Fault<'a>>
+    ensures ok { OnOk result (¬ IsMixed task.now) }
+    ensures err { IfErr result (λ fault. (fault ≡ Fault.LongAndOthers) × IsMixed task.now) }
+{
+    match task {
+        Task::Gather {
+            long: true,
+            capacity,
+            encode,
+            ..
+        } if *encode || *capacity != MOST_CHUNKS => Err(Fault::LongAndOthers),
+        _ => Ok(()),
     }
 }
 

@@ -36,6 +36,9 @@ pub enum Fault<'a> {
     /// OUT is a name of standard output, where the line with the hash or with `ok` goes. Status 2.
     #[error("usage: OUT is standard output")]
     OutIsOutput,
+    /// `--long` is given, and `--encode` or a `--capacity` other than 65536 with it. Status 2.
+    #[error("usage: long excludes capacity and encode")]
+    LongAndOthers,
     /// A file or standard output was not read or written. Status 3, and 4 out of memory.
     #[error("{0}")]
     File(FileFault<'a>),
@@ -139,7 +142,8 @@ impl Fault<'_> {
             | Fault::KeyAndContext
             | Fault::OutputRange
             | Fault::TooManyFiles
-            | Fault::OutIsOutput => 2,
+            | Fault::OutIsOutput
+            | Fault::LongAndOthers => 2,
             Fault::File(fault) => file_status(fault),
             Fault::Decode(fault) => decode_status(fault),
             Fault::Gather(fault) => gathered_status(fault),
@@ -158,7 +162,8 @@ impl Fault<'_> {
             | Fault::KeyAndContext
             | Fault::OutputRange
             | Fault::TooManyFiles
-            | Fault::OutIsOutput => None,
+            | Fault::OutIsOutput
+            | Fault::LongAndOthers => None,
             Fault::File(fault) => fault.code(),
             Fault::Decode(fault) => fault.code(),
             Fault::Gather(fault) => fault.code(),

@@ -99,6 +99,10 @@ decode_slice_app = with_slice_rules (with_range_rules (new_app (codes "decode-sl
 abbrev pub workers_rule : Rule
 workers_rule = record (option_rule (codes "workers")) { parser = Some (Signed (pos 1) (pos 64)); defaults = codes "4" ∷ [] }
 
+-- whether the blob may have any length: an option `--long` without a value
+abbrev pub long_rule : Rule
+long_rule = record (new_rule (codes "long")) { long = Some (codes "long"); action = Some SetTrue }
+
 -- whether missing chunks are asked for one by one at last: an option `--salvage` without a value
 abbrev pub salvage_rule : Rule
 salvage_rule = record (new_rule (codes "salvage")) { long = Some (codes "salvage"); action = Some SetTrue }
@@ -123,7 +127,7 @@ abbrev pub with_holders_rules : App → App
 with_holders_rules app = with_mode_rules (with_rule (with_rule (with_rule app root_rule) out_rule) files_rule)
 
 abbrev pub gather_app : App
-gather_app = with_holders_rules (with_rule (with_rule (with_rule (with_rule (with_rule (with_rule (new_app (codes "gather")) workers_rule) capacity_rule) outboard_rule) salvage_rule) encode_rule) verbose_rule)
+gather_app = with_holders_rules (with_rule (with_rule (with_rule (with_rule (with_rule (with_rule (with_rule (new_app (codes "gather")) workers_rule) capacity_rule) long_rule) outboard_rule) salvage_rule) encode_rule) verbose_rule)
 
 abbrev pub script_rule : Rule
 script_rule = place_rule (codes "SCRIPT")

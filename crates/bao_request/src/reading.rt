@@ -138,6 +138,7 @@ fn gather_of<'a>(alloc: Global, words: &ArgMatches<'a>) -> Result<Option<Task<'a
         root,
         workers,
         capacity,
+        long: flag(words, "long"),
         outboard: text(words, "outboard"),
         salvage: flag(words, "salvage"),
         encode: flag(words, "encode"),

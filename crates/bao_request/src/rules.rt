@@ -1,7 +1,7 @@
 ghost use Rattle.std.specs.Prelude.{◌≡◌, IfOk, Some, false};
 ghost use Rattle.clap.specs.Words.{app_of, rule_of, with_rule};
 ghost use Rattle.clap.specs.declared.builder.command.Command.TheViews.{out-Command};
-ghost use Rattle.bao_request.specs.CommandLine.{IsApp, any_number, at_rule, capacity_rule, checkers_app, decode_app, decode_slice_app, encode_app, encode_rule, files_rule, gather_app, hash_app, length_rule, option_rule, outboard_app, outboard_rule, place_rule, program_app, replay_app, salvage_rule, slice_app, verbose_rule, with_encoding_rules, with_file_rules, with_holders_rules, with_mode_rules, with_range_rules, with_script_rules, with_slice_rules, workers_rule, writers_app};
+ghost use Rattle.bao_request.specs.CommandLine.{IsApp, any_number, at_rule, capacity_rule, checkers_app, decode_app, decode_slice_app, encode_app, encode_rule, files_rule, gather_app, hash_app, length_rule, long_rule, option_rule, outboard_app, outboard_rule, place_rule, program_app, replay_app, salvage_rule, slice_app, verbose_rule, with_encoding_rules, with_file_rules, with_holders_rules, with_mode_rules, with_range_rules, with_script_rules, with_slice_rules, workers_rule, writers_app};
 
 use clap::{Arg, ArgAction, Command, value_parser};
 use std::alloc::{AllocError, Global};
@@ -29,7 +29,7 @@ const OF_DECODE_SLICE: &str =
     "OUT gets the bytes of the range that the blob has, which are none where it has fewer than START. It is made once the\nslice was accepted.";
 
 const OF_GATHER: &str =
-    "A FILE may be cut, changed or of another blob; one that can't be read is left out. What isn't a regular file, as\n/dev/stdin, is read only where the regular ones leave the blob unfinished. OUT is made once the blob was verified.\nWith --outboard that file is checked first, and never left out.\nWhere a chunk of a FILE is damaged, none of its group of 64 chunks is taken from there; with --salvage the others are.";
+    "A FILE may be cut, changed or of another blob; one that can't be read is left out. What isn't a regular file, as\n/dev/stdin, is read only where the regular ones leave the blob unfinished. OUT is made once the blob was verified.\nWith --outboard that file is checked first, and never left out. With --long an OUT that isn't\nregular gets bytes as they are verified, so that after a fault a beginning of the blob may stand there.\nWhere a chunk of a FILE is damaged, none of its group of 64 chunks is taken from there; with --salvage the others are.";
 
 const OF_REPLAY: &str =
     "A line of SCRIPT is empty or has one of nine forms, its words one space apart, and ends with a line feed, before which no\ncarriage return stands. S is a seat, G a group of 64 chunks, MASK a mask of these, C a chunk, F a FILE, counted from 0:\n  claim S G MASK       S takes chunks of G\n  hash S F START LEN   the slice cut out of F becomes the piece of S\n  write S C W          S writes word W, 0 to 128, of the cell of C\n  fill S C             S writes all of them\n  publish S G          S commits what it claims of G and its piece has\n  give S G MASK        S gives chunks of G back\n  load S AT LEN        S loads a word of its read of LEN bytes from AT on\n  settle S             S settles the length that its piece certifies\n  length S             S asks for the length";
@@ -217,6 +217,16 @@ fn workers_option<'a>(alloc: Global) -> Arg<'a>
         .help("How many workers gather, 1 to 64")
 }
 
+fn long_flag<'a>(alloc: Global) -> Arg<'a>
+    ensures rule { rule_of result ≡ long_rule }
+    ensures global { result.global ≡ false }
+{
+    Arg::new(alloc, "long")
+        .long("long")
+        .action(ArgAction::SetTrue)
+        .help("Gathers a blob of any length, window by window; not with --capacity or --encode")
+}
+
 fn salvage_flag<'a>(alloc: Global) -> Arg<'a>
     ensures rule { rule_of result ≡ salvage_rule }
     ensures global { result.global ≡ false }
@@ -280,6 +290,15 @@ fn with_holders<'a>(alloc: Global, command: Command<'a>) -> Result<Command<'a>, 
     with_mode(alloc, command)
 }
 
+// The command with how many workers gather, and how long the blob may be: two options and a flag.
+fn with_sizes<'a>(alloc: Global, command: Command<'a>) -> Result<Command<'a>, AllocError>
+    requires { (out-Command command).has_globals ≡ false }
+    ensures { IfOk result (IsApp (with_rule (with_rule (with_rule (app_of command.entry) workers_rule) capacity_rule) long_rule)) }
+{
+    let command = command.arg(workers_option(alloc))?;
+    command.arg(capacity_option(alloc))?.arg(long_flag(alloc))
+}
+
 // The command with what is gathered, written and told: an option and three flags.
 fn with_flags<'a>(alloc: Global, command: Command<'a>) -> Result<Command<'a>, AllocError>
     requires { (out-Command command).has_globals ≡ false }
@@ -298,9 +317,8 @@ fn gather_command<'a>(alloc: Global) -> Result<Command<'a>, AllocError>
         .about(
             "Gathers the blob with a root out of combined Bao encodings or plain copies, and writes it",
         )
-        .after_help(OF_GATHER)
-        .arg(workers_option(alloc))?
-        .arg(capacity_option(alloc))?;
+        .after_help(OF_GATHER);
+    let command = with_sizes(alloc, command)?;
     let command = with_flags(alloc, command)?;
     with_holders(alloc, command)
 }

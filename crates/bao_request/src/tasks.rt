@@ -40,14 +40,15 @@ pub enum Task<'a> {
         copy: &'a str,
         out: &'a str,
     },
-    /// The blob with this root, of at most `capacity` chunks, 1 to 65,536, gathered by 1 to 64 workers out of the
-    /// files, one or more, to the file `out`: its bytes, or with `encode` its combined encoding. The files are combined
+    /// The blob with this root, of at most `capacity` chunks, 1 to 65,536, or with `long` of any length, gathered by 1 to 64
+    /// workers out of the files, one or more, to the file `out`: its bytes, or with `encode` its combined encoding. The files are combined
     /// encodings, or with `outboard` plain copies beside the outboard encoding in that file. With `salvage` they are asked
     /// at last for each missing chunk by itself. With `verbose` it is said which files were left out.
     Gather {
         root: &'a str,
         workers: u32,
         capacity: u32,
+        long: bool,
         outboard: Option<&'a str>,
         salvage: bool,
         encode: bool,

@@ -1,6 +1,6 @@
 -- what is written of a gathered blob
 use Rattle.std.specs.Borrow.{Bor}
-use Rattle.std.specs.Prelude.{◌≡◌, ◌⊎◌, ℕ, ◌*◌, ◌≤◌, Bool, if◌then◌else◌, List, MatchResult, Option, Result, length}
+use Rattle.std.specs.Prelude.{◌≡◌, ◌⊎◌, ℕ, ◌*◌, ◌≤◌, Bool, true, false, if◌then◌else◌, List, MatchResult, Option, Result, length}
 use Rattle.std.specs.Io.KnownBytes.{Appends, Keeps}
 use Rattle.b3tree.specs.declared.mode.Mode.{Mode}
 use Rattle.b3tree.specs.Hashing.{hash}
@@ -26,6 +26,15 @@ gathered_text encode mode blob = if encode then combined_text mode blob else blo
 -- the blob has this root, and no more bytes than as many chunks as the capacity
 abbrev pub IsGathered : Gathering → Mode → List ℕ → List ℕ → Type 0
 IsGathered how mode root blob = (hash mode blob ≡ root) × (length blob ≤ 1024 * how.capacity)
+
+-- a blob of so many bytes may have any length, or has no more than as many chunks as the capacity
+abbrev pub Fits : Bool → ℕ → ℕ → Type 0
+Fits true capacity n = Unit {0}
+Fits false capacity n = n ≤ 1024 * capacity
+
+-- the blob has this root, and fits
+abbrev pub HasRootAndFits : Gathering → Mode → List ℕ → List ℕ → Type 0
+HasRootAndFits how mode root blob = (hash mode blob ≡ root) × Fits how.long how.capacity (length blob)
 
 -- there was no memory for the encoding, and nothing was written, or writing to this path failed, and a beginning of it was
 abbrev pub IsUnwritten : Bor (List ℕ) → List ℕ → Option (List ℕ) → Option (List ℕ) → FileFault → Type 0

@@ -1,7 +1,9 @@
-ghost use Rattle.std.specs.Prelude.{◌≡◌, ℕ, List, IfErr, IfOk, IfSome, IsSome, IsTrue, OnOk, length};
+ghost use Rattle.std.specs.Borrow.{Bor};
+ghost use Rattle.std.specs.Prelude.{◌≡◌, ◌≤◌, ℕ, List, IfErr, IfOk, IfSome, IsSome, IsTrue, OnOk, length};
 ghost use Rattle.bao_files.specs.declared.fault.FileFault.TheVariants as FileFault;
+ghost use Rattle.bao_text.specs.Choice.{chunk_count};
 ghost use Rattle.bao_tasks.specs.GatheredFaults.{IsQuietGathered, NamesBeside, NamesFirst};
-ghost use Rattle.bao_tasks.specs.Gathered.{HasOutline, IsGathered};
+ghost use Rattle.bao_tasks.specs.Gathered.{Fits, HasOutline, HasRootAndFits};
 ghost use Rattle.bao_tasks.specs.Givens.{IsHeld, given_contents};
 ghost use Rattle.bao_tasks.specs.Worth.{IsWorthAs};
 
@@ -14,10 +16,12 @@ use b3tree::{Hash, Mode};
 use bao_check::check_outboard;
 use bao_decode::read_outboard;
 use bao_files::{FileFault, LateFile, open_file};
+use bao_windows::{Wanted as Windows, WindowsFault, write_windows};
 use gather::{Form, GatherFault, Grain, chunks_within};
 use std::alloc::{AllocError, Global};
 use std::fs;
 use std::fs::File;
+use std::io::Write;
 use std::rt::Files;
 use std::thread::Threads;
 
@@ -26,8 +30,11 @@ use std::thread::Threads;
 pub struct Gathering {
     /// How many workers gather, 1 to 64: a number beyond counts as the nearest.
     pub workers: u32,
-    /// The most chunks that the blob may have.
+    /// The most chunks that the blob may have, where it isn't `long`. Of a file that isn't regular no more is held than the longest
+    /// text of such a blob has, and what a file is worth is counted no farther.
     pub capacity: u32,
+    /// Whether the blob may have any length.
+    pub long: bool,
     /// Whether the blob's combined encoding is written in its place.
     pub encode: bool,
     /// Whether it is counted what each file that is read is worth.
@@ -203,6 +210,55 @@ fn cause_of<'a>(
     }
 }
 
+// How many chunks a blob may have that is gathered window by window.
+fn most_chunks(how: &Gathering) -> u64
+    ensures { (n : ℕ) → chunk_count n ≤ result → Fits how.now.long how.now.capacity n }
+{
+    if how.long {
+        u64::MAX
+    } else {
+        u64::from(how.capacity)
+    }
+}
+
+// Gathers the blob out of the files that were taken, and writes it. Where what is written can be taken back, and wherever the blob may have
+// any length, it is written window by window, as it comes; else once all of it is there, out of a store.
+fn write_taken<'a, R: AllocGlobal + Threads + Sync, W: Write>(
+    rt: &R,
+    wanted: &Wanted<'_>,
+    is_replaced: bool,
+    taken: &Taken,
+    path: &'a str,
+    out: &mut W,
+) -> Result<u64, GatheredFault<'a>>
+    ensures ok { IfOk result (λ count. (blob : List ℕ) × HasRootAndFits wanted.now.how wanted.now.mode.now wanted.now.root.now.0 blob × (count ≡ length blob)) }
+    ensures err { IfErr result IsQuietGathered }
+    ensures paths { IfErr result (λ fault. (inputs : List (Bor (List ℕ))) → NamesFirst inputs path.entry fault) }
+{
+    let Wanted {
+        mode,
+        root,
+        how,
+        form,
+    } = *wanted;
+    let givens = taken.givens.as_slice();
+    if how.encode || !(how.long || is_replaced) {
+        let room = u32::try_from(chunks_within(taken.longest)).unwrap_or(u32::MAX);
+        return write_gathered(rt, mode, root, form, how, room, givens, path, out);
+    }
+    let windows = Windows {
+        root: *root,
+        mode: *mode,
+        form: *form,
+        grain: how.grain,
+    };
+    match write_windows(rt, &windows, how.workers, most_chunks(&how), givens, out) {
+        Ok(count) => Ok(count),
+        Err(WindowsFault::Gather(fault)) => Err(GatheredFault::Gather(fault)),
+        Err(WindowsFault::Write) => Err(GatheredFault::File(FileFault::Write(path))),
+    }
+}
+
 // The count, once what was written is in its place.
 fn finished<'a, R: Files>(
     count: u64,
@@ -218,67 +274,24 @@ fn finished<'a, R: Files>(
     }
 }
 
-// Gathers the blob out of the files, as `gather_files` and `gather_beside` say.
-fn gather_wanted<'a, R: Files<File = File> + AllocGlobal + Threads + Sync>(
-    rt: &R,
-    wanted: &Wanted<'_>,
-    files: &[&'a str],
-    path: &'a str,
-    fates: &mut [Fate],
-) -> Result<u64, GatheredFault<'a>>
-    ensures ok { IfOk result (λ count. (blob : List ℕ) × IsGathered wanted.now.how wanted.now.mode.now wanted.now.root.now.0 blob × (count ≡ length blob)) }
-    ensures err { IfErr result IsQuietGathered }
-    ensures paths { IfErr result (NamesFirst files.now path.entry) }
-{
-    let Ok(kinds) = kinds_of(rt, rt.alloc(), files, fates) else {
-        return Err(GatheredFault::File(FileFault::Memory));
-    };
-    let mut taken = Taken {
-        givens: Vec::new(rt.alloc()),
-        longest: 0,
-    };
-    let Ok(mut out) = LateFile::new(rt, path) else {
-        return Err(GatheredFault::File(FileFault::Memory));
-    };
-    let mut starved = false;
-    let mut met = None;
-    for regular in [true, false] {
-        let known = taken.givens.len();
-        let kinds = kinds.as_slice();
-        starved |= take_files(rt, wanted, files, kinds, regular, &mut taken, fates);
-        if taken.givens.len() == known {
-            continue;
-        }
-        let room = u32::try_from(chunks_within(taken.longest)).unwrap_or(u32::MAX);
-        let ended = write_gathered(
-            rt,
-            wanted.mode,
-            wanted.root,
-            wanted.form,
-            wanted.how,
-            room,
-            taken.givens.as_slice(),
-            path,
-            &mut out,
-        );
-        met = unfinished_by(&ended);
-        if met.is_none() {
-            return finished(ended?, out, path);
-        }
-    }
-    Err(cause_of(starved, met, files, path))
-}
-
-/// Gathers the blob with this root, of at most `capacity` chunks, out of the files, each a combined encoding from a
-/// holder that nobody trusts, writes it, or its combined encoding, to the file at `path`, which it replaces ([`LateFile`]) once the
-/// blob was verified, and answers how many bytes the blob has.
+/// Gathers the blob with this root, of at most `capacity` chunks, or with `long` of any length, out of the files. Writes it,
+/// or its combined encoding, to the file at `path`, and answers how many bytes the blob has. Each file is from a holder that
+/// nobody trusts. As the form says it is a combined encoding, or a plain copy beside an outboard encoding that was accepted
+/// under this root and in this mode.
 ///
-/// Regular files are read where they lie, and only the parts that workers ask for. What isn't a regular file, as a pipe, is opened only
-/// where the regular ones leave the blob unfinished; of it no more is read, and held, than the longest encoding of a blob of so many
-/// chunks has, and one byte. A file that can't be opened or read, one for which no descriptor is left, and one for which there is no
-/// memory is left out; one descriptor is kept for `path`. What became of each file is noted in `fates` at its place, as far as that
-/// has places, whatever is answered; with `count` what each one that was taken is worth, too (`worth_of_encoding`), where there was
-/// memory to count it.
+/// The blob is written window by window, as it comes ([`write_windows`]), in the memory of one window. The file is
+/// replaced ([`LateFile`]) once all of the blob was verified. What is no regular file can't be replaced, as a device or a
+/// pipe: a blob that isn't `long` is gathered in a store first, and written once it was verified. A `long` one is written
+/// there as it comes, so that after a fault a beginning of it may stand there. An encoding is made of a blob that was
+/// gathered in a store, of at most `capacity` chunks.
+///
+/// Regular files are read where they lie, and only the parts that workers ask for. What isn't a regular file, as a pipe, is
+/// opened only where the regular ones leave the blob unfinished, but at once for a `long` blob where the file can't be
+/// replaced. No more of it is read, and held, than the longest encoding, or copy, of a blob of `capacity` chunks has, and
+/// one byte. A file is left out that can't be opened or read, or for which there is no descriptor or no memory. One
+/// descriptor is kept for `path`. What became of each file is noted in `fates` at its place, as far as that has places,
+/// whatever is answered. With `count` it is noted, too, what each one that was taken is worth (`worth_of_encoding`, or
+/// `worth_of_copy`), where there was memory to count it.
 ///
 /// Refuses files of which none can be read (`File` with `Read` of the first), a blob that did not come together (`Gather`,
 /// or `File` with `Memory` where there was none for one of the files), one for whose encoding there was no memory (`File`
@@ -287,12 +300,13 @@ pub fn gather_files<'a, R: Files<File = File> + AllocGlobal + Threads + Sync>(
     rt: &R,
     mode: &Mode,
     root: &Hash,
+    form: &Form<'_>,
     how: Gathering,
     files: &[&'a str],
     path: &'a str,
     fates: &mut [Fate],
 ) -> Result<u64, GatheredFault<'a>>
-    ensures ok { IfOk result (λ count. (blob : List ℕ) × IsGathered how mode.now root.now.0 blob × (count ≡ length blob)) }
+    ensures ok { IfOk result (λ count. (blob : List ℕ) × HasRootAndFits how mode.now root.now.0 blob × (count ≡ length blob)) }
     ensures err { IfErr result IsQuietGathered }
     ensures paths { IfErr result (NamesFirst files.now path.entry) }
 {
@@ -300,18 +314,47 @@ pub fn gather_files<'a, R: Files<File = File> + AllocGlobal + Threads + Sync>(
         mode,
         root,
         how,
-        form: &Form::Slices,
+        form,
     };
-    gather_wanted(rt, &wanted, files, path, fates)
+    let Ok(kinds) = kinds_of(rt, rt.alloc(), files, fates) else {
+        return Err(GatheredFault::File(FileFault::Memory));
+    };
+    let mut taken = Taken {
+        givens: Vec::new(rt.alloc()),
+        longest: 0,
+    };
+    let mut starved = false;
+    let mut met = None;
+    let mut tried = 0;
+    for regular in [true, false] {
+        let kinds = kinds.as_slice();
+        starved |= take_files(rt, &wanted, files, kinds, regular, &mut taken, fates);
+        let Ok(mut out) = LateFile::new(rt, path) else {
+            return Err(GatheredFault::File(FileFault::Memory));
+        };
+        let is_replaced = out.is_replaced();
+        // What is written before all was verified can't be taken back there, so that all files are taken first.
+        let waits = regular && how.long && !is_replaced;
+        if waits || taken.givens.len() == tried {
+            continue;
+        }
+        tried = taken.givens.len();
+        let ended = write_taken(rt, &wanted, is_replaced, &taken, path, &mut out);
+        met = unfinished_by(&ended);
+        if met.is_none() {
+            return finished(ended?, out, path);
+        }
+    }
+    Err(cause_of(starved, met, files, path))
 }
 
-/// As `gather_files`, out of plain copies of the blob beside its outboard encoding, which is read, as far as it can matter, and checked first, under this
-/// root and in this mode, before any of the files is looked at: each of these may be whole, cut, changed, or any bytes. Of a copy that
-/// isn't a regular file no more is read than 1,024 bytes a chunk of the capacity, and one byte. What they are worth is counted by
-/// `worth_of_copy`.
+/// As `gather_files`, out of plain copies of the blob beside its outboard encoding, which is read, as far as it can
+/// matter, and checked first, under this root and in this mode, before any of the files is looked at: each of these may be
+/// whole, cut, changed, or any bytes. Of a copy that isn't a regular file no more is read than 1,024 bytes a chunk of the
+/// capacity, and one byte. What they are worth is counted by `worth_of_copy`.
 ///
-/// Refuses an outboard encoding that can't be read (`File` with `Read`, or with `Memory`) or isn't accepted (`Outboard`), and then
-/// as `gather_files` does.
+/// Refuses an outboard encoding that can't be read (`File` with `Read`, or with `Memory`) or isn't accepted (`Outboard`),
+/// and then as `gather_files` does.
 pub fn gather_beside<'a, R: Files<File = File> + AllocGlobal + Threads + Sync>(
     rt: &R,
     mode: &Mode,
@@ -322,7 +365,7 @@ pub fn gather_beside<'a, R: Files<File = File> + AllocGlobal + Threads + Sync>(
     path: &'a str,
     fates: &mut [Fate],
 ) -> Result<u64, GatheredFault<'a>>
-    ensures ok { IfOk result (λ count. (blob : List ℕ) × IsGathered how mode.now root.now.0 blob × (count ≡ length blob)) }
+    ensures ok { IfOk result (λ count. (blob : List ℕ) × HasRootAndFits how mode.now root.now.0 blob × (count ≡ length blob)) }
     ensures outline { OnOk result (HasOutline mode.now root.now.0) }
     ensures err { IfErr result IsQuietGathered }
     ensures paths { IfErr result (NamesBeside outboard.entry files.now path.entry) }
@@ -332,11 +375,6 @@ pub fn gather_beside<'a, R: Files<File = File> + AllocGlobal + Threads + Sync>(
         Ok(outline) => outline,
         Err(fault) => return Err(GatheredFault::Outboard(fault)),
     };
-    let wanted = Wanted {
-        mode,
-        root,
-        how,
-        form: &Form::Bare(&outline),
-    };
-    gather_wanted(rt, &wanted, files, path, fates)
+    let form = Form::Bare(&outline);
+    gather_files(rt, mode, root, &form, how, files, path, fates)
 }

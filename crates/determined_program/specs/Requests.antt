@@ -15,8 +15,8 @@ SameTask (Encode encoding file out) (Encode encoding' file' out') = (encoding �
 SameTask (Decode root part file out) (Decode root' part' file' out') = (root.now ≡ root'.now) × (part ≡ part') × (file.now ≡ file'.now) × (out.now ≡ out'.now)
 SameTask (DecodeCopy root outboard copy out) (DecodeCopy root' outboard' copy' out') =
     (root.now ≡ root'.now) × (outboard.now ≡ outboard'.now) × (copy.now ≡ copy'.now) × (out.now ≡ out'.now)
-SameTask (Gather root workers capacity outboard salvage encode verbose files out) (Gather root' workers' capacity' outboard' salvage' encode' verbose' files' out') =
-    (root.now ≡ root'.now) × (workers ≡ workers') × (capacity ≡ capacity') × (option_copied outboard ≡ option_copied outboard')
+SameTask (Gather root workers capacity long outboard salvage encode verbose files out) (Gather root' workers' capacity' long' outboard' salvage' encode' verbose' files' out') =
+    (root.now ≡ root'.now) × (workers ≡ workers') × (capacity ≡ capacity') × (long ≡ long') × (option_copied outboard ≡ option_copied outboard')
     × (salvage ≡ salvage') × (encode ≡ encode') × (verbose ≡ verbose')
     × (map (λ text. text.now) files.items ≡ map (λ text. text.now) files'.items) × (out.now ≡ out'.now)
 SameTask (Replay root capacity script files) (Replay root' capacity' script' files') =

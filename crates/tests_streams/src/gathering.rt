@@ -135,6 +135,7 @@ fn is_written<R: AllocGlobal + Threads + Sync + Abort>(
     let how = Gathering {
         workers: 2,
         capacity: 3,
+        long: false,
         encode,
         count: false,
         grain: Grain::Group,

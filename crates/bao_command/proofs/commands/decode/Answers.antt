@@ -1,27 +1,19 @@
-use Rattle.std.proofs.Common.{ℕ, List, IfErr, Option, Result, Ok, Err, subst, sym}
+use Rattle.std.proofs.Common.{ℕ, List, IfErr, Result, Ok, Err, subst, sym}
 use Rattle.bao_files.specs.Printed as file
-use Rattle.bao_files.specs.declared.fault.FileFault.{FileFault}
 use Rattle.bao_command.specs.declared.fault.Fault.{Fault}
-use Rattle.bao_command.specs.Printed.{CommandPrints, OnPrinted, told_of}
+use Rattle.bao_command.specs.Printed.{CommandPrints}
 use Rattle.bao_command.specs.Tasks.{IsDue, IsRightPart, part_line}
+use Rattle.bao_command.proofs.Telling.{on_printed, told_prints}
 use Rattle.bao_command.proofs.commands.decode.Goals as goal
 
--- a line that was printed, as a fault of the program
-told_prints : (line : List ℕ) (old new : Option (List ℕ)) (printed : Result Unit FileFault) → file.Prints line old new printed → CommandPrints line old new (told_of printed)
-told_prints line old new (Ok done) prints = prints
-told_prints line old new (Err fault) prints = prints
-
-on_printed : {P : Type 0} (result : Result Unit Fault) → P → OnPrinted result P
-on_printed (Ok done) p = p
-on_printed (Err fault) p = λ _. p
-
 -- printing refuses no arguments
-due_of_none : (root past many mixed : Type 0) (result : Result Unit Fault) → IfErr result (IsDue ⊥ ⊥ ⊥ ⊥) → IfErr result (IsDue root past many mixed)
-due_of_none root past many mixed (Ok done) due = tt
-due_of_none root past many mixed (Err fault) due = (λ is. absurd (due.0 is), λ is. absurd (due.1 is), λ is. absurd (due.2 is), λ is. absurd (due.3 is))
+due_of_none : (root past many out mixed : Type 0) (result : Result Unit Fault) → IfErr result (IsDue ⊥ ⊥ ⊥ ⊥ ⊥) → IfErr result (IsDue root past many out mixed)
+due_of_none root past many out mixed (Ok done) due = tt
+due_of_none root past many out mixed (Err fault) due =
+    (λ is. absurd (due.0 is), λ is. absurd (due.1 is), λ is. absurd (due.2 is), λ is. absurd (due.3 is), λ is. absurd (due.4 is))
 
 pub returns-in-Ok-clause-due : goal.returns-in-Ok-clause-due
-returns-in-Ok-clause-due g c = due_of_none _ _ _ _ c.told.result c.told.ensures.due
+returns-in-Ok-clause-due g c = due_of_none _ _ _ _ _ c.told.result c.told.ensures.due
 
 pub returns-in-Ok-clause-prints : goal.returns-in-Ok-clause-prints
 returns-in-Ok-clause-prints g c =

@@ -1,20 +1,10 @@
-use Rattle.std.proofs.Common.{ℕ, List, length, Option, Result, Ok, Err, subst, sym}
+use Rattle.std.proofs.Common.{ℕ, List, length, subst, sym}
 use Rattle.bao_files.specs.Printed as file
 use Rattle.bao_files.specs.Printed.{ok_line}
-use Rattle.bao_files.specs.declared.fault.FileFault.{FileFault}
-use Rattle.bao_command.specs.declared.fault.Fault.{Fault}
-use Rattle.bao_command.specs.Printed.{CommandPrints, OnPrinted, told_of}
+use Rattle.bao_command.specs.Printed.{CommandPrints}
 use Rattle.bao_command.specs.Tasks.{IsRightCopy}
+use Rattle.bao_command.proofs.Telling.{on_printed, told_prints}
 use Rattle.bao_command.proofs.commands.decode_beside.Goals as goal
-
--- a line that was printed, as a fault of the program
-told_prints : (line : List ℕ) (old new : Option (List ℕ)) (printed : Result Unit FileFault) → file.Prints line old new printed → CommandPrints line old new (told_of printed)
-told_prints line old new (Ok done) prints = prints
-told_prints line old new (Err fault) prints = prints
-
-on_printed : {P : Type 0} (result : Result Unit Fault) → P → OnPrinted result P
-on_printed (Ok done) p = p
-on_printed (Err fault) p = λ _. p
 
 pub returns-in-Ok-clause-prints : goal.returns-in-Ok-clause-prints
 returns-in-Ok-clause-prints g c =

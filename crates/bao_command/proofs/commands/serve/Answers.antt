@@ -1,7 +1,7 @@
 use Rattle.std.proofs.Common.{ℕ, List, Option, Result, Ok, Err, refl, subst}
 use Rattle.b3tree.specs.declared.mode.Mode.{Mode}
 use Rattle.bao_command.specs.declared.fault.Fault.{Fault}
-use Rattle.bao_command.specs.declared.fault.Fault.TheVariants.{Word, Root, Key, KeyAndContext, OutputRange, TooManyFiles, OutIsOutput, File, Decode, Gather, Replay}
+use Rattle.bao_command.specs.declared.fault.Fault.TheVariants.{Word, Root, Key, KeyAndContext, OutputRange, TooManyFiles, OutIsOutput, LongAndOthers, File, Decode, Gather, Replay}
 use Rattle.bao_files.specs.declared.fault.FileFault.TheVariants as file
 use Rattle.bao_request.specs.declared.tasks.Request.{Request}
 use Rattle.bao_command.specs.Printed.{CommandPrints, OnPrinted}
@@ -21,6 +21,7 @@ answers request mode bytes old new (Err KeyAndContext) has apart right prints = 
 answers request mode bytes old new (Err OutputRange) has apart right prints = prints
 answers request mode bytes old new (Err TooManyFiles) has apart right prints = prints
 answers request mode bytes old new (Err OutIsOutput) has apart right prints = prints
+answers request mode bytes old new (Err LongAndOthers) has apart right prints = prints
 answers request mode bytes old new (Err (File (file.Read path))) has apart right prints = prints
 answers request mode bytes old new (Err (File (file.Write path))) has apart right prints = prints
 answers request mode bytes old new (Err (File file.Output)) has apart right prints = (mode, bytes, has, apart, right refl, prints)

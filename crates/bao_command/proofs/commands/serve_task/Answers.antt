@@ -1,8 +1,9 @@
-use Rattle.std.proofs.Common.{◌≤◌, ◌*◌, ℕ, List, length, Result, Ok, Err, Bor, subst, sym}
+use Rattle.std.proofs.Common.{◌≤◌, ◌*◌, ℕ, Bool, List, length, Result, Ok, Err, Bor, subst, sym}
 use Rattle.bao_command.specs.declared.fault.Fault.{Fault}
 use Rattle.bao_command.specs.Printed.{CommandPrints, OnPrinted}
 use Rattle.bao_command.specs.Tasks.{HasHash, IsReplay, IsRight, line_of}
 use Rattle.bao_request.specs.declared.tasks.Task.{Task}
+use Rattle.bao_tasks.specs.Gathered.{Fits}
 use Rattle.bao_command.proofs.commands.serve_task.Goals as goal
 
 both : (P Q : Type 0) (result : Result Unit Fault) → OnPrinted result P → OnPrinted result Q → OnPrinted result (P × Q)
@@ -18,8 +19,11 @@ returns-in-Gather-clause-prints g c =
     let few : OnPrinted result (length c.in-Gather.files.items ≤ 64) =
     subst (λ (files : List (Bor (List ℕ))). OnPrinted result (length files ≤ 64)) c.as_slice-files.ensures.value c.gather.ensures.few in
     let answer = c.gather.ensures.answer in
-    let fits : OnPrinted result (HasHash mode c.in-Gather.root.now answer.0 × (length answer.0 ≤ 1024 * c.in-Gather.capacity)) =
-    subst (λ (n : ℕ). OnPrinted result (HasHash mode c.in-Gather.root.now answer.0 × (length answer.0 ≤ 1024 * n))) c.how_of-how.ensures.capacity answer.1 in
+    let how = c.how_of-how.result in
+    let bounded : OnPrinted result (HasHash mode c.in-Gather.root.now answer.0 × Fits how.long c.in-Gather.capacity (length answer.0)) =
+    subst (λ (n : ℕ). OnPrinted result (HasHash mode c.in-Gather.root.now answer.0 × Fits how.long n (length answer.0))) c.how_of-how.ensures.capacity answer.1 in
+    let fits : OnPrinted result (HasHash mode c.in-Gather.root.now answer.0 × Fits c.in-Gather.long c.in-Gather.capacity (length answer.0)) =
+    subst (λ (b : Bool). OnPrinted result (HasHash mode c.in-Gather.root.now answer.0 × Fits b c.in-Gather.capacity (length answer.0))) c.how_of-how.ensures.long bounded in
     let prints =
     subst (λ (task : Task). (bytes : List ℕ) × OnPrinted result (IsRight mode task bytes) × CommandPrints (line_of mode task bytes) old new result) (sym c.in-Gather.is)
     (answer.0, both _ _ result few (both _ _ result fits c.gather.ensures.beside), answer.2) in

@@ -11,7 +11,7 @@ names_beside outboard files path (Ok count) names = tt
 names_beside outboard files path (Err fault) names = inr names
 
 pub returns-clause-paths : goal.returns-clause-paths
-returns-clause-paths g c = names_beside c.args.outboard c.args.files.now c.args.path c.gather_wanted.result c.gather_wanted.ensures.paths
+returns-clause-paths g c = names_beside c.args.outboard c.args.files.now c.args.path c.gather_files.result c.gather_files.ensures.paths
 
 pub returns-in-Err-clause-paths : goal.returns-in-Err-clause-paths
 returns-in-Err-clause-paths g c = inl tt
