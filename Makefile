@@ -4,9 +4,12 @@ SHELL := bash
 .SHELLFLAGS := -eu -o pipefail -c
 .DEFAULT_GOAL := help
 .DELETE_ON_ERROR:
-.PHONY: help build run try install dist sum test proofs trials c-trials wrong-bodies scenarios docs c-library c-install c-test c-bench fetch fetch-install fetch-test fetch-bench bench refuse replaced memory stress statement cites fmt FORCE
+.PHONY: help build run try install dist sum test proofs trials c-trials wrong-bodies scenarios docs c-library c-levels c-install c-test c-bench fetch fetch-install fetch-test fetch-bench bench refuse replaced memory stress statement cites fmt FORCE
 
 PREFIX ?= /usr/local
+# Where the C library and its header go.
+libdir ?= $(PREFIX)/lib
+includedir ?= $(PREFIX)/include
 
 # The processor level that programs are built for: x86-64-v3 where this machine has what the level
 # needs, AVX2 and BMI2 among it.
@@ -41,8 +44,9 @@ help:
 	@echo 'make cites NAME=IsPiece   prints what cites a definition'
 	@echo 'make scenarios            holds what the programs of scenarios have to print to replies made by the definitions alone'
 	@echo 'make c-library            proves the C library and builds it, as out/libberylwool.a and .so (needs cc and binutils)'
-	@echo 'make c-install PREFIX=DIR copies the C library to DIR/lib, its header to DIR/include and its manual pages to'
-	@echo '                          DIR/share/man, with what pkg-config asks for'
+	@echo 'make c-install PREFIX=DIR copies the C library to DIR/lib for both processor levels, its header to DIR/include and its'
+	@echo '                          manual pages to DIR/share/man, with what pkg-config asks for; libdir=DIR and includedir=DIR put'
+	@echo '                          them elsewhere'
 	@echo 'make c-test               holds c/berylwool.h to the sources, and runs the C tests, under what is installed of'
 	@echo '                          sanitizers, valgrind, clang and rustc'
 	@echo 'make c-bench              measures calls of the C library in one thread, and prints their times'
@@ -205,21 +209,31 @@ out/libberylwool.a: out/cpu $(C_SOURCES)
 	@objcopy --wildcard --keep-global-symbol='bw_*' out/c/bw.o
 	@rm -f $@ && ar rcs $@ out/c/bw.o
 
-out/libberylwool.so: out/libberylwool.a
-	@cc -shared -o $@ -Wl,--whole-archive $< -Wl,--no-whole-archive -Wl,-soname,libberylwool.so.0 -Wl,-z,defs
+# Each name has the version BERYLWOOL_0, and is looked up when the library is loaded.
+out/libberylwool.so: out/libberylwool.a c/berylwool.map
+	@cc -shared -o $@ -Wl,--whole-archive $< -Wl,--no-whole-archive -Wl,-soname,libberylwool.so.0 -Wl,--version-script,c/berylwool.map \
+	    -Wl,-z,defs -Wl,-z,now $(LDFLAGS)
 
 c-library: out/libberylwool.a out/libberylwool.so
 
-c-install: c-library
-	install -D -m 644 c/berylwool.h '$(DESTDIR)$(PREFIX)/include/berylwool.h'
-	install -D -m 644 out/libberylwool.a '$(DESTDIR)$(PREFIX)/lib/libberylwool.a'
-	install -D -m 755 out/libberylwool.so '$(DESTDIR)$(PREFIX)/lib/libberylwool.so.0'
-	ln -sf libberylwool.so.0 '$(DESTDIR)$(PREFIX)/lib/libberylwool.so'
-	install -d '$(DESTDIR)$(PREFIX)/lib/pkgconfig'
+# The library for both processor levels, one after another.
+c-levels:
+	@for cpu in x86-64-v3 x86-64; do \
+	    $(MAKE) --no-print-directory CPU=$$cpu c-library && install -D -m 755 out/libberylwool.so out/levels/$$cpu/libberylwool.so || exit 1; \
+	done
+
+# Of the two, ld.so takes that below glibc-hwcaps on a processor which has its level. The static library is of x86-64.
+c-install: c-levels
+	install -D -m 644 c/berylwool.h '$(DESTDIR)$(includedir)/berylwool.h'
+	install -D -m 644 out/libberylwool.a '$(DESTDIR)$(libdir)/libberylwool.a'
+	install -D -m 755 out/levels/x86-64/libberylwool.so '$(DESTDIR)$(libdir)/libberylwool.so.0'
+	install -D -m 755 out/levels/x86-64-v3/libberylwool.so '$(DESTDIR)$(libdir)/glibc-hwcaps/x86-64-v3/libberylwool.so.0'
+	ln -sf libberylwool.so.0 '$(DESTDIR)$(libdir)/libberylwool.so'
+	install -d '$(DESTDIR)$(libdir)/pkgconfig'
 	@python3 scripts/c_manual.py out/c/manual
 	install -d '$(DESTDIR)$(PREFIX)/share/man/man3'
 	install -m 644 out/c/manual/*.3 '$(DESTDIR)$(PREFIX)/share/man/man3/'
-	sed 's|@PREFIX@|$(PREFIX)|' c/berylwool.pc.in > '$(DESTDIR)$(PREFIX)/lib/pkgconfig/berylwool.pc'
+	sed 's|@PREFIX@|$(PREFIX)|; s|@LIBDIR@|$(libdir)|; s|@INCLUDEDIR@|$(includedir)|' c/berylwool.pc.in > '$(DESTDIR)$(libdir)/pkgconfig/berylwool.pc'
 
 c-test: c-library
 	@python3 scripts/c_test.py

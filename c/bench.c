@@ -54,6 +54,7 @@ int main(void) {
     uint8_t *out_text = malloc(text_len);
     bw_handle feed = BW_EMPTY;
     size_t had = 0, filled = 0;
+    uint32_t kind = 0;
     if (!out_text) return 1;
     LEAST(whole, 20, bw_hash(&plain, bytes, 1 << 20, out))
     LEAST(decoded, 20, kept = bw_decode(&plain, root, 0, UINT64_MAX, text, text_len, out_text, text_len, &used, &at, &at))
@@ -66,7 +67,7 @@ int main(void) {
     printf("bw_feed_take_many of 1 MiB in pieces of 64 KiB: %.0f us, %.2f of bw_hash\n", poured * 1e6, poured / whole);
     LEAST(nodes, 20, {
         if (bw_feed_combined(&plain, root, &feed)) return 1;
-        for (size_t done = 0; !bw_feed_wants(&feed, &had) && had; done += had)
+        for (size_t done = 0; !bw_feed_wants(&feed, &kind, &had) && had; done += had)
             if (bw_feed_take(&feed, text + done, had, &at)) return 1;
     })
     printf("bw_feed_take of 1 MiB, node by node: %.0f us, %.2f of bw_hash\n", nodes * 1e6, nodes / whole);
@@ -91,7 +92,23 @@ int main(void) {
     printf("bw_seat_commit_all of 64 chunks that are held: %.1f us\n", again * 1e6);
     LEAST(read, 100, kept = bw_seat_read(&seat, 0, bytes, 65536, &at))
     printf("bw_seat_read of 64 KiB: %.1f us, %.2f GB/s\n", read * 1e6, 65536 / read / 1e9);
+    LEAST(held, 1000, kept = bw_seat_held(&seat, 0, &mask))
+    printf("bw_seat_held: %.2f us\n", held * 1e6);
     bw_free(&hasher), bw_free(&seat), bw_free(&other);
-    free(bytes), free(text), free(slice);
+    /* 64 KiB of a plain copy of 64 MiB, beside an outline that is kept and beside one that is checked with them. */
+    size_t outboard_len = (size_t)bw_outboard_len(64 << 20);
+    uint8_t *outboard = malloc(outboard_len);
+    bw_handle outline = BW_EMPTY;
+    if (!outboard || bw_outboard(&plain, bytes, 64 << 20, outboard, outboard_len, &used, root)) return 1;
+    if (bw_outline_new(&plain, root, outboard, outboard_len, &outline, &at)) return 1;
+    LEAST(hashed, 100, bw_hash(&plain, bytes, 65536, out))
+    LEAST(beside, 100, kept = bw_outline_check(&outline, 5000, 64, bytes + 5000 * 1024, 65536, &at))
+    printf("bw_outline_check of 64 KiB of 64 MiB: %.1f us, %.2f of bw_hash\n", beside * 1e6, beside / hashed);
+    LEAST(sliced, 100, kept = bw_outline_slice(&outline, 5000, 64, bytes + 5000 * 1024, 65536, slice, 1 << 18, &used, &at))
+    printf("bw_outline_slice of 64 KiB of 64 MiB: %.1f us, %.2f of bw_hash\n", sliced * 1e6, sliced / hashed);
+    LEAST(bare, 5, kept = bw_check_bare(&plain, root, outboard, outboard_len, 5000, 64, bytes + 5000 * 1024, 65536, &at))
+    printf("bw_check_bare of 64 KiB of 64 MiB: %.1f us, %.2f of bw_hash\n", bare * 1e6, bare / hashed);
+    bw_free(&outline);
+    free(bytes), free(text), free(slice), free(outboard);
     return 0;
 }

@@ -2,14 +2,14 @@
  * `make c-test` holds the two together. Link with libberylwool.a or libberylwool.so.
  *
  * Rules for every function, which nothing checks:
- *   - No pointer is null. One beside a length of 0 may be any address that isn't null.
+ *   - No pointer is null, but one beside a length of 0: there any address will do.
  *   - What is passed as a pointer to non-const goes to one parameter of one call at a time. What is passed as const may be shared.
  *   - Buffers are at most SIZE_MAX / 2 bytes long.
  *   - The two seats of bw_seat_join and bw_seat_meet come from one bw_store_new, or their stores differ in root, mode or capacity.
  *   - malloc, realloc and free are of one allocator and align to 16.
  *   - No function is called from a signal handler, or in the forked child of a process with threads.
  * A function has no hidden state: calls on different memory may run at once, in any threads. No function starts a thread, waits, takes a
- * lock, opens a file or prints. Memory is malloc's, and each refusal of it is a status. A thread that calls has 256 KiB of stack or more.
+ * lock, opens a file or prints. Memory is malloc's, and each refusal of it is a status. A thread that calls has 64 KiB of stack or more.
  *
  * A status is BW_OK, which is 0, or the number of a fault. Where it isn't 0, only what is named beside the fault is written. */
 #ifndef BERYLWOOL_H
@@ -40,6 +40,17 @@ extern "C" {
 #define BW_GROUP_CHUNKS 64
 #define BW_RANGES_MAX 55
 
+/* What a mode is of. */
+#define BW_MODE_HASH 0
+#define BW_MODE_KEYED_HASH 1
+#define BW_MODE_DERIVE_KEY 2
+
+/* What a node is: the length is that with which an encoding begins. */
+#define BW_NODE_PARENT 0
+#define BW_NODE_CHUNK 1
+#define BW_NODE_LENGTH 2
+#define BW_NODE_NONE 3
+
 typedef uint32_t bw_status;
 
 enum {
@@ -55,6 +66,7 @@ enum {
     BW_STORE_MEMORY = 801,   /* out of memory for a store */
     BW_CAPACITY = 802,       /* the capacity isn't 1 to 65,536 chunks */
     BW_NO_GROUP = 803,       /* the store has no such group */
+    BW_OTHER_ROOT = 804,     /* the outline is of another root or mode than the store */
     BW_TOO_LARGE = 805,      /* the length is above what the store has room for */
     BW_SPLIT_MEMORY = 806,   /* out of memory for a seat */
     BW_OTHER_LENGTH = 807,   /* the recorded length isn't the one that the encoding claims, or there is none */
@@ -74,7 +86,8 @@ enum {
     BW_NO_OUTBOARD = 1209,   /* the outboard encoding isn't accepted */
     BW_NO_CHUNKS = 1210,     /* the blob hasn't so many chunks there */
     BW_OTHER_STORE = 1211,   /* the two seats' stores differ in root, mode or capacity */
-    BW_OTHER_SIZE = 1212     /* the bytes aren't as many as a check in pieces takes */
+    BW_OTHER_SIZE = 1212,    /* the bytes aren't as many as a check in pieces takes */
+    BW_NO_MODE = 1213        /* the mode's kind isn't known */
 };
 
 /* A status in words. */
@@ -92,6 +105,7 @@ static inline const char *bw_strerror(bw_status status) {
     case BW_STORE_MEMORY: return "no memory for a store";
     case BW_CAPACITY: return "the capacity isn't 1 to 65,536 chunks";
     case BW_NO_GROUP: return "the store has no such group";
+    case BW_OTHER_ROOT: return "the outline is of another root or mode";
     case BW_TOO_LARGE: return "the length is above the store's room";
     case BW_SPLIT_MEMORY: return "no memory for a seat";
     case BW_OTHER_LENGTH: return "the recorded length isn't the text's";
@@ -112,11 +126,14 @@ static inline const char *bw_strerror(bw_status status) {
     case BW_NO_CHUNKS: return "the blob hasn't so many chunks there";
     case BW_OTHER_STORE: return "the seats' stores differ";
     case BW_OTHER_SIZE: return "not as many bytes as a check in pieces takes";
+    case BW_NO_MODE: return "the mode's kind isn't known";
     default: return "no status of this library";
     }
 }
 
-/* A mode: kind 1 is keyed hashing under `key`, and any other is plain hashing. */
+/* A mode: kind 0 (BW_MODE_HASH) is plain hashing, 1 (BW_MODE_KEYED_HASH) is keyed hashing under `key`, and 2 (BW_MODE_DERIVE_KEY) is derivation of
+ * keys, which bw_mode_derive makes. A call with another kind answers BW_NO_MODE before all else, and leaves an empty handle where it was to fill
+ * one; bw_hash, which answers nothing, takes it for plain hashing. So {0} is plain hashing. */
 typedef struct bw_mode {
     uint32_t kind;
     uint8_t key[32];
@@ -131,7 +148,7 @@ typedef struct bw_input {
     uint32_t d;
 } bw_input;
 
-/* A node of a blob's tree: kind 0 is the parent whose right part begins at chunk `number`, and 1 is chunk `number`. */
+/* A node of a blob's tree: kind 0 (BW_NODE_PARENT) is the parent whose right part begins at chunk `number`, and 1 (BW_NODE_CHUNK) is chunk `number`. */
 typedef struct bw_node {
     uint32_t kind;
     uint64_t number;
@@ -156,8 +173,8 @@ typedef struct bw_report {
     uint32_t too_large;
 } bw_report;
 
-/* A handle owns a hasher, a check in pieces or a seat, or is empty. Only this library reads or writes `at` and what lies behind it. A handle may be moved as
- * bytes, and has one owner: a copy that is used beside it breaks everything. It may go from one thread to another by what orders memory:
+/* A handle owns a hasher, a check in pieces, an outline or a seat, or is empty. Only this library reads or writes `at` and what lies behind it. A handle may
+ * be moved as bytes, and has one owner: a copy that is used beside it breaks everything. It may go from one thread to another by what orders memory:
  * a thread's start or join, a lock, a sequentially consistent atomic. Set one to BW_EMPTY before its first use, and end with bw_free. */
 typedef struct bw_handle {
     void *at;
@@ -175,6 +192,11 @@ uint32_t bw_version(void);
 uint32_t bw_is_memory(bw_status status);
 
 /* --- Hashes */
+
+/* The mode that derives keys for the use that `context`, a UTF-8 text, names: kind 2, where `key` is the hash of the context, 32 bytes that are no
+ * secret. bw_hash and bw_xof in it give the keys that bw_derive_key gives, and encodings and stores have it as any other mode. BW_NOT_UTF8: *mode is as
+ * it was. */
+BW_USE bw_status bw_mode_derive(const uint8_t *context, size_t context_len, bw_mode *mode);
 
 /* The hash of `bytes`. */
 void bw_hash(const bw_mode *mode, const uint8_t *bytes, size_t len, uint8_t out[BW_AT_LEAST(BW_HASH_LEN)]);
@@ -222,6 +244,10 @@ BW_USE bw_status bw_cut_slice(const uint8_t *text, size_t text_len, uint64_t sta
  * or more. BW_ROOM: some of `out` may have been written to. */
 BW_USE bw_status bw_slice_ranges(uint64_t total, uint64_t start, uint64_t len, bw_range *out, size_t room, size_t *count);
 
+/* Which bytes of the outboard encoding of a blob of `total` bytes are its length and the parents of the slice (start, len), in the same way: what comes,
+ * with the slice's chunks, is what bw_outline_slice makes of them. BW_ROOM: some of `out` may have been written to. */
+BW_USE bw_status bw_outboard_ranges(uint64_t total, uint64_t start, uint64_t len, bw_range *out, size_t room, size_t *count);
+
 /* --- Encodings checked: BW_OK exactly where they are accepted, or else the first fault, BW_SHORT, BW_MISMATCH or BW_TRAILING, and its
  * place in *at. No memory is taken. */
 
@@ -251,6 +277,37 @@ BW_USE bw_status bw_audit(const bw_mode *mode, const uint8_t root[BW_AT_LEAST(BW
                           const uint8_t *text, size_t text_len, const uint8_t *blob, size_t blob_len, uint64_t *at, bw_input *ours,
                           bw_input *theirs);
 
+/* --- Outlines: an outboard encoding that is checked once, and kept. Beside it bytes of plain copies of the blob are checked, made slices of and
+ * stored, whoever gave them, at the cost of these bytes alone. `chunks` are the bytes of chunks `first` to `first + count - 1` of the blob, from byte
+ * 1,024 * first on to where the last of them ends. Each call but bw_outline_new can answer BW_NO_HANDLE. */
+
+/* Checks an outboard encoding, as bw_check_outboard does, and keeps a copy of it; what the handle owned is freed. BW_SHORT, BW_MISMATCH, BW_TRAILING,
+ * BW_MEMORY: the handle is empty then. */
+BW_USE bw_status bw_outline_new(const bw_mode *mode, const uint8_t root[BW_AT_LEAST(BW_HASH_LEN)], const uint8_t *outboard, size_t outboard_len,
+                                bw_handle *outline, uint64_t *at);
+
+/* Gives `other` a part in the outline, for another thread, say: no encoding is copied, and it is freed with its last handle. What `other` owned is freed.
+ * BW_MEMORY: `other` is empty then. */
+BW_USE bw_status bw_outline_share(bw_handle *outline, bw_handle *other);
+
+/* The length that the outline claims for the blob. It isn't certified before the last chunk was checked beside it. */
+BW_USE bw_status bw_outline_length(bw_handle *outline, uint64_t *len);
+
+/* Checks chunks of a plain copy: BW_OK exactly where they are the root's. BW_SHORT, BW_MISMATCH or BW_TRAILING, with the place in `chunks` in *at.
+ * BW_NO_CHUNKS: `count` is 0, or there are none such. No memory is taken. */
+BW_USE bw_status bw_outline_check(bw_handle *outline, uint64_t first, uint64_t count, const uint8_t *chunks, size_t chunks_len, uint64_t *at);
+
+/* Checks chunks as bw_outline_check, and puts the slice (1,024 * first, 1,024 * count) of them to the start of `out`: what a server of a plain file answers.
+ * That of the last chunk is what bw_seat_settle asks for. The faults of bw_outline_check come first. BW_ROOM: *used says how long the encoding is,
+ * as bw_slice_len of the outline's length does. BW_TEXT_MEMORY. `out` is as it was then. */
+BW_USE bw_status bw_outline_slice(bw_handle *outline, uint64_t first, uint64_t count, const uint8_t *chunks, size_t chunks_len, uint8_t *out,
+                                  size_t out_len, size_t *used, uint64_t *at);
+
+/* Checks chunks as bw_outline_check, and stores all that the slice of them has, as bw_seat_commit_all does: the chunks and the parents above them.
+ * BW_OTHER_ROOT, before all else. BW_SHORT, BW_MISMATCH, BW_TRAILING, BW_NO_CHUNKS. BW_OTHER_LENGTH: nothing is stored. No memory is taken. */
+BW_USE bw_status bw_outline_commit(bw_handle *outline, bw_handle *seat, uint64_t first, uint64_t count, const uint8_t *chunks, size_t chunks_len,
+                                   uint64_t *committed, uint64_t *parents, uint64_t *at);
+
 /* --- Encodings checked in pieces: an encoding is given a node at a time, in its order, while it comes, and none of its bytes are kept. What is
  * accepted, and else the first fault and its place, are those of bw_check_slice and bw_check_combined. A program hands bw_feed_take_many what
  * came, again and again, and is handed the blob's bytes; then it hands bw_feed_finish what is left of the encoding, where it ends. Or it asks
@@ -262,12 +319,11 @@ BW_USE bw_status bw_audit(const bw_mode *mode, const uint8_t root[BW_AT_LEAST(BW
 BW_USE bw_status bw_feed_slice(const bw_mode *mode, const uint8_t root[BW_AT_LEAST(BW_HASH_LEN)], uint64_t start, uint64_t len, bw_handle *feed);
 BW_USE bw_status bw_feed_combined(const bw_mode *mode, const uint8_t root[BW_AT_LEAST(BW_HASH_LEN)], bw_handle *feed);
 
-/* How many bytes the node has that comes next: 8 for the length, 64 for a parent, 1 to 1,024 for a chunk. 0 exactly where what was taken is an
- * accepted encoding. */
-BW_USE bw_status bw_feed_wants(bw_handle *feed, size_t *size);
+/* What comes next, and how many bytes it has: *node is 2 (BW_NODE_LENGTH) for the length, of 8 bytes, 0 (BW_NODE_PARENT) for a parent, of 64, and 1
+ * (BW_NODE_CHUNK) for a chunk, of 1 to 1,024. It is 3 (BW_NODE_NONE), with 0 in *size, exactly where what was taken is an accepted encoding. */
+BW_USE bw_status bw_feed_wants(bw_handle *feed, uint32_t *node, size_t *size);
 
-/* Takes the node that comes next, and verifies it. Whether it is a chunk bw_feed_take_many tells, which hands out a chunk's bytes and none of a
- * parent: a last chunk can have 64 bytes, as a parent has. BW_MISMATCH: that is the first fault of every encoding that begins with what was taken and
+/* Takes the node that comes next, and verifies it: where it is a chunk, its bytes are the blob's next ones. BW_MISMATCH: that is the first fault of every encoding that begins with what was taken and
  * this node, at *at. BW_TOO_MUCH, with 0 in *at. BW_OTHER_SIZE: `node` has another length than is wanted, or nothing is. The check is as it was
  * then, and can take other bytes in their place. */
 BW_USE bw_status bw_feed_take(bw_handle *feed, const uint8_t *node, size_t node_len, uint64_t *at);
@@ -325,6 +381,10 @@ BW_USE bw_status bw_seat_give(bw_handle *seat, uint32_t group, uint64_t mask, ui
 BW_USE bw_status bw_seat_commit_all(bw_handle *seat, uint64_t start, uint64_t len, const uint8_t *text, size_t text_len,
                                     uint64_t *committed, uint64_t *parents, uint64_t *at);
 
+/* Which chunks of the group are held, without claiming any: bit j of *mask stands for chunk 64 * group + j, which was asked for its first byte, one after
+ * another. Others may store meanwhile. The chunk of a blob of no bytes has none, and isn't told. BW_NO_GROUP. */
+BW_USE bw_status bw_seat_held(bw_handle *seat, uint32_t group, uint64_t *mask);
+
 /* Checks an encoding as the slice (start, len), stores exactly the chunks of the group that the seat claims and the encoding has, and ends these
  * claims; no parents, without which no slice is served. BW_SHORT, BW_MISMATCH, BW_TRAILING as bw_check_slice. */
 BW_USE bw_status bw_seat_commit(bw_handle *seat, uint32_t group, uint64_t start, uint64_t len, const uint8_t *text, size_t text_len,
@@ -366,8 +426,9 @@ BW_USE bw_status bw_seat_read(bw_handle *seat, uint64_t from, uint8_t *out, size
  * BW_ROOM: *used says how long it is, as bw_slice_len of the recorded length does. */
 BW_USE bw_status bw_seat_serve_slice(bw_handle *seat, uint64_t start, uint64_t len, uint8_t *out, size_t out_len, size_t *used, bw_node *lacking);
 
-/* Puts the whole blob to the start of `out`, once the hash of its bytes is the root. BW_UNFINISHED, BW_NOT_THE_ROOT. BW_ROOM: *used is the blob's
- * length. After BW_UNFINISHED and BW_NOT_THE_ROOT `out` may have been written to. */
+/* Puts the whole blob to the start of `out`, once the hash of its bytes is the root. BW_UNFINISHED: no length is recorded, or a byte isn't held. BW_ROOM,
+ * before any byte is read: *used is the recorded length. BW_NOT_THE_ROOT: all bytes are held, and their hash is another. Nothing is claimed. After
+ * BW_UNFINISHED and BW_NOT_THE_ROOT `out` may have been written to. */
 BW_USE bw_status bw_seat_finish(bw_handle *seat, uint8_t *out, size_t out_len, size_t *used);
 
 #ifdef __cplusplus

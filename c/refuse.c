@@ -83,14 +83,18 @@ int main(void) {
     size_t used = 0, cut = 0, spare_len = 0, taken = 0, filled = 0;
     uint64_t mask = 0, at = 0, parents = 0, total = 0;
     bw_node lacking = {0, 0};
+    static uint8_t outboard[80000];
+    size_t outboard_len = 0, beside_len = 0;
+    uint64_t len = 0;
     uint8_t tail[8 + 64 * 64 + BW_CHUNK_LEN];
     size_t tail_len = 0;
     memset(blob, 7, sizeof blob);
     WANT(bw_encode(&plain, blob, sizeof blob, text, sizeof text, &used, root) == BW_OK);
     WANT(bw_cut_slice(text, used, 0, 65536, slice, sizeof slice, &cut) == BW_OK);
     WANT(bw_cut_slice(text, used, UINT64_MAX, 1, tail, sizeof tail, &tail_len) == BW_OK);
+    WANT(bw_outboard(&plain, blob, sizeof blob, outboard, sizeof outboard, &outboard_len, root) == BW_OK);
     for (int refused = 1, n = 0; refused != 0; n++) {
-        bw_handle hasher = BW_EMPTY, seat = BW_EMPTY, other = BW_EMPTY, feed = BW_EMPTY, whole = BW_EMPTY;
+        bw_handle hasher = BW_EMPTY, seat = BW_EMPTY, other = BW_EMPTY, feed = BW_EMPTY, whole = BW_EMPTY, outline = BW_EMPTY, part = BW_EMPTY;
         refused = 0;
         left = n;
         bw_status made = bw_hasher_new(&plain, &hasher), opened = bw_store_new(&plain, root, 100, &seat), split = bw_seat_split(&seat, &other);
@@ -99,7 +103,15 @@ int main(void) {
         bw_status written = bw_slice(&plain, blob, sizeof blob, 0, 65536, spare, sizeof spare, &spare_len, root);
         bw_status fed = bw_feed_slice(&plain, root, 0, 65536, &feed), all = bw_feed_combined(&plain, root, &whole);
         bw_status bare = bw_outboard(&plain, blob, sizeof blob, spare, sizeof spare, &spare_len, root);
+        bw_status kept = bw_outline_new(&plain, root, outboard, outboard_len, &outline, &at), shared = bw_outline_share(&outline, &part);
+        bw_status beside = bw_outline_slice(&outline, 0, 64, blob, 65536, spare, sizeof spare, &beside_len, &at);
         left = 0; /* no other call takes memory */
+        WANT(kept == BW_OK || (kept == BW_MEMORY && outline.at == NULL && ++refused));
+        WANT(shared == BW_OK || (part.at == NULL && shared == (kept == BW_OK ? BW_MEMORY : BW_NO_HANDLE) && ++refused));
+        WANT(beside == BW_OK || (beside == (kept == BW_OK ? BW_TEXT_MEMORY : BW_NO_HANDLE) && ++refused));
+        WANT(beside != BW_OK || sliced != BW_OK || (beside_len == cut && memcmp(spare, slice, cut) == 0));
+        WANT(kept != BW_OK || (bw_outline_length(&outline, &len) == BW_OK && len == sizeof blob && bw_outline_check(&outline, 3, 2, blob, 2048, &at) == BW_OK));
+        WANT(shared != BW_OK || (bw_outline_length(&part, &len) == BW_OK && len == sizeof blob));
         WANT(made == BW_OK || (made == BW_MEMORY && ++refused));
         WANT(bw_hasher_update(&hasher, blob, sizeof blob) == (made == BW_OK ? BW_OK : BW_NO_HANDLE));
         WANT(bw_hasher_finish(&hasher, out) == (made == BW_OK ? BW_OK : BW_NO_HANDLE));
@@ -107,7 +119,9 @@ int main(void) {
         WANT(fed == BW_OK || (fed == BW_MEMORY && feed.at == NULL && ++refused));
         WANT(all == BW_OK || (all == BW_MEMORY && whole.at == NULL && ++refused));
         size_t size = 7;
-        WANT(bw_feed_wants(&whole, &size) == (all == BW_OK ? BW_OK : BW_NO_HANDLE) && size == (all == BW_OK ? 8 : 7));
+        uint32_t kind = 7;
+        WANT(bw_feed_wants(&whole, &kind, &size) == (all == BW_OK ? BW_OK : BW_NO_HANDLE) && size == (all == BW_OK ? 8 : 7));
+        WANT(kind == (all == BW_OK ? BW_NODE_LENGTH : 7));
         WANT(bw_encode(&plain, blob, sizeof blob, spare, 10, &spare_len, root) == BW_ROOM && spare_len == used);
         WANT(bw_outboard(&plain, blob, sizeof blob, spare, 10, &spare_len, root) == BW_ROOM && spare_len == bw_outboard_len(sizeof blob));
         WANT(bw_decode(&plain, root, 0, UINT64_MAX, text, used, spare, sizeof spare, &filled, &total, &at) == BW_OK);
@@ -116,7 +130,7 @@ int main(void) {
         WANT(all != BW_OK || (taken == used && filled == sizeof blob && memcmp(spare, blob, filled) == 0 && bw_feed_finish(&whole, text, 0, &at) == BW_OK));
         if (fed == BW_OK && sliced == BW_OK) {
             taken = 0;
-            for (; bw_feed_wants(&feed, &size) == BW_OK && size != 0; taken += size)
+            for (; bw_feed_wants(&feed, &kind, &size) == BW_OK && size != 0; taken += size)
                 WANT(size <= cut - taken && bw_feed_take(&feed, slice + taken, size, &at) == BW_OK);
             WANT(taken == cut && bw_feed_finish(&feed, slice, 0, &at) == BW_OK);
         }
@@ -141,10 +155,13 @@ int main(void) {
             WANT(split != BW_OK || (bw_seat_take(&other, 1, 1, &mask) == BW_OK && mask == 1));
             WANT(split != BW_OK || (bw_seat_meet(&seat, &other) == BW_OK && bw_seat_join(&seat, &other) == BW_OK && other.at == NULL));
             WANT(split != BW_OK || (bw_seat_give(&seat, 1, 1, &mask) == BW_OK && mask == 1));
-            WANT(bw_seat_commit_all(&seat, 0, UINT64_MAX, text, used, &mask, &parents, &at) == BW_OK && mask == 5 && parents == 5);
+            WANT(bw_seat_held(&seat, 0, &mask) == BW_OK && mask == UINT64_MAX && bw_seat_held(&seat, 1, &mask) == BW_OK && mask == 0);
+            uint64_t before = 0, had = 0;
+            if (kept == BW_OK) WANT(bw_outline_commit(&outline, &seat, 64, 2, blob, 2048, &had, &before, &at) == BW_OK && had == 2 && before > 0);
+            WANT(bw_seat_commit_all(&seat, 0, UINT64_MAX, text, used, &mask, &parents, &at) == BW_OK && mask == 5 - had && parents == 5 - before);
         }
         left = -1;
-        bw_free(&hasher), bw_free(&seat), bw_free(&other), bw_free(&feed), bw_free(&whole);
+        bw_free(&hasher), bw_free(&seat), bw_free(&other), bw_free(&feed), bw_free(&whole), bw_free(&outline), bw_free(&part);
         WANT(n < 1000);
     }
     for (int alone = 0; alone < 2; alone++)

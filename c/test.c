@@ -293,10 +293,10 @@ static void rows(void) {
         if (it->kind == 2) {
             WANT(bw_derive_key((const uint8_t *)ROW_CONTEXT, sizeof ROW_CONTEXT - 1, bytes, it->len, out, sizeof out) == BW_OK);
             WANT(memcmp(out, it->out, sizeof out) == 0);
-            continue;
         }
         bw_mode mode = {it->kind, {0}};
         memcpy(mode.key, ROW_KEY, sizeof mode.key);
+        if (it->kind == 2) WANT(bw_mode_derive((const uint8_t *)ROW_CONTEXT, sizeof ROW_CONTEXT - 1, &mode) == BW_OK && mode.kind == BW_MODE_DERIVE_KEY);
         bw_hash(&mode, bytes, it->len, out);
         WANT(memcmp(out, it->out, BW_HASH_LEN) == 0);
         WANT(bw_xof(&mode, bytes, it->len, 0, out, sizeof out) == BW_OK);
@@ -345,6 +345,102 @@ static void hashes(const uint8_t *blob, size_t len, const uint8_t *root) {
     bw_free(&hasher);
     bw_free(&hasher);
     WANT(hasher.at == NULL);
+}
+
+/* NULL beside a length of 0 is as good as any address: here each call that takes bytes or a buffer has none, of a blob of no bytes. */
+static void nothings(void) {
+    const uint8_t claim[8] = {0};
+    uint8_t hash[BW_HASH_LEN], also[BW_HASH_LEN], one[8] = {0};
+    bw_handle hasher = BW_EMPTY, feed = BW_EMPTY, seat = BW_EMPTY, outline = BW_EMPTY;
+    bw_input ours, theirs;
+    bw_node lacking;
+    bw_mode mode;
+    bw_report report = {0, 0, 0, 0, 0, 0, 0};
+    uint64_t at = 7, total = 7, committed = 7, parents = 7;
+    size_t used = 7, other = 8, taken = 7, filled = 7;
+    bw_hash(&plain, NULL, 0, hash), bw_hash(&plain, one, 0, also);
+    WANT(memcmp(hash, also, sizeof hash) == 0);
+    WANT(bw_xof(&plain, NULL, 0, 0, NULL, 0) == BW_OK && bw_xof(&plain, NULL, 0, 0, also, 32) == BW_OK && memcmp(hash, also, sizeof hash) == 0);
+    WANT(bw_derive_key(NULL, 0, NULL, 0, NULL, 0) == BW_OK && bw_derive_key(NULL, 0, NULL, 0, also, 32) == BW_OK);
+    WANT(bw_mode_derive(NULL, 0, &mode) == BW_OK && bw_hasher_new(&mode, &hasher) == BW_OK && bw_hasher_update(&hasher, NULL, 0) == BW_OK);
+    WANT(bw_hasher_xof(&hasher, 0, NULL, 0) == BW_OK && bw_hasher_finish(&hasher, hash) == BW_OK && memcmp(hash, also, sizeof hash) == 0);
+    bw_hash(&plain, NULL, 0, hash);
+    WANT(bw_encode(&plain, NULL, 0, NULL, 0, &used, also) == BW_ROOM && used == 8 && bw_encode(&plain, NULL, 0, one, 8, &used, also) == BW_OK);
+    WANT(bw_outboard(&plain, NULL, 0, NULL, 0, &used, also) == BW_ROOM && used == 8 && bw_outboard(&plain, NULL, 0, one, 8, &used, also) == BW_OK);
+    WANT(bw_slice(&plain, NULL, 0, 0, 1, NULL, 0, &used, also) == BW_ROOM && used == 8 && bw_slice(&plain, NULL, 0, 0, 1, one, 8, &used, also) == BW_OK);
+    WANT(memcmp(hash, also, sizeof hash) == 0 && memcmp(one, claim, sizeof claim) == 0);
+    WANT(bw_cut_slice(NULL, 0, 0, 1, NULL, 0, &used) == bw_cut_slice(one, 0, 0, 1, also, 0, &other) && used == other);
+    WANT(bw_slice_ranges(5000, 0, 1, NULL, 0, &used) == BW_ROOM && bw_outboard_ranges(5000, 0, 1, NULL, 0, &used) == BW_ROOM);
+    WANT(bw_check_slice(&plain, hash, 0, 1, NULL, 0, &at) == BW_SHORT && at == 0 && bw_check_combined(&plain, hash, NULL, 0, &at) == BW_SHORT);
+    WANT(bw_check_outboard(&plain, hash, NULL, 0, &at) == BW_SHORT && bw_check_bare(&plain, hash, NULL, 0, 0, 1, NULL, 0, &at) == BW_NO_OUTBOARD);
+    WANT(bw_check_bare(&plain, hash, claim, 8, 0, 1, NULL, 0, &at) == BW_OK && bw_audit(&plain, hash, 0, 1, claim, 8, NULL, 0, &at, &ours, &theirs) == BW_OK);
+    WANT(bw_decode(&plain, hash, 0, 1, claim, 8, NULL, 0, &used, &total, &at) == BW_OK && used == 0 && total == 0);
+    WANT(bw_feed_combined(&plain, hash, &feed) == BW_OK && bw_feed_take(&feed, NULL, 0, &at) == BW_OTHER_SIZE);
+    WANT(bw_feed_take_many(&feed, NULL, 0, NULL, 0, &taken, &filled, &at) == BW_OK && taken == 0 && filled == 0);
+    WANT(bw_feed_finish(&feed, NULL, 0, &at) == BW_SHORT && bw_feed_take(&feed, claim, 8, &at) == BW_OK && bw_feed_finish(&feed, NULL, 0, &at) == BW_OK);
+    WANT(bw_store_new(&plain, hash, 1, &seat) == BW_OK && bw_seat_commit(&seat, 0, 0, 1, NULL, 0, &committed, &at) == BW_SHORT);
+    WANT(bw_seat_settle(&seat, NULL, 0, &at) == BW_SHORT && bw_seat_settle(&seat, claim, 8, &at) == BW_OK);
+    WANT(bw_seat_commit_parents(&seat, 0, 0, 1, NULL, 0, &parents, &at) == BW_SHORT && bw_seat_commit_all(&seat, 0, 1, NULL, 0, &committed, &parents, &at) == BW_SHORT);
+    WANT(bw_gather(&seat, 0, 1, NULL, 0, &report) == BW_OK && bw_seat_salvage(&seat, NULL, 0, &report) == BW_OK);
+    WANT(bw_outline_new(&plain, hash, NULL, 0, &outline, &at) == BW_SHORT && bw_outline_new(&plain, hash, claim, 8, &outline, &at) == BW_OK);
+    WANT(bw_outline_check(&outline, 0, 1, NULL, 0, &at) == BW_OK && bw_outline_slice(&outline, 0, 1, NULL, 0, NULL, 0, &used, &at) == BW_ROOM && used == 8);
+    WANT(bw_outline_slice(&outline, 0, 1, NULL, 0, one, 8, &used, &at) == BW_OK && used == 8 && memcmp(one, claim, sizeof claim) == 0);
+    WANT(bw_outline_commit(&outline, &seat, 0, 1, NULL, 0, &committed, &parents, &at) == BW_OK && committed == 1 && parents == 0);
+    WANT(bw_seat_commit_all(&seat, 0, 1, claim, 8, &committed, &parents, &at) == BW_OK && bw_seat_read(&seat, 0, NULL, 0, &at) == BW_OK);
+    WANT(bw_seat_serve_slice(&seat, 0, 1, NULL, 0, &used, &lacking) == BW_ROOM && used == 8 && bw_seat_finish(&seat, NULL, 0, &used) == BW_OK && used == 0);
+    bw_free(&hasher), bw_free(&feed), bw_free(&seat), bw_free(&outline);
+}
+
+/* A mode with a derived key is as good as any other, and one of an unknown kind is refused by each call that can. */
+static void modes(const uint8_t *blob) {
+    static uint8_t text[9000], out[9000];
+    bw_mode mode = {7, {5}}, derived = plain;
+    bw_handle feed = BW_EMPTY, seat = BW_EMPTY, hasher = BW_EMPTY;
+    bw_input ours, theirs;
+    uint8_t root[BW_HASH_LEN], hash[BW_HASH_LEN];
+    uint64_t at = 7, total = 7, committed = 7, parents = 7;
+    size_t used = 7, len = 7;
+    WANT(bw_mode_derive((const uint8_t *)"\xc0\x80", 2, &mode) == BW_NOT_UTF8 && mode.kind == 7 && mode.key[0] == 5);
+    WANT(bw_mode_derive((const uint8_t *)"a use", 5, &derived) == BW_OK && derived.kind == 2);
+    /* The key is the hash of the context, and no secret: without it the same mode isn't made of another context. */
+    WANT(bw_mode_derive((const uint8_t *)"a use", 4, &mode) == BW_OK && memcmp(mode.key, derived.key, sizeof mode.key) != 0);
+    WANT(bw_encode(&derived, blob, 5000, text, sizeof text, &used, root) == BW_OK);
+    WANT(bw_derive_key((const uint8_t *)"a use", 5, blob, 5000, hash, sizeof hash) == BW_OK && memcmp(hash, root, sizeof hash) == 0);
+    WANT(bw_check_combined(&derived, root, text, used, &at) == BW_OK && bw_check_combined(&mode, root, text, used, &at) == BW_MISMATCH && at == 8);
+    WANT(bw_decode(&derived, root, 0, UINT64_MAX, text, used, out, sizeof out, &len, &total, &at) == BW_OK && len == 5000 && memcmp(out, blob, len) == 0);
+    WANT(bw_feed_combined(&derived, root, &feed) == BW_OK && bw_store_new(&derived, root, 5, &seat) == BW_OK);
+    WANT(bw_feed_take(&feed, text, 8, &at) == BW_OK && bw_feed_take(&feed, text + 8, 64, &at) == BW_OK);
+    WANT(bw_seat_settle(&seat, text, used, &at) == BW_MISMATCH);
+    WANT(bw_slice(&derived, blob, 5000, UINT64_MAX, 1, out, sizeof out, &len, hash) == BW_OK && bw_seat_settle(&seat, out, len, &at) == BW_OK);
+    WANT(bw_seat_commit_all(&seat, 0, UINT64_MAX, text, used, &committed, &parents, &at) == BW_OK && committed == 5 && parents == 4);
+    WANT(bw_seat_finish(&seat, out, sizeof out, &len) == BW_OK && len == 5000 && memcmp(out, blob, len) == 0);
+    WANT(bw_hasher_new(&derived, &hasher) == BW_OK);
+
+    static const uint32_t kinds[] = {3, 7, UINT32_MAX};
+    for (size_t k = 0; k < sizeof kinds / sizeof *kinds; k++) {
+        const bw_mode unknown = {kinds[k], {0}};
+        WANT(bw_encode(&plain, blob, 5000, text, sizeof text, &used, root) == BW_OK);
+        bw_hash(&unknown, blob, 5000, hash);
+        WANT(memcmp(hash, root, sizeof hash) == 0);
+        at = 7, total = 7, len = 7, out[0] = 9, hash[0] = 9;
+        WANT(bw_xof(&unknown, blob, 5000, 0, out, 1) == BW_NO_MODE && bw_xof(&unknown, blob, 5000, UINT64_MAX, out, 1) == BW_NO_MODE);
+        WANT(bw_encode(&unknown, blob, 5000, out, sizeof out, &len, hash) == BW_NO_MODE && bw_encode(&unknown, blob, 5000, out, 1, &len, hash) == BW_NO_MODE);
+        WANT(bw_outboard(&unknown, blob, 5000, out, sizeof out, &len, hash) == BW_NO_MODE && bw_outboard(&unknown, blob, 5000, out, 1, &len, hash) == BW_NO_MODE);
+        WANT(bw_slice(&unknown, blob, 5000, 0, 1, out, sizeof out, &len, hash) == BW_NO_MODE);
+        WANT(bw_check_slice(&unknown, root, 0, UINT64_MAX, text, used, &at) == BW_NO_MODE && bw_check_slice(&unknown, root, 0, 1, text, 7, &at) == BW_NO_MODE);
+        WANT(bw_check_combined(&unknown, root, text, used, &at) == BW_NO_MODE && bw_check_outboard(&unknown, root, text, used, &at) == BW_NO_MODE);
+        WANT(bw_check_bare(&unknown, root, text, used, 0, 0, blob, 1, &at) == BW_NO_MODE);
+        WANT(bw_decode(&unknown, root, 0, UINT64_MAX, text, used, out, 1, &len, &total, &at) == BW_NO_MODE);
+        WANT(bw_audit(&unknown, root, 0, UINT64_MAX, text, used, blob, 5000, &at, &ours, &theirs) == BW_NO_MODE);
+        WANT(at == 7 && total == 7 && len == 7 && out[0] == 9 && hash[0] == 9);
+        /* A handle that was to be filled is empty. */
+        WANT(bw_hasher_new(&plain, &hasher) == BW_OK && bw_hasher_new(&unknown, &hasher) == BW_NO_MODE && hasher.at == NULL);
+        WANT(bw_feed_combined(&plain, root, &feed) == BW_OK && bw_feed_combined(&unknown, root, &feed) == BW_NO_MODE && feed.at == NULL);
+        WANT(bw_feed_slice(&plain, root, 0, 1, &feed) == BW_OK && bw_feed_slice(&unknown, root, 0, 1, &feed) == BW_NO_MODE && feed.at == NULL);
+        WANT(bw_store_new(&plain, root, 5, &seat) == BW_OK && bw_store_new(&unknown, root, 0, &seat) == BW_NO_MODE && seat.at == NULL);
+    }
+    WANT(strcmp(bw_strerror(BW_NO_MODE), bw_strerror(1)) != 0);
+    bw_free(&feed), bw_free(&seat), bw_free(&hasher);
 }
 
 static void texts(const uint8_t *blob, const uint8_t *root, holder *good) {
@@ -399,7 +495,8 @@ static void texts(const uint8_t *blob, const uint8_t *root, holder *good) {
 /* Hands a check in pieces a text, node by node as far as it goes, and then its rest. Answers what the check says. */
 static bw_status fed(bw_handle *feed, const uint8_t *text, size_t len, uint64_t *at) {
     size_t taken = 0, size = 0;
-    for (; bw_feed_wants(feed, &size) == BW_OK && size != 0 && size <= len - taken; taken += size) {
+    uint32_t kind = 0;
+    for (; bw_feed_wants(feed, &kind, &size) == BW_OK && size != 0 && size <= len - taken; taken += size) {
         bw_status status = bw_feed_take(feed, text + taken, size, at);
         if (status != BW_OK) return status;
     }
@@ -411,12 +508,14 @@ static bw_status fed(bw_handle *feed, const uint8_t *text, size_t len, uint64_t 
 static void pieces(const bw_mode *mode, const uint8_t *root, uint64_t start, uint64_t slice_len, uint8_t *text, size_t len) {
     bw_handle feed = BW_EMPTY, other = BW_EMPTY;
     size_t taken = 0, size = 7;
+    uint32_t kind = 7;
     uint64_t at = 7, wanted = 7;
     uint8_t *longer = room(len + 1);
     WANT(bw_check_slice(mode, root, start, slice_len, text, len, &at) == BW_OK);
     WANT(bw_feed_slice(mode, root, start, slice_len, &feed) == BW_OK);
-    while (bw_feed_wants(&feed, &size) == BW_OK && size != 0) {
+    while (bw_feed_wants(&feed, &kind, &size) == BW_OK && size != 0) {
         WANT(size <= len - taken && size <= BW_CHUNK_LEN && (taken != 0 || size == 8));
+        WANT((kind == BW_NODE_LENGTH) == (taken == 0) && (kind != BW_NODE_PARENT || size == 64) && kind != BW_NODE_NONE);
         for (size_t cut = taken; cut < taken + size; cut += cut == taken && size > 2 ? size - 2 : 1) {
             WANT(bw_check_slice(mode, root, start, slice_len, text, cut, &wanted) == BW_SHORT && wanted == taken);
             WANT(bw_feed_finish(&feed, text + taken, cut - taken, &at) == BW_SHORT && at == wanted);
@@ -466,11 +565,12 @@ static void feeds(const uint8_t *blob, const uint8_t *root, holder *good) {
     bw_handle feed = BW_EMPTY, hasher = BW_EMPTY;
     uint64_t at = 7;
     size_t size = 7, used = 0;
+    uint32_t kind = 7;
     uint8_t text[9000], hash[BW_HASH_LEN];
-    WANT(bw_feed_wants(&feed, &size) == BW_NO_HANDLE && size == 7);
+    WANT(bw_feed_wants(&feed, &kind, &size) == BW_NO_HANDLE && size == 7 && kind == 7);
     WANT(bw_feed_take(&feed, text, 8, &at) == BW_NO_HANDLE && bw_feed_finish(&feed, text, 0, &at) == BW_NO_HANDLE && at == 7);
     WANT(bw_hasher_new(&plain, &hasher) == BW_OK);
-    WANT(bw_feed_wants(&hasher, &size) == BW_NO_HANDLE && bw_feed_take(&hasher, text, 8, &at) == BW_NO_HANDLE);
+    WANT(bw_feed_wants(&hasher, &kind, &size) == BW_NO_HANDLE && bw_feed_take(&hasher, text, 8, &at) == BW_NO_HANDLE);
     WANT(bw_feed_finish(&hasher, text, 0, &at) == BW_NO_HANDLE);
     WANT(bw_feed_combined(&plain, root, &feed) == BW_OK);
     WANT(bw_hasher_update(&feed, blob, 1) == BW_NO_HANDLE && bw_hasher_finish(&feed, hash) == BW_NO_HANDLE);
@@ -482,10 +582,10 @@ static void feeds(const uint8_t *blob, const uint8_t *root, holder *good) {
     WANT(bw_check_combined(&plain, root, good->text, good->len, &wanted) == BW_MISMATCH);
     WANT(fed(&feed, good->text, good->len, &at) == BW_MISMATCH && at == wanted);
     good->text[good->len / 2] ^= 1;
-    WANT(bw_feed_combined(&plain, root, &hasher) == BW_OK && bw_feed_wants(&hasher, &size) == BW_OK && size == 8);
+    WANT(bw_feed_combined(&plain, root, &hasher) == BW_OK && bw_feed_wants(&hasher, &kind, &size) == BW_OK && size == 8);
     bw_free(&hasher);
     bw_free(&feed);
-    WANT(feed.at == NULL && bw_feed_wants(&feed, &size) == BW_NO_HANDLE);
+    WANT(feed.at == NULL && bw_feed_wants(&feed, &kind, &size) == BW_NO_HANDLE);
 
     WANT(bw_cut_slice(good->text, good->len, 5000, 3000, text, sizeof text, &used) == BW_OK);
     pieces(&plain, root, 5000, 3000, text, used);
@@ -569,6 +669,7 @@ static void pouring(const uint8_t *blob, const uint8_t *root, const holder *good
     bw_handle feed = BW_EMPTY;
     uint8_t hash[BW_HASH_LEN];
     size_t used = 0, taken = 7, filled = 7, size = 0;
+    uint32_t kind = 7;
     uint64_t at = 7;
     WANT(bw_feed_take_many(&feed, text, 8, out, 8, &taken, &filled, &at) == BW_NO_HANDLE);
     WANT(bw_feed_take_many(&feed, text, 8, out, 7, &taken, &filled, &at) == BW_ROOM);
@@ -590,13 +691,14 @@ static void pouring(const uint8_t *blob, const uint8_t *root, const holder *good
         WANT(bw_feed_combined(&keyed, hash, &feed) == BW_OK);
         WANT(poured(&feed, text, used, sizeof text, out, &filled, &at) == BW_OK && filled == lens[k] && memcmp(out, blob, filled) == 0);
         WANT(bw_feed_take_many(&feed, text, 8, out, 8, &taken, &filled, &at) == BW_OK && taken == 0 && filled == 0);
-        WANT(bw_feed_wants(&feed, &size) == BW_OK && size == 0);
+        WANT(bw_feed_wants(&feed, &kind, &size) == BW_OK && size == 0 && kind == BW_NODE_NONE);
     }
     /* Node by node, it tells the chunks apart from the parents: also a last chunk of 64 bytes, as many as a parent has. */
     WANT(bw_encode(&plain, blob, 3136, text, sizeof text, &used, hash) == BW_OK && bw_feed_combined(&plain, hash, &feed) == BW_OK);
     static const size_t sizes[] = {8, 64, 64, 1024, 1024, 64, 1024, 64}, chunks[] = {0, 0, 0, 1, 1, 0, 1, 1};
     for (size_t k = 0, done = 0; k < 8; done += sizes[k], k++) {
-        WANT(bw_feed_wants(&feed, &size) == BW_OK && size == sizes[k]);
+        WANT(bw_feed_wants(&feed, &kind, &size) == BW_OK && size == sizes[k]);
+        WANT(kind == (chunks[k] ? BW_NODE_CHUNK : k == 0 ? BW_NODE_LENGTH : BW_NODE_PARENT));
         WANT(bw_feed_take_many(&feed, text + done, size, out, size, &taken, &filled, &at) == BW_OK && taken == size && filled == (chunks[k] ? size : 0));
     }
     /* Whole groups of eight chunks, and a fault among them. */
@@ -755,6 +857,227 @@ static void by_ranges(const uint8_t *blob, const uint8_t *root, const holder *fi
     free(found);
 }
 
+/* The ranges of an outboard encoding that have a slice's parents, one after another, are the slice without its chunks, none of which has 64 bytes. */
+static void outboard_ranges(const uint8_t *blob, const uint8_t *root, const holder *good) {
+    static uint8_t slice[4 * GROUP_LEN], parents[4 * GROUP_LEN];
+    bw_handle feed = BW_EMPTY;
+    bw_range ranges[BW_RANGES_MAX];
+    uint8_t hash[BW_HASH_LEN];
+    uint64_t at = 7, all = (BLOB_LEN + BW_CHUNK_LEN - 1) / BW_CHUNK_LEN;
+    size_t used = 7, count = 7, text_len = (size_t)bw_outboard_len(BLOB_LEN);
+    uint8_t *text = room(text_len);
+    WANT(bw_outboard(&plain, blob, BLOB_LEN, text, text_len, &used, hash) == BW_OK);
+    for (uint64_t first = 0; first < all; first += 61)
+        for (uint64_t n = 1; n <= 128; n *= 2) {
+            uint64_t from = first * BW_CHUNK_LEN + first % 7, len = n * BW_CHUNK_LEN;
+            size_t cut_len = 0, taken = 0, size = 0, kept = 0, sum = 0;
+            uint32_t kind = 7;
+            WANT(bw_cut_slice(good->text, good->len, from, len, slice, sizeof slice, &cut_len) == BW_OK);
+            WANT(bw_feed_slice(&plain, root, from, len, &feed) == BW_OK);
+            for (; bw_feed_wants(&feed, &kind, &size) == BW_OK && size != 0; taken += size) {
+                WANT(bw_feed_take(&feed, slice + taken, size, &at) == BW_OK);
+                if (kind != BW_NODE_CHUNK) memcpy(parents + kept, slice + taken, size), kept += size;
+            }
+            WANT(bw_outboard_ranges(BLOB_LEN, from, len, ranges, BW_RANGES_MAX, &count) == BW_OK && count >= 1 && ranges[0].at == 0);
+            for (size_t k = 0; k < count; sum += (size_t)ranges[k].len, k++) {
+                WANT(ranges[k].at + ranges[k].len <= text_len && (k == 0 || ranges[k].at > ranges[k - 1].at + ranges[k - 1].len));
+                WANT(ranges[k].len <= kept - sum && memcmp(parents + sum, text + ranges[k].at, (size_t)ranges[k].len) == 0);
+            }
+            WANT(sum == kept);
+            size_t again = 7;
+            WANT(bw_outboard_ranges(BLOB_LEN, from, len, ranges, count - 1, &again) == BW_ROOM && again == 7);
+        }
+    WANT(bw_outboard_ranges(0, 5, 5, ranges, 1, &count) == BW_OK && count == 1 && ranges[0].at == 0 && ranges[0].len == 8);
+    WANT(bw_outboard_ranges(BLOB_LEN, 0, UINT64_MAX, ranges, 1, &count) == BW_OK && count == 1 && ranges[0].len == text_len);
+    /* On the way to the first chunk of 2^54 no parent is passed by, and on that to the last one a left part below each. */
+    WANT(bw_outboard_ranges(UINT64_MAX, 0, 1, ranges, BW_RANGES_MAX, &count) == BW_OK && count == 1 && ranges[0].len == 8 + 54 * 64);
+    WANT(bw_outboard_ranges(UINT64_MAX, UINT64_MAX, 1, ranges, BW_RANGES_MAX, &count) == BW_OK && count == 54 && ranges[53].len == 64);
+    WANT(bw_outboard_ranges(UINT64_C(1) << 63, UINT64_MAX, 1, ranges, BW_RANGES_MAX, &count) == BW_OK && count == 53 && ranges[52].len == 64);
+    bw_free(&feed);
+    free(text);
+}
+
+/* An outline: its bytes are copied, plain chunks are checked beside it as bw_check_bare does, and made the slices that the blob has. */
+static void outlining(const uint8_t *blob, const uint8_t *root, const holder *good) {
+    static uint8_t slice[4 * GROUP_LEN], cut[4 * GROUP_LEN];
+    const bw_mode keyed = {1, {7}};
+    bw_handle outline = BW_EMPTY, other = BW_EMPTY;
+    uint8_t hash[BW_HASH_LEN];
+    uint64_t at = 7, len = 7, wanted = 7;
+    size_t used = 7, cut_len = 0, text_len = (size_t)bw_outboard_len(BLOB_LEN), all = (BLOB_LEN + BW_CHUNK_LEN - 1) / BW_CHUNK_LEN;
+    uint8_t *text = room(text_len + 1);
+    WANT(bw_outboard(&plain, blob, BLOB_LEN, text, text_len, &used, hash) == BW_OK && used == text_len);
+    text[text_len] = 0;
+    /* Handles that have none. */
+    for (int k = 0; k < 2; k++) {
+        used = 7;
+        WANT(bw_outline_length(&outline, &len) == BW_NO_HANDLE && len == 7);
+        WANT(bw_outline_check(&outline, 0, 1, blob, 1024, &at) == BW_NO_HANDLE && bw_outline_check(&outline, 0, 0, blob, 0, &at) == BW_NO_HANDLE && at == 7);
+        WANT(bw_outline_slice(&outline, 0, 1, blob, 1024, slice, sizeof slice, &used, &at) == BW_NO_HANDLE && used == 7);
+        WANT(bw_outline_share(&outline, &other) == BW_NO_HANDLE && other.at == NULL);
+        if (k == 0) WANT(bw_hasher_new(&plain, &outline) == BW_OK);
+    }
+    WANT(bw_hasher_finish(&outline, hash) == BW_OK);
+    /* What isn't accepted leaves an empty handle, and so does a mode of an unknown kind. */
+    const bw_mode unknown = {3, {0}};
+    WANT(bw_outline_new(&unknown, root, text, text_len, &outline, &at) == BW_NO_MODE && outline.at == NULL && at == 7);
+    WANT(bw_outline_new(&plain, root, text, text_len - 1, &outline, &at) == BW_SHORT && at == text_len - 64 && outline.at == NULL);
+    WANT(bw_outline_new(&plain, root, text, text_len + 1, &outline, &at) == BW_TRAILING && at == text_len && outline.at == NULL);
+    WANT(bw_outline_new(&keyed, root, text, text_len, &outline, &at) == BW_MISMATCH && at == 8);
+    text[500] ^= 1;
+    WANT(bw_outline_new(&plain, root, text, text_len, &outline, &at) == BW_MISMATCH && at == 456 && outline.at == NULL);
+    text[500] ^= 1;
+    at = 7;
+    WANT(bw_outline_new(&plain, root, text, text_len, &outline, &at) == BW_OK && at == 7);
+    /* It keeps a copy. */
+    memset(text, 0, text_len);
+    WANT(bw_outline_length(&outline, &len) == BW_OK && len == BLOB_LEN);
+    WANT(bw_outline_share(&outline, &other) == BW_OK && bw_outline_length(&other, &len) == BW_OK && len == BLOB_LEN);
+    WANT(bw_outboard(&plain, blob, BLOB_LEN, text, text_len, &used, hash) == BW_OK);
+    static const uint64_t firsts[] = {0, 1, 5, 63, 64, 500, 960, 975, 976};
+    static const uint64_t counts[] = {1, 2, 7, 64, 100};
+    for (size_t i = 0; i < sizeof firsts / sizeof *firsts; i++)
+        for (size_t k = 0; k < sizeof counts / sizeof *counts; k++) {
+            uint64_t first = firsts[i], n = counts[k], from = first * BW_CHUNK_LEN, end = from + n * BW_CHUNK_LEN;
+            if (first + n > all) {
+                WANT(bw_outline_check(&outline, first, n, blob, 0, &at) == BW_NO_CHUNKS && at == 7);
+                WANT(bw_outline_slice(&outline, first, n, blob, 0, slice, sizeof slice, &used, &at) == BW_NO_CHUNKS);
+                continue;
+            }
+            size_t bytes = (size_t)((end < BLOB_LEN ? end : BLOB_LEN) - from);
+            uint8_t *part = room(bytes + 1);
+            memcpy(part, blob + from, bytes);
+            part[bytes] = 0;
+            WANT(bw_outline_check(&outline, first, n, part, bytes, &at) == BW_OK && bw_outline_check(&other, first, n, part, bytes, &at) == BW_OK && at == 7);
+            WANT(bw_cut_slice(good->text, good->len, from, n * BW_CHUNK_LEN, cut, sizeof cut, &cut_len) == BW_OK);
+            memset(slice, 9, sizeof slice);
+            WANT(bw_outline_slice(&outline, first, n, part, bytes, slice, cut_len - 1, &used, &at) == BW_ROOM && used == cut_len && slice[0] == 9);
+            WANT(bw_outline_slice(&outline, first, n, part, bytes, slice, cut_len, &used, &at) == BW_OK && used == cut_len);
+            WANT(memcmp(slice, cut, cut_len) == 0 && slice[cut_len] == 9 && used == bw_slice_len(BLOB_LEN, from, n * BW_CHUNK_LEN));
+            /* Each refusal is that of bw_check_bare. */
+            for (int way = 0; way < 3; way++) {
+                size_t given = way == 0 ? bytes - 1 : way == 1 ? bytes + 1 : bytes;
+                if (way == 2) part[bytes / 2] ^= 1;
+                bw_status status = bw_check_bare(&plain, root, text, text_len, first, n, part, given, &wanted);
+                WANT(status == (way == 0 ? BW_SHORT : way == 1 ? BW_TRAILING : BW_MISMATCH));
+                WANT(bw_outline_check(&outline, first, n, part, given, &at) == status && at == wanted);
+                used = 7;
+                WANT(bw_outline_slice(&other, first, n, part, given, slice, 0, &used, &at) == status && at == wanted && used == 7);
+            }
+            at = 7;
+            free(part);
+        }
+    WANT(bw_outline_check(&outline, 0, 0, blob, 0, &at) == BW_NO_CHUNKS && bw_outline_check(&outline, UINT64_MAX, UINT64_MAX, blob, 0, &at) == BW_NO_CHUNKS);
+    /* The last handle frees it. */
+    bw_free(&outline);
+    WANT(bw_outline_check(&other, 0, all, blob, BLOB_LEN, &at) == BW_OK);
+    bw_free(&other);
+    /* A blob of at most one chunk has no parent: any such outboard encoding is accepted, and the chunk decides. */
+    for (size_t n = 0; n < 2; n++) {
+        WANT(bw_outboard(&keyed, blob, n, text, text_len, &used, hash) == BW_OK && used == 8);
+        WANT(bw_outline_new(&keyed, hash, text, 8, &outline, &at) == BW_OK && bw_outline_length(&outline, &len) == BW_OK && len == n);
+        WANT(bw_outline_check(&outline, 0, 1, blob, n, &at) == BW_OK && bw_outline_check(&outline, 0, 1, blob, n + 1, &at) == BW_TRAILING);
+        WANT(bw_outline_slice(&outline, 0, 1, blob, n, slice, 100, &used, &at) == BW_OK && used == 8 + n && memcmp(slice, text, 8) == 0);
+        WANT(bw_outline_new(&plain, hash, text, 8, &outline, &at) == BW_OK && bw_outline_check(&outline, 0, 1, blob, n, &at) == BW_MISMATCH);
+        at = 7;
+    }
+    bw_free(&outline);
+    free(text);
+}
+
+/* A blob is gathered from a plain file beside its outboard encoding, in any order. The store tells which chunks it holds, and serves slices on the
+ * way. */
+static void beside(const uint8_t *blob, const uint8_t *root) {
+    static uint8_t slice[4 * GROUP_LEN], served[4 * GROUP_LEN];
+    const bw_mode keyed = {1, {7}};
+    bw_handle seat = BW_EMPTY, outline = BW_EMPTY, alien = BW_EMPTY;
+    bw_node lacking;
+    uint8_t hash[BW_HASH_LEN];
+    uint64_t at = 7, committed = 7, parents = 7, mask = 7, all = (BLOB_LEN + BW_CHUNK_LEN - 1) / BW_CHUNK_LEN, stored = 0, stored_parents = 0;
+    size_t used = 0, text_len = (size_t)bw_outboard_len(BLOB_LEN);
+    uint8_t *text = room(text_len), *found = room(BLOB_LEN), *shorter = room(text_len);
+    WANT(bw_outboard(&plain, blob, BLOB_LEN, text, text_len, &used, hash) == BW_OK);
+    WANT(bw_store_new(&plain, root, (uint32_t)all, &seat) == BW_OK);
+    WANT(bw_outline_commit(&outline, &seat, 0, 1, blob, 1024, &committed, &parents, &at) == BW_NO_HANDLE);
+    WANT(bw_outline_commit(&seat, &outline, 0, 1, blob, 1024, &committed, &parents, &at) == BW_NO_HANDLE);
+    WANT(bw_hasher_new(&plain, &alien) == BW_OK && bw_outline_commit(&alien, &seat, 0, 1, blob, 1024, &committed, &parents, &at) == BW_NO_HANDLE);
+    WANT(bw_outline_new(&plain, root, text, text_len, &outline, &at) == BW_OK);
+    WANT(bw_outline_commit(&outline, &alien, 0, 1, blob, 1024, &committed, &parents, &at) == BW_NO_HANDLE && bw_hasher_finish(&alien, hash) == BW_OK);
+    WANT(bw_seat_held(&alien, 0, &mask) == BW_NO_HANDLE && bw_seat_held(&outline, 0, &mask) == BW_NO_HANDLE && mask == 7);
+    WANT(bw_seat_held(&seat, 16, &mask) == BW_NO_GROUP && bw_seat_held(&seat, UINT32_MAX, &mask) == BW_NO_GROUP && mask == 7);
+    WANT(bw_seat_held(&seat, 15, &mask) == BW_OK && mask == 0);
+    WANT(committed == 7 && parents == 7 && at == 7);
+    /* An outline of another mode or root, and of another length. */
+    WANT(bw_outboard(&keyed, blob, BLOB_LEN, shorter, text_len, &used, hash) == BW_OK && bw_outline_new(&keyed, hash, shorter, used, &alien, &at) == BW_OK);
+    WANT(bw_outline_commit(&alien, &seat, 0, 0, blob, 0, &committed, &parents, &at) == BW_OTHER_ROOT);
+    WANT(bw_outboard(&plain, blob, 5000, shorter, text_len, &used, hash) == BW_OK && bw_outline_new(&plain, hash, shorter, used, &alien, &at) == BW_OK);
+    WANT(bw_outline_commit(&alien, &seat, 0, 1, blob, 1024, &committed, &parents, &at) == BW_OTHER_ROOT);
+    WANT(bw_outline_commit(&outline, &seat, 0, 1, blob, 1024, &committed, &parents, &at) == BW_OTHER_LENGTH);
+    WANT(committed == 7 && parents == 7 && bw_seat_held(&seat, 0, &mask) == BW_OK && mask == 0);
+    /* The last chunk beside the outline settles the length. */
+    uint64_t last = all - 1;
+    WANT(bw_outline_slice(&outline, last, 1, blob + last * BW_CHUNK_LEN, BLOB_LEN - last * BW_CHUNK_LEN, slice, sizeof slice, &used, &at) == BW_OK);
+    WANT(bw_seat_settle(&seat, slice, used, &at) == BW_OK);
+    WANT(bw_outline_commit(&outline, &seat, 0, 0, blob, 0, &committed, &parents, &at) == BW_NO_CHUNKS);
+    WANT(bw_outline_commit(&outline, &seat, 0, 2, blob, 2047, &committed, &parents, &at) == BW_SHORT && at == 1024);
+    WANT(bw_outline_commit(&outline, &seat, 0, 2, blob, 2049, &committed, &parents, &at) == BW_TRAILING && at == 2048);
+    WANT(bw_outline_commit(&outline, &seat, 1, 2, blob, 2048, &committed, &parents, &at) == BW_MISMATCH && at == 0);
+    WANT(committed == 7 && parents == 7);
+    WANT(bw_outline_commit(&outline, &seat, 3, 2, blob + 3072, 2048, &committed, &parents, &at) == BW_OK && committed == 2);
+    WANT(64 * parents == bw_slice_len(BLOB_LEN, 3072, 2048) - 8 - 2048);
+    WANT(bw_seat_held(&seat, 0, &mask) == BW_OK && mask == 24);
+    WANT(bw_seat_take(&seat, 0, UINT64_MAX, &mask) == BW_OK && mask == ~UINT64_C(24) && bw_seat_held(&seat, 0, &mask) == BW_OK && mask == 24);
+    WANT(bw_seat_give(&seat, 0, UINT64_MAX, &mask) == BW_OK && mask == ~UINT64_C(24));
+    stored = committed, stored_parents = parents;
+    for (uint64_t k = 0, first = 0; k < all; k += 50, first = k * 7 % all) {
+        uint64_t n = first + 57 < all ? 57 : all - first, from = first * BW_CHUNK_LEN, end = (first + n) * BW_CHUNK_LEN;
+        size_t bytes = (size_t)((end < BLOB_LEN ? end : BLOB_LEN) - from);
+        WANT(bw_outline_commit(&outline, &seat, first, n, blob + from, bytes, &committed, &parents, &at) == BW_OK && committed <= n);
+        stored += committed, stored_parents += parents;
+        WANT(bw_outline_slice(&outline, first, n, blob + from, bytes, slice, sizeof slice, &used, &at) == BW_OK);
+        size_t len = 0;
+        WANT(bw_seat_serve_slice(&seat, from, n * BW_CHUNK_LEN, served, sizeof served, &len, &lacking) == BW_OK && len == used && memcmp(served, slice, len) == 0);
+    }
+    WANT(bw_outline_commit(&outline, &seat, 0, all, blob, BLOB_LEN, &committed, &parents, &at) == BW_OK);
+    WANT(stored + committed == all && stored_parents + parents == all - 1);
+    for (uint32_t group = 0; group < 16; group++)
+        WANT(bw_seat_held(&seat, group, &mask) == BW_OK && mask == (group < 15 ? UINT64_MAX : (UINT64_C(1) << (all - 960)) - 1));
+    WANT(bw_seat_finish(&seat, found, BLOB_LEN, &used) == BW_OK && used == BLOB_LEN && memcmp(found, blob, BLOB_LEN) == 0);
+    WANT(strcmp(bw_strerror(BW_OTHER_ROOT), bw_strerror(1)) != 0);
+    bw_free(&seat), bw_free(&outline), bw_free(&alien);
+    free(text), free(found), free(shorter);
+}
+
+/* Which chunks a group holds is told without a claim, whoever claims the others. */
+static void holding(const uint8_t *blob, const uint8_t *root, const holder *good) {
+    static uint8_t slice[4 * GROUP_LEN];
+    bw_handle seat = BW_EMPTY, other = BW_EMPTY;
+    uint8_t out[BW_HASH_LEN];
+    uint64_t at = 7, mask = 7, committed = 0, parents = 0;
+    size_t used = 0;
+    WANT(bw_seat_held(&seat, 0, &mask) == BW_NO_HANDLE && bw_hasher_new(&plain, &seat) == BW_OK && bw_seat_held(&seat, 0, &mask) == BW_NO_HANDLE);
+    WANT(bw_hasher_finish(&seat, out) == BW_OK && mask == 7);
+    WANT(bw_store_new(&plain, root, 977, &seat) == BW_OK && bw_seat_split(&seat, &other) == BW_OK);
+    WANT(bw_seat_held(&seat, 16, &mask) == BW_NO_GROUP && bw_seat_held(&seat, UINT32_MAX, &mask) == BW_NO_GROUP && mask == 7);
+    WANT(bw_seat_held(&seat, 15, &mask) == BW_OK && mask == 0 && bw_seat_held(&seat, 0, &mask) == BW_OK && mask == 0);
+    WANT(bw_cut_slice(good->text, good->len, UINT64_MAX, 1, slice, sizeof slice, &used) == BW_OK && bw_seat_settle(&seat, slice, used, &at) == BW_OK);
+    WANT(bw_seat_commit_all(&seat, UINT64_MAX, 1, slice, used, &committed, &parents, &at) == BW_OK && committed == 1);
+    WANT(bw_seat_held(&seat, 15, &mask) == BW_OK && mask == UINT64_C(1) << 16);
+    WANT(bw_cut_slice(good->text, good->len, 3 * 1024, 2 * 1024, slice, sizeof slice, &used) == BW_OK);
+    WANT(bw_seat_commit_all(&seat, 3 * 1024, 2 * 1024, slice, used, &committed, &parents, &at) == BW_OK && committed == 2);
+    WANT(bw_seat_take(&other, 0, 255, &mask) == BW_OK && mask == 255 - 24 && bw_seat_held(&seat, 0, &mask) == BW_OK && mask == 24);
+    /* Nothing was claimed: all others are still free, or the other seat's. */
+    WANT(bw_seat_take(&seat, 0, UINT64_MAX, &mask) == BW_OK && mask == ~UINT64_C(255) && bw_seat_held(&other, 0, &mask) == BW_OK && mask == 24);
+    WANT(bw_seat_give(&seat, 0, UINT64_MAX, &mask) == BW_OK && bw_seat_give(&other, 0, UINT64_MAX, &mask) == BW_OK && mask == 255 - 24);
+    WANT(bw_seat_commit_all(&seat, 0, UINT64_MAX, good->text, good->len, &committed, &parents, &at) == BW_OK && committed == 974);
+    for (uint32_t group = 0; group < 16; group++) WANT(bw_seat_held(&other, group, &mask) == BW_OK && mask == (group < 15 ? UINT64_MAX : (UINT64_C(1) << 17) - 1));
+    /* A chunk of no bytes has no first byte. */
+    WANT(bw_encode(&plain, blob, 0, slice, sizeof slice, &used, out) == BW_OK && bw_store_new(&plain, out, 1, &seat) == BW_OK);
+    WANT(bw_seat_settle(&seat, slice, used, &at) == BW_OK && bw_seat_commit_all(&seat, 0, 1, slice, used, &committed, &parents, &at) == BW_OK && committed == 1);
+    WANT(bw_seat_held(&seat, 0, &mask) == BW_OK && mask == 0);
+    bw_free(&seat), bw_free(&other);
+}
+
 /* With no room, each call that writes tells how long what it would write is. */
 static void sizes(const uint8_t *blob, const uint8_t *root, const holder *good) {
     static uint8_t out[90000];
@@ -798,12 +1121,18 @@ int main(void) {
     }
     rows();
     hashes(blob, BLOB_LEN, root);
+    nothings();
+    modes(blob);
     texts(blob, root, &holders[0]);
     feeds(blob, root, &holders[0]);
     pouring(blob, root, &holders[0]);
     decoding(blob, root, &holders[0]);
     ranges(&holders[0]);
     by_ranges(blob, root, &holders[0]);
+    outboard_ranges(blob, root, &holders[0]);
+    outlining(blob, root, &holders[0]);
+    beside(blob, root);
+    holding(blob, root, &holders[0]);
     salvaging(blob, root, &holders[0]);
     sizes(blob, root, &holders[0]);
     joining(root, &holders[0]);

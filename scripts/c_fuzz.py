@@ -23,7 +23,17 @@ u64_pair = ctypes.c_uint64 * 2
 KEY = b"whats the Elvish word for friend"
 
 calls = c.Library(str(ROOT / "out" / "libberylwool.so")).calls
-MODES = ((by.Mode(), c.Mode()), (by.Mode.keyed(KEY), c.Mode(1, c.hash_(*KEY))))
+
+
+def derives(context):
+    """The mode that the library makes of a context."""
+    mode, text = c.Mode(), context.encode()
+    assert calls.bw_mode_derive(text, len(text), mode) == 0 and mode.kind == 2
+    return mode
+
+
+CONTEXT = "berylwool 2026-11-27 a context"
+MODES = ((by.Mode(), c.Mode()), (by.Mode.keyed(KEY), c.Mode(1, c.hash_(*KEY))), (by.Mode.derived(CONTEXT.encode()), derives(CONTEXT)))
 
 
 def wrote(call, *words, room):
@@ -57,19 +67,22 @@ def fault_of(mode, root, text, given):
 
 
 def fed(mode, hashed, start, count, text):
-    """The status and the place of a check in pieces of the text."""
-    feed, at, size, taken = c.Handle(), c.u64(), c.size(), 0
+    """The status and the place of a check of the text node by node, and the bytes of the chunks."""
+    feed, at, size, kind, taken, given = c.Handle(), c.u64(), c.size(), c.u32(7), 0, b""
     assert calls.bw_feed_slice(mode, hashed, start, count, feed) == 0
-    while not calls.bw_feed_wants(feed, size) and 0 < size.value <= len(text) - taken:
+    while not calls.bw_feed_wants(feed, kind, size) and 0 < size.value <= len(text) - taken:
         node = text[taken : taken + size.value]
+        assert (kind.value == 2) == (taken == 0) and kind.value < 3
         status = calls.bw_feed_take(feed, node, len(node), at)
         if status:
             break
         taken += len(node)
+        given += node if kind.value == 1 else b""
     else:
+        assert (kind.value == 3) == (size.value == 0)
         status = calls.bw_feed_finish(feed, text[taken:], len(text) - taken, at)
     calls.bw_free(feed)
-    return status, at.value
+    return status, at.value, given
 
 
 def poured(mode, hashed, start, count, text, rng):
@@ -87,7 +100,7 @@ def poured(mode, hashed, start, count, text, rng):
         done += taken.value
         if taken.value == 0:  # the next node has more, or there is none
             out, size = ctypes.create_string_buffer(2048), c.size()
-            assert calls.bw_feed_wants(feed, size) == 0
+            assert calls.bw_feed_wants(feed, c.u32(), size) == 0
             part = text[done : done + size.value]
             if not size.value or len(part) < size.value:
                 status = calls.bw_feed_finish(feed, text[done:], len(text) - done, at)
@@ -143,6 +156,36 @@ def stored(modes, root, hashed, asked, text, wanted, blob, tail):
     calls.bw_free(seat)
 
 
+def beside(modes, root, hashed, outboard, wanted, blob, rng):
+    """Holds an outline of the text, and what chunks of a plain copy, changed or not, are beside it, to the definitions."""
+    outline, at, length, used = c.Handle(), c.u64(), c.u64(), c.size()
+    status = calls.bw_outline_new(modes[1], hashed, outboard, len(outboard), outline, at)
+    assert (status, at.value) == wanted
+    if status:
+        assert not outline.at and calls.bw_outline_length(outline, length) == 1202
+        return
+    total = int.from_bytes(outboard[:8], "little")
+    assert calls.bw_outline_length(outline, length) == 0 and length.value == total
+    number = max(-(-total // 1024), 1)
+    first = rng.randrange(number + 1) if number < 2**32 else 0
+    chunks = rng.choice((0, 1, 1, 2, 3, 4, 9, number))
+    plain = changed(bytes(8) + blob[1024 * first : 1024 * (first + chunks)], rng)[8:]
+    out = ctypes.create_string_buffer(b"\1" * 20000, 20000)
+    status = calls.bw_outline_check(outline, first, chunks, plain, len(plain), at)
+    sliced = calls.bw_outline_slice(outline, first, chunks, plain, len(plain), out, 20000, used, c.u64())
+    assert sliced == status
+    if not chunks or first + chunks > number:
+        assert status == 1210
+    elif status:
+        assert plain != blob[1024 * first : 1024 * (first + chunks)] or total != len(blob)
+        assert status in (501, 502, 503) and out.raw == b"\1" * 20000
+    else:
+        assert plain == blob[1024 * first : 1024 * (first + chunks)] and (total == len(blob) or first + chunks < number)
+        text = outboard[:8] + by.slice_text(modes[0], blob, 1024 * first, 1024 * chunks)[8:]
+        assert out.raw[: used.value] == text and out.raw[used.value :] == b"\1" * (20000 - used.value)
+    calls.bw_free(outline)
+
+
 def written(modes, blob, start, count):
     """The three texts of a blob, which the library has to write alike."""
     mode, ours = modes
@@ -156,12 +199,15 @@ def written(modes, blob, start, count):
     ranges, found = (u64_pair * 55)(), c.size()
     assert calls.bw_slice_ranges(c.u64(len(blob)), c.u64(start), c.u64(count), ranges, c.size(55), ctypes.byref(found)) == 0
     assert b"".join(texts[0][at : at + size] for at, size in ranges[: found.value]) == texts[2]
+    assert calls.bw_outboard_ranges(c.u64(len(blob)), c.u64(start), c.u64(count), ranges, c.size(55), ctypes.byref(found)) == 0
+    kept = b"".join(texts[1][at : at + size] for at, size in ranges[: found.value])
+    assert len(kept) == len(texts[2]) - sum(node.size for node in by.slice_nodes(len(blob), start, count) if not node.is_parent)
     return root, texts
 
 
 def main(count):
     rng, refused = random.Random(1), 0
-    for call in (calls.bw_outboard, calls.bw_slice, calls.bw_slice_ranges, calls.bw_check_combined, calls.bw_check_outboard):
+    for call in (calls.bw_outboard, calls.bw_slice, calls.bw_slice_ranges, calls.bw_outboard_ranges, calls.bw_check_combined, calls.bw_check_outboard):
         call.restype, call.argtypes = c.u32, None
     calls.bw_encode.argtypes = calls.bw_cut_slice.argtypes = calls.bw_check_slice.argtypes = None
     blobs = [rng.randbytes(length) for length in LENGTHS]
@@ -181,13 +227,14 @@ def main(count):
         elif form == 1:
             status = calls.bw_check_outboard(ctypes.byref(modes[1]), hashed, text, size, ctypes.byref(at))
             wanted = fault_of(modes[0], root, text, by.outboard_nodes)
+            beside(modes, root, hashed, text, wanted, blob, rng)
         else:
             status = calls.bw_check_slice(ctypes.byref(modes[1]), hashed, c.u64(start), c.u64(length), text, size, ctypes.byref(at))
             wanted = fault_of(modes[0], root, text, lambda total: by.slice_nodes(total, start, length))
         if (status, at.value) != wanted:
             sys.exit(f"c_fuzz.py: text {number}: the library answers {status} at {at.value}, the definitions {wanted}")
         if form != 1:
-            status, at = fed(modes[1], hashed, *((0, 2**64 - 1) if form == 0 else (start, length)), text)
+            status, at, chunks = fed(modes[1], hashed, *((0, 2**64 - 1) if form == 0 else (start, length)), text)
             if (status, at) != wanted:
                 sys.exit(f"c_fuzz.py: text {number}: the library answers {status} at {at} in pieces, the definitions {wanted}")
             asked = (0, 2**64 - 1) if form == 0 else (start, length)
@@ -197,7 +244,7 @@ def main(count):
                 sys.exit(f"c_fuzz.py: text {number}: the library answers {status} at {at} where it is poured in, the definitions {wanted}")
             stored(modes, root, hashed, asked, text, wanted, blob, by.slice_text(modes[0], blob, 2**64 - 1, 1))
             first = min(asked[0], max(len(blob), 1) - 1) // 1024 * 1024
-            assert blob[first:].startswith(given), number
+            assert blob[first:].startswith(given) and blob[first:].startswith(chunks), number
         refused += status != 0
     print(f"{count} texts, {refused} of them refused: the C library and the definitions agree")
 

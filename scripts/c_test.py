@@ -95,6 +95,8 @@ def main():
         run(OUT / f"test-{name}")
     run("cc", *FLAGS, "-Wl,--wrap=malloc,--wrap=realloc", "c/refuse.c", ARCHIVE, "-o", OUT / "refuse")
     run(OUT / "refuse")
+    run("cc", *FLAGS, "c/stack.c", ARCHIVE, "-o", OUT / "stack")
+    run(OUT / "stack")
     if there("valgrind"):
         run("valgrind", "-q", "--leak-check=full", "--error-exitcode=1", OUT / "test-plain")
         run("valgrind", "-q", "--leak-check=full", "--error-exitcode=1", OUT / "refuse")

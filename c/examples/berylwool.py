@@ -24,7 +24,7 @@ data, hash_ = ctypes.c_char_p, ctypes.c_uint8 * 32
 
 
 class Mode(ctypes.Structure):
-    """Plain hashing, or with kind 1 keyed hashing."""
+    """Plain hashing, or with kind 1 keyed hashing, or with kind 2 derivation of keys, as `Library.derives` makes it."""
 
     _fields_ = [("kind", u32), ("key", hash_)]
 
@@ -43,6 +43,7 @@ FUNCTIONS = {
     "bw_free": (None, handle),
     "bw_hash": (None, mode, data, size, hash_),
     "bw_derive_key": (u32, data, size, data, size, data, size),
+    "bw_mode_derive": (u32, data, size, mode),
     "bw_encoded_len": (u64, u64),
     "bw_encode": (u32, mode, data, size, data, size, length, hash_),
     "bw_cut_slice": (u32, data, size, u64, u64, data, size, length),
@@ -51,16 +52,23 @@ FUNCTIONS = {
     "bw_slice_len": (u64, u64, u64, u64),
     "bw_feed_slice": (u32, mode, hash_, u64, u64, handle),
     "bw_feed_combined": (u32, mode, hash_, handle),
-    "bw_feed_wants": (u32, handle, length),
+    "bw_feed_wants": (u32, handle, ctypes.POINTER(u32), length),
     "bw_feed_take": (u32, handle, data, size, place),
     "bw_feed_take_many": (u32, handle, data, size, data, size, length, length, place),
     "bw_feed_finish": (u32, handle, data, size, place),
+    "bw_outline_new": (u32, mode, hash_, data, size, handle, place),
+    "bw_outline_share": (u32, handle, handle),
+    "bw_outline_length": (u32, handle, place),
+    "bw_outline_check": (u32, handle, u64, u64, data, size, place),
+    "bw_outline_slice": (u32, handle, u64, u64, data, size, data, size, length, place),
+    "bw_outline_commit": (u32, handle, handle, u64, u64, data, size, place, place, place),
     "bw_store_new": (u32, mode, hash_, u32, handle),
     "bw_seat_split": (u32, handle, handle),
     "bw_seat_join": (u32, handle, handle),
     "bw_seat_take": (u32, handle, u32, u64, place),
     "bw_seat_give": (u32, handle, u32, u64, place),
     "bw_seat_commit_all": (u32, handle, u64, u64, data, size, place, place, place),
+    "bw_seat_held": (u32, handle, u32, place),
     "bw_seat_settle": (u32, handle, data, size, place),
     "bw_seat_length": (u32, handle, place),
     "bw_seat_read": (u32, handle, u64, data, size, place),
@@ -141,8 +149,8 @@ class Feed:
 
     def wants(self) -> int:
         """How many bytes the next node has: 0 once the text is accepted."""
-        count = size()
-        must(self.calls.bw_feed_wants(self.handle, count))
+        kind, count = u32(), size()
+        must(self.calls.bw_feed_wants(self.handle, kind, count))
         return count.value
 
     def take(self, node: bytes) -> None:

@@ -32,7 +32,7 @@ unsafe extern "C" {
     fn bw_cut_slice(text: *const u8, text_len: usize, start: u64, len: u64, out: *mut u8, out_len: usize, used: &mut usize) -> u32;
     fn bw_check_slice(mode: &Mode, root: &[u8; 32], start: u64, len: u64, text: *const u8, text_len: usize, at: &mut u64) -> u32;
     fn bw_feed_slice(mode: &Mode, root: &[u8; 32], start: u64, len: u64, feed: &mut Handle) -> u32;
-    fn bw_feed_wants(feed: &mut Handle, size: &mut usize) -> u32;
+    fn bw_feed_wants(feed: &mut Handle, node: &mut u32, size: &mut usize) -> u32;
     fn bw_feed_take(feed: &mut Handle, node: *const u8, node_len: usize, at: &mut u64) -> u32;
     fn bw_feed_finish(feed: &mut Handle, rest: *const u8, rest_len: usize, at: &mut u64) -> u32;
     fn bw_store_new(mode: &Mode, root: &[u8; 32], capacity: u32, seat: &mut Handle) -> u32;
@@ -120,8 +120,8 @@ impl Feed {
 
     /// How many bytes the next node has: 0 once the text is accepted.
     pub fn wants(&mut self) -> Result<usize, Fault> {
-        let mut size = 0;
-        told(unsafe { bw_feed_wants(&mut self.handle, &mut size) }, 0)?;
+        let (mut node, mut size) = (0, 0);
+        told(unsafe { bw_feed_wants(&mut self.handle, &mut node, &mut size) }, 0)?;
         Ok(size)
     }
 

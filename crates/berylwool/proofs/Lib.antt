@@ -1,7 +1,10 @@
+pub mod Beside
 pub mod Bytes
 pub mod EachGroup
 pub mod Feeds
+pub mod Finishing
 pub mod HandleValues
+pub mod HeldBits
 pub mod Parts
 pub mod Rounds
 pub mod SeatCalls

@@ -1,9 +1,7 @@
 -- What calls of a seat come to: slices that C hands to a store, and what the store answers.
-use Rattle.std.specs.Prelude.{◌≡◌, ◌⊎◌, ℕ, List, length, Option}
-use Rattle.b3tree.specs.Hashing.{hash}
+use Rattle.std.specs.Prelude.{◌⊎◌, ℕ, List, length, Option}
 use Rattle.bao_check.specs.Accepted.{IsAccepted, slice_nodes}
 use Rattle.store_calls.specs.Parents.{SeatParentsBind}
-use Rattle.store_core.specs.declared.fixed.Fixed.{Fixed}
 use Rattle.store_core.specs.declared.history.Call.TheVariants.{Commit, Parents, Serve, Settle}
 use Rattle.store_core.specs.declared.history.Piece.{Piece}
 use Rattle.store_core.specs.declared.history.Serving.TheVariants.{Text}
@@ -54,10 +52,6 @@ pub record Reads (at : ℕ) (before after : List ℕ) (missing : Option ℕ) (ol
 pub record Serves (start len : ℕ) (text : List ℕ) (old new : Gripped) : Type 0 where
   pub called : Called (Serve start len (Text text)) old.view new.view
   pub binds : SeatSliceBinds new.view start len text
-
--- the bytes have the root of the store
-abbrev pub HasStoresRoot : Fixed → List ℕ → Type 0
-HasStoresRoot fixed bytes = hash fixed.mode bytes ≡ fixed.root.0
 
 -- Two seats have met: both have seen one history, and claim what they claimed, of which no chunk is claimed by both.
 pub record HaveMet (first second first' second' : Gripped) : Type 0 where

@@ -1,9 +1,9 @@
 -- What a handle's check in pieces has taken, and what C is told of a piece.
-use Rattle.std.specs.Prelude.{◌≡◌, ℕ, ◌<◌, List, length, IfSome, Option, None, Some}
+use Rattle.std.specs.Prelude.{◌≡◌, ℕ, ◌<◌, Bool, List, length, IfSome, Option, None, Some, nat_eq, if◌then◌else◌}
 use Rattle.bao_check.specs.declared.checking.Checking.{Checking}
 use Rattle.bao_check.specs.declared.fault.CheckFault.{CheckFault}
 use Rattle.bao_check.specs.Accepted.{slice_nodes}
-use Rattle.bao_check.specs.Checking.{HasDecodedAs, HasTakenAs, IsNodeFault, wanted}
+use Rattle.bao_check.specs.Checking.{HasDecodedAs, HasTakenAs, IsNodeFault, chunk_wanted, wanted}
 use Rattle.bao_check.specs.Waiting.{CheckTask}
 use Rattle.berylwool.specs.declared.held.Held.{Held}
 use Rattle.berylwool.specs.Handles.{HasFeed}
@@ -25,6 +25,16 @@ OfTaken so check = (task : CheckTask) (taken : List ℕ) → HasTakenAs check ta
 abbrev pub size_told : Option ℕ → ℕ
 size_told None = 0
 size_told (Some size) = size
+
+-- what a node is, as C is told, of so many bytes, whether it is a chunk, and of a check that has taken so many bytes: a parent is 0, a chunk 1, the
+-- length 2, and 3 is none
+abbrev pub node_told : Option ℕ → Bool → ℕ → ℕ
+node_told None is_chunk at = 3
+node_told (Some size) is_chunk at = if nat_eq at 0 then 2 else if is_chunk then 1 else 0
+
+-- what the node is that comes next
+abbrev pub next_told : Checking → ℕ
+next_told check = node_told (wanted check) (chunk_wanted check) check.at
 
 -- as many bytes as the node that comes next
 abbrev pub IsNextNode : List ℕ → Checking → Type 0

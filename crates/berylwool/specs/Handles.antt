@@ -10,7 +10,8 @@ use Rattle.bao_check.specs.declared.checking.Checking.{Checking}
 use Rattle.store_shared.specs.declared.assembly.Assembly.{Assembly}
 use Rattle.store_shared.specs.Seats.{Gripped, IsSeatOf, fixed_of}
 use Rattle.berylwool.specs.declared.held.Held.{Held}
-use Rattle.berylwool.specs.declared.held.Held.TheVariants.{Feed, Gone, Hasher, Seat}
+use Rattle.berylwool.specs.declared.held.Held.TheVariants.{Feed, Gone, Hasher, Outline, Seat}
+use Rattle.berylwool.specs.declared.outlined.Outlined.{Outlined}
 use Rattle.berylwool.specs.contracts.held.Held.{the_row}
 use base.Fml.{Fml, ftrue, fex}
 use denote.RawPtr.{Ptr, block_ptr, null_ptr}
@@ -20,6 +21,7 @@ abbrev pub IsGood : Held → Type 0
 IsGood (Hasher hasher) = Unit {0}
 IsGood (Feed check) = Unit {0}
 IsGood (Seat seated) = IsSeatOf (arc_value seated.store) seated.seat
+IsGood (Outline shared) = Unit {0}
 IsGood Gone = Unit {0}
 
 -- Of a value the right to its block, where what lies there is good. At null there is none.
@@ -35,6 +37,7 @@ HoldsIn None mode bytes = ⊥
 HoldsIn (Some (Hasher hasher)) mode bytes = Holds hasher mode bytes
 HoldsIn (Some (Feed check)) mode bytes = ⊥
 HoldsIn (Some (Seat seated)) mode bytes = ⊥
+HoldsIn (Some (Outline shared)) mode bytes = ⊥
 HoldsIn (Some Gone) mode bytes = ⊥
 
 -- the handle has a hasher
@@ -43,6 +46,7 @@ HasHasher None = ⊥
 HasHasher (Some (Hasher hasher)) = Unit {0}
 HasHasher (Some (Feed check)) = ⊥
 HasHasher (Some (Seat seated)) = ⊥
+HasHasher (Some (Outline shared)) = ⊥
 HasHasher (Some Gone) = ⊥
 
 -- the handle has a check in pieces, and this is so of it
@@ -51,6 +55,7 @@ HasFeed so None = ⊥
 HasFeed so (Some (Hasher hasher)) = ⊥
 HasFeed so (Some (Feed check)) = so check
 HasFeed so (Some (Seat seated)) = ⊥
+HasFeed so (Some (Outline shared)) = ⊥
 HasFeed so (Some Gone) = ⊥
 
 -- the handle has a seat, and this is so of its store
@@ -59,7 +64,17 @@ HasSeat so None = ⊥
 HasSeat so (Some (Hasher hasher)) = ⊥
 HasSeat so (Some (Feed check)) = ⊥
 HasSeat so (Some (Seat seated)) = so (arc_value seated.store) seated.seat
+HasSeat so (Some (Outline shared)) = ⊥
 HasSeat so (Some Gone) = ⊥
+
+-- the handle has an outline, and this is so of it
+abbrev pub HasOutline : (Outlined → Type 0) → Option Held → Type 0
+HasOutline so None = ⊥
+HasOutline so (Some (Hasher hasher)) = ⊥
+HasOutline so (Some (Feed check)) = ⊥
+HasOutline so (Some (Seat seated)) = ⊥
+HasOutline so (Some (Outline shared)) = so (arc_value shared)
+HasOutline so (Some Gone) = ⊥
 
 -- both handles have a seat
 abbrev pub HaveSeats : Option Held → Option Held → Type 0
@@ -82,9 +97,11 @@ abbrev pub OneSeat : (Assembly → Gripped → Gripped → Type 0) → Held → 
 OneSeat so (Seat old) (Seat new) = (arc_value new.store ≡ arc_value old.store) × so (arc_value old.store) old.seat new.seat
 OneSeat so (Seat old) (Hasher new) = ⊥
 OneSeat so (Seat old) (Feed new) = ⊥
+OneSeat so (Seat old) (Outline new) = ⊥
 OneSeat so (Seat old) Gone = ⊥
 OneSeat so (Hasher old) new = ⊥
 OneSeat so (Feed old) new = ⊥
+OneSeat so (Outline old) new = ⊥
 OneSeat so Gone new = ⊥
 
 -- the handle has a seat of one store before and after a call, and of them this is so
@@ -99,12 +116,15 @@ OnePart so (Seat old) (Seat first) (Seat second) =
     (arc_value first.store ≡ arc_value old.store) × (arc_value second.store ≡ arc_value old.store) × so old.seat first.seat second.seat
 OnePart so (Seat old) (Seat first) (Hasher second) = ⊥
 OnePart so (Seat old) (Seat first) (Feed second) = ⊥
+OnePart so (Seat old) (Seat first) (Outline second) = ⊥
 OnePart so (Seat old) (Seat first) Gone = ⊥
 OnePart so (Seat old) (Hasher first) second = ⊥
 OnePart so (Seat old) (Feed first) second = ⊥
+OnePart so (Seat old) (Outline first) second = ⊥
 OnePart so (Seat old) Gone second = ⊥
 OnePart so (Hasher old) first second = ⊥
 OnePart so (Feed old) first second = ⊥
+OnePart so (Outline old) first second = ⊥
 OnePart so Gone first second = ⊥
 
 -- the handles have them

@@ -3,7 +3,9 @@ pub mod Decoding
 pub mod Feeds
 pub mod Gathering
 pub mod Handles
+pub mod Holding
 pub mod Modes
+pub mod Outlines
 pub mod Pairs
 pub mod CNodes
 pub mod Ranges

@@ -3,11 +3,11 @@ ghost use Rattle.bao_check.specs.Accepted.{IsAccepted, outboard_nodes, slice_nod
 ghost use Rattle.bao_check.specs.Bare.{AreBare};
 ghost use Rattle.bao_text.specs.Choice.{chunk_count};
 ghost use Rattle.bao_text.specs.Cut.{claimed};
-ghost use Rattle.berylwool.specs.Modes.{mode_of};
+ghost use Rattle.berylwool.specs.Modes.{IsKnown, mode_of};
 ghost use Rattle.berylwool.specs.Status.{IsBareRefused, IsRefused, IsStatusOf};
 
 use crate::mode::BwMode;
-use crate::status::{NO_CHUNKS, NO_OUTBOARD};
+use crate::status::{NO_CHUNKS, NO_MODE, NO_OUTBOARD};
 use b3tree::Hash;
 use bao_check::{CheckFault, bare_fits, check_bare, check_combined, check_outboard, check_slice};
 use std::alloc::Global;
@@ -27,7 +27,8 @@ pub(crate) fn told(fault: &CheckFault, at: &mut u64) -> u32
 
 /// Checks `text` as the slice of `len` bytes from byte `start` on of the blob with the hash `root`.
 ///
-/// 0 exactly where it is accepted. Else its first fault, 501 short, 502 mismatch or 503 trailing, and at which byte of the encoding, in `at`.
+/// 1213 exactly where the mode's kind is unknown. Else 0 exactly where it is accepted, and else its first fault, 501 short, 502 mismatch or 503
+/// trailing, and at which byte of the encoding, in `at`.
 #[unsafe(no_mangle)]
 pub extern "C" fn bw_check_slice(
     alloc: Global,
@@ -38,9 +39,13 @@ pub extern "C" fn bw_check_slice(
     text: &[u8],
     at: &mut u64,
 ) -> u32
-    ensures accepted { result ≡ 0 ↔ IsAccepted (mode_of mode.now) root.now text.now (slice_nodes text.now start len) }
-    ensures fault { result ≢ 0 → IsRefused (mode_of mode.now) root.now text.now (slice_nodes text.now start len) result at.new }
+    ensures unknown { result ≡ 1213 ↔ (¬ IsKnown mode.now) }
+    ensures accepted { result ≡ 0 ↔ (IsKnown mode.now × IsAccepted (mode_of mode.now) root.now text.now (slice_nodes text.now start len)) }
+    ensures fault { result ≢ 0 → result ≢ 1213 → IsRefused (mode_of mode.now) root.now text.now (slice_nodes text.now start len) result at.new }
 {
+    if !mode.is_known() {
+        return NO_MODE;
+    }
     match check_slice(alloc, &mode.get(), &Hash(*root), start, len, text) {
         Ok(_) => 0,
         Err(fault) => told(&fault, at),
@@ -56,9 +61,13 @@ pub extern "C" fn bw_check_combined(
     text: &[u8],
     at: &mut u64,
 ) -> u32
-    ensures accepted { result ≡ 0 ↔ IsAccepted (mode_of mode.now) root.now text.now (slice_nodes text.now 0 (2 ^ 64 - 1)) }
-    ensures fault { result ≢ 0 → IsRefused (mode_of mode.now) root.now text.now (slice_nodes text.now 0 (2 ^ 64 - 1)) result at.new }
+    ensures unknown { result ≡ 1213 ↔ (¬ IsKnown mode.now) }
+    ensures accepted { result ≡ 0 ↔ (IsKnown mode.now × IsAccepted (mode_of mode.now) root.now text.now (slice_nodes text.now 0 (2 ^ 64 - 1))) }
+    ensures fault { result ≢ 0 → result ≢ 1213 → IsRefused (mode_of mode.now) root.now text.now (slice_nodes text.now 0 (2 ^ 64 - 1)) result at.new }
 {
+    if !mode.is_known() {
+        return NO_MODE;
+    }
     match check_combined(alloc, &mode.get(), &Hash(*root), text) {
         Ok(_) => 0,
         Err(fault) => told(&fault, at),
@@ -74,9 +83,13 @@ pub extern "C" fn bw_check_outboard(
     text: &[u8],
     at: &mut u64,
 ) -> u32
-    ensures accepted { result ≡ 0 ↔ IsAccepted (mode_of mode.now) root.now text.now (outboard_nodes text.now) }
-    ensures fault { result ≢ 0 → IsRefused (mode_of mode.now) root.now text.now (outboard_nodes text.now) result at.new }
+    ensures unknown { result ≡ 1213 ↔ (¬ IsKnown mode.now) }
+    ensures accepted { result ≡ 0 ↔ (IsKnown mode.now × IsAccepted (mode_of mode.now) root.now text.now (outboard_nodes text.now)) }
+    ensures fault { result ≢ 0 → result ≢ 1213 → IsRefused (mode_of mode.now) root.now text.now (outboard_nodes text.now) result at.new }
 {
+    if !mode.is_known() {
+        return NO_MODE;
+    }
     match check_outboard(alloc, &mode.get(), &Hash(*root), text) {
         Ok(_) => 0,
         Err(fault) => told(&fault, at),
@@ -86,8 +99,9 @@ pub extern "C" fn bw_check_outboard(
 /// Checks `chunks` as the bytes of the chunks from chunk `first` on, `count` in number, of the blob with the hash `root`: a part of a plain
 /// copy, beside the blob's outboard encoding, which is checked with them.
 ///
-/// 0 where both are accepted. 1209 exactly where the outboard encoding isn't: `bw_check_outboard` tells its fault. 1210 where `count` is 0, or
-/// the length that it claims has no such chunks. Else the first fault of the chunks, 501 to 503, and at which byte of `chunks`, in `at`.
+/// 1213 exactly where the mode's kind is unknown. Else 0 where both are accepted. 1209 exactly where the outboard encoding isn't:
+/// `bw_check_outboard` tells its fault. 1210 where `count` is 0, or the length that it claims has no such chunks. Else the first fault of the
+/// chunks, 501 to 503, and at which byte of `chunks`, in `at`.
 #[unsafe(no_mangle)]
 pub extern "C" fn bw_check_bare(
     alloc: Global,
@@ -100,11 +114,15 @@ pub extern "C" fn bw_check_bare(
     at: &mut u64,
 ) -> u32
     ensures accepted { result ≡ 0 → AreBare (mode_of mode.now) root.now outboard.now first count chunks.now }
-    ensures outboard { result ≡ 1209 ↔ (¬ IsAccepted (mode_of mode.now) root.now outboard.now (outboard_nodes outboard.now)) }
+    ensures unknown { result ≡ 1213 ↔ (¬ IsKnown mode.now) }
+    ensures outboard { result ≡ 1209 ↔ (IsKnown mode.now × (¬ IsAccepted (mode_of mode.now) root.now outboard.now (outboard_nodes outboard.now))) }
     ensures chunks { result ≡ 1210 → (¬ ((1 ≤ count) × (first + count ≤ chunk_count (claimed outboard.now)))) }
-    ensures status { 505 < result → result ≢ 1209 → result ≡ 1210 }
+    ensures status { 505 < result → result ≢ 1209 → result ≢ 1213 → result ≡ 1210 }
     ensures fault { result ≢ 0 → result < 506 → IsBareRefused (mode_of mode.now) root.now outboard.now first count chunks.now result at.new }
 {
+    if !mode.is_known() {
+        return NO_MODE;
+    }
     let Ok(outline) = check_outboard(alloc, &mode.get(), &Hash(*root), outboard) else {
         return NO_OUTBOARD;
     };

@@ -4,12 +4,12 @@ ghost use Rattle.bao_text.specs.Cut.{claimed};
 ghost use Rattle.store_core.specs.Pieces.{EndsBlob, piece_of};
 ghost use Rattle.berylwool.specs.Calls.{slice_piece};
 ghost use Rattle.berylwool.specs.Decoding.{AreBytesOf, asked_size, byte_of};
-ghost use Rattle.berylwool.specs.Modes.{mode_of};
+ghost use Rattle.berylwool.specs.Modes.{IsKnown, mode_of};
 ghost use Rattle.berylwool.specs.Status.{IsRefused};
 
 use crate::checking::told;
 use crate::mode::BwMode;
-use crate::status::ROOM;
+use crate::status::{NO_MODE, ROOM};
 use b3tree::{CHUNK_LEN, Hash};
 use bao_check::{Checked, check_slice};
 use bao_text::{LENGTH_LEN, claimed};
@@ -65,8 +65,8 @@ fn copied(piece: &Checked<'_>, start: u64, out: &mut [u8]) -> usize
 /// the start of `out`, and how many they are to `used`: those below the length that the encoding claims. `total` is that length where the
 /// encoding has the last chunk, and so certifies it, and else 2^64 - 1. It takes no memory, and writes no byte that wasn't verified.
 ///
-/// 1201 exactly where `out` has no room, asked before all else, with how many bytes there would be in `used`. 501 to 503 as `bw_check_slice`, with
-/// the place in `at`. `out` is unchanged then.
+/// 1213 exactly where the mode's kind is unknown, asked before all else. 1201 exactly where it is known and `out` has no room, asked next, with how many
+/// bytes there would be in `used`. 501 to 503 as `bw_check_slice`, with the place in `at`. `out` is unchanged then.
 #[unsafe(no_mangle)]
 pub extern "C" fn bw_decode(
     alloc: Global,
@@ -86,12 +86,16 @@ pub extern "C" fn bw_decode(
     ensures fits { result ≡ 0 → used.new ≤ length out.new }
     ensures certified { result ≡ 0 → EndsBlob (slice_piece 0 text.now start len) → total.new ≡ claimed text.now }
     ensures uncertified { result ≡ 0 → (¬ EndsBlob (slice_piece 0 text.now start len)) → total.new ≡ 2 ^ 64 - 1 }
-    ensures accepted { result ≢ 1201 → (result ≡ 0 ↔ IsAccepted (mode_of mode.now) root.now text.now (slice_nodes text.now start len)) }
-    ensures fault { result ≢ 0 → result ≢ 1201 → IsRefused (mode_of mode.now) root.now text.now (slice_nodes text.now start len) result at.new }
-    ensures room { result ≡ 1201 ↔ (length out.old < asked_size text.now start len) }
+    ensures unknown { result ≡ 1213 ↔ (¬ IsKnown mode.now) }
+    ensures accepted { result ≢ 1201 → (result ≡ 0 ↔ (IsKnown mode.now × IsAccepted (mode_of mode.now) root.now text.now (slice_nodes text.now start len))) }
+    ensures fault { result ≢ 0 → result ≢ 1201 → result ≢ 1213 → IsRefused (mode_of mode.now) root.now text.now (slice_nodes text.now start len) result at.new }
+    ensures room { result ≡ 1201 ↔ (IsKnown mode.now × (length out.old < asked_size text.now start len)) }
     ensures needed { result ≡ 1201 → used.new ≡ asked_size text.now start len }
     ensures same { result ≢ 0 → out.new ≡ out.old }
 {
+    if !mode.is_known() {
+        return NO_MODE;
+    }
     let size = asked(text, start, len) as usize;
     if size > out.len() {
         *used = size;

@@ -1,24 +1,34 @@
-ghost use Rattle.std.specs.Prelude.{◌≡◌, ◌≢◌, ◌↔◌, ℕ, ◌+◌, ◌-◌, ◌^◌, ◌<◌, ◌≤◌, List, [], ◌++◌, drop, length, replicate, take, IfSome, None};
+ghost use Rattle.std.specs.Prelude.{◌≡◌, ◌≢◌, ◌↔◌, ℕ, ◌+◌, ◌-◌, ◌^◌, ◌<◌, ◌≤◌, List, [], ◌++◌, drop, length, replicate, take, IfSome, None, if◌then◌else◌};
 ghost use Rattle.bao_check.specs.declared.fault.CheckFault.TheVariants.{Short};
-ghost use Rattle.bao_check.specs.Checking.{HasDecodedAs, HasTakenAs, wanted};
+ghost use Rattle.bao_check.specs.Checking.{HasDecodedAs, HasTakenAs, chunk_wanted, wanted};
 ghost use Rattle.bao_check.specs.Waiting.{CheckTask, IsAcceptedAs, IsFaultAs};
-ghost use Rattle.berylwool.specs.Feeds.{HasDecoded, HasFed, IsBelowNode, IsNextNode, IsNodeRefused, IsTextRefused, OfTaken, size_told};
+ghost use Rattle.berylwool.specs.Feeds.{HasDecoded, HasFed, IsBelowNode, IsNextNode, IsNodeRefused, IsTextRefused, OfTaken, next_told, size_told};
 ghost use Rattle.berylwool.specs.Handles.{HasFeed};
-ghost use Rattle.berylwool.specs.Modes.{mode_of};
+ghost use Rattle.berylwool.specs.Modes.{IsKnown, mode_of};
 
 use crate::checking::told;
 use crate::handle::{BwHandle, put, take, with_held};
 use crate::held::Held;
 use crate::mode::BwMode;
-use crate::status::{NO_MEMORY, OTHER_SIZE, ROOM};
+use crate::status::{NO_MEMORY, NO_MODE, OTHER_SIZE, ROOM};
 use b3tree::Hash;
 use bao_check::Checking;
+use bao_text::LENGTH_LEN;
 use std::alloc::Global;
+
+// What a node is. The first two are as in `BwNode`.
+const PARENT: u32 = 0;
+
+const CHUNK: u32 = 1;
+
+const LENGTH: u32 = 2;
+
+const NO_NODE: u32 = 3;
 
 /// Makes a check in pieces of an encoding as the slice of `len` bytes from byte `start` on of the blob with the hash `root`. It has taken nothing.
 /// What the handle owned is freed.
 ///
-/// 1203 when out of memory: the handle is empty then.
+/// 1213 exactly where the mode's kind is unknown, and 1203 when out of memory: the handle is empty then.
 #[unsafe(no_mangle)]
 pub extern "C" fn bw_feed_slice(
     alloc: Global,
@@ -30,10 +40,14 @@ pub extern "C" fn bw_feed_slice(
 ) -> u32
     ensures made { result ≡ 0 → HasFed feed.new.held (record { mode = mode_of mode.now; root = root.now; start = start; len = len }) [] }
     ensures decoded { result ≡ 0 → HasDecoded feed.new.held (record { mode = mode_of mode.now; root = root.now; start = start; len = len }) [] [] }
-    ensures status { result ≢ 0 → result ≡ 1203 }
+    ensures unknown { result ≡ 1213 ↔ (¬ IsKnown mode.now) }
+    ensures status { result ≢ 0 → result ≢ 1213 → result ≡ 1203 }
     ensures empty { result ≢ 0 → feed.new.held ≡ None }
 {
     let _old = take(feed, alloc);
+    if !mode.is_known() {
+        return NO_MODE;
+    }
     let check = Checking::of_slice(&mode.get(), &Hash(*root), start, len);
     match Box::new(alloc, Held::Feed(check)) {
         Ok(held) => {
@@ -54,7 +68,8 @@ pub extern "C" fn bw_feed_combined(
 ) -> u32
     ensures made { result ≡ 0 → HasFed feed.new.held (record { mode = mode_of mode.now; root = root.now; start = 0; len = 2 ^ 64 - 1 }) [] }
     ensures decoded { result ≡ 0 → HasDecoded feed.new.held (record { mode = mode_of mode.now; root = root.now; start = 0; len = 2 ^ 64 - 1 }) [] [] }
-    ensures status { result ≢ 0 → result ≡ 1203 }
+    ensures unknown { result ≡ 1213 ↔ (¬ IsKnown mode.now) }
+    ensures status { result ≢ 0 → result ≢ 1213 → result ≡ 1203 }
     ensures empty { result ≢ 0 → feed.new.held ≡ None }
 {
     bw_feed_slice(alloc, mode, root, 0, u64::MAX, feed)
@@ -70,12 +85,20 @@ fn size_wanted(check: &Checking) -> usize
     check.wants().unwrap_or(0)
 }
 
-/// How many bytes `bw_feed_take` takes next, in `size`: 8 for the length, 64 for a parent and 1 to 1,024 for a chunk. 0 exactly where what
-/// was taken is an accepted encoding. An encoding that ends before so many more is short (501) at this place.
+/// What `bw_feed_take` takes next, in `node`, and how many bytes it has, in `size`: 2 is the length, of 8 bytes, 0 a parent, of 64, and 1 a chunk, of 1
+/// to 1,024. 3 with the size 0 is nothing, exactly where what was taken is an accepted encoding. An encoding that ends before so many more is
+/// short (501) at this place.
 ///
-/// 1202 exactly where the handle has no check in pieces: `size` is as it was then.
+/// 1202 exactly where the handle has no check in pieces: `node` and `size` are as they were then.
 #[unsafe(no_mangle)]
-pub extern "C" fn bw_feed_wants(alloc: Global, feed: &mut BwHandle, size: &mut usize) -> u32
+pub extern "C" fn bw_feed_wants(
+    alloc: Global,
+    feed: &mut BwHandle,
+    node: &mut u32,
+    size: &mut usize,
+) -> u32
+    ensures node { result ≡ 0 → HasFeed (λ check. node.new ≡ next_told check) feed.old.held }
+    ensures first { result ≡ 0 → HasFeed (OfTaken (λ task taken. node.new ≡ 2 ↔ length taken ≡ 0)) feed.old.held }
     ensures value { result ≡ 0 → HasFeed (λ check. size.new ≡ size_told (wanted check)) feed.old.held }
     ensures most { result ≡ 0 → size.new ≤ 1024 }
     ensures done { result ≡ 0 → HasFeed (OfTaken (λ task taken. size.new ≡ 0 ↔ IsAcceptedAs task taken)) feed.old.held }
@@ -83,17 +106,35 @@ pub extern "C" fn bw_feed_wants(alloc: Global, feed: &mut BwHandle, size: &mut u
     ensures has { result ≡ 0 ↔ HasFeed (λ _. Unit) feed.old.held }
     ensures status { result ≢ 0 → result ≡ 1202 }
     ensures same { feed.new.held ≡ feed.old.held }
-    ensures no_size { result ≢ 0 → size.new ≡ size.old }
+    ensures no_node { result ≢ 0 → (node.new ≡ node.old) × (size.new ≡ size.old) }
 {
     with_held!(feed, alloc, Feed, |check| {
+        *node = node_wanted(check);
         *size = size_wanted(check);
         0
     })
 }
 
+// What the node is that comes next, as `bw_feed_wants` tells it.
+fn node_wanted(check: &Checking) -> u32
+    ensures value { result ≡ next_told check.now }
+    ensures first { OfTaken (λ task taken. result ≡ 2 ↔ length taken ≡ 0) check.now }
+{
+    let Some(size) = check.wants() else {
+        return NO_NODE;
+    };
+    if check.wants_chunk() {
+        return CHUNK;
+    }
+    // A parent has 64 bytes.
+    if size == LENGTH_LEN { LENGTH } else { PARENT }
+}
+
 // Takes a node, as `bw_feed_take` does.
 fn taken(check: &mut Checking, node: &[u8], at: &mut u64) -> u32
     ensures taken { result ≡ 0 → (task : CheckTask) (taken : List ℕ) → HasTakenAs check.old task taken → HasTakenAs check.new task (taken ++ node.now) }
+    ensures decoded { result ≡ 0 → (task : CheckTask) (taken blob : List ℕ) → HasDecodedAs check.old task taken blob
+        → HasDecodedAs check.new task (taken ++ node.now) (blob ++ (if chunk_wanted check.old then node.now else [])) }
     ensures fault { result ≢ 0 → result < 506 → OfTaken (λ task taken. IsNodeRefused task (taken ++ node.now) result at.new) check.old }
     ensures refused { result ≡ 502 → OfTaken (λ task taken. (more : List ℕ) → ¬ IsAcceptedAs task ((taken ++ node.now) ++ more)) check.old }
     ensures size { result ≡ 1212 ↔ (¬ IsNextNode node.now check.old) }
@@ -109,7 +150,7 @@ fn taken(check: &mut Checking, node: &[u8], at: &mut u64) -> u32
     }
 }
 
-/// Takes the node that comes next, as many bytes as `bw_feed_wants` says, and verifies it.
+/// Takes the node that comes next, as many bytes as `bw_feed_wants` says, and verifies it. A chunk's bytes are the blob's next ones.
 ///
 /// 502 where it hasn't the value that its place asks for, with the place in `at`: that is the first fault of every encoding that begins with what
 /// was taken and this node. 504 where 2^64 bytes or more would have been taken. 1212 exactly where `node` has another length, or nothing is
@@ -117,6 +158,8 @@ fn taken(check: &mut Checking, node: &[u8], at: &mut u64) -> u32
 #[unsafe(no_mangle)]
 pub extern "C" fn bw_feed_take(alloc: Global, feed: &mut BwHandle, node: &[u8], at: &mut u64) -> u32
     ensures taken { result ≡ 0 → (task : CheckTask) (taken : List ℕ) → HasFed feed.old.held task taken → HasFed feed.new.held task (taken ++ node.now) }
+    ensures decoded { result ≡ 0 → HasFeed (λ check. (task : CheckTask) (taken blob : List ℕ) → HasDecodedAs check task taken blob
+        → HasDecoded feed.new.held task (taken ++ node.now) (blob ++ (if chunk_wanted check then node.now else []))) feed.old.held }
     ensures fault { result ≢ 0 → result < 506 → HasFeed (OfTaken (λ task taken. IsNodeRefused task (taken ++ node.now) result at.new)) feed.old.held }
     ensures refused { result ≡ 502 → HasFeed (OfTaken (λ task taken. (more : List ℕ) → ¬ IsAcceptedAs task ((taken ++ node.now) ++ more))) feed.old.held }
     ensures size { result ≡ 1212 ↔ HasFeed (λ check. ¬ IsNextNode node.now check) feed.old.held }

@@ -2,25 +2,29 @@ ghost use Rattle.std.specs.Prelude.{◌≡◌, ◌≢◌, ◌↔◌, ◌+◌, �
 ghost use Rattle.b3tree.specs.declared.mode.Mode.{Mode};
 ghost use Rattle.b3tree.specs.Hashing.{hash, stream};
 ghost use Rattle.berylwool.specs.Handles.{HasHasher, HoldsIn};
-ghost use Rattle.berylwool.specs.Modes.{mode_of};
+ghost use Rattle.berylwool.specs.Modes.{IsKnown, mode_of};
 
 use crate::handle::{BwHandle, put, take, with_held};
 use crate::held::Held;
 use crate::mode::BwMode;
-use crate::status::{NO_MEMORY, PAST_OUTPUT};
+use crate::status::{NO_MEMORY, NO_MODE, PAST_OUTPUT};
 use b3tree::{Hasher, xof_fits};
 use std::alloc::Global;
 
 /// Makes a hasher that has taken in nothing. What the handle owned is freed.
 ///
-/// 1203 when out of memory: the handle is empty then.
+/// 1213 exactly where the mode's kind is unknown, and 1203 when out of memory: the handle is empty then.
 #[unsafe(no_mangle)]
 pub extern "C" fn bw_hasher_new(alloc: Global, mode: &BwMode, hasher: &mut BwHandle) -> u32
     ensures made { result ≡ 0 → HoldsIn hasher.new.held (mode_of mode.now) [] }
-    ensures status { result ≢ 0 → result ≡ 1203 }
+    ensures unknown { result ≡ 1213 ↔ (¬ IsKnown mode.now) }
+    ensures status { result ≢ 0 → result ≢ 1213 → result ≡ 1203 }
     ensures empty { result ≢ 0 → hasher.new.held ≡ None }
 {
     let _old = take(hasher, alloc);
+    if !mode.is_known() {
+        return NO_MODE;
+    }
     match Box::new(alloc, Held::Hasher(Hasher::new(&mode.get()))) {
         Ok(held) => {
             put(hasher, held);

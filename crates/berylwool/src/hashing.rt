@@ -1,14 +1,14 @@
-ghost use Rattle.std.specs.Prelude.{◌≡◌, ◌↔◌, ◌+◌, ◌-◌, ◌^◌, ◌≤◌, length};
+ghost use Rattle.std.specs.Prelude.{◌≡◌, ◌≢◌, ◌↔◌, ◌+◌, ◌-◌, ◌^◌, ◌≤◌, length};
 ghost use Rattle.std.specs.Str.{IsUtf8};
 ghost use Rattle.b3tree.specs.Hashing.{derived, hash, stream};
-ghost use Rattle.berylwool.specs.Modes.{mode_of};
+ghost use Rattle.berylwool.specs.Modes.{IsKnown, mode_of};
 
 use crate::mode::BwMode;
-use crate::status::{NOT_UTF8, PAST_OUTPUT};
+use crate::status::{NO_MODE, NOT_UTF8, PAST_OUTPUT};
 use b3tree::{Mode, hash, xof, xof_fits};
 use std::str;
 
-/// The hash of `bytes` in a mode: 32 bytes, into `out`.
+/// The hash of `bytes` in a mode: 32 bytes, into `out`. In a mode whose kind is unknown it is the plain one.
 #[unsafe(no_mangle)]
 pub extern "C" fn bw_hash(mode: &BwMode, bytes: &[u8], out: &mut [u8; 32])
     ensures { out.new ≡ hash (mode_of mode.now) bytes.now }
@@ -20,14 +20,19 @@ pub extern "C" fn bw_hash(mode: &BwMode, bytes: &[u8], out: &mut [u8; 32])
 
 /// Fills `out` with the extended output of `bytes` in a mode, from byte `at` on. The first 32 bytes of output are the hash.
 ///
-/// 1208 exactly where `at` and the length of `out` make more than 2^64 - 1: then `out` is unchanged.
+/// 1213 exactly where the mode's kind is unknown, and else 1208 exactly where `at` and the length of `out` make more than 2^64 - 1: then `out` is
+/// unchanged.
 #[unsafe(no_mangle)]
 pub extern "C" fn bw_xof(mode: &BwMode, bytes: &[u8], at: u64, out: &mut [u8]) -> u32
-    ensures fits { result ≡ 0 ↔ (at + length out.old ≤ 2 ^ 64 - 1) }
+    ensures unknown { result ≡ 1213 ↔ (¬ IsKnown mode.now) }
+    ensures fits { result ≡ 0 ↔ (IsKnown mode.now × (at + length out.old ≤ 2 ^ 64 - 1)) }
     ensures output { result ≡ 0 → out.new ≡ stream (mode_of mode.now) bytes.now at (length out.old) }
-    ensures status { (¬ (result ≡ 0)) → result ≡ 1208 }
+    ensures status { result ≢ 0 → result ≢ 1213 → result ≡ 1208 }
     ensures same { (¬ (result ≡ 0)) → out.new ≡ out.old }
 {
+    if !mode.is_known() {
+        return NO_MODE;
+    }
     if !xof_fits(at, out.len() as u64) {
         return PAST_OUTPUT;
     }

@@ -1,3 +1,4 @@
+use crate::outlined::Outlined;
 use b3tree::Hasher;
 use bao_check::Checking;
 use std::alloc::Global;
@@ -17,6 +18,7 @@ pub enum Held {
     Hasher(Hasher),
     Feed(Checking),
     Seat(Seated),
+    Outline(Arc<Outlined, Global>),
     /// Nothing, while a call has what it owned.
     Gone,
 }

@@ -3,7 +3,9 @@
 
 ghost use Rattle.std.specs.Prelude.{◌≡◌, ◌≢◌, ◌↔◌, ◌⊎◌, ℕ, List};
 ghost use Rattle.b3tree.specs.declared.mode.Mode.{Mode};
-ghost use Rattle.berylwool.specs.Handles.{HoldsIn};
+ghost use Rattle.berylwool.specs.Handles.{HasOutline, HoldsIn};
+ghost use Rattle.berylwool.specs.Modes.{mode_of};
+ghost use Rattle.berylwool.specs.Outlines.{IsOutlined};
 
 use crate::about::{bw_is_memory, bw_version};
 use crate::checking::{bw_check_combined, bw_check_outboard, bw_check_slice};
@@ -11,7 +13,8 @@ use crate::decoding::bw_decode;
 use crate::handle::BwHandle;
 use crate::hasher::{bw_hasher_finish, bw_hasher_update};
 use crate::hashing::{bw_derive_key, bw_hash, bw_xof};
-use crate::mode::BwMode;
+use crate::mode::{BwMode, bw_mode_derive};
+use crate::outlines::{bw_outline_check, bw_outline_length, bw_outline_new, bw_outline_slice};
 use crate::sizes::bw_slice_len;
 use crate::writing::{
     bw_cut_slice, bw_encode, bw_encoded_len, bw_outboard, bw_outboard_len, bw_slice,
@@ -67,6 +70,17 @@ pub fn derive_key_determined(
     (
         bw_derive_key(context, material, ours),
         bw_derive_key(context, material, theirs),
+    )
+}
+
+pub fn mode_derive_determined(context: &[u8], ours: &mut BwMode, theirs: &mut BwMode) -> (u32, u32)
+    requires { ours.old ≡ theirs.old }
+    ensures status { result.0 ≡ result.1 }
+    ensures mode { ours.new ≡ theirs.new }
+{
+    (
+        bw_mode_derive(context, ours),
+        bw_mode_derive(context, theirs),
     )
 }
 
@@ -253,6 +267,84 @@ pub fn decode_determined(
     let other = bw_decode(
         alloc, mode, root, start, len, text, theirs, also, its, place,
     );
+    (one, other)
+}
+
+// Of an outboard encoding that handles keep: a call may be out of memory (1203).
+pub fn outline_new_determined(
+    alloc: Global,
+    mode: &BwMode,
+    root: &[u8; 32],
+    outboard: &[u8],
+    a: &mut BwHandle,
+    b: &mut BwHandle,
+    at: &mut u64,
+    place: &mut u64,
+) -> (u32, u32)
+    ensures accepted { ((result.0 ≡ 0) ⊎ (result.0 ≡ 1203)) ↔ ((result.1 ≡ 0) ⊎ (result.1 ≡ 1203)) }
+    ensures outline { result.0 ≡ 0 → result.1 ≡ 0 → HasOutline (IsOutlined (mode_of mode.now) root.now outboard.now) a.new.held
+        × HasOutline (IsOutlined (mode_of mode.now) root.now outboard.now) b.new.held }
+{
+    let one = bw_outline_new(alloc, mode, root, outboard, a, at);
+    let other = bw_outline_new(alloc, mode, root, outboard, b, place);
+    (one, other)
+}
+
+pub fn outline_length_determined(
+    alloc: Global,
+    outline: &mut BwHandle,
+    ours: &mut u64,
+    theirs: &mut u64,
+) -> (u32, u32)
+    ensures status { result.0 ≡ 0 ↔ result.1 ≡ 0 }
+    ensures length { result.0 ≡ 0 → ours.new ≡ theirs.new }
+{
+    (
+        bw_outline_length(alloc, outline, ours),
+        bw_outline_length(alloc, outline, theirs),
+    )
+}
+
+// Whether chunks are accepted beside an outline. That their first fault is one is a law of the checks.
+pub fn outline_check_determined(
+    alloc: Global,
+    outline: &mut BwHandle,
+    first: u64,
+    count: u64,
+    chunks: &[u8],
+    at: &mut u64,
+    place: &mut u64,
+) -> (u32, u32)
+    ensures accepted { result.0 ≡ 0 ↔ result.1 ≡ 0 }
+    ensures chunks { result.0 ≡ 1210 ↔ result.1 ≡ 1210 }
+    ensures no_outline { result.0 ≡ 1202 ↔ result.1 ≡ 1202 }
+{
+    let one = bw_outline_check(alloc, outline, first, count, chunks, at);
+    let other = bw_outline_check(alloc, outline, first, count, chunks, place);
+    (one, other)
+}
+
+// And which slice they make: one call may be out of memory (401).
+pub fn outline_slice_determined(
+    alloc: Global,
+    outline: &mut BwHandle,
+    first: u64,
+    count: u64,
+    chunks: &[u8],
+    ours: &mut [u8],
+    theirs: &mut [u8],
+    used: &mut usize,
+    also: &mut usize,
+    at: &mut u64,
+    place: &mut u64,
+) -> (u32, u32)
+    requires { ours.old ≡ theirs.old }
+    ensures text { result.0 ≡ 0 → result.1 ≡ 0 → (ours.new ≡ theirs.new) × (used.new ≡ also.new) }
+    ensures chunks { result.0 ≡ 1210 ↔ result.1 ≡ 1210 }
+    ensures no_outline { result.0 ≡ 1202 ↔ result.1 ≡ 1202 }
+{
+    let one = bw_outline_slice(alloc, outline, first, count, chunks, ours, used, at);
+    let other = bw_outline_slice(alloc, outline, first, count, chunks, theirs, also, place);
     (one, other)
 }
 

@@ -1,6 +1,11 @@
-ghost use Rattle.std.specs.Prelude.{◌≡◌, ◌≢◌, ◌↔◌, ℕ, ◌+◌, ◌-◌, ◌*◌, ◌^◌, ◌<◌, ◌≤◌, List, ◌++◌, drop, length, take, true, IfSome};
+ghost use Rattle.std.specs.Prelude.{◌≡◌, ◌≢◌, ◌↔◌, ℕ, ◌+◌, ◌-◌, ◌*◌, ◌^◌, ◌<◌, ◌≤◌, List, [], ◌++◌, drop, length, take, true, IfSome};
+ghost use Rattle.std.specs.List.{flat_map};
+ghost use Rattle.bao_check.specs.Beside.{beside_text, node_beside};
+ghost use Rattle.bao_text.specs.declared.choice.Choice.{Choice};
+ghost use Rattle.bao_text.specs.Choice.{chunk_count};
 ghost use Rattle.bao_text.specs.Cut.{claimed, cut_text};
 ghost use Rattle.bao_text.specs.Nodes.{Side, subtree_nodes, subtree_size};
+ghost use Rattle.berylwool.specs.Outlines.{HasParentsAt};
 ghost use Rattle.berylwool.specs.Ranges.{HavePart, parts};
 
 use crate::status::{ROOM, TOO_LONG};
@@ -108,6 +113,73 @@ pub extern "C" fn bw_slice_ranges(
     };
     let choice = Choice::of_slice(total, start, len);
     let Some(ranges) = put_nodes(&choice, 0, total, LENGTH_LEN as u64, out, head) else {
+        return ROOM;
+    };
+    *count = ranges;
+    0
+}
+
+// Puts the ranges of the wanted parents of the subtree over `n` bytes from chunk `number` on, which stand in an outboard encoding from the place `at`
+// on, after the first `count`.
+fn put_parents(
+    choice: &Choice,
+    number: u64,
+    n: u64,
+    at: u64,
+    out: &mut [BwRange],
+    count: usize,
+) -> Option<usize>
+    requires range { 1024 * number + n ≤ 2 ^ 64 - 1 }
+    requires room { at + 64 * (chunk_count n - 1) < 2 ^ 64 }
+    requires chunks { choice.now.chunks ≡ true }
+    requires count { count ≤ length out.old }
+    ensures count { IfSome result (λ n. n ≤ length out.new) }
+    ensures size { length out.new ≡ length out.old }
+    ensures parts { IfSome result (λ k. (own : Choice) (first : ℕ) (sides : List Side) (source : ℕ) (text : List ℕ) → HasParentsAt text own number n sides source at
+        → parts text (take k out.new) ≡ parts text (take count out.old) ++ flat_map (node_beside text first []) (subtree_nodes choice.now number n sides source)) }
+{
+    let chunk_len = CHUNK_LEN as u64;
+    if !choice.wants(chunk_len * number, n) {
+        return Some(count);
+    }
+    if n <= chunk_len {
+        return Some(count);
+    }
+    let top = put_range(out, count, at, PARENT_LEN as u64)?;
+    let left_len = left_len(n);
+    let left_chunks = left_len / chunk_len;
+    let near = put_parents(choice, number, left_len, at + PARENT_LEN as u64, out, top)?;
+    put_parents(
+        choice,
+        number + left_chunks,
+        n - left_len,
+        at + PARENT_LEN as u64 * left_chunks,
+        out,
+        near,
+    )
+}
+
+/// Which bytes of the outboard encoding of a blob of `total` bytes are the length and the parents of the slice of `len` bytes from byte `start` on, one range
+/// after another, from the start of `out` on, and how many ranges these are in `count`. No two of them touch. 55 are always enough room.
+///
+/// 1201 where `out` has no room: some of `out` may be written to then.
+#[unsafe(no_mangle)]
+pub extern "C" fn bw_outboard_ranges(
+    total: u64,
+    start: u64,
+    len: u64,
+    out: &mut [BwRange],
+    count: &mut usize,
+) -> u32
+    ensures parts { result ≡ 0 → (text : List ℕ) → claimed text ≡ total → parts text (take count.new out.new) ≡ beside_text text start len [] }
+    ensures within { result ≡ 0 → count.new ≤ length out.new }
+    ensures status { result ≢ 0 → result ≡ 1201 }
+{
+    let Some(first) = put_range(out, 0, 0, LENGTH_LEN as u64) else {
+        return ROOM;
+    };
+    let choice = Choice::of_slice(total, start, len);
+    let Some(ranges) = put_parents(&choice, 0, total, LENGTH_LEN as u64, out, first) else {
         return ROOM;
     };
     *count = ranges;

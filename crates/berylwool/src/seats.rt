@@ -1,4 +1,7 @@
-ghost use Rattle.std.specs.Prelude.{◌≡◌, ◌≢◌, ◌↔◌, ◌<◌, ◌≤◌, ◌*◌, ◌-◌, ◌^◌, false, None, Some, length, take};
+ghost use Rattle.std.specs.Prelude.{◌≡◌, ◌≢◌, ◌↔◌, ◌⊎◌, ◌<◌, ◌≤◌, ◌*◌, ◌-◌, ◌^◌, ℕ, false, None, Some, drop, length, take};
+ghost use Rattle.crews.specs.Finished.{Asks};
+ghost use Rattle.gather.specs.Finished.{BindsNone, BindsTo, IsFinished, IsOther, IsUnfinished};
+ghost use Rattle.store_core.specs.Histories.{state_after};
 ghost use Rattle.store_core.specs.declared.history.Call.TheVariants.{Give, Length, Settle, Take};
 ghost use Rattle.store_core.specs.declared.history.Settling.TheVariants.{Differs};
 ghost use Rattle.store_core.specs.Pieces.{EndsBlob, length_of};
@@ -6,15 +9,16 @@ ghost use Rattle.store_core.specs.Events.{has_room};
 ghost use Rattle.store_shared.specs.Seats.{IsGroupOf, IsSeatOf, fixed_of};
 ghost use Rattle.store_core.specs.Knowledge.{ArePartsOf, Called, opening_view};
 ghost use Rattle.berylwool.specs.Handles.{HasSeat, SeatDid, SeatParts};
-ghost use Rattle.berylwool.specs.Modes.{mode_of};
-ghost use Rattle.berylwool.specs.Calls.{Commits, HasStoresRoot, HasSettled, IsNoSliceOf, IsSliceOf, Reads, slice_piece};
+ghost use Rattle.berylwool.specs.Modes.{IsKnown, mode_of};
+ghost use Rattle.berylwool.specs.Calls.{Commits, HasSettled, IsNoSliceOf, IsSliceOf, Reads, slice_piece};
 
 use crate::checking::told;
 use crate::handle::{BwHandle, put, take, with_held};
 use crate::held::{Held, Seated};
 use crate::mode::BwMode;
 use crate::status::{
-    DIFFERS, MISSING, NO_HANDLE, NO_MEMORY, NO_TAIL, NOT_THE_ROOT, ROOM, TOO_LARGE, UNFINISHED,
+    DIFFERS, MISSING, NO_HANDLE, NO_MEMORY, NO_MODE, NO_TAIL, NOT_THE_ROOT, ROOM, TOO_LARGE,
+    UNFINISHED,
 };
 use b3tree::{Hash, hash};
 use bao_check::check_slice;
@@ -27,7 +31,8 @@ use store_shared::{Assembly, Seat};
 /// Makes a store of a blob's chunks, which the seats that are split off share, and its first seat, which has seen nothing. `capacity` is
 /// a number of chunks. What the handle owned is freed.
 ///
-/// 802 unless the capacity is 1 to 65,536 chunks, asked before all else, and 801 or 1203 when out of memory: the handle is empty then.
+/// 1213 exactly where the mode's kind is unknown, asked before all else. Then 802 unless the capacity is 1 to 65,536 chunks, and 801 or 1203 when out
+/// of memory. The handle is empty then.
 #[unsafe(no_mangle)]
 pub extern "C" fn bw_store_new(
     alloc: Global,
@@ -38,11 +43,15 @@ pub extern "C" fn bw_store_new(
 ) -> u32
     ensures fixed { result ≡ 0 → HasSeat (λ store _. fixed_of store ≡ record { root = record { 0 = root.now }; mode = mode_of mode.now; capacity = capacity; base = 0 }) seat.new.held }
     ensures view { result ≡ 0 → HasSeat (λ store first. first.view ≡ opening_view (fixed_of store)) seat.new.held }
-    ensures capacity { result ≡ 802 ↔ (¬ ((0 < capacity) × (capacity ≤ 65536))) }
-    ensures status { result ≢ 0 → result ≢ 801 → result ≢ 802 → result ≡ 1203 }
+    ensures unknown { result ≡ 1213 ↔ (¬ IsKnown mode.now) }
+    ensures capacity { result ≡ 802 ↔ (IsKnown mode.now × (¬ ((0 < capacity) × (capacity ≤ 65536)))) }
+    ensures status { result ≢ 0 → result ≢ 801 → result ≢ 802 → result ≢ 1213 → result ≡ 1203 }
     ensures empty { result ≢ 0 → seat.new.held ≡ None }
 {
     let _old = take(seat, alloc);
+    if !mode.is_known() {
+        return NO_MODE;
+    }
     let made = match Assembly::new(alloc, Hash(*root), mode.get(), capacity) {
         Ok(made) => made,
         Err(fault) => return u32::from(fault.code()),
@@ -250,7 +259,7 @@ fn settled(alloc: Global, store: &Assembly, seat: &mut Seat, text: &[u8], at: &m
     ensures differs { result ≡ 1206 → Called (Settle (slice_piece (fixed_of store.now).base text.now (2 ^ 64 - 1) 1) Differs) seat.old.view seat.new.view }
     ensures large { result ≡ 805 → has_room (fixed_of store.now) (length_of (slice_piece (fixed_of store.now).base text.now (2 ^ 64 - 1) 1)) ≡ false }
     ensures fault { result ≢ 0 → result < 506 → IsNoSliceOf store.now text.now (2 ^ 64 - 1) 1 result at.new }
-    ensures accepted { result ≡ 0 → IsSliceOf store.now text.now (2 ^ 64 - 1) 1 }
+    ensures accepted { ((result ≡ 0) ⊎ (505 < result)) → IsSliceOf store.now text.now (2 ^ 64 - 1) 1 }
     ensures same { result ≢ 0 → result ≢ 1206 → seat.new ≡ seat.old }
     ensures no_tail { result ≡ 1205 → (¬ EndsBlob (slice_piece 0 text.now (2 ^ 64 - 1) 1)) }
     ensures status { result ≢ 0 → 505 < result → result ≢ 805 → result ≢ 1205 → result ≡ 1206 }
@@ -289,7 +298,7 @@ pub extern "C" fn bw_seat_settle(
     ensures differs { result ≡ 1206 → SeatDid (λ store old new. Called (Settle (slice_piece (fixed_of store).base text.now (2 ^ 64 - 1) 1) Differs) old.view new.view) seat.old.held seat.new.held }
     ensures large { result ≡ 805 → HasSeat (λ store _. has_room (fixed_of store) (length_of (slice_piece (fixed_of store).base text.now (2 ^ 64 - 1) 1)) ≡ false) seat.old.held }
     ensures no_tail { result ≡ 1205 → (¬ EndsBlob (slice_piece 0 text.now (2 ^ 64 - 1) 1)) }
-    ensures accepted { result ≡ 0 → HasSeat (λ store _. IsSliceOf store text.now (2 ^ 64 - 1) 1) seat.old.held }
+    ensures accepted { ((result ≡ 0) ⊎ (505 < result)) → result ≢ 1202 → HasSeat (λ store _. IsSliceOf store text.now (2 ^ 64 - 1) 1) seat.old.held }
     ensures fault { result ≢ 0 → result < 506 → HasSeat (λ store _. IsNoSliceOf store text.now (2 ^ 64 - 1) 1 result at.new) seat.old.held }
     ensures no_seat { result ≡ 1202 ↔ (¬ HasSeat (λ _ _. Unit) seat.old.held) }
     ensures status { result ≢ 0 → 505 < result → result ≢ 805 → result ≢ 1202 → result ≢ 1205 → result ≡ 1206 }
@@ -375,11 +384,21 @@ pub extern "C" fn bw_seat_read(
 fn finished(store: &Assembly, seat: &mut Seat, out: &mut [u8], used: &mut usize) -> u32
     requires { IsSeatOf store.now seat.old }
     ensures of { IsSeatOf store.now seat.new }
-    ensures root { result ≡ 0 → HasStoresRoot (fixed_of store.now) (take used.new out.new) }
+    ensures asks { Asks seat.old.view seat.new.view }
+    ensures blob { result ≡ 0 → IsFinished (fixed_of store.now) (state_after seat.new.view.seen) (take used.new out.new) }
+    ensures binds { result ≡ 0 → BindsTo (fixed_of store.now) seat.new.view.seen (take used.new out.new) }
     ensures within { result ≡ 0 → used.new ≤ length out.new }
+    ensures rest { result ≡ 0 → drop used.new out.new ≡ drop used.new out.old }
+    ensures unfinished { result ≡ 901 → IsUnfinished (state_after seat.new.view.seen) }
+    ensures other { result ≡ 902 → IsOther (fixed_of store.now) (state_after seat.new.view.seen) }
+    ensures none { result ≡ 902 → BindsNone (fixed_of store.now) seat.new.view.seen }
     ensures room { result ≡ 1201 → Called (Length (Some used.new)) seat.old.view seat.new.view × (length out.old < used.new) }
+    ensures first { (l : ℕ) → (state_after seat.new.view.seen).recorded ≡ Some l → length out.old < l → result ≡ 1201 }
     ensures status { result ≢ 0 → result ≢ 901 → result ≢ 902 → result ≡ 1201 }
 {
+    let mode = store.mode();
+    // A law, so that the proof has what it says: nothing runs.
+    mode.is_keyed();
     let Some(length) = store.length(seat) else {
         return UNFINISHED;
     };
@@ -388,20 +407,22 @@ fn finished(store: &Assembly, seat: &mut Seat, out: &mut [u8], used: &mut usize)
         return ROOM;
     }
     let length = length as usize;
-    if store.read(seat, 0, &mut out[..length]).is_err() {
+    if let Err(_place) = store.read(seat, 0, &mut out[..length]) {
         return UNFINISHED;
     }
-    if hash(&store.mode(), &out[..length]) != store.root() {
+    if hash(&mode, &out[..length]) != store.root() {
         return NOT_THE_ROOT;
     }
     *used = length;
     0
 }
 
-/// Puts the whole blob to the start of `out`, once the hash of its bytes is the root, and how long it is to `used`.
+/// Puts the whole blob to the start of `out`, once the hash of its bytes is the root, and how long it is to `used`. The seat asks for the length, and then at
+/// most once reads. It takes no memory, and the seat can go on.
 ///
-/// 901 where no length is recorded or a byte isn't held, 1201 where `out` has no room, with the blob's length in `used`, 902 where the hash isn't
-/// the root, and 1202 where the handle has no seat. The seat can go on.
+/// 901 where no length is recorded, or a byte isn't held. 1201 where the recorded length is above that of `out`, asked before any byte, with that
+/// length in `used`. 902 where all bytes are held and their hash isn't the root. 1202 exactly where the handle has no seat. After 901 and 902 `out` may have been
+/// written to.
 #[unsafe(no_mangle)]
 pub extern "C" fn bw_seat_finish(
     alloc: Global,
@@ -409,12 +430,19 @@ pub extern "C" fn bw_seat_finish(
     out: &mut [u8],
     used: &mut usize,
 ) -> u32
-    ensures root { result ≡ 0 → SeatDid (λ store _ _. HasStoresRoot (fixed_of store) (take used.new out.new)) seat.old.held seat.new.held }
+    ensures asks { result ≢ 1202 → SeatDid (λ _ old new. Asks old.view new.view) seat.old.held seat.new.held }
+    ensures blob { result ≡ 0 → SeatDid (λ store _ new. IsFinished (fixed_of store) (state_after new.view.seen) (take used.new out.new)) seat.old.held seat.new.held }
+    ensures binds { result ≡ 0 → SeatDid (λ store _ new. BindsTo (fixed_of store) new.view.seen (take used.new out.new)) seat.old.held seat.new.held }
     ensures within { result ≡ 0 → used.new ≤ length out.new }
+    ensures rest { result ≡ 0 → drop used.new out.new ≡ drop used.new out.old }
+    ensures unfinished { result ≡ 901 → SeatDid (λ _ _ new. IsUnfinished (state_after new.view.seen)) seat.old.held seat.new.held }
+    ensures other { result ≡ 902 → SeatDid (λ store _ new. IsOther (fixed_of store) (state_after new.view.seen)) seat.old.held seat.new.held }
+    ensures none { result ≡ 902 → SeatDid (λ store _ new. BindsNone (fixed_of store) new.view.seen) seat.old.held seat.new.held }
     ensures room { result ≡ 1201 → SeatDid (λ _ old new. Called (Length (Some used.new)) old.view new.view × (length out.old < used.new)) seat.old.held seat.new.held }
+    ensures first { result ≢ 1202 → SeatDid (λ _ _ new. (l : ℕ) → (state_after new.view.seen).recorded ≡ Some l → length out.old < l → result ≡ 1201) seat.old.held seat.new.held }
     ensures no_seat { result ≡ 1202 ↔ (¬ HasSeat (λ _ _. Unit) seat.old.held) }
     ensures status { result ≢ 0 → result ≢ 901 → result ≢ 902 → result ≢ 1202 → result ≡ 1201 }
-    ensures stays { HasSeat (λ _ _. Unit) seat.old.held → HasSeat (λ _ _. Unit) seat.new.held }
+    ensures same { result ≡ 1202 → seat.new.held ≡ seat.old.held }
 {
     with_held!(
         seat,

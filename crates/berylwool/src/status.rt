@@ -12,6 +12,12 @@ pub(crate) const COLLISION: u32 = 602;
 /// Out of memory for a store. Number 801.
 pub(crate) const STORE_MEMORY: u32 = 801;
 
+/// The store has no such group. Number 803.
+pub(crate) const NO_GROUP: u32 = 803;
+
+/// The outline is of another root or mode than the store. Number 804.
+pub(crate) const OTHER_ROOT: u32 = 804;
+
 /// The length is above what the store has room for. Number 805.
 pub(crate) const TOO_LARGE: u32 = 805;
 
@@ -65,3 +71,6 @@ pub(crate) const OTHER_STORE: u32 = 1211;
 
 /// The bytes aren't as many as the check in pieces takes. Number 1212.
 pub(crate) const OTHER_SIZE: u32 = 1212;
+
+/// The mode's kind isn't known. Number 1213.
+pub(crate) const NO_MODE: u32 = 1213;

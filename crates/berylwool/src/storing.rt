@@ -6,13 +6,17 @@ ghost use Rattle.store_core.specs.Pieces.{holds_chunk, length_of, piece_of};
 ghost use Rattle.store_core.specs.Stores.{IsOf};
 ghost use Rattle.store_shared.specs.Seats.{IsGroupOf, IsSeatOf, fixed_of};
 ghost use Rattle.berylwool.specs.Calls.{IsNoSliceOf, IsSliceOf, slice_piece};
-ghost use Rattle.berylwool.specs.Handles.{HasSeat, SeatDid};
+ghost use Rattle.berylwool.specs.Handles.{HasOutline, HasSeat, SeatDid};
+ghost use Rattle.berylwool.specs.Outlines.{AreBeside, AreNotBeside, HasChunks, IsOfStore, bare_piece, outlined_text};
 ghost use Rattle.berylwool.specs.Storing.{CommitsGroup, EachGroup, IsOfOther, StoresAll, StoresGroup};
 
 use crate::checking::told;
-use crate::handle::{BwHandle, with_held};
-use crate::status::OTHER_LENGTH;
-use bao_check::{Checked, check_slice};
+use crate::handle::{BwHandle, put, take, with_held};
+use crate::held::Held;
+use crate::joining::fixed;
+use crate::outlined::Outlined;
+use crate::status::{NO_CHUNKS, NO_HANDLE, OTHER_LENGTH, OTHER_ROOT};
+use bao_check::{Checked, bare_fits, check_bare, check_slice};
 use std::alloc::Global;
 use store_core::mask_below;
 use store_shared::{Assembly, Seat};
@@ -98,6 +102,29 @@ fn store_groups(store: &Assembly, seat: &mut Seat, piece: &Checked<'_>) -> u64
     count
 }
 
+// Stores all that a piece has, where it claims the recorded length.
+fn stored_piece(
+    store: &Assembly,
+    seat: &mut Seat,
+    piece: &Checked<'_>,
+    committed: &mut u64,
+    parents: &mut u64,
+) -> u32
+    requires seat { IsSeatOf store.now seat.old }
+    requires piece { IsOf (fixed_of store.now) piece.now }
+    ensures of { IsSeatOf store.now seat.new }
+    ensures stores { result ≡ 0 → StoresAll (fixed_of store.now) (piece_of (fixed_of store.now).base piece.now) committed.new parents.new seat.old.view seat.new.view }
+    ensures other_length { result ≡ 807 → IsOfOther (piece_of (fixed_of store.now).base piece.now) seat.old.view seat.new.view }
+    ensures status { result ≢ 0 → result ≡ 807 }
+{
+    if store.length(seat) != Some(piece.claimed()) {
+        return OTHER_LENGTH;
+    }
+    *committed = commit_groups(store, seat, piece);
+    *parents = store_groups(store, seat, piece);
+    0
+}
+
 // Stores all that an encoding has, as `bw_seat_commit_all` does.
 fn stored_all(
     alloc: Global,
@@ -120,14 +147,7 @@ fn stored_all(
     ensures low { result < 808 }
 {
     match check_slice(alloc, &store.mode(), &store.root(), start, len, text) {
-        Ok(piece) => {
-            if store.length(seat) != Some(piece.claimed()) {
-                return OTHER_LENGTH;
-            }
-            *committed = commit_groups(store, seat, &piece);
-            *parents = store_groups(store, seat, &piece);
-            0
-        }
+        Ok(piece) => stored_piece(store, seat, &piece, committed, parents),
         Err(fault) => told(&fault, at),
     }
 }
@@ -172,4 +192,100 @@ pub extern "C" fn bw_seat_commit_all(
             at,
         )
     )
+}
+
+// Stores all that chunks beside an outline have, as `bw_outline_commit` does.
+fn stored_bare(
+    store: &Assembly,
+    seat: &mut Seat,
+    it: &Outlined,
+    first: u64,
+    count: u64,
+    chunks: &[u8],
+    committed: &mut u64,
+    parents: &mut u64,
+    at: &mut u64,
+) -> u32
+    requires { IsSeatOf store.now seat.old }
+    ensures of { IsSeatOf store.now seat.new }
+    ensures stores { result ≡ 0 → StoresAll (fixed_of store.now) (bare_piece (fixed_of store.now).base (outlined_text it.now) first count chunks.now) committed.new parents.new seat.old.view seat.new.view }
+    ensures other_length { result ≡ 807 → IsOfOther (bare_piece (fixed_of store.now).base (outlined_text it.now) first count chunks.now) seat.old.view seat.new.view }
+    ensures other_root { result ≡ 804 ↔ (¬ IsOfStore (fixed_of store.now) it.now) }
+    ensures accepted { ((result ≡ 0) ⊎ (result ≡ 807)) → AreBeside first count chunks.now it.now }
+    ensures chunks { result ≡ 1210 → (¬ HasChunks (outlined_text it.now) first count) }
+    ensures fault { result ≢ 0 → result < 506 → AreNotBeside first count chunks.now result at.new it.now }
+    ensures status { 505 < result → result ≢ 804 → result ≢ 807 → result ≡ 1210 }
+    ensures same { result ≢ 0 → result ≢ 807 → seat.new ≡ seat.old }
+{
+    if !fixed(store).is_of(&it.root(), &it.mode()) {
+        return OTHER_ROOT;
+    }
+    let outline = it.outline();
+    if !bare_fits(&outline, first, count) {
+        return NO_CHUNKS;
+    }
+    match check_bare(&outline, first, count, chunks) {
+        Ok(piece) => stored_piece(store, seat, &piece, committed, parents),
+        Err(fault) => told(&fault, at),
+    }
+}
+
+/// Checks `chunks` beside an outline as `bw_outline_check` does, and stores all that the slice encoding of them has, which `bw_outline_slice` would give, as
+/// `bw_seat_commit_all` does: these chunks and the parents above them. It takes no memory.
+///
+/// 1202 exactly where the handles have no outline and no seat, and 804 exactly where the outline is of another root or mode than the store, asked
+/// before all else. 1210, and 501 to 503 with the place in `at`, as `bw_outline_check`. Nothing is asked then. 807 where the length that the
+/// outline claims isn't the recorded one, or there is none, which the seat has seen then: nothing is stored. The outline is as it was.
+#[unsafe(no_mangle)]
+pub extern "C" fn bw_outline_commit(
+    alloc: Global,
+    outline: &mut BwHandle,
+    seat: &mut BwHandle,
+    first: u64,
+    count: u64,
+    chunks: &[u8],
+    committed: &mut u64,
+    parents: &mut u64,
+    at: &mut u64,
+) -> u32
+    ensures stores { result ≡ 0 → HasOutline (λ it. SeatDid (λ store old new. StoresAll (fixed_of store) (bare_piece (fixed_of store).base (outlined_text it) first count chunks.now)
+        committed.new parents.new old.view new.view) seat.old.held seat.new.held) outline.old.held }
+    ensures other_length { result ≡ 807 → HasOutline (λ it. SeatDid (λ store old new. IsOfOther (bare_piece (fixed_of store).base (outlined_text it) first count chunks.now)
+        old.view new.view) seat.old.held seat.new.held) outline.old.held }
+    ensures other_root { result ≡ 804 ↔ HasOutline (λ it. HasSeat (λ store _. ¬ IsOfStore (fixed_of store) it) seat.old.held) outline.old.held }
+    ensures accepted { ((result ≡ 0) ⊎ (result ≡ 807)) → HasOutline (AreBeside first count chunks.now) outline.old.held }
+    ensures chunks { result ≡ 1210 → HasOutline (λ it. ¬ HasChunks (outlined_text it) first count) outline.old.held }
+    ensures fault { result ≢ 0 → result < 506 → HasOutline (AreNotBeside first count chunks.now result at.new) outline.old.held }
+    ensures no_handle { result ≡ 1202 ↔ (¬ HasOutline (λ _. HasSeat (λ _ _. Unit) seat.old.held) outline.old.held) }
+    ensures status { 505 < result → result ≢ 804 → result ≢ 807 → result ≢ 1202 → result ≡ 1210 }
+    ensures same { result ≢ 0 → result ≢ 807 → seat.new.held ≡ seat.old.held }
+    ensures kept { outline.new.held ≡ outline.old.held }
+{
+    let Some(beside) = take(outline, alloc) else {
+        return NO_HANDLE;
+    };
+    let Some(mut held) = take(seat, alloc) else {
+        put(outline, beside);
+        return NO_HANDLE;
+    };
+    let status = match &*beside {
+        Held::Outline(shared) => match &mut *held {
+            Held::Seat(it) => stored_bare(
+                &it.store,
+                &mut it.seat,
+                shared,
+                first,
+                count,
+                chunks,
+                committed,
+                parents,
+                at,
+            ),
+            Held::Hasher(_) | Held::Feed(_) | Held::Outline(_) | Held::Gone => NO_HANDLE,
+        },
+        Held::Hasher(_) | Held::Feed(_) | Held::Seat(_) | Held::Gone => NO_HANDLE,
+    };
+    put(seat, held);
+    put(outline, beside);
+    status
 }

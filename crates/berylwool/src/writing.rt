@@ -3,11 +3,11 @@ ghost use Rattle.b3tree.specs.Hashing.{hash};
 ghost use Rattle.bao_text.specs.Choice.{chunk_count};
 ghost use Rattle.bao_text.specs.Texts.{combined_text, outboard_text, slice_text};
 ghost use Rattle.bao_text.specs.Cut.{cut_text};
-ghost use Rattle.berylwool.specs.Modes.{mode_of};
+ghost use Rattle.berylwool.specs.Modes.{IsKnown, mode_of};
 
 use crate::mode::BwMode;
 use crate::room::put;
-use crate::status::ROOM;
+use crate::status::{NO_MODE, ROOM};
 use b3tree::Hash;
 use bao_text::{combined, cut_slice, encoded_len, outboard, outboard_len, slice};
 use std::alloc::Global;
@@ -33,7 +33,7 @@ pub extern "C" fn bw_outboard_len(len: u64) -> u64
 }
 
 // Whether a buffer has room for an encoding of so many bytes; if not, how many they are is told.
-fn fits(size: u128, out: &[u8], used: &mut usize) -> bool
+pub(crate) fn fits(size: u128, out: &[u8], used: &mut usize) -> bool
     ensures fits { IsTrue result ↔ (size ≤ length out.now) }
     ensures told { (¬ IsTrue result) → used.new ≡ min size (2 ^ 64 - 1) }
 {
@@ -66,8 +66,8 @@ fn handed(hash: &Hash, text: &[u8], out: &mut [u8], used: &mut usize, root: &mut
 
 /// Writes the combined encoding of `bytes` to the start of `out`, how long it is to `used`, and the hash of `bytes` to `root`.
 ///
-/// 1201 exactly where `out` has no room, asked before all else, with how long the encoding is in `used`, and 401 when out of memory: then `out` is
-/// unchanged.
+/// 1213 exactly where the mode's kind is unknown, asked before all else. 1201 exactly where it is known and `out` has no room, asked next, with how
+/// long the encoding is in `used`, and 401 when out of memory: then `out` is unchanged.
 #[unsafe(no_mangle)]
 pub extern "C" fn bw_encode(
     alloc: Global,
@@ -78,12 +78,16 @@ pub extern "C" fn bw_encode(
     root: &mut [u8; 32],
 ) -> u32
     ensures text { result ≡ 0 → out.new ≡ combined_text (mode_of mode.now) bytes.now ++ drop used.new out.old }
-    ensures used { result ≢ 401 → used.new ≡ length (combined_text (mode_of mode.now) bytes.now) }
+    ensures used { result ≢ 401 → result ≢ 1213 → used.new ≡ length (combined_text (mode_of mode.now) bytes.now) }
     ensures root { result ≡ 0 → root.new ≡ hash (mode_of mode.now) bytes.now }
-    ensures room { result ≡ 1201 ↔ (length out.old < length (combined_text (mode_of mode.now) bytes.now)) }
-    ensures status { result ≢ 0 → result ≢ 1201 → result ≡ 401 }
+    ensures unknown { result ≡ 1213 ↔ (¬ IsKnown mode.now) }
+    ensures room { result ≡ 1201 ↔ (IsKnown mode.now × (length out.old < length (combined_text (mode_of mode.now) bytes.now))) }
+    ensures status { result ≢ 0 → result ≢ 1201 → result ≢ 1213 → result ≡ 401 }
     ensures same { result ≢ 0 → out.new ≡ out.old }
 {
+    if !mode.is_known() {
+        return NO_MODE;
+    }
     if !fits(encoded_len(bytes.len() as u64), out, used) {
         return ROOM;
     }
@@ -95,8 +99,8 @@ pub extern "C" fn bw_encode(
 
 /// Writes the outboard encoding of `bytes`, as `bw_encode` writes the combined one.
 ///
-/// 1201 exactly where `out` has no room, asked before all else, with how long the encoding is in `used`, and 401 when out of memory: then `out` is
-/// unchanged.
+/// 1213 exactly where the mode's kind is unknown, asked before all else. 1201 exactly where it is known and `out` has no room, asked next, with how
+/// long the encoding is in `used`, and 401 when out of memory: then `out` is unchanged.
 #[unsafe(no_mangle)]
 pub extern "C" fn bw_outboard(
     alloc: Global,
@@ -107,12 +111,16 @@ pub extern "C" fn bw_outboard(
     root: &mut [u8; 32],
 ) -> u32
     ensures text { result ≡ 0 → out.new ≡ outboard_text (mode_of mode.now) bytes.now ++ drop used.new out.old }
-    ensures used { result ≢ 401 → used.new ≡ length (outboard_text (mode_of mode.now) bytes.now) }
+    ensures used { result ≢ 401 → result ≢ 1213 → used.new ≡ length (outboard_text (mode_of mode.now) bytes.now) }
     ensures root { result ≡ 0 → root.new ≡ hash (mode_of mode.now) bytes.now }
-    ensures room { result ≡ 1201 ↔ (length out.old < length (outboard_text (mode_of mode.now) bytes.now)) }
-    ensures status { result ≢ 0 → result ≢ 1201 → result ≡ 401 }
+    ensures unknown { result ≡ 1213 ↔ (¬ IsKnown mode.now) }
+    ensures room { result ≡ 1201 ↔ (IsKnown mode.now × (length out.old < length (outboard_text (mode_of mode.now) bytes.now))) }
+    ensures status { result ≢ 0 → result ≢ 1201 → result ≢ 1213 → result ≡ 401 }
     ensures same { result ≢ 0 → out.new ≡ out.old }
 {
+    if !mode.is_known() {
+        return NO_MODE;
+    }
     if !fits(outboard_len(bytes.len() as u64), out, used) {
         return ROOM;
     }
@@ -124,7 +132,8 @@ pub extern "C" fn bw_outboard(
 
 /// Writes the slice of `len` bytes from byte `start` on of `bytes` to the start of `out`, how long it is to `used`, and the hash of `bytes` to `root`.
 ///
-/// 401 when out of memory, and 1201 where `out` has no room, with how long the encoding is in `used`: then `out` is unchanged.
+/// 1213 exactly where the mode's kind is unknown, 401 when out of memory, and 1201 where `out` has no room, with how long the encoding is in
+/// `used`: then `out` is unchanged.
 #[unsafe(no_mangle)]
 pub extern "C" fn bw_slice(
     alloc: Global,
@@ -137,12 +146,16 @@ pub extern "C" fn bw_slice(
     root: &mut [u8; 32],
 ) -> u32
     ensures text { result ≡ 0 → out.new ≡ slice_text (mode_of mode.now) bytes.now start len ++ drop used.new out.old }
-    ensures used { result ≢ 401 → used.new ≡ length (slice_text (mode_of mode.now) bytes.now start len) }
+    ensures unknown { result ≡ 1213 ↔ (¬ IsKnown mode.now) }
+    ensures used { result ≢ 401 → result ≢ 1213 → used.new ≡ length (slice_text (mode_of mode.now) bytes.now start len) }
     ensures root { result ≡ 0 → root.new ≡ hash (mode_of mode.now) bytes.now }
     ensures room { result ≡ 1201 → length out.old < length (slice_text (mode_of mode.now) bytes.now start len) }
-    ensures status { result ≢ 0 → result ≢ 1201 → result ≡ 401 }
+    ensures status { result ≢ 0 → result ≢ 1201 → result ≢ 1213 → result ≡ 401 }
     ensures same { result ≢ 0 → out.new ≡ out.old }
 {
+    if !mode.is_known() {
+        return NO_MODE;
+    }
     match slice(alloc, &mode.get(), bytes, start, len) {
         Ok((hash, text)) => handed(&hash, text.as_slice(), out, used, root),
         Err(fault) => u32::from(fault.code()),

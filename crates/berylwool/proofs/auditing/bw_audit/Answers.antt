@@ -15,5 +15,5 @@ returns-in-Ok-Collision-clause-collision c = λ _.
     c.get.ensures (c.in-Ok-Collision.field-0-is ∙ shown) c.in-Ok.ensures.piece c.in-Ok-Collision.ensures.says
 
 pub returns-in-Err-clause-status : goal.returns-in-Err-clause-status
-returns-in-Err-clause-status c = λ _ _ _.
+returns-in-Err-clause-status c = λ _ _ _ _.
     refused c.get.result _ c.args.root.now c.args.text.now _ c.in-Err.fault _ _ c.get.ensures c.told.ensures.status c.in-Err.ensures.fault

@@ -36,5 +36,5 @@ returns-in-None-clause-rest c = λ _.
     decoded_rest c.copied.result c.asked-size.result c.args.out.now c.copied.new.out (omega (arith, c.copied.ensures.within, c.copied.ensures.size)) c.copied.ensures.size c.copied.ensures.rest
 
 pub returns-in-Err-clause-fault : goal.returns-in-Err-clause-fault
-returns-in-Err-clause-fault c = λ _ _.
+returns-in-Err-clause-fault c = λ _ _ _.
     refused c.get.result _ c.args.root.now c.args.text.now _ c.in-Err.fault _ _ c.get.ensures c.told.ensures.status c.in-Err.ensures.fault

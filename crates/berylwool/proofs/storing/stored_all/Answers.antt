@@ -1,37 +1,21 @@
-use Rattle.std.proofs.Common.{◌≡◌, ◌∙◌, ℕ, Option, Some, ap, subst}
-use Rattle.store_core.proofs.StoredParents.{recorded_is}
-use Rattle.store_core.specs.declared.history.Call.TheVariants.{Length}
+use Rattle.std.proofs.Common.{subst}
 use Rattle.store_core.specs.declared.history.Piece.{Piece}
-use Rattle.store_core.specs.Knowledge.{Called}
-use Rattle.store_core.specs.Pieces.{length_of, piece_of}
 use Rattle.store_shared.specs.Seats.{fixed_of}
-use Rattle.berylwool.specs.Storing.{StoresAll}
-use Rattle.berylwool.proofs.EachGroup.{records_now}
+use Rattle.berylwool.specs.Storing.{IsOfOther, StoresAll}
 use Rattle.berylwool.proofs.Texts.{piece_is, refused_there}
 use Rattle.berylwool.proofs.storing.stored_all.Goals as goal
 
-pub store_groups-requires-clause-records : goal.store_groups-requires-clause-records
-store_groups-requires-clause-records c =
-    let piece : Piece = piece_of (fixed_of c.args.store.now).base c.in-Ok.piece in
-    let is : c.length.result ≡ Some (length_of piece) =
-    recorded_is c.length.result c.claimed.result c.ne.result c.ne.ensures c.if-ne.false ∙ ap (λ (l : ℕ). Some l) c.claimed.ensures in
-    c.commit_groups.ensures.records (records_now c.args.seat.now c.length.new.seat c.length.result (length_of piece) c.length.ensures.called is)
-
-pub returns-else-ne-clause-stores : goal.returns-else-ne-clause-stores
-returns-else-ne-clause-stores c = λ _.
+pub returns-in-Ok-clause-stores : goal.returns-in-Ok-clause-stores
+returns-in-Ok-clause-stores c = λ ok.
     let fixed = fixed_of c.args.store.now in
-    let piece : Piece = piece_of fixed.base c.in-Ok.piece in
-    let is : c.length.result ≡ Some (length_of piece) =
-    recorded_is c.length.result c.claimed.result c.ne.result c.ne.ensures c.if-ne.false ∙ ap (λ (l : ℕ). Some l) c.claimed.ensures in
-    subst (λ (p : Piece). StoresAll fixed p c.commit_groups.result c.store_groups.result c.args.seat.now.view c.store_groups.new.seat.view)
-    (piece_is fixed.base c.in-Ok.piece c.mode.result c.root.result.0 c.args.start c.args.len c.args.text.now c.in-Ok.ensures.piece)
-    (record {
-      asked = c.length.new.seat.view;
-      committed = c.commit_groups.new.seat.view;
-      length_is = subst (λ (o : Option ℕ). Called (Length o) c.args.seat.now.view c.length.new.seat.view) is c.length.ensures.called;
-      commits = c.commit_groups.ensures.commits;
-      stores = c.store_groups.ensures.stores;
-    })
+    subst (λ (p : Piece). StoresAll fixed p c.stored_piece.new.committed c.stored_piece.new.parents c.args.seat.now.view c.stored_piece.new.seat.view)
+    (piece_is fixed.base c.in-Ok.piece c.mode.result c.root.result.0 c.args.start c.args.len c.args.text.now c.in-Ok.ensures.piece) (c.stored_piece.ensures.stores ok)
+
+pub returns-in-Ok-clause-other_length : goal.returns-in-Ok-clause-other_length
+returns-in-Ok-clause-other_length c = λ other.
+    let fixed = fixed_of c.args.store.now in
+    subst (λ (p : Piece). IsOfOther p c.args.seat.now.view c.stored_piece.new.seat.view)
+    (piece_is fixed.base c.in-Ok.piece c.mode.result c.root.result.0 c.args.start c.args.len c.args.text.now c.in-Ok.ensures.piece) (c.stored_piece.ensures.other_length other)
 
 pub returns-in-Err-clause-fault : goal.returns-in-Err-clause-fault
 returns-in-Err-clause-fault c = λ _ _.

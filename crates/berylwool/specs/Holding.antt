@@ -1,0 +1,16 @@
+-- Which chunks of a group are held, by reads that claim nothing.
+use Rattle.std.specs.Prelude.{◌≡◌, ℕ, ◌+◌, ◌*◌, ◌^◌, List, [], ◌∷◌, Option, None, Some}
+use Rattle.store_calls.specs.Reading.{SeatDidRead}
+use Rattle.store_core.specs.declared.view.SeatView.{SeatView}
+
+-- the bit of a chunk of a group that is held
+abbrev pub held_bit : ℕ → Option ℕ → ℕ
+held_bit j None = 2 ^ j
+held_bit j (Some position) = 0
+
+-- Chunk j of a group was asked for its first byte, by a read of the seat's: its bit is told exactly where that was held.
+pub record LooksAt (group j bit : ℕ) (old new : SeatView) : Type 0 where
+  pub byte : List ℕ
+  pub missing : Option ℕ
+  pub read : SeatDidRead old new (1024 * (64 * group + j)) (0 ∷ []) byte missing
+  pub bit_is : bit ≡ held_bit j missing

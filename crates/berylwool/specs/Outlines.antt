@@ -1,0 +1,67 @@
+-- Outboard encodings that handles keep, and what they make with chunks of a plain copy beside them.
+use Rattle.std.specs.Prelude.{◌≡◌, ℕ, ◌+◌, ◌*◌, ◌<◌, ◌≤◌, List}
+use Rattle.b3tree.specs.declared.mode.Mode.{Mode}
+use Rattle.bao_check.specs.Accepted.{outboard_nodes, places_of}
+use Rattle.bao_check.specs.Bare.{AreBare, bare_part}
+use Rattle.bao_check.specs.Beside.{beside_text}
+use Rattle.bao_check.specs.Leaves.{WantsParents}
+use Rattle.bao_check.specs.Parents.{parent_place}
+use Rattle.bao_text.specs.declared.choice.Choice.{Choice}
+use Rattle.bao_text.specs.Choice.{chunk_count}
+use Rattle.bao_text.specs.Cut.{claimed}
+use Rattle.bao_text.specs.Nodes.{Side, placed_nodes, subtree_nodes}
+use Rattle.store_core.specs.declared.fixed.Fixed.{Fixed}
+use Rattle.store_core.specs.declared.history.Piece.{Piece}
+use Rattle.berylwool.specs.declared.outlined.Outlined.{Outlined}
+use Rattle.berylwool.specs.Calls.{slice_piece}
+use Rattle.berylwool.specs.Status.{IsBareRefused}
+
+abbrev pub outlined_mode : Outlined → Mode
+outlined_mode it = it.mode
+
+-- the root under which the encoding was accepted, 32 bytes
+abbrev pub outlined_root : Outlined → List ℕ
+outlined_root it = it.root.0
+
+-- the encoding
+abbrev pub outlined_text : Outlined → List ℕ
+outlined_text it = it.text.items
+
+-- the outline is this encoding, under the root in the mode
+pub record IsOutlined (mode : Mode) (root text : List ℕ) (it : Outlined) : Type 0 where
+  pub mode_is : outlined_mode it ≡ mode
+  pub root_is : outlined_root it ≡ root
+  pub text_is : outlined_text it ≡ text
+
+-- so many chunks from chunk `first` on are some of those of the length that an outboard encoding claims, and at least one
+abbrev pub HasChunks : List ℕ → ℕ → ℕ → Type 0
+HasChunks text first count = (1 ≤ count) × (first + count ≤ chunk_count (claimed text))
+
+-- these are the bytes of such chunks, by the outline
+abbrev pub AreBeside : ℕ → ℕ → List ℕ → Outlined → Type 0
+AreBeside first count chunks it =
+    HasChunks (outlined_text it) first count × AreBare (outlined_mode it) (outlined_root it) (outlined_text it) first count chunks
+
+-- or the status and the place are those of their first fault
+abbrev pub AreNotBeside : ℕ → ℕ → List ℕ → ℕ → ℕ → Outlined → Type 0
+AreNotBeside first count chunks status at it =
+    IsBareRefused (outlined_mode it) (outlined_root it) (outlined_text it) first count chunks status at
+
+-- the slice encoding that an outboard encoding makes with the bytes of chunks
+abbrev pub bare_text : List ℕ → ℕ → ℕ → List ℕ → List ℕ
+bare_text text first count chunks = beside_text text (1024 * first) (bare_part count) chunks
+
+-- the piece that it is, to a store from this chunk of the blob on
+abbrev pub bare_piece : ℕ → List ℕ → ℕ → ℕ → List ℕ → Piece
+bare_piece base text first count chunks = slice_piece base (bare_text text first count chunks) (1024 * first) (bare_part count)
+
+-- the outline is of a store's root and mode
+abbrev pub IsOfStore : Fixed → Outlined → Type 0
+IsOfStore fixed it = (it.root ≡ fixed.root) × (it.mode ≡ fixed.mode)
+
+-- The subtree over n bytes from chunk `number` on has its parents in an outboard encoding from the place `at` on, and there each is
+-- found that it has.
+pub record HasParentsAt (text : List ℕ) (own : Choice) (number n : ℕ) (sides : List Side) (source at : ℕ) : Type 0 where
+  pub wants : WantsParents own number n
+  pub same : (m : ℕ) → number < m → m < number + chunk_count n
+      → parent_place (places_of (outboard_nodes text)) m ≡ parent_place (placed_nodes at (subtree_nodes own number n sides source)) m
