@@ -36,6 +36,7 @@ static const char usage_text[] =
     "      --outboard URL      where the outboard encoding is, in place of URL.obao; may be given again\n"
     "      --mirrors FILE      more URLs, one a line; # begins a comment\n"
     "      --key-file FILE     a file with the key of keyed hashing: 64 hexadecimal digits\n"
+    "      --context TEXT      derivation of keys for the use that TEXT names, in place of --key-file\n"
     "  -v, --verbose           tells each fault, and at the end what came from each mirror\n"
     "  -h, --help              prints this\n"
     "\n"
@@ -44,7 +45,7 @@ static const char usage_text[] =
 
 typedef struct words {
     unsigned connections;
-    const char *root, *out, *key_file, *mirrors_file;
+    const char *root, *out, *key_file, *context, *mirrors_file;
     const char *outboards[MIRRORS_MOST];
     unsigned outboard_count;
 } words;
@@ -99,8 +100,15 @@ static int read_key(fetch *f, const char *path) {
     fclose(file);
     while (len && isspace((unsigned char)text[len - 1])) text[--len] = 0;
     if (len != 64 || !read_hex(text, f->mode.key)) return usage("a key file has 64 hexadecimal digits");
-    f->mode.kind = 1;
+    f->mode.kind = BW_MODE_KEYED_HASH;
     return DONE;
+}
+
+static int take_mode(fetch *f, const words *w) {
+    if (w->key_file && w->context) return usage("--key-file or --context, and not both");
+    if (w->key_file) return read_key(f, w->key_file);
+    if (!w->context || !bw_mode_derive((const uint8_t *)w->context, strlen(w->context), &f->mode)) return DONE;
+    return usage("a context is a UTF-8 text");
 }
 
 static char *copy_of(const char *text, const char *tail) {
@@ -173,7 +181,7 @@ static int add_part(fetch *f) {
 static int read_words(fetch *f, words *w, int argc, char **argv) {
     static const struct option options[] = {
         {"connections", 1, 0, 'c'}, {"stall", 1, 0, 's'}, {"max", 1, 0, 'm'}, {"outboard", 1, 0, 'o'}, {"mirrors", 1, 0, 'l'},
-        {"key-file", 1, 0, 'k'}, {"verbose", 0, 0, 'v'}, {"help", 0, 0, 'h'}, {0, 0, 0, 0},
+        {"key-file", 1, 0, 'k'}, {"context", 1, 0, 't'}, {"verbose", 0, 0, 'v'}, {"help", 0, 0, 'h'}, {0, 0, 0, 0},
     };
     uint64_t n;
     *w = (words){.connections = 2};
@@ -182,6 +190,7 @@ static int read_words(fetch *f, words *w, int argc, char **argv) {
         if (it == 'v') f->verbose = true;
         else if (it == 'h') return fputs(usage_text, stdout) < 0 || fflush(stdout) ? FILE_FAULT : -1;
         else if (it == 'k') w->key_file = optarg;
+        else if (it == 't') w->context = optarg;
         else if (it == 'l') w->mirrors_file = optarg;
         else if (it == 'o' && w->outboard_count < MIRRORS_MOST) w->outboards[w->outboard_count++] = optarg;
         else if (it == 'c' && read_number(optarg, CONNECTIONS_MOST, &n) && n) w->connections = (unsigned)n;
@@ -197,9 +206,8 @@ static int read_words(fetch *f, words *w, int argc, char **argv) {
 
 /* Opens what the words name. */
 static int take_words(fetch *f, const words *w, int count, char **urls) {
-    int status = DONE;
     if (!out_new(&f->out, w->out)) return no_memory();
-    if (w->key_file) status = read_key(f, w->key_file);
+    int status = take_mode(f, w);
     for (unsigned i = 0; i < w->outboard_count && !status; i++) status = add_line(f, w->outboards[i], "");
     for (int i = 0; i < count && !status; i++) status = add_mirror(f, urls[i], !w->outboard_count);
     if (w->mirrors_file && !status) status = read_mirrors(f, w->mirrors_file, !w->outboard_count);

@@ -76,6 +76,14 @@ static bool may_have(const fetch *f, const mirror *m, const unit *it) {
     return false;
 }
 
+/* How much of the outboard encoding has all parents of a slice. */
+static uint64_t prefix_of(uint64_t total, uint64_t start, uint64_t len) {
+    bw_range ranges[BW_RANGES_MAX];
+    size_t count;
+    bw_status status = bw_outboard_ranges(total, start, len, ranges, BW_RANGES_MAX, &count);
+    return status ? bw_outboard_len(total) : ranges[count - 1].at + ranges[count - 1].len;
+}
+
 static bool make_table(fetch *f, uint64_t total) {
     f->unit_count = units_of(total);
     f->units = calloc((size_t)f->unit_count, sizeof *f->units);
@@ -91,7 +99,7 @@ static bool make_table(fetch *f, uint64_t total) {
         f->units[g / UNIT_GROUPS].open[g % UNIT_GROUPS] = left < BW_GROUP_CHUNKS ? ((uint64_t)1 << left) - 1 : UINT64_MAX;
     }
     for (uint64_t u = 0; u < f->unit_count; u++) {
-        f->units[u].needs = outline_prefix(total, u * UNIT_LEN, UNIT_LEN);
+        f->units[u].needs = prefix_of(total, u * UNIT_LEN, UNIT_LEN);
     }
     return true;
 }

@@ -130,7 +130,7 @@ static bool settle_bao(conn *c) {
     fetch_lock(f);
     bool is_adopted = c->unit;
     c->opens = false;
-    if (c->opening == REFUTED) m->bad++, m->wrong += slice_len(c->claimed, UINT64_MAX, 1) - CLAIM_LEN;
+    if (c->opening == REFUTED) m->bad++, m->wrong += bw_slice_len(c->claimed, UINT64_MAX, 1) - CLAIM_LEN;
     fetch_unlock(f);
     if (is_adopted) conn_take(c);
     if (c->opening == REFUTED) conn_say(c, &m->place, "its last chunk isn't the root's");
@@ -155,15 +155,27 @@ static void learn_head(conn *c, uint64_t total, const piece *head) {
     fetch_unlock(f);
 }
 
+/* Plans the request for the parents of the last chunk, in an outboard encoding whose length is there. */
+static bool plan_path(conn *c, uint64_t total) {
+    bw_range ranges[BW_RANGES_MAX];
+    size_t count;
+    c->parts.count = 0;
+    if (bw_outboard_ranges(total, UINT64_MAX, 1, ranges, BW_RANGES_MAX, &count)) return false;
+    ranges[0].at += CLAIM_LEN, ranges[0].len -= CLAIM_LEN;
+    for (size_t i = 0; i < count; i++) {
+        if (ranges[i].len) c->parts.list[c->parts.count++] = (piece){.at = ranges[i].at, .len = (size_t)ranges[i].len};
+    }
+    return true;
+}
+
 /* From the parents in the outboard encoding, and the last chunk of the plain file. */
 static bool settle_plain(conn *c, line *by) {
     mirror *m = c->mirror;
     uint64_t total, at;
     piece head;
-    c->parts.count = 0;
     if (!get_head(c, &by->place, &head, &total)) return false;
     if (is_settled(c->fetch)) return true;
-    if (!slice_parents(total, UINT64_MAX, 1, &c->parts)) return false;
+    if (!plan_path(c, total)) return false;
     size_t parents = pieces_lay_out(&c->parts, c->bytes);
     fill(&c->parts, &head);
     uint64_t last = (chunks_of(total) - 1) * BW_CHUNK_LEN;

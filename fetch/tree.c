@@ -89,19 +89,8 @@ static bool add_range(pieces *out, uint64_t at, size_t len) {
 typedef struct ranging {
     pieces *out;
     const outline *known;
-    uint64_t from, to, sum;
+    uint64_t from, to;
 } ranging;
-
-static bool add_len(void *with, const node *it) {
-    ((ranging *)with)->sum += node_len(it);
-    return true;
-}
-
-uint64_t slice_len(uint64_t total, uint64_t start, uint64_t len) {
-    ranging by = {.sum = CLAIM_LEN};
-    walk_slice(total, start, len, add_len, &by);
-    return by.sum;
-}
 
 static bool add_combined(void *with, const node *it) {
     ranging *by = with;
@@ -113,15 +102,6 @@ static bool add_combined(void *with, const node *it) {
 bool slice_ranges(uint64_t total, uint64_t start, uint64_t len, const outline *known, pieces *out) {
     ranging by = {.out = out, .known = known, .from = start, .to = len < UINT64_MAX - start ? start + len : UINT64_MAX};
     return walk_slice(total, start, len, add_combined, &by);
-}
-
-static bool add_outboard(void *with, const node *it) {
-    return it->is_chunk || add_range(((ranging *)with)->out, it->outboard_at, PARENT_LEN);
-}
-
-bool slice_parents(uint64_t total, uint64_t start, uint64_t len, pieces *out) {
-    ranging by = {.out = out};
-    return walk_slice(total, start, len, add_outboard, &by);
 }
 
 /* --- Slices */
@@ -242,17 +222,6 @@ uint64_t outline_gaps(const outline *it, uint64_t from, uint64_t most, pieces *o
     }
     for (size_t i = 0; i < out->count; i++) out->list[i].bytes = it->text + out->list[i].at;
     return last;
-}
-
-static bool last_parent(void *with, const node *it) {
-    if (!it->is_chunk) *(uint64_t *)with = it->outboard_at + PARENT_LEN;
-    return true;
-}
-
-uint64_t outline_prefix(uint64_t total, uint64_t start, uint64_t len) {
-    uint64_t prefix = CLAIM_LEN;
-    walk_slice(total, start, len, last_parent, &prefix);
-    return prefix;
 }
 
 typedef struct keeping {

@@ -49,16 +49,10 @@ void claim_length(uint8_t claim[CLAIM_LEN], uint64_t total);
 /* How many chunks a blob has: 1 where it is empty. */
 uint64_t chunks_of(uint64_t total);
 
-/* How long the encoding of a slice is. */
-uint64_t slice_len(uint64_t total, uint64_t start, uint64_t len);
-
 /* Adds the ranges of the combined encoding that are the slice without the length, as they follow each other; adjacent ones
  * become one. What is there already isn't added again, nor is a known parent above all of the slice. False: there is no
  * room, and some were added. */
 bool slice_ranges(uint64_t total, uint64_t start, uint64_t len, const outline *known, pieces *out);
-
-/* Adds the ranges of the outboard encoding that have the slice's parents, in the same way. */
-bool slice_parents(uint64_t total, uint64_t start, uint64_t len, pieces *out);
 
 /* Puts a slice together. Its length, or 0 where a node is lacking or `room` is too small. */
 size_t slice_put(uint64_t total, uint64_t start, uint64_t len, const origin *from, uint8_t *out, size_t room);
@@ -82,9 +76,6 @@ uint64_t outline_known(const outline *it, uint64_t from);
 /* Adds the ranges of the outboard encoding from byte `from` on that aren't known, of at most `most` bytes in all, with
  * their places in `text`. Where the last of them ends. */
 uint64_t outline_gaps(const outline *it, uint64_t from, uint64_t most, pieces *out);
-
-/* How much of the outboard encoding has all parents of a slice. */
-uint64_t outline_prefix(uint64_t total, uint64_t start, uint64_t len);
 
 /* Gives a chunk of the blob, or false where it isn't there. */
 typedef bool has_bytes(void *with, uint64_t from, size_t len, uint8_t *bytes);

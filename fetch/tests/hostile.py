@@ -31,6 +31,8 @@ LONGEST = 240                           # seconds that a run may take, far above
 HEAD = 12_288                           # bytes of a file that are asked for at first
 KEY = "77686174732074686520456c7669736820776f726420666f7220667269656e64"
 
+CONTEXT = "berylwool 2026-11-27 tests of bw-fetch, wool \N{SHEEP}"
+
 # A mirror is FILE@MODE[=VALUE]; of FILE, `bao` is the combined encoding, `plain` the blob, `bare` the blob without an outboard encoding beside it, `false`
 # and `short` the blob beside one that is damaged at its end, or of a shorter blob; @dead is a port where nobody listens, and @good is left out.
 # name, length, mirrors, words, status
@@ -292,6 +294,14 @@ def keyed(place):
     place.run(["--key-file", place.folder / "key"], urls, 0)
 
 
+def under_a_context(place):
+    """With a derived key, and not without it, nor with that of another context."""
+    urls = place.serve("plain bao")
+    place.run([], urls, 1)
+    place.run(["--context", CONTEXT + "."], urls, 1)
+    place.run(["--context", CONTEXT], urls, 0)
+
+
 def mirrors_in_a_file(place):
     urls = place.serve("bao@noise bao")
     place.put("list", ("# mirrors\n\n" + "\n".join(f"  {it}  " for it in urls) + "\n").encode())
@@ -494,7 +504,8 @@ def usage(place):
     root, out, url = place.root, place.out, "http://127.0.0.1:1/blob.bao"
     for words in ([], [root], [root, out], [root[1:], out, url], ["g" + root[1:], out, url], ["-c", "0", root, out, url], ["-c", "9", root, out, url],
                   ["--stall", "0", root, out, url], ["--stall", "x", root, out, url], ["--max", "-1", root, out, url], ["--none", root, out, url],
-                  ["--key-file", place.folder / "blob", root, out, url], [root, out, *[url] * 65]):
+                  ["--key-file", place.folder / "blob", root, out, url], ["--context", b"\xff", root, out, url],
+                  ["--key-file", place.folder / "none", "--context", "a", root, out, url], [root, out, *[url] * 65]):
         ran = subprocess.run([place.fetch, *words], capture_output=True, timeout=LONGEST)
         want(ran.returncode == 2 and not ran.stdout and ran.stderr, f"status {ran.returncode} of {words}")
     for words in (["--key-file", place.folder / "none", root, out, url], ["--mirrors", place.folder / "none", root, out]):
@@ -507,7 +518,7 @@ def usage(place):
 # function, length, key
 LONGER = [
     (resumes, 9_000_000, ""), (the_rest_alone, 9_000_000, ""), (resumes_alone, 3_000_000, ""), (part_is_not_trusted, 3_000_000, ""), (keeps_salvage, 3_000_000, ""),
-    (keeps_old_out, 300_000, ""), (sigint, 9_000_000, ""), (sigterm, 9_000_000, ""), (keyed, 300_000, KEY), (mirrors_in_a_file, 300_000, ""),
+    (keeps_old_out, 300_000, ""), (sigint, 9_000_000, ""), (sigterm, 9_000_000, ""), (keyed, 300_000, KEY), (under_a_context, 300_000, CONTEXT), (mirrors_in_a_file, 300_000, ""),
     (outboard_elsewhere, 3_000_000, ""), (two_outboards, 3_000_000, ""), (local_mirrors, 3_000_000, ""), (blame_is_exact, 20_000_000, ""),
     (unwritable, 3_000_000, ""), (no_room, 3_000_000, ""), (one_at_a_time, 9_000_000, ""), (usage, 10, ""), (one_round_trip, 6_000_000, ""), (short_in_one_request, 10_000, ""), (no_unit_twice, 6_000_000, ""),
     (near_ranges, 6_000_000, ""),

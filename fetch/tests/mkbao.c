@@ -1,6 +1,7 @@
-/* mkbao FILE [KEY]: writes FILE.bao and FILE.obao, and prints the root. KEY is 64 hexadecimal digits. */
+/* mkbao FILE [KEY | CONTEXT]: writes FILE.bao and FILE.obao, and prints the root. KEY is 64 hexadecimal digits. */
 #include <berylwool.h>
 
+#include <stdbool.h>
 #include <stdio.h>
 #include <stdlib.h>
 #include <string.h>
@@ -21,11 +22,13 @@ int main(int count, char **words) {
     bw_mode mode = {0, {0}};
     uint8_t root[BW_HASH_LEN];
     size_t used;
-    if (count < 2) stop("FILE [KEY]");
-    for (int i = 0; count == 3 && i < 32; i++) {
+    if (count < 2) stop("FILE [KEY | CONTEXT]");
+    bool is_keyed = count == 3 && strlen(words[2]) == 64;
+    if (count == 3 && !is_keyed && bw_mode_derive((const uint8_t *)words[2], strlen(words[2]), &mode)) stop("CONTEXT");
+    for (int i = 0; is_keyed && i < 32; i++) {
         unsigned byte;
         if (sscanf(words[2] + 2 * i, "%2x", &byte) != 1) stop("KEY");
-        mode.kind = 1, mode.key[i] = (uint8_t)byte;
+        mode.kind = BW_MODE_KEYED_HASH, mode.key[i] = (uint8_t)byte;
     }
     FILE *file = fopen(words[1], "rb");
     if (!file || fseek(file, 0, SEEK_END)) stop(words[1]);
