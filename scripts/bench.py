@@ -119,6 +119,8 @@ GATHER_VERBOSE = "bao_gather gather --verbose, one true file"
 GATHER_TEN = "bao_gather gather, ten damaged files"
 GATHER_COMMON = "bao_gather gather, twenty files with one damaged chunk in common"
 GATHER_SALVAGE = "bao_gather gather --salvage, three files damaged in the same groups"
+GATHER_LONG = "bao_gather gather --long, one true file"
+GATHER_LONGER = "bao_gather gather --long, one true file of all"
 HASH_GATHERED = "bao_gather hash of the gathered blob"
 SLICE = "cut_slice of 1 MiB"
 SLICE_OF_SIXTEENTH = "cut_slice of 1 MiB, a sixteenth of the file"
@@ -183,11 +185,13 @@ ROWS = [
     (DECODE_TO_DISK, "as before, with OUT in the folder of temporary files, whose device its sync waits for"),
     (DECODE_BESIDE, "whole program, verifies the file beside its outboard encoding, writes it"),
     (HASH_GATHERED, "whole program, as a user runs it, of the first 64 MiB"),
-    (GATHER, "whole program, four workers, of the combined encoding of the first 64 MiB"),
+    (GATHER, "whole program, four workers, window by window, of the combined encoding of the first 64 MiB"),
     (GATHER_BESIDE, "as before, of the first 64 MiB as they are, beside their outboard encoding"),
     (GATHER_VERBOSE, "whole program, four workers, of the combined encoding of the first 64 MiB, which is counted"),
     (GATHER_TEN, "whole program, four workers, of ten such encodings, each with another tenth damaged"),
     (GATHER_COMMON, "whole program, four workers, of twenty such encodings, which leave the blob unfinished"),
+    (GATHER_LONG, "as before, of a blob that may have any length"),
+    (GATHER_LONGER, "whole program, four workers, window by window, of the combined encoding of all"),
     (GATHER_SALVAGE, "whole program, four workers, of three such encodings, each with another byte damaged in one of 16 groups"),
     ("hash", "b3tree::hash in one process, one thread"),
     ("hash_join", "bao_read::hash_join in one process, several threads"),
@@ -261,10 +265,12 @@ PEAKS = [
     (SLICED, "at most 32"),
     (DECODE, "at most 120"),
     (DECODE_BESIDE, "at most 120"),
-    (GATHER, "at most 180"),
-    (GATHER_BESIDE, "at most 180"),
-    (GATHER_VERBOSE, "at most 180"),
-    (GATHER_COMMON, "at most 180"),
+    (GATHER, "at most 40"),
+    (GATHER_BESIDE, "at most 40"),
+    (GATHER_VERBOSE, "at most 40"),
+    (GATHER_COMMON, "at most 40"),
+    (GATHER_LONG, "at most 40"),
+    (GATHER_LONGER, "at most 40"),
 ]
 
 # The ratios of two of those times: the first over the second, and what is wanted of it.
@@ -297,6 +303,8 @@ RATIOS = [
     ("one thread", GATHER_TEXTS, HASH_OF_GATHERED, "at most 3.5: a check, a store, a read and a hash"),
     ("as a user runs it", GATHER, HASH_GATHERED, "at most 6"),
     ("as a user runs it", GATHER_TEN, GATHER, "at most 3"),
+    ("as a user runs it", GATHER_LONG, HASH_GATHERED, "at most 8"),
+    ("as a user runs it", GATHER_LONGER, HASH, "at most 8"),
     ("as a user runs it", GATHER_BESIDE, GATHER, "at most 1"),
     ("as a user runs it", GATHER_COMMON, GATHER, "at most 4"),
     ("one thread", INTO_FULL, INTO_EMPTY, "about 1: not with what the store holds"),
@@ -364,9 +372,11 @@ WHY = {
     ratio_name("several threads", "hash", POOL_FOUR): "virtual processors share cores: see the row of 16 KiB",
     ratio_name("one thread", AUDIT, "hash"): "the piece's chunks are read once more, out of memory and not out of a cache",
     ratio_name("one thread", GATHER_TEXTS, HASH_OF_GATHERED): "two fresh 64 MiB, beside the check and the hash",
-    ratio_name("as a user runs it", GATHER, HASH_GATHERED): "more than half goes to making the store: a list of zeros, and the table's copy of it",
+    ratio_name("as a user runs it", GATHER, HASH_GATHERED): "each window is hashed and written on one thread, while the others wait",
+    ratio_name("as a user runs it", GATHER_LONG, HASH_GATHERED): "each window is hashed and written on one thread, while the others wait",
+    ratio_name("as a user runs it", GATHER_LONGER, HASH): "each window is hashed and written on one thread, while the others wait",
     ratio_name("several threads", COMMITS_ONE, COMMITS_FOUR): "starting four threads takes up to 4 ms, beside 13 of work",
-    ratio_name("several threads", ENCODE, HASH_ONE): "the file is read and hashed once more, on one thread, while the encoding is written",
+    ratio_name("several threads", ENCODE, HASH_ONE): "more than half of its time is the kernel's, for fresh pages of what is written",
     ratio_name("several threads", READS_ONE, READS_FOUR): "virtual processors share cores: see the row of 16 KiB",
     "a shared store keeps, MB": "4.2 of it are for parents",
     "a shared store takes at most, MB": "the list of zeros and the table's copy of it",
@@ -568,6 +578,7 @@ def gatherings(room, held, made):
     yield Command(GATHER_VERBOSE, gather("--verbose", *true), held.blob)
     yield Command(GATHER_TEN, gather(held.root, made, *held.damaged), held.blob)
     yield Command(GATHER_COMMON, gather(held.root, made, *held.common), status=1)
+    yield Command(GATHER_LONG, gather("--long", *true), held.blob)
     yield Command(GATHER_SALVAGE, gather("--salvage", held.root, made, *held.torn), held.blob)
     yield Command(GATHER_BESIDE, gather("--outboard", parents, held.root, made, held.blob), held.blob)
 
@@ -611,6 +622,7 @@ def measure(room, memory, mib, runs):
     commands.append(Command(DECODE, [PROGRAM, "decode", root, encoding, made], path))
     commands.append(Command(DECODE_TO_DISK, [PROGRAM, "decode", root, encoding, on_disk], path))
     commands.append(Command(DECODE_BESIDE, [PROGRAM, "decode", "--outboard", parents, root, path, made], path))
+    commands.append(Command(GATHER_LONGER, [PROGRAM, "gather", "--long", root, made, encoding], path))
     held = holders(room, path)
     commands += gatherings(room, held, made)
     times, hashes = Times(), set()

@@ -23,6 +23,7 @@ OF = {
     "determined_store": ["store_core"],
     "determined_shared": ["store_steps", "store_calls", "store_shared"],
     "determined_gather": ["gather", "crews"],
+    "determined_windows": ["bao_windows"],
     "determined_files": ["bao_read", "bao_files"],
     "determined_tasks": ["bao_decode", "bao_tasks"],
     "determined_program": ["bao_script", "bao_request"],

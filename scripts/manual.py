@@ -143,8 +143,8 @@ def exit_status():
 
 
 def limits():
-    out = [".SH LIMITS", "The memory is that of 1 GiB, and for gather of 64 MiB, in regular files.", "A pipe is held in memory, but for hash."]
-    for tasks, longest, memory in rows_of("README.md", "| task | longest file | memory for 1 GiB, `gather` for 64 MiB |"):
+    out = [".SH LIMITS", "The memory is that of 1 GiB in regular files.", "A pipe is held in memory, but for hash."]
+    for tasks, longest, memory in rows_of("README.md", "| task | longest file | memory for 1 GiB |"):
         out += [".TP", f".B {roff(tasks)}", roff(f"longest file: {longest}; memory: {memory}.")]
     return out + [".PP", "Other figures: 1 to 64 FILEs, and as many workers; 1 to 65,536 bytes of output.", "OUT is written over."]
 
