@@ -13,3 +13,4 @@ pub mod Ranges
 pub mod BlockWords
 pub mod ChunkInputs
 pub mod InputFlags
+pub mod ShortInputs

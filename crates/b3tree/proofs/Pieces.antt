@@ -57,7 +57,7 @@ words_of-halves s at =
     ∷ r 4 12 (omega arith) refl k ∷ r 5 13 (omega arith) refl k ∷ r 6 14 (omega arith) refl k ∷ r 7 15 (omega arith) refl k ∷ []
 
 -- a full block has no bytes after its end
-block_words-full : (s : List ℕ) → length s ≡ 64 → block_words s ≡ words_of 16 s
+pub block_words-full : (s : List ℕ) → length s ≡ 64 → block_words s ≡ words_of 16 s
 unfolding block_words
 block_words-full s full = (λ i. words_of 16 (s ++ replicate (64 - full i) 0)) ∙ ap (words_of 16) (append-nil s)
 

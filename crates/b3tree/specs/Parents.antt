@@ -1,5 +1,5 @@
 -- The parents of eight whole chunks, each as the chaining values of its two parts.
-use Rattle.std.specs.Prelude.{ℕ, ◌+◌, ◌*◌, List}
+use Rattle.std.specs.Prelude.{◌≡◌, ℕ, ◌+◌, ◌*◌, ◌<◌, List, length}
 use Rattle.b3tree.specs.declared.mode.Mode.{Mode}
 use Rattle.b3tree.specs.declared.eight.EightParents.{EightParents}
 use Rattle.b3tree.specs.declared.eight.FourParents.{FourParents}
@@ -11,6 +11,10 @@ use Rattle.b3tree.specs.Tree.{parent_input, subtree_cv}
 -- the value of the subtree of n chunks that begins a chunks on
 abbrev pub value_at : Mode → ℕ → List ℕ → ℕ → ℕ → List ℕ
 value_at mode first s n a = subtree_cv mode (first + a) (piece s (1024 * a) (1024 * n))
+
+-- v j is the value of chunk j of the bytes s, of which the first has the number `first`
+abbrev pub AreChunkValues : Mode → ℕ → List ℕ → (ℕ → List ℕ) → Type 0
+AreChunkValues mode first s v = (j : ℕ) → 1024 * j < length s → v j ≡ value_at mode first s 1 j
 
 -- the two parts, of n chunks each, of the subtree that begins a chunks on
 abbrev pub parts_at : Mode → ℕ → List ℕ → ℕ → ℕ → Parts

@@ -14,7 +14,7 @@ pub const BLOCK_LEN: usize = 64;
 /// The bytes of a chunk.
 pub const CHUNK_LEN: usize = 1024;
 
-fn block_count(len: usize) -> usize
+pub(crate) fn block_count(len: usize) -> usize
     requires { len ≤ 1024 }
     ensures { result ≡ block_count len }
 {
@@ -57,7 +57,7 @@ fn block(chunk: &[u8], k: usize) -> &[u8]
 
 #[inline(always)]
 pub(crate) fn block_flags(mode: &Mode, count: usize, k: usize) -> u32
-    requires { k < count }
+    requires { k < 16 }
     ensures { result ≡ block_flags mode.now count k }
 {
     let start = if k == 0 { CHUNK_START } else { 0 };

@@ -21,7 +21,7 @@ use b3word::{Input, cv_lanes, joined, transposed};
 use std::simd::u32x8;
 
 // Lanes of a vector.
-const LANES: usize = 8;
+pub(crate) const LANES: usize = 8;
 
 /// The most chunks of a subtree that is hashed at once. Those of more lanes would lie further apart than the
 /// caches like.
@@ -59,7 +59,7 @@ fn half_blocks(bytes: &[u8], at: usize, stride: usize) -> [u32x8; 8]
 
 // Block `k` of a chunk in each lane, the chunks `stride` bytes apart.
 #[inline(always)]
-fn message(bytes: &[u8], at: usize, stride: usize, k: usize) -> [u32x8; 16]
+pub(crate) fn message(bytes: &[u8], at: usize, stride: usize, k: usize) -> [u32x8; 16]
     requires block { k < 16 }
     requires len { at + stride * 7 + 1024 ≤ length bytes.now }
     ensures { (j : ℕ) → j < 8 → lane16 j result ≡ block_words (block (piece bytes.now (at + stride * j) 1024) k) }
@@ -156,7 +156,7 @@ pub(crate) fn chunk_lanes(
     'next_block: for k in 0..BLOCKS {
         let m = message(bytes, at, CHUNK_LEN * apart, k);
         let flags = u32x8::splat(block_flags(mode, BLOCKS, k));
-        let next = cv_lanes(&h, &m, t_low, t_high, len, flags);
+        let next = cv_lanes::<1>(&h, &m, t_low, t_high, len, flags);
         h = next;
     }
     h
@@ -170,7 +170,7 @@ pub fn parent_lanes(mode: &Mode, left: &[u32x8; 8], right: &[u32x8; 8]) -> [u32x
     let zero = u32x8::splat(0);
     let len = u32x8::splat(BLOCK_LEN as u32);
     let flags = u32x8::splat(mode.flags() | PARENT);
-    cv_lanes(&key_lanes(mode), &m, zero, zero, len, flags)
+    cv_lanes::<2>(&key_lanes(mode), &m, zero, zero, len, flags)
 }
 
 // The value of a whole subtree of `chunks` chunks in each lane, `apart` chunks from lane to lane.

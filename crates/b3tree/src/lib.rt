@@ -19,6 +19,7 @@ pub use values::{Cv, Hash};
 mod bytes;
 mod chunk;
 mod eight;
+mod few;
 mod flags;
 mod hasher;
 mod hashing;

@@ -66,7 +66,7 @@ pub fn spaced_chunks(
     'next_block: for k in 0..BLOCKS {
         let m = spaced_words(text, at + BLOCK_LEN * k, step);
         let flags = u32x8::splat(block_flags(mode, BLOCKS, k));
-        let next = cv_lanes(&h, &m, t_low, t_high, len, flags);
+        let next = cv_lanes::<3>(&h, &m, t_low, t_high, len, flags);
         h = next;
     }
     h

@@ -5,8 +5,9 @@ ghost use Rattle.b3tree.specs.Chunk.{last_chunk_input};
 ghost use Rattle.b3tree.specs.Tree.{IsLeftLen, left_len, parent_input, subtree_cv, top_input};
 
 use crate::chunk::{CHUNK_LEN, last_chunk_input};
+use crate::few::few_top;
 use crate::flags::PARENT;
-use crate::lanes::{chunks_a_lane, whole_top};
+use crate::lanes::{LANES, chunks_a_lane, whole_top};
 use crate::mode::Mode;
 use crate::values::Cv;
 use b3word::{Input, cv};
@@ -60,7 +61,8 @@ pub(crate) fn subtree_value(mode: &Mode, first: u64, bytes: &[u8]) -> [u32; 8]
 
 /// The last compression of the tree over `bytes` whose first chunk has the number `first`, before it
 /// is known whether it is the root: that of the only chunk, or the parent of the trees over the left
-/// part and the rest (BLAKE3 paper, 2.5). A whole subtree of 8 to 512 chunks goes by lanes.
+/// part and the rest (BLAKE3 paper, 2.5). A whole subtree of 8 to 512 chunks goes by lanes, and so do two to eight
+/// chunks of which the last may be short.
 ///
 /// `cv` of it is `subtree_cv`. The bytes have to end within an input of at most 2^64 - 1 bytes.
 #[cycle(subtrees)]
@@ -78,6 +80,9 @@ pub fn top_input(mode: &Mode, first: u64, bytes: &[u8]) -> Input
     }
     if let Some(chunks) = chunks_a_lane(bytes.len() as u64) {
         return whole_top(mode, first, bytes, chunks);
+    }
+    if bytes.len() > 2 * CHUNK_LEN && bytes.len() < LANES * CHUNK_LEN {
+        return few_top(mode, first, bytes);
     }
     let left_len = left_len(bytes.len() as u64);
     let (left, right) = bytes.split_at(left_len as usize);

@@ -20,6 +20,14 @@ lane16 j x =
     ∷ lane_at x 8 j ∷ lane_at x 9 j ∷ lane_at x 10 j ∷ lane_at x 11 j
     ∷ lane_at x 12 j ∷ lane_at x 13 j ∷ lane_at x 14 j ∷ lane_at x 15 j ∷ []
 
+-- the 16 words of a state in four rows
+abbrev pub rows : List (List ℕ) → List ℕ
+rows v =
+    lane_at v 0 0 ∷ lane_at v 0 1 ∷ lane_at v 0 2 ∷ lane_at v 0 3
+    ∷ lane_at v 1 0 ∷ lane_at v 1 1 ∷ lane_at v 1 2 ∷ lane_at v 1 3
+    ∷ lane_at v 2 0 ∷ lane_at v 2 1 ∷ lane_at v 2 2 ∷ lane_at v 2 3
+    ∷ lane_at v 3 0 ∷ lane_at v 3 1 ∷ lane_at v 3 2 ∷ lane_at v 3 3 ∷ []
+
 -- the input in lane j, with the counter t
 abbrev pub lane_input : ℕ → List (List ℕ) → List (List ℕ) → ℕ → List ℕ → List ℕ → Input
 lane_input j h m t b d = record {

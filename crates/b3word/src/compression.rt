@@ -1,7 +1,9 @@
-ghost use Rattle.std.specs.Prelude.{◌≡◌, ◌<◌};
-ghost use Rattle.b3word.specs.Compression.{quarter_round, g, round, permuted, initial_state, rounds, output_words, out, cv};
+ghost use Rattle.std.specs.Prelude.{◌≡◌, ℕ, ◌<◌, [], ◌∷◌, bit_xor, slice_index};
+ghost use Rattle.b3word.specs.Compression.{add32, xor_rotated, quarter_round, round, permuted, initial_state, rounds, output_words, out, cv};
+ghost use Rattle.b3word.specs.Lanes.{rows};
 
 use crate::input::Input;
+use std::simd::u32x4;
 
 /// The initial words (BLAKE3 paper, Table 1): the key words of plain hashing, and of which the first four stand in each state.
 pub const IV: [u32; 8] = [
@@ -9,50 +11,85 @@ pub const IV: [u32; 8] = [
 ];
 
 #[inline(always)]
-#[tactic(auto, unfolding(crate::specs::Compression::quarter_round))]
-fn quarter_round(a: u32, b: u32, c: u32, d: u32, x: u32, y: u32) -> [u32; 4]
-    ensures { result ≡ quarter_round a b c d x y }
+fn add(a: u32x4, b: u32x4) -> u32x4
+    ensures { (j : ℕ) → j < 4 → slice_index result j ≡ add32 (slice_index a j) (slice_index b j) }
 {
-    let a = a.wrapping_add(b).wrapping_add(x);
-    let d = (d ^ a).rotate_right(16);
-    let c = c.wrapping_add(d);
-    let b = (b ^ c).rotate_right(12);
-    let a = a.wrapping_add(b).wrapping_add(y);
-    let d = (d ^ a).rotate_right(8);
-    let c = c.wrapping_add(d);
-    let b = (b ^ c).rotate_right(7);
-    [a, b, c, d]
+    a + b
 }
 
 #[inline(always)]
-#[tactic(auto, unfolding(crate::specs::Compression::g))]
-fn g(v: &mut [u32; 16], i: usize, j: usize, k: usize, l: usize, x: u32, y: u32)
-    requires i { i < 16 }
-    requires j { j < 16 }
-    requires k { k < 16 }
-    requires l { l < 16 }
-    ensures { v.new ≡ g v.old i j k l x y }
+fn xor_rotated(a: u32x4, b: u32x4, n: u32) -> u32x4
+    requires { (0 < n) × (n < 32) }
+    ensures { (j : ℕ) → j < 4 → slice_index result j ≡ xor_rotated (slice_index a j) (slice_index b j) n }
 {
-    let [a, b, c, d] = quarter_round(v[i], v[j], v[k], v[l], x, y);
-    v[i] = a;
-    v[j] = b;
-    v[k] = c;
-    v[l] = d;
+    let x = a ^ b;
+    (x >> u32x4::splat(n)) | (x << u32x4::splat(32 - n))
 }
 
+// The quarter round of each column of the rows a, b, c and d.
 #[inline(always)]
-#[tactic(auto, unfolding(crate::specs::Compression::round))]
-fn round(v: &mut [u32; 16], m: &[u32; 16])
-    ensures { v.new ≡ round v.old m.now }
+fn quarter_rounds(
+    a: u32x4,
+    b: u32x4,
+    c: u32x4,
+    d: u32x4,
+    x: u32x4,
+    y: u32x4,
+) -> (u32x4, u32x4, u32x4, u32x4)
+    ensures { (j : ℕ) → j < 4
+        → slice_index result.0 j ∷ slice_index result.1 j ∷ slice_index result.2 j ∷ slice_index result.3 j ∷ []
+        ≡ quarter_round (slice_index a j) (slice_index b j) (slice_index c j) (slice_index d j) (slice_index x j) (slice_index y j) }
 {
-    g(v, 0, 4, 8, 12, m[0], m[1]);
-    g(v, 1, 5, 9, 13, m[2], m[3]);
-    g(v, 2, 6, 10, 14, m[4], m[5]);
-    g(v, 3, 7, 11, 15, m[6], m[7]);
-    g(v, 0, 5, 10, 15, m[8], m[9]);
-    g(v, 1, 6, 11, 12, m[10], m[11]);
-    g(v, 2, 7, 8, 13, m[12], m[13]);
-    g(v, 3, 4, 9, 14, m[14], m[15]);
+    let ab = add(a, b);
+    let a1 = add(ab, x);
+    let d1 = xor_rotated(d, a1, 16);
+    let c1 = add(c, d1);
+    let b1 = xor_rotated(b, c1, 12);
+    let ab1 = add(a1, b1);
+    let a2 = add(ab1, y);
+    let d2 = xor_rotated(d1, a2, 8);
+    let c2 = add(c1, d2);
+    let b2 = xor_rotated(b1, c2, 7);
+    (a2, b2, c2, d2)
+}
+
+// A row from its word 1 on, then word 0.
+#[inline(always)]
+fn turned(v: u32x4) -> u32x4
+    ensures { result ≡ slice_index v 1 ∷ slice_index v 2 ∷ slice_index v 3 ∷ slice_index v 0 ∷ [] }
+{
+    v.swizzle([1, 2, 3, 0])
+}
+
+// The same twice.
+#[inline(always)]
+fn half_turned(v: u32x4) -> u32x4
+    ensures { result ≡ slice_index v 2 ∷ slice_index v 3 ∷ slice_index v 0 ∷ slice_index v 1 ∷ [] }
+{
+    v.swizzle([2, 3, 0, 1])
+}
+
+// The same back.
+#[inline(always)]
+fn turned_back(v: u32x4) -> u32x4
+    ensures { result ≡ slice_index v 3 ∷ slice_index v 0 ∷ slice_index v 1 ∷ slice_index v 2 ∷ [] }
+{
+    v.swizzle([3, 0, 1, 2])
+}
+
+// The columns, and then the diagonals, which are columns while three rows are turned.
+#[inline(always)]
+fn round(v: [u32x4; 4], m: &[u32; 16]) -> [u32x4; 4]
+    ensures { rows result ≡ round (rows v) m.now }
+{
+    let [a, b, c, d] = v;
+    let x = u32x4::from_array([m[0], m[2], m[4], m[6]]);
+    let y = u32x4::from_array([m[1], m[3], m[5], m[7]]);
+    let (a, b, c, d) = quarter_rounds(a, b, c, d, x, y);
+    let x = u32x4::from_array([m[8], m[10], m[12], m[14]]);
+    let y = u32x4::from_array([m[9], m[11], m[13], m[15]]);
+    let (a, b, c, d) = quarter_rounds(a, turned(b), half_turned(c), turned_back(d), x, y);
+    [a, turned_back(b), half_turned(c), turned(d)]
 }
 
 #[inline(always)]
@@ -67,71 +104,70 @@ fn permuted(m: &[u32; 16]) -> [u32; 16]
 }
 
 #[inline(always)]
-fn initial_state(input: &Input) -> [u32; 16]
-    ensures { result ≡ initial_state input.now }
+fn initial_state(input: &Input) -> [u32x4; 4]
+    ensures { rows result ≡ initial_state input.now }
 {
     let h = &input.h;
     [
-        h[0],
-        h[1],
-        h[2],
-        h[3],
-        h[4],
-        h[5],
-        h[6],
-        h[7],
-        IV[0],
-        IV[1],
-        IV[2],
-        IV[3],
-        (input.t & 0xffff_ffff) as u32,
-        (input.t >> 32) as u32,
-        input.b,
-        input.d,
+        u32x4::from_array([h[0], h[1], h[2], h[3]]),
+        u32x4::from_array([h[4], h[5], h[6], h[7]]),
+        u32x4::from_array([IV[0], IV[1], IV[2], IV[3]]),
+        u32x4::from_array([
+            (input.t & 0xffff_ffff) as u32,
+            (input.t >> 32) as u32,
+            input.b,
+            input.d,
+        ]),
     ]
 }
 
 #[inline(always)]
 #[tactic(auto, unfolding(crate::specs::Compression::rounds, crate::specs::Compression::round_words))]
-fn seven_rounds(v: &mut [u32; 16], m: &[u32; 16])
-    ensures { v.new ≡ rounds v.old m.now 7 }
+fn seven_rounds(v: [u32x4; 4], m: &[u32; 16]) -> [u32x4; 4]
+    ensures { rows result ≡ rounds (rows v) m.now 7 }
 {
-    round(v, m);
+    let v = round(v, m);
     let m = permuted(m);
-    round(v, &m);
+    let v = round(v, &m);
     let m = permuted(&m);
-    round(v, &m);
+    let v = round(v, &m);
     let m = permuted(&m);
-    round(v, &m);
+    let v = round(v, &m);
     let m = permuted(&m);
-    round(v, &m);
+    let v = round(v, &m);
     let m = permuted(&m);
-    round(v, &m);
+    let v = round(v, &m);
     let m = permuted(&m);
-    round(v, &m);
+    round(v, &m)
 }
 
+// The xor of a state's halves, then that of its second half with the chaining value: rows of four words.
 #[inline(always)]
-fn output_words(h: &[u32; 8], v: &[u32; 16]) -> [u32; 16]
-    ensures { result ≡ output_words h.now v.now }
+fn output_words(h: &[u32; 8], v: [u32x4; 4]) -> [u32; 16]
+    ensures { result ≡ output_words h.now (rows v) }
 {
+    let [a, b, c, d] = v;
+    let a = a.to_array();
+    let b = b.to_array();
+    let c = c.to_array();
+    let d = d.to_array();
     [
-        v[0] ^ v[8],
-        v[1] ^ v[9],
-        v[2] ^ v[10],
-        v[3] ^ v[11],
-        v[4] ^ v[12],
-        v[5] ^ v[13],
-        v[6] ^ v[14],
-        v[7] ^ v[15],
-        v[8] ^ h[0],
-        v[9] ^ h[1],
-        v[10] ^ h[2],
-        v[11] ^ h[3],
-        v[12] ^ h[4],
-        v[13] ^ h[5],
-        v[14] ^ h[6],
-        v[15] ^ h[7],
+        a[0] ^ c[0],
+        a[1] ^ c[1],
+        a[2] ^ c[2],
+        a[3] ^ c[3],
+        b[0] ^ d[0],
+        b[1] ^ d[1],
+        b[2] ^ d[2],
+        b[3] ^ d[3],
+        c[0] ^ h[0],
+        c[1] ^ h[1],
+        c[2] ^ h[2],
+        c[3] ^ h[3],
+        d[0] ^ h[4],
+        d[1] ^ h[5],
+        d[2] ^ h[6],
+        d[3] ^ h[7],
     ]
 }
 
@@ -141,9 +177,8 @@ fn output_words(h: &[u32; 8], v: &[u32; 16]) -> [u32; 16]
 pub fn compress(input: &Input) -> [u32; 16]
     ensures { result ≡ out input.now }
 {
-    let mut v = initial_state(input);
-    seven_rounds(&mut v, &input.m);
-    output_words(&input.h, &v)
+    let v = seven_rounds(initial_state(input), &input.m);
+    output_words(&input.h, v)
 }
 
 /// The chaining value of `input`: the first 8 of its output words.

@@ -103,8 +103,9 @@ fn permuted(m: [u32x8; 16]) -> [u32x8; 16]
     ]
 }
 
+// Too large for its attribute to count. Where one call alone has a COPY, the compiler puts that in line all the same.
 #[inline(always)]
-fn seven_rounds(v: [u32x8; 16], m: [u32x8; 16]) -> [u32x8; 16]
+fn seven_rounds<const COPY: usize>(v: [u32x8; 16], m: [u32x8; 16]) -> [u32x8; 16]
     ensures { (j : ℕ) → j < 8 → lane16 j result ≡ rounds (lane16 j v) (lane16 j m) 7 }
 {
     let v1 = round(v, m);
@@ -149,8 +150,10 @@ fn initial_state(h: &[u32x8; 8], t_low: u32x8, t_high: u32x8, b: u32x8, d: u32x8
 
 /// The chaining values of eight inputs, each word of all eight in one vector: lane `j` of the result is
 /// that of the input in lane `j`, whose counter is `t_low` with `t_high` above it.
+///
+/// `COPY` is any number. Each has code of its own, which goes in line where one call alone has it.
 #[inline(always)]
-pub fn cv_lanes(
+pub fn cv_lanes<const COPY: usize>(
     h: &[u32x8; 8],
     m: &[u32x8; 16],
     t_low: u32x8,
@@ -162,7 +165,7 @@ pub fn cv_lanes(
         → lane8 j result ≡ cv (lane_input j h.now m.now t b d) }
 {
     let start = initial_state(h, t_low, t_high, b, d);
-    let v = seven_rounds(start, *m);
+    let v = seven_rounds::<COPY>(start, *m);
     let [
         v0,
         v1,
@@ -300,7 +303,7 @@ pub fn cv8(inputs: &[Input; 8]) -> [[u32; 8]; 8]
     let t_high = u32x8::from_array(inputs.map(|x| (x.t >> 32) as u32));
     let b = u32x8::from_array(inputs.map(|x| x.b));
     let d = u32x8::from_array(inputs.map(|x| x.d));
-    let values = cv_lanes(&h, &m, t_low, t_high, b, d);
+    let values = cv_lanes::<0>(&h, &m, t_low, t_high, b, d);
     let rows = transposed(&values);
     rows.map(
         |row|

@@ -37,8 +37,8 @@ pub fn cv_lanes_determined(
     ensures { (j t : ℕ) → j < 8 → slice_index t_low j ≡ t % 2 ^ 32 → slice_index t_high j ≡ t / 2 ^ 32
         → lane8 j ours.new ≡ lane8 j theirs.new }
 {
-    *ours = cv_lanes(h, m, t_low, t_high, b, d);
-    *theirs = cv_lanes(h, m, t_low, t_high, b, d);
+    *ours = cv_lanes::<0>(h, m, t_low, t_high, b, d);
+    *theirs = cv_lanes::<1>(h, m, t_low, t_high, b, d);
 }
 
 pub fn transposed_determined(rows: &[u32x8; 8], ours: &mut [u32x8; 8], theirs: &mut [u32x8; 8])

@@ -6,7 +6,7 @@ use Rattle.b3word.proofs.lanes.cv_lanes.Goals as goal
 
 pub returns : goal.returns
 unfolding out
-returns c j t h low high =
+returns g c j t h low high =
     let x : Input = lane_input j c.args.h.now c.args.m.now t c.args.b c.args.d in
     let done : lane16 j c.seven_rounds-v.result ≡ rounds (initial_state x) x.m 7 =
     c.seven_rounds-v.ensures j h ∙ ap (λ (v : List ℕ). rounds v x.m 7) (c.initial_state-start.ensures j t h low high) in

@@ -4,7 +4,7 @@ use Rattle.b3word.proofs.lanes.seven_rounds.Goals as goal
 
 pub returns : goal.returns
 unfolding rounds round_words
-returns c j h =
+returns g c j h =
     rw (
       c.round.ensures j h,
       c.round-v6.ensures j h,

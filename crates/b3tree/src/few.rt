@@ -1,0 +1,158 @@
+// Two to eight chunks, of which the last may be short: one in each lane, and then the tree over their values.
+
+ghost use Rattle.std.specs.Prelude.{◌≡◌, ℕ, ◌+◌, ◌-◌, ◌*◌, ◌^◌, ◌<◌, ◌≤◌, List, [], ◌++◌, length, replicate, slice_index, slice_index_or};
+ghost use Rattle.b3word.specs.Lanes.{lane8};
+ghost use Rattle.b3tree.specs.Chunk.{block, block_count};
+ghost use Rattle.b3tree.specs.Parents.{AreChunkValues};
+ghost use Rattle.b3tree.specs.Pieces.{before_block, piece};
+ghost use Rattle.b3tree.specs.Tree.{subtree_cv, top_input};
+
+use crate::chunk::{BLOCK_LEN, CHUNK_LEN, block_count, block_flags};
+use crate::lanes::{BLOCKS, LANES, high_words, key_lanes, low_words, message};
+use crate::mode::Mode;
+use crate::tree::{left_len, parent_input};
+use crate::values::Cv;
+use b3word::{Input, cv, cv_lanes, transposed};
+use std::simd::u32x8;
+
+// `value` in each lane before this one, which has `of_lane`.
+#[inline(always)]
+fn all_but(lane: usize, of_lane: u32, value: u32) -> u32x8
+    requires { lane < 8 }
+    ensures of_lane { slice_index result lane ≡ of_lane }
+    ensures others { (j : ℕ) → j < lane → slice_index result j ≡ value }
+{
+    // Most often it is the same, and then nothing goes through memory.
+    if of_lane == value {
+        return u32x8::splat(value);
+    }
+    let mut lanes = [value; LANES];
+    lanes[lane] = of_lane;
+    u32x8::from_array(lanes)
+}
+
+// How many bytes block `k` has of a chunk of `len` bytes.
+#[inline(always)]
+fn block_len(len: usize, k: usize) -> u32
+    requires { k < 16 }
+    ensures { (chunk : List ℕ) → length chunk ≡ len → result ≡ length (block chunk k) }
+{
+    len.saturating_sub(BLOCK_LEN * k).min(BLOCK_LEN) as u32
+}
+
+// The blocks from `from` on and before `to`, of a chunk in each lane, after the values `before`. The chunks lie in `text`
+// side by side. That of lane `last` has `last_len` bytes and zeros after them, and those before it are whole: each lane
+// that the chunks reach has what comes before block `to` of its chunk, where the chunk has as many blocks.
+fn lane_blocks(
+    mode: &Mode,
+    first: u64,
+    text: &[u8],
+    last: usize,
+    last_len: usize,
+    from: usize,
+    to: usize,
+    before: &[u32x8; 8],
+) -> [u32x8; 8]
+    requires number { first + 7 < 2 ^ 64 }
+    requires text { length text.now ≡ 8192 }
+    requires last { last < 8 }
+    requires last_len { last_len ≤ 1024 }
+    requires order { from ≤ to }
+    requires blocks { to ≤ 16 }
+    ensures { (s : List ℕ) (j : ℕ) → text.now ≡ s ++ replicate (8192 - length s) 0 → length s ≡ 1024 * last + last_len → j ≤ last
+        → to ≤ block_count (length (piece s (1024 * j) 1024))
+        → lane8 j before.now ≡ before_block mode.now (first + j) (piece s (1024 * j) 1024) from
+        → lane8 j result ≡ before_block mode.now (first + j) (piece s (1024 * j) 1024) to }
+{
+    let t_low = low_words(first, 1);
+    let t_high = high_words(first, 1);
+    let count = block_count(last_len);
+    let mut h = *before;
+    'next_block: for k in from..to {
+        let m = message(text, 0, CHUNK_LEN, k);
+        let len = all_but(last, block_len(last_len, k), BLOCK_LEN as u32);
+        let flags = all_but(
+            last,
+            block_flags(mode, count, k),
+            block_flags(mode, BLOCKS, k),
+        );
+        let next = cv_lanes::<4>(&h, &m, t_low, t_high, len, flags);
+        h = next;
+    }
+    h
+}
+
+// The chaining values of the chunks of `bytes`, at most eight, at once.
+fn few_values(mode: &Mode, first: u64, bytes: &[u8]) -> [[u32; 8]; 8]
+    requires some { 0 < length bytes.now }
+    requires few { length bytes.now ≤ 8192 }
+    requires end { 1024 * first + length bytes.now ≤ 2 ^ 64 - 1 }
+    ensures { AreChunkValues mode.now first bytes.now (λ j. slice_index_or result j []) }
+{
+    let last = (bytes.len() - 1) / CHUNK_LEN;
+    let last_len = bytes.len() - CHUNK_LEN * last;
+    let count = block_count(last_len);
+    let mut text = [0; LANES * CHUNK_LEN];
+    text[..bytes.len()].copy_from_slice(bytes);
+    // The last chunk ends first.
+    let ended = lane_blocks(
+        mode,
+        first,
+        &text,
+        last,
+        last_len,
+        0,
+        count,
+        &key_lanes(mode),
+    );
+    let whole = lane_blocks(mode, first, &text, last, last_len, count, BLOCKS, &ended);
+    let mut values = transposed(&whole).map(
+        |row|
+            ensures { result ≡ row }
+        { row.to_array() },
+    );
+    values[last] = transposed(&ended)[last].to_array();
+    values
+}
+
+// The chaining value of the tree over chunks with the values from place `at` on, of `len` bytes in all.
+#[cycle(joined)]
+fn joined_value(mode: &Mode, values: &[[u32; 8]; 8], at: usize, len: u64) -> [u32; 8]
+    requires some { 0 < len }
+    requires within { 1024 * at + len ≤ 8192 }
+    ensures { (first : ℕ) (s : List ℕ) → length s ≡ len → AreChunkValues mode.now first s (λ j. slice_index_or values.now (at + j) [])
+        → result ≡ subtree_cv mode.now first s }
+{
+    if len <= CHUNK_LEN as u64 {
+        return values[at];
+    }
+    cv(&joined_top(mode, values, at, len))
+}
+
+// The last compression of that tree, where there is more than one chunk.
+#[cycle(joined)]
+fn joined_top(mode: &Mode, values: &[[u32; 8]; 8], at: usize, len: u64) -> Input
+    requires more { 1024 < len }
+    requires within { 1024 * at + len ≤ 8192 }
+    ensures { (first : ℕ) (s : List ℕ) → length s ≡ len → AreChunkValues mode.now first s (λ j. slice_index_or values.now (at + j) [])
+        → result ≡ top_input mode.now first s }
+{
+    let left_len = left_len(len);
+    let middle = at + (left_len / CHUNK_LEN as u64) as usize;
+    let left = joined_value(mode, values, at, left_len);
+    let right = joined_value(mode, values, middle, len - left_len);
+    parent_input(mode, &Cv(left), &Cv(right))
+}
+
+// The last compression of the tree over two to eight chunks. Not in line: its copy of 8 KiB would stand in each frame of
+// the recursion that ends here.
+#[inline(never)]
+pub(crate) fn few_top(mode: &Mode, first: u64, bytes: &[u8]) -> Input
+    requires more { 1024 < length bytes.now }
+    requires few { length bytes.now ≤ 8192 }
+    requires end { 1024 * first + length bytes.now ≤ 2 ^ 64 - 1 }
+    ensures { result ≡ top_input mode.now first bytes.now }
+{
+    let values = few_values(mode, first, bytes);
+    joined_top(mode, &values, 0, bytes.len() as u64)
+}
