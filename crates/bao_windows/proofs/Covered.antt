@@ -1,4 +1,4 @@
--- Sources that have all slices of a blob with the root between them.
+-- Sources that have between them what all slices of a blob with the root are made of.
 use Rattle.std.proofs.Common.{◌≡◌, ◌⊎◌, ℕ, ◌+◌, ◌-◌, ◌/◌, ◌%◌, ◌^◌, ◌<◌, ◌≤◌, min, List, length, true, is_some, Option, None, Some, slice_get, ◌∙◌, sym, subst, arith, inl, inr, refl}
 use Rattle.std.proofs.lemmas.Option.{slice_get_within}
 use Rattle.b3tree.specs.declared.mode.Mode.{Mode}
@@ -8,20 +8,20 @@ use Rattle.bao_check.specs.Pieces.{chunk_in}
 use Rattle.bao_text.proofs.Laws.{cut_text-combined}
 use Rattle.bao_text.specs.Choice.{slice_end, slice_start}
 use Rattle.bao_text.specs.Texts.{combined_text, slice_text}
-use Rattle.gather.specs.Available.{HasSlice, HasTrue, HaveSlices}
+use Rattle.gather.specs.Available.{HasTrue}
 use Rattle.gather.specs.declared.grain.Grain.{Grain}
 use Rattle.gather.specs.declared.grain.Grain.TheVariants.{Group as ByGroup, Chunk as ByChunk}
-use Rattle.gather.specs.Forms.{AreSlices}
 use Rattle.gather.specs.Large.{HasCollision}
 use Rattle.gather.specs.Lists.{source_gives}
 use Rattle.gather.specs.Places.{IsCutAt}
+use Rattle.store_core.specs.declared.history.Piece.{Piece}
 use Rattle.store_core.specs.Laws.{IsBlob}
 use Rattle.store_core.specs.Pieces.{EndsBlob, places_in}
+use Rattle.bao_windows.proofs.Asking.{HaveAsked, Makes, handed_in}
 use Rattle.bao_windows.proofs.Bytes.{chunk_long, place_of}
-use Rattle.bao_windows.proofs.Served.{ends_there, present, slice_good}
-use Rattle.bao_windows.proofs.Sources.{from_slices}
+use Rattle.bao_windows.proofs.Served.{ends_there, present, slice_good, the_slice}
 use Rattle.bao_windows.specs.declared.wanted.Wanted.{Wanted}
-use Rattle.bao_windows.specs.Available.{AllRefuse, HasNoEnd, IsMissing, slice_piece}
+use Rattle.bao_windows.specs.Available.{AllRefuse, HasNoEnd, IsAcceptedAs, IsFitting, IsMissing, IsWithin, end_span, end_start, span_in}
 use Rattle.bao_windows.specs.Windows.{IsFrom, LacksChunk, fixed_for}
 
 -- So many bytes of a blob from a place on end with a chunk of the blob, and are no more than a slice of `span` bytes has from there on.
@@ -36,41 +36,45 @@ some_there : (o : Option (List ℕ)) → is_some o ≡ true → (bytes : List �
 some_there None h = cc
 some_there (Some bytes) h = (bytes, refl)
 
-module _ {S : Type 0} (contents : S → Option (List ℕ)) (faultless : S → Type 0) (wanted : Wanted) (sources : List S) (keyed : IsKeyed wanted.mode) (are : AreSlices wanted.form)
-    (blob : List ℕ) (is : IsBlob (fixed_for wanted) blob) where
+module _ {S : Type 0} (contents : S → Option (List ℕ)) (faultless : S → Type 0) (wanted : Wanted) (sources : List S) (keyed : IsKeyed wanted.mode) (blob : List ℕ)
+    (is : IsBlob (fixed_for wanted) blob) where
   abbrev Collides : Type 0
   Collides = HasCollision (IsFrom wanted contents faultless sources) (fixed_for wanted) blob
 
-  -- where a blob's slice that a source gave lacks one of its chunks, there is a collision
-  lacks_none : (at len span : ℕ) (text : List ℕ) (has : HasSlice (source_gives contents faultless) wanted.mode blob at span sources) → IsPartOf blob at len span
-      → source_gives contents faultless has.holder at span text → AreBytes text → LacksChunk (slice_piece at span text) at len → Collides
-  lacks_none at len span text has part gives bytes lacks =
+  -- where a blob's slice that was made of what a source gave lacks one of its chunks, there is a collision
+  lacks_none : (at len span : ℕ) → IsPartOf blob at len span → IsFrom wanted contents faultless sources (the_slice wanted.mode blob at span) → AreBytes (slice_text wanted.mode blob at span)
+      → LacksChunk (the_slice wanted.mode blob at span) at len → Collides
+  lacks_none at len span part from bytes lacks =
       let c : ℕ = lacks.number in
-      let same : text ≡ slice_text wanted.mode blob at span = has.gives_slice text gives in
+      let text : List ℕ = slice_text wanted.mode blob at span in
       let low : slice_start (length blob) at / 1024 ≤ c = omega (arith, lacks.from, lacks.below, part.within) in
       let high : c < (slice_end (length blob) at span + 1023) / 1024 = omega (arith, lacks.from, lacks.below, part.within, part.fits) in
-      let here : is_some (chunk_in text (places_in (slice_piece at span text)) c) ≡ true =
-      subst (λ (s : List ℕ). is_some (chunk_in s (places_in (slice_piece at span s)) c) ≡ true) (sym same) (present wanted.mode blob at span c part.short low high) in
-      let found = some_there (chunk_in text (places_in (slice_piece at span text)) c) here in
-      let accepted = slice_good wanted.mode wanted.root blob text at span keyed part.short is.root same in
+      let found = some_there (chunk_in text (places_in (the_slice wanted.mode blob at span)) c) (present wanted.mode blob at span c part.short low high) in
+      let accepted = slice_good wanted.mode wanted.root blob at span keyed part.short is.root in
       elim (accepted_binds wanted.mode wanted.root.0 text blob at span c found.0 keyed is.bytes bytes is.root accepted found.1) [
         | inl there ↦ absurd (lacks.lacks found.0 found.1 (chunk_long blob found.0 c (at + len) there.0 lacks.below part.within part.ends))
         | inr named ↦ record {
-          piece = slice_piece at span text;
-          from = from_slices wanted.form contents faultless sources (slice_piece at span text) are (record { place = has.place; holder = has.holder; there = has.there; given = gives });
+          piece = the_slice wanted.mode blob at span;
+          from = from;
           accepted = record { bytes = bytes; accepted = accepted; base = refl };
           pair = named;
         }
       ]
 
   -- so there is where all sources refuse a slice that one gives
-  all_refuse : (at len span : ℕ) → HasSlice (source_gives contents faultless) wanted.mode blob at span sources → IsPartOf blob at len span → AllRefuse contents faultless wanted sources at len span
-      → Collides
-  all_refuse at len span has part refused =
-      let why = refused has.place (slice_get_within sources has.place has.holder has.there) are has.holder has.there in
+  all_refuse : (at len span : ℕ) → IsFitting wanted wanted.form → IsWithin wanted.form at len
+      → Makes wanted.form contents faultless wanted.mode blob sources at (span_in wanted.form len span) → IsPartOf blob at len (span_in wanted.form len span)
+      → AllRefuse contents faultless wanted sources at len span → Collides
+  all_refuse at len span fitting within has part refused =
+      let n : ℕ = span_in wanted.form len span in
+      let why = refused has.place (slice_get_within sources has.place has.source has.there) fitting within has.source has.there in
+      let same = has.makes why.0 why.2 in
       elim why.3 [
-        | inl wrong ↦ absurd (wrong (slice_good wanted.mode wanted.root blob why.0 at span keyed part.short is.root (has.gives_slice why.0 why.2)))
-        | inr lacks ↦ lacks_none at len span why.0 has part why.2 why.1 lacks
+        | inl wrong ↦ absurd (wrong (subst (λ (p : Piece). IsAcceptedAs wanted p) (sym same) (slice_good wanted.mode wanted.root blob at n keyed part.short is.root)))
+        | inr lacks ↦
+            lacks_none at len n part
+            (subst (λ (p : Piece). IsFrom wanted contents faultless sources p) same (handed_in wanted.form contents faultless sources has.place has.source at n why.0 has.there why.2))
+            (subst (λ (p : Piece). AreBytes p.text) same lacks.0) (subst (λ (p : Piece). LacksChunk p at len) same lacks.1)
       ]
 
   -- a chunk of a part
@@ -86,55 +90,49 @@ module _ {S : Type 0} (contents : S → Option (List ℕ)) (faultless : S → Ty
     | inr more ↦ inl (omega (arith, n_is, more, aligned, step))
   ]
 
-  chunk_part : (at len span came : ℕ) → at % 1024 ≡ 0 → came % 1024 ≡ 0 → came < len → IsPartOf blob at len span → IsPartOf blob (at + came) (min 1024 (len - came)) 1024
-  chunk_part at len span came aligned step below part = record {
-    short = part.short;
-    within = omega (arith, part.within, below);
-    ends = chunk_ends at len came (min 1024 (len - came)) aligned step below refl part.ends;
-    fits = omega arith;
-  }
+  -- a group ends so
+  group_ends : (total at : ℕ) → at % 65536 ≡ 0 → at < total → total ≡ length blob → ((at + min 65536 (total - at)) % 1024 ≡ 0) ⊎ (at + min 65536 (total - at) ≡ length blob)
+  group_ends total at aligned below same = elim (place_of (total - at) 65536) [
+    | inl last ↦ inr (omega (arith, same, below, last))
+    | inr more ↦ inl (omega (arith, more, aligned))
+  ]
 
-  -- a group
-  group_part : (total at : ℕ) → at % 65536 ≡ 0 → at < total → length blob < 2 ^ 64 → total ≡ length blob → IsPartOf blob at (min 65536 (total - at)) 65536
-  group_part total at aligned below short same = record {
-    short = short;
-    within = omega (arith, same, below);
-    ends = elim (place_of (total - at) 65536) [
-      | inl last ↦ inr (omega (arith, same, below, last))
-      | inr more ↦ inl (omega (arith, more, aligned))
-    ];
-    fits = omega arith;
-  }
-
-  -- where some group is missing though its slices are given, there is a collision
+  -- where some group is missing though what makes its slices is given, there is a collision
   by_grain : (grain : Grain) (total : ℕ) (missing : IsMissing contents faultless wanted sources total) → wanted.grain ≡ grain → length blob < 2 ^ 64 → total ≡ length blob
-      → HaveSlices grain (source_gives contents faultless) wanted.mode blob sources → Collides
+      → HaveAsked wanted.form grain contents faultless wanted blob sources → Collides
   by_grain ByGroup total missing grain_is short same have =
       let at : ℕ = missing.at in
-      all_refuse at (min 65536 (total - at)) 65536
-      (have.each (at / 1024) at 65536 (omega (arith, missing.whole, missing.below, same)) (omega (arith, missing.whole), refl))
-      (group_part total at missing.whole missing.below short same) missing.lacks.group
+      let len : ℕ = min 65536 (total - at) in
+      let asked = have.each at len 65536 (omega (arith, missing.below, same)) (missing.whole, omega (arith, same), refl) in
+      all_refuse at len 65536 have.fitting asked.0 asked.2
+      (record { short = short; within = omega (arith, same, missing.below); ends = group_ends total at missing.whole missing.below same; fits = asked.1 }) missing.lacks.group
   by_grain ByChunk total missing grain_is short same have =
       let at : ℕ = missing.at in
       let len : ℕ = min 65536 (total - at) in
       let one = missing.lacks.chunk grain_is in
+      let n : ℕ = min 1024 (len - one.came) in
       let whole : at % 1024 ≡ 0 = omega (arith, missing.whole) in
-      all_refuse (at + one.came) (min 1024 (len - one.came)) 1024
-      (have.each ((at + one.came) / 1024) (at + one.came) 1024 (omega (arith, one.whole, one.below, missing.whole, missing.below, same)) (omega (arith, one.whole, missing.whole), refl))
-      (chunk_part at len 65536 one.came whole one.whole one.below (group_part total at missing.whole missing.below short same)) one.refused
+      let ends = group_ends total at missing.whole missing.below same in
+      let asked = have.each (at + one.came) n 1024 (omega (arith, one.below, missing.below, same))
+      (omega (arith, whole, one.whole), omega (arith, one.whole, one.below, missing.whole, missing.below, same), refl) in
+      all_refuse (at + one.came) n 1024 have.fitting asked.0 asked.2
+      (record { short = short; within = omega (arith, same, missing.below, one.below); ends = chunk_ends at len one.came n whole one.whole one.below refl ends; fits = asked.1 }) one.refused
 
   pub missing_none : (total : ℕ) → IsMissing contents faultless wanted sources total → length blob < 2 ^ 64 → total ≡ length blob
-      → HaveSlices wanted.grain (source_gives contents faultless) wanted.mode blob sources → HasCollision (IsFrom wanted contents faultless sources) (fixed_for wanted) blob
+      → HaveAsked wanted.form wanted.grain contents faultless wanted blob sources → HasCollision (IsFrom wanted contents faultless sources) (fixed_for wanted) blob
   missing_none total missing short same have = by_grain wanted.grain total missing refl short same have
 
-  -- nor do all refuse the slice of the last byte
-  pub no_end : HasNoEnd contents faultless wanted sources → length blob < 2 ^ 64 → HasSlice (source_gives contents faultless) wanted.mode blob (2 ^ 64 - 1) 1 sources → ⊥
-  no_end none short has =
-      let why = none has.place (slice_get_within sources has.place has.holder has.there) are has.holder has.there in
-      let same : why.0 ≡ slice_text wanted.mode blob (2 ^ 64 - 1) 1 = has.gives_slice why.0 why.1 in
+  -- nor do all refuse what the length is asked for by
+  pub no_end : (grain : Grain) → HasNoEnd contents faultless wanted sources → length blob < 2 ^ 64 → HaveAsked wanted.form grain contents faultless wanted blob sources → ⊥
+  no_end grain none short have =
+      let start : ℕ = end_start wanted.form in
+      let n : ℕ = end_span wanted.form in
+      let has = have.end in
+      let why = none has.place (slice_get_within sources has.place has.source has.there) have.fitting has.source has.there in
+      let same = has.makes why.0 why.1 in
       elim why.2 [
-        | inl wrong ↦ wrong (slice_good wanted.mode wanted.root blob why.0 (2 ^ 64 - 1) 1 keyed short is.root same)
-        | inr ends ↦ ends (subst (λ (s : List ℕ). EndsBlob (slice_piece (2 ^ 64 - 1) 1 s)) (sym same) (ends_there wanted.mode blob short))
+        | inl wrong ↦ wrong (subst (λ (p : Piece). IsAcceptedAs wanted p) (sym same) (slice_good wanted.mode wanted.root blob start n keyed short is.root))
+        | inr ends ↦ ends (subst (λ (p : Piece). EndsBlob p) (sym same) (ends_there wanted.mode blob start n short have.reaches))
       ]
 
 -- what is cut out of a combined encoding that is never lost

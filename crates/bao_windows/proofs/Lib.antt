@@ -3,9 +3,12 @@ pub mod Pieces
 pub mod Sources
 pub mod Served
 pub mod Turns
+pub mod Owning
+pub mod Asking
 pub mod Parts
 pub mod Covered
 pub mod Answering
 pub mod Slots
 pub mod Finishing
 pub mod Writing
+pub mod Outlines

@@ -42,16 +42,15 @@ present mode blob start len c short first last =
     subst (λ (o : Option (List ℕ)). IsSome o) (sym (chunk_in-place text (places_of (slice_nodes text start len)) c)) (some_mapped _ _ placed)
 
 -- it is accepted under the root
-pub slice_good : (mode : Mode) (root : Hash) (blob text : List ℕ) (start len : ℕ) → IsKeyed mode → length blob < 2 ^ 64 → hash mode blob ≡ root.0 → text ≡ slice_text mode blob start len
-    → IsAccepted mode root.0 text (slice_nodes text start len)
-slice_good mode root blob text start len keyed short is same =
-    subst (λ (s : List ℕ). IsAccepted mode root.0 s (slice_nodes s start len)) (sym same)
-    (subst (λ (r : List ℕ). IsAccepted mode r (slice_text mode blob start len) (slice_nodes (slice_text mode blob start len) start len)) is (slice_accepted mode blob start len keyed short))
+pub slice_good : (mode : Mode) (root : Hash) (blob : List ℕ) (start len : ℕ) → IsKeyed mode → length blob < 2 ^ 64 → hash mode blob ≡ root.0
+    → IsAccepted mode root.0 (slice_text mode blob start len) (slice_nodes (slice_text mode blob start len) start len)
+slice_good mode root blob start len keyed short is =
+    subst (λ (r : List ℕ). IsAccepted mode r (slice_text mode blob start len) (slice_nodes (slice_text mode blob start len) start len)) is (slice_accepted mode blob start len keyed short)
 
--- the slice of the last byte has the last chunk
-pub ends_there : (mode : Mode) (blob : List ℕ) → length blob < 2 ^ 64 → EndsBlob (the_slice mode blob (2 ^ 64 - 1) 1)
-ends_there mode blob short =
+-- a slice that reaches the end has the last chunk
+pub ends_there : (mode : Mode) (blob : List ℕ) (start len : ℕ) → length blob < 2 ^ 64 → length blob ≤ start + len → EndsBlob (the_slice mode blob start len)
+ends_there mode blob start len short reaches =
     let n : ℕ = length blob in
-    let long : n ≡ claimed (slice_text mode blob (2 ^ 64 - 1) 1) = sym (claimed-chosen_text (of_slice n (2 ^ 64 - 1) 1) mode blob short) in
-    subst (λ (total : ℕ). is_some (chunk_in (slice_text mode blob (2 ^ 64 - 1) 1) (places_in (the_slice mode blob (2 ^ 64 - 1) 1)) (chunk_count total - 1)) ≡ true) long
-    (present mode blob (2 ^ 64 - 1) 1 (chunk_count n - 1) short (omega (arith, short)) (omega (arith, short)))
+    let long : n ≡ claimed (slice_text mode blob start len) = sym (claimed-chosen_text (of_slice n start len) mode blob short) in
+    subst (λ (total : ℕ). is_some (chunk_in (slice_text mode blob start len) (places_in (the_slice mode blob start len)) (chunk_count total - 1)) ≡ true) long
+    (present mode blob start len (chunk_count n - 1) short (omega (arith, short)) (omega (arith, short, reaches)))

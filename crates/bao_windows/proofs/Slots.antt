@@ -1,12 +1,16 @@
 -- The bytes of a window's slots.
-use Rattle.std.proofs.Common.{◌≡◌, ℕ, ◌+◌, ◌-◌, ◌*◌, ◌<◌, ◌≤◌, min, suc, List, [], ◌∷◌, ◌++◌, length, take, drop, get_or, slice_index_or, ◌∙◌, sym, ap, subst, arith, inl, inr, refl, None, append-nil, length-append}
+use Rattle.std.proofs.Common.{◌≡◌, ℕ, ◌+◌, ◌-◌, ◌*◌, ◌<◌, ◌≤◌, min, suc, List, [], ◌∷◌, ◌++◌, length, take, take_at, drop, get_or, slice_index_or, ◌∙◌, sym, ap, subst, arith, inl, inr, refl, Option, None, Some, IfErr, IfSome, OnOk, Result, Ok, Err, append-nil, length-append, ◌⊎◌}
 use Rattle.std.proofs.lemmas.Grind.{flat_map-append}
 use Rattle.std.proofs.lemmas.List.{drop_more, take-append-drop, take_more}
+use Rattle.gather.specs.declared.fault.GatherFault.{GatherFault}
+use Rattle.gather.specs.declared.fault.GatherFault.TheVariants.{Starved, Unfinished}
 use Rattle.store_core.specs.declared.fixed.Fixed.{Fixed}
 use Rattle.store_core.specs.declared.history.Piece.{Piece}
 use Rattle.bao_windows.proofs.Bytes.{both_at, none_at, place_of}
+use Rattle.bao_windows.specs.declared.wanted.Wanted.{Wanted}
 use Rattle.bao_windows.specs.declared.window.Slot.{Slot}
-use Rattle.bao_windows.specs.Windows.{Adds, AreBytesAt, AreOfSlot, window_bytes}
+use Rattle.bao_windows.specs.Available.{IsFilled, IsMissing, IsTried}
+use Rattle.bao_windows.specs.Windows.{Adds, AreBytesAt, AreOfSlot, HasFault, IsFrom, fixed_for, window_bytes}
 
 -- where the bytes of a part end
 next_at : (handed : Piece → Type 0) (fixed : Fixed) (start total k : ℕ) (n : ℕ) (rest : List ℕ) → n ≡ min 65536 (total - (start + 65536 * k))
@@ -73,3 +77,30 @@ slot_filled handed fixed start total number at len old new place size none adds 
       size = omega (arith, ap (λ (xs : List ℕ). length xs) same, adds.size, size, place);
       each = subst (λ (n : ℕ). AreBytesAt handed fixed n new) place (subst (λ (xs : List ℕ). AreBytesAt handed fixed at xs) same adds.each);
     }
+
+-- a fault of one of a window's slots
+pub faulty : {S : Type 0} (contents : S → Option (List ℕ)) (faultless : S → Type 0) (wanted : Wanted) (sources : List S) (start total : ℕ) (window : List Slot) (fault : GatherFault)
+    → ((i : ℕ) (d : Slot) → i < length window → IsTried contents faultless wanted sources start total i (slice_index_or window i d)) → HasFault window fault
+    → ((fault ≡ Unfinished) ⊎ (fault ≡ Starved)) × (fault ≡ Unfinished → IsMissing contents faultless wanted sources total)
+faulty contents faultless wanted sources start total window fault tried it =
+    let own : IsTried contents faultless wanted sources start total it.number it.slot =
+    subst (λ (s : Slot). IsTried contents faultless wanted sources start total it.number s) it.there (tried it.number it.slot it.below) in (
+      subst (λ (o : Option GatherFault). IfSome o (λ f. (f ≡ Unfinished) ⊎ (f ≡ Starved))) it.is own.fault,
+      λ same. own.missing (it.is ∙ ap (λ (f : GatherFault). Some f) same),
+    )
+
+-- a window of which each slot was to be filled
+pub filled_so : {S : Type 0} (contents : S → Option (List ℕ)) (faultless : S → Type 0) (wanted : Wanted) (sources : List S) (start total : ℕ) (old new : List Slot) (result : Result Unit GatherFault)
+    → length new ≡ length old → ((i : ℕ) (d : Slot) → i < length new → IsTried contents faultless wanted sources start total i (slice_index_or new i d))
+    → OnOk result ((i : ℕ) (d : Slot) → i < length new → (slice_index_or new i d).fault ≡ None) → IfErr result (HasFault new)
+    → IsFilled contents faultless wanted sources start total old new result
+filled_so contents faultless wanted sources start total old new (Ok u) same tried clean has =
+    let both = window_filled (IsFrom wanted contents faultless sources) (fixed_for wanted) start total new (λ i d less none. (tried i d less).filled none) clean in
+    record { same = same; whole = record { size = both.0; each = both.1 }; fault = tt; missing = λ e. cc }
+filled_so contents faultless wanted sources start total old new (Err fault) same tried clean has =
+    let own = faulty contents faultless wanted sources start total new fault tried has in
+    record { same = same; whole = tt; fault = own.0; missing = λ e. let is : fault ≡ Unfinished = cc in own.1 is }
+
+-- a vector of slots, all of which were written back
+pub written_back : (len : ℕ) (new old : List Slot) → len ≡ length old → length new ≡ length old → take len (new ++ drop (length new) old) ≡ new
+written_back len new old is same = take_at new (drop (length new) old) len (same ∙ sym is)

@@ -1,5 +1,5 @@
 -- Pieces that come of sources.
-use Rattle.std.proofs.Common.{◌≡◌, ℕ, ◌<◌, List, length, get_or, Option, Some, slice_get, ◌∙◌, sym, ap, subst, refl}
+use Rattle.std.proofs.Common.{◌≡◌, ℕ, ◌<◌, List, [], ◌++◌, length, get_or, Option, Some, slice_get, Result, Ok, Err, IsErrOf, OnErr, OnOk, ◌∙◌, sym, ap, subst, refl}
 use Rattle.std.proofs.lemmas.Option.{slice_get-get_or}
 use Rattle.bao_check.specs.Beside.{bare_len, beside_text}
 use Rattle.bao_check.specs.declared.checked.Checked.{Checked}
@@ -8,7 +8,9 @@ use Rattle.bao_check.specs.Outline.{outline_claimed, outline_text}
 use Rattle.gather.specs.declared.form.Form.{Form}
 use Rattle.gather.specs.declared.form.Form.TheVariants.{Slices, Bare}
 use Rattle.gather.specs.Forms.{AreSlices, IsMadeBeside}
-use Rattle.gather.specs.Holders.{IsGiven, IsHanded}
+use Rattle.gather.specs.declared.holder.HolderFault.{HolderFault}
+use Rattle.gather.specs.declared.holder.HolderFault.TheVariants.{Device, Memory}
+use Rattle.gather.specs.Holders.{Appends, IsGiven, IsHanded}
 use Rattle.gather.specs.Lists.{IsFromSource, part_gives, source_gives}
 use Rattle.gather.specs.Places.{IsCutAt, IsPartAt}
 use Rattle.store_core.specs.declared.history.Piece.{Piece}
@@ -60,3 +62,24 @@ part_from wanted outline contents faultless sources place source piece start len
         is = refl;
       });
     })
+
+-- what a holder gave in place of what was there: nothing where its device failed
+given_by : (P : List ℕ → Type 0) (result : Result Unit HolderFault) (old new : List ℕ) → old ≡ [] → OnOk result (Appends P old new) → OnErr result (new ≡ old) → (IsErrOf result Device → P [])
+    → (IsErrOf result Memory → ⊥) → P new
+given_by P (Ok u) old new none appended same lost never = subst P (sym (appended.is ∙ ap (λ (xs : List ℕ). xs ++ appended.text) none)) appended.given
+given_by P (Err Device) old new none appended same lost never = subst P (sym (same ∙ none)) (lost refl)
+given_by P (Err Memory) old new none appended same lost never = absurd (never refl)
+
+-- so it is of a holder over a source of an encoding
+pub cut_by : {S : Type 0} (contents : S → Option (List ℕ)) (faultless : S → Type 0) (held source : S) (start len : ℕ) (result : Result Unit HolderFault) (old new : List ℕ) → held ≡ source → old ≡ []
+    → OnOk result (Appends (IsCutAt (contents held) (faultless held) start len) old new) → OnErr result (new ≡ old)
+    → (IsErrOf result Device → IsCutAt (contents held) (faultless held) start len []) → (IsErrOf result Memory → ⊥) → IsCutAt (contents source) (faultless source) start len new
+cut_by {S = S} contents faultless held source start len result old new is none appended same lost never =
+    subst (λ (s : S). IsCutAt (contents s) (faultless s) start len new) is (given_by (IsCutAt (contents held) (faultless held) start len) result old new none appended same lost never)
+
+-- or of a plain copy
+pub part_by : {S : Type 0} (contents : S → Option (List ℕ)) (faultless : S → Type 0) (held source : S) (start len : ℕ) (result : Result Unit HolderFault) (old new : List ℕ) → held ≡ source → old ≡ []
+    → OnOk result (Appends (IsPartAt (contents held) (faultless held) start len) old new) → OnErr result (new ≡ old)
+    → (IsErrOf result Device → IsPartAt (contents held) (faultless held) start len []) → (IsErrOf result Memory → ⊥) → IsPartAt (contents source) (faultless source) start len new
+part_by {S = S} contents faultless held source start len result old new is none appended same lost never =
+    subst (λ (s : S). IsPartAt (contents s) (faultless s) start len new) is (given_by (IsPartAt (contents held) (faultless held) start len) result old new none appended same lost never)

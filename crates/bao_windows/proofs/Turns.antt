@@ -1,5 +1,5 @@
 -- Sources that are asked in turn.
-use Rattle.std.proofs.Common.{◌≡◌, ℕ, ◌+◌, ◌-◌, ◌<◌, arith, inl, inr}
+use Rattle.std.proofs.Common.{◌≡◌, ℕ, ◌+◌, ◌-◌, ◌<◌, arith, inl, inr, subst}
 use Rattle.bao_windows.proofs.Bytes.{place_of}
 use Rattle.bao_windows.specs.Windows.{IsInTurn}
 
@@ -19,4 +19,14 @@ pub one_place : (first count turn a b : ℕ) → IsInTurn first count turn a →
 one_place first count turn a b one other = elim (place_of (first + turn) count) [
   | inl low ↦ omega (arith, one.up low, other.up low)
   | inr high ↦ omega (arith, one.over high, other.over high)
+]
+
+-- what is so of the sources whose turn was before, and of the one whose turn is now
+pub next_turn : (P : ℕ → Type 0) (first count now here : ℕ) → ((turn place : ℕ) → turn < now → IsInTurn first count turn place → P place) → IsInTurn first count now here → P here
+    → (turn place : ℕ) → turn < now + 1 → IsInTurn first count turn place → P place
+next_turn P first count now here before is it turn place less in_turn = elim (place_of turn now) [
+  | inl low ↦ before turn place low in_turn
+  | inr high ↦
+      let same : turn ≡ now = omega (arith, less, high) in
+      subst P (one_place first count now here place is (subst (λ (t : ℕ). IsInTurn first count t place) same in_turn)) it
 ]

@@ -1,5 +1,5 @@
 -- Parts of a blob that are written one after another.
-use Rattle.std.proofs.Common.{◌≡◌, ℕ, ◌+◌, ◌-◌, ◌^◌, ◌<◌, ◌≤◌, List, [], ◌++◌, length, take, take_at, IsErr, Result, Err, Option, ◌∙◌, sym, ap, subst, arith, refl, append_assoc, append-nil, length-append}
+use Rattle.std.proofs.Common.{◌≡◌, ℕ, ◌+◌, ◌-◌, ◌*◌, ◌^◌, ◌<◌, ◌≤◌, min, List, [], ◌++◌, length, take, take_at, IsErr, Result, Err, Option, ◌∙◌, sym, ap, subst, arith, refl, append_assoc, append-nil, length-append}
 use Rattle.std.proofs.KnownBytes.{Appends-kept, Appends-nil, Appends-trans}
 use Rattle.std.specs.Io.KnownBytes.{Appends}
 use Rattle.std.proofs.Math.Seq.{take-append-add}
@@ -13,7 +13,8 @@ use Rattle.b3tree.specs.Taken.{Holds}
 use Rattle.store_core.specs.declared.fixed.Fixed.{Fixed}
 use Rattle.store_core.specs.declared.history.Piece.{Piece}
 use Rattle.bao_windows.proofs.Bytes.{both_at, first_at, none_at}
-use Rattle.bao_windows.specs.Windows.{AreBytesAt}
+use Rattle.bao_windows.specs.declared.window.Slot.{Slot}
+use Rattle.bao_windows.specs.Windows.{AreBytesAt, AreOfWindow, window_bytes}
 use Rattle.bao_windows.specs.Written.{HasRoomFor, IsBegun, TookIn, WroteBeginning, WroteOf}
 
 pub nothing : (handed : Piece → Type 0) (fixed : Fixed) (at : ℕ) (out : Option (List ℕ)) (hasher : Hasher) → WroteOf handed fixed at 0 out out hasher hasher
@@ -79,10 +80,11 @@ pub never_long : (s done bytes rest all : List ℕ) → length s + length all < 
 never_long s done bytes rest all fits is long =
     omega (arith, fits, long, ap (λ (xs : List ℕ). length xs) is, length-append done (bytes ++ rest), length-append bytes rest, length-append s done)
 
--- a window that was written
-pub wrote_window : (handed : Piece → Type 0) (fixed : Fixed) (at len : ℕ) (bytes : List ℕ) (a b : Option (List ℕ)) (h i : Hasher) → length bytes ≡ len → AreBytesAt handed fixed at bytes → Appends a b bytes
-    → TookIn h i bytes → WroteOf handed fixed at len a b h i
-wrote_window handed fixed at len bytes a b h i size each wrote took = (bytes, size, record { each = each; wrote = wrote; took = took })
+-- a window that was put
+pub put_wrote : (handed : Piece → Type 0) (fixed : Fixed) (at total end : ℕ) (window : List Slot) (a b : Option (List ℕ)) (h i : Hasher) → end ≡ at + min (65536 * length window) (total - at)
+    → AreOfWindow handed fixed at total window → TookIn h i (window_bytes window) → Appends a b (window_bytes window) → WroteOf handed fixed at (end - at) a b h i
+put_wrote handed fixed at total end window a b h i is whole took wrote =
+    (window_bytes window, omega (arith, whole.size, is), record { each = whole.each; wrote = wrote; took = took })
 
 -- of a part of them a writer took a beginning
 pub part_written : (old mid new : Option (List ℕ)) (done bytes rest all : List ℕ) (fault : WriteFault) → all ≡ done ++ (bytes ++ rest) → Appends old mid done → WroteOnly mid new bytes fault

@@ -1,31 +1,78 @@
--- What sources don't have, and what comes of sources that have the slices of one blob.
-use Rattle.std.specs.Prelude.{◌≡◌, ◌⊎◌, ℕ, ◌+◌, ◌-◌, ◌%◌, ◌^◌, ◌<◌, min, List, length, IfSome, None, Option, Some, slice_get}
+-- What sources don't have.
+use Rattle.std.specs.Prelude.{◌≡◌, ◌⊎◌, ℕ, ◌+◌, ◌-◌, ◌*◌, ◌/◌, ◌%◌, ◌^◌, ◌<◌, min, List, length, IfErr, IfSome, IsErrOf, None, OnOk, Option, Result, Some, slice_get}
 use Rattle.b3tree.specs.Valid.{AreBytes}
-use Rattle.bao_check.specs.Accepted.{IsAccepted, slice_nodes}
+use Rattle.bao_check.specs.Accepted.{IsAccepted}
+use Rattle.bao_check.specs.Bare.{AreChunksOf, bare_part}
+use Rattle.bao_check.specs.Beside.{bare_len, beside_text}
+use Rattle.bao_check.specs.declared.outline.Outline.{Outline}
+use Rattle.bao_check.specs.Outline.{outline_claimed, outline_mode, outline_root, outline_text}
+use Rattle.bao_text.specs.Choice.{chunk_count}
+use Rattle.gather.specs.declared.fault.GatherFault.{GatherFault}
 use Rattle.gather.specs.declared.fault.GatherFault.TheVariants.{Starved, Unfinished}
+use Rattle.gather.specs.declared.form.Form.{Form}
+use Rattle.gather.specs.declared.form.Form.TheVariants.{Slices, Bare}
 use Rattle.gather.specs.declared.grain.Grain.TheVariants.{Chunk as ByChunk}
-use Rattle.gather.specs.Forms.{AreSlices}
-use Rattle.gather.specs.Lists.{source_gives}
+use Rattle.gather.specs.Lists.{part_gives, source_gives}
 use Rattle.store_core.specs.declared.history.Piece.{Piece}
-use Rattle.store_core.specs.Pieces.{EndsBlob}
+use Rattle.store_core.specs.Pieces.{EndsBlob, nodes_of}
 use Rattle.bao_windows.specs.declared.wanted.Wanted.{Wanted}
 use Rattle.bao_windows.specs.declared.window.Slot.{Slot}
-use Rattle.bao_windows.specs.Windows.{AreOfSlot, IsFrom, LacksChunk, fixed_for}
+use Rattle.bao_windows.specs.Windows.{AreOfSlot, AreOfWindow, IsFrom, LacksChunk, fixed_for}
 
 -- a text as a slice
 abbrev pub slice_piece : ℕ → ℕ → List ℕ → Piece
 slice_piece start len text = record { base = 0; start = start; len = len; text = text }
 
--- the text is accepted as this slice, under the root in the mode
-abbrev pub IsAcceptedAs : Wanted → ℕ → ℕ → List ℕ → Type 0
-IsAcceptedAs wanted start len text = IsAccepted wanted.mode wanted.root.0 text (slice_nodes text start len)
+-- the piece is accepted as its slice, under the root in the mode
+abbrev pub IsAcceptedAs : Wanted → Piece → Type 0
+IsAcceptedAs wanted piece = IsAccepted wanted.mode wanted.root.0 piece.text (nodes_of piece)
 
--- What the source at this place gave as the slice of `span` bytes from a place on isn't accepted, or lacks a chunk of those that `len` bytes
--- from there begin in. Of plain copies nothing is said.
+-- the outline was accepted under the root in the mode
+abbrev pub IsOfRoot : Wanted → Outline → Type 0
+IsOfRoot wanted outline = (outline_mode outline ≡ wanted.mode) × (outline_root outline ≡ wanted.root.0)
+
+-- so it was, where plain copies are given
+abbrev pub IsFitting : Wanted → Form → Type 0
+IsFitting wanted Slices = Unit {0}
+IsFitting wanted (Bare outline) = IsOfRoot wanted outline.now
+
+-- the chunks that `len` bytes from a place on begin in are some of the length that it claims
+abbrev pub IsWithin : Form → ℕ → ℕ → Type 0
+IsWithin Slices at len = Unit {0}
+IsWithin (Bare outline) at len = AreChunksOf outline.now (at / 1024) (chunk_count len)
+
+-- How many bytes the slice has that such a part is taken from: as many as are asked for, or, of a plain copy, as many as these chunks
+-- may have.
+abbrev pub span_in : Form → ℕ → ℕ → ℕ
+span_in Slices len span = span
+span_in (Bare outline) len span = bare_part (chunk_count len)
+
+-- what a source gives for it: a slice, or a part of a plain copy
+abbrev pub gives_in : {S : Type 0} → Form → (S → Option (List ℕ)) → (S → Type 0) → S → ℕ → ℕ → List ℕ → Type 0
+gives_in Slices contents faultless source at span text = source_gives contents faultless source at span text
+gives_in (Bare outline) contents faultless source at span text = part_gives contents faultless source at (bare_len (outline_claimed outline.now) at span) text
+
+-- the slice that this is, or that the outline's parents and this part make
+abbrev pub slice_in : Form → ℕ → ℕ → List ℕ → Piece
+slice_in Slices at span text = slice_piece at span text
+slice_in (Bare outline) at span text = slice_piece at span (beside_text (outline_text outline.now) at span text)
+
+-- A slice isn't accepted, or lacks a chunk of those that `len` bytes from a place on begin in.
+abbrev pub HasNot : Wanted → Piece → ℕ → ℕ → Type 0
+HasNot wanted piece at len = (IsAcceptedAs wanted piece → ⊥) ⊎ (AreBytes piece.text × LacksChunk piece at len)
+
+-- What a source gave for a part isn't accepted, or lacks a chunk of it.
+abbrev pub HasRefused : {S : Type 0} → Form → (S → Option (List ℕ)) → (S → Type 0) → Wanted → S → ℕ → ℕ → ℕ → Type 0
+HasRefused form contents faultless wanted source at len span =
+    (text : List ℕ) × AreBytes text × gives_in form contents faultless source at (span_in form len span) text
+    × HasNot wanted (slice_in form at (span_in form len span) text) at len
+
+-- What the source at this place gave for `len` bytes from a place on, as the slice of `span` bytes from there on, isn't accepted, or lacks a
+-- chunk that they begin in. Of plain copies this is so where the outline is of the root and has these chunks.
 abbrev pub Refuses : {S : Type 0} → (S → Option (List ℕ)) → (S → Type 0) → Wanted → List S → ℕ → ℕ → ℕ → ℕ → Type 0
 Refuses contents faultless wanted sources at len span place =
-    AreSlices wanted.form → (source : _) → slice_get sources place ≡ Some source
-    → (text : List ℕ) × AreBytes text × source_gives contents faultless source at span text × ((IsAcceptedAs wanted at span text → ⊥) ⊎ LacksChunk (slice_piece at span text) at len)
+    IsFitting wanted wanted.form → IsWithin wanted.form at len → (source : _) → slice_get sources place ≡ Some source
+    → HasRefused wanted.form contents faultless wanted source at len span
 
 -- what each of them gave
 abbrev pub AllRefuse : {S : Type 0} → (S → Option (List ℕ)) → (S → Type 0) → Wanted → List S → ℕ → ℕ → ℕ → Type 0
@@ -50,13 +97,26 @@ pub record IsMissing {S : Type 0} (contents : S → Option (List ℕ)) (faultles
   pub below : at < total
   pub lacks : LacksGroup contents faultless wanted sources at (min 65536 (total - at))
 
--- What the source at this place gave as the slice of the last byte isn't accepted, or hasn't the last chunk of the length that it claims. Of
--- plain copies nothing is said.
+-- The slice that the length is asked for by: that of the last byte, or the last chunk of the length that the outline claims.
+abbrev pub end_start : Form → ℕ
+end_start Slices = 2 ^ 64 - 1
+end_start (Bare outline) = 1024 * (chunk_count (outline_claimed outline.now) - 1)
+
+abbrev pub end_span : Form → ℕ
+end_span Slices = 1
+end_span (Bare outline) = bare_part 1
+
+-- What a source gave for the length isn't accepted, or hasn't the last chunk of the length that it claims.
+abbrev pub HasRefusedEnd : {S : Type 0} → Form → (S → Option (List ℕ)) → (S → Type 0) → Wanted → S → Type 0
+HasRefusedEnd form contents faultless wanted source =
+    (text : List ℕ) × gives_in form contents faultless source (end_start form) (end_span form) text
+    × ((IsAcceptedAs wanted (slice_in form (end_start form) (end_span form) text) → ⊥)
+    ⊎ (EndsBlob (slice_in form (end_start form) (end_span form) text) → ⊥))
+
+-- So it is of the source at this place. Of plain copies this is so where the outline is of the root.
 abbrev pub RefusesEnd : {S : Type 0} → (S → Option (List ℕ)) → (S → Type 0) → Wanted → List S → ℕ → Type 0
 RefusesEnd contents faultless wanted sources place =
-    AreSlices wanted.form → (source : _) → slice_get sources place ≡ Some source
-    → (text : List ℕ) × source_gives contents faultless source (2 ^ 64 - 1) 1 text
-    × ((IsAcceptedAs wanted (2 ^ 64 - 1) 1 text → ⊥) ⊎ (EndsBlob (slice_piece (2 ^ 64 - 1) 1 text) → ⊥))
+    IsFitting wanted wanted.form → (source : _) → slice_get sources place ≡ Some source → HasRefusedEnd wanted.form contents faultless wanted source
 
 -- no source has the last chunk
 abbrev pub HasNoEnd : {S : Type 0} → (S → Option (List ℕ)) → (S → Type 0) → Wanted → List S → Type 0
@@ -67,3 +127,10 @@ pub record IsTried {S : Type 0} (contents : S → Option (List ℕ)) (faultless 
   pub filled : slot.fault ≡ None → AreOfSlot (IsFrom wanted contents faultless sources) (fixed_for wanted) start total number slot.bytes.items
   pub fault : IfSome slot.fault (λ fault. (fault ≡ Unfinished) ⊎ (fault ≡ Starved))
   pub missing : slot.fault ≡ Some Unfinished → IsMissing contents faultless wanted sources total
+
+-- A window was to be filled from a place on: it has the bytes of the blob there, or no source had some of them, or there was no memory.
+pub record IsFilled {S : Type 0} (contents : S → Option (List ℕ)) (faultless : S → Type 0) (wanted : Wanted) (sources : List S) (start total : ℕ) (old new : List Slot) (result : Result Unit GatherFault) : Type 0 where
+  pub same : length new ≡ length old
+  pub whole : OnOk result (AreOfWindow (IsFrom wanted contents faultless sources) (fixed_for wanted) start total new)
+  pub fault : IfErr result (λ fault. (fault ≡ Unfinished) ⊎ (fault ≡ Starved))
+  pub missing : IsErrOf result Unfinished → IsMissing contents faultless wanted sources total

@@ -1,3 +1,5 @@
 pub mod Windows
 pub mod Available
+pub mod Copies
 pub mod Written
+pub mod Laws

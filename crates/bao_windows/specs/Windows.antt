@@ -93,6 +93,11 @@ pub record AreOfSlot (handed : Piece → Type 0) (fixed : Fixed) (start total nu
   pub size : length bytes ≡ slot_len start total number
   pub each : AreBytesAt handed fixed (start + 65536 * number) bytes
 
+-- the bytes of a window that begins at a place are those of a blob of `total` bytes there, as far as it has slots and the blob goes
+pub record AreOfWindow (handed : Piece → Type 0) (fixed : Fixed) (start total : ℕ) (window : List Slot) : Type 0 where
+  pub size : length (window_bytes window) ≡ min (65536 * length window) (total - start)
+  pub each : AreBytesAt handed fixed start (window_bytes window)
+
 -- the source that has its turn, where so many are asked in a round that begins with the first
 pub record IsInTurn (first count turn place : ℕ) : Type 0 where
   pub up : first + turn < count → place ≡ first + turn

@@ -1,5 +1,5 @@
 -- What is written of a blob of any length, window by window.
-use Rattle.std.specs.Prelude.{◌≡◌, ◌⊎◌, ℕ, ◌+◌, ◌^◌, ◌<◌, ◌≤◌, List, ◌++◌, length, take, MatchResult, Option, Result}
+use Rattle.std.specs.Prelude.{◌≡◌, ◌⊎◌, ℕ, ◌+◌, ◌^◌, ◌<◌, ◌≤◌, List, ◌++◌, length, take, IfErr, MatchResult, OnOk, Option, Result}
 use Rattle.std.specs.Io.KnownBytes.{Appends}
 use Rattle.b3tree.specs.declared.hasher.Hasher.{Hasher}
 use Rattle.b3tree.specs.declared.mode.Mode.{Mode}
@@ -45,6 +45,13 @@ IsBegun handed fixed at old new = (bytes : List ℕ) × AreBytesAt handed fixed 
 -- a beginning of these bytes was written
 abbrev pub WroteBeginning : Option (List ℕ) → Option (List ℕ) → List ℕ → Type 0
 WroteBeginning old new bytes = (count : ℕ) × (count ≤ length bytes) × Appends old new (take count bytes)
+
+-- The bytes of a window were to be taken into the hash and written: they were, or a beginning was written, since writing failed.
+pub record IsPut (bytes : List ℕ) (old new : Option (List ℕ)) (before after : Hasher) (result : Result Unit WindowsFault) : Type 0 where
+  pub took : TookIn before after bytes
+  pub text : OnOk result (Appends old new bytes)
+  pub begun : WroteBeginning old new bytes
+  pub fault : IfErr result (λ fault. fault ≡ Write)
 
 -- a blob of `count` bytes with the root, and of no more chunks than these, was written; it is each blob with the root, or a collision is exhibited
 abbrev pub WroteBlob : (Piece → Type 0) → Wanted → ℕ → Option (List ℕ) → Option (List ℕ) → ℕ → Type 0

@@ -1,21 +1,23 @@
-ghost use Rattle.std.specs.Prelude.{◌≡◌, ℕ, ◌+◌, ◌-◌, ◌*◌, ◌%◌, ◌^◌, ◌<◌, ◌≤◌, ◌⊎◌, List, length, min, IfErr, IfOk, IsErrOf, MatchResult, OnOk, Some, slice_get};
+ghost use Rattle.std.specs.Prelude.{◌≡◌, ℕ, ◌+◌, ◌-◌, ◌*◌, ◌%◌, ◌^◌, ◌<◌, ◌≤◌, ◌⊎◌, List, length, vec_len, min, IfErr, IfOk, IsErrOf, MatchResult, OnOk, Some, slice_get};
 ghost use Rattle.std.specs.Io.KnownBytes.{Keeps};
+ghost use Rattle.std.specs.Thread.{IsSync};
 ghost use Rattle.bao_text.specs.Choice.{chunk_count};
 ghost use Rattle.bao_text.specs.Texts.{combined_text};
 ghost use Rattle.gather.specs.Available.{HaveSlices};
 ghost use Rattle.gather.specs.declared.fault.GatherFault.TheVariants as GatherFault;
-ghost use Rattle.gather.specs.Forms.{AreSlices};
+ghost use Rattle.gather.specs.Forms.{AreSlices, IsLengthOf};
 ghost use Rattle.gather.specs.Large.{HasCollision, IsOfNone};
 ghost use Rattle.gather.specs.Lists.{source_gives};
 ghost use Rattle.store_core.specs.Laws.{IsBlob};
 ghost use Rattle.bao_windows.specs.declared.fault.WindowsFault.TheVariants as WindowsFault;
-ghost use Rattle.bao_windows.specs.Available.{HasNoEnd, IsMissing};
-ghost use Rattle.bao_windows.specs.Windows.{IsFrom, IsLengthOfEach, fixed_for};
-ghost use Rattle.bao_windows.specs.Written.{AreTooLong, HasRoomFor, IsBegun, IsOfWindow, IsOfWriting, IsWrittenOut, WroteAll, WroteBlob, WroteOf};
+ghost use Rattle.bao_windows.specs.Available.{HasNoEnd, IsFilled, IsMissing};
+ghost use Rattle.bao_windows.specs.Copies.{HaveCopies, IsOwn};
+ghost use Rattle.bao_windows.specs.Windows.{AreOfWindow, IsFrom, IsLengthOfEach, fixed_for, window_bytes};
+ghost use Rattle.bao_windows.specs.Written.{AreTooLong, HasRoomFor, IsBegun, IsOfWindow, IsOfWriting, IsPut, IsWrittenOut, WroteAll, WroteBlob, WroteOf};
 
 use crate::fault::WindowsFault;
 use crate::length::certified_length;
-use crate::output::{take_in, write_slots};
+use crate::output::put_window;
 use crate::wanted::Wanted;
 use crate::window::{Slot, fill_window, new_window};
 use b3tree::Hasher;
@@ -25,9 +27,11 @@ use bao_text::chunk_count;
 use gather::GatherFault;
 use std::alloc::Global;
 use std::io::Write;
-use std::thread::Threads;
+use std::mem::swap;
+use std::thread::{Threads, join_mut};
 
-// Gathers the window that begins with byte `at`, takes it into the hash and writes it, once all of it is there, and answers where it ends.
+// Takes a window that is whole, and begins with byte `at`, into the hash and writes it, while another thread fills the next one, where the
+// blob goes on, and answers where it ends.
 fn write_window<R: Threads + Sync, S: Source + Sync, W: Write>(
     rt: &R,
     alloc: Global,
@@ -36,33 +40,53 @@ fn write_window<R: Threads + Sync, S: Source + Sync, W: Write>(
     sources: &[S],
     total: u64,
     at: u64,
-    window: &mut [Slot],
+    window: &[Slot],
+    next: &mut [Slot],
     hasher: &mut Hasher,
     out: &mut W,
 ) -> Result<u64, WindowsFault>
     requires aligned { at % 65536 ≡ 0 }
     requires below { at < total }
     requires room { HasRoomFor hasher.old (total - at) }
-    ensures next { IfOk result (λ next. next ≡ at + min (65536 * length window.old) (total - at)) }
-    ensures wrote { IfOk result (λ next. WroteOf (IsFrom wanted.now S.contents S.faultless sources.now) (fixed_for wanted.now) at (next - at) (W.contents out.old) (W.contents out.new) hasher.old hasher.new) }
+    requires whole { AreOfWindow (IsFrom wanted.now S.contents S.faultless sources.now) (fixed_for wanted.now) at total window.now }
+    ensures next { IfOk result (λ end. end ≡ at + min (65536 * length window.now) (total - at)) }
+    ensures whole { IfOk result (λ end. end < total → AreOfWindow (IsFrom wanted.now S.contents S.faultless sources.now) (fixed_for wanted.now) end total next.new) }
+    ensures wrote { IfOk result (λ end. WroteOf (IsFrom wanted.now S.contents S.faultless sources.now) (fixed_for wanted.now) at (end - at) (W.contents out.old) (W.contents out.new) hasher.old hasher.new) }
     ensures begun { IsBegun (IsFrom wanted.now S.contents S.faultless sources.now) (fixed_for wanted.now) at (W.contents out.old) (W.contents out.new) }
     ensures fault { IfErr result IsOfWindow }
     ensures missing { IsErrOf result (WindowsFault.Gather GatherFault.Unfinished) → IsMissing S.contents S.faultless wanted.now sources.now total }
 {
-    match fill_window(rt, alloc, wanted, workers, sources, at, total, window) {
-        Ok(()) => {}
-        Err(fault) => return Err(WindowsFault::Gather(fault)),
+    let count = GROUP_BYTES.saturating_mul(window.len() as u64);
+    let end = at + count.min(total - at);
+    if end >= total {
+        return match put_window(window, hasher, out) {
+            Ok(()) => Ok(end),
+            Err(fault) => Err(fault),
+        };
     }
-    take_in(window, hasher);
-    match write_slots(window, out) {
+    let (filled, put) = join_mut(
+        rt,
+        &mut || -> Result<(), GatherFault>
+            requires { IsSync R.row × IsSync S.row × (end % 65536 ≡ 0) × (end ≤ total) }
+            ensures { IsFilled S.contents S.faultless wanted.entry.now sources.entry.now end total next.entry.now next.exit.now result }
+        { fill_window(rt, alloc, wanted, workers, sources, end, total, next) },
+        &mut || -> Result<(), WindowsFault>
+            requires { HasRoomFor hasher.now (length (window_bytes window.now)) }
+            ensures { IsPut (window_bytes window.entry.now) (W.contents out.entry.now) (W.contents out.exit.now) hasher.entry.now hasher.exit.now result }
+        { put_window(window, hasher, out) },
+    );
+    match put {
         Ok(()) => {}
         Err(fault) => return Err(fault),
     }
-    let count = GROUP_BYTES.saturating_mul(window.len() as u64);
-    Ok(at + count.min(total - at))
+    match filled {
+        Ok(()) => Ok(end),
+        Err(fault) => Err(WindowsFault::Gather(fault)),
+    }
 }
 
-// Writes all windows of a blob of `total` bytes in their order, and then compares the hash of what was written with the root.
+// Writes all windows of a blob of `total` bytes in their order, by two rooms for a window in turn, and then compares the hash of what was
+// written with the root.
 fn write_all<R: Threads + Sync, S: Source + Sync, W: Write>(
     rt: &R,
     alloc: Global,
@@ -70,10 +94,12 @@ fn write_all<R: Threads + Sync, S: Source + Sync, W: Write>(
     workers: u32,
     sources: &[S],
     total: u64,
-    window: &mut [Slot],
+    mut window: Vec<Slot>,
+    mut next: Vec<Slot>,
     out: &mut W,
 ) -> Result<(), WindowsFault>
-    requires some { 0 < length window.old }
+    requires some { 0 < vec_len window }
+    requires more { 0 < vec_len next }
     ensures blob { OnOk result (WroteAll (IsFrom wanted.now S.contents S.faultless sources.now) wanted.now total (W.contents out.old) (W.contents out.new)) }
     ensures begun { IsBegun (IsFrom wanted.now S.contents S.faultless sources.now) (fixed_for wanted.now) 0 (W.contents out.old) (W.contents out.new) }
     ensures none { IsErrOf result (WindowsFault.Gather GatherFault.NotTheRoot) → IsLengthOfEach (IsFrom wanted.now S.contents S.faultless sources.now) (fixed_for wanted.now) total
@@ -81,6 +107,19 @@ fn write_all<R: Threads + Sync, S: Source + Sync, W: Write>(
     ensures missing { IsErrOf result (WindowsFault.Gather GatherFault.Unfinished) → IsMissing S.contents S.faultless wanted.now sources.now total }
     ensures fault { IfErr result IsOfWriting }
 {
+    match fill_window(
+        rt,
+        alloc,
+        wanted,
+        workers,
+        sources,
+        0,
+        total,
+        window.as_mut_slice(),
+    ) {
+        Ok(()) => {}
+        Err(fault) => return Err(WindowsFault::Gather(fault)),
+    }
     let mut hasher = Hasher::new(&wanted.mode);
     let mut at: u64 = 0;
     'windows: while at < total {
@@ -92,11 +131,15 @@ fn write_all<R: Threads + Sync, S: Source + Sync, W: Write>(
             sources,
             total,
             at,
-            window,
+            window.as_slice(),
+            next.as_mut_slice(),
             &mut hasher,
             out,
         ) {
-            Ok(next) => at = next,
+            Ok(end) => {
+                swap(&mut window, &mut next);
+                at = end;
+            }
             Err(fault) => return Err(fault),
         }
     }
@@ -104,53 +147,6 @@ fn write_all<R: Threads + Sync, S: Source + Sync, W: Write>(
         return Err(WindowsFault::Gather(GatherFault::NotTheRoot));
     }
     Ok(())
-}
-
-// As `write_windows`, for every form of sources.
-fn write_certified<R: AllocGlobal + Threads + Sync, S: Source + Sync, W: Write>(
-    rt: &R,
-    wanted: &Wanted<'_>,
-    workers: u32,
-    capacity: u64,
-    sources: &[S],
-    out: &mut W,
-) -> Result<u64, WindowsFault>
-    ensures blob { IfOk result (WroteBlob (IsFrom wanted.now S.contents S.faultless sources.now) wanted.now capacity (W.contents out.old) (W.contents out.new)) }
-    ensures begun { IsBegun (IsFrom wanted.now S.contents S.faultless sources.now) (fixed_for wanted.now) 0 (W.contents out.old) (W.contents out.new) }
-    ensures too_long { IsErrOf result (WindowsFault.Gather GatherFault.TooLarge) → AreTooLong (IsFrom wanted.now S.contents S.faultless sources.now) (fixed_for wanted.now) capacity }
-    ensures kept { IsErrOf result (WindowsFault.Gather GatherFault.TooLarge) → Keeps (W.contents out.old) (W.contents out.new) }
-    ensures none { IsErrOf result (WindowsFault.Gather GatherFault.NotTheRoot) → IsOfNone (IsFrom wanted.now S.contents S.faultless sources.now) (fixed_for wanted.now) }
-    ensures missing { IsErrOf result (WindowsFault.Gather GatherFault.Unfinished) → HasNoEnd S.contents S.faultless wanted.now sources.now
-        ⊎ ((total : ℕ) × IsLengthOfEach (IsFrom wanted.now S.contents S.faultless sources.now) (fixed_for wanted.now) total × IsMissing S.contents S.faultless wanted.now sources.now total) }
-{
-    let alloc = rt.alloc();
-    let total = match certified_length(alloc, wanted, sources) {
-        Ok(total) => total,
-        Err(missing) => return Err(WindowsFault::Gather(missing)),
-    };
-    if chunk_count(total) > capacity {
-        return Err(WindowsFault::Gather(GatherFault::TooLarge));
-    }
-    let Ok(mut window) = new_window(alloc, total) else {
-        return Err(WindowsFault::Gather(GatherFault::Memory));
-    };
-    match write_all(
-        rt,
-        alloc,
-        wanted,
-        workers,
-        sources,
-        total,
-        window.as_mut_slice(),
-        out,
-    ) {
-        Ok(()) => {}
-        Err(fault) => return Err(fault),
-    }
-    match out.flush() {
-        Ok(()) => Ok(total),
-        Err(_) => Err(WindowsFault::Write),
-    }
 }
 
 /// Gathers the blob with this root, of any length, out of sources that are read by position, as files are, each from a holder that nobody
@@ -161,12 +157,13 @@ fn write_certified<R: AllocGlobal + Threads + Sync, S: Source + Sync, W: Write>(
 /// in turn, of each at most once, until one has all of its chunks; with `Grain::Chunk` each chunk of a group that none has whole is then
 /// asked for by itself. Beside an outboard encoding sources are asked for as many bytes as the chunks have. A source of which a read
 /// answers a fault has nothing then. A byte is taken only of a slice that is accepted under the root in the mode. A window is written once
-/// all of it is there, so that the memory is that of one window, and of what the workers fetch, whatever the blob's length.
+/// all of it is there, by the thread that called, while the next one is filled. So the memory is that of two windows, and of what the
+/// workers fetch, whatever the blob's length.
 ///
-/// 901 `Unfinished` where no source has the last chunk, or some group, nor, where chunks are asked for, some chunk of it; 805 `TooLarge` where
-/// the blob has more chunks than `capacity`, before a byte is written; 902 `NotTheRoot` where the hash of what was written isn't the root;
-/// 903 `Memory` where there is none for a window, and 911 `Starved` where there is none for what a source gives. `Write` where writing
-/// failed.
+/// 901 `Unfinished` where no source has the last chunk, or some group, nor, where chunks are asked for, some chunk of it, or where the
+/// outboard encoding that plain copies are checked beside is of another root or mode; 805 `TooLarge` where the blob has more chunks than
+/// `capacity`, before a byte is written; 902 `NotTheRoot` where the hash of what was written isn't the root; 903 `Memory` where there is none
+/// for a window, and 911 `Starved` where there is none for what a source gives. `Write` where writing failed.
 ///
 /// Whatever is answered, what was written are bytes of each blob with the root, from the first on, or a collision is exhibited, two different
 /// inputs with one chaining value, one of the blob's and one of a slice's that is accepted under the root and came from one of the sources.
@@ -176,6 +173,11 @@ fn write_certified<R: AllocGlobal + Threads + Sync, S: Source + Sync, W: Write>(
 /// `capacity` chunks, that blob is written, or there was no memory, or writing failed, or a collision is exhibited. Nor need any source be
 /// whole: it is enough that what one gives as the slice of the last byte is known to be the blob's, and for each group of the
 /// blob's chunks what one gives as the group's slice, or with `Grain::Chunk` for each chunk as the chunk's.
+///
+/// So it is of plain copies beside the blob's own outboard encoding: one that never fails and whose bytes are the blob is enough. So it is
+/// that what one gives as the last chunk's bytes is known to be the blob's, and for each group, or with `Grain::Chunk` each chunk, what one
+/// gives as its bytes. An outboard encoding that is accepted under the root and claims the blob's length is its own, or a collision is
+/// exhibited ([`outline_binds`](crate::outline_binds)).
 pub fn write_windows<R: AllocGlobal + Threads + Sync, S: Source + Sync, W: Write>(
     rt: &R,
     wanted: &Wanted<'_>,
@@ -190,15 +192,45 @@ pub fn write_windows<R: AllocGlobal + Threads + Sync, S: Source + Sync, W: Write
     ensures kept { IsErrOf result (WindowsFault.Gather GatherFault.TooLarge) → Keeps (W.contents out.old) (W.contents out.new) }
     ensures none { IsErrOf result (WindowsFault.Gather GatherFault.NotTheRoot) → IsOfNone (IsFrom wanted.now S.contents S.faultless sources.now) (fixed_for wanted.now) }
     ensures missing { IsErrOf result (WindowsFault.Gather GatherFault.Unfinished) → HasNoEnd S.contents S.faultless wanted.now sources.now
-        ⊎ ((total : ℕ) × IsLengthOfEach (IsFrom wanted.now S.contents S.faultless sources.now) (fixed_for wanted.now) total × IsMissing S.contents S.faultless wanted.now sources.now total) }
+        ⊎ ((total : ℕ) × IsLengthOf wanted.now.form total × IsLengthOfEach (IsFrom wanted.now S.contents S.faultless sources.now) (fixed_for wanted.now) total
+        × IsMissing S.contents S.faultless wanted.now sources.now total) }
     ensures covered { AreSlices wanted.now.form → (blob : List ℕ) → IsBlob (fixed_for wanted.now) blob → length blob < 2 ^ 64 → chunk_count (length blob) ≤ capacity
         → HaveSlices wanted.now.grain (source_gives S.contents S.faultless) wanted.now.mode blob sources.now
         → IsWrittenOut blob (W.contents out.old) (W.contents out.new) result ⊎ HasCollision (IsFrom wanted.now S.contents S.faultless sources.now) (fixed_for wanted.now) blob }
     ensures available { AreSlices wanted.now.form → (blob : List ℕ) (i : ℕ) (source : S) → IsBlob (fixed_for wanted.now) blob → length (combined_text wanted.now.mode blob) < 2 ^ 64
         → chunk_count (length blob) ≤ capacity → slice_get sources.now i ≡ Some source → S.contents source ≡ Some (combined_text wanted.now.mode blob) → S.faultless source
         → IsWrittenOut blob (W.contents out.old) (W.contents out.new) result ⊎ HasCollision (IsFrom wanted.now S.contents S.faultless sources.now) (fixed_for wanted.now) blob }
+    ensures beside { (blob : List ℕ) → IsOwn wanted.now wanted.now.form blob → IsBlob (fixed_for wanted.now) blob → length blob < 2 ^ 64 → chunk_count (length blob) ≤ capacity
+        → HaveCopies wanted.now.grain S.contents S.faultless blob sources.now
+        → IsWrittenOut blob (W.contents out.old) (W.contents out.new) result ⊎ HasCollision (IsFrom wanted.now S.contents S.faultless sources.now) (fixed_for wanted.now) blob }
+    ensures copied { (blob : List ℕ) (i : ℕ) (source : S) → IsOwn wanted.now wanted.now.form blob → IsBlob (fixed_for wanted.now) blob → length blob < 2 ^ 64
+        → chunk_count (length blob) ≤ capacity → slice_get sources.now i ≡ Some source → S.contents source ≡ Some blob → S.faultless source
+        → IsWrittenOut blob (W.contents out.old) (W.contents out.new) result ⊎ HasCollision (IsFrom wanted.now S.contents S.faultless sources.now) (fixed_for wanted.now) blob }
 {
     // For the prover alone: the flags of a mode are apart from the tree's.
     wanted.mode.is_keyed();
-    write_certified(rt, wanted, workers, capacity, sources, out)
+    let alloc = rt.alloc();
+    let total = match certified_length(alloc, wanted, sources) {
+        Ok(total) => total,
+        Err(missing) => return Err(WindowsFault::Gather(missing)),
+    };
+    if chunk_count(total) > capacity {
+        return Err(WindowsFault::Gather(GatherFault::TooLarge));
+    }
+    let Ok(window) = new_window(alloc, total) else {
+        return Err(WindowsFault::Gather(GatherFault::Memory));
+    };
+    let Ok(next) = new_window(alloc, total) else {
+        return Err(WindowsFault::Gather(GatherFault::Memory));
+    };
+    match write_all(
+        rt, alloc, wanted, workers, sources, total, window, next, out,
+    ) {
+        Ok(()) => {}
+        Err(fault) => return Err(fault),
+    }
+    match out.flush() {
+        Ok(()) => Ok(total),
+        Err(_) => Err(WindowsFault::Write),
+    }
 }

@@ -1,16 +1,17 @@
 ghost use Rattle.std.specs.Prelude.{◌≡◌, ◌⊎◌, ◌<◌, length, None, IfErr, IfOk, IfSome, IsErrOf};
 ghost use Rattle.gather.specs.declared.fault.GatherFault.TheVariants.{Starved, Unfinished};
-ghost use Rattle.gather.specs.Forms.{AreSlices};
+ghost use Rattle.bao_check.specs.Outline.{outline_claimed};
+ghost use Rattle.gather.specs.Forms.{AreSlices, IsLengthOf};
 ghost use Rattle.bao_windows.specs.Available.{HasNoEnd, RefusesEnd};
 ghost use Rattle.bao_windows.specs.Windows.{IsBeside, IsFrom, IsLengthOfEach, fixed_for};
 
 use crate::appending::CHUNK_BYTES;
-use crate::fetching::{fetch_copy, fetch_slice};
+use crate::fetching::pass_over;
 use crate::wanted::Wanted;
 use bao_check::{Outline, check_bare, check_slice};
 use bao_read::Source;
 use bao_text::chunk_count;
-use gather::{Form, GatherFault};
+use gather::{EncodedAt, Form, GatherFault, Holder, PlainAt};
 use std::alloc::{AllocError, Global};
 
 // The length that the slice of the last byte certifies, which this source has.
@@ -26,7 +27,9 @@ fn length_by_slice<S: Source>(
     ensures each { IfOk result (λ found. IfSome found (λ l. IsLengthOfEach (IsFrom wanted.now S.contents S.faultless sources.now) (fixed_for wanted.now) l)) }
     ensures refused { IfOk result (λ found. found ≡ None → RefusesEnd S.contents S.faultless wanted.now sources.now place) }
 {
-    fetch_slice(&sources[place], u64::MAX, 1, room)?;
+    room.clear();
+    let mut holder = EncodedAt::new(&sources[place]);
+    pass_over(holder.fetch(u64::MAX, 1, room))?;
     match check_slice(
         alloc,
         &wanted.mode,
@@ -57,7 +60,9 @@ fn length_by_copy<S: Source>(
 ) -> Result<Option<u64>, AllocError>
     requires form { IsBeside wanted.now.form outline.now }
     requires place { place < length sources.now }
-    ensures { IfOk result (λ found. IfSome found (λ l. IsLengthOfEach (IsFrom wanted.now S.contents S.faultless sources.now) (fixed_for wanted.now) l)) }
+    ensures each { IfOk result (λ found. IfSome found (λ l. IsLengthOfEach (IsFrom wanted.now S.contents S.faultless sources.now) (fixed_for wanted.now) l)) }
+    ensures claims { IfOk result (λ found. IfSome found (λ l. l ≡ outline_claimed outline.now)) }
+    ensures refused { IfOk result (λ found. found ≡ None → RefusesEnd S.contents S.faultless wanted.now sources.now place) }
 {
     if !wanted.fixed().is_of(&outline.root(), &outline.mode()) {
         return Ok(None);
@@ -65,7 +70,9 @@ fn length_by_copy<S: Source>(
     let total = outline.claimed();
     let last = chunk_count(total) - 1;
     let at = CHUNK_BYTES * last;
-    fetch_copy(&sources[place], at, total - at, room)?;
+    room.clear();
+    let mut holder = PlainAt::new(&sources[place]);
+    pass_over(holder.fetch(at, total - at, room))?;
     match check_bare(outline, last, 1, room.as_slice()) {
         Ok(piece) => {
             // For the prover alone: an accepted piece's encoding is of bytes.
@@ -89,6 +96,7 @@ fn length_from<S: Source>(
 ) -> Result<Option<u64>, AllocError>
     requires { place < length sources.now }
     ensures each { IfOk result (λ found. IfSome found (λ l. IsLengthOfEach (IsFrom wanted.now S.contents S.faultless sources.now) (fixed_for wanted.now) l)) }
+    ensures of { IfOk result (λ found. IfSome found (λ l. IsLengthOf wanted.now.form l)) }
     ensures refused { IfOk result (λ found. found ≡ None → RefusesEnd S.contents S.faultless wanted.now sources.now place) }
 {
     match wanted.form {
@@ -101,16 +109,18 @@ fn length_from<S: Source>(
 /// (2^64 - 1, 1), or beside an outboard encoding the last chunk of the length that this claims. Each source is asked once, in order.
 ///
 /// It is the length of each blob with the root, or a collision is exhibited, two different inputs with one chaining value, one of the
-/// blob's and one of a slice's that is accepted under the root and came from one of the sources.
+/// blob's and one of a slice's that is accepted under the root and came from one of the sources. Beside an outboard encoding it is the one
+/// that this claims.
 ///
 /// 911 `Starved` where there is no memory for what a source gives, and 901 `Unfinished` where none has the last chunk: what each gave as that
-/// slice isn't accepted, or hasn't the last chunk of the length that it claims.
+/// slice, or beside an outboard encoding of the root as that chunk, isn't accepted, or hasn't the last chunk of the length that it claims.
 pub fn certified_length<S: Source>(
     alloc: Global,
     wanted: &Wanted<'_>,
     sources: &[S],
 ) -> Result<u64, GatherFault>
     ensures each { IfOk result (λ l. IsLengthOfEach (IsFrom wanted.now S.contents S.faultless sources.now) (fixed_for wanted.now) l) }
+    ensures of { IfOk result (λ l. IsLengthOf wanted.now.form l) }
     ensures fault { IfErr result (λ fault. (fault ≡ Unfinished) ⊎ (fault ≡ Starved)) }
     ensures missing { IsErrOf result Unfinished → HasNoEnd S.contents S.faultless wanted.now sources.now }
 {

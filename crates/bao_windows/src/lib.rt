@@ -3,6 +3,7 @@
 
 pub use driver::write_windows;
 pub use fault::WindowsFault;
+pub use law::outline_binds;
 pub use length::certified_length;
 pub use wanted::Wanted;
 
@@ -11,6 +12,7 @@ mod driver;
 mod fault;
 mod fetching;
 mod group;
+mod law;
 mod length;
 mod output;
 mod taking;

@@ -2,7 +2,7 @@ ghost use Rattle.std.specs.Prelude.{◌≡◌, ◌+◌, ◌<◌, length, IfErr, 
 ghost use Rattle.std.specs.Io.KnownBytes.{Appends};
 ghost use Rattle.bao_windows.specs.declared.fault.WindowsFault.TheVariants as WindowsFault;
 ghost use Rattle.bao_windows.specs.Windows.{window_bytes};
-ghost use Rattle.bao_windows.specs.Written.{HasRoomFor, TookIn, WroteBeginning};
+ghost use Rattle.bao_windows.specs.Written.{HasRoomFor, IsPut, TookIn, WroteBeginning};
 
 use crate::fault::WindowsFault;
 use crate::window::Slot;
@@ -11,7 +11,7 @@ use bao_text::write_text;
 use std::io::Write;
 
 // Takes the bytes of a window into the hash.
-pub(crate) fn take_in(window: &[Slot], hasher: &mut Hasher)
+fn take_in(window: &[Slot], hasher: &mut Hasher)
     requires { HasRoomFor hasher.old (length (window_bytes window.now)) }
     ensures { TookIn hasher.old hasher.new (window_bytes window.now) }
 {
@@ -24,7 +24,7 @@ pub(crate) fn take_in(window: &[Slot], hasher: &mut Hasher)
 }
 
 // Writes the bytes of a window.
-pub(crate) fn write_slots<W: Write>(window: &[Slot], out: &mut W) -> Result<(), WindowsFault>
+fn write_slots<W: Write>(window: &[Slot], out: &mut W) -> Result<(), WindowsFault>
     ensures text { OnOk result (Appends (W.contents out.old) (W.contents out.new) (window_bytes window.now)) }
     ensures begun { WroteBeginning (W.contents out.old) (W.contents out.new) (window_bytes window.now) }
     ensures fault { IfErr result (λ fault. fault ≡ WindowsFault.Write) }
@@ -36,4 +36,17 @@ pub(crate) fn write_slots<W: Write>(window: &[Slot], out: &mut W) -> Result<(), 
         }
     }
     Ok(())
+}
+
+// Takes the bytes of a window into the hash, and writes them.
+pub(crate) fn put_window<W: Write>(
+    window: &[Slot],
+    hasher: &mut Hasher,
+    out: &mut W,
+) -> Result<(), WindowsFault>
+    requires { HasRoomFor hasher.old (length (window_bytes window.now)) }
+    ensures { IsPut (window_bytes window.now) (W.contents out.old) (W.contents out.new) hasher.old hasher.new result }
+{
+    take_in(window, hasher);
+    write_slots(window, out)
 }

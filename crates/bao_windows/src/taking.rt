@@ -1,16 +1,16 @@
-ghost use Rattle.std.specs.Prelude.{◌≡◌, ◌+◌, ◌%◌, ◌^◌, ◌<◌, false, length, IfOk};
+ghost use Rattle.std.specs.Prelude.{◌≡◌, ℕ, ◌+◌, ◌%◌, ◌^◌, ◌<◌, false, length, IfOk};
 ghost use Rattle.gather.specs.Forms.{AreSlices};
 ghost use Rattle.bao_windows.specs.Available.{AllRefuse, Refuses};
 ghost use Rattle.bao_windows.specs.Windows.{IsBeside, IsFrom, IsInTurn, Takes, fixed_for};
 
 use crate::appending::{CHUNK_BYTES, append_part};
-use crate::fetching::{fetch_copy, fetch_slice};
+use crate::fetching::pass_over;
 use crate::wanted::Wanted;
 use b3tree::bytes_are;
 use bao_check::{Outline, bare_fits, check_bare, check_slice};
 use bao_read::Source;
 use bao_text::chunk_count;
-use gather::Form;
+use gather::{EncodedAt, Form, Holder, PlainAt};
 use std::alloc::{AllocError, Global};
 
 // So many bytes of a blob from byte `at` on.
@@ -38,7 +38,9 @@ fn take_slice<S: Source>(
     ensures took { IfOk result (λ took. Takes took (IsFrom wanted.now S.contents S.faultless sources.now) (fixed_for wanted.now) part.at part.len into.old.items into.new.items) }
     ensures refused { IfOk result (λ took. took ≡ false → Refuses S.contents S.faultless wanted.now sources.now part.at part.len span place) }
 {
-    fetch_slice(&sources[place], part.at, span, room)?;
+    room.clear();
+    let mut holder = EncodedAt::new(&sources[place]);
+    pass_over(holder.fetch(part.at, span, room))?;
     // For the prover alone: the elements of a text are bytes.
     bytes_are(room.as_slice());
     match check_slice(
@@ -73,7 +75,8 @@ fn take_bare<S: Source>(
     requires place { place < length sources.now }
     requires aligned { part.at % 1024 ≡ 0 }
     requires range { part.at + part.len < 2 ^ 64 }
-    ensures { IfOk result (λ took. Takes took (IsFrom wanted.now S.contents S.faultless sources.now) (fixed_for wanted.now) part.at part.len into.old.items into.new.items) }
+    ensures took { IfOk result (λ took. Takes took (IsFrom wanted.now S.contents S.faultless sources.now) (fixed_for wanted.now) part.at part.len into.old.items into.new.items) }
+    ensures refused { IfOk result (λ took. took ≡ false → (span : ℕ) → Refuses S.contents S.faultless wanted.now sources.now part.at part.len span place) }
 {
     let first = part.at / CHUNK_BYTES;
     let count = chunk_count(part.len);
@@ -86,7 +89,11 @@ fn take_bare<S: Source>(
     let len = CHUNK_BYTES
         .saturating_mul(count)
         .min(outline.claimed().saturating_sub(part.at));
-    fetch_copy(&sources[place], part.at, len, room)?;
+    room.clear();
+    let mut holder = PlainAt::new(&sources[place]);
+    pass_over(holder.fetch(part.at, len, room))?;
+    // For the prover alone: the elements of a text are bytes.
+    bytes_are(room.as_slice());
     match check_bare(outline, first, count, room.as_slice()) {
         Ok(piece) => {
             // For the prover alone: an accepted piece's encoding is of bytes.
@@ -94,29 +101,6 @@ fn take_bare<S: Source>(
             append_part(&piece, part.at, part.len, into)
         }
         Err(_) => Ok(false),
-    }
-}
-
-// Takes a part of the blob from one source, as the form has it.
-fn take_from<S: Source>(
-    alloc: Global,
-    wanted: &Wanted<'_>,
-    sources: &[S],
-    place: usize,
-    part: Part,
-    span: u64,
-    room: &mut Vec<u8>,
-    into: &mut Vec<u8>,
-) -> Result<bool, AllocError>
-    requires place { place < length sources.now }
-    requires aligned { part.at % 1024 ≡ 0 }
-    requires range { part.at + part.len < 2 ^ 64 }
-    ensures took { IfOk result (λ took. Takes took (IsFrom wanted.now S.contents S.faultless sources.now) (fixed_for wanted.now) part.at part.len into.old.items into.new.items) }
-    ensures refused { IfOk result (λ took. took ≡ false → Refuses S.contents S.faultless wanted.now sources.now part.at part.len span place) }
-{
-    match wanted.form {
-        Form::Slices => take_slice(alloc, wanted, sources, place, part, span, room, into),
-        Form::Bare(outline) => take_bare(wanted, outline, sources, place, part, room, into),
     }
 }
 
@@ -134,7 +118,8 @@ fn in_turn(first: usize, count: usize, turn: usize) -> usize
     }
 }
 
-// Takes a part of the blob from the first source in turn that has it: the one that had one last, and then the others, each once.
+// Takes a part of the blob from the first source in turn that has it, as the form has it: the one that had one last, and then the others,
+// each once.
 pub(crate) fn take_any<S: Source>(
     alloc: Global,
     wanted: &Wanted<'_>,
@@ -154,9 +139,19 @@ pub(crate) fn take_any<S: Source>(
     let first = (*last).min(count.saturating_sub(1));
     for turn in 0..count {
         let place = in_turn(first, count, turn);
-        if take_from(alloc, wanted, sources, place, part, span, room, into)? {
-            *last = place;
-            return Ok(true);
+        match wanted.form {
+            Form::Slices => {
+                if take_slice(alloc, wanted, sources, place, part, span, room, into)? {
+                    *last = place;
+                    return Ok(true);
+                }
+            }
+            Form::Bare(outline) => {
+                if take_bare(wanted, outline, sources, place, part, room, into)? {
+                    *last = place;
+                    return Ok(true);
+                }
+            }
         }
     }
     Ok(false)

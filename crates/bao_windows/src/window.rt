@@ -1,7 +1,7 @@
 ghost use Rattle.std.specs.Prelude.{◌≡◌, ◌⊎◌, ℕ, ◌+◌, ◌-◌, ◌*◌, ◌%◌, ◌<◌, ◌≤◌, min, length, vec_len, false, true, None, Ok, Some, IfErr, IfOk, IfSome, IsErrOf, OnOk, slice_index_or};
 ghost use Rattle.gather.specs.declared.fault.GatherFault.TheVariants.{Starved, Unfinished};
-ghost use Rattle.bao_windows.specs.Available.{IsMissing, IsTried};
-ghost use Rattle.bao_windows.specs.Windows.{AreBytesAt, HasFault, IsFrom, fixed_for, window_bytes};
+ghost use Rattle.bao_windows.specs.Available.{IsFilled, IsTried};
+ghost use Rattle.bao_windows.specs.Windows.{HasFault};
 
 use crate::group::take_group;
 use crate::taking::Part;
@@ -95,29 +95,6 @@ fn fill_slot<S: Source>(
     slot.fault = fault_of(taken);
 }
 
-// Fills all slots of a window, on so many threads at the most.
-fn fill_slots<R: Threads + Sync, S: Source + Sync>(
-    rt: &R,
-    alloc: Global,
-    wanted: &Wanted<'_>,
-    workers: u32,
-    sources: &[S],
-    start: u64,
-    total: u64,
-    window: &mut [Slot],
-)
-    requires aligned { start % 65536 ≡ 0 }
-    requires within { start ≤ total }
-    ensures { (i : ℕ) (d : Slot) → i < length window.old → IsTried S.contents S.faultless wanted.now sources.now start total i (slice_index_or window.new i d) }
-{
-    for_each_mut(
-        rt,
-        window,
-        workers.clamp(1, 64) as usize,
-        &|number, slot| { fill_slot(alloc, wanted, sources, start, total, number, slot) },
-    );
-}
-
 // The first fault of a window's slots.
 fn first_fault(window: &[Slot]) -> Result<(), GatherFault>
     ensures none { OnOk result ((i : ℕ) (d : Slot) → i < length window.now → (slice_index_or window.now i d).fault ≡ None) }
@@ -155,11 +132,13 @@ pub(crate) fn fill_window<R: Threads + Sync, S: Source + Sync>(
 ) -> Result<(), GatherFault>
     requires aligned { start % 65536 ≡ 0 }
     requires within { start ≤ total }
-    ensures size { OnOk result (length (window_bytes window.new) ≡ min (65536 * length window.old) (total - start)) }
-    ensures each { OnOk result (AreBytesAt (IsFrom wanted.now S.contents S.faultless sources.now) (fixed_for wanted.now) start (window_bytes window.new)) }
-    ensures fault { IfErr result (λ fault. (fault ≡ Unfinished) ⊎ (fault ≡ Starved)) }
-    ensures missing { IsErrOf result Unfinished → IsMissing S.contents S.faultless wanted.now sources.now total }
+    ensures { IsFilled S.contents S.faultless wanted.now sources.now start total window.old window.new result }
 {
-    fill_slots(rt, alloc, wanted, workers, sources, start, total, window);
+    for_each_mut(
+        rt,
+        window,
+        workers.clamp(1, 64) as usize,
+        &|number, slot| { fill_slot(alloc, wanted, sources, start, total, number, slot) },
+    );
     first_fault(window)
 }

@@ -1,15 +1,22 @@
 -- Blobs that were written for one root are one, or a collision.
-use Rattle.std.proofs.Common.{◌≡◌, ◌≢◌, ◌⊎◌, inl, inr, ℕ, List, [], ◌∷◌, length, Option, None, Some, IfOk, IfSome, Result, Ok, Err, refl, sym, ap, subst, ◌∙◌, arith}
+use Rattle.std.proofs.Common.{◌≡◌, ◌≢◌, ◌⊎◌, inl, inr, ℕ, ◌^◌, ◌<◌, ◌≤◌, List, [], ◌∷◌, length, Option, None, Some, IfOk, IfSome, Result, Ok, Err, refl, sym, ap, subst, ◌∙◌, arith}
 use Rattle.std.specs.Io.KnownBytes.{Appends}
 use Rattle.std.proofs.lemmas.Bool.{cases_lt}
 use Rattle.b3tree.specs.declared.mode.Mode.{Mode}
 use Rattle.b3tree.specs.declared.values.Hash.{Hash}
 use Rattle.b3tree.specs.Hashing.{hash}
+use Rattle.bao_text.specs.Choice.{chunk_count}
+use Rattle.bao_windows.specs.Copies.{HaveCopies, IsOwn}
 use Rattle.bao_windows.specs.declared.fault.WindowsFault.{WindowsFault}
 use Rattle.bao_windows.specs.declared.wanted.Wanted.{Wanted}
-use Rattle.bao_windows.specs.Windows.{IsLengthOfEach, fixed_for}
-use Rattle.bao_windows.specs.Written.{WroteBlob}
-use Rattle.determined_windows.specs.Agreeing.{SameBlob}
+use Rattle.bao_windows.specs.Windows.{IsFrom, IsLengthOfEach, fixed_for}
+use Rattle.bao_windows.specs.Written.{IsWrittenOut, WroteBlob}
+use Rattle.determined_windows.specs.Agreeing.{HaveBlob, IsClaimed, IsHad, IsOneAnswer, SameBlob}
+use Rattle.gather.specs.Available.{HaveSlices}
+use Rattle.gather.specs.declared.form.Form.{Form}
+use Rattle.gather.specs.declared.form.Form.TheVariants.{Slices, Bare}
+use Rattle.gather.specs.Forms.{AreSlices, IsLengthOf}
+use Rattle.gather.specs.Lists.{source_gives}
 use Rattle.gather.specs.declared.fault.GatherFault.{GatherFault}
 use Rattle.gather.specs.Large.{HasCollision}
 use Rattle.store_core.specs.declared.history.Piece.{Piece}
@@ -81,6 +88,44 @@ blobs_agree handed more one other capacity limit None also a b r s root mode sam
 blobs_agree handed more one other capacity limit (Some xs) also a b r s root mode same p q =
     both_wrote handed more one other capacity limit xs a b r s root mode p (subst (λ (o : Option (List ℕ)). IfOk s (WroteBlob more other limit o b)) (sym same) q)
 
+-- what comes of sources that have a blob between them, whichever form they have it in
+by_form : {S : Type 0} (form : Form) (wanted : Wanted) (contents : S → Option (List ℕ)) (faultless : S → Type 0) (sources : List S) (blob : List ℕ) (X : Type 0)
+    → HaveBlob form wanted contents faultless sources blob → (AreSlices form → HaveSlices wanted.grain (source_gives contents faultless) wanted.mode blob sources → X)
+    → (IsOwn wanted form blob → HaveCopies wanted.grain contents faultless blob sources → X) → X
+by_form Slices wanted contents faultless sources blob X had slices copies = slices tt had
+by_form (Bare outline) wanted contents faultless sources blob X had slices copies = copies had.0 had.1
+
+pub had_out : {S : Type 0} (wanted : Wanted) (contents : S → Option (List ℕ)) (faultless : S → Type 0) (sources : List S) (capacity : ℕ) (blob : List ℕ) (old new : Option (List ℕ)) (result : Result ℕ WindowsFault)
+    → IsHad wanted contents faultless sources capacity blob
+    → (AreSlices wanted.form → IsBlob (fixed_for wanted) blob → length blob < 2 ^ 64 → chunk_count (length blob) ≤ capacity
+    → HaveSlices wanted.grain (source_gives contents faultless) wanted.mode blob sources
+    → IsWrittenOut blob old new result ⊎ HasCollision (IsFrom wanted contents faultless sources) (fixed_for wanted) blob)
+    → (IsOwn wanted wanted.form blob → IsBlob (fixed_for wanted) blob → length blob < 2 ^ 64 → chunk_count (length blob) ≤ capacity → HaveCopies wanted.grain contents faultless blob sources
+    → IsWrittenOut blob old new result ⊎ HasCollision (IsFrom wanted contents faultless sources) (fixed_for wanted) blob)
+    → IsWrittenOut blob old new result ⊎ HasCollision (IsFrom wanted contents faultless sources) (fixed_for wanted) blob
+had_out wanted contents faultless sources capacity blob old new result it covered beside =
+    by_form wanted.form wanted contents faultless sources blob (IsWrittenOut blob old new result ⊎ HasCollision (IsFrom wanted contents faultless sources) (fixed_for wanted) blob) it.had
+    (λ are have. covered are it.is it.short it.few have) (λ own have. beside own it.is it.short it.few have)
+
+-- two answers of which each wrote the blob, or has an excuse
+both_out : (blob xs : List ℕ) (a b : Option (List ℕ)) (r s : Result ℕ WindowsFault) → IsWrittenOut blob (Some xs) a r → IsWrittenOut blob (Some xs) b s → IsOneAnswer a b r s
+both_out blob xs a b (Ok m) (Ok n) p q = ((p.0 ∙ sym q.0, grown xs a b blob p.1 q.1), tt, tt)
+both_out blob xs a b (Ok m) (Err f) p q = (tt, tt, q)
+both_out blob xs a b (Err e) (Ok n) p q = (tt, p, tt)
+both_out blob xs a b (Err e) (Err f) p q = (tt, p, q)
+
+pub had_agree : (handed more : Piece → Type 0) (one other : Wanted) (blob : List ℕ) (old also a b : Option (List ℕ)) (r s : Result ℕ WindowsFault) → old ≡ also
+    → IsWrittenOut blob old a r ⊎ HasCollision handed (fixed_for one) blob → IsWrittenOut blob also b s ⊎ HasCollision more (fixed_for other) blob
+    → IfSome old (λ _. IsOneAnswer a b r s ⊎ HasCollision handed (fixed_for one) blob ⊎ HasCollision more (fixed_for other) blob)
+had_agree handed more one other blob None also a b r s same p q = tt
+had_agree handed more one other blob (Some xs) also a b r s same p q = elim p [
+  | inr pair ↦ inr (inl pair)
+  | inl ours ↦ elim q [
+    | inr pair ↦ inr (inr pair)
+    | inl theirs ↦ inl (both_out blob xs a b r s ours (subst (λ (o : Option (List ℕ)). IsWrittenOut blob o b s) (sym same) theirs))
+  ]
+]
+
 -- a blob with the root in the mode has the same in what is the same
 of_other : (one other : Wanted) (blob : List ℕ) → one.root ≡ other.root → one.mode ≡ other.mode → IsBlob (fixed_for one) blob → IsBlob (fixed_for other) blob
 of_other one other blob root mode is = record {
@@ -101,3 +146,14 @@ lengths_agree one other handed more (Ok m) (Ok n) root mode p q = λ blob is. el
 ]
 lengths_agree one other handed more (Ok m) (Err f) root mode p q = tt
 lengths_agree one other handed more (Err e) s root mode p q = tt
+
+-- the length that an outboard encoding claims
+is_claimed : (form : Form) (l m : ℕ) → IsClaimed form l → IsLengthOf form m → m ≡ l
+is_claimed Slices l m never is = absurd never
+is_claimed (Bare outline) l m claims is = sym is ∙ claims
+
+pub claimed_agree : (form other : Form) (l : ℕ) (r s : Result ℕ GatherFault) → IsClaimed form l → IsClaimed other l → IfOk r (λ m. IsLengthOf form m) → IfOk s (λ n. IsLengthOf other n)
+    → IfOk r (λ m. IfOk s (λ n. m ≡ n))
+claimed_agree form other l (Ok m) (Ok n) ours theirs p q = is_claimed form l m ours p ∙ sym (is_claimed other l n theirs q)
+claimed_agree form other l (Ok m) (Err f) ours theirs p q = tt
+claimed_agree form other l (Err e) s ours theirs p q = tt

@@ -1,8 +1,20 @@
 -- Blobs that were written for one root.
-use Rattle.std.specs.Prelude.{◌≡◌, ◌≢◌, ◌⊎◌, ℕ, List, Option, length}
+use Rattle.std.specs.Prelude.{◌≡◌, ◌≢◌, ◌⊎◌, ℕ, ◌^◌, ◌<◌, ◌≤◌, IfErr, IfOk, List, Option, Result, length}
 use Rattle.std.specs.Io.KnownBytes.{Appends}
 use Rattle.b3tree.specs.declared.mode.Mode.{Mode}
 use Rattle.b3tree.specs.Hashing.{hash}
+use Rattle.bao_check.specs.Outline.{outline_claimed}
+use Rattle.bao_text.specs.Choice.{chunk_count}
+use Rattle.bao_windows.specs.Copies.{HaveCopies, IsOwn}
+use Rattle.bao_windows.specs.declared.fault.WindowsFault.{WindowsFault}
+use Rattle.bao_windows.specs.declared.wanted.Wanted.{Wanted}
+use Rattle.bao_windows.specs.Windows.{fixed_for}
+use Rattle.bao_windows.specs.Written.{IsExcusedWrite}
+use Rattle.gather.specs.Available.{HaveSlices}
+use Rattle.gather.specs.declared.form.Form.{Form}
+use Rattle.gather.specs.declared.form.Form.TheVariants.{Slices, Bare}
+use Rattle.gather.specs.Lists.{source_gives}
+use Rattle.store_core.specs.Laws.{IsBlob}
 
 -- The two blobs that were written are different, and have one hash: a collision.
 pub record WroteCollision (mode : Mode) (root : List ℕ) (old a b : Option (List ℕ)) (m n : ℕ) : Type 0 where
@@ -19,3 +31,24 @@ pub record WroteCollision (mode : Mode) (root : List ℕ) (old a b : Option (Lis
 -- it is one blob, with one count, or a collision was written
 abbrev pub SameBlob : Mode → List ℕ → Option (List ℕ) → Option (List ℕ) → Option (List ℕ) → ℕ → ℕ → Type 0
 SameBlob mode root old a b m n = ((m ≡ n) × (a ≡ b)) ⊎ WroteCollision mode root old a b m n
+
+-- sources have a blob between them: its slices, or its bytes beside its own outboard encoding
+abbrev pub HaveBlob : {S : Type 0} → Form → Wanted → (S → Option (List ℕ)) → (S → Type 0) → List S → List ℕ → Type 0
+HaveBlob Slices wanted contents faultless sources blob = HaveSlices wanted.grain (source_gives contents faultless) wanted.mode blob sources
+HaveBlob (Bare outline) wanted contents faultless sources blob = IsOwn wanted (Bare outline) blob × HaveCopies wanted.grain contents faultless blob sources
+
+-- so they have one with the root, of no more chunks than the capacity
+pub record IsHad {S : Type 0} (wanted : Wanted) (contents : S → Option (List ℕ)) (faultless : S → Type 0) (sources : List S) (capacity : ℕ) (blob : List ℕ) : Type 0 where
+  pub is : IsBlob (fixed_for wanted) blob
+  pub short : length blob < 2 ^ 64
+  pub few : chunk_count (length blob) ≤ capacity
+  pub had : HaveBlob wanted.form wanted contents faultless sources blob
+
+-- two answers are one: the same was written, and no fault is one of what was gathered from
+abbrev pub IsOneAnswer : Option (List ℕ) → Option (List ℕ) → Result ℕ WindowsFault → Result ℕ WindowsFault → Type 0
+IsOneAnswer a b r s = IfOk r (λ m. IfOk s (λ n. (m ≡ n) × (a ≡ b))) × IfErr r IsExcusedWrite × IfErr s IsExcusedWrite
+
+-- plain copies are given, beside an outboard encoding that claims this length
+abbrev pub IsClaimed : Form → ℕ → Type 0
+IsClaimed Slices l = ⊥
+IsClaimed (Bare outline) l = outline_claimed outline.now ≡ l

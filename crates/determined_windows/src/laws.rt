@@ -3,7 +3,7 @@
 
 ghost use Rattle.std.specs.Prelude.{◌≡◌, ◌⊎◌, ℕ, List, IfOk, IfSome};
 ghost use Rattle.bao_windows.specs.Windows.{IsFrom, fixed_for};
-ghost use Rattle.determined_windows.specs.Agreeing.{SameBlob};
+ghost use Rattle.determined_windows.specs.Agreeing.{IsClaimed, IsHad, IsOneAnswer, SameBlob};
 ghost use Rattle.gather.specs.Large.{HasCollision};
 ghost use Rattle.store_core.specs.Laws.{IsBlob};
 
@@ -15,6 +15,7 @@ use std::io::Write;
 use std::thread::Threads;
 
 // Two lengths that are certified under one root are one, for every blob that has it, or a collision is exhibited from a piece of a source.
+// Beside outboard encodings that claim one length they are one.
 pub fn certified_length_determined<S: Source, T: Source>(
     alloc: Global,
     wanted: &Wanted<'_>,
@@ -24,9 +25,10 @@ pub fn certified_length_determined<S: Source, T: Source>(
 ) -> (Result<u64, GatherFault>, Result<u64, GatherFault>)
     requires root { wanted.now.root ≡ other.now.root }
     requires mode { wanted.now.mode ≡ other.now.mode }
-    ensures { IfOk result.0 (λ m. IfOk result.1 (λ n. (blob : List ℕ) → IsBlob (fixed_for wanted.now) blob → (m ≡ n)
+    ensures blob { IfOk result.0 (λ m. IfOk result.1 (λ n. (blob : List ℕ) → IsBlob (fixed_for wanted.now) blob → (m ≡ n)
         ⊎ HasCollision (IsFrom wanted.now S.contents S.faultless sources.now) (fixed_for wanted.now) blob
         ⊎ HasCollision (IsFrom other.now T.contents T.faultless other_sources.now) (fixed_for other.now) blob)) }
+    ensures claimed { (l : ℕ) → IsClaimed wanted.now.form l → IsClaimed other.now.form l → IfOk result.0 (λ m. IfOk result.1 (λ n. m ≡ n)) }
 {
     (
         certified_length(alloc, wanted, sources),
@@ -34,7 +36,8 @@ pub fn certified_length_determined<S: Source, T: Source>(
     )
 }
 
-// Where both wrote a blob, it is the same, or the two are a collision.
+// Where both wrote a blob, it is the same, or the two are a collision. Where the sources of both have it between them, as encodings or as
+// plain copies beside its own outboard encoding, both write it, memory and writing aside, or a collision is exhibited.
 pub fn write_windows_determined<
     R: AllocGlobal + Threads + Sync,
     S: Source + Sync,
@@ -57,8 +60,12 @@ pub fn write_windows_determined<
     requires root { wanted.now.root ≡ other.now.root }
     requires mode { wanted.now.mode ≡ other.now.mode }
     requires same { V.contents ours.old ≡ W.contents theirs.old }
-    ensures { IfSome (V.contents ours.old) (λ _. IfOk result.0 (λ m. IfOk result.1 (λ n.
+    ensures same { IfSome (V.contents ours.old) (λ _. IfOk result.0 (λ m. IfOk result.1 (λ n.
         SameBlob wanted.now.mode wanted.now.root.0 (V.contents ours.old) (V.contents ours.new) (W.contents theirs.new) m n))) }
+    ensures had { (blob : List ℕ) → IsHad wanted.now S.contents S.faultless sources.now capacity blob → IsHad other.now T.contents T.faultless other_sources.now other_capacity blob
+        → IfSome (V.contents ours.old) (λ _. IsOneAnswer (V.contents ours.new) (W.contents theirs.new) result.0 result.1
+        ⊎ HasCollision (IsFrom wanted.now S.contents S.faultless sources.now) (fixed_for wanted.now) blob
+        ⊎ HasCollision (IsFrom other.now T.contents T.faultless other_sources.now) (fixed_for other.now) blob) }
 {
     (
         write_windows(rt, wanted, workers, capacity, sources, ours),

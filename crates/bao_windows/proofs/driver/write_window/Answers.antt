@@ -1,7 +1,16 @@
-use Rattle.std.proofs.Common.{◌-◌, length, arith}
+use Rattle.std.proofs.Common.{◌+◌, ◌-◌, ◌%◌, ◌≤◌, ◌≡◌, length, arith, rules}
 use Rattle.bao_windows.proofs.Writing.{fewer}
 use Rattle.bao_windows.specs.Windows.{window_bytes}
+use Rattle.bao_windows.specs.Written.{HasRoomFor}
 use Rattle.bao_windows.proofs.driver.write_window.Goals as goal
 
-pub take_in-requires : goal.take_in-requires
-take_in-requires g c = fewer c.args.hasher.now (c.args.total - c.args.at) (length (window_bytes c.fill_window.new.window)) c.requires.room (omega (arith, c.in-Ok.ensures.size))
+pub put_window-requires : goal.put_window-requires
+put_window-requires g c = fewer c.args.hasher.now (c.args.total - c.args.at) (length (window_bytes c.args.window.now)) c.requires.room (omega (arith, c.requires.whole.size))
+
+pub join_mut-filled-requires-after_bounds : goal.join_mut-filled-requires-after_bounds
+join_mut-filled-requires-after_bounds g c κs within =
+    let room : HasRoomFor c.args.hasher.now (length (window_bytes c.args.window.now)) =
+    fewer c.args.hasher.now (c.args.total - c.args.at) (length (window_bytes c.args.window.now)) c.requires.room (omega (arith, c.requires.whole.size)) in
+    let ends : c.args.at + c.min.result ≤ c.args.total = omega (arith, c.min.ensures, c.requires.below) in
+    let whole : (c.args.at + c.min.result) % 65536 ≡ 0 = omega (arith, c.min.ensures, c.requires.below, c.requires.aligned, c.saturating_mul-count.ensures, c.if-end-total.false, c.ranges.total) in
+    search rules
