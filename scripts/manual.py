@@ -62,7 +62,7 @@ class Help:
     def options(self):
         """Its options: the long word, the name of the value that follows, if one does, and the text."""
         for words, text in self.parts.get("Options", []):
-            long = re.search(r"--[a-z]+", words)
+            long = re.search(r"--[a-z-]+", words)
             yield long.group(), "".join(re.findall("<(.*)>", words)), text
 
 

@@ -193,6 +193,13 @@ ANY_LENGTH = [
     Row("64 MiB gathered over their encoding, of any length", (f"encode 64M {OUT}", *gather_long("64M", "64M.torn", OUT)), GATHERS, like="64M"),
 ]
 
+# What a file with a key has past 66 bytes isn't read.
+NO_KEY = "usage: key file is not 64 hexadecimal digits"
+KEYS = [
+    Row("a key out of 1 TiB of zeros", (f"decode --key-file zeros-1T @4M 4M.bao {OUT}",), KEEPS, NO_KEY, read=1),
+    Row("a key out of an endless pipe", (f"decode --key-file {STDIN} @4M 4M.bao {OUT}",), KEEPS, NO_KEY, piped=ZEROS_COME, read=1),
+]
+
 # FILE and OUT are one: what is written over was read before.
 OVER_ITSELF = [
     Row("64 MiB decoded over their encoding", (f"encode 64M {OUT}", f"decode @64M {OUT} {OUT}"), GATHERS, like="64M"),
@@ -215,7 +222,7 @@ UNOPENED = [
     Row("a file that may not be read before a true holder", LOCKED_TRUE, GATHERS, like="4M", told=[f"left out {LOCKED}: can't be read", TRUE]),
 ]
 
-ROWS = [*HOLDERS, *OUTBOARDS, *PIPED, *LONG, *ANY_LENGTH, *OVER_ITSELF, *UNOPENED]
+ROWS = [*HOLDERS, *OUTBOARDS, *PIPED, *LONG, *ANY_LENGTH, *KEYS, *OVER_ITSELF, *UNOPENED]
 
 
 def blob_of(row):
@@ -420,7 +427,8 @@ class Trial:
             printed = f"{self.files.root(blob_of(row))}\n"
         elif is_done:
             printed = f"ok {os.path.getsize(self.files.path(row.like))}\n"
-        return 0 if is_done else 1, printed.encode(), "".join(f"bao_gather: {it}\n" for it in told).encode()
+        status = 0 if is_done else 2 if row.fault.startswith("usage: ") else 1
+        return status, printed.encode(), "".join(f"bao_gather: {it}\n" for it in told).encode()
 
     def out_wrong(self, row):
         """What is wrong with what stands at OUT."""

@@ -355,6 +355,12 @@ def tasks(options):
     yield case(f"gather --long --outboard parents {root} out marred blob", {"parents": parents, "marred": marred, "blob": blob})
     yield case(f"decode --outboard parents {root} blob out", {"parents": parents, "blob": blob})
     yield case(f"replay --capacity 100 {root} script whole damaged", {"script": steps, "whole": whole, "damaged": damaged})
+    if "--key" in options:
+        # The key comes out of a file, with a line end and without, or doesn't.
+        key = options[1].encode()
+        yield Case(["hash", "--key-file", "key", "blob"], {"key": key + b"\n", "blob": blob})
+        yield Case(["hash", "--key-file", "key", "blob"], {"key": key + b"\n\n", "blob": blob})
+        yield Case(["decode", "--key-file", "key", root, "whole", OUT], {"key": key, "whole": whole})
 
 
 # So long that it is read at places, on several threads.

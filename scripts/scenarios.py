@@ -687,9 +687,10 @@ class Programs:
     STANDARD_OUTPUT = ["/dev/stdout", "/dev/fd/1", "/proc/self/fd/1"]
 
     def __init__(self):
-        self.files, self.digits, self.written = {"/dev/null": b""}, "", written("clap.txt")
+        # /dev/zero has no end, and no more of it is read than this.
+        self.files, self.digits, self.written = {"/dev/null": b"", "/dev/zero": bytes(66)}, "", written("clap.txt")
         # What is there and isn't a regular file, and what was told of FILEs.
-        self.irregular, self.told = {"/dev/null"}, []
+        self.irregular, self.told = {"/dev/null", "/dev/zero"}, []
 
     def read(self, file):
         if file not in self.files:
@@ -706,7 +707,18 @@ class Programs:
             raise Refused(2, "usage: root is not 64 hexadecimal digits")
         return bytes.fromhex(digits)
 
-    def mode_of(self, key, context):
+    def key_in(self, file):
+        """The key that a file has: 64 hexadecimal digits, and a line end or none."""
+        digits = self.read(file).removesuffix(b"\n")
+        if len(digits) != 64 or not set(digits) <= set(b"0123456789abcdefABCDEF"):
+            raise Refused(2, "usage: key file is not 64 hexadecimal digits")
+        return bytes.fromhex(digits.decode())
+
+    def mode_of(self, key, context, file=None):
+        if file is not None and (key is not None or context is not None):
+            raise Refused(2, "usage: key file excludes key and context")
+        if file is not None:
+            return bao.Mode.keyed(self.key_in(file))
         if key is not None and (len(key) != 64 or not set(key) <= set("0123456789abcdefABCDEF")):
             raise Refused(2, "usage: key is not 64 hexadecimal digits")
         if key is not None and context is not None:
@@ -732,7 +744,7 @@ class Programs:
             root = self.root_of(given[0]) if name in ("decode", "decode-slice", "gather", "replay") else None
             if "--long" in options and ("--encode" in options or options["--capacity"] != "65536"):
                 raise Refused(2, "usage: long excludes capacity and encode")
-            mode = self.mode_of(options.get("--key"), options.get("--context"))
+            mode = self.mode_of(options.get("--key"), options.get("--context"), options.get("--key-file"))
             if name in self.OUTS and given[self.OUTS[name]] in self.STANDARD_OUTPUT:
                 raise Refused(2, "usage: OUT is standard output")
             out = [f"out: {it}" for it in getattr(self, name.replace("-", "_"))(mode, root, options, given).splitlines()]

@@ -1,12 +1,17 @@
--- what the arguments --key and --context say
-use Rattle.std.specs.Prelude.{◌≡◌, ◌⊎◌, ℕ, List, Option, Some, None, Result, Ok, MatchResult}
+-- what the arguments --key, --key-file and --context say
+use Rattle.std.specs.Prelude.{◌≡◌, ◌⊎◌, ℕ, List, Option, Some, None, Result, Ok, IsSome, MatchResult}
 use Rattle.hex.specs.Hex.{decode_of}
+use Rattle.std.specs.Borrow.{Bor}
+use Rattle.std.specs.Option.{option_copied}
+use Rattle.bao_files.specs.Keys.{GivesKey}
 use Rattle.bao_files.specs.Printed.{IsDigits}
+use Rattle.bao_files.specs.declared.fault.FileFault.TheVariants as file
+use Rattle.bao_request.specs.declared.tasks.Request.{Request}
 use Rattle.b3tree.specs.declared.mode.Mode.{Mode}
 use Rattle.b3tree.specs.Modes.{keyed, plain}
 use Rattle.b3tree.specs.Hashing.{derived}
 use Rattle.bao_command.specs.declared.fault.Fault.{Fault}
-use Rattle.bao_command.specs.declared.fault.Fault.TheVariants.{Key, KeyAndContext}
+use Rattle.bao_command.specs.declared.fault.Fault.TheVariants.{Key, KeyAndContext, KeyFile, KeyFileAndOthers, File}
 
 -- the answer for a key's text and a context's text, each there or not
 abbrev pub GivesMode : Option (List ℕ) → Option (List ℕ) → Result Mode Fault → Type 0
@@ -17,3 +22,32 @@ GivesMode (Some text) None answer =
     (λ fault. (fault ≡ Key) × ¬ IsDigits text)
 GivesMode (Some text) (Some context) answer =
     MatchResult answer (λ mode. ⊥) (λ fault. ((fault ≡ Key) × ¬ IsDigits text) ⊎ ((fault ≡ KeyAndContext) × IsDigits text))
+
+-- keyed hashing under the key that these bytes of a file give
+abbrev pub IsKeyedBy : List ℕ → Mode → Type 0
+IsKeyedBy bytes mode = (key : List ℕ) × GivesKey bytes (Some key) × (mode ≡ keyed key)
+
+-- the answer for the file at this path, which has these bytes: the mode that they give, or that they give none, or that they can't be read
+abbrev pub GivesFileMode : Bor (List ℕ) → List ℕ → Result Mode Fault → Type 0
+GivesFileMode path bytes answer =
+    MatchResult answer (IsKeyedBy bytes) (λ fault. ((fault ≡ KeyFile) × GivesKey bytes None) ⊎ (fault ≡ File (file.Read path)))
+
+-- the mode of a key's text, a path and a context's text, each there or not: what the file at the path has is some bytes
+abbrev pub AsksForMode : Option (List ℕ) → Option (List ℕ) → Option (List ℕ) → Mode → Type 0
+AsksForMode key None context mode = GivesMode key context (Ok mode)
+AsksForMode None (Some path) None mode = (bytes : List ℕ) × IsKeyedBy bytes mode
+AsksForMode key (Some path) context mode = ⊥
+
+-- the mode that the request's key, the file with its key, or its context give
+abbrev pub HasMode : Request → Mode → Type 0
+HasMode request mode = AsksForMode (option_copied request.key) (option_copied request.key_file) (option_copied request.context) mode
+
+-- a file with a key is named beside a key or a context
+abbrev pub MixesKeys : Request → Type 0
+MixesKeys request = IsSome request.key_file × (IsSome request.key ⊎ IsSome request.context)
+
+-- a fault of a mode's words, or of the file that they name
+abbrev pub IsModeFault : Option (Bor (List ℕ)) → Fault → Type 0
+IsModeFault named fault =
+    (fault ≡ Key) ⊎ (fault ≡ KeyAndContext) ⊎ (fault ≡ KeyFile) ⊎ (fault ≡ KeyFileAndOthers)
+    ⊎ ((path : Bor (List ℕ)) × ((named ≡ Some path) × (fault ≡ File (file.Read path))))

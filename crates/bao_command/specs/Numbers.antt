@@ -5,13 +5,15 @@ use Rattle.bao_decode.specs.DecodeFaults.{decode_number_of}
 use Rattle.bao_tasks.specs.GatheredFaults.{gathered_number_of}
 use Rattle.bao_tasks.specs.RerunFaults.{rerun_number_of}
 use Rattle.bao_command.specs.declared.fault.Fault.{Fault}
-use Rattle.bao_command.specs.declared.fault.Fault.TheVariants.{Word, Root, Key, KeyAndContext, OutputRange, TooManyFiles, OutIsOutput, LongAndOthers, File, Decode, Gather, Replay}
+use Rattle.bao_command.specs.declared.fault.Fault.TheVariants.{Word, Root, Key, KeyAndContext, KeyFile, KeyFileAndOthers, OutputRange, TooManyFiles, OutIsOutput, LongAndOthers, File, Decode, Gather, Replay}
 
 abbrev pub number_of : Fault → Option ℕ
 number_of Word = None
 number_of Root = None
 number_of Key = None
 number_of KeyAndContext = None
+number_of KeyFile = None
+number_of KeyFileAndOthers = None
 number_of OutputRange = None
 number_of TooManyFiles = None
 number_of OutIsOutput = None

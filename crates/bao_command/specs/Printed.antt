@@ -5,7 +5,7 @@ use Rattle.bao_files.specs.Printed as file
 use Rattle.bao_files.specs.declared.fault.FileFault.{FileFault}
 use Rattle.bao_files.specs.declared.fault.FileFault.TheVariants as files
 use Rattle.bao_command.specs.declared.fault.Fault.{Fault}
-use Rattle.bao_command.specs.declared.fault.Fault.TheVariants.{Word, Root, Key, KeyAndContext, OutputRange, TooManyFiles, OutIsOutput, LongAndOthers, File, Decode, Gather, Replay}
+use Rattle.bao_command.specs.declared.fault.Fault.TheVariants.{Word, Root, Key, KeyAndContext, KeyFile, KeyFileAndOthers, OutputRange, TooManyFiles, OutIsOutput, LongAndOthers, File, Decode, Gather, Replay}
 
 -- what a fault leaves of the line that was to be printed: a beginning where it is that of standard
 -- output, and nothing else
@@ -14,6 +14,8 @@ CommandLeaves line old new Word = Keeps old new
 CommandLeaves line old new Root = Keeps old new
 CommandLeaves line old new Key = Keeps old new
 CommandLeaves line old new KeyAndContext = Keeps old new
+CommandLeaves line old new KeyFile = Keeps old new
+CommandLeaves line old new KeyFileAndOthers = Keeps old new
 CommandLeaves line old new OutputRange = Keeps old new
 CommandLeaves line old new TooManyFiles = Keeps old new
 CommandLeaves line old new OutIsOutput = Keeps old new

@@ -1,13 +1,12 @@
 -- what a task prints, and what it writes to its file OUT
-use Rattle.std.specs.Prelude.{◌≡◌, ◌≢◌, ◌⊎◌, ◌<◌, ◌≤◌, ℕ, ◌+◌, ◌-◌, ◌*◌, ◌^◌, true, List, length, Option, Some, None, Result, Ok, Err, codes}
+use Rattle.std.specs.Prelude.{◌≡◌, ◌≢◌, ◌⊎◌, ◌<◌, ◌≤◌, ℕ, ◌+◌, ◌-◌, ◌^◌, true, List, length, Option, Some, None, Result, Ok, Err, codes}
 use Rattle.std.specs.Borrow.{Bor}
 use Rattle.std.specs.Io.KnownBytes.{Appends, Keeps}
-use Rattle.std.specs.Option.{option_copied}
 use Rattle.b3tree.specs.declared.mode.Mode.{Mode}
 use Rattle.b3tree.specs.declared.values.Hash.{Hash as Root32}
 use Rattle.b3tree.specs.Hashing.{hash, stream}
 use Rattle.bao_command.specs.declared.fault.Fault.{Fault}
-use Rattle.bao_command.specs.declared.fault.Fault.TheVariants.{Word, Root, Key, KeyAndContext, OutputRange, TooManyFiles, OutIsOutput, LongAndOthers, File, Decode as Undecoded, Gather as Ungathered, Replay as Unreplayed}
+use Rattle.bao_command.specs.declared.fault.Fault.TheVariants.{Word, Root, Key, KeyAndContext, KeyFile, KeyFileAndOthers, OutputRange, TooManyFiles, OutIsOutput, LongAndOthers, File, Decode as Undecoded, Gather as Ungathered, Replay as Unreplayed}
 use Rattle.bao_files.specs.declared.fault.FileFault.{FileFault}
 use Rattle.bao_files.specs.declared.fault.FileFault.TheVariants as file
 use Rattle.bao_files.specs.declared.kinds.Part.{Part}
@@ -20,7 +19,7 @@ use Rattle.bao_request.specs.declared.tasks.Request.{Request}
 use Rattle.bao_request.specs.declared.tasks.Task.{Task}
 use Rattle.bao_request.specs.declared.tasks.Task.TheVariants.{Hash, Encode, Decode, DecodeCopy, Gather, Replay}
 use Rattle.hex.specs.Hex.{decode_of}
-use Rattle.bao_command.specs.ModeWords.{GivesMode}
+use Rattle.bao_command.specs.ModeWords.{HasMode}
 
 -- that of a part of a text
 abbrev pub part_line : Part → List ℕ → List ℕ
@@ -86,10 +85,11 @@ HasManyFiles (Gather root workers capacity long outboard salvage encode verbose 
 HasManyFiles (Replay root capacity script files) = 64 < length files.items
 
 -- The arguments are refused only with reason: for the root, for where the output ends, for how many files there are, for where OUT is, and
--- for what excludes each other.
-abbrev pub IsDue : Type 0 → Type 0 → Type 0 → Type 0 → Type 0 → Fault → Type 0
-IsDue root past many out mixed fault =
+-- for what excludes each other, in the task and in the mode.
+abbrev pub IsDue : Type 0 → Type 0 → Type 0 → Type 0 → Type 0 → Type 0 → Fault → Type 0
+IsDue root past many out mixed keys fault =
     (fault ≡ Root → root) × (fault ≡ OutputRange → past) × (fault ≡ TooManyFiles → many) × (fault ≡ OutIsOutput → out) × (fault ≡ LongAndOthers → mixed)
+    × (fault ≡ KeyFileAndOthers → keys)
 
 -- the text of a part of the blob with this root, in hexadecimal digits, is accepted
 abbrev pub IsRightPart : Mode → List ℕ → Part → List ℕ → Type 0
@@ -124,10 +124,6 @@ IsRight mode (Gather root workers capacity long outboard salvage encode verbose 
     (length files.items ≤ 64) × ((HasHash mode root.now bytes × Fits long capacity (length bytes)) × IsBeside mode root.now outboard)
 IsRight mode (Replay root capacity script files) bytes = (length files.items ≤ 64) × IsReplay mode root.now capacity (length files.items) bytes
 
--- the mode that the request's key and context give
-abbrev pub HasMode : Request → Mode → Type 0
-HasMode request mode = GivesMode (option_copied request.key) (option_copied request.context) (Ok mode)
-
 -- the line of the request on some bytes, in the request's mode, was printed, and nothing of its file OUT beside it
 abbrev pub PrintsLine : Request → Option (List ℕ) → Option (List ℕ) → Type 0
 PrintsLine request old new =
@@ -152,6 +148,8 @@ LeavesOf request old new Word = Keeps old new
 LeavesOf request old new Root = Keeps old new
 LeavesOf request old new Key = Keeps old new
 LeavesOf request old new KeyAndContext = Keeps old new
+LeavesOf request old new KeyFile = Keeps old new
+LeavesOf request old new KeyFileAndOthers = Keeps old new
 LeavesOf request old new OutputRange = Keeps old new
 LeavesOf request old new TooManyFiles = Keeps old new
 LeavesOf request old new OutIsOutput = Keeps old new

@@ -8,6 +8,7 @@ ghost use Rattle.hex.specs.Hex.{decode_of};
 ghost use Rattle.bao_request.specs.CommandLine.{IsHelp};
 ghost use Rattle.bao_files.specs.Printed.{IsDigits, digits_line, ok_line};
 ghost use Rattle.bao_tasks.specs.Gathered.{Fits};
+ghost use Rattle.bao_command.specs.ModeWords.{MixesKeys};
 ghost use Rattle.bao_command.specs.Outcome.{AreRefused, Begun, Done};
 ghost use Rattle.bao_command.specs.Printed.{CommandPrints, OnPrinted, told_of};
 ghost use Rattle.bao_command.specs.Tasks.{Answers, HasHash, HasManyFiles, HasRoot, IsBeside, IsDue, IsMixed, IsPastOutput, IsReplay, IsRight, IsRightCopy, IsRightPart, WritesApart, line_of, part_line};
@@ -15,7 +16,7 @@ ghost use Rattle.bao_command.specs.Told.{worth_line};
 
 use crate::fault::Fault;
 use crate::help::{show, shown_status};
-use crate::mode::mode_of;
+use crate::mode::asked_mode;
 use b3tree::{Hash, Mode, xof_fits};
 use bao_decode::{decode_copy, decode_file};
 use bao_files::{
@@ -78,11 +79,12 @@ fn serve<
     ensures answer { Answers request.now (O.contents out.old) (O.contents out.new) result }
     ensures root { ¬ HasRoot request.now.task → IsErrAnd result (λ fault. fault ≡ Fault.Root) }
     ensures mixed { HasRoot request.now.task → IsMixed request.now.task → IsErrAnd result (λ fault. fault ≡ Fault.LongAndOthers) }
-    ensures due { IfErr result (IsDue (¬ HasRoot request.now.task) (IsPastOutput request.now.task) (HasManyFiles request.now.task) (¬ WritesApart request.now.task) (IsMixed request.now.task)) }
+    ensures keys { HasRoot request.now.task → ¬ IsMixed request.now.task → MixesKeys request.now → IsErrAnd result (λ fault. fault ≡ Fault.KeyFileAndOthers) }
+    ensures due { IfErr result (IsDue (¬ HasRoot request.now.task) (IsPastOutput request.now.task) (HasManyFiles request.now.task) (¬ WritesApart request.now.task) (IsMixed request.now.task) (MixesKeys request.now)) }
 {
     check_root(&request.task)?;
     check_long(&request.task)?;
-    let mode = mode_of(request.key, request.context)?;
+    let mode = asked_mode(rt, request)?;
     if writes_apart(&request.task) {
         serve_task(rt, &mode, &request.task, out, err, progress)
     } else {
@@ -93,7 +95,7 @@ fn serve<
 // The answer of printing, as a fault of the program.
 fn told<'a>(printed: Result<(), FileFault<'a>>) -> Result<(), Fault<'a>>
     ensures prints { result ≡ told_of printed.entry }
-    ensures due { IfErr result (IsDue ⊥ ⊥ ⊥ ⊥ ⊥) }
+    ensures due { IfErr result (IsDue ⊥ ⊥ ⊥ ⊥ ⊥ ⊥) }
 {
     match printed {
         Ok(()) => Ok(()),
@@ -123,7 +125,7 @@ fn hash<'a, R: Files<File = File> + AllocGlobal + Threads + Sync, O: Write, P: P
     progress: &P,
 ) -> Result<(), Fault<'a>>
     ensures prints { (bytes : List ℕ) × CommandPrints (digits_line (stream mode.now bytes at len)) (O.contents out.old) (O.contents out.new) result }
-    ensures due { IfErr result (IsDue ⊥ (¬ (at + len ≤ 2 ^ 64 - 1)) ⊥ ⊥ ⊥) }
+    ensures due { IfErr result (IsDue ⊥ (¬ (at + len ≤ 2 ^ 64 - 1)) ⊥ ⊥ ⊥ ⊥) }
 {
     if !xof_fits(at, u64::from(len)) {
         return Err(Fault::OutputRange);
@@ -148,7 +150,7 @@ fn encode<'a, R: Files<File = File> + AllocGlobal + Threads + Sync, O: Write, P:
     progress: &P,
 ) -> Result<(), Fault<'a>>
     ensures prints { (bytes : List ℕ) × CommandPrints (digits_line (hash_of mode.now bytes)) (O.contents out.old) (O.contents out.new) result }
-    ensures due { IfErr result (IsDue ⊥ ⊥ ⊥ ⊥ ⊥) }
+    ensures due { IfErr result (IsDue ⊥ ⊥ ⊥ ⊥ ⊥ ⊥) }
 {
     match encode_file(rt, mode, encoding, file, path, progress) {
         Ok(hash) => told(print_digits(rt.alloc(), &hash.0, out)),
@@ -168,7 +170,7 @@ fn decode<'a, R: Files<File = File> + AllocGlobal + Threads + Sync, O: Write>(
 ) -> Result<(), Fault<'a>>
     ensures prints { (bytes : List ℕ) × OnPrinted result (IsRightPart mode.now digits.now part.now bytes)
         × CommandPrints (part_line part.now bytes) (O.contents out.old) (O.contents out.new) result }
-    ensures due { IfErr result (IsDue (¬ IsDigits digits.now) ⊥ ⊥ ⊥ ⊥) }
+    ensures due { IfErr result (IsDue (¬ IsDigits digits.now) ⊥ ⊥ ⊥ ⊥ ⊥) }
 {
     let root = root_of(digits)?;
     match decode_file(rt, mode, &root, part, file, path) {
@@ -189,7 +191,7 @@ fn decode_beside<'a, R: Files<File = File> + AllocGlobal, O: Write>(
 ) -> Result<(), Fault<'a>>
     ensures prints { (bytes : List ℕ) × OnPrinted result (IsRightCopy mode.now digits.now bytes)
         × CommandPrints (ok_line (length bytes)) (O.contents out.old) (O.contents out.new) result }
-    ensures due { IfErr result (IsDue (¬ IsDigits digits.now) ⊥ ⊥ ⊥ ⊥) }
+    ensures due { IfErr result (IsDue (¬ IsDigits digits.now) ⊥ ⊥ ⊥ ⊥ ⊥) }
 {
     let root = root_of(digits)?;
     match decode_copy(rt, mode, &root, outboard, copy, path) {
@@ -281,7 +283,7 @@ fn gather<'a, R: Files<File = File> + AllocGlobal + Threads + Sync, O: Write, E:
         × CommandPrints (ok_line (length blob)) (O.contents out.old) (O.contents out.new) result }
     ensures few { OnPrinted result (length files.now ≤ 64) }
     ensures many { 64 < length files.now → IsErrAnd result (λ fault. fault ≡ Fault.TooManyFiles) }
-    ensures due { IfErr result (IsDue (¬ IsDigits digits.now) ⊥ (64 < length files.now) ⊥ ⊥) }
+    ensures due { IfErr result (IsDue (¬ IsDigits digits.now) ⊥ (64 < length files.now) ⊥ ⊥ ⊥) }
 {
     if files.len() > MOST_FILES {
         return Err(Fault::TooManyFiles);
@@ -316,7 +318,7 @@ fn replay<'a, R: Files + AllocGlobal, O: Write>(
         × CommandPrints text (O.contents out.old) (O.contents out.new) result }
     ensures few { OnPrinted result (length files.now ≤ 64) }
     ensures many { 64 < length files.now → IsErrAnd result (λ fault. fault ≡ Fault.TooManyFiles) }
-    ensures due { IfErr result (IsDue (¬ IsDigits digits.now) ⊥ (64 < length files.now) ⊥ ⊥) }
+    ensures due { IfErr result (IsDue (¬ IsDigits digits.now) ⊥ (64 < length files.now) ⊥ ⊥ ⊥) }
 {
     if files.len() > MOST_FILES {
         return Err(Fault::TooManyFiles);
@@ -345,7 +347,7 @@ fn serve_task<
 ) -> Result<(), Fault<'a>>
     ensures prints { (bytes : List ℕ) × OnPrinted result (IsRight mode.now task.now bytes)
         × CommandPrints (line_of mode.now task.now bytes) (O.contents out.old) (O.contents out.new) result }
-    ensures due { IfErr result (IsDue (¬ HasRoot task.now) (IsPastOutput task.now) (HasManyFiles task.now) ⊥ ⊥) }
+    ensures due { IfErr result (IsDue (¬ HasRoot task.now) (IsPastOutput task.now) (HasManyFiles task.now) ⊥ ⊥ ⊥) }
 {
     match task {
         Task::Hash { at, length, file } => hash(rt, mode, *at, *length, file, out, progress),

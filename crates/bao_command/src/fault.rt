@@ -27,6 +27,12 @@ pub enum Fault<'a> {
     /// Both `--key` and `--context` are given. Status 2.
     #[error("usage: key and context exclude each other")]
     KeyAndContext,
+    /// The file of `--key-file` has no 64 hexadecimal digits, or more beside them than a line end. Status 2.
+    #[error("usage: key file is not 64 hexadecimal digits")]
+    KeyFile,
+    /// `--key-file` is given, and `--key` or `--context` with it. Status 2.
+    #[error("usage: key file excludes key and context")]
+    KeyFileAndOthers,
     /// The bytes of output that are asked for end after 2^64 - 1. Status 2.
     #[error("usage: output range too large")]
     OutputRange,
@@ -140,6 +146,8 @@ impl Fault<'_> {
             | Fault::Root
             | Fault::Key
             | Fault::KeyAndContext
+            | Fault::KeyFile
+            | Fault::KeyFileAndOthers
             | Fault::OutputRange
             | Fault::TooManyFiles
             | Fault::OutIsOutput
@@ -160,6 +168,8 @@ impl Fault<'_> {
             | Fault::Root
             | Fault::Key
             | Fault::KeyAndContext
+            | Fault::KeyFile
+            | Fault::KeyFileAndOthers
             | Fault::OutputRange
             | Fault::TooManyFiles
             | Fault::OutIsOutput

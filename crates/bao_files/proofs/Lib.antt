@@ -4,3 +4,4 @@ pub mod Hashes
 pub mod Encodings
 pub mod Disks
 pub mod HeldFiles
+pub mod KeyTexts

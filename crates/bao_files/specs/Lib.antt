@@ -7,4 +7,5 @@ pub mod Disks
 pub mod Extents
 pub mod Faults
 pub mod HeldFiles
+pub mod Keys
 pub mod ProgressLine

@@ -12,12 +12,20 @@ use hex::FromHex;
 use std::alloc::Global;
 use std::io::Write;
 
+// The 32 bytes that 64 hexadecimal digits of either case give.
+pub(crate) fn decoded(digits: &[u8]) -> Option<[u8; 32]>
+    ensures value { IfSome result (λ bytes. decode_of digits.now ≡ Ok bytes) }
+    ensures found { IsSome result ↔ IsDigits digits.now }
+{
+    <[u8; 32] as FromHex>::from_hex(digits).ok()
+}
+
 /// The 32 bytes that `text` gives as 64 hexadecimal digits of either case.
 pub fn bytes_of_digits(text: &str) -> Option<[u8; 32]>
     ensures value { IfSome result (λ bytes. decode_of text.now ≡ Ok bytes) }
     ensures found { IsSome result ↔ IsDigits text.now }
 {
-    <[u8; 32] as FromHex>::from_hex(text).ok()
+    decoded(text.as_bytes())
 }
 
 /// Writes `text` to `out`, and has it flushed.

@@ -10,6 +10,7 @@ pub use held::{Held, HeldInput};
 pub use input::{
     ReadFault, is_same_file, open_file, read_file, read_input, read_sized, read_whole, shared_len,
 };
+pub use key::read_key;
 pub use kinds::{Encoding, Part};
 pub use late_file::LateFile;
 pub use meter::Meter;
@@ -28,6 +29,7 @@ mod extent;
 mod fault;
 mod held;
 mod input;
+mod key;
 mod kinds;
 mod late_file;
 mod meter;

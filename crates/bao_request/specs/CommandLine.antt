@@ -27,6 +27,10 @@ any_number = Unsigned 0 18446744073709551615
 abbrev pub key_rule : Rule
 key_rule = option_rule (codes "key")
 
+-- the file that has the key
+abbrev pub key_file_rule : Rule
+key_file_rule = option_rule (codes "key-file")
+
 abbrev pub context_rule : Rule
 context_rule = option_rule (codes "context")
 
@@ -50,7 +54,7 @@ len_rule = record (place_rule (codes "LEN")) { parser = Some any_number }
 
 -- the subcommands; each has the options of the mode last
 abbrev pub with_mode_rules : App → App
-with_mode_rules app = with_rule (with_rule app key_rule) context_rule
+with_mode_rules app = with_rule (with_rule (with_rule app key_rule) key_file_rule) context_rule
 
 abbrev pub with_file_rules : App → App
 with_file_rules app = with_mode_rules (with_rule (with_rule app file_rule) out_rule)

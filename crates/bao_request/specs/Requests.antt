@@ -70,4 +70,5 @@ GivesTask name rows (Replay root capacity script files) =
 abbrev pub GivesRequest : Option (Text × List Row) → Request → Type 0
 GivesRequest None request = ⊥
 GivesRequest (Some (name, rows)) request =
-    GivesTask name rows request.task × (option_copied request.key ≡ first_of (codes "key") rows) × (option_copied request.context ≡ first_of (codes "context") rows)
+    GivesTask name rows request.task × (option_copied request.key ≡ first_of (codes "key") rows) × (option_copied request.key_file ≡ first_of (codes "key-file") rows)
+    × (option_copied request.context ≡ first_of (codes "context") rows)

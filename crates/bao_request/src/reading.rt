@@ -206,6 +206,7 @@ fn request_of<'a>(
     };
     Ok(Some(Request {
         key: text(words, "key"),
+        key_file: text(words, "key-file"),
         context: text(words, "context"),
         task,
     }))

@@ -15,6 +15,15 @@ const MOST_CHUNKS: i64 = 65_536;
 // The most workers that gather.
 const MOST_WORKERS: i64 = 64;
 
+// What help says of the options of the mode.
+const OF_KEY: &str = "Hashes under this key, 64 hexadecimal digits; others can read it, by ps";
+
+const OF_KEY_FILE: &str =
+    "Hashes under the key in this file, 64 hexadecimal digits and at most one line end";
+
+// What help says of the file that is written.
+const OF_OUT: &str = "The file to write; one that is there is written over";
+
 // What help says below the options.
 const OF_PROGRAM: &str =
     "FILE, ENC, SLICE and SCRIPT may be /dev/stdin. Exit status: 0 done; 1 what was given doesn't verify, or is unfinished;\n2 wrong words; 3 a file can't be read or written; 4 out of memory.";
@@ -29,7 +38,7 @@ const OF_DECODE_SLICE: &str =
     "OUT gets the bytes of the range that the blob has, which are none where it has fewer than START. It is made once the\nslice was accepted.";
 
 const OF_GATHER: &str =
-    "A FILE may be cut, changed or of another blob; one that can't be read is left out. What isn't a regular file, as\n/dev/stdin, is read only where the regular ones leave the blob unfinished. OUT is made once the blob was verified.\nWith --outboard that file is checked first, and never left out. With --long an OUT that isn't\nregular gets bytes as they are verified, so that after a fault a beginning of the blob may stand there.\nWhere a chunk of a FILE is damaged, none of its group of 64 chunks is taken from there; with --salvage the others are.";
+    "A blob above 64 MiB is gathered with --long.\nA FILE may be cut, changed or of another blob; one that can't be read is left out. What isn't a regular file, as\n/dev/stdin, is read only where the regular ones leave the blob unfinished. OUT is made once the blob was verified.\nWith --outboard that file is checked first, and never left out. With --long an OUT that isn't\nregular gets bytes as they are verified, so that after a fault a beginning of the blob may stand there.\nWhere a chunk of a FILE is damaged, none of its group of 64 chunks is taken from there; with --salvage the others are.";
 
 const OF_REPLAY: &str =
     "A line of SCRIPT is empty or has one of nine forms, its words one space apart, and ends with a line feed, before which no\ncarriage return stands. S is a seat, G a group of 64 chunks, MASK a mask of these, C a chunk, F a FILE, counted from 0:\n  claim S G MASK       S takes chunks of G\n  hash S F START LEN   the slice cut out of F becomes the piece of S\n  write S C W          S writes word W, 0 to 128, of the cell of C\n  fill S C             S writes all of them\n  publish S G          S commits what it claims of G and its piece has\n  give S G MASK        S gives chunks of G back\n  load S AT LEN        S loads a word of its read of LEN bytes from AT on\n  settle S             S settles the length that its piece certifies\n  length S             S asks for the length";
@@ -90,9 +99,10 @@ fn with_mode<'a>(alloc: Global, command: Command<'a>) -> Result<Command<'a>, All
     requires { (out-Command command).has_globals ≡ false }
     ensures { IfOk result (IsApp (with_mode_rules (app_of command.entry))) }
 {
-    let key = option(alloc, "key", "HEX").help("Hashes under this key, 64 hexadecimal digits");
+    let key = option(alloc, "key", "HEX").help(OF_KEY);
+    let file = option(alloc, "key-file", "FILE").help(OF_KEY_FILE);
     let context = option(alloc, "context", "TEXT").help("Derives keys for this context");
-    command.arg(key)?.arg(context)
+    command.arg(key)?.arg(file)?.arg(context)
 }
 
 fn hash_command<'a>(alloc: Global) -> Result<Command<'a>, AllocError>
@@ -115,7 +125,7 @@ fn with_files<'a>(alloc: Global, command: Command<'a>) -> Result<Command<'a>, Al
     ensures { IfOk result (IsApp (with_file_rules (app_of command.entry))) }
 {
     let file = place(alloc, "FILE", "The file to encode");
-    let out = place(alloc, "OUT", "The file to write");
+    let out = place(alloc, "OUT", OF_OUT);
     let command = command.arg(file)?.arg(out)?;
     with_mode(alloc, command)
 }
@@ -158,7 +168,7 @@ fn with_encoding<'a>(alloc: Global, command: Command<'a>) -> Result<Command<'a>,
         "ENC",
         "The encoding to check, or with --outboard the plain copy",
     );
-    let out = place(alloc, "OUT", "The file to write");
+    let out = place(alloc, "OUT", OF_OUT);
     let command = command.arg(root)?.arg(encoding)?.arg(out)?;
     with_mode(alloc, command)
 }
@@ -191,7 +201,7 @@ fn with_slice<'a>(alloc: Global, command: Command<'a>) -> Result<Command<'a>, Al
     ensures { IfOk result (IsApp (with_slice_rules (app_of command.entry))) }
 {
     let slice = place(alloc, "SLICE", "The slice to check");
-    let out = place(alloc, "OUT", "The file to write");
+    let out = place(alloc, "OUT", OF_OUT);
     let command = command.arg(slice)?.arg(out)?;
     with_mode(alloc, command)
 }
@@ -264,7 +274,7 @@ fn capacity_option<'a>(alloc: Global) -> Arg<'a>
     option(alloc, "capacity", "N")
         .value_parser(value_parser!(u32).range(1..=MOST_CHUNKS))
         .default_value("65536")
-        .help("How many chunks of 1024 bytes the blob may have, 1 to 65536")
+        .help("How many chunks of 1024 bytes the blob may have, 1 to 65536, which are 64 MiB")
 }
 
 // The place of one file or more.
@@ -281,7 +291,7 @@ fn with_holders<'a>(alloc: Global, command: Command<'a>) -> Result<Command<'a>, 
     ensures { IfOk result (IsApp (with_holders_rules (app_of command.entry))) }
 {
     let root = place(alloc, "ROOT", "The hash of the blob, 64 hexadecimal digits");
-    let out = place(alloc, "OUT", "The file to write");
+    let out = place(alloc, "OUT", OF_OUT);
     let files = files_place(
         alloc,
         "The holders' combined Bao encodings, or with --outboard plain copies, 1 to 64 files",

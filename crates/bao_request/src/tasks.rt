@@ -5,6 +5,8 @@ use bao_files::{Encoding, Part};
 pub struct Request<'a> {
     /// The text of `--key`.
     pub key: Option<&'a str>,
+    /// The path of `--key-file`.
+    pub key_file: Option<&'a str>,
     /// The text of `--context`.
     pub context: Option<&'a str>,
     pub task: Task<'a>,

@@ -1,4 +1,5 @@
 pub mod Contents
+pub mod Keys
 pub mod OnDisks
 pub mod Readers
 pub mod Writers

@@ -7,7 +7,8 @@ ghost use Rattle.b3tree.specs.Taken.{Holds};
 
 use b3tree::{Hash, Hasher, Mode};
 use bao_files::{
-    FileFault, ReadFault, hash_reader, open_file, read_file, read_input, read_sized, read_whole,
+    FileFault, ReadFault, hash_reader, open_file, read_file, read_input, read_key, read_sized,
+    read_whole,
 };
 use std::alloc::Global;
 use std::io::Read;
@@ -63,6 +64,24 @@ pub fn read_input_determined<'a, R: Read, S: Read>(
 {
     let one = read_input(alloc, ours, size, path);
     let other = read_input(alloc, theirs, other_size, path);
+    (one, other)
+}
+
+// A read may fail at any time, and that is the only fault.
+pub fn read_key_determined<'a, R: Read, S: Read>(
+    ours: &mut R,
+    theirs: &mut S,
+    path: &'a str,
+) -> (
+    Result<Option<[u8; 32]>, FileFault<'a>>,
+    Result<Option<[u8; 32]>, FileFault<'a>>,
+)
+    requires { R.remaining ours.old ≡ S.remaining theirs.old }
+    ensures key { IfSome (R.remaining ours.old) (λ _. IfOk result.0 (λ a. IfOk result.1 (λ b. a ≡ b))) }
+    ensures fault { IfErr result.0 (λ e. IfErr result.1 (λ f. e ≡ f)) }
+{
+    let one = read_key(ours, path);
+    let other = read_key(theirs, path);
     (one, other)
 }
 

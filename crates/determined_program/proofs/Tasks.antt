@@ -102,4 +102,4 @@ one_task name rows one other a b = let e : task_class one ≡ task_class other =
 
 pub one_request : (asked : Option (Text × List Row)) (a b : Request) → GivesRequest asked a → GivesRequest asked b → SameRequest a b
 one_request None a b p q = absurd p
-one_request (Some asked) a b p q = (one_task asked.0 asked.1 a.task b.task p.0 q.0, p.1 ∙ sym q.1, p.2 ∙ sym q.2)
+one_request (Some asked) a b p q = (one_task asked.0 asked.1 a.task b.task p.0 q.0, p.1 ∙ sym q.1, p.2 ∙ sym q.2, p.3 ∙ sym q.3)

@@ -24,7 +24,9 @@ SameTask (Replay root capacity script files) (Replay root' capacity' script' fil
 SameTask one other = ⊥
 
 abbrev pub SameRequest : Request → Request → Type 0
-SameRequest a b = SameTask a.task b.task × (option_copied a.key ≡ option_copied b.key) × (option_copied a.context ≡ option_copied b.context)
+SameRequest a b =
+    SameTask a.task b.task × (option_copied a.key ≡ option_copied b.key) × (option_copied a.key_file ≡ option_copied b.key_file)
+    × (option_copied a.context ≡ option_copied b.context)
 
 -- two kinds of fault that are one, or that both are among the two that clap's contract leaves open: for `help`, and for a word that no place takes
 abbrev pub AreBoth : Kinds → ErrorKind → ErrorKind → Type 0

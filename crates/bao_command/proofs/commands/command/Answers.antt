@@ -3,7 +3,7 @@ use Rattle.clap.specs.Words.{Text}
 use Rattle.bao_request.specs.declared.tasks.Request.{Request}
 use Rattle.bao_request.specs.CommandLine.{AsksFor}
 use Rattle.bao_command.specs.declared.fault.Fault.{Fault}
-use Rattle.bao_command.specs.declared.fault.Fault.TheVariants.{Word, Root, Key, KeyAndContext, OutputRange, TooManyFiles, OutIsOutput, LongAndOthers, File, Decode, Gather, Replay}
+use Rattle.bao_command.specs.declared.fault.Fault.TheVariants.{Word, Root, Key, KeyAndContext, KeyFile, KeyFileAndOthers, OutputRange, TooManyFiles, OutIsOutput, LongAndOthers, File, Decode, Gather, Replay}
 use Rattle.bao_files.specs.declared.fault.FileFault.TheVariants as file
 use Rattle.bao_command.specs.Outcome.{Begun}
 use Rattle.bao_command.specs.Tasks.{LeavesOf}
@@ -15,6 +15,8 @@ begun words request old new Word asks leaves = inl leaves
 begun words request old new Root asks leaves = inl leaves
 begun words request old new Key asks leaves = inl leaves
 begun words request old new KeyAndContext asks leaves = inl leaves
+begun words request old new KeyFile asks leaves = inl leaves
+begun words request old new KeyFileAndOthers asks leaves = inl leaves
 begun words request old new OutputRange asks leaves = inl leaves
 begun words request old new TooManyFiles asks leaves = inl leaves
 begun words request old new OutIsOutput asks leaves = inl leaves

@@ -1,13 +1,13 @@
-use Rattle.std.proofs.Common.{ℕ, List, Option, Result, Ok, Err, refl, subst}
+use Rattle.std.proofs.Common.{ℕ, List, Option, Result, Ok, Err, refl}
 use Rattle.b3tree.specs.declared.mode.Mode.{Mode}
 use Rattle.bao_command.specs.declared.fault.Fault.{Fault}
-use Rattle.bao_command.specs.declared.fault.Fault.TheVariants.{Word, Root, Key, KeyAndContext, OutputRange, TooManyFiles, OutIsOutput, LongAndOthers, File, Decode, Gather, Replay}
+use Rattle.bao_command.specs.declared.fault.Fault.TheVariants.{Word, Root, Key, KeyAndContext, KeyFile, KeyFileAndOthers, OutputRange, TooManyFiles, OutIsOutput, LongAndOthers, File, Decode, Gather, Replay}
 use Rattle.bao_files.specs.declared.fault.FileFault.TheVariants as file
 use Rattle.bao_request.specs.declared.tasks.Request.{Request}
 use Rattle.bao_command.specs.Printed.{CommandPrints, OnPrinted}
-use Rattle.std.specs.Option.{option_copied}
-use Rattle.bao_command.specs.ModeWords.{GivesMode}
-use Rattle.bao_command.specs.Tasks.{Answers, HasMode, IsRight, WritesApart, line_of}
+use Rattle.bao_command.specs.ModeWords.{HasMode}
+use Rattle.bao_command.specs.Tasks.{Answers, IsRight, WritesApart, line_of}
+use Rattle.bao_command.proofs.Modes.{mode_answer, mode_due}
 use Rattle.bao_command.proofs.commands.serve.Goals as goal
 
 -- what was printed of the line in the request's mode answers the request
@@ -18,6 +18,8 @@ answers request mode bytes old new (Err Word) has apart right prints = prints
 answers request mode bytes old new (Err Root) has apart right prints = prints
 answers request mode bytes old new (Err Key) has apart right prints = prints
 answers request mode bytes old new (Err KeyAndContext) has apart right prints = prints
+answers request mode bytes old new (Err KeyFile) has apart right prints = prints
+answers request mode bytes old new (Err KeyFileAndOthers) has apart right prints = prints
 answers request mode bytes old new (Err OutputRange) has apart right prints = prints
 answers request mode bytes old new (Err TooManyFiles) has apart right prints = prints
 answers request mode bytes old new (Err OutIsOutput) has apart right prints = prints
@@ -34,5 +36,11 @@ answers request mode bytes old new (Err (Replay fault)) has apart right prints =
 pub returns-then-writes_apart-clause-answer : goal.returns-then-writes_apart-clause-answer
 returns-then-writes_apart-clause-answer g c =
     let request = c.args.request.now in
-    let has = subst (GivesMode (option_copied request.key) (option_copied request.context)) c.in_ok-mode.was c.mode_of.ensures in
-    answers request c.in_ok-mode.mode c.serve_task.ensures.prints.0 (g.O.Write.contents c.args.out.now) (g.O.Write.contents c.serve_task.new.out) c.serve_task.result has (c.writes_apart.ensures.yes c.if-writes_apart.true) c.serve_task.ensures.prints.1 c.serve_task.ensures.prints.2
+    answers request c.in_ok-mode.mode c.serve_task.ensures.prints.0 (g.O.Write.contents c.args.out.now) (g.O.Write.contents c.serve_task.new.out) c.serve_task.result c.in_ok-mode.ensures.mode (c.writes_apart.ensures.yes c.if-writes_apart.true) c.serve_task.ensures.prints.1 c.serve_task.ensures.prints.2
+
+pub returns-in_err-mode-clause-answer : goal.returns-in_err-mode-clause-answer
+returns-in_err-mode-clause-answer g c =
+    mode_answer c.args.request.now (g.O.Write.contents c.args.out.now) c.from_residual-in_err-mode.result _ c.from_residual-in_err-mode.ensures.1 c.in_err-mode.ensures.fault
+
+pub returns-in_err-mode-clause-due : goal.returns-in_err-mode-clause-due
+returns-in_err-mode-clause-due g c = mode_due _ _ _ _ _ _ c.from_residual-in_err-mode.result _ c.from_residual-in_err-mode.ensures.1 c.in_err-mode.ensures.due

@@ -1,0 +1,29 @@
+-- What a fault of the mode's words leaves.
+use Rattle.std.proofs.Common.{◌≡◌, ℕ, List, Option, IfErr, IsErrAnd, Result, Ok, Err, inl, inr, sym, subst}
+use Rattle.std.proofs.KnownBytes.{Keeps-refl}
+use Rattle.bao_command.specs.declared.fault.Fault.{Fault}
+use Rattle.bao_command.specs.ModeWords.{IsModeFault}
+use Rattle.bao_command.specs.Tasks.{Answers, IsDue, LeavesOf}
+use Rattle.bao_request.specs.declared.tasks.Request.{Request}
+
+-- nothing is printed then
+pub mode_leaves : (request : Request) (old : Option (List ℕ)) (fault : Fault) → IsModeFault request.key_file fault → LeavesOf request old old fault
+mode_leaves request old fault (inl is) = subst (LeavesOf request old old) (sym is) (Keeps-refl old)
+mode_leaves request old fault (inr (inl is)) = subst (LeavesOf request old old) (sym is) (Keeps-refl old)
+mode_leaves request old fault (inr (inr (inl is))) = subst (LeavesOf request old old) (sym is) (Keeps-refl old)
+mode_leaves request old fault (inr (inr (inr (inl is)))) = subst (LeavesOf request old old) (sym is) (Keeps-refl old)
+mode_leaves request old fault (inr (inr (inr (inr read)))) = subst (LeavesOf request old old) (sym read.1.1) (Keeps-refl old)
+
+-- so it answers the request
+pub mode_answer : (request : Request) (old : Option (List ℕ)) (result : Result Unit Fault) (fault : Fault) → IsErrAnd result (λ e. e ≡ fault) → IsModeFault request.key_file fault
+    → Answers request old old result
+mode_answer request old (Ok done) fault is of = absurd is
+mode_answer request old (Err e) fault is of = subst (LeavesOf request old old) (sym is) (mode_leaves request old fault of)
+
+-- and is due as that
+pub mode_due : (root past many out mixed keys : Type 0) (result : Result Unit Fault) (fault : Fault) → IsErrAnd result (λ e. e ≡ fault) → IsDue ⊥ ⊥ ⊥ ⊥ ⊥ keys fault
+    → IfErr result (IsDue root past many out mixed keys)
+mode_due root past many out mixed keys (Ok done) fault is due = tt
+mode_due root past many out mixed keys (Err e) fault is due =
+    subst (IsDue root past many out mixed keys) (sym is)
+    (λ i. absurd (due.0 i), λ i. absurd (due.1 i), λ i. absurd (due.2 i), λ i. absurd (due.3 i), λ i. absurd (due.4 i), due.5)
