@@ -2,10 +2,11 @@
  * `make c-test` holds the two together. Link with libberylwool.a or libberylwool.so.
  *
  * Rules for every function, which nothing checks:
- *   - No pointer is null, but one beside a length of 0: there any address will do.
+ *   - No pointer is null, but one beside a length of 0, where any address will do, and that of bw_free.
  *   - What is passed as a pointer to non-const goes to one parameter of one call at a time. What is passed as const may be shared.
  *   - Buffers are at most SIZE_MAX / 2 bytes long.
- *   - The two seats of bw_seat_join and bw_seat_meet come from one bw_store_new, or their stores differ in root, mode or capacity.
+ *   - The two seats of bw_seat_join and bw_seat_meet come from one bw_store_new or bw_store_part, or their stores differ in root, mode, capacity or
+ *     first chunk.
  *   - malloc, realloc and free are of one allocator and align to 16.
  *   - No function is called from a signal handler, or in the forked child of a process with threads.
  * A function has no hidden state: calls on different memory may run at once, in any threads. No function starts a thread, waits, takes a
@@ -64,10 +65,10 @@ enum {
     BW_OTHER_BLOB = 601,     /* the blob's hash isn't the root */
     BW_COLLISION = 602,      /* a collision: two different inputs with one chaining value */
     BW_STORE_MEMORY = 801,   /* out of memory for a store */
-    BW_CAPACITY = 802,       /* the capacity isn't 1 to 65,536 chunks */
+    BW_CAPACITY = 802,       /* the capacity isn't 1 to 65,536 chunks, or the first chunk is above 2^54 */
     BW_NO_GROUP = 803,       /* the store has no such group */
     BW_OTHER_ROOT = 804,     /* the outline is of another root or mode than the store */
-    BW_TOO_LARGE = 805,      /* the length is above what the store has room for */
+    BW_TOO_LARGE = 805,      /* the length is above what the store has room for, or the store isn't from chunk 0 on */
     BW_SPLIT_MEMORY = 806,   /* out of memory for a seat */
     BW_OTHER_LENGTH = 807,   /* the recorded length isn't the one that the encoding claims, or there is none */
     BW_NO_LENGTH = 808,      /* no length is recorded */
@@ -85,51 +86,13 @@ enum {
     BW_PAST_OUTPUT = 1208,   /* the output asked for ends above 2^64 - 1 */
     BW_NO_OUTBOARD = 1209,   /* the outboard encoding isn't accepted */
     BW_NO_CHUNKS = 1210,     /* the blob hasn't so many chunks there */
-    BW_OTHER_STORE = 1211,   /* the two seats' stores differ in root, mode or capacity */
+    BW_OTHER_STORE = 1211,   /* the two seats' stores differ in root, mode, capacity or first chunk */
     BW_OTHER_SIZE = 1212,    /* the bytes aren't as many as a check in pieces takes */
     BW_NO_MODE = 1213        /* the mode's kind isn't known */
 };
 
-/* A status in words. */
-static inline const char *bw_strerror(bw_status status) {
-    switch (status) {
-    case BW_OK: return "success";
-    case BW_TOO_LONG: return "more than 2^64 - 1 bytes";
-    case BW_TEXT_MEMORY: return "no memory for a text";
-    case BW_SHORT: return "the text ends too early";
-    case BW_MISMATCH: return "the text is damaged";
-    case BW_TRAILING: return "something follows the text";
-    case BW_TOO_MUCH: return "2^64 bytes of a text or more";
-    case BW_OTHER_BLOB: return "the blob's hash isn't the root";
-    case BW_COLLISION: return "two inputs with one chaining value";
-    case BW_STORE_MEMORY: return "no memory for a store";
-    case BW_CAPACITY: return "the capacity isn't 1 to 65,536 chunks";
-    case BW_NO_GROUP: return "the store has no such group";
-    case BW_OTHER_ROOT: return "the outline is of another root or mode";
-    case BW_TOO_LARGE: return "the length is above the store's room";
-    case BW_SPLIT_MEMORY: return "no memory for a seat";
-    case BW_OTHER_LENGTH: return "the recorded length isn't the text's";
-    case BW_NO_LENGTH: return "no length is recorded";
-    case BW_LACKING: return "a node of the slice isn't held";
-    case BW_SERVE_MEMORY: return "no memory for a slice";
-    case BW_UNFINISHED: return "no length is recorded, or a byte isn't held";
-    case BW_NOT_THE_ROOT: return "the hash of the bytes isn't the root";
-    case BW_ROOM: return "the buffer has no room";
-    case BW_NO_HANDLE: return "the handle is empty, or of another kind";
-    case BW_MEMORY: return "no memory for what a handle owns";
-    case BW_MISSING: return "a byte of the range isn't held";
-    case BW_NO_TAIL: return "the text hasn't the last chunk";
-    case BW_DIFFERS: return "another length is recorded";
-    case BW_NOT_UTF8: return "the context isn't UTF-8";
-    case BW_PAST_OUTPUT: return "the output asked for ends above 2^64 - 1";
-    case BW_NO_OUTBOARD: return "the outboard encoding isn't accepted";
-    case BW_NO_CHUNKS: return "the blob hasn't so many chunks there";
-    case BW_OTHER_STORE: return "the seats' stores differ";
-    case BW_OTHER_SIZE: return "not as many bytes as a check in pieces takes";
-    case BW_NO_MODE: return "the mode's kind isn't known";
-    default: return "no status of this library";
-    }
-}
+/* A status in words: that of the library which is linked, so that a newer one knows its own. The text lasts as long as the program. */
+const char *bw_strerror(bw_status status);
 
 /* A mode: kind 0 (BW_MODE_HASH) is plain hashing, 1 (BW_MODE_KEYED_HASH) is keyed hashing under `key`, and 2 (BW_MODE_DERIVE_KEY) is derivation of
  * keys, which bw_mode_derive makes. A call with another kind answers BW_NO_MODE before all else, and leaves an empty handle where it was to fill
@@ -182,7 +145,7 @@ typedef struct bw_handle {
 
 #define BW_EMPTY {NULL}
 
-/* Frees what the handle owns, if it owns something. It is empty then, and may be freed again. */
+/* Frees what the handle owns, if it owns something. It is empty then, and may be freed again. NULL is no handle, and nothing is done. */
 void bw_free(bw_handle *handle);
 
 /* The version of the library that is linked, as BW_VERSION has it. */
@@ -333,8 +296,8 @@ BW_USE bw_status bw_feed_take(bw_handle *feed, const uint8_t *node, size_t node_
  * isn't taken is less than the next node, or follows the last: hand it in again with what comes after it, or to bw_feed_finish. `out` has
  * room for as many bytes as are given, or else BW_ROOM, and nothing is changed; from *filled to there it is 0. BW_MISMATCH: the first fault of
  * every encoding that begins with what was taken and these bytes is at *at. BW_TOO_MUCH, with 0 in *at. After either, nodes before the fault may
- * have been taken and `out` is 0: begin a new check from the bytes on that earlier calls handed out. Pieces of 256 KiB take little more time than
- * their hash; small ones take several times as much, since chunks at their ends are verified one by one. */
+ * have been taken and `out` is 0: begin a new check from the bytes on that earlier calls handed out. Pieces of 256 KiB take some
+ * 1.2 times as long as their hash, and of 64 KiB 1.6 times: chunks at their ends are verified one by one. */
 BW_USE bw_status bw_feed_take_many(bw_handle *feed, const uint8_t *bytes, size_t bytes_len, uint8_t *out, size_t out_len, size_t *taken,
                                    size_t *filled, uint64_t *at);
 
@@ -350,8 +313,20 @@ BW_USE bw_status bw_feed_finish(bw_handle *feed, const uint8_t *rest, size_t res
 
 /* A store of at most `capacity` chunks, 1 to 65,536, and its first seat; what the handle owned is freed. It takes the memory for all of them now,
  * some 1,096 bytes a chunk, so 72 MB at most: where the length is known, give it the blob's number of chunks. A blob of more than 64 MiB goes
- * without a store, by bw_check_slice or a check in pieces. BW_CAPACITY, BW_STORE_MEMORY, BW_MEMORY: the handle is empty then. */
+ * part by part, by bw_store_part, or without a store, by bw_check_slice or a check in pieces. BW_CAPACITY, BW_STORE_MEMORY, BW_MEMORY: the handle
+ * is empty then. */
 BW_USE bw_status bw_store_new(const bw_mode *mode, const uint8_t root[BW_AT_LEAST(BW_HASH_LEN)], uint32_t capacity, bw_handle *seat);
+
+/* A store of a part of a blob, in the same way: of `capacity` chunks from chunk `first_chunk` of the blob on, which is the store's chunk 0. So a blob of any
+ * length is put together in the memory of one part, as examples/windows.c does it: its workers call bw_seat_take, bw_seat_commit_chunks or
+ * bw_seat_commit, and bw_seat_give, and the part is read from position 0 on by bw_seat_read. What was read in order is the blob where a hasher
+ * that took it all in has the root.
+ * A length is recorded in a store from chunk 0 on alone, and there only where all of the blob has room. In a part from a later chunk on
+ * bw_seat_settle answers BW_TOO_LARGE for each length that is certified, bw_seat_length and bw_seat_finish BW_UNFINISHED, bw_seat_commit_all,
+ * bw_seat_commit_parents and bw_outline_commit BW_OTHER_LENGTH, and bw_seat_serve_slice BW_NO_LENGTH; bw_gather and bw_seat_salvage commit nothing
+ * there. BW_CAPACITY also where `first_chunk` is above 2^54. */
+BW_USE bw_status bw_store_part(const bw_mode *mode, const uint8_t root[BW_AT_LEAST(BW_HASH_LEN)], uint64_t first_chunk, uint32_t capacity,
+                               bw_handle *seat);
 
 /* Another seat of the store, which has seen the same and claims nothing; what `other` owned is freed. BW_SPLIT_MEMORY, BW_MEMORY: `other` is
  * empty then. */
@@ -359,7 +334,7 @@ BW_USE bw_status bw_seat_split(bw_handle *seat, bw_handle *other);
 
 /* Joins two seats of one store: `seat` has the claims of both, and `other` is empty. The thread that calls has both handles: the other's thread
  * has ended and was joined, say, or has handed it over. A seat that is freed while it has claims keeps their chunks from all others, so
- * give them back first, or join it. BW_OTHER_STORE where their stores differ in root, mode or capacity, and so can be told apart; that
+ * give them back first, or join it. BW_OTHER_STORE where their stores differ in root, mode, capacity or first chunk, and so can be told apart; that
  * stores which are alike in these aren't mixed up is a rule of above. Both handles are as they were then. No memory is taken. */
 BW_USE bw_status bw_seat_join(bw_handle *seat, bw_handle *other);
 
@@ -381,6 +356,12 @@ BW_USE bw_status bw_seat_give(bw_handle *seat, uint32_t group, uint64_t mask, ui
 BW_USE bw_status bw_seat_commit_all(bw_handle *seat, uint64_t start, uint64_t len, const uint8_t *text, size_t text_len,
                                     uint64_t *committed, uint64_t *parents, uint64_t *at);
 
+/* Checks an encoding as the slice (start, len), once, and stores the chunks that it has, as bw_seat_commit_all does, but no parents: no length has to be
+ * recorded, so that it is for a part of a blob too. Chunks that the store has no room for are left out. *committed says how many were stored.
+ * BW_SHORT, BW_MISMATCH, BW_TRAILING as bw_check_slice. */
+BW_USE bw_status bw_seat_commit_chunks(bw_handle *seat, uint64_t start, uint64_t len, const uint8_t *text, size_t text_len,
+                                       uint64_t *committed, uint64_t *at);
+
 /* Which chunks of the group are held, without claiming any: bit j of *mask stands for chunk 64 * group + j, which was asked for its first byte, one after
  * another. Others may store meanwhile. The chunk of a blob of no bytes has none, and isn't told. BW_NO_GROUP. */
 BW_USE bw_status bw_seat_held(bw_handle *seat, uint32_t group, uint64_t *mask);
@@ -391,7 +372,7 @@ BW_USE bw_status bw_seat_commit(bw_handle *seat, uint32_t group, uint64_t start,
                                 uint64_t *committed, uint64_t *at);
 
 /* Checks an encoding as the slice (2^64 - 1, 1), which has the last chunk, and records its length, if none is recorded. BW_SHORT, BW_MISMATCH,
- * BW_TRAILING, BW_NO_TAIL, BW_TOO_LARGE, BW_DIFFERS. */
+ * BW_TRAILING, BW_NO_TAIL, BW_TOO_LARGE, BW_DIFFERS. Without a store bw_decode of this slice tells the certified length. */
 BW_USE bw_status bw_seat_settle(bw_handle *seat, const uint8_t *text, size_t text_len, uint64_t *at);
 
 /* Checks an encoding as the slice (start, len), and stores its parents at boundaries of the group: bit j of *stored stands for the parent whose
@@ -418,8 +399,8 @@ BW_USE bw_status bw_seat_salvage(bw_handle *seat, const uint8_t *text, size_t te
 /* The recorded length of the blob. BW_UNFINISHED: none is. */
 BW_USE bw_status bw_seat_length(bw_handle *seat, uint64_t *len);
 
-/* Fills `out` with the bytes from byte `from` of the blob on. BW_MISSING: the first that isn't held is at *missing, and those before it are
- * filled in. */
+/* Fills `out` with the bytes from position `from` of the store on, which in a store from chunk 0 on is byte `from` of the blob. BW_MISSING: the first
+ * that isn't held is at *missing, and those before it are filled in. */
 BW_USE bw_status bw_seat_read(bw_handle *seat, uint64_t from, uint8_t *out, size_t out_len, uint64_t *missing);
 
 /* Puts the encoding of the slice (start, len) to the start of `out`, also of an unfinished store. BW_NO_LENGTH, BW_LACKING, BW_SERVE_MEMORY.

@@ -12,7 +12,7 @@
 #include <string.h>
 #include <time.h>
 
-enum { ROUNDS = 5, READS = 4, CALLS = 100000, GROUP_LEN = BW_GROUP_CHUNKS * BW_CHUNK_LEN, MOST_THREADS = 4 };
+enum { ROUNDS = 5, READS = 4, CALLS = 100000, GROUP_LEN = BW_GROUP_CHUNKS * BW_CHUNK_LEN, MOST_THREADS = 4, MIB = 1 << 20 };
 
 /* The most bytes that a store has room for. */
 static const size_t most = (size_t)64 << 20;
@@ -53,6 +53,29 @@ static void note(double *least, double from) {
 static void print(const char *name, double seconds) {
     printf("%s: %.3f ms\n", name, seconds * 1e3);
 }
+
+/* The least time of a call that can be made again and again, or, in ns, of one that has next to nothing to do. */
+#define TIME(name, call)                            \
+    do {                                            \
+        double least_ = 1e9;                        \
+        for (int k_ = 0; k_ < ROUNDS; k_++) {       \
+            double from_ = now();                   \
+            MUST((call) == BW_OK);                  \
+            note(&least_, from_);                   \
+        }                                           \
+        print(name, least_);                        \
+    } while (0)
+
+#define TIME_CALLS(name, times, call)                                      \
+    do {                                                                   \
+        double least_ = 1e9;                                               \
+        for (int k_ = 0; k_ < ROUNDS; k_++) {                              \
+            double from_ = now();                                          \
+            for (int i_ = 0; i_ < (times); i_++) kept = (bw_status)(call); \
+            note(&least_, from_);                                          \
+        }                                                                  \
+        printf("%s: %.2f ns\n", name, least_ / (times) * 1e9);             \
+    } while (0)
 
 /* One thread's part of the blob, from byte `at` on: its seat, its groups' slices, one every `slice_room` bytes, with their lengths, and what it read. */
 typedef struct share {
@@ -146,29 +169,164 @@ static void shared(const uint8_t *bytes, size_t len) {
     free(text), free(it.slices), free(it.slice_lens), free(it.read);
 }
 
-/* Calls that have next to nothing to do, each many times. */
+/* Calls that have next to nothing to do, each many times, with a store of no bytes. */
 static void calls(const uint8_t *bytes) {
-    uint8_t root[BW_HASH_LEN];
+    uint8_t root[BW_HASH_LEN], out[BW_HASH_LEN];
     uint64_t len = 0, mask = 0;
-    bw_handle hasher = BW_EMPTY, seat = BW_EMPTY;
-    double updated = 1e9, asked = 1e9, taken = 1e9;
+    uint32_t node = 0;
+    size_t count = 0;
+    bw_range ranges[BW_RANGES_MAX];
+    bw_handle hasher = BW_EMPTY, seat = BW_EMPTY, other = BW_EMPTY, feed = BW_EMPTY;
     bw_hash(&plain, bytes, 0, root);
-    MUST(bw_hasher_new(&plain, &hasher) == BW_OK && bw_store_new(&plain, root, 65536, &seat) == BW_OK);
-    for (int k = 0; k < ROUNDS; k++) {
-        double from = now();
-        for (int i = 0; i < CALLS; i++) kept = bw_hasher_update(&hasher, bytes, 0);
-        note(&updated, from);
-        from = now();
-        for (int i = 0; i < CALLS; i++) kept = bw_seat_length(&seat, &len);
-        note(&asked, from);
-        from = now();
-        for (int i = 0; i < CALLS; i++) kept = bw_seat_take(&seat, 3, UINT64_MAX, &mask), kept = bw_seat_give(&seat, 3, UINT64_MAX, &mask);
-        note(&taken, from);
+    MUST(bw_hasher_new(&plain, &hasher) == BW_OK && bw_store_new(&plain, root, 65536, &seat) == BW_OK && bw_feed_combined(&plain, root, &feed) == BW_OK);
+    TIME_CALLS("bw_hasher_update of no bytes", CALLS, bw_hasher_update(&hasher, bytes, 0));
+    TIME_CALLS("bw_seat_length", CALLS, bw_seat_length(&seat, &len));
+    TIME_CALLS("bw_seat_take and bw_seat_give", CALLS, bw_seat_take(&seat, 3, UINT64_MAX, &mask) | bw_seat_give(&seat, 3, UINT64_MAX, &mask));
+    TIME_CALLS("bw_seat_held", CALLS / 10, bw_seat_held(&seat, 3, &mask));
+    TIME_CALLS("bw_seat_split and bw_seat_join", CALLS / 10, bw_seat_split(&seat, &other) | bw_seat_join(&seat, &other));
+    TIME_CALLS("bw_seat_split and bw_seat_meet", CALLS / 10, bw_seat_split(&seat, &other) | bw_seat_meet(&seat, &other));
+    TIME_CALLS("bw_hasher_new", CALLS, bw_hasher_new(&plain, &hasher));
+    TIME_CALLS("bw_hasher_finish of no bytes", CALLS / 10, bw_hasher_finish(&hasher, out));
+    TIME_CALLS("bw_feed_wants", CALLS, bw_feed_wants(&feed, &node, &count));
+    TIME_CALLS("bw_feed_slice", CALLS, bw_feed_slice(&plain, root, 0, 1, &feed));
+    TIME_CALLS("bw_slice_len of 64 KiB", CALLS, bw_slice_len(most, most / 3, GROUP_LEN));
+    TIME_CALLS("bw_slice_ranges of 64 KiB", CALLS, bw_slice_ranges(most, most / 3, GROUP_LEN, ranges, BW_RANGES_MAX, &count));
+    TIME_CALLS("bw_outboard_ranges of 64 KiB", CALLS, bw_outboard_ranges(most, most / 3, GROUP_LEN, ranges, BW_RANGES_MAX, &count));
+    TIME_CALLS("bw_hash of no bytes", CALLS, (bw_hash(&plain, bytes, 0, out), BW_OK));
+    TIME_CALLS("bw_derive_key of no bytes", CALLS, bw_derive_key(bytes, 0, bytes, 0, out, sizeof out));
+    bw_free(&hasher), bw_free(&seat), bw_free(&other), bw_free(&feed);
+}
+
+/* An encoding is given in pieces of so many bytes, or node by node for 0. */
+static bw_status pour(const uint8_t *root, const uint8_t *text, size_t len, size_t piece, uint8_t *out) {
+    bw_handle feed = BW_EMPTY;
+    uint64_t at = 0;
+    uint32_t node = 0;
+    size_t had = 0, filled = 0, size = 0;
+    bw_status status = bw_feed_combined(&plain, root, &feed);
+    for (size_t done = 0; status == BW_OK && done < len; done += had) {
+        size_t some = len - done < piece ? len - done : piece;
+        if (piece) {
+            status = bw_feed_take_many(&feed, text + done, some, out, some, &had, &filled, &at);
+            continue;
+        }
+        status = bw_feed_wants(&feed, &node, &size);
+        if (status == BW_OK) status = bw_feed_take(&feed, text + done, had = size, &at);
     }
-    printf("bw_hasher_update of no bytes: %.2f ns\n", updated / CALLS * 1e9);
-    printf("bw_seat_length: %.2f ns\n", asked / CALLS * 1e9);
-    printf("bw_seat_take and bw_seat_give: %.2f ns\n", taken / CALLS * 1e9);
-    bw_free(&hasher), bw_free(&seat);
+    if (status == BW_OK) status = bw_feed_finish(&feed, text, 0, &at);
+    bw_free(&feed);
+    return status;
+}
+
+/* A plain copy beside an outline, 64 KiB at a time: checked, made slices of, or stored. */
+static bw_status beside(bw_handle *outline, bw_handle *seat, const uint8_t *bytes, size_t len, uint8_t *out) {
+    bw_status status = BW_OK;
+    uint64_t at = 0, committed = 0, parents = 0;
+    size_t used = 0;
+    for (size_t from = 0; status == BW_OK && from < len; from += GROUP_LEN) {
+        size_t some = len - from < GROUP_LEN ? len - from : GROUP_LEN;
+        uint64_t first = from / BW_CHUNK_LEN, count = (some + BW_CHUNK_LEN - 1) / BW_CHUNK_LEN;
+        if (seat) status = bw_outline_commit(outline, seat, first, count, bytes + from, some, &committed, &parents, &at);
+        else if (out) status = bw_outline_slice(outline, first, count, bytes + from, some, out, slice_room, &used, &at);
+        else status = bw_outline_check(outline, first, count, bytes + from, some, &at);
+    }
+    return status;
+}
+
+/* A hasher that takes in 64 KiB at a time. */
+static bw_status update(const uint8_t *bytes, size_t len) {
+    uint8_t out[BW_HASH_LEN];
+    bw_handle hasher = BW_EMPTY;
+    bw_status status = bw_hasher_new(&plain, &hasher);
+    for (size_t from = 0; status == BW_OK && from < len; from += GROUP_LEN) status = bw_hasher_update(&hasher, bytes + from, len - from < GROUP_LEN ? len - from : GROUP_LEN);
+    if (status == BW_OK) status = bw_hasher_finish(&hasher, out);
+    bw_free(&hasher);
+    return status;
+}
+
+/* Every call over the first bytes of the file, which are at most as many as a store has room for. */
+static void first_bytes(const uint8_t *bytes, size_t len) {
+    uint8_t root[BW_HASH_LEN], again[BW_HASH_LEN];
+    size_t text_len = (size_t)bw_encoded_len(len), bare_len = (size_t)bw_outboard_len(len), used = 0;
+    uint8_t *text = room(text_len), *bare = room(bare_len), *out = room(text_len);
+    uint64_t at = 0, total = 0;
+    bw_input ours, theirs;
+    bw_handle outline = BW_EMPTY;
+    MUST(len >= 2 * MIB);
+    TIME("bw_hash of the first 64 MiB", (bw_hash(&plain, bytes, len, again), BW_OK));
+    TIME("bw_hasher_update in pieces of 64 KiB", update(bytes, len));
+    TIME("bw_xof of 1 MiB", bw_xof(&plain, bytes, 0, 0, out, MIB));
+    TIME("bw_encode", bw_encode(&plain, bytes, len, text, text_len, &used, root));
+    TIME("bw_outboard", bw_outboard(&plain, bytes, len, bare, bare_len, &used, root));
+    TIME("bw_slice of 1 MiB", bw_slice(&plain, bytes, len, MIB, MIB, out, text_len, &used, root));
+    TIME("bw_cut_slice of 1 MiB", bw_cut_slice(text, text_len, MIB, MIB, out, text_len, &used));
+    TIME("bw_check_slice of 1 MiB", bw_check_slice(&plain, root, MIB, MIB, out, used, &at));
+    TIME("bw_check_outboard", bw_check_outboard(&plain, root, bare, bare_len, &at));
+    TIME("bw_check_bare", bw_check_bare(&plain, root, bare, bare_len, 0, (len + BW_CHUNK_LEN - 1) / BW_CHUNK_LEN, bytes, len, &at));
+    TIME("bw_audit", bw_audit(&plain, root, 0, UINT64_MAX, text, text_len, bytes, len, &at, &ours, &theirs));
+    TIME("bw_decode", bw_decode(&plain, root, 0, UINT64_MAX, text, text_len, out, text_len, &used, &total, &at));
+    TIME("bw_feed_take_many in pieces of 64 KiB", pour(root, text, text_len, GROUP_LEN, out));
+    TIME("bw_feed_take_many in pieces of 256 KiB", pour(root, text, text_len, 4 * GROUP_LEN, out));
+    TIME("bw_feed_take", pour(root, text, text_len, 0, out));
+    TIME("bw_outline_new", bw_outline_new(&plain, root, bare, bare_len, &outline, &at));
+    TIME("bw_outline_check", beside(&outline, NULL, bytes, len, NULL));
+    TIME("bw_outline_slice", beside(&outline, NULL, bytes, len, out));
+    bw_free(&outline);
+    free(text), free(bare), free(out);
+}
+
+/* A store of these bytes, by one thread, made anew each time, and filled in one way; then what is asked of a full one. */
+static void stores(const uint8_t *bytes, size_t len) {
+    uint8_t root[BW_HASH_LEN];
+    size_t text_len = (size_t)bw_encoded_len(len), bare_len = (size_t)bw_outboard_len(len), used = 0;
+    uint8_t *text = room(text_len), *bare = room(bare_len), *slice = room(slice_room), *out = room(len);
+    uint64_t at = 0, committed = 0, parents = 0;
+    bw_handle seat = BW_EMPTY, outline = BW_EMPTY;
+    bw_node lacking;
+    double made = 1e9, parted = 1e9, all = 1e9, chunks = 1e9, bare_ones = 1e9, gathered = 1e9, salvaged = 1e9, settled = 1e9, apart = 1e9;
+    MUST(bw_encode(&plain, bytes, len, text, text_len, &used, root) == BW_OK && bw_outboard(&plain, bytes, len, bare, bare_len, &used, root) == BW_OK);
+    MUST(bw_outline_new(&plain, root, bare, bare_len, &outline, &at) == BW_OK);
+    for (int k = 0; k < ROUNDS; k++) {
+        bw_report report = {0, 0, 0, 0, 0, 0, 0};
+        bw_free(&seat);
+        double from = now();
+        MUST(bw_store_part(&plain, root, 4096, 4096, &seat) == BW_OK);
+        note(&parted, from), bw_free(&seat), from = now();
+        MUST(bw_store_new(&plain, root, 65536, &seat) == BW_OK);
+        note(&made, from), from = now();
+        MUST(bw_seat_commit_chunks(&seat, 0, UINT64_MAX, text, text_len, &committed, &at) == BW_OK);
+        note(&chunks, from);
+        MUST(bw_cut_slice(text, text_len, UINT64_MAX, 1, slice, slice_room, &used) == BW_OK);
+        from = now();
+        MUST(bw_seat_settle(&seat, slice, used, &at) == BW_OK);
+        note(&settled, from), from = now();
+        for (uint32_t group = 0; group < groups_of(len); group++)
+            MUST(bw_cut_slice(text, text_len, (uint64_t)group * GROUP_LEN, GROUP_LEN, slice, slice_room, &used) == BW_OK
+                 && bw_seat_commit_parents(&seat, group, (uint64_t)group * GROUP_LEN, GROUP_LEN, slice, used, &parents, &at) == BW_OK);
+        note(&apart, from), from = now();
+        MUST(bw_seat_salvage(&seat, text, text_len, &report) == BW_OK);
+        note(&salvaged, from);
+        MUST(bw_store_new(&plain, root, 65536, &seat) == BW_OK);
+        from = now();
+        MUST(bw_gather(&seat, 0, 1, text, text_len, &report) == BW_OK && report.refused == 0);
+        note(&gathered, from);
+        for (int bare_too = 0; bare_too < 2; bare_too++) {
+            MUST(bw_store_new(&plain, root, 65536, &seat) == BW_OK && bw_cut_slice(text, text_len, UINT64_MAX, 1, slice, slice_room, &used) == BW_OK);
+            MUST(bw_seat_settle(&seat, slice, used, &at) == BW_OK);
+            from = now();
+            if (bare_too) MUST(beside(&outline, &seat, bytes, len, NULL) == BW_OK);
+            else MUST(bw_seat_commit_all(&seat, 0, UINT64_MAX, text, text_len, &committed, &parents, &at) == BW_OK);
+            note(bare_too ? &bare_ones : &all, from);
+        }
+    }
+    print("bw_store_new", made), print("bw_store_part of 4 MiB", parted), print("bw_seat_commit_chunks", chunks), print("bw_seat_commit_all", all);
+    print("bw_seat_settle", settled), print("bw_seat_commit_parents", apart), print("bw_outline_commit", bare_ones);
+    print("bw_gather", gathered), print("bw_seat_salvage of a full store", salvaged);
+    TIME("bw_seat_serve_slice of 1 MiB", bw_seat_serve_slice(&seat, MIB, MIB, out, len, &used, &lacking));
+    TIME("bw_seat_finish", bw_seat_finish(&seat, out, len, &used));
+    MUST(used == len && memcmp(out, bytes, len) == 0);
+    bw_free(&seat), bw_free(&outline);
+    free(text), free(bare), free(slice), free(out);
 }
 
 static void texts(const uint8_t *bytes, size_t len) {
@@ -207,6 +365,8 @@ int main(int count, char **words) {
     fclose(file);
     calls(bytes);
     texts(bytes, len);
+    first_bytes(bytes, len < most ? len : most);
+    stores(bytes, len < most ? len : most);
     shared(bytes, len < most ? len : most);
     free(bytes);
     return 0;

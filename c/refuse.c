@@ -94,7 +94,7 @@ int main(void) {
     WANT(bw_cut_slice(text, used, UINT64_MAX, 1, tail, sizeof tail, &tail_len) == BW_OK);
     WANT(bw_outboard(&plain, blob, sizeof blob, outboard, sizeof outboard, &outboard_len, root) == BW_OK);
     for (int refused = 1, n = 0; refused != 0; n++) {
-        bw_handle hasher = BW_EMPTY, seat = BW_EMPTY, other = BW_EMPTY, feed = BW_EMPTY, whole = BW_EMPTY, outline = BW_EMPTY, part = BW_EMPTY;
+        bw_handle hasher = BW_EMPTY, seat = BW_EMPTY, other = BW_EMPTY, feed = BW_EMPTY, whole = BW_EMPTY, outline = BW_EMPTY, again = BW_EMPTY, part = BW_EMPTY;
         refused = 0;
         left = n;
         bw_status made = bw_hasher_new(&plain, &hasher), opened = bw_store_new(&plain, root, 100, &seat), split = bw_seat_split(&seat, &other);
@@ -103,16 +103,20 @@ int main(void) {
         bw_status written = bw_slice(&plain, blob, sizeof blob, 0, 65536, spare, sizeof spare, &spare_len, root);
         bw_status fed = bw_feed_slice(&plain, root, 0, 65536, &feed), all = bw_feed_combined(&plain, root, &whole);
         bw_status bare = bw_outboard(&plain, blob, sizeof blob, spare, sizeof spare, &spare_len, root);
-        bw_status kept = bw_outline_new(&plain, root, outboard, outboard_len, &outline, &at), shared = bw_outline_share(&outline, &part);
+        bw_status kept = bw_outline_new(&plain, root, outboard, outboard_len, &outline, &at), shared = bw_outline_share(&outline, &again);
+        bw_status parted = bw_store_part(&plain, root, 3, 60, &part);
         bw_status beside = bw_outline_slice(&outline, 0, 64, blob, 65536, spare, sizeof spare, &beside_len, &at);
         left = 0; /* no other call takes memory */
         WANT(kept == BW_OK || (kept == BW_MEMORY && outline.at == NULL && ++refused));
-        WANT(shared == BW_OK || (part.at == NULL && shared == (kept == BW_OK ? BW_MEMORY : BW_NO_HANDLE) && ++refused));
+        WANT(shared == BW_OK || (again.at == NULL && shared == (kept == BW_OK ? BW_MEMORY : BW_NO_HANDLE) && ++refused));
         WANT(beside == BW_OK || (beside == (kept == BW_OK ? BW_TEXT_MEMORY : BW_NO_HANDLE) && ++refused));
         WANT(beside != BW_OK || sliced != BW_OK || (beside_len == cut && memcmp(spare, slice, cut) == 0));
         WANT(kept != BW_OK || (bw_outline_length(&outline, &len) == BW_OK && len == sizeof blob && bw_outline_check(&outline, 3, 2, blob, 2048, &at) == BW_OK));
-        WANT(shared != BW_OK || (bw_outline_length(&part, &len) == BW_OK && len == sizeof blob));
+        WANT(shared != BW_OK || (bw_outline_length(&again, &len) == BW_OK && len == sizeof blob));
         WANT(made == BW_OK || (made == BW_MEMORY && ++refused));
+        WANT(parted == BW_OK || ((parted == BW_MEMORY || parted == BW_STORE_MEMORY) && part.at == NULL && ++refused));
+        WANT(parted != BW_OK || (bw_seat_commit_chunks(&part, 0, UINT64_MAX, text, used, &mask, &at) == BW_OK && mask == 60));
+        WANT(parted != BW_OK || (bw_seat_read(&part, 0, spare, 60 * 1024, &at) == BW_OK && memcmp(spare, blob + 3 * 1024, 60 * 1024) == 0));
         WANT(bw_hasher_update(&hasher, blob, sizeof blob) == (made == BW_OK ? BW_OK : BW_NO_HANDLE));
         WANT(bw_hasher_finish(&hasher, out) == (made == BW_OK ? BW_OK : BW_NO_HANDLE));
         WANT(made != BW_OK || memcmp(out, root, sizeof out) == 0);
@@ -161,7 +165,7 @@ int main(void) {
             WANT(bw_seat_commit_all(&seat, 0, UINT64_MAX, text, used, &mask, &parents, &at) == BW_OK && mask == 5 - had && parents == 5 - before);
         }
         left = -1;
-        bw_free(&hasher), bw_free(&seat), bw_free(&other), bw_free(&feed), bw_free(&whole), bw_free(&outline), bw_free(&part);
+        bw_free(&hasher), bw_free(&seat), bw_free(&other), bw_free(&feed), bw_free(&whole), bw_free(&outline), bw_free(&again), bw_free(&part);
         WANT(n < 1000);
     }
     for (int alone = 0; alone < 2; alone++)

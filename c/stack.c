@@ -107,7 +107,10 @@ static void store(void) {
     sink = bw_seat_meet(&seat, &other);
     sink = bw_seat_join(&seat, &other);
     sink = bw_seat_finish(&seat, out, ROOM, &used);
+    sink = bw_store_part(&plain, root, 3, 500, &seat);
+    sink = bw_seat_commit_chunks(&seat, 0, UINT64_MAX, text, text_len, &count, &at);
     bw_free(&seat);
+    bw_free(NULL);
 }
 
 static void gather(void) {

@@ -283,6 +283,104 @@ static void storing(const uint8_t *blob, const uint8_t *root, const holder *good
     bw_free(&seat), bw_free(&other);
 }
 
+/* A store of a part of a blob counts chunks, groups and positions from its first chunk. No length is recorded in it, and what needs one says so. */
+static void parts(const uint8_t *blob, const uint8_t *root, const holder *good) {
+    static uint8_t slice[8 * GROUP_LEN], out[8 * GROUP_LEN];
+    const bw_mode unknown = {7, {0}};
+    const uint64_t first = 200, chunks = 100, most = UINT64_C(1) << 54;
+    bw_handle seat = BW_EMPTY, other = BW_EMPTY, outline = BW_EMPTY;
+    bw_report report = {0, 0, 0, 0, 0, 0, 0};
+    bw_node lacking = {7, 7};
+    uint64_t mask = 7, committed = 7, parents = 7, at = 7, len = 7;
+    uint8_t hash[BW_HASH_LEN];
+    size_t used = 0, count = 7, outboard_len = 0;
+    uint8_t *found = room(BLOB_LEN), *outboard = room((size_t)bw_outboard_len(BLOB_LEN));
+    WANT(bw_store_part(&unknown, root, most + 1, 0, &seat) == BW_NO_MODE && seat.at == NULL);
+    WANT(bw_store_part(&plain, root, first, 0, &seat) == BW_CAPACITY && bw_store_part(&plain, root, first, 65537, &seat) == BW_CAPACITY);
+    WANT(bw_store_part(&plain, root, most + 1, 1, &seat) == BW_CAPACITY && bw_store_part(&plain, root, UINT64_MAX, 1, &seat) == BW_CAPACITY && seat.at == NULL);
+    WANT(bw_store_part(&plain, root, most, 65536, &seat) == BW_OK && seat.at != NULL);
+    WANT(bw_store_part(&plain, root, first, 0, &seat) == BW_CAPACITY && seat.at == NULL);
+    WANT(bw_seat_commit_chunks(&seat, 0, UINT64_MAX, good->text, good->len, &committed, &at) == BW_NO_HANDLE);
+    WANT(bw_hasher_new(&plain, &seat) == BW_OK);
+    WANT(bw_seat_commit_chunks(&seat, 0, UINT64_MAX, good->text, good->len, &committed, &at) == BW_NO_HANDLE);
+    WANT(bw_hasher_finish(&seat, hash) == BW_OK && committed == 7 && at == 7);
+    WANT(bw_store_part(&plain, root, first, (uint32_t)chunks, &seat) == BW_OK);
+    WANT(bw_seat_take(&seat, 0, UINT64_MAX, &mask) == BW_OK && mask == UINT64_MAX && bw_seat_take(&seat, 2, 1, &mask) == BW_NO_GROUP);
+    WANT(bw_seat_take(&seat, 1, UINT64_MAX, &mask) == BW_OK && mask == (UINT64_C(1) << 36) - 1);
+    /* The store's group 0 are chunks 200 to 263 of the blob: their slice is asked by the blob's bytes. */
+    uint64_t start = first * BW_CHUNK_LEN;
+    WANT(bw_cut_slice(good->text, good->len, start, GROUP_LEN, slice, sizeof slice, &used) == BW_OK);
+    slice[used - 1] ^= 1;
+    WANT(bw_seat_commit_chunks(&seat, start, GROUP_LEN, slice, used, &committed, &at) == BW_MISMATCH && at == used - 1024);
+    slice[used - 1] ^= 1;
+    WANT(bw_seat_commit_chunks(&seat, start, GROUP_LEN, slice, used - 1, &committed, &at) == BW_SHORT && at == used - 1024);
+    WANT(bw_seat_commit_chunks(&seat, start, GROUP_LEN - 1024, slice, used, &committed, &at) == BW_TRAILING && at == used - 1024);
+    WANT(bw_seat_commit_chunks(&seat, start, GROUP_LEN, NULL, 0, &committed, &at) == BW_SHORT && at == 0 && committed == 7);
+    WANT(bw_seat_read(&seat, 0, out, 1, &at) == BW_MISSING && at == 0);
+    WANT(bw_seat_commit(&seat, 0, start, GROUP_LEN, slice, used, &mask, &at) == BW_OK && mask == UINT64_MAX);
+    WANT(bw_seat_held(&seat, 0, &mask) == BW_OK && mask == UINT64_MAX && bw_seat_held(&seat, 1, &mask) == BW_OK && mask == 0);
+    WANT(bw_seat_held(&seat, 2, &mask) == BW_NO_GROUP);
+    WANT(bw_seat_read(&seat, 5, out, GROUP_LEN - 5, &at) == BW_OK && memcmp(out, blob + start + 5, GROUP_LEN - 5) == 0);
+    WANT(bw_seat_read(&seat, 5, out, GROUP_LEN, &at) == BW_MISSING && at == GROUP_LEN);
+    /* What another seat claims stays its own, and of a slice that goes beyond the part on both sides the rest is left out. */
+    WANT(bw_seat_split(&seat, &other) == BW_OK && bw_seat_give(&seat, 1, 6, &mask) == BW_OK && mask == 6);
+    WANT(bw_seat_take(&other, 1, 2, &mask) == BW_OK && mask == 2);
+    WANT(bw_cut_slice(good->text, good->len, 150 * 1024, 200 * 1024, slice, sizeof slice, &used) == BW_OK);
+    WANT(bw_seat_commit_chunks(&seat, 150 * 1024, 200 * 1024, slice, used, &committed, &at) == BW_OK && committed == 35);
+    WANT(bw_seat_give(&seat, 1, UINT64_MAX, &mask) == BW_OK && mask == 0);
+    WANT(bw_seat_commit_chunks(&seat, 150 * 1024, 200 * 1024, slice, used, &committed, &at) == BW_OK && committed == 0);
+    WANT(bw_seat_commit_chunks(&other, 150 * 1024, 200 * 1024, slice, used, &committed, &at) == BW_OK && committed == 1);
+    WANT(bw_seat_read(&seat, 0, out, chunks * 1024, &at) == BW_OK && memcmp(out, blob + start, chunks * 1024) == 0);
+    WANT(bw_seat_read(&seat, 0, out, chunks * 1024 + 1, &at) == BW_MISSING && at == chunks * 1024);
+    /* All that a length is asked for. */
+    WANT(bw_outboard(&plain, blob, BLOB_LEN, outboard, (size_t)bw_outboard_len(BLOB_LEN), &outboard_len, hash) == BW_OK);
+    WANT(bw_outline_new(&plain, root, outboard, outboard_len, &outline, &at) == BW_OK);
+    committed = parents = 7;
+    WANT(bw_seat_commit_all(&seat, 150 * 1024, 200 * 1024, slice, used, &committed, &parents, &at) == BW_OTHER_LENGTH);
+    WANT(bw_outline_commit(&outline, &seat, first, 1, blob + start, 1024, &committed, &parents, &at) == BW_OTHER_LENGTH);
+    WANT(bw_seat_commit_parents(&seat, 0, 150 * 1024, 200 * 1024, slice, used, &parents, &at) == BW_OTHER_LENGTH && committed == 7 && parents == 7);
+    WANT(bw_cut_slice(good->text, good->len, UINT64_MAX, 1, slice, sizeof slice, &used) == BW_OK && bw_seat_settle(&seat, slice, used, &at) == BW_TOO_LARGE);
+    WANT(bw_decode(&plain, root, UINT64_MAX, 1, slice, used, NULL, 0, &count, &len, &at) == BW_OK && count == 0 && len == BLOB_LEN);
+    count = len = 7;
+    WANT(bw_seat_length(&seat, &len) == BW_UNFINISHED && len == 7);
+    WANT(bw_seat_finish(&seat, out, sizeof out, &count) == BW_UNFINISHED && count == 7);
+    WANT(bw_seat_serve_slice(&seat, 0, 1, out, sizeof out, &count, &lacking) == BW_NO_LENGTH && count == 7 && lacking.kind == 7);
+    WANT(bw_gather(&seat, 0, 1, good->text, good->len, &report) == BW_OK && report.committed == 0 && report.too_large == 1);
+    WANT(bw_seat_salvage(&seat, good->text, good->len, &report) == BW_OK && report.committed == 0 && report.parents == 0);
+    /* Seats of parts from other chunks on can be told apart. */
+    WANT(bw_seat_join(&seat, &other) == BW_OK && other.at == NULL);
+    WANT(bw_store_part(&plain, root, first + 1, (uint32_t)chunks, &other) == BW_OK);
+    WANT(bw_seat_join(&seat, &other) == BW_OTHER_STORE && bw_seat_meet(&seat, &other) == BW_OTHER_STORE && other.at != NULL);
+    /* Parts in which the blob ends, and behind its end. */
+    WANT(bw_store_part(&plain, root, 970, 64, &seat) == BW_OK);
+    WANT(bw_cut_slice(good->text, good->len, 970 * 1024, GROUP_LEN, slice, sizeof slice, &used) == BW_OK);
+    WANT(bw_seat_commit_chunks(&seat, 970 * 1024, GROUP_LEN, slice, used, &committed, &at) == BW_OK && committed == 7);
+    WANT(bw_seat_read(&seat, 0, out, GROUP_LEN, &at) == BW_MISSING && at == BLOB_LEN - 970 * 1024 && memcmp(out, blob + 970 * 1024, (size_t)at) == 0);
+    WANT(bw_store_part(&plain, root, 977, 64, &seat) == BW_OK);
+    WANT(bw_seat_commit_chunks(&seat, 970 * 1024, GROUP_LEN, slice, used, &committed, &at) == BW_OK && committed == 0);
+    /* Parts one after another are the blob. */
+    for (uint64_t from = 0; from < 977; from += 150) {
+        uint64_t n = from + 150 < 977 ? 150 : 977 - from;
+        size_t bytes = (size_t)((from + n) * 1024 < BLOB_LEN ? n * 1024 : BLOB_LEN - from * 1024);
+        WANT(bw_store_part(&plain, root, from, (uint32_t)n, &seat) == BW_OK);
+        WANT(bw_cut_slice(good->text, good->len, from * 1024, n * 1024, slice, sizeof slice, &used) == BW_OK);
+        WANT(bw_seat_commit_chunks(&seat, from * 1024, n * 1024, slice, used, &committed, &at) == BW_OK && committed == n);
+        WANT(bw_seat_read(&seat, 0, found + from * 1024, bytes, &at) == BW_OK);
+    }
+    WANT(memcmp(found, blob, BLOB_LEN) == 0);
+    /* From chunk 0 on it is what bw_store_new makes. Where the blob has no room there, no length is recorded either. */
+    WANT(bw_cut_slice(good->text, good->len, UINT64_MAX, 1, slice, sizeof slice, &used) == BW_OK);
+    WANT(bw_store_part(&plain, root, 0, 976, &seat) == BW_OK && bw_seat_settle(&seat, slice, used, &at) == BW_TOO_LARGE);
+    WANT(bw_seat_commit_chunks(&seat, 0, UINT64_MAX, good->text, good->len, &committed, &at) == BW_OK && committed == 976);
+    WANT(bw_store_part(&plain, root, 0, 977, &seat) == BW_OK && bw_seat_settle(&seat, slice, used, &at) == BW_OK);
+    WANT(bw_seat_commit_chunks(&seat, 0, UINT64_MAX, good->text, good->len, &committed, &at) == BW_OK && committed == 977);
+    WANT(bw_seat_serve_slice(&seat, 0, 1, out, sizeof out, &count, &lacking) == BW_LACKING && lacking.kind == 0 && lacking.number == 512);
+    WANT(bw_seat_commit_all(&seat, 0, UINT64_MAX, good->text, good->len, &committed, &parents, &at) == BW_OK && committed == 0 && parents == 976);
+    WANT(bw_seat_finish(&seat, found, BLOB_LEN, &count) == BW_OK && count == BLOB_LEN && memcmp(found, blob, BLOB_LEN) == 0);
+    bw_free(&seat), bw_free(&other), bw_free(&outline);
+    free(found), free(outboard);
+}
+
 /* Each row in one piece and in two, as hash and as output. */
 static void rows(void) {
     static uint8_t bytes[ROWS_MAX_LEN];
@@ -344,6 +442,7 @@ static void hashes(const uint8_t *blob, size_t len, const uint8_t *root) {
     WANT(memcmp(out, of_nothing, sizeof out) == 0);
     bw_free(&hasher);
     bw_free(&hasher);
+    bw_free(NULL);
     WANT(hasher.at == NULL);
 }
 
@@ -1104,6 +1203,9 @@ static void sizes(const uint8_t *blob, const uint8_t *root, const holder *good) 
         found += is;
         WANT(status != 1999 || found == 5);
     }
+    size_t named = 0;
+    for (bw_status status = 0; status < 2000; status++) named += strcmp(bw_strerror(status), bw_strerror(1)) != 0;
+    WANT(named == 34); /* as many as the header has */
     WANT(bw_version() == BW_VERSION);
 }
 
@@ -1138,6 +1240,7 @@ int main(void) {
     joining(root, &holders[0]);
     in_order(root, &holders[0]);
     storing(blob, root, &holders[0]);
+    parts(blob, root, &holders[0]);
 
     /* Two are damaged: one in 40 bytes all over it, and one in its second half. */
     for (size_t i = 1; i <= 40; i++) holders[1].text[holders[1].len / 41 * i] ^= 4;

@@ -156,6 +156,34 @@ def stored(modes, root, hashed, asked, text, wanted, blob, tail):
     calls.bw_free(seat)
 
 
+def parted(modes, hashed, asked, text, wanted, blob, rng):
+    """Holds what a store of a part takes of a text to the blob's chunks that the text has and the part has room for, or to the fault that it has."""
+    number = max(-(-len(blob) // 1024), 1)
+    base, capacity = rng.randrange(number + 2), rng.randrange(1, number + 2)
+    seat, committed, at = c.Handle(), c.u64(7), c.u64()
+    assert calls.bw_store_part(modes[1], hashed, base, capacity, seat) == 0
+    status = calls.bw_seat_commit_chunks(seat, *asked, text, len(text), committed, at)
+    if wanted[0]:
+        assert (status, at.value, committed.value) == (*wanted, 7)
+    else:
+        claimed = int.from_bytes(text[:8], "little")
+        begin = min(asked[0], max(claimed, 1) - 1)
+        end = max(min(asked[0] + max(asked[1], 1), claimed), begin + 1)
+        first, after = max(begin // 1024, base), min((end - 1) // 1024 + 1, base + capacity)
+        assert (status, committed.value) == (0, max(after - first, 0))
+        there = blob[1024 * first : 1024 * after]
+        out = ctypes.create_string_buffer(len(there) + 1)
+        assert not there or calls.bw_seat_read(seat, 1024 * (first - base), out, len(there), at) == 0
+        assert out.raw[: len(there)] == there, "what was stored is the blob's"
+        if first < after:
+            end = 1024 * (first - base) + len(there)
+            assert calls.bw_seat_read(seat, 1024 * (first - base), out, len(there) + 1, at) == 1204 and at.value == end
+        assert base == 0 or first <= base or calls.bw_seat_read(seat, 0, out, 1, at) == 1204 and at.value == 0
+        assert calls.bw_seat_commit_chunks(seat, *asked, text, len(text), committed, at) == 0 and committed.value == 0
+    assert base == 0 or calls.bw_seat_length(seat, c.u64()) == 901
+    calls.bw_free(seat)
+
+
 def beside(modes, root, hashed, outboard, wanted, blob, rng):
     """Holds an outline of the text, and what chunks of a plain copy, changed or not, are beside it, to the definitions."""
     outline, at, length, used = c.Handle(), c.u64(), c.u64(), c.size()
@@ -243,6 +271,7 @@ def main(count):
             if (status, at) != wanted:
                 sys.exit(f"c_fuzz.py: text {number}: the library answers {status} at {at} where it is poured in, the definitions {wanted}")
             stored(modes, root, hashed, asked, text, wanted, blob, by.slice_text(modes[0], blob, 2**64 - 1, 1))
+            parted(modes, hashed, asked, text, wanted, blob, rng)
             first = min(asked[0], max(len(blob), 1) - 1) // 1024 * 1024
             assert blob[first:].startswith(given) and blob[first:].startswith(chunks), number
         refused += status != 0

@@ -10,7 +10,7 @@ import sys
 
 ROOT = pathlib.Path(__file__).resolve().parent.parent
 # a comment, a declaration or a list of statuses of the header, from the first column on
-PART = re.compile(r"/\*.*?\*/|^(?:typedef )?(?:struct|enum)\b.*?^\}[^;]*;|^(?:BW_USE )?(?:void|bw_status|uint32_t|uint64_t) bw_\w+\(.*?\);|^static inline .*?^\}", re.S | re.M)
+PART = re.compile(r"/\*.*?\*/|^(?:typedef )?(?:struct|enum)\b.*?^\}[^;]*;|^(?:BW_USE )?(?:void |bw_status |uint32_t |uint64_t |const char \*)bw_\w+\(.*?\);", re.S | re.M)
 STATUS = re.compile(r"^\s*(BW_\w+) = (\d+),?\s*(?:/\* (.*?) \*/)?$", re.M)
 
 
@@ -57,9 +57,8 @@ def page(header):
         elif part.startswith("/*"):
             out += list(paragraphs(part))
         else:
-            shown = part.split(" {")[0] + ";" if part.startswith("static inline") else part
-            names += re.findall(r"\b(bw_\w+)\(", shown)
-            out += code(re.sub("static inline |BW_USE ", "", shown))
+            names += re.findall(r"\b(bw_\w+)\(", part)
+            out += code(re.sub("BW_USE ", "", part))
     return "\n".join(out) + "\n", names
 
 
@@ -67,7 +66,7 @@ def main(folder):
     folder = pathlib.Path(folder)
     folder.mkdir(parents=True, exist_ok=True)
     text, names = page((ROOT / "c" / "berylwool.h").read_text())
-    declared = set(re.findall(r"^(?:static inline |BW_USE )?(?:const )?\w+ \*?(bw_\w+)\(", (ROOT / "c" / "berylwool.h").read_text(), re.M))
+    declared = set(re.findall(r"^(?:BW_USE )?(?:const )?\w+ \*?(bw_\w+)\(", (ROOT / "c" / "berylwool.h").read_text(), re.M))
     if set(names) != declared:
         stop(f"not on the page: {sorted(declared - set(names))}")
     (folder / "berylwool.3").write_text(text)

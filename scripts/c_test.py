@@ -10,6 +10,9 @@ import subprocess
 import sys
 import tempfile
 
+sys.dont_write_bytecode = True
+import dist
+
 ROOT = pathlib.Path(__file__).resolve().parent.parent
 OUT = ROOT / "out" / "c"
 ARCHIVE = ROOT / "out" / "libberylwool.a"
@@ -74,6 +77,21 @@ def vectors():
     (OUT / "vectors.h").write_text("\n".join(text) + "\n")
 
 
+def installed():
+    """Makes an example with the folder of a release that was moved, by what pkg-config says of it, and runs it over its shared library."""
+    with tempfile.TemporaryDirectory() as folder:
+        made, release, moved = (pathlib.Path(folder) / it for it in ("made", "release", "moved"))
+        made.mkdir()
+        for file in (ARCHIVE, SHARED):
+            shutil.copy(file, made)
+        dist.put_library(release, [("x86-64", made), ("x86-64-v3", made)])
+        release.rename(moved)
+        knows = os.environ | {"PKG_CONFIG_PATH": f"{moved}/lib/pkgconfig", "LD_LIBRARY_PATH": f"{moved}/lib"}
+        told = run("pkg-config", "--cflags", "--libs", "berylwool", env=knows, capture_output=True, text=True).stdout.split()
+        run("cc", "-std=c11", "-Wall", "-Wextra", "-Werror", "-pthread", "c/examples/mirror.c", *told, "-o", f"{folder}/mirror")
+        run(sys.executable, "c/examples/berylwool.py", moved / "lib" / "libberylwool.so", f"{folder}/mirror", env=knows)
+
+
 def main():
     if not shutil.which("cc"):
         sys.exit("c_test.py: cc isn't installed")
@@ -101,8 +119,17 @@ def main():
         run("valgrind", "-q", "--leak-check=full", "--error-exitcode=1", OUT / "test-plain")
         run("valgrind", "-q", "--leak-check=full", "--error-exitcode=1", OUT / "refuse")
         run("valgrind", "-q", "--tool=helgrind", "--error-exitcode=1", OUT / "test-plain")
-    run("cc", *FLAGS, "c/examples/mirror.c", ARCHIVE, "-o", OUT / "mirror")
+    for name in ("mirror", "windows"):
+        run("cc", *FLAGS, f"c/examples/{name}.c", ARCHIVE, "-o", OUT / name)
     run(sys.executable, "c/examples/berylwool.py", SHARED, OUT / "mirror")
+    run(sys.executable, "scripts/c_windows.py", OUT / "windows")
+    for compiler, name, more in builds[1:]:
+        run(compiler, *FLAGS, *more, "c/examples/windows.c", ARCHIVE, "-o", OUT / f"windows-{name}")
+        run(sys.executable, "scripts/c_windows.py", "--any-memory", OUT / f"windows-{name}")
+    if shutil.which("pkg-config"):
+        installed()
+    else:
+        print("not run, since it isn't here: pkg-config, so that nobody has used what make dist makes")
     run(sys.executable, "scripts/c_fuzz.py")
     if there("rustc"):
         run("rustc", "--edition", "2021", "-O", "-D", "warnings", "-L", ARCHIVE.parent, "c/examples/berylwool.rs", "-o", OUT / "example")

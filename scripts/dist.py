@@ -1,19 +1,26 @@
 #!/usr/bin/env python3
-"""Makes the folder of a release: programs for several processor levels, the manual page, completions, what they were made from, and checksums.
+"""Makes the folder of a release: programs and the C library for several processor levels, manual pages, completions, what they were made from, and
+checksums.
 
-usage: python3 scripts/dist.py FOLDER LEVEL=PROGRAM ..
+usage: python3 scripts/dist.py FOLDER LEVEL=MADE ..
 
-At the top of the repository, whose files are those of a commit: it refuses changed ones. Beside bin/LEVEL/bao_gather and share/, which has the
-layout of `make install`, FOLDER gets BUILD, which names the version, the commit, the kit and the levels, and SHA256SUMS of all of it.
+At the top of the repository, whose files are those of a commit: it refuses changed ones. MADE is a folder with bao_gather and libberylwool.so, and for
+the first level, which every processor has, with libberylwool.a. Beside bin/LEVEL/bao_gather, FOLDER gets lib/, include/ and share/ in the layout of
+`make install` and `make c-install`, with what pkg-config asks for, wherever FOLDER is moved to. BUILD names the versions, the commit, the kit and the
+levels, and SHA256SUMS has all of it.
 """
 import hashlib
 import os
+import re
 import shutil
 import subprocess
 import sys
 
 sys.dont_write_bytecode = True
+import c_manual
 import manual
+
+ROOT = os.path.dirname(os.path.dirname(os.path.abspath(__file__)))
 
 # Where each text of scripts/manual.py lies below share/.
 SHARED = {
@@ -37,15 +44,36 @@ def put(file, to):
     shutil.copy(file, to)
 
 
-def main(folder, programs):
+def put_library(folder, levels):
+    """Puts the C library to a folder, with its header, what pkg-config asks for and its manual pages, and returns its version. ld.so takes the
+    library below glibc-hwcaps on a processor that has its level."""
+    (first, made), *others = levels
+    put(f"{made}/libberylwool.a", f"{folder}/lib/libberylwool.a")
+    put(f"{made}/libberylwool.so", f"{folder}/lib/libberylwool.so.0")
+    os.symlink("libberylwool.so.0", f"{folder}/lib/libberylwool.so")
+    for level, its in others:
+        put(f"{its}/libberylwool.so", f"{folder}/lib/glibc-hwcaps/{level}/libberylwool.so.0")
+    put(f"{ROOT}/c/berylwool.h", f"{folder}/include/berylwool.h")
+    c_manual.main(f"{folder}/share/man/man3")
+    with open(f"{ROOT}/c/berylwool.pc.in", encoding="utf-8") as it:
+        told = it.read()
+    for name, place in (("PREFIX", "${pcfiledir}/../.."), ("LIBDIR", "${prefix}/lib"), ("INCLUDEDIR", "${prefix}/include")):
+        told = told.replace(f"@{name}@", place)
+    os.makedirs(f"{folder}/lib/pkgconfig")
+    with open(f"{folder}/lib/pkgconfig/berylwool.pc", "w", encoding="utf-8") as it:
+        it.write(told)
+    return re.search(r"^Version: (.+)$", told, re.M)[1]
+
+
+def main(folder, levels):
     changed = said("git", "status", "--porcelain")
     if changed:
         sys.exit(f"dist: these files aren't as the commit has them:\n{changed}")
     commit, kit = said("git", "rev-parse", "HEAD"), said("rt", "version")
     shutil.rmtree(folder, ignore_errors=True)
     versions = set()
-    for level, program in programs:
-        put(program, f"{folder}/bin/{level}/{manual.NAME}")
+    for level, made in levels:
+        put(f"{made}/{manual.NAME}", f"{folder}/bin/{level}/{manual.NAME}")
         versions.add(said(f"{folder}/bin/{level}/{manual.NAME}", "--version"))
     if len(versions) > 1:
         sys.exit(f"dist: the programs are of several versions: {', '.join(sorted(versions))}")
@@ -54,8 +82,9 @@ def main(folder, programs):
     for name, place in SHARED.items():
         put(f"{texts}/{name}", f"{folder}/share/{place}")
     shutil.rmtree(texts)
+    library = put_library(folder, levels)
     with open(f"{folder}/BUILD", "w", encoding="utf-8") as it:
-        it.write(f"{versions.pop()}\ncommit {commit}\nrt {kit}\nlevels {' '.join(level for level, _ in programs)}\n")
+        it.write(f"{versions.pop()}\nberylwool {library}\ncommit {commit}\nrt {kit}\nlevels {' '.join(level for level, _ in levels)}\n")
     files = sorted(os.path.relpath(f"{at}/{name}", folder) for at, _, names in os.walk(folder) for name in names)
     sums = []
     for name in files:

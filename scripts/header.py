@@ -5,12 +5,13 @@ usage: python3 scripts/header.py SOURCE_DIR ARCHIVE > tie.c
 
 Each exported function gives a static assertion over the type that the header has for it, and each #[repr(C)] struct assertions over its
 size and over the type and the place of each field. Each status of status.rt has to be one of the header's numbers. The names that the
-archive defines for others have to be those of the sources."""
+archive defines for others have to be those of the sources, and of c/strerror.c."""
 import pathlib
 import re
 import subprocess
 import sys
 
+C = pathlib.Path(__file__).resolve().parent.parent / "c"
 NUMBERS = {"u8": ("uint8_t", 1), "u32": ("uint32_t", 4), "u64": ("uint64_t", 8), "usize": ("size_t", 8)}
 ARRAY = re.compile(r"\[(\w+); (\d+)\]")
 STRUCT = re.compile(r"#\[repr\(C\)\](?:\s*#\[[^\]]*\])*\s*pub struct (\w+) \{(.*?)\n\}", re.S)
@@ -18,6 +19,7 @@ FIELD = re.compile(r"^\s*(?:pub )?(\w+): ([^,\n]+),", re.M)
 EXPORT = re.compile(r'#\[unsafe\(no_mangle\)\]\s*pub extern "C" fn (\w+)\((.*?)\)(?: -> (\w+))?\s*(?=\n\s+(?:requires|ensures|ghost)|\{)', re.S)
 STATUS = re.compile(r"^pub\(crate\) const (\w+): u32 = (\d+);", re.M)
 REFERENCE = re.compile(r"&(mut )?(?:\[(\w+)(?:; (\d+))?\]|(\w+))")
+POINTER = re.compile(r"\*mut (\w+)")
 
 
 def stop(text):
@@ -35,7 +37,7 @@ def parameter(kind, structs):
         return []
     if kind in NUMBERS:
         return [NUMBERS[kind][0]]
-    found = REFERENCE.fullmatch(kind)
+    found = REFERENCE.fullmatch(POINTER.sub(r"&mut \1", kind))
     if not found:
         stop(f"no C type is known for {kind}")
     is_mut, element, count, name = found.groups()
@@ -92,7 +94,7 @@ def main(folder, archive):
     statuses = STATUS.findall(text)
     if len(exports) != text.count("no_mangle") or not structs or not statuses:
         stop("not every export was read")
-    header = (pathlib.Path(__file__).resolve().parent.parent / "c" / "berylwool.h").read_text()
+    header = (C / "berylwool.h").read_text()
     known = set(re.findall(r"^    BW_\w+ = (\d+)\b", header, re.M))
     for name, number in statuses:
         if number not in known:
@@ -104,7 +106,7 @@ def main(folder, archive):
         print(function_line(name, parameters, result, structs))
     lines = subprocess.run(["nm", "-g", "--defined-only", archive], capture_output=True, text=True, check=True).stdout
     defined = {line.split()[-1] for line in lines.splitlines() if line.split()[1:2] == ["T"]}
-    names = {it[0] for it in exports}
+    names = {it[0] for it in exports} | set(re.findall(r"^const char \*(bw_\w+)\(", (C / "strerror.c").read_text(), re.M))
     if names != defined:
         stop(f"only the sources export {sorted(names - defined)}, and only the archive {sorted(defined - names)}")
 

@@ -9,7 +9,8 @@ use base.Fml.{Fml}
 use base.Fraction.{full_share}
 use mir.Raw.{raw as bare}
 use contract.Monad.{fact_use}
-use denote.Memory.{lone}
+use denote.Memory.{lone, part_at}
+use Rattle.core.specs.Ptr.{if_non_null, points_to}
 use Rattle.std.specs.declared.alloc.Global.{Global}
 use Rattle.std.proofs.GlobalToken.{dealloc_token-Testable}
 use Rattle.std_alloc.specs.Box.Ownership.{box_owns}
@@ -81,3 +82,10 @@ module _ {M : Type 1} {𝓤 : Ura M} {𝓛 : Logic 𝓤} {K : Type 0} {Γ : List
   either t (block_ptr b o) None none one = fpick t (λ wrong. absurd wrong)
   either t (block_ptr b o) (Some x) none one = fpick t (λ good. use1 𝓛 (given (Testable (block_ptr b o)) (‵ (box_owns (ghosts.dealloc_token a) held.the_row (block_ptr b o) x))) (tested 𝓛 a (block_ptr b o) x) $
       learn t (λ ok. one b o x good refl refl ok))
+
+module _ {M : Type 1} {𝓤 : Ura M} {𝓛 : Logic 𝓤} {K : Type 0} {Γ : List (Item 𝓤)} {G : Goal 𝓤 𝓛.H} where
+  -- where a handle lies, or nothing
+  pub by_form : K → (p : Ptr) (x : H'.Denot) → (p ≡ null_ptr → Seq K 𝓛 Γ G) → ((b o : ℕ) → p ≡ block_ptr b o → Seq K 𝓛 (‵ (part_at H' full_share x b o) ∷ Γ) G)
+      → Seq K 𝓛 (‵ (if_non_null p (points_to H' p x)) ∷ Γ) G
+  by_form t null_ptr x none one = drop t $ none refl
+  by_form t (block_ptr b o) x none one = one b o refl

@@ -11,3 +11,4 @@ pub mod SeatCalls
 pub mod Stores
 pub mod Texts
 pub mod Values
+pub mod Wholes

@@ -1,6 +1,7 @@
 pub mod Calls
 pub mod Decoding
 pub mod Feeds
+pub mod Freed
 pub mod Gathering
 pub mod Handles
 pub mod Holding

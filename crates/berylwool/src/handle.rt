@@ -110,10 +110,13 @@ macro_rules! with_held {
 
 pub(crate) use with_held;
 
-/// Frees what a handle owns, if it owns something. It is empty then.
-#[unsafe(no_mangle)]
-pub extern "C" fn bw_free(alloc: Global, handle: &mut BwHandle)
-    ensures { handle.new.held ≡ None }
+// Frees what a handle owns, and answers one that is empty.
+pub(crate) fn freed(alloc: Global, handle: BwHandle) -> BwHandle
+    ensures { result.held ≡ None }
 {
-    let _held = take(handle, alloc);
+    let _held = match handle.into_loose() {
+        Some(loose) => Some(loose.into_box()),
+        None => None,
+    };
+    BwHandle::empty(alloc)
 }

@@ -9,6 +9,7 @@ mod auditing;
 mod checking;
 mod decoding;
 mod feeding;
+mod freeing;
 mod gathering;
 mod handle;
 mod hasher;

@@ -1,4 +1,4 @@
-ghost use Rattle.std.specs.Prelude.{◌≡◌, ◌≢◌, ◌↔◌, ◌⊎◌, ◌<◌, ◌≤◌, ◌*◌, ◌-◌, ◌^◌, ℕ, false, None, Some, drop, length, take};
+ghost use Rattle.std.specs.Prelude.{◌≡◌, ◌≢◌, ◌↔◌, ◌⊎◌, ◌<◌, ◌≤◌, ◌*◌, ◌-◌, ◌^◌, ℕ, false, true, None, Some, drop, length, take};
 ghost use Rattle.crews.specs.Finished.{Asks};
 ghost use Rattle.gather.specs.Finished.{BindsNone, BindsTo, IsFinished, IsOther, IsUnfinished};
 ghost use Rattle.store_core.specs.Histories.{state_after};
@@ -48,11 +48,37 @@ pub extern "C" fn bw_store_new(
     ensures status { result ≢ 0 → result ≢ 801 → result ≢ 802 → result ≢ 1213 → result ≡ 1203 }
     ensures empty { result ≢ 0 → seat.new.held ≡ None }
 {
+    bw_store_part(alloc, mode, root, 0, capacity, seat)
+}
+
+/// Makes a store of a part of a blob, as `bw_store_new` does: of the `capacity` chunks from chunk `first_chunk` of the blob on, which is the
+/// store's chunk 0. Chunks, groups and positions of the store are counted from there, and what a slice is asked by from the blob's first chunk.
+/// A length is recorded by a store from the blob's first chunk on alone: in one from a later chunk on none ever is, so that it stores no parents,
+/// serves no slice and finishes no blob.
+///
+/// 1213 exactly where the mode's kind is unknown, asked before all else. Then 802 unless the capacity is 1 to 65,536 chunks and `first_chunk` at most
+/// 2^54, and 801 or 1203 when out of memory. The handle is empty then.
+#[unsafe(no_mangle)]
+pub extern "C" fn bw_store_part(
+    alloc: Global,
+    mode: &BwMode,
+    root: &[u8; 32],
+    first_chunk: u64,
+    capacity: u32,
+    seat: &mut BwHandle,
+) -> u32
+    ensures fixed { result ≡ 0 → HasSeat (λ store _. fixed_of store ≡ record { root = record { 0 = root.now }; mode = mode_of mode.now; capacity = capacity; base = first_chunk }) seat.new.held }
+    ensures view { result ≡ 0 → HasSeat (λ store first. first.view ≡ opening_view (fixed_of store)) seat.new.held }
+    ensures unknown { result ≡ 1213 ↔ (¬ IsKnown mode.now) }
+    ensures capacity { result ≡ 802 ↔ (IsKnown mode.now × (¬ ((0 < capacity) × (capacity ≤ 65536) × (first_chunk ≤ 2 ^ 54)))) }
+    ensures status { result ≢ 0 → result ≢ 801 → result ≢ 802 → result ≢ 1213 → result ≡ 1203 }
+    ensures empty { result ≢ 0 → seat.new.held ≡ None }
+{
     let _old = take(seat, alloc);
     if !mode.is_known() {
         return NO_MODE;
     }
-    let made = match Assembly::new(alloc, Hash(*root), mode.get(), capacity) {
+    let made = match Assembly::from_chunk(alloc, Hash(*root), mode.get(), first_chunk, capacity) {
         Ok(made) => made,
         Err(fault) => return u32::from(fault.code()),
     };
@@ -126,7 +152,7 @@ pub extern "C" fn bw_seat_split(alloc: Global, seat: &mut BwHandle, other: &mut 
 }
 
 /// Claims the wanted chunks of a group of 64 that are below the capacity and neither held nor claimed, and answers their mask in `granted`:
-/// bit j stands for chunk 64 * group + j.
+/// bit j stands for chunk 64 * group + j of the store.
 ///
 /// 803 exactly where there is no such group, and 1202 where the handle has no seat. Nothing is asked then.
 #[unsafe(no_mangle)]
@@ -258,6 +284,7 @@ fn settled(alloc: Global, store: &Assembly, seat: &mut Seat, text: &[u8], at: &m
     ensures settled { result ≡ 0 → HasSettled (slice_piece (fixed_of store.now).base text.now (2 ^ 64 - 1) 1) seat.old.view seat.new.view }
     ensures differs { result ≡ 1206 → Called (Settle (slice_piece (fixed_of store.now).base text.now (2 ^ 64 - 1) 1) Differs) seat.old.view seat.new.view }
     ensures large { result ≡ 805 → has_room (fixed_of store.now) (length_of (slice_piece (fixed_of store.now).base text.now (2 ^ 64 - 1) 1)) ≡ false }
+    ensures room { ((result ≡ 0) ⊎ (result ≡ 1206)) → has_room (fixed_of store.now) (length_of (slice_piece (fixed_of store.now).base text.now (2 ^ 64 - 1) 1)) ≡ true }
     ensures fault { result ≢ 0 → result < 506 → IsNoSliceOf store.now text.now (2 ^ 64 - 1) 1 result at.new }
     ensures accepted { ((result ≡ 0) ⊎ (505 < result)) → IsSliceOf store.now text.now (2 ^ 64 - 1) 1 }
     ensures same { result ≢ 0 → result ≢ 1206 → seat.new ≡ seat.old }
@@ -284,8 +311,9 @@ fn settled(alloc: Global, store: &Assembly, seat: &mut Seat, text: &[u8], at: &m
 /// Checks `text` as the slice (2^64 - 1, 1), which has the last chunk, under the store's root, and records the length that it certifies, if
 /// none is recorded. 0 where that length is recorded now, by this call or before.
 ///
-/// 501 to 503 as `bw_check_slice`, with the place in `at`. 805 where the length is above what the store has room for, 1205 where the encoding
-/// doesn't have the last chunk of its length, and 1202 where the handle has no seat. Nothing is asked then. 1206 where another length is
+/// 501 to 503 as `bw_check_slice`, with the place in `at`. 805 exactly where the store has no room for the length: it is above 1,024 times the
+/// capacity, or the store's first chunk isn't the blob's. 1205 where the encoding doesn't have the last chunk of its length, and 1202 where the
+/// handle has no seat. Nothing is asked then. 1206 where another length is
 /// recorded, which stays.
 #[unsafe(no_mangle)]
 pub extern "C" fn bw_seat_settle(
@@ -297,6 +325,7 @@ pub extern "C" fn bw_seat_settle(
     ensures settled { result ≡ 0 → SeatDid (λ store old new. HasSettled (slice_piece (fixed_of store).base text.now (2 ^ 64 - 1) 1) old.view new.view) seat.old.held seat.new.held }
     ensures differs { result ≡ 1206 → SeatDid (λ store old new. Called (Settle (slice_piece (fixed_of store).base text.now (2 ^ 64 - 1) 1) Differs) old.view new.view) seat.old.held seat.new.held }
     ensures large { result ≡ 805 → HasSeat (λ store _. has_room (fixed_of store) (length_of (slice_piece (fixed_of store).base text.now (2 ^ 64 - 1) 1)) ≡ false) seat.old.held }
+    ensures room { ((result ≡ 0) ⊎ (result ≡ 1206)) → HasSeat (λ store _. has_room (fixed_of store) (length_of (slice_piece (fixed_of store).base text.now (2 ^ 64 - 1) 1)) ≡ true) seat.old.held }
     ensures no_tail { result ≡ 1205 → (¬ EndsBlob (slice_piece 0 text.now (2 ^ 64 - 1) 1)) }
     ensures accepted { ((result ≡ 0) ⊎ (505 < result)) → result ≢ 1202 → HasSeat (λ store _. IsSliceOf store text.now (2 ^ 64 - 1) 1) seat.old.held }
     ensures fault { result ≢ 0 → result < 506 → HasSeat (λ store _. IsNoSliceOf store text.now (2 ^ 64 - 1) 1 result at.new) seat.old.held }
@@ -314,11 +343,13 @@ pub extern "C" fn bw_seat_settle(
 
 /// The recorded length in bytes, in `len`.
 ///
-/// 901 where none is recorded, which the seat has seen then, and 1202 where the handle has no seat.
+/// 901 where none is recorded, which the seat has seen then: always where the store's first chunk isn't the blob's. 1202 where the handle has no
+/// seat.
 #[unsafe(no_mangle)]
 pub extern "C" fn bw_seat_length(alloc: Global, seat: &mut BwHandle, len: &mut u64) -> u32
     ensures called { result ≡ 0 → SeatDid (λ _ old new. Called (Length (Some len.new)) old.view new.view) seat.old.held seat.new.held }
     ensures unknown { result ≡ 901 → SeatDid (λ _ old new. Called (Length None) old.view new.view) seat.old.held seat.new.held }
+    ensures whole { result ≡ 0 → HasSeat (λ store _. (fixed_of store).base ≡ 0) seat.old.held }
     ensures no_seat { result ≡ 1202 ↔ (¬ HasSeat (λ _ _. Unit) seat.old.held) }
     ensures status { result ≢ 0 → result ≢ 901 → result ≡ 1202 }
     ensures same { result ≡ 1202 → seat.new.held ≡ seat.old.held }
@@ -354,7 +385,7 @@ fn filled(store: &Assembly, seat: &mut Seat, at: u64, out: &mut [u8], missing: &
     }
 }
 
-/// Fills `out` with the bytes from byte `at` of the blob on.
+/// Fills `out` with the bytes from position `at` of the store on, which is byte `at` of the blob where the store's first chunk is the blob's.
 ///
 /// 1204 where a byte of them isn't held, with the first such position in `missing`: those before it are filled in, and the rest of `out` is
 /// unchanged. 1202 where the handle has no seat.
@@ -394,6 +425,7 @@ fn finished(store: &Assembly, seat: &mut Seat, out: &mut [u8], used: &mut usize)
     ensures none { result ≡ 902 → BindsNone (fixed_of store.now) seat.new.view.seen }
     ensures room { result ≡ 1201 → Called (Length (Some used.new)) seat.old.view seat.new.view × (length out.old < used.new) }
     ensures first { (l : ℕ) → (state_after seat.new.view.seen).recorded ≡ Some l → length out.old < l → result ≡ 1201 }
+    ensures whole { result ≢ 901 → (fixed_of store.now).base ≡ 0 }
     ensures status { result ≢ 0 → result ≢ 901 → result ≢ 902 → result ≡ 1201 }
 {
     let mode = store.mode();
@@ -420,7 +452,7 @@ fn finished(store: &Assembly, seat: &mut Seat, out: &mut [u8], used: &mut usize)
 /// Puts the whole blob to the start of `out`, once the hash of its bytes is the root, and how long it is to `used`. The seat asks for the length, and then at
 /// most once reads. It takes no memory, and the seat can go on.
 ///
-/// 901 where no length is recorded, or a byte isn't held. 1201 where the recorded length is above that of `out`, asked before any byte, with that
+/// 901 where no length is recorded, which is always so where the store's first chunk isn't the blob's, or a byte isn't held. 1201 where the recorded length is above that of `out`, asked before any byte, with that
 /// length in `used`. 902 where all bytes are held and their hash isn't the root. 1202 exactly where the handle has no seat. After 901 and 902 `out` may have been
 /// written to.
 #[unsafe(no_mangle)]
@@ -440,6 +472,7 @@ pub extern "C" fn bw_seat_finish(
     ensures none { result ≡ 902 → SeatDid (λ store _ new. BindsNone (fixed_of store) new.view.seen) seat.old.held seat.new.held }
     ensures room { result ≡ 1201 → SeatDid (λ _ old new. Called (Length (Some used.new)) old.view new.view × (length out.old < used.new)) seat.old.held seat.new.held }
     ensures first { result ≢ 1202 → SeatDid (λ _ _ new. (l : ℕ) → (state_after new.view.seen).recorded ≡ Some l → length out.old < l → result ≡ 1201) seat.old.held seat.new.held }
+    ensures whole { result ≢ 901 → result ≢ 1202 → HasSeat (λ store _. (fixed_of store).base ≡ 0) seat.old.held }
     ensures no_seat { result ≡ 1202 ↔ (¬ HasSeat (λ _ _. Unit) seat.old.held) }
     ensures status { result ≢ 0 → result ≢ 901 → result ≢ 902 → result ≢ 1202 → result ≡ 1201 }
     ensures same { result ≡ 1202 → seat.new.held ≡ seat.old.held }

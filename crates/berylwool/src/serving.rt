@@ -32,6 +32,7 @@ fn stored(
     requires { IsSeatOf store.now seat.old }
     ensures of { IsSeatOf store.now seat.new }
     ensures stores { result ≡ 0 → StoresParents group (slice_piece (fixed_of store.now).base text.now start len) stored.new seat.old seat.new }
+    ensures whole { result ≡ 0 → (fixed_of store.now).base ≡ 0 }
     ensures other_length { result ≡ 807 → Called (Parents group (slice_piece (fixed_of store.now).base text.now start len) OtherLength) seat.old.view seat.new.view }
     ensures fault { result ≢ 0 → result ≢ 807 → IsNoSliceOf store.now text.now start len result at.new }
     ensures accepted { result ≡ 0 → IsSliceOf store.now text.now start len }
@@ -70,6 +71,7 @@ pub extern "C" fn bw_seat_commit_parents(
     at: &mut u64,
 ) -> u32
     ensures stores { result ≡ 0 → SeatDid (λ store old new. StoresParents group (slice_piece (fixed_of store).base text.now start len) stored.new old new) seat.old.held seat.new.held }
+    ensures whole { result ≡ 0 → HasSeat (λ store _. (fixed_of store).base ≡ 0) seat.old.held }
     ensures other_length { result ≡ 807 → SeatDid (λ store old new. Called (Parents group (slice_piece (fixed_of store).base text.now start len) OtherLength) old.view new.view) seat.old.held seat.new.held }
     ensures accepted { result ≡ 0 → HasSeat (λ store _. IsSliceOf store text.now start len) seat.old.held }
     ensures fault { result ≢ 0 → result ≢ 807 → result ≢ 1202 → HasSeat (λ store _. IsNoSliceOf store text.now start len result at.new) seat.old.held }
@@ -130,6 +132,7 @@ fn served(
     ensures no_length { result ≡ 808 → Called (Serve start len NoLength) seat.old.view seat.new.view }
     ensures lacking { result ≡ 809 → Called (Serve start len (Lacking (node_of lacking.new))) seat.old.view seat.new.view }
     ensures memory { result ≡ 810 → Sees seat.old.view seat.new.view }
+    ensures whole { result ≢ 808 → result ≢ 810 → (fixed_of store.now).base ≡ 0 }
     ensures status { result ≢ 0 → result ≢ 808 → result ≢ 809 → result ≢ 810 → result ≡ 1201 }
     ensures same { result ≢ 0 → out.new ≡ out.old }
 {
@@ -153,7 +156,7 @@ fn served(
 /// Puts the encoding of the slice (`start`, `len`) of the blob to the start of `out`, and how long it is to `used`: the recorded length, and the
 /// bytes of the slice's nodes. `bw_encoded_len` of the recorded length is always enough room.
 ///
-/// 808 where no length is recorded, 809 where a node isn't held, with the first such in the encoding's order in `lacking`, 810 where there is no
+/// 808 where no length is recorded, as always where the store's first chunk isn't the blob's, 809 where a node isn't held, with the first such in the encoding's order in `lacking`, 810 where there is no
 /// memory, 1201 where `out` has no room, with how long the encoding is in `used`, and 1202 where the handle has no seat: then `out` is
 /// unchanged.
 #[unsafe(no_mangle)]
@@ -172,6 +175,7 @@ pub extern "C" fn bw_seat_serve_slice(
     ensures no_length { result ≡ 808 → SeatDid (λ _ old new. Called (Serve start len NoLength) old.view new.view) seat.old.held seat.new.held }
     ensures lacking { result ≡ 809 → SeatDid (λ _ old new. Called (Serve start len (Lacking (node_of lacking.new))) old.view new.view) seat.old.held seat.new.held }
     ensures memory { result ≡ 810 → SeatDid (λ _ old new. Sees old.view new.view) seat.old.held seat.new.held }
+    ensures whole { result ≢ 808 → result ≢ 810 → result ≢ 1202 → HasSeat (λ store _. (fixed_of store).base ≡ 0) seat.old.held }
     ensures no_seat { result ≡ 1202 ↔ (¬ HasSeat (λ _ _. Unit) seat.old.held) }
     ensures status { result ≢ 0 → result ≢ 808 → result ≢ 809 → result ≢ 810 → result ≢ 1202 → result ≡ 1201 }
     ensures same { result ≢ 0 → out.new ≡ out.old }

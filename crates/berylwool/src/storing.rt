@@ -114,6 +114,7 @@ fn stored_piece(
     requires piece { IsOf (fixed_of store.now) piece.now }
     ensures of { IsSeatOf store.now seat.new }
     ensures stores { result ≡ 0 → StoresAll (fixed_of store.now) (piece_of (fixed_of store.now).base piece.now) committed.new parents.new seat.old.view seat.new.view }
+    ensures whole { result ≡ 0 → (fixed_of store.now).base ≡ 0 }
     ensures other_length { result ≡ 807 → IsOfOther (piece_of (fixed_of store.now).base piece.now) seat.old.view seat.new.view }
     ensures status { result ≢ 0 → result ≡ 807 }
 {
@@ -140,6 +141,7 @@ fn stored_all(
     requires { IsSeatOf store.now seat.old }
     ensures of { IsSeatOf store.now seat.new }
     ensures stores { result ≡ 0 → StoresAll (fixed_of store.now) (slice_piece (fixed_of store.now).base text.now start len) committed.new parents.new seat.old.view seat.new.view }
+    ensures whole { result ≡ 0 → (fixed_of store.now).base ≡ 0 }
     ensures other_length { result ≡ 807 → IsOfOther (slice_piece (fixed_of store.now).base text.now start len) seat.old.view seat.new.view }
     ensures accepted { ((result ≡ 0) ⊎ (result ≡ 807)) → IsSliceOf store.now text.now start len }
     ensures fault { result ≢ 0 → result ≢ 807 → IsNoSliceOf store.now text.now start len result at.new }
@@ -157,7 +159,8 @@ fn stored_all(
 /// in `committed` and how many parents in `parents`. Of its chunks the seat claims none then. It takes no memory.
 ///
 /// 501 to 503 as `bw_check_slice`, with the place in `at`, and 1202 where the handle has no seat: nothing is asked then. 807 where the length
-/// that the encoding claims isn't the recorded one, or there is none, which the seat has seen then: nothing is stored.
+/// that the encoding claims isn't the recorded one, or there is none, as always where the store's first chunk isn't the blob's. The seat has seen
+/// that then, and nothing is stored: `bw_seat_commit_chunks` asks for no length.
 #[unsafe(no_mangle)]
 pub extern "C" fn bw_seat_commit_all(
     alloc: Global,
@@ -170,6 +173,7 @@ pub extern "C" fn bw_seat_commit_all(
     at: &mut u64,
 ) -> u32
     ensures stores { result ≡ 0 → SeatDid (λ store old new. StoresAll (fixed_of store) (slice_piece (fixed_of store).base text.now start len) committed.new parents.new old.view new.view) seat.old.held seat.new.held }
+    ensures whole { result ≡ 0 → HasSeat (λ store _. (fixed_of store).base ≡ 0) seat.old.held }
     ensures other_length { result ≡ 807 → SeatDid (λ store old new. IsOfOther (slice_piece (fixed_of store).base text.now start len) old.view new.view) seat.old.held seat.new.held }
     ensures accepted { ((result ≡ 0) ⊎ (result ≡ 807)) → HasSeat (λ store _. IsSliceOf store text.now start len) seat.old.held }
     ensures fault { result ≢ 0 → result ≢ 807 → result ≢ 1202 → HasSeat (λ store _. IsNoSliceOf store text.now start len result at.new) seat.old.held }
@@ -194,6 +198,72 @@ pub extern "C" fn bw_seat_commit_all(
     )
 }
 
+// Stores the chunks that an encoding has, as `bw_seat_commit_chunks` does.
+fn stored_chunks(
+    alloc: Global,
+    store: &Assembly,
+    seat: &mut Seat,
+    start: u64,
+    len: u64,
+    text: &[u8],
+    committed: &mut u64,
+    at: &mut u64,
+) -> u32
+    requires { IsSeatOf store.now seat.old }
+    ensures of { IsSeatOf store.now seat.new }
+    ensures commits { result ≡ 0 → EachGroup (CommitsGroup (fixed_of store.now) (slice_piece (fixed_of store.now).base text.now start len)) (groups (fixed_of store.now)) committed.new seat.old.view seat.new.view }
+    ensures accepted { result ≡ 0 ↔ IsSliceOf store.now text.now start len }
+    ensures fault { result ≢ 0 → IsNoSliceOf store.now text.now start len result at.new }
+    ensures same { result ≢ 0 → seat.new ≡ seat.old }
+    ensures low { result < 506 }
+{
+    match check_slice(alloc, &store.mode(), &store.root(), start, len, text) {
+        Ok(piece) => {
+            *committed = commit_groups(store, seat, &piece);
+            0
+        }
+        Err(fault) => told(&fault, at),
+    }
+}
+
+/// Checks `text` as the slice of `len` bytes from byte `start` of the blob on under the store's root, and stores each of its chunks that the store
+/// has room for and that nobody holds and no other seat claims, of whatever group. Answers how many in `committed`. Of its chunks the seat claims
+/// none then. No length has to be recorded, so it is for a store of a part of a blob too; no parents are stored. It takes no memory.
+///
+/// 501 to 503 as `bw_check_slice`, with the place in `at`, and 1202 where the handle has no seat. Nothing is asked then.
+#[unsafe(no_mangle)]
+pub extern "C" fn bw_seat_commit_chunks(
+    alloc: Global,
+    seat: &mut BwHandle,
+    start: u64,
+    len: u64,
+    text: &[u8],
+    committed: &mut u64,
+    at: &mut u64,
+) -> u32
+    ensures commits { result ≡ 0 → SeatDid (λ store old new. EachGroup (CommitsGroup (fixed_of store) (slice_piece (fixed_of store).base text.now start len)) (groups (fixed_of store)) committed.new old.view new.view) seat.old.held seat.new.held }
+    ensures accepted { result ≡ 0 ↔ HasSeat (λ store _. IsSliceOf store text.now start len) seat.old.held }
+    ensures fault { result ≢ 0 → result ≢ 1202 → HasSeat (λ store _. IsNoSliceOf store text.now start len result at.new) seat.old.held }
+    ensures no_seat { result ≡ 1202 ↔ (¬ HasSeat (λ _ _. Unit) seat.old.held) }
+    ensures same { result ≢ 0 → seat.new.held ≡ seat.old.held }
+{
+    with_held!(
+        seat,
+        alloc,
+        Seat,
+        |it| stored_chunks(
+            alloc,
+            &it.store,
+            &mut it.seat,
+            start,
+            len,
+            text,
+            committed,
+            at,
+        )
+    )
+}
+
 // Stores all that chunks beside an outline have, as `bw_outline_commit` does.
 fn stored_bare(
     store: &Assembly,
@@ -209,6 +279,7 @@ fn stored_bare(
     requires { IsSeatOf store.now seat.old }
     ensures of { IsSeatOf store.now seat.new }
     ensures stores { result ≡ 0 → StoresAll (fixed_of store.now) (bare_piece (fixed_of store.now).base (outlined_text it.now) first count chunks.now) committed.new parents.new seat.old.view seat.new.view }
+    ensures whole { result ≡ 0 → (fixed_of store.now).base ≡ 0 }
     ensures other_length { result ≡ 807 → IsOfOther (bare_piece (fixed_of store.now).base (outlined_text it.now) first count chunks.now) seat.old.view seat.new.view }
     ensures other_root { result ≡ 804 ↔ (¬ IsOfStore (fixed_of store.now) it.now) }
     ensures accepted { ((result ≡ 0) ⊎ (result ≡ 807)) → AreBeside first count chunks.now it.now }
@@ -250,6 +321,7 @@ pub extern "C" fn bw_outline_commit(
 ) -> u32
     ensures stores { result ≡ 0 → HasOutline (λ it. SeatDid (λ store old new. StoresAll (fixed_of store) (bare_piece (fixed_of store).base (outlined_text it) first count chunks.now)
         committed.new parents.new old.view new.view) seat.old.held seat.new.held) outline.old.held }
+    ensures whole { result ≡ 0 → HasSeat (λ store _. (fixed_of store).base ≡ 0) seat.old.held }
     ensures other_length { result ≡ 807 → HasOutline (λ it. SeatDid (λ store old new. IsOfOther (bare_piece (fixed_of store).base (outlined_text it) first count chunks.now)
         old.view new.view) seat.old.held seat.new.held) outline.old.held }
     ensures other_root { result ≡ 804 ↔ HasOutline (λ it. HasSeat (λ store _. ¬ IsOfStore (fixed_of store) it) seat.old.held) outline.old.held }

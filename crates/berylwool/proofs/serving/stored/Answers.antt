@@ -1,7 +1,14 @@
+use Rattle.store_core.specs.Pieces.{piece_of}
 use Rattle.store_shared.specs.Seats.{fixed_of}
 use Rattle.berylwool.proofs.Texts.{refused_there}
+use Rattle.berylwool.proofs.Wholes.{parents_whole}
 use Rattle.berylwool.proofs.serving.stored.Goals as goal
 
 pub returns-in-Err-clause-fault : goal.returns-in-Err-clause-fault
 returns-in-Err-clause-fault c = λ _ _.
     refused_there (fixed_of c.args.store.now) c.mode.result c.root.result c.args.text.now _ c.in-Err.fault _ _ c.mode.ensures c.root.ensures c.told.ensures.status c.in-Err.ensures.fault
+
+pub returns-in-Ok-commit_parents-clause-whole : goal.returns-in-Ok-commit_parents-clause-whole
+returns-in-Ok-commit_parents-clause-whole c = λ _.
+    parents_whole (fixed_of c.args.store.now) c.args.seat.now.view c.commit_parents.new.seat.view c.args.group (piece_of (fixed_of c.args.store.now).base c.in-Ok.piece)
+    c.in-Ok-commit_parents.mask c.in-Ok-commit_parents.ensures.of.knows.fixed_is c.in-Ok-commit_parents.ensures.called
