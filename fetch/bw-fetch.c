@@ -146,7 +146,7 @@ static int add_mirror(fetch *f, const char *url, bool with_line) {
     mirror *m = &f->mirrors[f->mirror_count++];
     int status = set_place(&m->place, url, "");
     m->is_bao = len > 4 && !strcmp(url + len - 4, ".bao");
-    m->next_line = with_line ? f->line_count : f->mirror_count - 1;
+    m->next_line = m->own_line = with_line ? f->line_count : f->mirror_count - 1;
     if (is_missing(&m->place)) m->gone = true, m->why = "it can't be read";
     return !status && !m->is_bao && with_line ? add_line(f, url, ".obao") : status;
 }
@@ -222,12 +222,13 @@ static void on_signal(int number) {
     interrupted = 1;
 }
 
-/* A second signal ends the program at once. */
+/* A second signal ends the program at once. A file that may not become longer is a fault like others. */
 static void watch_signals(void) {
     struct sigaction act = {.sa_handler = on_signal, .sa_flags = (int)SA_RESETHAND};
     sigaction(SIGINT, &act, NULL);
     sigaction(SIGTERM, &act, NULL);
     signal(SIGPIPE, SIG_IGN);
+    signal(SIGXFSZ, SIG_IGN);
 }
 
 static int start(fetch *f, unsigned each) {
@@ -292,14 +293,13 @@ static int watch(fetch *f, bw_handle *hasher, uint8_t *bytes) {
     double began = seconds_now();
     int status = DONE;
     fetch_lock(f);
-    while (!status && !(f->settled && f->drained == f->unit_count)) {
+    while (!status && !fetch_is_all_there(f)) {
         if (interrupted || f->failed) break;
-        if (f->settled && unit_is_whole(&f->units[f->drained])) {
+        if (fetch_can_drain(f)) {
             fetch_unlock(f);
             status = drain(f, hasher, bytes);
             fetch_lock(f);
-            f->drained += !status;
-            if (f->out.is_pipe) pthread_cond_broadcast(&f->changed);
+            if (!status) fetch_drained(f);
             continue;
         }
         if (!fetch_can_go_on(f)) break;
@@ -308,7 +308,7 @@ static int watch(fetch *f, bw_handle *hasher, uint8_t *bytes) {
     }
     show(f, began, "\n");
     if (!status) status = f->failed;
-    bool whole = f->settled && f->drained == f->unit_count;
+    bool whole = fetch_is_all_there(f);
     fetch_unlock(f);
     if (status == NO_MEMORY) no_memory();
     return status || whole ? status : NOT_FETCHED;
@@ -316,11 +316,8 @@ static int watch(fetch *f, bw_handle *hasher, uint8_t *bytes) {
 
 /* --- At the end */
 
-static bool has_chunk(void *with, uint64_t from, size_t len, uint8_t *bytes) {
-    fetch *f = with;
-    const unit *it = &f->units[from / UNIT_LEN];
-    uint64_t in_unit = from % UNIT_LEN, in_group = in_unit % GROUP_LEN;
-    return !(it->open[in_unit / GROUP_LEN] >> in_group / BW_CHUNK_LEN & 1) && out_get(&f->out, from, bytes, len);
+static uint64_t held(const void *with, uint64_t group) {
+    return chunks_held(with, group);
 }
 
 static void report_place(const place *it, uint64_t wrong) {
@@ -354,7 +351,7 @@ static void say_why(const fetch *f) {
 /* Says why, and keeps what came for the next run. */
 static void not_fetched(fetch *f) {
     say_why(f);
-    if (!f->settled || f->out.is_pipe || !out_save(&f->out, &f->outline, f, has_chunk)) return;
+    if (!f->settled || f->out.is_pipe || !out_save(&f->out, f, held)) return;
     fprintf(stderr, "bw-fetch: what came is kept in %s, for the next run\n", f->out.part_bao);
 }
 
@@ -382,10 +379,9 @@ static void close_place(place *it) {
 
 static void end(fetch *f) {
     for (unsigned i = 0; i < f->mirror_count; i++) close_place(&f->mirrors[i].place), free(f->mirrors[i].refused);
-    for (unsigned i = 0; i < f->line_count; i++) close_place(&f->lines[i].place);
+    for (unsigned i = 0; i < f->line_count; i++) close_place(&f->lines[i].place), free(f->lines[i].refused);
     free(f->conns);
     free(f->units);
-    outline_free(&f->outline);
     out_free(&f->out);
 }
 
@@ -395,6 +391,7 @@ int main(int argc, char **argv) {
         .whole = PTHREAD_COND_INITIALIZER, .written = PTHREAD_COND_INITIALIZER,
     };
     words w;
+    tree_start();
     int status = read_words(&f, &w, argc, argv);
     if (status) return status < 0 ? DONE : status;
     status = take_words(&f, &w, argc - optind - 2, argv + optind + 2);

@@ -5,7 +5,7 @@
 #include <string.h>
 #include <time.h>
 
-enum { BAD_ENOUGH = 4, LOST_ENOUGH = 3, STALLS_ALONE = 12 };
+enum { BAD_ENOUGH = 4, LOST_ENOUGH = 3, STALLS_ALONE = 12, LATE_COST = 1000 };
 
 /* How long a unit is left to one mirror, in seconds, before an idle one is asked for it as well; and then a third one. */
 static const double patience = 1;
@@ -60,6 +60,10 @@ uint64_t units_of(uint64_t total) {
     return total ? (total - 1) / UNIT_LEN + 1 : 1;
 }
 
+unit *unit_at(const fetch *f, uint64_t number) {
+    return &f->units[number % f->room];
+}
+
 bool unit_is_whole(const unit *it) {
     for (unsigned g = 0; g < UNIT_GROUPS; g++) {
         if (it->open[g]) return false;
@@ -67,56 +71,125 @@ bool unit_is_whole(const unit *it) {
     return true;
 }
 
-/* Whether the unit has an open group that the mirror hasn't given falsely. */
-static bool may_have(const fetch *f, const mirror *m, const unit *it) {
-    uint16_t refused = m->refused[it - f->units];
-    for (unsigned g = 0; g < UNIT_GROUPS; g++) {
-        if (it->open[g] && !(refused >> g & 1)) return true;
-    }
-    return false;
+/* The end of the units that are in the table. */
+static uint64_t units_end(const fetch *f) {
+    return f->unit_count - f->first_unit < f->room ? f->unit_count : f->first_unit + f->room;
 }
 
-/* How much of the outboard encoding has all parents of a slice. */
-static uint64_t prefix_of(uint64_t total, uint64_t start, uint64_t len) {
-    bw_range ranges[BW_RANGES_MAX];
-    size_t count;
-    bw_status status = bw_outboard_ranges(total, start, len, ranges, BW_RANGES_MAX, &count);
-    return status ? bw_outboard_len(total) : ranges[count - 1].at + ranges[count - 1].len;
+uint64_t chunks_in(uint64_t total, uint64_t group) {
+    uint64_t first = group * BW_GROUP_CHUNKS, count = chunks_of(total);
+    if (first >= count) return 0;
+    return count - first < BW_GROUP_CHUNKS ? ((uint64_t)1 << (count - first)) - 1 : UINT64_MAX;
+}
+
+/* The last chunk, where it is in the group and came with the length. */
+static uint64_t kept_last(const fetch *f, uint64_t group) {
+    uint64_t last = chunks_of(f->total) - 1;
+    return f->has_last && last / BW_GROUP_CHUNKS == group ? (uint64_t)1 << last % BW_GROUP_CHUNKS : 0;
+}
+
+uint64_t chunks_held(const fetch *f, uint64_t group) {
+    uint64_t number = group / UNIT_GROUPS, all = chunks_in(f->total, group);
+    if (number < f->first_unit) return all;
+    return number < units_end(f) ? all & ~unit_at(f, number)->open[group % UNIT_GROUPS] : kept_last(f, group);
+}
+
+/* Puts a unit of which nothing is there into its place of the table. */
+static void put_unit(fetch *f, uint64_t number) {
+    unit *it = unit_at(f, number);
+    *it = (unit){.under_way = 0};
+    for (unsigned g = 0; g < UNIT_GROUPS; g++) {
+        uint64_t group = number * UNIT_GROUPS + g;
+        it->open[g] = chunks_in(f->total, group) & ~kept_last(f, group);
+    }
+    for (unsigned i = 0; i < f->mirror_count; i++) f->mirrors[i].refused[number % f->room] = 0;
+    for (unsigned i = 0; i < f->line_count; i++) f->lines[i].refused[number % f->room] = 0;
+}
+
+void fetch_slide(fetch *f) {
+    while (f->first_unit < f->drained && !unit_at(f, f->first_unit)->under_way) {
+        f->first_unit++;
+        if (f->unit_count - f->first_unit < f->room) continue;
+        put_unit(f, f->first_unit + f->room - 1);
+        pthread_cond_broadcast(&f->changed);
+    }
+}
+
+void fetch_drained(fetch *f) {
+    f->drained++;
+    fetch_slide(f);
+}
+
+bool fetch_can_drain(const fetch *f) {
+    return f->settled && f->drained < units_end(f) && unit_is_whole(unit_at(f, f->drained));
+}
+
+bool fetch_sees_all(const fetch *f) {
+    return units_end(f) == f->unit_count;
+}
+
+bool fetch_is_all_there(const fetch *f) {
+    return f->settled && f->drained == f->unit_count;
+}
+
+static uint16_t *make_refused(const fetch *f) {
+    return calloc((size_t)f->room, sizeof(uint16_t));
 }
 
 static bool make_table(fetch *f, uint64_t total) {
-    f->unit_count = units_of(total);
-    f->units = calloc((size_t)f->unit_count, sizeof *f->units);
-    bool ok = outline_new(&f->outline, total) && f->units;
-    for (unsigned i = 0; i < f->mirror_count && ok; i++) {
-        f->mirrors[i].refused = calloc((size_t)f->unit_count, sizeof *f->mirrors[i].refused);
-        ok = f->mirrors[i].refused;
-    }
+    uint64_t most = f->out.is_pipe ? WINDOW_UNITS : UNITS_MOST;
+    f->unit_count = units_of(total), f->room = f->unit_count < most ? f->unit_count : most;
+    f->units = calloc((size_t)f->room, sizeof *f->units);
+    bool ok = f->units;
+    for (unsigned i = 0; i < f->mirror_count; i++) ok = (f->mirrors[i].refused = make_refused(f)) && ok;
+    for (unsigned i = 0; i < f->line_count; i++) ok = (f->lines[i].refused = make_refused(f)) && ok;
     if (!ok) return false;
-    f->total = total, f->chunks_open = chunks_of(total), f->outline_good = CLAIM_LEN, f->outline_step = OUTLINE_STEP_LEAST;
-    for (uint64_t c = 0; c < f->chunks_open; c += BW_GROUP_CHUNKS) {
-        uint64_t left = f->chunks_open - c, g = c / BW_GROUP_CHUNKS;
-        f->units[g / UNIT_GROUPS].open[g % UNIT_GROUPS] = left < BW_GROUP_CHUNKS ? ((uint64_t)1 << left) - 1 : UINT64_MAX;
-    }
-    for (uint64_t u = 0; u < f->unit_count; u++) {
-        f->units[u].needs = prefix_of(total, u * UNIT_LEN, UNIT_LEN);
-    }
+    f->total = total, f->chunks_open = chunks_of(total);
+    for (uint64_t u = 0; u < f->room; u++) put_unit(f, u);
     return true;
 }
 
-/* The last chunk came with the length. */
-static bool keep_last_chunk(fetch *f, const uint8_t *text) {
-    uint8_t bytes[BW_CHUNK_LEN];
-    size_t len = slice_chunks(f->total, UINT64_MAX, 1, text, bytes);
-    uint64_t last = f->chunks_open - 1, group = last / BW_GROUP_CHUNKS;
+/* --- The parents that are known: one may take the place of another one, which is asked for again then */
+
+static size_t place_of_known(uint64_t outboard_at) {
+    return (size_t)(outboard_at / PARENT_LEN * 0x9E3779B97F4A7C15 >> (64 - KNOWN_BITS));
+}
+
+void fetch_recall(const fetch *f, path *it) {
+    for (size_t i = 0; i < it->count; i++) {
+        above *to = &it->list[i];
+        const known *from = &f->known[place_of_known(to->outboard_at)];
+        if (to->is_known || from->outboard_at != to->outboard_at) continue;
+        memcpy(to->text, from->text, PARENT_LEN);
+        to->is_known = true;
+    }
+}
+
+void fetch_remember(fetch *f, const path *it) {
+    for (size_t i = 0; i < it->count; i++) {
+        const above *from = &it->list[i];
+        known *to = &f->known[place_of_known(from->outboard_at)];
+        if (!from->is_known) continue;
+        to->outboard_at = from->outboard_at;
+        memcpy(to->text, from->text, PARENT_LEN);
+    }
+}
+
+/* The last chunk came with the length, and with it the parents above it. */
+static bool keep_last_chunk(fetch *f, const uint8_t *text, const uint8_t *chunk, size_t chunk_len) {
+    uint64_t last = chunks_of(f->total) - 1, number = f->unit_count - 1;
+    path above;
+    path_to(&above, f->total, number * UNIT_LEN, UNIT_LEN);
+    out_learn(&f->out, &above, last * BW_CHUNK_LEN, BW_CHUNK_LEN, text);
+    fetch_remember(f, &above);
     if (f->out.is_pipe) return true;
-    if (!out_put(&f->out, last * BW_CHUNK_LEN, bytes, len)) return false;
-    f->units[group / UNIT_GROUPS].open[group % UNIT_GROUPS] &= ~((uint64_t)1 << last % BW_GROUP_CHUNKS);
-    f->chunks_open--;
+    if (!out_put(&f->out, last * BW_CHUNK_LEN, chunk, chunk_len)) return false;
+    f->has_last = true, f->chunks_open--;
+    if (number < units_end(f)) put_unit(f, number);
     return true;
 }
 
-void fetch_settle(fetch *f, uint64_t total, const uint8_t *text) {
+void fetch_settle(fetch *f, uint64_t total, const uint8_t *text, const uint8_t *chunk, size_t chunk_len) {
     if (f->settled || f->failed) return;
     if (!make_table(f, total)) {
         fetch_fail(f, 4);
@@ -127,17 +200,35 @@ void fetch_settle(fetch *f, uint64_t total, const uint8_t *text) {
         fetch_fail(f, status);
         return;
     }
-    outline_learn(&f->outline, UINT64_MAX, 1, text);
     f->settled = true;
-    if (!keep_last_chunk(f, text)) fetch_fail(f, 3);
+    if (!keep_last_chunk(f, text, chunk, chunk_len)) fetch_fail(f, 3);
     for (unsigned i = 0; i < f->conn_count; i++) {
         conn *c = &f->conns[i];
-        if (c->opens && c->claimed == total && !unit_is_whole(&f->units[c->unit_number])) conn_adopt(c);
+        if (c->opens && c->claimed == total && !unit_is_whole(unit_at(f, c->unit_number))) conn_adopt(c);
     }
     fetch_tell(f);
 }
 
 /* --- Who is asked for what */
+
+/* Whether the unit has an open group that the mirror hasn't given falsely, nor the outboard encoding its parents. */
+static bool may_give(const fetch *f, const mirror *m, const line *by, const unit *it) {
+    size_t at = (size_t)(it - f->units);
+    uint16_t refused = m->refused[at] | (by ? by->refused[at] : 0);
+    for (unsigned g = 0; g < UNIT_GROUPS; g++) {
+        if (it->open[g] && !(refused >> g & 1)) return true;
+    }
+    return false;
+}
+
+/* The same, beside any outboard encoding where it needs one. */
+static bool may_have(const fetch *f, const mirror *m, const unit *it) {
+    if (m->is_bao) return may_give(f, m, NULL, it);
+    for (unsigned i = 0; i < f->line_count; i++) {
+        if (!f->lines[i].gone && may_give(f, m, &f->lines[i], it)) return true;
+    }
+    return false;
+}
 
 /* Whether some other mirror, that isn't asked last or left alone, may have what is open in a unit. */
 static bool better_one_has(const fetch *f, const unit *it) {
@@ -148,12 +239,6 @@ static bool better_one_has(const fetch *f, const unit *it) {
     return false;
 }
 
-/* The units that may be under way: those of a pipe's window. */
-static uint64_t units_end(const fetch *f) {
-    uint64_t end = f->out.is_pipe ? f->drained + f->out.window_len / UNIT_LEN : f->unit_count;
-    return end < f->unit_count ? end : f->unit_count;
-}
-
 static bool asks(const fetch *f, const mirror *m, const unit *it) {
     for (unsigned i = 0; i < f->conn_count; i++) {
         if (f->conns[i].unit == it && f->conns[i].mirror == m) return true;
@@ -162,16 +247,16 @@ static bool asks(const fetch *f, const mirror *m, const unit *it) {
 }
 
 /* Whether the mirror may be asked for a unit at all. */
-static bool may_ask(const fetch *f, const mirror *m, const unit *it) {
-    bool lined = m->is_bao || it->needs <= f->outline_good;
-    return lined && may_have(f, m, it) && !(m->last && m != f->first && better_one_has(f, it));
+static bool may_ask(fetch *f, const mirror *m, const unit *it) {
+    if (m->is_bao ? !may_give(f, m, NULL, it) : !fetch_line(f, m, it)) return false;
+    return !(m->last && m != f->first && better_one_has(f, it));
 }
 
 unit *fetch_next(fetch *f, const mirror *m, uint64_t *number) {
     unit *late = NULL;
     double now = seconds_now();
     for (uint64_t u = f->drained; u < units_end(f); u++) {
-        unit *it = &f->units[u];
+        unit *it = unit_at(f, u);
         bool is_late = it->under_way && now - it->since > patience * it->under_way && (!late || it->since < late->since);
         if ((it->under_way && !is_late) || !may_ask(f, m, it)) continue;
         if (it->under_way && asks(f, m, it)) continue;
@@ -181,53 +266,29 @@ unit *fetch_next(fetch *f, const mirror *m, uint64_t *number) {
     return late;
 }
 
-/* Whether an outboard encoding is to be asked before another one. */
-static bool is_better_line(const line *it, const line *than) {
-    return !than || it->faults + it->lost < than->faults + than->lost;
-}
-
-/* Whether it hasn't been tried where the outboard encoding goes on. */
-static bool may_extend(const fetch *f, const line *it) {
-    return !it->gone && it->tried_at != f->outline_good;
-}
-
-/* The best of those that aren't left alone. */
-static line *best_line(fetch *f, const line *but) {
+/* One that doesn't take long just then, with the fewest faults, and rather the mirror's own one. */
+line *fetch_line(fetch *f, const mirror *m, const unit *of) {
     line *best = NULL;
+    unsigned least = 0;
+    double now = seconds_now();
     for (unsigned i = 0; i < f->line_count; i++) {
-        line *it = &f->lines[i];
-        if (it != but && may_extend(f, it) && !place_waits(&it->place) && is_better_line(it, best)) best = it;
+        line *it = &f->lines[(m->own_line + i) % f->line_count];
+        if (it->gone || it->place.later > now || !may_give(f, m, it, of)) continue;
+        bool is_late = it->under_way && now - it->since > patience, is_false = it->claimed && it->claimed != f->total;
+        unsigned cost = it->faults + it->lost + it->bad + is_false + (is_late ? LATE_COST : 0);
+        if (!best || cost < least) best = it, least = cost;
     }
     return best;
 }
 
-line *fetch_next_line(fetch *f) {
-    if (f->outliner) {
-        bool is_late = seconds_now() - f->outliner_since > patience;
-        if (is_late && best_line(f, f->outliner_by)) http_cut(f->outliner->http);
-        return NULL;
-    }
-    f->outline_good = outline_known(&f->outline, f->outline_good);
-    return f->outline_good == bw_outboard_len(f->total) ? NULL : best_line(f, NULL);
-}
-
-/* Whether the outboard encoding may still become longer. */
-static bool outline_can_grow(fetch *f) {
-    for (unsigned i = 0; i < f->line_count; i++) {
-        if (may_extend(f, &f->lines[i])) return true;
-    }
-    return f->outliner;
-}
-
-bool fetch_can_go_on(fetch *f) {
-    if (f->settled && !f->outliner) f->outline_good = outline_known(&f->outline, f->outline_good);
+bool fetch_can_go_on(const fetch *f) {
+    if (f->settled && f->drained == units_end(f)) return true;
     for (unsigned i = 0; i < f->mirror_count; i++) {
         const mirror *m = &f->mirrors[i];
         if (m->gone || (!f->settled && m->is_mute)) continue;
         if (!f->settled) return true;
-        for (uint64_t u = f->drained; u < f->unit_count; u++) {
-            const unit *it = &f->units[u];
-            if (may_have(f, m, it) && (m->is_bao || it->needs <= f->outline_good || outline_can_grow(f))) return true;
+        for (uint64_t u = f->drained; u < units_end(f); u++) {
+            if (may_have(f, m, unit_at(f, u))) return true;
         }
     }
     return false;

@@ -1,7 +1,12 @@
 /* One fetch: what its threads share, which mirror is asked for what, and what a connection does.
  *
  * The blob is fetched in units of 1 MiB, of 16 groups of 64 KiB. A group is verified as a slice of its own, put together of
- * parents that are known to be true and of what one mirror gave: so a refusal is that mirror's own doing. */
+ * parents that are known to be true and of what one mirror gave, or one mirror and one outboard encoding. The place of the
+ * first fault tells whose it is.
+ *
+ * Memory doesn't grow with the blob. A request brings the parents of its unit, and of those above it what isn't known just
+ * then: there is room for some. What was verified goes to the disk. The table begins with the first unit that isn't hashed
+ * yet, and has room for some, too. */
 #ifndef BW_FETCH_FETCH_H
 #define BW_FETCH_FETCH_H
 
@@ -17,16 +22,29 @@ enum {
     MIRRORS_MOST = 64,
     CONNECTIONS_MOST = 8,                   /* for each mirror */
     PIECES_MOST = 64,                       /* in one request */
-    OUTLINE_STEP_LEAST = 65536              /* bytes of an outboard encoding, in one request */
+    HEAD_LEN = 12288                        /* of a file, asked for at first: see length.c */
 };
+
+/* So many units are in the table at once, and so many parents above units are known. The tests build with small ones. */
+#ifndef UNITS_MOST
+#define UNITS_MOST 16384
+#endif
+#ifndef KNOWN_BITS
+#define KNOWN_BITS 13
+#endif
+#define KNOWN_MOST (1 << KNOWN_BITS)
 
 /* An outboard encoding, for mirrors that have the plain file. */
 typedef struct line {
     place place;
     bool gone;
-    unsigned faults, lost;                  /* requests that failed, and that were ended since they took long */
-    uint64_t tried_at;                      /* where it had nothing true the last time */
+    uint64_t claimed;                       /* the length that it claims, or 0 where it wasn't asked */
+    unsigned faults, lost, bad;             /* requests that failed, and that were ended since they took long, and groups whose
+                                             * parents were refused */
+    unsigned under_way;                     /* requests, and when the first of them began, or the last one came */
+    double since;
     uint64_t wrong;                         /* bytes that were refused */
+    uint16_t *refused;                      /* as a mirror's */
 } line;
 
 typedef struct mirror {
@@ -36,8 +54,10 @@ typedef struct mirror {
     bool is_mute;                           /* it isn't asked for the length any more */
     const char *why;
     unsigned in_row, faults, lost, next_line;
+    unsigned own_line;                      /* which one it is asked beside, if others aren't better */
     uint64_t good, bad, wrong;              /* groups that were taken, groups that were refused, bytes that were refused */
-    uint16_t *refused;                      /* for each unit, the groups that it gave falsely: it isn't asked for them again */
+    uint16_t *refused;                      /* for each unit of the table, the groups that it gave falsely: it isn't asked for
+                                             * them again */
 } mirror;
 
 typedef struct unit {
@@ -45,8 +65,13 @@ typedef struct unit {
     uint16_t busy;                          /* groups that are being written */
     unsigned under_way;                     /* connections that ask for it, and since when the first of them does */
     double since;
-    uint64_t needs;                         /* how much of the outboard encoding has its parents */
 } unit;
+
+/* A parent that is known to be true, above some unit. */
+typedef struct known {
+    uint64_t outboard_at;                   /* or 0 */
+    uint8_t text[PARENT_LEN];
+} known;
 
 typedef struct fetch fetch;
 
@@ -69,14 +94,19 @@ typedef struct conn {
     size_t certifying;                      /* so many of the first pieces certify it */
     unit *unit;                             /* whose bytes are asked for, or NULL */
     uint64_t unit_number;
+    path above;                             /* the parents above it */
+    line *line;                             /* which outboard encoding has its parents, or NULL */
     uint16_t asked;                         /* its groups that are asked for */
     span spans[UNIT_GROUPS];
-    unsigned next_group, groups_taken;
+    unsigned next_group, groups_taken, groups_orphaned;     /* of the last ones a parent was refused */
     size_t try_at;                          /* how many bytes there have to be before the next group is tried */
     bool was_last;
-    piece list[PIECES_MOST];
-    pieces parts;
+    piece list[PIECES_MOST], parent_list[BW_RANGES_MAX];
+    pieces parts, parents;                  /* what is asked for, of the mirror and of an outboard encoding */
     uint8_t *bytes, *text, *chunks;         /* what comes, a slice, and its chunks */
+    uint8_t *head;                          /* what a file begins with: of the outboard encoding head_of, so many bytes */
+    line *head_of;
+    size_t head_len;
 } conn;
 
 struct fetch {
@@ -95,17 +125,16 @@ struct fetch {
     unsigned mirror_count, line_count, conn_count;
     mirror *first;                          /* what an earlier run left: it is asked alone, until it has nothing more */
     bool quit, settled;
-    conn *outliner;                         /* who extends the outboard encoding */
-    line *outliner_by;                      /* which one it asks, and since when */
-    double outliner_since;
     int failed;                             /* a status, once the fetch can't go on */
     uint64_t claimed_above;                 /* the largest claim that was refused for its length */
 
     uint64_t total, unit_count, chunks_open;
+    bool has_last;                          /* the last chunk came with the length */
     uint64_t drained;                       /* units that were hashed, in order, and passed on to a pipe */
-    unit *units;
-    outline outline;
-    uint64_t outline_good, outline_step;    /* the outboard encoding is known up to here, and so much is asked for next */
+    uint64_t first_unit, room;              /* the table has so many units from this one on. Those before it are drained, and
+                                             * nobody asks for them any more */
+    unit *units;                            /* unit u is at u % room */
+    known known[KNOWN_MOST];
     out out;
 };
 
@@ -125,15 +154,30 @@ void fetch_fail(fetch *f, int status);
 
 void fetch_leave_out(fetch *f, mirror *m, const char *why);
 
-/* The length is certified, by the slice of the last byte. Units that were asked for already, under the same claim, are under
+/* The length is certified, by the slice of the last chunk. Units that were asked for already, under the same claim, are under
  * way from now on. */
-void fetch_settle(fetch *f, uint64_t total, const uint8_t *text);
+void fetch_settle(fetch *f, uint64_t total, const uint8_t *text, const uint8_t *chunk, size_t chunk_len);
 
 /* The unit that a mirror is to be asked for, or NULL. */
 unit *fetch_next(fetch *f, const mirror *m, uint64_t *number);
 
-/* The outboard encoding that is to be asked next, or NULL. One that takes long is left for another one. */
-line *fetch_next_line(fetch *f);
+/* The outboard encoding that a mirror's plain file is to be asked beside for a unit, or NULL. */
+line *fetch_line(fetch *f, const mirror *m, const unit *of);
+
+/* Whether the next unit in order is whole; it is drained now; whether all are. */
+bool fetch_can_drain(const fetch *f);
+void fetch_drained(fetch *f);
+bool fetch_is_all_there(const fetch *f);
+
+/* Whether the table has the blob's last unit. */
+bool fetch_sees_all(const fetch *f);
+
+/* Makes room in the table for units that follow. */
+void fetch_slide(fetch *f);
+
+/* Gives a path the parents that are known, and remembers those that it knows. */
+void fetch_recall(const fetch *f, path *it);
+void fetch_remember(fetch *f, const path *it);
 
 /* Leaves a place alone for as long as it asks, and at most for 12 stall times. False: it is left alone already. */
 bool fetch_leave_alone(fetch *f, place *it, double seconds);
@@ -143,10 +187,15 @@ bool place_waits(const place *it);
 void fetch_judge(mirror *m);
 
 /* Whether some mirror may still have something that is lacking. */
-bool fetch_can_go_on(fetch *f);
+bool fetch_can_go_on(const fetch *f);
 
 uint64_t units_of(uint64_t total);
+unit *unit_at(const fetch *f, uint64_t number);
 bool unit_is_whole(const unit *it);
+
+/* The chunks of a group, and those that are there. */
+uint64_t chunks_in(uint64_t total, uint64_t group);
+uint64_t chunks_held(const fetch *f, uint64_t group);
 
 /* Ends the requests for a unit, or with NULL all, but for that of one connection. */
 void fetch_cut(fetch *f, const unit *of, const conn *but);
@@ -181,5 +230,8 @@ void conn_say(const conn *c, const place *of, const char *what);
 
 /* Gives pieces their room, one after another. How much that is. */
 size_t pieces_lay_out(pieces *of, uint8_t *at);
+
+/* Gives the pieces what the head has of them. */
+void conn_fill(const conn *c, pieces *to);
 
 #endif

@@ -1,11 +1,6 @@
-/* How a connection certifies the length: by the slice of the last byte, which has the last chunk and all parents above it. */
+/* How a connection certifies the length: by the slice of the last chunk, which has that and all parents above it. Of a file it
+ * asks for HEAD_LEN bytes at first: what a server may send over a new connection before it hears anything (RFC 6928). */
 #include "fetch.h"
-
-#include <string.h>
-
-/* So much of a file is asked for at first: what a server may send over a new connection before it hears anything (RFC 6928).
- * */
-enum { HEAD_LEN = 12288 };
 
 static bool is_settled(fetch *f) {
     fetch_lock(f);
@@ -14,40 +9,40 @@ static bool is_settled(fetch *f) {
     return it;
 }
 
+static uint64_t last_chunk_at(uint64_t total) {
+    return (chunks_of(total) - 1) * BW_CHUNK_LEN;
+}
+
 /* What a file begins with, and the length that it claims there, if that is no more than is wanted. */
-static bool get_head(conn *c, place *of, piece *head, uint64_t *total) {
+static bool get_head(conn *c, place *of, line *by, uint64_t *total) {
     fetch *f = c->fetch;
-    *head = (piece){.len = HEAD_LEN, .bytes = c->chunks};
-    if (conn_heard(c, of, http_begin(c->http, of, head)) != HTTP_ALL) return false;
-    if (head->have < CLAIM_LEN) return conn_say(c, of, "it ends before"), false;
-    *total = length_claimed(head->bytes);
-    if (*total <= f->most) return true;
-    conn_say(c, of, "it claims more bytes than are wanted");
+    piece head = {.len = HEAD_LEN, .bytes = c->head};
+    http_answer r = conn_heard(c, of, http_begin(c->http, of, &head));
+    c->head_of = by, c->head_len = head.have;
+    if (r != HTTP_ALL) return false;
+    if (head.have < CLAIM_LEN) return conn_say(c, of, "it ends before"), false;
+    *total = length_claimed(c->head);
+    bool is_wanted = *total <= f->most;
     fetch_lock(f);
-    if (*total > f->claimed_above) f->claimed_above = *total;
+    if (by) by->claimed = *total;
+    if (!is_wanted && *total > f->claimed_above) f->claimed_above = *total;
     fetch_unlock(f);
-    return false;
+    if (!is_wanted) conn_say(c, of, "it claims more bytes than are wanted");
+    return is_wanted;
 }
 
-/* Gives the pieces what the head has of them. */
-static void fill(pieces *to, const piece *head) {
-    for (size_t i = 0; i < to->count; i++) {
-        piece *it = &to->list[i];
-        if (it->at >= head->have) continue;
-        size_t left = head->have - (size_t)it->at;
-        it->have = left < it->len ? left : it->len;
-        memcpy(it->bytes, head->bytes + it->at, it->have);
-    }
-}
-
-/* Checks what came as the slice of the last byte, and settles the length by it. */
+/* Checks what came as the slice of the last chunk, and settles the length by it. */
 static bool settle_by(conn *c, uint64_t total, const origin *from, uint64_t *at) {
     fetch *f = c->fetch;
-    size_t len = slice_put(total, UINT64_MAX, 1, from, c->text, GROUP_SLICE_MOST);
+    uint64_t last = last_chunk_at(total), certified;
+    size_t len = slice_put(total, last, BW_CHUNK_LEN, from, c->text, GROUP_SLICE_MOST), used;
     *at = 0;
-    if (!len || bw_check_slice(&f->mode, f->root, UINT64_MAX, 1, c->text, len, at)) return false;
+    if (!len) return false;
+    bw_status status = bw_decode(&f->mode, f->root, last, BW_CHUNK_LEN, c->text, len, c->chunks, GROUP_LEN, &used,
+                                 &certified, at);
+    if (status || certified != total) return false;
     fetch_lock(f);
-    fetch_settle(f, total, c->text);
+    fetch_settle(f, total, c->text, c->chunks, used);
     fetch_unlock(f);
     return true;
 }
@@ -59,7 +54,7 @@ static bool settle_by(conn *c, uint64_t total, const origin *from, uint64_t *at)
 static bool pick_unit(conn *c) {
     const fetch *f = c->fetch;
     uint64_t count = units_of(c->claimed);
-    for (uint64_t u = 0; u < count && u < WINDOW_UNITS; u++) {
+    for (uint64_t u = 0; u < count && u < WINDOW_UNITS && u < UNITS_MOST; u++) {
         bool is_asked = false;
         for (unsigned i = 0; i < f->conn_count; i++) {
             const conn *other = &f->conns[i];
@@ -88,12 +83,14 @@ static bool plan_opening(conn *c) {
     fetch_unlock(f);
     bool is_last = c->opens && c->unit_number + 1 == units_of(c->claimed);
     c->parts.count = 0, c->opening = UNSURE;
-    if (!is_last && !slice_ranges(c->claimed, UINT64_MAX, 1, NULL, &c->parts)) return false;
+    if (!is_last && !add_slice(&c->parts, NULL, c->claimed, last_chunk_at(c->claimed), BW_CHUNK_LEN)) return false;
     c->certifying = c->parts.count;
-    if (c->opens && !slice_ranges(c->claimed, c->unit_number * UNIT_LEN, UNIT_LEN, NULL, &c->parts)) drop_unit(c);
+    bool has_room = !c->opens || add_slice(&c->parts, NULL, c->claimed, c->unit_number * UNIT_LEN, UNIT_LEN);
+    if (!has_room && is_last) return false;
+    if (!has_room) drop_unit(c);
     if (is_last) c->certifying = c->parts.count;
     pieces_lay_out(&c->parts, c->bytes);
-    return c->certifying;
+    return true;
 }
 
 /* While bytes come. As soon as the length is certified, by whomever, what came of the unit is taken. */
@@ -119,11 +116,10 @@ static bool opening_came(void *with) {
 static bool settle_bao(conn *c) {
     fetch *f = c->fetch;
     mirror *m = c->mirror;
-    piece head;
-    if (!get_head(c, &m->place, &head, &c->claimed)) return false;
+    if (!get_head(c, &m->place, NULL, &c->claimed)) return false;
     if (is_settled(f)) return true;
     if (plan_opening(c)) {
-        fill(&c->parts, &head);
+        conn_fill(c, &c->parts);
         conn_get(c, &m->place, &c->parts, opening_came);
         opening_came(c);
     }
@@ -139,57 +135,28 @@ static bool settle_bao(conn *c) {
 
 /* --- A plain file, beside an outboard encoding */
 
-/* Learns the parents that the head of an outboard encoding has truly, unless the encoding is being asked for. */
-static void learn_head(conn *c, uint64_t total, const piece *head) {
-    fetch *f = c->fetch;
-    uint64_t end;
-    if (bw_check_outboard(&f->mode, f->root, head->bytes, head->have, &end) == BW_OK) end = head->have;
-    fetch_lock(f);
-    bool may = f->settled && f->total == total && !f->outliner;
-    uint64_t at = may ? outline_known(&f->outline, CLAIM_LEN) : end;
-    while (at + PARENT_LEN <= end) {
-        memcpy(f->outline.text + at, head->bytes + at, PARENT_LEN);
-        outline_learn_prefix(&f->outline, at, at + PARENT_LEN);
-        at = outline_known(&f->outline, at);
-    }
-    fetch_unlock(f);
-}
-
-/* Plans the request for the parents of the last chunk, in an outboard encoding whose length is there. */
-static bool plan_path(conn *c, uint64_t total) {
-    bw_range ranges[BW_RANGES_MAX];
-    size_t count;
-    c->parts.count = 0;
-    if (bw_outboard_ranges(total, UINT64_MAX, 1, ranges, BW_RANGES_MAX, &count)) return false;
-    ranges[0].at += CLAIM_LEN, ranges[0].len -= CLAIM_LEN;
-    for (size_t i = 0; i < count; i++) {
-        if (ranges[i].len) c->parts.list[c->parts.count++] = (piece){.at = ranges[i].at, .len = (size_t)ranges[i].len};
-    }
-    return true;
-}
-
 /* From the parents in the outboard encoding, and the last chunk of the plain file. */
 static bool settle_plain(conn *c, line *by) {
     mirror *m = c->mirror;
     uint64_t total, at;
-    piece head;
-    if (!get_head(c, &by->place, &head, &total)) return false;
+    if (!get_head(c, &by->place, by, &total)) return false;
     if (is_settled(c->fetch)) return true;
-    if (!plan_path(c, total)) return false;
-    size_t parents = pieces_lay_out(&c->parts, c->bytes);
-    fill(&c->parts, &head);
-    uint64_t last = (chunks_of(total) - 1) * BW_CHUNK_LEN;
+    uint64_t last = last_chunk_at(total);
+    c->parents.count = 0;
+    if (!add_parents(&c->parents, NULL, total, last, BW_CHUNK_LEN)) return false;
+    size_t parents = pieces_lay_out(&c->parents, c->bytes);
+    conn_fill(c, &c->parents);
     piece chunk = {.at = last, .len = (size_t)(total - last), .bytes = c->bytes + parents};
     pieces plain = {&chunk, 1, 1};
-    if (conn_get(c, &by->place, &c->parts, NULL) != HTTP_ALL) return false;
+    if (conn_get(c, &by->place, &c->parents, NULL) != HTTP_ALL) return false;
     if (conn_get(c, &m->place, &plain, NULL) != HTTP_ALL) return false;
-    if (settle_by(c, total, &(origin){.outboard = &c->parts, .plain = &plain}, &at)) return learn_head(c, total, &head), true;
+    if (settle_by(c, total, &(origin){.outboard = &c->parents, .plain = &plain}, &at)) return true;
     /* A parent that is refused is the outboard encoding's own. A chunk may be refused since the claim is false: nobody is
      * blamed. */
     if (at >= CLAIM_LEN + parents) return false;
     conn_say(c, &by->place, "it isn't the root's");
     fetch_lock(c->fetch);
-    by->wrong += parents;
+    by->wrong += parents, by->bad++;
     fetch_unlock(c->fetch);
     return false;
 }

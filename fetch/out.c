@@ -11,7 +11,7 @@
 #include <sys/file.h>
 #include <unistd.h>
 
-enum { WINDOW_UNIT = 1 << 20, BLOCK_LEN = 65536 };
+enum { WINDOW_UNIT = 1 << 20, BLOCK_LEN = 65536, PARENTS_LEN = 8192 };
 
 static char *with_tail(const char *path, const char *tail) {
     size_t len = strlen(path) + strlen(tail) + 1;
@@ -80,9 +80,17 @@ static bool read_at(int fd, uint64_t at, uint8_t *bytes, size_t len) {
     return true;
 }
 
+/* Has parents give way to the blob where a disk is full. */
+static bool give_way(out *it) {
+    if (errno != ENOSPC && errno != EDQUOT) return false;
+    atomic_store(&it->is_full, true);
+    return !ftruncate(it->fd, (off_t)it->total);
+}
+
 bool out_put(out *it, uint64_t from, const uint8_t *bytes, size_t len) {
     if (it->is_pipe) return memcpy(it->window + from % it->window_len, bytes, len), true;
-    return write_at(it->fd, from, bytes, len) || say(it->part);
+    if (write_at(it->fd, from, bytes, len)) return true;
+    return (give_way(it) && write_at(it->fd, from, bytes, len)) || say(it->part);
 }
 
 bool out_get(const out *it, uint64_t from, uint8_t *bytes, size_t len) {
@@ -118,7 +126,7 @@ static void flush_folder(const char *path) {
 
 bool out_finish(out *it) {
     if (it->is_pipe) return true;
-    if (fsync(it->fd) || rename(it->part, it->path)) return say(it->path);
+    if (ftruncate(it->fd, (off_t)it->total) || fsync(it->fd) || rename(it->part, it->path)) return say(it->path);
     flush_folder(it->path);
     close(it->fd), it->fd = -1;
     unlink(it->part_bao);
@@ -131,7 +139,50 @@ void out_drop(out *it) {
     close(it->fd), it->fd = -1;
 }
 
-/* Nodes that follow each other are written as one block. */
+/* --- Parents: byte `at` of the outboard encoding is byte `at` after the blob */
+
+typedef struct learning {
+    const out *to;
+    path *above;
+    const uint8_t *text;
+    bool is_new;
+    uint64_t from;
+    size_t len;
+    uint8_t bytes[PARENTS_LEN];
+} learning;
+
+/* Parents that follow each other are written at once. */
+static void flush_parents(learning *by) {
+    if (by->len) (void)write_at(by->to->fd, by->to->total + by->from, by->bytes, by->len);
+    by->len = 0;
+}
+
+static bool learn_node(void *with, const node *it) {
+    learning *by = with;
+    const uint8_t *bytes = by->text;
+    by->text += it->len;
+    if (it->is_chunk) return true;
+    above *of = path_find(by->above, it->outboard_at);
+    if (of && of->is_known) return true;
+    if (of) memcpy(of->text, bytes, PARENT_LEN), of->is_known = by->is_new = true;
+    if (by->to->is_pipe || atomic_load(&by->to->is_full)) return true;
+    if (it->outboard_at != by->from + by->len || by->len == PARENTS_LEN) flush_parents(by);
+    if (!by->len) by->from = it->outboard_at;
+    memcpy(by->bytes + by->len, bytes, PARENT_LEN);
+    by->len += PARENT_LEN;
+    return true;
+}
+
+bool out_learn(const out *it, path *above, uint64_t start, uint64_t len, const uint8_t *text) {
+    learning by = {.to = it, .above = above, .text = text + CLAIM_LEN};
+    walk_slice(it->total, start, len, learn_node, &by);
+    flush_parents(&by);
+    return by.is_new;
+}
+
+/* --- OUT.part.bao */
+
+/* Some bytes of a file: those that were read last, or those that aren't written yet. */
 typedef struct block {
     int fd;
     uint64_t at;
@@ -139,31 +190,80 @@ typedef struct block {
     uint8_t bytes[BLOCK_LEN];
 } block;
 
+/* Bytes of a file, or NULL where it ends before. `most` are read at once. */
+static const uint8_t *look(block *in, uint64_t at, size_t len, size_t most) {
+    if (at < in->at || at + len > in->at + in->len) {
+        ssize_t n = pread(in->fd, in->bytes, most, (off_t)at);
+        in->at = at, in->len = n > 0 ? (size_t)n : 0;
+    }
+    return at + len <= in->at + in->len ? in->bytes + (at - in->at) : NULL;
+}
+
+/* Nodes that follow each other are written as one block. */
 static bool flush_block(block *it) {
     bool ok = write_at(it->fd, it->at, it->bytes, it->len);
     it->at += it->len, it->len = 0;
     return ok;
 }
 
-static bool put_block(void *with, uint64_t at, const uint8_t *bytes, size_t len) {
-    block *it = with;
-    if ((at != it->at + it->len || len > BLOCK_LEN - it->len) && !flush_block(it)) return false;
-    if (!it->len) it->at = at;
-    memcpy(it->bytes + it->len, bytes, len);
-    it->len += len;
+static bool put_block(block *to, uint64_t at, const uint8_t *bytes, size_t len) {
+    if ((at != to->at + to->len || len > BLOCK_LEN - to->len) && !flush_block(to)) return false;
+    if (!to->len) to->at = at;
+    memcpy(to->bytes + to->len, bytes, len);
+    to->len += len;
     return true;
 }
 
-bool out_save(out *it, const outline *known, void *with, has_bytes *has) {
-    static block to;
-    const keeper by = {has, with, put_block, &to};
+typedef struct saving {
+    const out *from;
+    block chunks, parents, to;
+    uint64_t end;                           /* of the last node. One before it is there already, of an earlier slice */
+} saving;
+
+static bool is_hole(const uint8_t *parent) {
+    static const uint8_t none[PARENT_LEN];
+    return !memcmp(parent, none, PARENT_LEN);
+}
+
+static bool save_node(void *with, const node *it) {
+    saving *by = with;
+    if (it->combined_at < by->end) return true;
+    const uint8_t *bytes = it->is_chunk ? look(&by->chunks, it->from, it->len, BLOCK_LEN)
+                                        : look(&by->parents, by->from->total + it->outboard_at, PARENT_LEN, PARENTS_LEN);
+    if (!it->is_chunk && (!bytes || is_hole(bytes))) return true;
+    by->end = it->combined_at + it->len;
+    return bytes && put_block(&by->to, it->combined_at, bytes, it->len);
+}
+
+/* The chunks of a group that are there, as slices of those that lie side by side. */
+static bool save_group(saving *by, uint64_t group, uint64_t held) {
+    while (held) {
+        unsigned low = (unsigned)__builtin_ctzll(held), count = ~(held >> low) ? (unsigned)__builtin_ctzll(~(held >> low)) : 64;
+        uint64_t start = group * GROUP_LEN + (uint64_t)low * BW_CHUNK_LEN;
+        if (!walk_slice(by->from->total, start, (uint64_t)count * BW_CHUNK_LEN, save_node, by)) return false;
+        held = count + low == 64 ? 0 : held >> (low + count) << (low + count);
+    }
+    return true;
+}
+
+static bool save_all(saving *by, const void *with, held_chunks *held) {
+    uint64_t total = by->from->total, groups = (chunks_of(total) - 1) / BW_GROUP_CHUNKS + 1;
     uint8_t claim[CLAIM_LEN];
-    to = (block){.fd = open(it->part_new, O_WRONLY | O_CREAT | O_TRUNC | O_CLOEXEC | O_NOFOLLOW, 0666)};
-    if (to.fd < 0) return say(it->part_new);
-    claim_length(claim, known->total);
-    bool ok = !ftruncate(to.fd, (off_t)bw_encoded_len(known->total)) && put_block(&to, 0, claim, CLAIM_LEN)
-        && outline_keep(known, &by) && flush_block(&to) && !fsync(to.fd);
-    ok = !close(to.fd) && ok && !rename(it->part_new, it->part_bao);
+    claim_length(claim, total);
+    if (ftruncate(by->to.fd, (off_t)bw_encoded_len(total)) || !put_block(&by->to, 0, claim, CLAIM_LEN)) return false;
+    for (uint64_t g = 0; g < groups; g++) {
+        if (!save_group(by, g, held(with, g))) return false;
+    }
+    return flush_block(&by->to) && !fsync(by->to.fd);
+}
+
+bool out_save(out *it, const void *with, held_chunks *held) {
+    static saving by;
+    by.from = it, by.chunks.fd = by.parents.fd = it->fd;
+    by.to.fd = open(it->part_new, O_WRONLY | O_CREAT | O_TRUNC | O_CLOEXEC | O_NOFOLLOW, 0666);
+    if (by.to.fd < 0) return say(it->part_new);
+    bool ok = save_all(&by, with, held);
+    ok = !close(by.to.fd) && ok && !rename(it->part_new, it->part_bao);
     if (!ok) say(it->part_bao), unlink(it->part_new);
     return ok;
 }

@@ -1,5 +1,6 @@
 /* OUT while it comes together: a file beside it, which is renamed at the end, or for a pipe a window of the blob in memory.
- * */
+ * The file has the blob, with holes, and after it the outboard encoding, with holes: the parents that were verified. They
+ * are cut off at the end. */
 #ifndef BW_FETCH_OUT_H
 #define BW_FETCH_OUT_H
 
@@ -12,6 +13,7 @@ typedef struct out {
     char *part, *part_bao, *part_new;       /* OUT.part; OUT.part.bao, which a failure leaves; and that while it is written */
     bool is_pipe;
     int fd;
+    atomic_bool is_full;                    /* the disk is: there is no room for parents after the blob */
     uint64_t total;
     uint8_t *window;
     uint64_t window_len;
@@ -37,11 +39,18 @@ bool out_pass(out *it, const uint8_t *bytes, size_t len);
 /* Has the file on the disk and renames it to OUT; what an earlier run left is removed. */
 bool out_finish(out *it);
 
+/* Keeps the parents of an accepted slice, but for those of the path that are known; these are known then. Whether one of the
+ * path is new. A pipe keeps none, nor does a file where there is no room for them: that ends no fetch, and a failure keeps
+ * less. */
+bool out_learn(const out *it, path *above, uint64_t start, uint64_t len, const uint8_t *text);
+
 /* Takes OUT.part away. */
 void out_drop(out *it);
 
-/* Leaves OUT.part.bao: the combined encoding, with the parents that are known and the chunks that `has` gives, and holes.
- * */
-bool out_save(out *it, const outline *known, void *with, has_bytes *has);
+/* The chunks of a group that are there. */
+typedef uint64_t held_chunks(const void *with, uint64_t group);
+
+/* Leaves OUT.part.bao: the combined encoding, with the chunks that are there and the parents above them, and holes. */
+bool out_save(out *it, const void *with, held_chunks *held);
 
 #endif

@@ -1,22 +1,7 @@
 #include "tree.h"
 
 #include <berylwool.h>
-#include <stdlib.h>
 #include <string.h>
-
-/* A node, and where it lies: in the blob, in its combined encoding and, where it is a parent, in its outboard encoding. */
-typedef struct node {
-    bool is_chunk;
-    uint64_t from, len, combined_at, outboard_at;
-} node;
-
-typedef bool visit(void *with, const node *it);
-
-typedef struct walk {
-    uint64_t from, to;
-    visit *visit;
-    void *with;
-} walk;
 
 uint64_t length_claimed(const uint8_t claim[CLAIM_LEN]) {
     uint64_t total = 0;
@@ -32,76 +17,156 @@ uint64_t chunks_of(uint64_t total) {
     return total ? (total - 1) / BW_CHUNK_LEN + 1 : 1;
 }
 
-/* The largest power of two of chunks that is less than `len`. */
-static uint64_t left_len(uint64_t len) {
-    return (uint64_t)BW_CHUNK_LEN << (63 - __builtin_clzll((len - 1) / BW_CHUNK_LEN));
+/* --- Where chunks lie */
+
+/* The places of a group's chunks, after its first one. They are the same in each group that has all of them. */
+static uint64_t places[BW_GROUP_CHUNKS];
+
+static size_t chunk_len(uint64_t total, uint64_t chunk) {
+    uint64_t left = total - chunk * BW_CHUNK_LEN;
+    return left < BW_CHUNK_LEN ? (size_t)left : BW_CHUNK_LEN;
 }
 
-static size_t node_len(const node *it) {
-    return it->is_chunk ? (size_t)it->len : PARENT_LEN;
+/* Where a chunk lies in the combined encoding: its slice ends with it. */
+static uint64_t ask_place(uint64_t total, uint64_t chunk) {
+    bw_range ranges[BW_RANGES_MAX];
+    size_t count;
+    if (bw_slice_ranges(total, chunk * BW_CHUNK_LEN, 1, ranges, BW_RANGES_MAX, &count)) return UINT64_MAX;
+    return ranges[count - 1].at + ranges[count - 1].len - chunk_len(total, chunk);
 }
 
-static bool walk_subtree(const walk *w, node it) {
-    if (it.len && (it.from >= w->to || it.from + it.len <= w->from)) return true;
-    it.is_chunk = it.len <= BW_CHUNK_LEN;
-    if (!w->visit(w->with, &it)) return false;
-    if (it.is_chunk) return true;
-    uint64_t left = left_len(it.len), parents = PARENT_LEN * (chunks_of(left) - 1);
-    node l = {.from = it.from, .len = left}, r = {.from = it.from + left, .len = it.len - left};
-    l.combined_at = it.combined_at + PARENT_LEN, r.combined_at = l.combined_at + parents + left;
-    l.outboard_at = it.outboard_at + PARENT_LEN, r.outboard_at = l.outboard_at + parents;
-    return walk_subtree(w, l) && walk_subtree(w, r);
+void tree_start(void) {
+    for (uint64_t i = 0; i < BW_GROUP_CHUNKS; i++) places[i] = ask_place(GROUP_LEN, i) - ask_place(GROUP_LEN, 0);
 }
 
-/* Visits the nodes of a slice in their order, until a visit answers false. */
-static bool walk_slice(uint64_t total, uint64_t start, uint64_t len, visit *visit, void *with) {
-    uint64_t last = total ? total - 1 : 0, from = start < last ? start : last;
-    uint64_t to = len < total - from ? from + len : total;
-    walk w = {from, to > from ? to : from + 1, visit, with};
-    return walk_subtree(&w, (node){.len = total, .combined_at = CLAIM_LEN, .outboard_at = CLAIM_LEN});
+/* The same, where the place of the first chunk of the group is known after the first time. */
+static uint64_t place_of(uint64_t total, uint64_t chunk, uint64_t *first_place) {
+    uint64_t in_group = chunk % BW_GROUP_CHUNKS, first = chunk - in_group;
+    if (chunks_of(total) - first < BW_GROUP_CHUNKS) return ask_place(total, chunk);
+    if (!in_group || !*first_place) *first_place = ask_place(total, first);
+    return *first_place + places[in_group];
+}
+
+/* --- Nodes */
+
+/* Some ranges, and how far they were gone through. */
+typedef struct stream {
+    bw_range list[BW_RANGES_MAX];
+    size_t count, number;
+    uint64_t used;
+} stream;
+
+static uint64_t place(const stream *it) {
+    return it->list[it->number].at + it->used;
+}
+
+static void pass(stream *it, uint64_t len) {
+    it->used += len;
+    if (it->used == it->list[it->number].len) it->number++, it->used = 0;
+}
+
+bool walk_slice(uint64_t total, uint64_t start, uint64_t len, visit *visit, void *with) {
+    stream combined = {.number = 0}, outboard = {.number = 0};
+    if (bw_slice_ranges(total, start, len, combined.list, BW_RANGES_MAX, &combined.count)) return false;
+    if (bw_outboard_ranges(total, start, len, outboard.list, BW_RANGES_MAX, &outboard.count)) return false;
+    pass(&combined, CLAIM_LEN), pass(&outboard, CLAIM_LEN);
+    uint64_t last = chunks_of(total) - 1, chunk = start / BW_CHUNK_LEN < last ? start / BW_CHUNK_LEN : last, first_place = 0;
+    for (uint64_t next = place_of(total, chunk, &first_place); combined.number < combined.count;) {
+        node it = {.combined_at = place(&combined), .len = PARENT_LEN};
+        it.is_chunk = it.combined_at == next;
+        if (it.is_chunk) {
+            it.from = chunk * BW_CHUNK_LEN, it.len = chunk_len(total, chunk);
+            if (chunk < last) next = place_of(total, ++chunk, &first_place);
+        } else {
+            it.outboard_at = place(&outboard);
+            pass(&outboard, PARENT_LEN);
+        }
+        pass(&combined, it.len);
+        if (!visit(with, &it)) return false;
+    }
+    return true;
+}
+
+/* --- Paths */
+
+typedef struct pathing {
+    path *to;
+    size_t count;
+} pathing;
+
+static bool add_above(void *with, const node *it) {
+    pathing *by = with;
+    if (by->to->count == by->count) return false;
+    by->to->list[by->to->count++] = (above){.outboard_at = it->outboard_at, .combined_at = it->combined_at};
+    return true;
+}
+
+void path_to(path *it, uint64_t total, uint64_t start, uint64_t len) {
+    uint64_t own = bw_encoded_len(total - start < len ? total - start : len);
+    pathing by = {it, (size_t)(bw_slice_len(total, start, len) - own) / PARENT_LEN};
+    it->count = 0;
+    walk_slice(total, start, 1, add_above, &by);
+}
+
+above *path_find(path *it, uint64_t outboard_at) {
+    for (size_t i = 0; i < it->count; i++) {
+        if (it->list[i].outboard_at == outboard_at) return &it->list[i];
+    }
+    return NULL;
 }
 
 /* --- Which ranges */
 
-static size_t bit_of(uint64_t outboard_at) {
-    return (size_t)(outboard_at - CLAIM_LEN) / PARENT_LEN;
-}
+typedef struct adding {
+    pieces *out;
+    const path *known;
+    bool is_combined;
+} adding;
 
-static bool is_known(const outline *it, uint64_t outboard_at) {
-    size_t bit = bit_of(outboard_at);
-    return atomic_load_explicit(&it->known[bit / 8], memory_order_acquire) >> bit % 8 & 1;
-}
-
-static bool add_range(pieces *out, uint64_t at, size_t len) {
-    for (size_t i = 0; i < out->count; i++) {
-        if (at >= out->list[i].at && at + len <= out->list[i].at + out->list[i].len) return true;
+/* Whether a parent needn't be asked for. */
+static bool is_there(const adding *by, uint64_t at) {
+    for (size_t i = 0; by->known && i < by->known->count; i++) {
+        const above *it = &by->known->list[i];
+        if (it->is_known && (by->is_combined ? it->combined_at : it->outboard_at) == at) return true;
     }
+    for (size_t i = 0; i < by->out->count; i++) {
+        const piece *it = &by->out->list[i];
+        if (at >= it->at && at + PARENT_LEN <= it->at + it->len) return true;
+    }
+    return false;
+}
+
+static bool add_range(const adding *by, uint64_t at, uint64_t end) {
+    pieces *out = by->out;
+    while (at < end && is_there(by, at)) at += PARENT_LEN;
+    if (at >= end) return true;
     piece *last = out->count ? &out->list[out->count - 1] : NULL;
-    if (last && last->at + last->len == at) {
-        last->len += len;
-        return true;
-    }
+    if (last && last->at + last->len == at) return last->len += (size_t)(end - at), true;
     if (out->count == out->room) return false;
-    out->list[out->count++] = (piece){.at = at, .len = len};
+    out->list[out->count++] = (piece){.at = at, .len = (size_t)(end - at)};
     return true;
 }
 
-typedef struct ranging {
-    pieces *out;
-    const outline *known;
-    uint64_t from, to;
-} ranging;
-
-static bool add_combined(void *with, const node *it) {
-    ranging *by = with;
-    bool above = !it->is_chunk && (it->from < by->from || it->from + it->len > by->to);
-    if (above && by->known && is_known(by->known, it->outboard_at)) return true;
-    return add_range(by->out, it->combined_at, node_len(it));
+static bool add_ranges(const adding *by, const bw_range *ranges, size_t count) {
+    for (size_t i = 0; i < count; i++) {
+        uint64_t at = ranges[i].at, end = at + ranges[i].len;
+        if (!add_range(by, at ? at : CLAIM_LEN, end)) return false;
+    }
+    return true;
 }
 
-bool slice_ranges(uint64_t total, uint64_t start, uint64_t len, const outline *known, pieces *out) {
-    ranging by = {.out = out, .known = known, .from = start, .to = len < UINT64_MAX - start ? start + len : UINT64_MAX};
-    return walk_slice(total, start, len, add_combined, &by);
+bool add_slice(pieces *out, const path *known, uint64_t total, uint64_t start, uint64_t len) {
+    bw_range ranges[BW_RANGES_MAX];
+    size_t count;
+    if (bw_slice_ranges(total, start, len, ranges, BW_RANGES_MAX, &count)) return false;
+    return add_ranges(&(adding){out, known, true}, ranges, count);
+}
+
+bool add_parents(pieces *out, const path *known, uint64_t total, uint64_t start, uint64_t len) {
+    bw_range ranges[BW_RANGES_MAX];
+    size_t count;
+    if (bw_outboard_ranges(total, start, len, ranges, BW_RANGES_MAX, &count)) return false;
+    return add_ranges(&(adding){out, known, false}, ranges, count);
 }
 
 /* --- Slices */
@@ -120,23 +185,27 @@ static const uint8_t *find(const pieces *in, uint64_t at, size_t len) {
     return NULL;
 }
 
+static const uint8_t *find_known(const path *in, uint64_t outboard_at) {
+    for (size_t i = 0; in && i < in->count; i++) {
+        if (in->list[i].is_known && in->list[i].outboard_at == outboard_at) return in->list[i].text;
+    }
+    return NULL;
+}
+
 static const uint8_t *find_node(const origin *from, const node *it) {
-    const uint8_t *found = NULL;
-    if (!it->is_chunk && from->known && is_known(from->known, it->outboard_at)) return from->known->text + it->outboard_at;
-    if (!it->is_chunk) found = find(from->outboard, it->outboard_at, PARENT_LEN);
-    if (it->is_chunk) found = find(from->plain, it->from, it->len);
-    return found ? found : find(from->combined, it->combined_at, node_len(it));
+    const uint8_t *found = it->is_chunk ? NULL : find_known(from->known, it->outboard_at);
+    if (!found && from->combined) return find(from->combined, it->combined_at, it->len);
+    if (found) return found;
+    return it->is_chunk ? find(from->plain, it->from, it->len) : find(from->outboard, it->outboard_at, it->len);
 }
 
 static bool put_node(void *with, const node *it) {
     putting *by = with;
-    size_t len = node_len(it);
-    if (len > by->room - by->used) return false;
-    if (!len) return true;
+    if (it->len > by->room - by->used) return false;
     const uint8_t *bytes = find_node(by->from, it);
     if (!bytes) return false;
-    memcpy(by->out + by->used, bytes, len);
-    by->used += len;
+    memcpy(by->out + by->used, bytes, it->len);
+    by->used += it->len;
     return true;
 }
 
@@ -146,99 +215,21 @@ size_t slice_put(uint64_t total, uint64_t start, uint64_t len, const origin *fro
     return walk_slice(total, start, len, put_node, &by) ? by.used : 0;
 }
 
-typedef struct reading {
-    outline *learns;
-    const uint8_t *text;
-    uint8_t *out;
-    size_t at, used;
-} reading;
+typedef struct seeking {
+    uint64_t left;
+    node found;
+} seeking;
 
-static bool copy_chunk(void *with, const node *it) {
-    reading *by = with;
-    size_t len = node_len(it);
-    if (it->is_chunk && len) memcpy(by->out + by->used, by->text + by->at, len), by->used += len;
-    by->at += len;
+static bool seek_node(void *with, const node *it) {
+    seeking *by = with;
+    by->found = *it;
+    if (!by->left) return false;
+    by->left -= it->len;
     return true;
 }
 
-size_t slice_chunks(uint64_t total, uint64_t start, uint64_t len, const uint8_t *text, uint8_t *out) {
-    reading by = {.text = text, .out = out, .at = CLAIM_LEN};
-    walk_slice(total, start, len, copy_chunk, &by);
-    return by.used;
-}
-
-/* --- Outlines */
-
-bool outline_new(outline *it, uint64_t total) {
-    it->total = total;
-    it->text = calloc(1, (size_t)bw_outboard_len(total));
-    it->known = calloc(1, (size_t)(chunks_of(total) / 8 + 1));
-    if (it->text && it->known) claim_length(it->text, total);
-    return it->text && it->known;
-}
-
-void outline_free(outline *it) {
-    free(it->text);
-    free((void *)it->known);
-}
-
-static void know(outline *it, uint64_t outboard_at) {
-    size_t bit = bit_of(outboard_at);
-    atomic_fetch_or_explicit(&it->known[bit / 8], (uint8_t)(1 << bit % 8), memory_order_release);
-}
-
-static bool learn_node(void *with, const node *it) {
-    reading *by = with;
-    bool is_asked = it->outboard_at >= by->learns->asked_from && it->outboard_at < by->learns->asked_to;
-    if (!it->is_chunk && !is_asked && !is_known(by->learns, it->outboard_at)) {
-        memcpy(by->learns->text + it->outboard_at, by->text + by->at, PARENT_LEN);
-        know(by->learns, it->outboard_at);
-    }
-    by->at += node_len(it);
-    return true;
-}
-
-void outline_learn(outline *it, uint64_t start, uint64_t len, const uint8_t *text) {
-    reading by = {.learns = it, .text = text, .at = CLAIM_LEN};
-    walk_slice(it->total, start, len, learn_node, &by);
-}
-
-void outline_learn_prefix(outline *it, uint64_t from, uint64_t end) {
-    for (uint64_t at = from; at + PARENT_LEN <= end; at += PARENT_LEN) know(it, at);
-}
-
-uint64_t outline_known(const outline *it, uint64_t from) {
-    uint64_t end = bw_outboard_len(it->total);
-    while (from < end && is_known(it, from)) from += PARENT_LEN;
-    return from;
-}
-
-uint64_t outline_gaps(const outline *it, uint64_t from, uint64_t most, pieces *out) {
-    uint64_t end = bw_outboard_len(it->total), last = from;
-    for (uint64_t at = from; at < end && most >= PARENT_LEN; at += PARENT_LEN) {
-        if (is_known(it, at)) continue;
-        if (!add_range(out, at, PARENT_LEN)) break;
-        last = at + PARENT_LEN, most -= PARENT_LEN;
-    }
-    for (size_t i = 0; i < out->count; i++) out->list[i].bytes = it->text + out->list[i].at;
-    return last;
-}
-
-typedef struct keeping {
-    const outline *of;
-    const keeper *by;
-} keeping;
-
-static bool keep_node(void *with, const node *it) {
-    const keeping *k = with;
-    const keeper *by = k->by;
-    uint8_t chunk[BW_CHUNK_LEN];
-    const uint8_t *bytes = it->is_chunk ? chunk : k->of->text + it->outboard_at;
-    bool has = it->is_chunk ? by->has(by->has_with, it->from, (size_t)it->len, chunk) : is_known(k->of, it->outboard_at);
-    return !has || by->put(by->put_with, it->combined_at, bytes, node_len(it));
-}
-
-bool outline_keep(const outline *it, const keeper *by) {
-    keeping k = {it, by};
-    return walk_slice(it->total, 0, it->total, keep_node, &k);
+node node_at(uint64_t total, uint64_t start, uint64_t len, uint64_t at) {
+    seeking by = {.left = at - CLAIM_LEN};
+    walk_slice(total, start, len, seek_node, &by);
+    return by.found;
 }

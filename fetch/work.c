@@ -1,16 +1,17 @@
-/* What a connection does: extends the outboard encoding, fetches a unit, and takes turns. */
+/* What a connection does: fetches a unit, beside its parents where the mirror has the plain file, and takes turns. */
 #define _GNU_SOURCE
 #include "fetch.h"
 
 #include <stdio.h>
 #include <stdlib.h>
+#include <string.h>
 
 enum {
     IN_ROW_MOST = 5,                        /* faults in a row, and a mirror is left out */
     LINE_FAULTS_MOST = 5,
     PATH_LEN = PATH_MOST * PARENT_LEN,
     BYTES_MOST = UNIT_LEN + UNIT_LEN / BW_CHUNK_LEN * PARENT_LEN + PATH_LEN + BW_CHUNK_LEN + PATH_LEN,
-    OUTLINE_STEP = 1 << 20,
+    ORPHANS_MOST = 4,                       /* groups below false parents, where none was taken */
     TRY_AFTER = GROUP_LEN                   /* bytes that come before what came is tried again */
 };
 
@@ -24,8 +25,10 @@ bool conn_new(conn *c, fetch *f, mirror *m, unsigned number) {
     c->bytes = malloc(BYTES_MOST);
     c->text = malloc(GROUP_SLICE_MOST);
     c->chunks = malloc(GROUP_LEN);
+    c->head = malloc(HEAD_LEN);
     c->parts = (pieces){c->list, 0, PIECES_MOST};
-    return c->http && c->bytes && c->text && c->chunks;
+    c->parents = (pieces){c->parent_list, 0, BW_RANGES_MAX};
+    return c->http && c->bytes && c->text && c->chunks && c->head;
 }
 
 void conn_free(conn *c) {
@@ -33,6 +36,7 @@ void conn_free(conn *c) {
     free(c->bytes);
     free(c->text);
     free(c->chunks);
+    free(c->head);
 }
 
 void conn_say(const conn *c, const place *of, const char *what) {
@@ -61,14 +65,17 @@ http_answer conn_get(conn *c, place *of, pieces *wanted, http_came *came) {
     return conn_heard(c, of, http_get(c->http, of, wanted, came, c));
 }
 
-/* --- The outboard encoding */
-
-/* How much is asked for after a request that went well: twice as much, up to a quarter of what is known. So a fault costs
- * no more than what was true before it, and checking all from the start on no more than some checks of the whole. */
-static uint64_t next_step(uint64_t step, uint64_t good) {
-    uint64_t most = good / 4 > OUTLINE_STEP ? good / 4 : OUTLINE_STEP;
-    return 2 * step < most ? 2 * step : most;
+void conn_fill(const conn *c, pieces *to) {
+    for (size_t i = 0; i < to->count; i++) {
+        piece *it = &to->list[i];
+        if (it->at >= c->head_len) continue;
+        size_t left = c->head_len - (size_t)it->at;
+        it->have = left < it->len ? left : it->len;
+        memcpy(it->bytes, c->head + it->at, it->have);
+    }
 }
+
+/* --- An outboard encoding */
 
 /* Faults of an outboard encoding. It is left out after too many of them. Under the lock. */
 static void blame_line(line *by, unsigned faults) {
@@ -76,31 +83,22 @@ static void blame_line(line *by, unsigned faults) {
     if (by->faults >= LINE_FAULTS_MOST) by->gone = true;
 }
 
-/* Asks for the parts, which are what isn't known from `good` up to `came`, and learns what is true. Nobody else learns that
- * meanwhile. */
-static void extend_outline(conn *c, line *by, uint64_t good, uint64_t came) {
+/* Gets the parents of what is asked for of the unit. Whether all came. */
+static bool get_parents(conn *c) {
     fetch *f = c->fetch;
-    uint64_t at = good;
-    http_answer r = conn_get(c, &by->place, &c->parts, NULL);
-    for (size_t i = c->parts.count; i--;) {
-        piece *it = &c->parts.list[i];
-        if (it->have < it->len) came = it->at + it->have;
-    }
-    bw_status checked = bw_check_outboard(&f->mode, f->root, f->outline.text, (size_t)came, &at);
-    if (checked == BW_OK) at = bw_outboard_len(f->total);
+    line *by = c->line;
+    if (c->head_of == by) conn_fill(c, &c->parents);
     fetch_lock(f);
-    outline_learn_prefix(&f->outline, good, at);
-    f->outline_good = at;
-    f->outline.asked_from = f->outline.asked_to = 0;
-    bool went_well = r == HTTP_ALL && checked != BW_MISMATCH, is_later = r == HTTP_LATER && checked != BW_MISMATCH;
-    f->outline_step = went_well ? next_step(f->outline_step, at) : OUTLINE_STEP_LEAST;
-    if (checked == BW_MISMATCH) by->wrong += came - at;
-    if (!went_well && !is_later) by->tried_at = at;
-    bool is_fault = r == HTTP_SHORT || r == HTTP_NO_RANGES || (r == HTTP_LATER && c->counts) || (r == HTTP_CUT && at == good);
-    by->lost += r == HTTP_CUT;
-    blame_line(by, is_fault);
+    if (!by->under_way++) by->since = seconds_now();
     fetch_unlock(f);
-    if (checked == BW_MISMATCH) conn_say(c, &by->place, "a parent isn't the root's");
+    http_answer r = conn_get(c, &by->place, &c->parents, NULL);
+    fetch_lock(f);
+    by->under_way--;
+    if (r == HTTP_ALL) by->since = seconds_now();
+    by->lost += r == HTTP_CUT && !f->quit;
+    blame_line(by, r == HTTP_SHORT || r == HTTP_NO_RANGES || (r == HTTP_LATER && c->counts));
+    fetch_unlock(f);
+    return r == HTTP_ALL;
 }
 
 /* --- A unit */
@@ -117,7 +115,7 @@ static uint64_t group_start(const conn *c, unsigned group) {
 static bool plan_range(conn *c, uint64_t start, uint64_t end) {
     fetch *f = c->fetch;
     if (end > f->total) end = f->total;
-    if (c->mirror->is_bao) return slice_ranges(f->total, start, end - start, &f->outline, &c->parts);
+    if (c->mirror->is_bao) return add_slice(&c->parts, &c->above, f->total, start, end - start);
     piece *last = c->parts.count ? &c->parts.list[c->parts.count - 1] : NULL;
     if (last && last->at + last->len == start) return last->len += (size_t)(end - start), true;
     if (c->parts.count == c->parts.room) return false;
@@ -130,10 +128,13 @@ static span span_of(uint64_t open) {
 }
 
 static void begin_unit(conn *c) {
-    unit *it = &c->fetch->units[c->unit_number];
+    const fetch *f = c->fetch;
+    unit *it = unit_at(f, c->unit_number);
     if (!it->under_way++) it->since = seconds_now();
-    c->unit = it, c->was_last = c->mirror->last;
-    c->asked = 0, c->next_group = c->groups_taken = 0, c->try_at = TRY_AFTER;
+    c->unit = it, c->was_last = c->mirror->last, c->line = NULL;
+    c->asked = 0, c->next_group = c->groups_taken = c->groups_orphaned = 0, c->try_at = TRY_AFTER;
+    path_to(&c->above, f->total, c->unit_number * UNIT_LEN, UNIT_LEN);
+    fetch_recall(f, &c->above);
 }
 
 void conn_adopt(conn *c) {
@@ -147,7 +148,8 @@ void conn_adopt(conn *c) {
  * side and are open to their ends are asked for as one range. What a request has no room for is left to a later one. Under
  * the lock. */
 static void plan_unit(conn *c) {
-    uint16_t refused = c->mirror->refused[c->unit_number], run = 0;
+    const size_t slot = (size_t)(c->unit - c->fetch->units);
+    uint16_t refused = c->mirror->refused[slot] | (c->line ? c->line->refused[slot] : 0), run = 0;
     uint64_t start = 0, end = 0;
     c->parts.count = 0;
     for (unsigned g = 0; g < UNIT_GROUPS; g++) {
@@ -163,6 +165,15 @@ static void plan_unit(conn *c) {
         end = to, run |= (uint16_t)(1 << g), c->spans[g] = it;
     }
     if (run && plan_range(c, start, end)) c->asked |= run;
+}
+
+/* Plans the request for the parents, from the first to the last chunk that is asked for. */
+static bool plan_parents(conn *c) {
+    const pieces *of = &c->parts;
+    c->parents.count = 0;
+    if (!of->count) return false;
+    uint64_t start = of->list[0].at, end = of->list[of->count - 1].at + of->list[of->count - 1].len;
+    return add_parents(&c->parents, &c->above, c->fetch->total, start, end - start);
 }
 
 /* Waits until nobody writes the group, and claims the writing. False: nothing of the mask is open any more. Under the lock.
@@ -190,13 +201,13 @@ static bool end_write(conn *c, unsigned group, uint64_t mask, bool ok) {
 }
 
 /* Keeps an accepted slice of some chunks of a group. */
-static void keep(conn *c, unsigned group, span it, uint64_t start, uint64_t len) {
+static void keep(conn *c, unsigned group, span it, uint64_t start, size_t used) {
     fetch *f = c->fetch;
     unsigned count = it.high - it.low + 1;
     uint64_t mask = (count == 64 ? UINT64_MAX : ((uint64_t)1 << count) - 1) << it.low;
-    size_t used = slice_chunks(f->total, start, len, c->text, c->chunks);
+    bool is_new = out_learn(&f->out, &c->above, start, (uint64_t)count * BW_CHUNK_LEN, c->text);
     fetch_lock(f);
-    outline_learn(&f->outline, start, len, c->text);
+    if (is_new) fetch_remember(f, &c->above);
     bool mine = begin_write(c, group, mask);
     fetch_unlock(f);
     if (!mine) return;
@@ -209,44 +220,67 @@ static void keep(conn *c, unsigned group, span it, uint64_t start, uint64_t len)
 
 typedef enum taken { LACKING, TAKEN, REFUSED } taken;
 
-/* Verifies some chunks of a group as a slice, out of what came. */
-static taken take(conn *c, unsigned group, span it) {
+/* Verifies some chunks of a group as a slice, out of what came. The first node that is refused is at *refused. */
+static taken take(conn *c, unsigned group, span it, node *refused) {
     fetch *f = c->fetch;
-    uint64_t start = group_start(c, group) + it.low * BW_CHUNK_LEN, len = (it.high - it.low + 1) * BW_CHUNK_LEN, at;
-    origin from = {.known = &f->outline};
+    uint64_t start = group_start(c, group) + it.low * BW_CHUNK_LEN, len = (it.high - it.low + 1) * BW_CHUNK_LEN, certified, at;
+    origin from = {.known = &c->above};
+    size_t used;
     if (c->mirror->is_bao) from.combined = &c->parts;
-    else from.plain = &c->parts;
+    else from.plain = &c->parts, from.outboard = &c->parents;
     size_t text_len = slice_put(f->total, start, len, &from, c->text, GROUP_SLICE_MOST);
     if (!text_len) return LACKING;
-    if (bw_check_slice(&f->mode, f->root, start, len, c->text, text_len, &at)) return REFUSED;
-    keep(c, group, it, start, len);
+    if (bw_decode(&f->mode, f->root, start, len, c->text, text_len, c->chunks, GROUP_LEN, &used, &certified, &at)) {
+        *refused = node_at(f->total, start, len, at);
+        return REFUSED;
+    }
+    keep(c, group, it, start, used);
     return TAKEN;
 }
 
-/* What is refused is tried in halves, out of the same bytes, down to a chunk. How many of its bytes were false. */
-static uint64_t salvage(conn *c, unsigned group, span of) {
-    if (of.low == of.high) return BW_CHUNK_LEN;
-    unsigned middle = (of.low + of.high) / 2;
-    const span halves[] = {{of.low, middle}, {middle + 1, of.high}};
-    uint64_t wrong = 0;
-    for (int i = 0; i < 2; i++) {
-        if (take(c, group, halves[i]) == TAKEN) c->groups_taken++;
-        else wrong += salvage(c, group, halves[i]);
-    }
-    return wrong;
+/* How many bytes were false: of the mirror, and of the outboard encoding, whose false parents come in their order. */
+typedef struct wrong {
+    uint64_t of_mirror, of_line, parent_at;
+} wrong;
+
+static void add_wrong(const conn *c, wrong *to, const node *it) {
+    if (it->is_chunk || !c->line) to->of_mirror += BW_CHUNK_LEN;
+    else if (it->outboard_at != to->parent_at) to->of_line += PARENT_LEN, to->parent_at = it->outboard_at;
 }
 
+/* What is refused is tried in halves, out of the same bytes, down to a chunk. */
+static void salvage(conn *c, unsigned group, span of, const node *refused, wrong *found) {
+    if (of.low == of.high) {
+        add_wrong(c, found, refused);
+        return;
+    }
+    unsigned middle = (of.low + of.high) / 2;
+    const span halves[] = {{of.low, middle}, {middle + 1, of.high}};
+    for (int i = 0; i < 2; i++) {
+        node it = *refused;
+        if (take(c, group, halves[i], &it) == TAKEN) c->groups_taken++;
+        else salvage(c, group, halves[i], &it, found);
+    }
+}
+
+/* Chunks of a plain file below a parent that an outboard encoding has falsely aren't told to be true or false. */
 static taken take_group(conn *c, unsigned group) {
     fetch *f = c->fetch;
     mirror *m = c->mirror;
-    taken r = take(c, group, c->spans[group]);
+    const size_t slot = (size_t)(c->unit - f->units);
+    wrong found = {0, 0, 0};
+    node refused;
+    taken r = take(c, group, c->spans[group], &refused);
     if (r == LACKING) return r;
-    uint64_t wrong = r == REFUSED ? salvage(c, group, c->spans[group]) : 0;
+    if (r == REFUSED) salvage(c, group, c->spans[group], &refused, &found);
     fetch_lock(f);
     if (r == TAKEN) m->good++, c->groups_taken++;
-    else m->bad++, m->wrong += wrong, m->refused[c->unit_number] |= (uint16_t)(1 << group);
+    if (found.of_mirror) m->bad++, m->wrong += found.of_mirror, m->refused[slot] |= (uint16_t)(1 << group);
+    if (found.of_line) c->line->wrong += found.of_line, c->line->bad++, c->line->refused[slot] |= (uint16_t)(1 << group);
+    c->groups_orphaned += found.of_line > 0;
     fetch_judge(m);
     fetch_unlock(f);
+    if (found.of_line) conn_say(c, &c->line->place, "a parent isn't the root's");
     return r;
 }
 
@@ -256,7 +290,8 @@ void conn_take(conn *c) {
     }
 }
 
-/* A mirror that has just been found out isn't heard to the end, nor one whose unit is whole by others. */
+/* A mirror that has just been found out isn't heard to the end, nor one beside false parents, nor one whose unit is whole by
+ * others. */
 bool conn_came(void *with) {
     conn *c = with;
     size_t have = 0, len = 0;
@@ -265,21 +300,28 @@ bool conn_came(void *with) {
     conn_take(c);
     c->try_at = have + TRY_AFTER;
     fetch_lock(c->fetch);
-    bool goes_on = have == len || ((c->was_last || !c->mirror->last) && !unit_is_whole(c->unit));
+    bool is_found_out = (!c->was_last && c->mirror->last) || (c->groups_orphaned >= ORPHANS_MOST && !c->groups_taken);
+    bool goes_on = have == len || (!is_found_out && !unit_is_whole(c->unit));
     fetch_unlock(c->fetch);
     return goes_on;
 }
 
 /* --- Turns: under the lock */
 
+static void leave_unit(conn *c) {
+    fetch *f = c->fetch;
+    unit *it = c->unit;
+    c->unit = NULL, it->under_way--;
+    if (!unit_is_whole(it)) fetch_tell(f);
+    fetch_slide(f);
+}
+
 static void end_unit(conn *c) {
     fetch *f = c->fetch;
     mirror *m = c->mirror;
-    unit *it = c->unit;
     http_answer r = c->answer;
-    c->unit = NULL, it->under_way--;
-    if (!unit_is_whole(it)) fetch_tell(f);
-    if (r == HTTP_CUT && !f->quit && unit_is_whole(it)) m->lost++, fetch_judge(m);
+    if (r == HTTP_CUT && !f->quit && unit_is_whole(c->unit)) m->lost++, fetch_judge(m);
+    leave_unit(c);
     if (r == HTTP_NO_RANGES) fetch_leave_out(f, m, no_ranges);
     if (r == HTTP_SHORT || (r == HTTP_LATER && c->counts)) m->faults++;
     /* Each request decides about all groups that it asks for, or takes one, or is a fault: so there is an end of them. */
@@ -290,15 +332,23 @@ static void end_unit(conn *c) {
 
 static void unit_turn(conn *c, uint64_t number) {
     fetch *f = c->fetch;
+    mirror *m = c->mirror;
     c->unit_number = number;
     begin_unit(c);
+    if (!m->is_bao) c->line = fetch_line(f, m, c->unit);
     plan_unit(c);
+    bool ok = !c->line || plan_parents(c);
     fetch_unlock(f);
-    pieces_lay_out(&c->parts, c->bytes);
-    conn_get(c, &c->mirror->place, &c->parts, conn_came);
-    conn_take(c);
+    size_t used = c->line ? pieces_lay_out(&c->parents, c->bytes) : 0;
+    pieces_lay_out(&c->parts, c->bytes + used);
+    if (ok && c->line) ok = get_parents(c);
+    if (ok) {
+        conn_get(c, &m->place, &c->parts, conn_came);
+        conn_take(c);
+    }
     fetch_lock(f);
-    end_unit(c);
+    if (ok) end_unit(c);
+    else leave_unit(c);
 }
 
 /* The outboard encoding that the mirror is tried beside, each in turn, or NULL. */
@@ -336,20 +386,6 @@ static void settle_turn(conn *c) {
     else if (c->counts) m->in_row++, m->faults++, fetch_wait(f, &f->changed, back_off);
 }
 
-static void outline_turn(conn *c, line *by) {
-    fetch *f = c->fetch;
-    uint64_t good = f->outline_good;
-    f->outliner = c, f->outliner_by = by, f->outliner_since = seconds_now();
-    c->parts.count = 0;
-    uint64_t end = outline_gaps(&f->outline, good, f->outline_step, &c->parts);
-    f->outline.asked_from = good, f->outline.asked_to = end;
-    fetch_unlock(f);
-    extend_outline(c, by, good, end);
-    fetch_lock(f);
-    f->outliner = NULL;
-    fetch_tell(f);
-}
-
 /* How many faults in a row a mirror may have. A local file gives the same again, and a plain one is tried beside each
  * outboard encoding. */
 static unsigned in_row_most(const fetch *f, const mirror *m) {
@@ -364,6 +400,13 @@ static void give_up(fetch *f, mirror *m) {
     else m->is_mute = true, m->why = no_length, fetch_tell(f);
 }
 
+/* What an earlier run left has nothing more just then. Where the table hasn't all of the blob, it stays as one of the
+ * mirrors. */
+static void end_first(fetch *f) {
+    if (fetch_sees_all(f)) fetch_leave_out(f, f->first, NULL);
+    else f->first = NULL, fetch_tell(f);
+}
+
 void *fetch_work(void *with) {
     conn *c = with;
     fetch *f = c->fetch;
@@ -371,7 +414,6 @@ void *fetch_work(void *with) {
     uint64_t number = 0;
     fetch_lock(f);
     while (!f->quit && !f->failed && !m->gone) {
-        line *by = NULL;
         http_clear(c->http);
         if (m->is_mute && f->settled) m->is_mute = false, m->why = NULL, m->in_row = 0;
         if (m->is_mute || (f->first && f->first != m)) fetch_wait(f, &f->changed, nap);
@@ -379,9 +421,8 @@ void *fetch_work(void *with) {
         else if (place_waits(&m->place)) fetch_wait(f, &f->changed, nap);
         else if (!f->settled && !c->number) settle_turn(c);
         else if (!f->settled) fetch_wait(f, &f->changed, nap);
-        else if (!m->is_bao && (by = fetch_next_line(f))) outline_turn(c, by);
         else if (fetch_next(f, m, &number)) unit_turn(c, number);
-        else if (f->first == m) fetch_leave_out(f, m, NULL);
+        else if (f->first == m) end_first(f);
         else fetch_wait(f, &f->changed, nap);
     }
     fetch_unlock(f);

@@ -22,7 +22,10 @@ WRAPPED = "-Wl,--wrap=malloc,--wrap=calloc,--wrap=realloc,--wrap=curl_global_ini
 SANITIZERS = {"asan": "-fsanitize=address,undefined", "tsan": "-fsanitize=thread"}
 
 # The large cases show nothing more under a sanitizer, where they take long.
-LARGE = "64 MiB", "300 MiB"
+LARGE = "64 MiB", "little memory"
+
+# With the sanitizers a table of few units, and few parents that are known at once: what a long blob has with the usual ones.
+NARROW = "-DUNITS_MOST=3", "-DKNOWN_BITS=1"
 
 
 def run(*words, **more):
@@ -87,8 +90,8 @@ def main(drawn="10000"):
         if not sanitizes(flag):
             missing.append(f"cc {flag}")
             continue
-        program = build("cc", name, [flag], sources)
-        run(sys.executable, HERE / "hostile.py", program, mkbao, *(f"-{it}" for it in LARGE))
+        program = build("cc", name, [flag, *NARROW], sources)
+        run(sys.executable, HERE / "hostile.py", program, mkbao, *(f"-{it}" for it in (*LARGE, "near ranges")))
         run(sys.executable, HERE / "drawn.py", program, mkbao, int(drawn) // 25 + 1)
     for name in missing:
         print(f"not run, since it isn't here: {name}")

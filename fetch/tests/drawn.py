@@ -1,14 +1,16 @@
 #!/usr/bin/env python3
 """Runs bw-fetch against drawn mirrors, and with each request for memory refused.
 
-    drawn.py BW_FETCH MKBAO COUNT [SEED]       COUNT runs against one to three drawn mirrors of a blob of up to 192 KiB
+    drawn.py BW_FETCH MKBAO COUNT [SEED]       COUNT runs against one to three drawn mirrors of a blob of up to 4 MB
     drawn.py --refuse BW_FETCH MKBAO           the smallest fetch, with the Nth request for memory refused, for each N
 
 Of a drawn fetch either OUT is the blob and the status is 0, or the status is 1 and there is no OUT; it has to be 0 where a drawn mirror is true. A drawn mirror
 changes, cuts, moves, splits and lengthens what it says, or stops, at a drawn byte and a drawn moment; an earlier run may have left something, true or not. A draw
-hangs on its number alone, which is printed where a run fails. `drawn.py BW_FETCH MKBAO 1 SEED` does that one again.
+hangs on its number alone, which is printed where a run fails. `drawn.py BW_FETCH MKBAO 1 SEED` does that one again. Draws are parted among as many processes as
+there are processors, each with mirrors of its own; what is printed doesn't hang on that.
 """
 import concurrent.futures
+import multiprocessing
 import os
 import pathlib
 import random
@@ -20,9 +22,9 @@ sys.dont_write_bytecode = True
 import hostile
 import mirrors
 
-SIDE_BY_SIDE = 16
+SIDE_BY_SIDE = 16                       # in each process
 LONGEST = 240
-LENGTHS = [0, 1, 1023, 1024, 1025, 4096, 65_535, 65_536, 65_537, 100_000, 131_073, 196_608]
+LENGTHS = [0, 1, 1023, 1024, 1025, 4096, 65_535, 65_536, 65_537, 100_000, 131_073, 196_608, 1_048_577, 4_000_000]
 TRUE = ("good", "onerange", "severalwhole", "several416", "reversed")
 WHOLE = ("never", "e404", "e500", "loop", "close", "nothttp", "norange", "shifted", "badparts", "noise", "zeros", "unplaced", "gzip", "longer", "huge")
 
@@ -210,29 +212,44 @@ def run_drawn(seed, fetch, blobs, port):
     return f"draw {seed}, {length} bytes, {list(zip(kinds, modes))}: status {ran.returncode}\n{ran.stderr.decode(errors='replace')[-2000:]}"
 
 
+def run_share(fetch, blobs, seeds):
+    """What is wrong with some draws, by their numbers. In a process of its own, with mirrors of its own."""
+    them = mirrors.Mirrors(blobs.folder, ["good"], Drawn)
+    with concurrent.futures.ThreadPoolExecutor(SIDE_BY_SIDE) as pool:
+        found = list(pool.map(lambda seed: (seed, run_drawn(seed, fetch, blobs, them.ports[0])), seeds))
+    them.end()
+    return [it for it in found if it[1]]
+
+
 def drawn(fetch, mkbao, count, first="1"):
+    seeds = range(int(first), int(first) + int(count))
+    processes = len(os.sched_getaffinity(0))
     with tempfile.TemporaryDirectory() as folder:
         blobs = Blobs(pathlib.Path(folder), mkbao)
-        them = mirrors.Mirrors(folder, ["good"], Drawn)
-        with concurrent.futures.ThreadPoolExecutor(SIDE_BY_SIDE) as pool:
-            found = pool.map(lambda seed: run_drawn(seed, fetch, blobs, them.ports[0]), range(int(first), int(first) + int(count)))
-            wrong = [it for it in found if it]
-        them.end()
-    for it in wrong[:5]:
+        with concurrent.futures.ProcessPoolExecutor(processes, multiprocessing.get_context("fork")) as pool:
+            shares = [pool.submit(run_share, fetch, blobs, seeds[at::processes]) for at in range(processes)]
+            wrong = sorted(it for share in shares for it in share.result())
+    for _, it in wrong[:5]:
         print(it)
     print(f"{count} draws passed" if not wrong else f"{len(wrong)} of {count} draws failed")
     return 1 if wrong else 0
 
 
-def refuse(fetch, mkbao):
+def at_a_place(fetch, mkbao, mirrors, run, *words):
+    """What `run` answers, with a folder and mirrors of its own."""
     with tempfile.TemporaryDirectory() as folder:
         place = hostile.Place(folder, (fetch, mkbao), 20_000)
-        urls = place.serve("bao plain")
         try:
-            asked = sum(refuse_each(place, fetch, urls[kind:kind + 1], tail) for kind in (0, 1) for tail in ("", "+"))
-            refuse_flush(place, fetch, urls)
+            return run(place, fetch, place.serve(mirrors), *words)
         finally:
             place.end()
+
+
+def refuse(fetch, mkbao):
+    rows = [(kind, tail) for kind in ("bao", "plain") for tail in ("", "+")]
+    with concurrent.futures.ThreadPoolExecutor(len(rows)) as pool:
+        asked = sum(pool.map(lambda row: at_a_place(fetch, mkbao, row[0], refuse_each, row[1]), rows))
+    at_a_place(fetch, mkbao, "bao plain", refuse_flush)
     print(f"{asked} refusals passed")
     return 0
 

@@ -13,6 +13,7 @@ import pathlib
 import pty
 import random
 import re
+import resource
 import shutil
 import signal
 import socket
@@ -23,7 +24,9 @@ import tempfile
 import time
 
 sys.dont_write_bytecode = True
+sys.path.insert(0, str(pathlib.Path(__file__).resolve().parents[2] / "scripts"))
 import mirrors
+import peak
 
 SIDE_BY_SIDE = 4
 HERE = pathlib.Path(__file__).resolve().parent
@@ -135,7 +138,6 @@ CASES = [
     ("at most as long as it is", 100_000, "bao", "--max 100000", 0),
     ("longer than wanted", 100_000, "bao", "--max 99999", 1),
     ("longer than wanted, plain", 100_000, "plain", "--max 99999", 1),
-    ("300 MiB", 300 << 20, "bao plain", "", 0),
 ]
 
 FILES = {"bao": "blob.bao", "plain": "blob", "bare": "bare", "false": "false", "short": "short"}
@@ -467,6 +469,92 @@ def blame_is_exact(place):
         want(lies or ", 0 of them false;" in said[0] and " 0 refused" in said[0], f"a true mirror is blamed: {said[0]}")
 
 
+def lines_are_blamed(place):
+    """Of two outboard encodings with false parents both are blamed, and no mirror is."""
+    true = (place.folder / "blob.obao").read_bytes()
+    for name, at in (("one", 100_000), ("two", 150_000)):
+        place.put(name, true[:at] + bytes([true[at] ^ 1]) + true[at + 1:])
+    urls = place.serve("bare bare")
+    place.run(["--outboard", place.folder / "one", "--outboard", place.folder / "two"], urls, 0)
+    for it in urls:
+        want(re.search(re.escape(it) + r": \d+ bytes, 0 of them false; \d+ groups taken, 0 refused", place.said), f"{it} is blamed")
+    for name in ("one", "two"):
+        want(re.search(rf"/{name}: \d+ bytes, (0|64) of them false", place.said), f"{name} isn't blamed exactly")
+
+
+def right_spine(chunks):
+    """Which parents, in their order, are above the last chunk."""
+    at = 0
+    while chunks > 1:
+        yield at
+        left = 1 << (chunks - 1).bit_length() - 1
+        at, chunks = at + left, chunks - left
+
+
+def false_below_its_spine(place):
+    """An outboard encoding that certifies the length, and has all else falsely, costs a part of the blob and no mirror's good name."""
+    obao = bytearray((place.folder / "blob.obao").read_bytes())
+    spine = set(right_spine((len(place.blob) + 1023) // 1024))
+    for at in range(len(obao) // 64):
+        obao[8 + 64 * at] ^= at not in spine
+    place.put("one", obao)
+    (url,) = place.serve("bare")
+    place.run(["-c", "1", "--outboard", place.folder / "one"], [url], 1)
+    (place.folder / "out.part.bao").unlink()
+    place.run(["-c", "1", "--outboard", place.folder / "one", "--outboard", place.folder / "blob.obao"], [url], 0)
+    came = int(re.search(re.escape(url) + r": (\d+) bytes, 0 of them false", place.said)[1])
+    want(came <= len(place.blob) + (2 << 20), f"{came} bytes came")
+
+
+def a_hole_near_the_start(place):
+    """A chunk that no mirror has doesn't keep a later run from the rest."""
+    place.run([], place.serve("bao@at=1500000 bao@at=1500000"), 1)
+    place.run([], place.serve("bao@to=2000000 bao@from=1400000"), 0)
+
+
+def keeps_all_but_a_chunk(place):
+    """What a failure leaves is the combined encoding, but for the chunk that no mirror has."""
+    true = (place.folder / "blob.bao").read_bytes()
+    for mirrors in ("bao@at=1500000 bao@at=1500000", "plain@at=1500000"):
+        place.run([], place.serve(mirrors), 1)
+        left = (place.folder / "out.part.bao").read_bytes()
+        (place.folder / "out.part.bao").unlink()
+        others = [at for at, (byte, of) in enumerate(zip(left, true)) if byte != of]
+        want(len(left) == len(true) and others and others[-1] - others[0] < 1024, f"{mirrors}: {len(others)} bytes are others")
+        want(not any(left[others[0]:others[-1] + 1]), f"{mirrors}: what is lacking isn't a hole")
+
+
+def room_for_the_blob_alone(place):
+    """Where the parents have no room after the blob, the blob comes all the same."""
+    most = len(place.blob) + 5000
+    place.run([], place.serve("bao plain"), 0, preexec_fn=lambda: resource.setrlimit(resource.RLIMIT_FSIZE, (most, most)))
+
+
+def disk_for_the_blob_alone(place):
+    """The same, on a disk that is full: parents give way to the blob. It needs a mount of its own."""
+    disk = place.folder / "disk"
+    disk.mkdir()
+    mount = f"mount -t tmpfs -o size={len(place.blob) + 65_536} none {disk}"
+    if not shutil.which("unshare") or subprocess.run(["unshare", "-m", "sh", "-c", mount], capture_output=True).returncode:
+        print("hostile.py: not run, since no mount is allowed here: disk for the blob alone")
+        return
+    for mirrors in ("bao", "plain"):
+        url, = place.serve(mirrors)
+        words = f"{mount} && {place.fetch} {place.root} {disk}/out {url} && cmp {disk}/out {place.folder}/blob"
+        ran = subprocess.run(["unshare", "-m", "sh", "-c", words], capture_output=True, timeout=LONGEST)
+        want(ran.returncode == 0, f"status {ran.returncode}: {ran.stderr.decode(errors='replace')[-2000:]}")
+
+
+def little_memory(place):
+    """300 MiB in 40 MiB of memory, from mirrors of each kind, of which one lies, and to a pipe."""
+    launcher = peak.Launcher(place.folder)
+    for mirrors, out in (("bao plain", place.out), ("bao@some=1 bao", place.out), ("plain plain@some=1", place.out), ("bao plain", "-")):
+        ran = launcher.run([place.fetch, place.root, out, *place.serve(mirrors)])
+        want(ran.status == 0, f"{mirrors}: status {ran.status}: {ran.complaint.decode(errors='replace')[-2000:]}")
+        want((ran.printed if out == "-" else place.out.read_bytes()) == place.blob, "OUT isn't the blob")
+        want(ran.peak <= 40 << 20, f"{mirrors}: {ran.peak} bytes of memory")
+
+
 def unwritable(place):
     """OUT in a folder that isn't there, and a pipe that nobody reads."""
     urls = place.serve("bao")
@@ -483,7 +571,7 @@ def no_room(place):
     """OUT that may not become as long as the blob."""
     urls = place.serve("bao")
     ran = subprocess.run([place.fetch, place.root, place.out, *urls], capture_output=True, timeout=LONGEST,
-                         preexec_fn=lambda: (signal.signal(signal.SIGXFSZ, signal.SIG_IGN), __import__("resource").setrlimit(__import__("resource").RLIMIT_FSIZE, (1 << 20, 1 << 20))))
+                         preexec_fn=lambda: resource.setrlimit(resource.RLIMIT_FSIZE, (1 << 20, 1 << 20)))
     want(ran.returncode == 3 and not list(place.folder.glob("out*")), f"status {ran.returncode}")
 
 
@@ -522,7 +610,9 @@ LONGER = [
     (outboard_elsewhere, 3_000_000, ""), (two_outboards, 3_000_000, ""), (local_mirrors, 3_000_000, ""), (blame_is_exact, 20_000_000, ""),
     (unwritable, 3_000_000, ""), (no_room, 3_000_000, ""), (one_at_a_time, 9_000_000, ""), (usage, 10, ""), (one_round_trip, 6_000_000, ""), (short_in_one_request, 10_000, ""), (no_unit_twice, 6_000_000, ""),
     (near_ranges, 6_000_000, ""),
-    (left_alone, 3_000_000, ""), (progress, 20_000_000, ""),
+    (left_alone, 3_000_000, ""), (progress, 20_000_000, ""), (lines_are_blamed, 3_000_000, ""), (false_below_its_spine, 3_000_000, ""),
+    (a_hole_near_the_start, 9_000_000, ""), (keeps_all_but_a_chunk, 3_000_000, ""),
+    (room_for_the_blob_alone, 3_000_000, ""), (disk_for_the_blob_alone, 9_000_000, ""), (little_memory, 300 << 20, ""),
 ]
 # function, length, programs that it needs
 WITH_PROGRAMS = [(over_https, 300_000, ["openssl"]), (http2, 6_000_000, ["openssl", "nginx"])]

@@ -1,11 +1,14 @@
 #!/usr/bin/env python3
-"""Measures bw-fetch over mirrors of nginx on loopback: measure.py BW_FETCH [RUNS].
+"""Measures bw-fetch over mirrors of nginx on loopback: measure.py BW_FETCH [RUNS [MIB ..]].
 
 At the top of the repository, after `make fetch`. Four mirrors of which two lie: one has a byte of each 64 KiB changed, the other of each 128 KiB. In turns with
 curl of one true mirror, then a hash: by b3sum where it is installed, or else by `bao_gather hash` of out/; and with aria2c and a metalink of piece hashes, where
 it is installed. Prints a row for each: wall and processor time (least and middle of the runs), the most memory, the bytes that came over the network for each
 byte of the blob, and how many runs were right. Then what one liar costs beside a true
 mirror and alone, as .bao and as a plain file; and how long a length takes where each answer comes 50 ms late.
+
+With MIB it measures blobs of so many MiB in place of all that, each once in RUNS: from two true mirrors of nginx and two in Python that lie, which have the same
+files. It takes 2.1 times the blob on the disk for these, and 1.1 times for OUT, and 1.1 times in memory to make them.
 """
 import hashlib
 import os
@@ -36,18 +39,26 @@ LATE = 0.05
 LIARS = ["good", "noise", "flip", "some=1", "trunc", "never", "stall", "drip", "slow=60000", "headers", "dripheaders", "endless", "huge", "norange", "close", "e404"]
 LIARS_SIZE = 8 * MIB
 
+# Two that lie about a long blob: a byte of each 64 KiB, and a byte of each MiB.
+LONG_LIARS = ["flip", "some=1"]
+
 
 def encode(folder, blob):
-    """Writes blob, blob.bao and blob.obao, and answers the root."""
+    """Writes the parts as blob, with blob.bao and blob.obao, and answers the root."""
     tool = folder / "mkbao"
     subprocess.run(["cc", "-std=c11", "-O2", f"-I{ROOT}/c", HERE / "mkbao.c", ROOT / "out/libberylwool.a", "-o", tool], check=True)
-    (folder / "blob").write_bytes(blob)
+    with open(folder / "blob", "wb") as file:
+        file.writelines(blob)
     return subprocess.run([tool, folder / "blob"], check=True, capture_output=True, text=True).stdout.strip()
 
 
-def make_blob(size):
+def parts_of_blob(size):
     part = random.Random(7).randbytes(min(size, 16 * MIB))
-    return b"".join(part[8:] + at.to_bytes(8, "little") for at in range(size // len(part)))
+    return (part[8:] + at.to_bytes(8, "little") for at in range(size // len(part)))
+
+
+def make_blob(size):
+    return b"".join(parts_of_blob(size))
 
 
 def lie(true, step):
@@ -59,7 +70,7 @@ def lie(true, step):
 
 
 def make_mirrors(folder, blob):
-    root = encode(folder, blob)
+    root = encode(folder, [blob])
     for name, step in (("m1", 0), ("m2", 1 << 16), ("m3", 0), ("m4", 1 << 17)):
         (folder / name).mkdir()
         for file in ("blob", "blob.bao", "blob.obao"):
@@ -140,7 +151,7 @@ def rows_of(fetch, root, nginx):
     return rows
 
 
-def run_once(launcher, words, out, folder, work):
+def run_once(launcher, words, out, folder, work, status=1):
     """(wall, processor, MiB, bytes that came, whether it was right)"""
     for it in work.glob("*"):
         if it.name != "it.meta4":
@@ -151,7 +162,7 @@ def run_once(launcher, words, out, folder, work):
     if out:
         right = ran.status == 0 and subprocess.run(["cmp", "-s", folder / "m1/blob", work / out]).returncode == 0
     else:
-        right = ran.status == 1 and not (work / "out").exists()
+        right = ran.status == status and not (work / "out").exists()
     used = after.ru_utime + after.ru_stime - before.ru_utime - before.ru_stime
     came = sum(int(it) for it in re.findall(r": (\d+) bytes, ", ran.complaint.decode(errors="replace")))
     return ran.seconds, used, ran.peak / MIB, came, right
@@ -199,10 +210,42 @@ def measure_liars(fetch):
         print(f"| {mode} | {' | '.join(row)} | {most:.0f} MiB |", flush=True)
 
 
+def measure_long(fetch, size, runs):
+    with tempfile.TemporaryDirectory(dir=ROOT / "out") as folder:
+        folder = pathlib.Path(folder)
+        folder.chmod(0o755)
+        root, work = encode(folder, parts_of_blob(size * MIB)), folder / "work"
+        work.mkdir()
+        for name in ("m1", "m2", "m3", "m4"):
+            (folder / name).symlink_to(folder)
+        nginx, liars, launcher = Nginx(folder), mirrors.Mirrors(folder, LONG_LIARS), peak.Launcher(folder)
+        urls = {file: [*nginx.urls(file)[:2], *(f"http://127.0.0.1:{port}/{file}" for port in liars.ports)] for file in ("blob.bao", "blob")}
+        piped = ["sh", "-c", f"exec {fetch} -v {root} - {urls['blob.bao'][0]} > {os.devnull}"]
+        rows = {
+            "4 .bao, 2 lie": ([fetch, "-v", root, "out", *urls["blob.bao"]], "out"),
+            "4 plain, 2 lie": ([fetch, "-v", root, "out", *urls["blob"]], "out"),
+            "1 true .bao": ([fetch, "-v", root, "out", urls["blob.bao"][0]], "out"),
+            "1 true plain": ([fetch, "-v", root, "out", urls["blob"][0]], "out"),
+            "1 true .bao, to a pipe": (piped, None),
+            "1 .bao with a false byte of each MiB: status 1": ([fetch, "-v", root, "out", urls["blob.bao"][3]], None),
+            "the same, and then 1 true .bao": (["sh", "-c", f"{fetch} -v {root} out {urls['blob.bao'][3]}; {fetch} -v {root} out {urls['blob.bao'][0]}"], "out"),
+            "curl, 1 true, then b3sum": (["sh", "-c", f"curl -s -o out {urls['blob'][0]} && b3sum out > {os.devnull}"], "out"),
+        }
+        print(f"{size} MiB, {runs} runs in turns, load {os.getloadavg()[0]:.1f}")
+        print("| what | wall, least | processor, least | memory, most | bytes that came | right |\n|---|---|---|---|---|---|")
+        try:
+            for name, (words, out) in rows.items():
+                wall, used, memory, came, right = zip(*(run_once(launcher, words, out, folder, work, status="status 1" in name) for _ in range(runs)))
+                print(f"| {name} | {min(wall):.1f} s | {min(used):.1f} s | {max(memory):.1f} MiB | {max(came) / size / MIB:.4f} | {sum(right)} of {runs} |", flush=True)
+        finally:
+            liars.end()
+            nginx.end()
+
+
 def fetch_once(fetch, modes, file, words):
     with tempfile.TemporaryDirectory() as folder:
         folder = pathlib.Path(folder)
-        root, launcher = encode(folder, make_blob(LIARS_SIZE)), peak.Launcher(folder)
+        root, launcher = encode(folder, [make_blob(LIARS_SIZE)]), peak.Launcher(folder)
         them = mirrors.Mirrors(folder, modes)
         ran = launcher.run([str(fetch), "-v", *words, root, str(folder / "out"), *(f"http://127.0.0.1:{it}/{file}" for it in them.ports)])
         them.end()
@@ -215,7 +258,7 @@ def measure_late(fetch):
     for size in (3072, 64 * MIB):
         with tempfile.TemporaryDirectory() as folder:
             folder = pathlib.Path(folder)
-            root = encode(folder, make_blob(size))
+            root = encode(folder, [make_blob(size)])
             for modes, what in ((["late=0"], "at once"), ([f"late={LATE}"], "50 ms late")):
                 them = Counted(folder, modes)
                 began = time.monotonic()
@@ -247,10 +290,14 @@ class Counted(mirrors.Mirrors):
             it.counts = self
 
 
-def main(fetch, runs="5"):
+def main(fetch, runs="5", *sizes):
     if not shutil.which("nginx") or not shutil.which("curl"):
         sys.exit("measure.py: needs nginx and curl")
     fetch = pathlib.Path(fetch).resolve()
+    for size in sizes:
+        measure_long(fetch, int(size), int(runs))
+    if sizes:
+        return
     for size in SIZES:
         measure(fetch, size, int(runs))
     measure_liars(fetch)
