@@ -16,10 +16,12 @@ A stored answer that no longer fits the changed code shows nothing of the contra
 check is made again, until none is left: an edit counts as refused only where a goal stays open then, or where the reason is
 noted why it can't be tried so (REASONS).
 Prints a line for each edit and last 'N refused, M not refused'. The exit status is 1 where one isn't refused.
-A crate's file wrong-bodies/TRIED has a sum of the crate's text without its comments, and of each edit that was refused of
-that text its own sum and name, and the reason where there is one. Those are not tried again, but with --anew or once the text has changed.
---read proves nothing and takes a second: it fails on an edit of either folder that can't be applied any more, or that
-stands in both, and names each crate on which they were never tried so, or that has changed since. With --strict it fails on those too.
+A crate's file wrong-bodies/TRIED has a line for each edit that was refused: its own sum, a sum of what it was refused of, its
+name, and the reason where there is one. What a body is refused of is what its function's proof stands on (scripts/grounds.py):
+its contract, what that cites, and the contracts of what it calls, without comments. For an edit that changes anything but one
+body it is the crate's text. What was refused of the same is not tried again, but with --anew.
+--read proves nothing and takes seconds: it fails on an edit of either folder that can't be applied any more, or that
+stands in both, and names each crate with edits that were never tried so, or of other grounds. With --strict it fails on those too.
 """
 import argparse
 import copy
@@ -34,6 +36,7 @@ import threading
 import time
 
 sys.dont_write_bytecode = True
+import grounds
 import rt_module
 
 OURS, GATES = "wrong-bodies", "must-fail"
@@ -47,8 +50,6 @@ TESTS = re.compile(r"src/tests[^/]*(/.*)?")
 RATTLE = re.compile(r'''(r(#*)".*?"\2|"(?:\\.|[^"\\])*"|'(?:\\.|[^'\\])')|^[ \t]*//[^\n]*\n|[ \t]*//[^\n]*''', re.M | re.S)
 ANTT = re.compile(r"^[ \t]*--[^\n]*\n", re.M)
 COMMENTS = {".rt": (RATTLE, "/*"), ".antt": (ANTT, "{-")}
-# A function's first line, with its indent and name.
-HEAD = re.compile(r"( *)(?:pub(?:\([^)]*\))? )?(?:(?:const|unsafe|final|extern \"C\") )*fn (\w+)")
 # What the prover says of a function that is not proved by itself, and of one that waits for another's proof.
 FAILS, WAITS = re.compile(r"not proved(?!; it calls)|no proof: expected answers"), re.compile(r"(no proof:|not proved;) it calls")
 # An error in a proof file, and the first line of a definition in one.
@@ -79,15 +80,19 @@ def without_comments(name, text):
     return text if comment is None or other in text else comment.sub(lambda it: it[1] if it.lastindex else "", text)
 
 
-def sum_of(rt, folder):
-    """Returns a sum of the crate's text, its tests and comments aside."""
-    made = hashlib.sha256()
-    for file in rt.rtlib.files_of(folder):
-        name = os.path.relpath(file, folder)
-        if not TESTS.fullmatch(name):
-            with open(file, encoding="utf-8", newline="") as it:
-                made.update(repr((name, without_comments(name, it.read()))).encode())
-    return made.hexdigest()
+def grounds_of(rt, crate, edits):
+    """Returns a sum of what each edit is refused of, by its file's name."""
+    files = [it for it in rt.rtlib.files_of(crate.folder) if not TESTS.fullmatch(os.path.relpath(it, crate.folder))]
+    known, made, sums = grounds.Grounds(crate.folder, files, without_comments), hashlib.sha256(), {}
+    for file in files:
+        name = os.path.relpath(file, crate.folder)
+        with open(file, encoding="utf-8", newline="") as it:
+            made.update(repr((name, without_comments(name, it.read()))).encode())
+    for edit in edits:
+        change = Change.of(rt, crate, edit)
+        of = change and known.of(*change.place)
+        sums[os.path.basename(edit)] = of or made.hexdigest()[:16]
+    return sums
 
 
 def sums_of(edits):
@@ -99,17 +104,18 @@ def sums_of(edits):
     return sums
 
 
-HEADER = "refused without the answers that no longer fit, of the text with the sum"
+HEADER = "refused without the answers that no longer fit: an edit's sum, that of what it was refused of, its name"
 
 
-def tried_of(rt, folder, text):
-    """Returns the edits that wrong-bodies/TRIED says were refused of the crate's text with this sum: their sums, with a reason
-    where there is one, by their names."""
-    head, of, *told = [*(rt.rtlib.text_of(f"{folder}/{OURS}/TRIED") or "").split("\n"), "", ""]
-    if not head.endswith(HEADER) or of != text:
+def tried_of(rt, folder, sums, of):
+    """Returns what wrong-bodies/TRIED says of the edits with these sums that were refused of the same: by its name, an edit's
+    sum, that of what it was refused of, and the reason where there is one."""
+    head, *told = (rt.rtlib.text_of(f"{folder}/{OURS}/TRIED") or "").split("\n")
+    if not head.endswith(HEADER):
         return {}
     lines = [it.split() for it in told if it]
-    return {name: (made, *why) for made, name, *why in lines}
+    said = {name: (made, ground, *why) for made, ground, name, *why in lines}
+    return {name: it for name, it in said.items() if name in sums and it[:2] == (sums[name], of[name])}
 
 
 def definitions(text):
@@ -158,9 +164,12 @@ def read_alone(rt, crates, is_strict):
             if why:
                 print(f"{os.path.relpath(file)}: BAD EDIT: {why}")
                 unread += 1
-        tried = tried_of(rt, crate.folder, sum_of(rt, crate.folder))
-        if any(tried.get(name, [""])[0] != made for name, made in sums_of(ours[0] + theirs[0]).items()):
+        edits = ours[0] + theirs[0]
+        sums = sums_of(edits)
+        left = sums.keys() - tried_of(rt, crate.folder, sums, grounds_of(rt, crate, edits))
+        if left:
             stale.append(crate.name)
+            print(f"{crate.name}: {len(left)} of {len(sums)} to try")
     if stale:
         print(f"wrong bodies not tried on these crates as they stand: make wrong-bodies CRATES='{' '.join(stale)}'")
     print(f"wrong bodies: {unread} that can't be applied, {len(stale)} crates to try")
@@ -170,10 +179,10 @@ def read_alone(rt, crates, is_strict):
 def body_of(lines, number):
     """Returns the name of the function whose body has the line with this number, and where that begins, or None."""
     for first in range(number, -1, -1):
-        head = HEAD.match(lines[first])
+        head = grounds.HEAD.match(lines[first])
         if not head:
             continue
-        indent, name = head.groups()
+        indent, _, name = head.groups()
         opens = next((it for it in range(first, len(lines)) if re.fullmatch(indent + r"(\S.*)?\{", lines[it])), len(lines))
         ends = next((it for it in range(opens, len(lines)) if lines[it] == indent + "}"), -1)
         if ends > first:
@@ -215,13 +224,13 @@ class Change:
 class Work:
     """The edits of one crate, with a copy of its text and of what its proof kept."""
 
-    def __init__(self, rt, crate, edits, room, jobs, text, known):
+    def __init__(self, rt, crate, edits, room, jobs, grounds, known):
         self.rt, self.edits, self.jobs, self.room = rt, edits, jobs, f"{room}/{crate.name}"
         self.lock, self.left, self.is_proved = threading.Lock(), len(edits), None
         # What a refused edit comes to: an older rt says no more than whether it was.
         self.changes, self.counts = {}, {getattr(rt, "REFUSED", True), getattr(rt, "AT_LIMIT", True)}
         self.had, self.tried_file = f"{crate.folder}/out/incremental", f"{crate.folder}/{OURS}/TRIED"
-        self.text, self.sums, self.known = text, sums_of(edits), known
+        self.grounds, self.sums, self.known = grounds, sums_of(edits), known
         self.crate = copy.copy(crate)
         self.crate.folder, self.crate.out = f"{self.room}/crate", sys.stderr
         for part in rt.rtlib.PARTS:
@@ -338,11 +347,11 @@ class Work:
         with self.lock:
             self.left -= 1
             if is_refused:
-                self.known[name] = (self.sums[name], why) if why else (self.sums[name],)
-                told = "".join(f"{' '.join([made, name, *why])}\n" for name, (made, *why) in sorted(self.known.items()))
+                self.known[name] = (self.sums[name], self.grounds[name], *([why] if why else []))
+                told = "".join(f"{' '.join([made, ground, name, *why])}\n" for name, (made, ground, *why) in sorted(self.known.items()))
                 os.makedirs(os.path.dirname(self.tried_file), exist_ok=True)
                 with open(self.tried_file, "w", encoding="utf-8") as it:
-                    it.write(f"{len(self.known)} {HEADER}\n{self.text}\n{told}")
+                    it.write(f"{len(self.known)} {HEADER}\n{told}")
             if not self.left:
                 shutil.rmtree(self.room, ignore_errors=True)
 
@@ -404,16 +413,15 @@ def try_all(rt, crates, jobs, is_anew):
                 print(f"{os.path.relpath(it)}: BAD EDIT: an edit's name is of letters, digits, _, - and . and ends in .edit", flush=True)
                 failed.append(it)
             edits = [it for good, _ in found for it in good]
-            text, sums = sum_of(rt, crate.folder), sums_of(edits)
-            told = {} if is_anew else tried_of(rt, crate.folder, text)
-            known = {name: it for name, it in told.items() if sums.get(name) == it[0]}
+            of = grounds_of(rt, crate, edits)
+            known = {} if is_anew else tried_of(rt, crate.folder, sums_of(edits), of)
             edits = [it for it in edits if os.path.basename(it) not in known]
             if known:
-                print(f"{crate.name}: {len(known)} were refused of this text before")
+                print(f"{crate.name}: {len(known)} were refused of the same before")
             if edits:
                 if any(it.build_rlib(["--jobs", str(jobs)], anew=False) for it in crate.below()):
                     sys.exit(f"wrong-bodies: a library below {crate.name} is not proved")
-                work = Work(rt, crate, edits, room, jobs, text, known)
+                work = Work(rt, crate, edits, room, jobs, of, known)
                 for it in work.batches():
                     todo.put((work, it))
         lanes = [threading.Thread(target=lane, args=(it,)) for it in range(jobs)]
@@ -427,7 +435,7 @@ def try_all(rt, crates, jobs, is_anew):
 def main():
     asked = argparse.ArgumentParser(description=__doc__, formatter_class=argparse.RawDescriptionHelpFormatter)
     asked.add_argument("--jobs", type=int, default=0, help="how many edits at a time (one a processor, and 2 GB of memory each)")
-    asked.add_argument("--anew", action="store_true", help="also those that were refused of the same text before")
+    asked.add_argument("--anew", action="store_true", help="also those that were refused of the same before")
     asked.add_argument("--read", action="store_true", help="prove nothing: say which edits can't be applied, and which crates are to be tried")
     asked.add_argument("--strict", action="store_true", help="with --read: fail where a crate is to be tried")
     asked.add_argument("crates", nargs="*", metavar="CRATE")
