@@ -32,8 +32,8 @@ help:
 	@echo 'make sum                  prints the checksum of the built bao_gather'
 	@echo 'make install PREFIX=DIR   copies bao_gather to DIR/bin, its manual page and completions to DIR/share'
 	@echo '                          (PREFIX is /usr/local if left out; DESTDIR goes before it)'
-	@echo 'make dist                 makes the folder of a release, out/dist, of a commit: programs for both processor levels,'
-	@echo '                          manual page, completions, checksums'
+	@echo 'make dist                 makes the folder of a release, out/dist, of a commit: programs and the C library for both'
+	@echo '                          processor levels, manual pages, completions, checksums (needs cc and binutils)'
 	@echo 'make test                 the gate: a look at laws, wrong bodies and documents, what make scenarios does, rt ci (every'
 	@echo '                          proof from nothing, the must-fail edits, the tests and the programs), then what make docs,'
 	@echo '                          make refuse, make replaced, make memory, make c-test and make fetch-test do'
@@ -90,10 +90,14 @@ install: out/bao_gather
 	install -D -m 644 out/manual/_bao_gather '$(DESTDIR)$(PREFIX)/share/zsh/site-functions/_bao_gather'
 	install -D -m 644 out/manual/bao_gather.fish '$(DESTDIR)$(PREFIX)/share/fish/vendor_completions.d/bao_gather.fish'
 
-# The levels one after another: the second one wants a machine that has it, and proves and builds anew.
+# The levels one after another: x86-64-v3 wants a machine that has it, and each proves and builds anew. The static library is of x86-64.
 dist:
-	@for cpu in x86-64 x86-64-v3; do $(MAKE) CPU=$$cpu out/bao_gather; install -D -m 755 out/bao_gather out/levels/$$cpu/bao_gather; done
-	@python3 scripts/dist.py out/dist x86-64=out/levels/x86-64/bao_gather x86-64-v3=out/levels/x86-64-v3/bao_gather
+	@for cpu in x86-64-v3 x86-64; do \
+	    $(MAKE) --no-print-directory CPU=$$cpu out/bao_gather && install -D -m 755 out/bao_gather out/levels/$$cpu/bao_gather || exit 1; \
+	done
+	@$(MAKE) --no-print-directory c-levels
+	@install -m 644 out/libberylwool.a out/levels/x86-64/libberylwool.a
+	@python3 scripts/dist.py out/dist x86-64=out/levels/x86-64 x86-64-v3=out/levels/x86-64-v3
 
 # What rt ci leaves is the program that it proved, and the libraries that the C library is built over.
 test:
@@ -140,8 +144,11 @@ docs: out/bao_gather
 	@python3 scripts/promises.py
 	@python3 scripts/bench.py --read
 
-# With the C library where there is a C compiler.
-bench: out/bao_gather out/bench $(if $(shell command -v cc),out/c/compare)
+# BLAKE3's own C sources, as Debian's librust-blake3-dev has them.
+BLAKE3_C := $(lastword $(sort $(wildcard /usr/share/cargo/registry/blake3-*/c)))
+
+# With the C library where there is a C compiler, and with BLAKE3's own where that is there, too.
+bench: out/bao_gather out/bench $(if $(shell command -v cc),out/c/compare $(if $(BLAKE3_C),out/pieces))
 	@python3 scripts/bench.py $(if $(RECORD),--record)
 
 refuse: out/bao_gather
@@ -197,15 +204,20 @@ C_SOURCES := $(SOURCES) $(shell shopt -s globstar nullglob; echo crates/{bao_bin
 # Where the kit's three functions over malloc lie.
 KIT_C = $(dir $(shell rt doc))c/liblibc_c.a
 
-# One object that shows the bw_ functions alone, so that two such libraries in one program don't meet.
-out/libberylwool.a: out/cpu $(C_SOURCES)
+out/c/berylwool.o: out/cpu $(C_SOURCES)
 	@echo 'Proving and building berylwool for $(CPU). The first time takes minutes (out/berylwool.log tells more).' >&2
 	@$(if $(JOBS),RT_JOBS=$(JOBS)) python3 scripts/prove_lanes.py berylwool >&2
 	@(cd crates/berylwool && rt lib --cpu=$(CPU) $(if $(JOBS),--jobs $(JOBS))) > out/berylwool.log 2>&1 \
 	    || { cat out/berylwool.log >&2; echo 'berylwool was not proved and built.' >&2; exit 1; }
 	@rm -rf out/c && mkdir -p out/c
-	@cd out/c && ar x ../../crates/berylwool/out/libberylwool.a berylwool.o && ar x $(KIT_C) heap.pic.o
-	@ld -r -o out/c/bw.o out/c/berylwool.o out/c/heap.pic.o
+	@cd out/c && ar x ../../crates/berylwool/out/libberylwool.a berylwool.o
+
+# One object that shows the bw_ functions alone, so that two such libraries in one program don't meet. Of C there are the words of the statuses, and
+# the kit's three functions over malloc.
+out/libberylwool.a: out/c/berylwool.o c/strerror.c c/berylwool.h
+	@cd out/c && ar x $(KIT_C) heap.pic.o
+	@cc -std=c11 -O2 -Wall -Wextra -fPIC -Ic -c c/strerror.c -o out/c/strerror.o
+	@ld -r -o out/c/bw.o out/c/berylwool.o out/c/heap.pic.o out/c/strerror.o
 	@objcopy --wildcard --keep-global-symbol='bw_*' out/c/bw.o
 	@rm -f $@ && ar rcs $@ out/c/bw.o
 
@@ -237,6 +249,12 @@ c-install: c-levels
 
 c-test: c-library
 	@python3 scripts/c_test.py
+
+# BLAKE3's own library, held to AVX2.
+out/pieces: c/pieces.c
+	@mkdir -p out
+	@cc -std=c11 -O3 -DBLAKE3_NO_AVX512 -I$(BLAKE3_C) $< $(BLAKE3_C)/blake3.c $(BLAKE3_C)/blake3_dispatch.c $(BLAKE3_C)/blake3_portable.c \
+	    $(foreach it,sse2 sse41 avx2,$(BLAKE3_C)/blake3_$(it)_x86-64_unix.S) -o $@
 
 out/c/compare: c/compare.c c/berylwool.h out/libberylwool.a
 	@cc -std=c11 -O2 -Wall -Wextra -Wpedantic -pthread -Ic $< out/libberylwool.a -o $@

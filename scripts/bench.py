@@ -32,6 +32,8 @@ MEMORY_FOLDER = "/dev/shm"
 IN_PROCESS = f"{ROOT}/out/bench"
 # It is there where there is a C compiler.
 OF_C = f"{ROOT}/out/c/compare"
+# It is there where there are BLAKE3's own C sources, too.
+OF_BLAKE3 = f"{ROOT}/out/pieces"
 MIB = 1 << 20
 
 # The most bytes that a store has room for.
@@ -109,6 +111,8 @@ B3SUM_READ_ONE = "b3sum --no-mmap --num-threads 1"
 B3SUM_READ_FOUR = "b3sum --no-mmap --num-threads 4"
 OUTBOARD = "bao_gather outboard"
 ENCODE = "bao_gather encode"
+COPY_ENCODED = "cp of the combined encoding"
+COPY_FILE = "cp of the file"
 SLICED = "bao_gather slice of 100 bytes"
 DECODE = "bao_gather decode"
 DECODE_TO_DISK = "bao_gather decode, OUT on a disk"
@@ -129,8 +133,10 @@ POOL_ONE = "hash_pool, 1 worker"
 POOL_FOUR = "hash_pool, 4 workers"
 PIECES_ONE = "hashes of 16 KiB by one thread"
 PIECES_FOUR = "hashes of 16 KiB by four threads"
-EIGHT_EACH = "hashes of 8 KiB each"
-SIXTY_FOUR_EACH = "hashes of 64 KiB each"
+# The lengths of small files, in KiB, and what hashing such ones takes us and BLAKE3's own library.
+SMALL = [1, 2, 4, 8, 16, 64]
+EACH = {kib: f"hashes of {kib} KiB each" for kib in SMALL}
+OF_BLAKE3_EACH = {kib: f"libblake3's {EACH[kib]}" for kib in SMALL}
 SMALL_PIECES = "Hasher, pieces of 64 KiB"
 LARGE_PIECES = "Hasher, pieces of 1 MiB"
 FILE_ONE = "hash_source, 1 worker"
@@ -168,6 +174,16 @@ C_COMMITS_ONE = "bw_seat_commit by one thread"
 C_COMMITS_FOUR = "bw_seat_commit by four threads"
 C_READS_ONE = "bw_seat_read by one thread"
 C_READS_FOUR = "bw_seat_read by four threads"
+C_HASH_FIRST = "bw_hash of the first 64 MiB"
+C_FEED_SMALL = "bw_feed_take_many in pieces of 64 KiB"
+C_FEED_LARGE = "bw_feed_take_many in pieces of 256 KiB"
+C_FEED_NODES = "bw_feed_take"
+C_DECODE = "bw_decode"
+C_OUTLINE = "bw_outline_check"
+C_COMMIT_ALL = "bw_seat_commit_all"
+C_COMMIT_CHUNKS = "bw_seat_commit_chunks"
+C_OUTLINE_COMMIT = "bw_outline_commit"
+C_GATHER = "bw_gather"
 
 # The table: a name of what was timed, and how it worked. Lines of the program bench have their names from there;
 # a further way that it prints needs a line here, and one below where it has a ratio.
@@ -180,6 +196,8 @@ ROWS = [
     (B3SUM_READ_ONE, "whole program, one thread, reads in pieces"),
     (OUTBOARD, "whole program, one thread, writes a file"),
     (ENCODE, "whole program, several threads, writes a file"),
+    (COPY_ENCODED, "the system's copy of as many bytes as encode writes"),
+    (COPY_FILE, "the system's copy of as many bytes as decode writes"),
     (SLICED, "whole program, of the middle of the file, writes a file"),
     (DECODE, "whole program, one thread, checks the file's combined encoding, writes the file"),
     (DECODE_TO_DISK, "as before, with OUT in the folder of temporary files, whose device its sync waits for"),
@@ -199,8 +217,8 @@ ROWS = [
     (POOL_FOUR, "bao_read::hash_pool in one process, four workers"),
     (PIECES_ONE, "b3tree::hash of one piece in one process, one thread, as often as the file has such pieces"),
     (PIECES_FOUR, "as before, by four threads, which share a count of how often, and nothing else"),
-    (EIGHT_EACH, "b3tree::hash in one process, one thread, of each 8 KiB of the file by itself"),
-    (SIXTY_FOUR_EACH, "as before, of each 64 KiB"),
+    *((EACH[kib], f"b3tree::hash in one process, one thread, of each {kib} KiB of the first MiB by itself") for kib in SMALL),
+    *((OF_BLAKE3_EACH[kib], f"BLAKE3's own C library, held to AVX2, in one process, one thread, of each {kib} KiB of the first MiB by itself") for kib in SMALL),
     (SMALL_PIECES, "b3tree::Hasher in one process, one thread"),
     (LARGE_PIECES, "b3tree::Hasher in one process, one thread"),
     (FILE_ONE, "bao_read::hash_source in one process, one thread, reads the file in pieces"),
@@ -241,6 +259,35 @@ ROWS = [
     (C_COMMITS_FOUR, "as before, four POSIX threads with a seat each"),
     (C_READS_ONE, "C library in one process, one POSIX thread with a seat, of these bytes, the mean of four reads"),
     (C_READS_FOUR, "as before, four POSIX threads with a seat each, a quarter by each"),
+    (C_HASH_FIRST, "C library in one process, one thread, as all that follow"),
+    ("bw_hasher_update in pieces of 64 KiB", "of the same, with the hash"),
+    ("bw_xof of 1 MiB", "of output, of no bytes"),
+    ("bw_encode", "of the same 64 MiB, in the caller's memory"),
+    ("bw_outboard", "as before"),
+    ("bw_slice of 1 MiB", "of the same, all of which is hashed"),
+    ("bw_cut_slice of 1 MiB", "from their combined encoding"),
+    ("bw_check_slice of 1 MiB", "of that slice"),
+    ("bw_check_outboard", "of their outboard encoding"),
+    ("bw_check_bare", "of the same beside their outboard encoding, which is checked before"),
+    ("bw_audit", "of the same and their combined encoding, which agree"),
+    (C_DECODE, "of their combined encoding"),
+    (C_FEED_SMALL, "as before"),
+    (C_FEED_LARGE, "as before"),
+    (C_FEED_NODES, "as before, node by node, each asked for by bw_feed_wants"),
+    ("bw_outline_new", "of their outboard encoding"),
+    (C_OUTLINE, "of the same beside it, 64 KiB at a time"),
+    ("bw_outline_slice", "as before"),
+    ("bw_store_new", "with room for them"),
+    ("bw_store_part of 4 MiB", "of the second 4 MiB"),
+    (C_COMMIT_CHUNKS, "of their combined encoding, into an empty store"),
+    (C_COMMIT_ALL, "as before, with the parents"),
+    (C_OUTLINE_COMMIT, "of the same beside the outline, 64 KiB at a time, into an empty store"),
+    ("bw_seat_commit_parents", "of the slice of each group, which is cut out of their combined encoding"),
+    ("bw_seat_settle", "of the slice of the last byte"),
+    (C_GATHER, "of their combined encoding, into an empty store"),
+    ("bw_seat_salvage of a full store", "where nothing is left to be asked for"),
+    ("bw_seat_serve_slice of 1 MiB", "out of a full store"),
+    ("bw_seat_finish", "as before, of all"),
 ]
 
 # The table of calls of the C library that have next to nothing to do: a name, and what is wanted of it.
@@ -248,6 +295,18 @@ CALLS = [
     ("bw_hasher_update of no bytes", "below 20"),
     ("bw_seat_length", "below 20"),
     ("bw_seat_take and bw_seat_give", ""),
+    ("bw_seat_held", ""),
+    ("bw_seat_split and bw_seat_join", ""),
+    ("bw_seat_split and bw_seat_meet", ""),
+    ("bw_hasher_new", ""),
+    ("bw_hasher_finish of no bytes", ""),
+    ("bw_hash of no bytes", ""),
+    ("bw_derive_key of no bytes", ""),
+    ("bw_feed_slice", ""),
+    ("bw_feed_wants", ""),
+    ("bw_slice_len of 64 KiB", ""),
+    ("bw_slice_ranges of 64 KiB", ""),
+    ("bw_outboard_ranges of 64 KiB", ""),
 ]
 
 # The table of memory: a name, how it was measured, and what is wanted of it.
@@ -287,12 +346,15 @@ RATIOS = [
     ("several threads", "hash", POOL_FOUR, "at least 3.0 on four processors"),
     ("several threads", PIECES_ONE, PIECES_FOUR, "4 on four processors of their own: what threads are worth on this machine"),
     ("several threads", FILE_ONE, FILE_FOUR, ""),
-    ("one thread", SIXTY_FOUR_EACH, EIGHT_EACH, "at least 0.7: small files"),
+    ("one thread", EACH[64], EACH[8], "at least 0.7: small files"),
+    *(("one thread", EACH[kib], OF_BLAKE3_EACH[kib], "at most 1.4") for kib in SMALL),
     ("one thread", SMALL_PIECES, "hash", "at most 1.3"),
     ("one thread", LARGE_PIECES, "hash", "at most 1.1"),
     ("one thread", OUTBOARD, HASH_ONE, "at most 1.5"),
     ("several threads", ENCODE, HASH_ONE, "at most 2.2"),
     ("several threads", DECODE, HASH_ONE, "at most 3.5"),
+    ("as a user runs it", ENCODE, COPY_ENCODED, "1 is what the system takes to read and write as many bytes"),
+    ("as a user runs it", DECODE, COPY_FILE, "1 is what the system takes to read and write as many bytes"),
     ("one thread", SLICE, SLICE_OF_SIXTEENTH, "about 1: not with the encoding"),
     ("one thread", LARGER_SLICE, SLICE, "about 8: with the slice"),
     ("one thread", CHECK, "hash", "at most 1.1"),
@@ -323,6 +385,15 @@ RATIOS = [
     ("one thread", C_READS_ONE, READS_ONE, ""),
     ("several threads", C_COMMITS_ONE, C_COMMITS_FOUR, "at least 2.5 on four processors"),
     ("several threads", C_READS_ONE, C_READS_FOUR, "at least 2.5 on four processors"),
+    ("one thread", C_DECODE, C_HASH_FIRST, ""),
+    ("one thread", C_FEED_SMALL, C_HASH_FIRST, "at most 1.3"),
+    ("one thread", C_FEED_LARGE, C_HASH_FIRST, ""),
+    ("one thread", C_FEED_NODES, C_HASH_FIRST, ""),
+    ("one thread", C_OUTLINE, C_HASH_FIRST, ""),
+    ("one thread", C_COMMIT_CHUNKS, C_HASH_FIRST, ""),
+    ("one thread", C_COMMIT_ALL, C_COMMIT_CHUNKS, ""),
+    ("one thread", C_OUTLINE_COMMIT, C_COMMIT_ALL, ""),
+    ("one thread", C_GATHER, C_HASH_FIRST, ""),
 ]
 
 
@@ -370,14 +441,17 @@ BEGIN, END = "<!-- made by scripts/bench.py --write -->", "<!-- made so far -->"
 # Why a figure is missed that is, as far as it is known.
 WHY = {
     ratio_name("several threads", "hash", POOL_FOUR): "virtual processors share cores: see the row of 16 KiB",
+    ratio_name("one thread", EACH[2], OF_BLAKE3_EACH[2]): "that library has two chunks side by side in one vector, row by row",
+    ratio_name("one thread", EACH[4], OF_BLAKE3_EACH[4]): "that library has two chunks side by side in one vector, row by row",
     ratio_name("one thread", AUDIT, "hash"): "the piece's chunks are read once more, out of memory and not out of a cache",
     ratio_name("one thread", GATHER_TEXTS, HASH_OF_GATHERED): "two fresh 64 MiB, beside the check and the hash",
-    ratio_name("as a user runs it", GATHER, HASH_GATHERED): "each window is hashed and written on one thread, while the others wait",
-    ratio_name("as a user runs it", GATHER_LONG, HASH_GATHERED): "each window is hashed and written on one thread, while the others wait",
-    ratio_name("as a user runs it", GATHER_LONGER, HASH): "each window is hashed and written on one thread, while the others wait",
+    ratio_name("as a user runs it", GATHER, HASH_GATHERED): "each window is hashed and written on one thread, while the next one is filled",
+    ratio_name("as a user runs it", GATHER_LONG, HASH_GATHERED): "each window is hashed and written on one thread, while the next one is filled",
+    ratio_name("as a user runs it", GATHER_LONGER, HASH): "each window is hashed and written on one thread, while the next one is filled",
     ratio_name("several threads", COMMITS_ONE, COMMITS_FOUR): "starting four threads takes up to 4 ms, beside 13 of work",
     ratio_name("several threads", ENCODE, HASH_ONE): "more than half of its time is the kernel's, for fresh pages of what is written",
     ratio_name("several threads", READS_ONE, READS_FOUR): "virtual processors share cores: see the row of 16 KiB",
+    ratio_name("one thread", C_FEED_SMALL, C_HASH_FIRST): "chunks at both ends of a piece are verified one by one, not eight at once",
     "a shared store keeps, MB": "4.2 of it are for parents",
     "a shared store takes at most, MB": "the list of zeros and the table's copy of it",
 }
@@ -610,6 +684,8 @@ def measure(room, memory, mib, runs):
             commands.append(Command(name, [b3sum, "--no-names", "--num-threads", *words, path]))
     else:
         print("b3sum is not installed, so there are no times of it (Debian: apt-get install b3sum).")
+    if not os.path.exists(OF_BLAKE3):
+        print("BLAKE3's own C sources, or a C compiler, are not installed, so there are no times of libblake3 (Debian: apt-get install librust-blake3-dev gcc).")
     for name, command in ((OUTBOARD, "outboard"), (ENCODE, "encode")):
         if knows(command):
             commands.append(Command(name, [PROGRAM, command, path, made]))
@@ -618,6 +694,7 @@ def measure(room, memory, mib, runs):
     encoding, parents = f"{room}/encoding", f"{room}/parents"
     root = output([PROGRAM, "encode", path, encoding]).strip()
     output([PROGRAM, "outboard", path, parents])
+    commands += [Command(COPY_ENCODED, ["cp", encoding, made], encoding), Command(COPY_FILE, ["cp", path, made], path)]
     commands.append(Command(SLICED, [PROGRAM, "slice", str(mib * MIB // 2), "100", path, made]))
     commands.append(Command(DECODE, [PROGRAM, "decode", root, encoding, made], path))
     commands.append(Command(DECODE_TO_DISK, [PROGRAM, "decode", root, encoding, on_disk], path))
@@ -636,8 +713,9 @@ def measure(room, memory, mib, runs):
                 fail(f"what {it.name} wrote isn't {os.path.basename(it.like)}")
         times.run(HASH_GATHERED, [PROGRAM, "hash", held.blob])
         times.run_in_process(IN_PROCESS, path)
-        if os.path.exists(OF_C):
-            times.run_in_process(OF_C, path)
+        for program in (OF_BLAKE3, OF_C):
+            if os.path.exists(program):
+                times.run_in_process(program, path)
     if len(hashes) > 1:
         fail(f"the programs print different hashes of one file: {', '.join(sorted(hashes))}")
     return times.least, peaks_of(room, commands, made) if shutil.which("cc") else {}

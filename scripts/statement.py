@@ -53,7 +53,7 @@ CASES = [
     ),
 ]
 CITED = [
-    ("quarter_round", ["Compression:g", "compression.rt:quarter_round", "lanes.rt:quarter_round"]),
+    ("quarter_round", ["Compression:g", "compression.rt:quarter_rounds", "lanes.rt:quarter_round"]),
     ("AreClaims", ["seat.rt:Seat"]),
     ("MaySettle", ["Calls:SeatSettles"]),
     (
