@@ -3,7 +3,8 @@
 A function is proved from its own body, contract and proof files, and from the contracts, types, definitions and lemmas that
 these name, and that those name in turn. The body and the stored proof of another function aren't among them. So a verdict
 on one body stays what it was while none of these changes. Names are compared as words: where two things have one name, both
-count, and what can't be told apart counts always.
+count. That is a rule of thumb, and no proof: a name that a part also binds, a field, a label, and a lemma that the prover
+finds with nobody naming it aren't counted. `wrong_bodies.py --anew` tries all.
 """
 import hashlib
 import os
