@@ -28,6 +28,12 @@ rows v =
     ∷ lane_at v 2 0 ∷ lane_at v 2 1 ∷ lane_at v 2 2 ∷ lane_at v 2 3
     ∷ lane_at v 3 0 ∷ lane_at v 3 1 ∷ lane_at v 3 2 ∷ lane_at v 3 3 ∷ []
 
+-- the 16 words of a message in four rows: the even and the odd words of its halves
+abbrev pub paired_rows : List ℕ → List ℕ → List ℕ → List ℕ → List ℕ
+paired_rows x y z w =
+    slice_index x 0 ∷ slice_index y 0 ∷ slice_index x 1 ∷ slice_index y 1 ∷ slice_index x 2 ∷ slice_index y 2 ∷ slice_index x 3 ∷ slice_index y 3
+    ∷ slice_index z 0 ∷ slice_index w 0 ∷ slice_index z 1 ∷ slice_index w 1 ∷ slice_index z 2 ∷ slice_index w 2 ∷ slice_index z 3 ∷ slice_index w 3 ∷ []
+
 -- the input in lane j, with the counter t
 abbrev pub lane_input : ℕ → List (List ℕ) → List (List ℕ) → ℕ → List ℕ → List ℕ → Input
 lane_input j h m t b d = record {

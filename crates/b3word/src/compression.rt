@@ -1,6 +1,6 @@
 ghost use Rattle.std.specs.Prelude.{◌≡◌, ℕ, ◌<◌, [], ◌∷◌, bit_xor, slice_index};
 ghost use Rattle.b3word.specs.Compression.{add32, xor_rotated, quarter_round, round, permuted, initial_state, rounds, output_words, out, cv};
-ghost use Rattle.b3word.specs.Lanes.{rows};
+ghost use Rattle.b3word.specs.Lanes.{paired_rows, rows};
 
 use crate::input::Input;
 use std::simd::u32x4;
@@ -77,30 +77,31 @@ fn turned_back(v: u32x4) -> u32x4
     v.swizzle([3, 0, 1, 2])
 }
 
-// The columns, and then the diagonals, which are columns while three rows are turned.
+// The columns, and then the diagonals, which are columns while three rows are turned. The message is in four rows:
+// the even and the odd words of its first half, and those of its second.
 #[inline(always)]
-fn round(v: [u32x4; 4], m: &[u32; 16]) -> [u32x4; 4]
-    ensures { rows result ≡ round (rows v) m.now }
+fn round(v: [u32x4; 4], x: u32x4, y: u32x4, z: u32x4, w: u32x4) -> [u32x4; 4]
+    ensures { rows result ≡ round (rows v) (paired_rows x y z w) }
 {
     let [a, b, c, d] = v;
-    let x = u32x4::from_array([m[0], m[2], m[4], m[6]]);
-    let y = u32x4::from_array([m[1], m[3], m[5], m[7]]);
     let (a, b, c, d) = quarter_rounds(a, b, c, d, x, y);
-    let x = u32x4::from_array([m[8], m[10], m[12], m[14]]);
-    let y = u32x4::from_array([m[9], m[11], m[13], m[15]]);
-    let (a, b, c, d) = quarter_rounds(a, turned(b), half_turned(c), turned_back(d), x, y);
+    let (a, b, c, d) = quarter_rounds(a, turned(b), half_turned(c), turned_back(d), z, w);
     [a, turned_back(b), half_turned(c), turned(d)]
 }
 
 #[inline(always)]
-#[tactic(auto, unfolding(crate::specs::Compression::permuted))]
-fn permuted(m: &[u32; 16]) -> [u32; 16]
-    ensures { result ≡ permuted m.now }
+fn permuted(x: u32x4, y: u32x4, z: u32x4, w: u32x4) -> (u32x4, u32x4, u32x4, u32x4)
+    ensures { paired_rows result.0 result.1 result.2 result.3 ≡ permuted (paired_rows x y z w) }
 {
-    [
-        m[2], m[6], m[3], m[10], m[7], m[0], m[4], m[13], m[1], m[11], m[12], m[5], m[9], m[14],
-        m[15], m[8],
-    ]
+    let xz = x.shuffle(z, [3, 5, 0, 0]);
+    let yz = y.shuffle(z, [0, 6, 0, 0]);
+    let wy = w.shuffle(y, [1, 6, 0, 0]);
+    (
+        x.shuffle(y, [1, 5, 7, 2]),
+        xz.shuffle(w, [0, 1, 2, 6]),
+        yz.shuffle(w, [0, 1, 4, 7]),
+        wy.shuffle(z, [0, 1, 7, 4]),
+    )
 }
 
 #[inline(always)]
@@ -122,23 +123,34 @@ fn initial_state(input: &Input) -> [u32x4; 4]
 }
 
 #[inline(always)]
-#[tactic(auto, unfolding(crate::specs::Compression::rounds, crate::specs::Compression::round_words))]
-fn seven_rounds(v: [u32x4; 4], m: &[u32; 16]) -> [u32x4; 4]
-    ensures { rows result ≡ rounds (rows v) m.now 7 }
+fn paired_rows(m: &[u32; 16]) -> (u32x4, u32x4, u32x4, u32x4)
+    ensures { paired_rows result.0 result.1 result.2 result.3 ≡ m.now }
 {
-    let v = round(v, m);
-    let m = permuted(m);
-    let v = round(v, &m);
-    let m = permuted(&m);
-    let v = round(v, &m);
-    let m = permuted(&m);
-    let v = round(v, &m);
-    let m = permuted(&m);
-    let v = round(v, &m);
-    let m = permuted(&m);
-    let v = round(v, &m);
-    let m = permuted(&m);
-    round(v, &m)
+    (
+        u32x4::from_array([m[0], m[2], m[4], m[6]]),
+        u32x4::from_array([m[1], m[3], m[5], m[7]]),
+        u32x4::from_array([m[8], m[10], m[12], m[14]]),
+        u32x4::from_array([m[9], m[11], m[13], m[15]]),
+    )
+}
+
+#[inline(always)]
+fn seven_rounds(v: [u32x4; 4], x: u32x4, y: u32x4, z: u32x4, w: u32x4) -> [u32x4; 4]
+    ensures { rows result ≡ rounds (rows v) (paired_rows x y z w) 7 }
+{
+    let v1 = round(v, x, y, z, w);
+    let (x, y, z, w) = permuted(x, y, z, w);
+    let v2 = round(v1, x, y, z, w);
+    let (x, y, z, w) = permuted(x, y, z, w);
+    let v3 = round(v2, x, y, z, w);
+    let (x, y, z, w) = permuted(x, y, z, w);
+    let v4 = round(v3, x, y, z, w);
+    let (x, y, z, w) = permuted(x, y, z, w);
+    let v5 = round(v4, x, y, z, w);
+    let (x, y, z, w) = permuted(x, y, z, w);
+    let v6 = round(v5, x, y, z, w);
+    let (x, y, z, w) = permuted(x, y, z, w);
+    round(v6, x, y, z, w)
 }
 
 // The xor of a state's halves, then that of its second half with the chaining value: rows of four words.
@@ -177,7 +189,8 @@ fn output_words(h: &[u32; 8], v: [u32x4; 4]) -> [u32; 16]
 pub fn compress(input: &Input) -> [u32; 16]
     ensures { result ≡ out input.now }
 {
-    let v = seven_rounds(initial_state(input), &input.m);
+    let (x, y, z, w) = paired_rows(&input.m);
+    let v = seven_rounds(initial_state(input), x, y, z, w);
     output_words(&input.h, v)
 }
 

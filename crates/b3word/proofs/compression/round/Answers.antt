@@ -1,4 +1,4 @@
-use Rattle.std.proofs.Common.{◌<◌, ℕ, [], ◌∷◌, slice_index, refl, ◌∙◌, arith}
+use Rattle.std.proofs.Common.{◌<◌, ℕ, slice_index, refl, ◌∙◌, arith}
 use Rattle.b3word.specs.Compression.{g, quarter_round, round}
 use Rattle.b3word.proofs.compression.round.Goals as goal
 
@@ -8,8 +8,7 @@ returns c =
     let diagonal = λ (j : ℕ) (h : j < 4). c.quarter_rounds-2.ensures j h
     ∙ (λ i. quarter_round (slice_index c.quarter_rounds.result.0 j) (slice_index (c.turned.ensures i) j) (slice_index (c.half_turned.ensures i) j)
     (slice_index (c.turned_back.ensures i) j)
-    (slice_index (slice_index c.args.m.now 8 ∷ slice_index c.args.m.now 10 ∷ slice_index c.args.m.now 12 ∷ slice_index c.args.m.now 14 ∷ []) j)
-    (slice_index (slice_index c.args.m.now 9 ∷ slice_index c.args.m.now 11 ∷ slice_index c.args.m.now 13 ∷ slice_index c.args.m.now 15 ∷ []) j)) in
+    (slice_index c.args.z j) (slice_index c.args.w j)) in
     rw (
       c.turned_back-2.ensures,
       c.half_turned-2.ensures,
