@@ -27,6 +27,12 @@ below_four P p0 p1 p2 p3 (suc (suc zero)) h = p2
 below_four P p0 p1 p2 p3 (suc (suc (suc zero))) h = p3
 below_four P p0 p1 p2 p3 (suc (suc (suc (suc n)))) h = absurd (omega arith)
 
+-- and of each half
+pub below_two : (P : ℕ → Type 0) → P 0 → P 1 → (k : ℕ) → k < 2 → P k
+below_two P p0 p1 zero h = p0
+below_two P p0 p1 (suc zero) h = p1
+below_two P p0 p1 (suc (suc n)) h = absurd (omega arith)
+
 -- what holds of each list of eight elements
 pub eight_lanes : {A : Type 0} (P : List A → Type 0) → ((a b c d e f g h : A) → P (a ∷ b ∷ c ∷ d ∷ e ∷ f ∷ g ∷ h ∷ []))
     → (xs : List A) → length xs ≡ 8 → P xs

@@ -1,5 +1,5 @@
 -- Eight compressions side by side: each word is a vector of eight lanes, one for each compression.
-use Rattle.std.specs.Prelude.{ℕ, List, [], ◌∷◌, slice_index, slice_index_or}
+use Rattle.std.specs.Prelude.{ℕ, ◌+◌, ◌*◌, List, [], ◌∷◌, slice_index, slice_index_or}
 use Rattle.b3word.specs.declared.input.Input.{Input}
 
 -- lane j of vector k
@@ -33,6 +33,14 @@ abbrev pub paired_rows : List ℕ → List ℕ → List ℕ → List ℕ → Lis
 paired_rows x y z w =
     slice_index x 0 ∷ slice_index y 0 ∷ slice_index x 1 ∷ slice_index y 1 ∷ slice_index x 2 ∷ slice_index y 2 ∷ slice_index x 3 ∷ slice_index y 3
     ∷ slice_index z 0 ∷ slice_index w 0 ∷ slice_index z 1 ∷ slice_index w 1 ∷ slice_index z 2 ∷ slice_index w 2 ∷ slice_index z 3 ∷ slice_index w 3 ∷ []
+
+-- half k of a vector of eight lanes: four words
+abbrev pub half : ℕ → List ℕ → List ℕ
+half k v = slice_index v (4 * k) ∷ slice_index v (4 * k + 1) ∷ slice_index v (4 * k + 2) ∷ slice_index v (4 * k + 3) ∷ []
+
+-- half k of each of four such vectors
+abbrev pub halves : ℕ → List (List ℕ) → List (List ℕ)
+halves k v = half k (slice_index_or v 0 []) ∷ half k (slice_index_or v 1 []) ∷ half k (slice_index_or v 2 []) ∷ half k (slice_index_or v 3 []) ∷ []
 
 -- the input in lane j, with the counter t
 abbrev pub lane_input : ℕ → List (List ℕ) → List (List ℕ) → ℕ → List ℕ → List ℕ → Input

@@ -16,7 +16,7 @@ fn add(a: u32x8, b: u32x8) -> u32x8
 }
 
 #[inline(always)]
-fn xor(a: u32x8, b: u32x8) -> u32x8
+pub(crate) fn xor(a: u32x8, b: u32x8) -> u32x8
     ensures { (j : ℕ) → j < 8 → slice_index result j ≡ bit_xor (slice_index a j) (slice_index b j) }
 {
     a ^ b
@@ -32,7 +32,7 @@ fn xor_rotated(a: u32x8, b: u32x8, n: u32) -> u32x8
 }
 
 #[inline(always)]
-fn quarter_round(
+pub(crate) fn quarter_round(
     a: u32x8,
     b: u32x8,
     c: u32x8,

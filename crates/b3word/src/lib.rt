@@ -4,7 +4,9 @@
 pub use compression::{IV, compress, cv};
 pub use input::Input;
 pub use lanes::{cv_lanes, cv8, joined, transposed};
+pub use pair::cv_pair;
 
 mod compression;
 mod input;
 mod lanes;
+mod pair;

@@ -1,15 +1,8 @@
-use Rattle.std.proofs.Common.{◌≡◌, ℕ, suc, List, ◌∙◌, ap, refl}
-use Rattle.b3word.specs.Compression.{permuted, round, round_words, rounds}
+use Rattle.std.proofs.Common.{◌≡◌, ℕ, List, refl}
+use Rattle.b3word.specs.Compression.{round_words, rounds}
 use Rattle.b3word.specs.Lanes.{paired_rows, rows}
+use Rattle.b3word.proofs.Rounds.{next_state, next_words}
 use Rattle.b3word.proofs.compression.seven_rounds.Goals as goal
-
-next_state : (v w m : List ℕ) (start words : List ℕ) (k : ℕ) → w ≡ round v m → v ≡ rounds start words k → m ≡ round_words words k → w ≡ rounds start words (suc k)
-unfolding rounds
-next_state v w m start words k e ev em = e ∙ (λ i. round (ev i) (em i))
-
-next_words : (m n words : List ℕ) (k : ℕ) → n ≡ permuted m → m ≡ round_words words k → n ≡ round_words words (suc k)
-unfolding round_words
-next_words m n words k e em = e ∙ ap permuted em
 
 pub returns : goal.returns
 unfolding rounds round_words
