@@ -77,6 +77,14 @@ IsLeftLen_double k =
       ];
     }
 
+-- more than one chunk, and at most two
+pub IsLeftLen_chunk : (n : ℕ) → 1024 < n → n ≤ 2048 → IsLeftLen n 1024
+IsLeftLen_chunk n more two = record {
+  form = (0, refl);
+  below = more;
+  largest = λ k lt. omega arith;
+}
+
 -- the shift by the logarithm of the whole chunks before the last byte
 pub left_len_shifted : (n k : ℕ) → 1024 < n → 2 ^ k ≤ (n - 1) / 1024 → (n - 1) / 1024 < 2 * 2 ^ k → 1024 * 2 ^ k ≡ left_len n
 left_len_shifted n k h low high =

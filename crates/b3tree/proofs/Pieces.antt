@@ -1,5 +1,5 @@
 -- Pieces of an input: their words, their blocks, and the subtrees over them.
-use Rattle.std.proofs.Common.{◌≡◌, ℕ, zero, suc, ◌+◌, ◌-◌, ◌*◌, ◌/◌, ◌^◌, ◌<◌, ◌≤◌, List, [], ◌∷◌, ◌++◌, length, take, drop, replicate, slice_index, refl, sym, ap, ◌∙◌, arith, length-drop}
+use Rattle.std.proofs.Common.{◌≡◌, ℕ, zero, suc, ◌+◌, ◌-◌, ◌*◌, ◌/◌, ◌^◌, ◌<◌, ◌≤◌, List, [], ◌∷◌, ◌++◌, length, take, drop, replicate, slice_index, refl, sym, ap, ◌∙◌, add-one, arith, length-drop}
 use Rattle.std.specs.Int.{w32, from_le_bytes, IsPowerOfTwo}
 use Rattle.std.proofs.lemmas.List.{append-nil, drop-drop, drop-take, get_or-drop, get_or-take, length-take-le, take-take, take_all}
 use Rattle.std.proofs.Math.Nat.{mul-le-mul_left}
@@ -76,6 +76,15 @@ pub chunk_input-before : (mode : Mode) (i : ℕ) (s : List ℕ) (k : ℕ) → ch
 unfolding chunk_input
 chunk_input-before mode i s zero = refl
 chunk_input-before mode i s (suc k) = refl
+
+-- the value of a block comes before the next
+pub before_next : (mode : Mode) (i : ℕ) (s : List ℕ) (k : ℕ) → cv (chunk_input mode i s k) ≡ before_block mode i s (k + 1)
+before_next mode i s k = rw add-one refl
+
+pub value_next : (mode : Mode) (i : ℕ) (s : List ℕ) (k : ℕ) (h : List ℕ) → h ≡ before_block mode i s k
+    → cv (block_input mode i s k h) ≡ before_block mode i s (k + 1)
+value_next mode i s k h at =
+    (λ j. cv (block_input mode i s k (at j))) ∙ ap cv (sym (chunk_input-before mode i s k)) ∙ before_next mode i s k
 
 -- the parent of two whole subtrees of n chunks, side by side
 pub top_parent : (mode : Mode) (first : ℕ) (s : List ℕ) (at n : ℕ) → IsPowerOfTwo n → at + 1024 * (n + n) ≤ length s

@@ -2,6 +2,7 @@ ghost use Rattle.std.specs.Prelude.{◌≡◌, ◌+◌, ◌*◌, ◌<◌, ◌≤
 ghost use Rattle.b3word.specs.Compression.{cv};
 ghost use Rattle.b3tree.specs.Modes.{key_words, mode_flags};
 ghost use Rattle.b3tree.specs.Chunk.{padded, block, block_count, block_words, block_flags, block_input, chunk_input, last_chunk_input};
+ghost use Rattle.b3tree.specs.Pieces.{before_block};
 
 use crate::bytes::words_of;
 use crate::flags::{CHUNK_END, CHUNK_START};
@@ -66,7 +67,7 @@ pub(crate) fn block_flags(mode: &Mode, count: usize, k: usize) -> u32
 }
 
 #[inline(always)]
-fn block_input(mode: &Mode, i: u64, chunk: &[u8], k: usize, h: [u32; 8]) -> Input
+pub(crate) fn block_input(mode: &Mode, i: u64, chunk: &[u8], k: usize, h: [u32; 8]) -> Input
     requires len { length chunk.now ≤ 1024 }
     requires block { k < block_count (length chunk.now) }
     ensures { result ≡ block_input mode.now i chunk.now k h }
@@ -92,19 +93,27 @@ fn chaining_value(input: &Input) -> [u32; 8]
     ]
 }
 
-// What comes before block `k`: the key words, or the chaining value of the block before it. The
-// compression is in line, so that the value stays in registers from block to block.
+// What comes before block `to`, where `h` comes before block `from`: the chaining value of the block before it, if it
+// isn't the first. The compression is in line, so that the value stays in registers from block to block.
 #[inline(never)]
-fn value_before(mode: &Mode, i: u64, chunk: &[u8], k: usize) -> [u32; 8]
+pub(crate) fn value_before(
+    mode: &Mode,
+    i: u64,
+    chunk: &[u8],
+    from: usize,
+    h: [u32; 8],
+    to: usize,
+) -> [u32; 8]
     requires len { length chunk.now ≤ 1024 }
-    requires block { k < block_count (length chunk.now) }
-    ensures { block_input mode.now i chunk.now k result ≡ chunk_input mode.now i chunk.now k }
+    requires order { from ≤ to }
+    requires blocks { to ≤ block_count (length chunk.now) }
+    ensures { h ≡ before_block mode.now i chunk.now from → result ≡ before_block mode.now i chunk.now to }
 {
-    let mut h = mode.key_words();
-    'earlier: for j in 0..k {
-        h = chaining_value(&block_input(mode, i, chunk, j, h));
+    let mut value = h;
+    'earlier: for j in from..to {
+        value = chaining_value(&block_input(mode, i, chunk, j, value));
     }
-    h
+    value
 }
 
 /// The input of block `k`, from 0, of the chunk with the number `i` and the bytes `chunk`: at most
@@ -114,7 +123,7 @@ pub fn chunk_input(mode: &Mode, i: u64, chunk: &[u8], k: usize) -> Input
     requires block { k < block_count (length chunk.now) }
     ensures { result ≡ chunk_input mode.now i chunk.now k }
 {
-    let h = value_before(mode, i, chunk, k);
+    let h = value_before(mode, i, chunk, 0, mode.key_words(), k);
     block_input(mode, i, chunk, k, h)
 }
 

@@ -7,12 +7,12 @@ ghost use Rattle.b3tree.specs.Parents.{AreChunkValues};
 ghost use Rattle.b3tree.specs.Pieces.{before_block, piece};
 ghost use Rattle.b3tree.specs.Tree.{subtree_cv, top_input};
 
-use crate::chunk::{BLOCK_LEN, CHUNK_LEN, block_count, block_flags};
+use crate::chunk::{BLOCK_LEN, CHUNK_LEN, block_count, block_flags, block_input, value_before};
 use crate::lanes::{BLOCKS, LANES, high_words, key_lanes, low_words, message};
 use crate::mode::Mode;
 use crate::tree::{left_len, parent_input};
 use crate::values::Cv;
-use b3word::{Input, cv, cv_lanes, transposed};
+use b3word::{Input, cv, cv_lanes, cv_pair, transposed};
 use std::simd::u32x8;
 
 // `value` in each lane before this one, which has `of_lane`.
@@ -142,6 +142,47 @@ fn joined_top(mode: &Mode, values: &[[u32; 8]; 8], at: usize, len: u64) -> Input
     let left = joined_value(mode, values, at, left_len);
     let right = joined_value(mode, values, middle, len - left_len);
     parent_input(mode, &Cv(left), &Cv(right))
+}
+
+// What comes before block `to` of two chunks that lie side by side, both at once: of a whole one and of the next.
+#[inline(never)]
+fn values_before(
+    mode: &Mode,
+    first: u64,
+    left: &[u8],
+    right: &[u8],
+    to: usize,
+) -> ([u32; 8], [u32; 8])
+    requires number { first + 1 < 2 ^ 64 }
+    requires left { length left.now ≡ 1024 }
+    requires right { length right.now ≤ 1024 }
+    requires blocks { to ≤ block_count (length right.now) }
+    ensures left { result.0 ≡ before_block mode.now first left.now to }
+    ensures right { result.1 ≡ before_block mode.now (first + 1) right.now to }
+{
+    let mut values = (mode.key_words(), mode.key_words());
+    'both: for k in 0..to {
+        let (a, b) = values;
+        let of_left = block_input(mode, first, left, k, a);
+        let of_right = block_input(mode, first + 1, right, k, b);
+        values = cv_pair(&of_left, &of_right);
+    }
+    values
+}
+
+// The last compression of the tree over two chunks.
+pub(crate) fn pair_top(mode: &Mode, first: u64, bytes: &[u8]) -> Input
+    requires more { 1024 < length bytes.now }
+    requires two { length bytes.now ≤ 2048 }
+    requires end { 1024 * first + length bytes.now ≤ 2 ^ 64 - 1 }
+    ensures { result ≡ top_input mode.now first bytes.now }
+{
+    let (left, right) = bytes.split_at(CHUNK_LEN);
+    let count = block_count(right.len());
+    // The second ends first.
+    let (a, b) = values_before(mode, first, left, right, count);
+    let whole = value_before(mode, first, left, count, a, BLOCKS);
+    parent_input(mode, &Cv(whole), &Cv(b))
 }
 
 // The last compression of the tree over two to eight chunks. Not in line: its copy of 8 KiB would stand in each frame of

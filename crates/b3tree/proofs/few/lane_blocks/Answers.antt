@@ -1,15 +1,11 @@
-use Rattle.std.proofs.Common.{◌≡◌, ◌<◌, ℕ, ◌+◌, ◌-◌, ◌*◌, List, length, slice_index, refl, sym, ap, ◌∙◌, arith, add-one}
+use Rattle.std.proofs.Common.{◌≡◌, ◌<◌, ℕ, ◌+◌, ◌-◌, ◌*◌, List, length, slice_index, sym, ap, ◌∙◌, arith}
 use Rattle.b3word.specs.Compression.{cv}
 use Rattle.b3tree.specs.declared.mode.Mode.{Mode}
 use Rattle.b3tree.specs.Chunk.{block, block_count, block_flags, block_words, chunk_input}
 use Rattle.b3tree.specs.Pieces.{before_block, piece}
 use Rattle.b3tree.proofs.ShortInputs.{block_words-padded, length-block, length-chunk, length-last, up_to_last}
-use Rattle.b3tree.proofs.Pieces.{chunk_input-before}
+use Rattle.b3tree.proofs.Pieces.{before_next, chunk_input-before}
 use Rattle.b3tree.proofs.few.lane_blocks.Goals as goal
-
--- the value of a block comes before the next
-before_next : (mode : Mode) (i : ℕ) (s : List ℕ) (k : ℕ) → cv (chunk_input mode i s k) ≡ before_block mode i s (k + 1)
-before_next mode i s k = rw add-one refl
 
 pub next_block-init : goal.next_block-init
 next_block-init c = λ s j text size reached many start. start
