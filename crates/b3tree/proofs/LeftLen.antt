@@ -77,12 +77,15 @@ IsLeftLen_double k =
       ];
     }
 
--- more than one chunk, and at most two
-pub IsLeftLen_chunk : (n : ℕ) → 1024 < n → n ≤ 2048 → IsLeftLen n 1024
-IsLeftLen_chunk n more two = record {
-  form = (0, refl);
+-- more than 2 ^ k chunks, and at most twice as many
+pub IsLeftLen_power : (k n : ℕ) → 1024 * 2 ^ k < n → n ≤ 1024 * 2 ^ k + 1024 * 2 ^ k → IsLeftLen n (1024 * 2 ^ k)
+IsLeftLen_power k n more most = record {
+  form = (k, refl);
   below = more;
-  largest = λ k lt. omega arith;
+  largest = λ j lt. elim (cases_lt k j) [
+    | inl above ↦ let m : 2 ^ suc k ≤ 2 ^ j = pow_mono above in absurd (omega arith)
+    | inr at ↦ let m : 2 ^ j ≤ 2 ^ k = pow_mono at in omega arith
+  ];
 }
 
 -- the shift by the logarithm of the whole chunks before the last byte

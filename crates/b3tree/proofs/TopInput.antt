@@ -6,7 +6,7 @@ use Rattle.b3word.specs.Compression.{cv}
 use Rattle.b3tree.specs.declared.mode.Mode.{Mode}
 use Rattle.b3tree.specs.Chunk.{last_chunk_input}
 use Rattle.b3tree.specs.Tree.{IsLeftLen, left_len, parent_input, subtree_cv, top_input, top_within}
-use Rattle.b3tree.proofs.LeftLen.{left_len-IsLeftLen, IsLeftLen_unique}
+use Rattle.b3tree.proofs.LeftLen.{left_len-IsLeftLen, IsLeftLen_power, IsLeftLen_unique}
 
 -- whole chunks on the left, at least one
 pub IsLeftLen_chunks : (n l : ℕ) → IsLeftLen n l → (1024 * (l / 1024) ≡ l) × (1024 ≤ l)
@@ -82,3 +82,12 @@ top_input-parent mode first s l is more =
     ∙ top_within-parent n mode first s more
     ∙ (λ i. parent_input mode (cv (top_within n mode first (take (same i) s))) (cv (top_within n mode (first + same i / 1024) (drop (same i) s))))
     ∙ (λ i. parent_input mode (cv (left i)) (cv (right i)))
+
+-- two chunks, and three or four
+pub top_input-two : (mode : Mode) (first : ℕ) (s : List ℕ) → 1024 < length s → length s ≤ 2048
+    → top_input mode first s ≡ parent_input mode (subtree_cv mode first (take 1024 s)) (subtree_cv mode (first + 1) (drop 1024 s))
+top_input-two mode first s more most = top_input-parent mode first s 1024 (IsLeftLen_power 0 (length s) more most) more
+
+pub top_input-four : (mode : Mode) (first : ℕ) (s : List ℕ) → 2048 < length s → length s ≤ 4096
+    → top_input mode first s ≡ parent_input mode (subtree_cv mode first (take 2048 s)) (subtree_cv mode (first + 2) (drop 2048 s))
+top_input-four mode first s more most = top_input-parent mode first s 2048 (IsLeftLen_power 1 (length s) more most) (omega arith)

@@ -1,18 +1,20 @@
 // Two to eight chunks, of which the last may be short: one in each lane, and then the tree over their values.
 
-ghost use Rattle.std.specs.Prelude.{◌≡◌, ℕ, ◌+◌, ◌-◌, ◌*◌, ◌^◌, ◌<◌, ◌≤◌, List, [], ◌++◌, length, replicate, slice_index, slice_index_or};
+ghost use Rattle.std.specs.Prelude.{◌≡◌, ℕ, ◌+◌, ◌-◌, ◌*◌, ◌^◌, ◌<◌, ◌≤◌, List, [], ◌∷◌, ◌++◌, length, replicate, slice_index, slice_index_or};
 ghost use Rattle.b3word.specs.Lanes.{lane8};
 ghost use Rattle.b3tree.specs.Chunk.{block, block_count};
 ghost use Rattle.b3tree.specs.Parents.{AreChunkValues};
 ghost use Rattle.b3tree.specs.Pieces.{before_block, piece};
 ghost use Rattle.b3tree.specs.Tree.{subtree_cv, top_input};
 
-use crate::chunk::{BLOCK_LEN, CHUNK_LEN, block_count, block_flags, block_input, value_before};
+use crate::chunk::{
+    BLOCK_LEN, CHUNK_LEN, block_count, block_flags, block_input, last_chunk_input, value_before,
+};
 use crate::lanes::{BLOCKS, LANES, high_words, key_lanes, low_words, message};
 use crate::mode::Mode;
 use crate::tree::{left_len, parent_input};
 use crate::values::Cv;
-use b3word::{Input, cv, cv_lanes, cv_pair, transposed};
+use b3word::{Input, cv, cv_lanes, cv_pair, cv_two_pairs, transposed};
 use std::simd::u32x8;
 
 // `value` in each lane before this one, which has `of_lane`.
@@ -144,34 +146,70 @@ fn joined_top(mode: &Mode, values: &[[u32; 8]; 8], at: usize, len: u64) -> Input
     parent_input(mode, &Cv(left), &Cv(right))
 }
 
-// What comes before block `to` of two chunks that lie side by side, both at once: of a whole one and of the next.
+// What comes before block `to` of two chunks that lie side by side, of which the first is whole, where `values` come
+// before block `from`: both at once.
 #[inline(never)]
-fn values_before(
+fn two_before(
     mode: &Mode,
     first: u64,
     left: &[u8],
     right: &[u8],
+    from: usize,
+    values: ([u32; 8], [u32; 8]),
     to: usize,
 ) -> ([u32; 8], [u32; 8])
     requires number { first + 1 < 2 ^ 64 }
     requires left { length left.now ≡ 1024 }
     requires right { length right.now ≤ 1024 }
+    requires order { from ≤ to }
     requires blocks { to ≤ block_count (length right.now) }
-    ensures left { result.0 ≡ before_block mode.now first left.now to }
-    ensures right { result.1 ≡ before_block mode.now (first + 1) right.now to }
+    ensures left { values.0 ≡ before_block mode.now first left.now from → result.0 ≡ before_block mode.now first left.now to }
+    ensures right { values.1 ≡ before_block mode.now (first + 1) right.now from → result.1 ≡ before_block mode.now (first + 1) right.now to }
 {
-    let mut values = (mode.key_words(), mode.key_words());
-    'both: for k in 0..to {
-        let (a, b) = values;
-        let of_left = block_input(mode, first, left, k, a);
-        let of_right = block_input(mode, first + 1, right, k, b);
-        values = cv_pair(&of_left, &of_right);
+    let mut both = values;
+    'next_block: for k in from..to {
+        let of_left = block_input(mode, first, left, k, both.0);
+        let of_right = block_input(mode, first + 1, right, k, both.1);
+        both = cv_pair::<0>(&of_left, &of_right);
+    }
+    both
+}
+
+// The same of four, from the first block on: three of them are whole.
+#[inline(never)]
+fn four_before(
+    mode: &Mode,
+    first: u64,
+    a: &[u8],
+    b: &[u8],
+    c: &[u8],
+    d: &[u8],
+    to: usize,
+) -> [[u32; 8]; 4]
+    requires number { first + 3 < 2 ^ 64 }
+    requires whole { (length a.now ≡ 1024) × (length b.now ≡ 1024) × (length c.now ≡ 1024) }
+    requires last { length d.now ≤ 1024 }
+    requires blocks { to ≤ block_count (length d.now) }
+    ensures { result
+        ≡ before_block mode.now first a.now to
+        ∷ before_block mode.now (first + 1) b.now to
+        ∷ before_block mode.now (first + 2) c.now to
+        ∷ before_block mode.now (first + 3) d.now to ∷ [] }
+{
+    let key = mode.key_words();
+    let mut values = [key, key, key, key];
+    'next_block: for k in 0..to {
+        let of_a = block_input(mode, first, a, k, values[0]);
+        let of_b = block_input(mode, first + 1, b, k, values[1]);
+        let of_c = block_input(mode, first + 2, c, k, values[2]);
+        let of_d = block_input(mode, first + 3, d, k, values[3]);
+        values = cv_two_pairs(&of_a, &of_b, &of_c, &of_d);
     }
     values
 }
 
 // The last compression of the tree over two chunks.
-pub(crate) fn pair_top(mode: &Mode, first: u64, bytes: &[u8]) -> Input
+fn two_top(mode: &Mode, first: u64, bytes: &[u8]) -> Input
     requires more { 1024 < length bytes.now }
     requires two { length bytes.now ≤ 2048 }
     requires end { 1024 * first + length bytes.now ≤ 2 ^ 64 - 1 }
@@ -179,16 +217,51 @@ pub(crate) fn pair_top(mode: &Mode, first: u64, bytes: &[u8]) -> Input
 {
     let (left, right) = bytes.split_at(CHUNK_LEN);
     let count = block_count(right.len());
+    let start = (mode.key_words(), mode.key_words());
     // The second ends first.
-    let (a, b) = values_before(mode, first, left, right, count);
+    let (a, b) = two_before(mode, first, left, right, 0, start, count);
     let whole = value_before(mode, first, left, count, a, BLOCKS);
     parent_input(mode, &Cv(whole), &Cv(b))
 }
 
-// The last compression of the tree over two to eight chunks. Not in line: its copy of 8 KiB would stand in each frame of
-// the recursion that ends here.
+// That over three.
+fn three_top(mode: &Mode, first: u64, bytes: &[u8]) -> Input
+    requires more { 2048 < length bytes.now }
+    requires three { length bytes.now ≤ 3072 }
+    requires end { 1024 * first + length bytes.now ≤ 2 ^ 64 - 1 }
+    ensures { result ≡ top_input mode.now first bytes.now }
+{
+    let (front, last) = bytes.split_at(2 * CHUNK_LEN);
+    let left = cv(&two_top(mode, first, front));
+    let right = cv(&last_chunk_input(mode, first + 2, last));
+    parent_input(mode, &Cv(left), &Cv(right))
+}
+
+// That over four.
+fn four_top(mode: &Mode, first: u64, bytes: &[u8]) -> Input
+    requires more { 3072 < length bytes.now }
+    requires four { length bytes.now ≤ 4096 }
+    requires end { 1024 * first + length bytes.now ≤ 2 ^ 64 - 1 }
+    ensures { result ≡ top_input mode.now first bytes.now }
+{
+    let (front, back) = bytes.split_at(2 * CHUNK_LEN);
+    let (a, b) = front.split_at(CHUNK_LEN);
+    let (c, d) = back.split_at(CHUNK_LEN);
+    let count = block_count(d.len());
+    // The last ends first.
+    let [of_a, of_b, of_c, of_d] = four_before(mode, first, a, b, c, d, count);
+    let (whole_a, whole_b) = two_before(mode, first, a, b, count, (of_a, of_b), BLOCKS);
+    let whole_c = value_before(mode, first + 2, c, count, of_c, BLOCKS);
+    let left = parent_input(mode, &Cv(whole_a), &Cv(whole_b));
+    let right = parent_input(mode, &Cv(whole_c), &Cv(of_d));
+    let (of_left, of_right) = cv_pair::<1>(&left, &right);
+    parent_input(mode, &Cv(of_left), &Cv(of_right))
+}
+
+// That over up to eight. Not in line: its copy of 8 KiB would stand in each frame of the recursion that ends in
+// `few_top`.
 #[inline(never)]
-pub(crate) fn few_top(mode: &Mode, first: u64, bytes: &[u8]) -> Input
+fn lanes_top(mode: &Mode, first: u64, bytes: &[u8]) -> Input
     requires more { 1024 < length bytes.now }
     requires few { length bytes.now ≤ 8192 }
     requires end { 1024 * first + length bytes.now ≤ 2 ^ 64 - 1 }
@@ -196,4 +269,21 @@ pub(crate) fn few_top(mode: &Mode, first: u64, bytes: &[u8]) -> Input
 {
     let values = few_values(mode, first, bytes);
     joined_top(mode, &values, 0, bytes.len() as u64)
+}
+
+// The last compression of the tree over two to eight chunks.
+#[inline(never)]
+pub(crate) fn few_top(mode: &Mode, first: u64, bytes: &[u8]) -> Input
+    requires more { 1024 < length bytes.now }
+    requires few { length bytes.now ≤ 8192 }
+    requires end { 1024 * first + length bytes.now ≤ 2 ^ 64 - 1 }
+    ensures { result ≡ top_input mode.now first bytes.now }
+{
+    let last = (bytes.len() - 1) / CHUNK_LEN;
+    match last {
+        1 => two_top(mode, first, bytes),
+        2 => three_top(mode, first, bytes),
+        3 => four_top(mode, first, bytes),
+        _ => lanes_top(mode, first, bytes),
+    }
 }

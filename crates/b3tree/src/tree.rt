@@ -5,7 +5,7 @@ ghost use Rattle.b3tree.specs.Chunk.{last_chunk_input};
 ghost use Rattle.b3tree.specs.Tree.{IsLeftLen, left_len, parent_input, subtree_cv, top_input};
 
 use crate::chunk::{CHUNK_LEN, last_chunk_input};
-use crate::few::{few_top, pair_top};
+use crate::few::few_top;
 use crate::flags::PARENT;
 use crate::lanes::{LANES, chunks_a_lane, whole_top};
 use crate::mode::Mode;
@@ -81,10 +81,7 @@ pub fn top_input(mode: &Mode, first: u64, bytes: &[u8]) -> Input
     if let Some(chunks) = chunks_a_lane(bytes.len() as u64) {
         return whole_top(mode, first, bytes, chunks);
     }
-    if bytes.len() <= 2 * CHUNK_LEN {
-        return pair_top(mode, first, bytes);
-    }
-    if bytes.len() > 4 * CHUNK_LEN && bytes.len() < LANES * CHUNK_LEN {
+    if bytes.len() < LANES * CHUNK_LEN {
         return few_top(mode, first, bytes);
     }
     let left_len = left_len(bytes.len() as u64);

@@ -4,7 +4,7 @@
 pub use compression::{IV, compress, cv};
 pub use input::Input;
 pub use lanes::{cv_lanes, cv8, joined, transposed};
-pub use pair::cv_pair;
+pub use pair::{cv_pair, cv_two_pairs};
 
 mod compression;
 mod input;

@@ -1,8 +1,8 @@
 // The compression function on two inputs side by side: each vector has a row of the first input's state in its first
 // half, and the same row of the second's in the other.
 
-ghost use Rattle.std.specs.Prelude.{◌≡◌, ℕ, ◌<◌, [], ◌∷◌, slice_index};
-ghost use Rattle.b3word.specs.Compression.{round, permuted, initial_state, rounds, cv};
+ghost use Rattle.std.specs.Prelude.{◌≡◌, ℕ, ◌<◌, List, [], ◌∷◌, slice_index, slice_index_or, take};
+ghost use Rattle.b3word.specs.Compression.{round, permuted, initial_state, rounds, output_words, cv};
 ghost use Rattle.b3word.specs.Lanes.{half, halves, paired_rows, rows};
 
 use crate::compression::IV;
@@ -107,8 +107,15 @@ fn paired_rows(m: &[u32; 16], n: &[u32; 16]) -> (u32x8, u32x8, u32x8, u32x8)
     )
 }
 
+// As that of `cv_lanes`, it goes in line where one call alone has a COPY.
 #[inline(always)]
-fn seven_rounds(v: [u32x8; 4], x: u32x8, y: u32x8, z: u32x8, w: u32x8) -> [u32x8; 4]
+fn seven_rounds<const COPY: usize>(
+    v: [u32x8; 4],
+    x: u32x8,
+    y: u32x8,
+    z: u32x8,
+    w: u32x8,
+) -> [u32x8; 4]
     ensures { (k : ℕ) → k < 2
         → rows (halves k result) ≡ rounds (rows (halves k v)) (paired_rows (half k x) (half k y) (half k z) (half k w)) 7 }
 {
@@ -127,14 +134,57 @@ fn seven_rounds(v: [u32x8; 4], x: u32x8, y: u32x8, z: u32x8, w: u32x8) -> [u32x8
     round(v6, x, y, z, w)
 }
 
-/// The chaining values of two inputs, in the time of one.
+// Seven rounds of two pairs, round by round, so that the processor has both at hand at any time.
 #[inline(always)]
-pub fn cv_pair(a: &Input, b: &Input) -> ([u32; 8], [u32; 8])
-    ensures first { result.0 ≡ cv a.now }
-    ensures second { result.1 ≡ cv b.now }
+fn seven_rounds_of_both(
+    v: [u32x8; 4],
+    m: (u32x8, u32x8, u32x8, u32x8),
+    u: [u32x8; 4],
+    n: (u32x8, u32x8, u32x8, u32x8),
+) -> [u32x8; 8]
+    ensures front { (k : ℕ) → k < 2
+        → rows (halves k result) ≡ rounds (rows (halves k v)) (paired_rows (half k m.0) (half k m.1) (half k m.2) (half k m.3)) 7 }
+    ensures back { (k : ℕ) → k < 2
+        → rows (halves k (slice_index_or result 4 [] ∷ slice_index_or result 5 [] ∷ slice_index_or result 6 [] ∷ slice_index_or result 7 [] ∷ []))
+        ≡ rounds (rows (halves k u)) (paired_rows (half k n.0) (half k n.1) (half k n.2) (half k n.3)) 7 }
 {
-    let (x, y, z, w) = paired_rows(&a.m, &b.m);
-    let v = seven_rounds(initial_state(a, b), x, y, z, w);
+    let (x, y, z, w) = m;
+    let (p, q, r, s) = n;
+    let v1 = round(v, x, y, z, w);
+    let u1 = round(u, p, q, r, s);
+    let (x, y, z, w) = permuted(x, y, z, w);
+    let (p, q, r, s) = permuted(p, q, r, s);
+    let v2 = round(v1, x, y, z, w);
+    let u2 = round(u1, p, q, r, s);
+    let (x, y, z, w) = permuted(x, y, z, w);
+    let (p, q, r, s) = permuted(p, q, r, s);
+    let v3 = round(v2, x, y, z, w);
+    let u3 = round(u2, p, q, r, s);
+    let (x, y, z, w) = permuted(x, y, z, w);
+    let (p, q, r, s) = permuted(p, q, r, s);
+    let v4 = round(v3, x, y, z, w);
+    let u4 = round(u3, p, q, r, s);
+    let (x, y, z, w) = permuted(x, y, z, w);
+    let (p, q, r, s) = permuted(p, q, r, s);
+    let v5 = round(v4, x, y, z, w);
+    let u5 = round(u4, p, q, r, s);
+    let (x, y, z, w) = permuted(x, y, z, w);
+    let (p, q, r, s) = permuted(p, q, r, s);
+    let v6 = round(v5, x, y, z, w);
+    let u6 = round(u5, p, q, r, s);
+    let (x, y, z, w) = permuted(x, y, z, w);
+    let (p, q, r, s) = permuted(p, q, r, s);
+    let [v0, v1, v2, v3] = round(v6, x, y, z, w);
+    let [u0, u1, u2, u3] = round(u6, p, q, r, s);
+    [v0, v1, v2, v3, u0, u1, u2, u3]
+}
+
+// The xor of the halves of each state.
+#[inline(always)]
+fn values(v: [u32x8; 4]) -> ([u32; 8], [u32; 8])
+    ensures first { (h : List ℕ) → result.0 ≡ take 8 (output_words h (rows (halves 0 v))) }
+    ensures second { (h : List ℕ) → result.1 ≡ take 8 (output_words h (rows (halves 1 v))) }
+{
     let [v0, v1, v2, v3] = v;
     let front = xor(v0, v2).to_array();
     let back = xor(v1, v3).to_array();
@@ -146,4 +196,34 @@ pub fn cv_pair(a: &Input, b: &Input) -> ([u32; 8], [u32; 8])
             front[4], front[5], front[6], front[7], back[4], back[5], back[6], back[7],
         ],
     )
+}
+
+/// The chaining values of two inputs, in the time of one.
+///
+/// `COPY` is any number. Each has code of its own, which goes in line where one call alone has it.
+#[inline(always)]
+pub fn cv_pair<const COPY: usize>(a: &Input, b: &Input) -> ([u32; 8], [u32; 8])
+    ensures first { result.0 ≡ cv a.now }
+    ensures second { result.1 ≡ cv b.now }
+{
+    let (x, y, z, w) = paired_rows(&a.m, &b.m);
+    values(seven_rounds::<COPY>(initial_state(a, b), x, y, z, w))
+}
+
+/// The chaining values of four inputs, in less than the time of two pairs.
+#[inline(always)]
+pub fn cv_two_pairs(a: &Input, b: &Input, c: &Input, d: &Input) -> [[u32; 8]; 4]
+    ensures { result ≡ cv a.now ∷ cv b.now ∷ cv c.now ∷ cv d.now ∷ [] }
+{
+    let m = paired_rows(&a.m, &b.m);
+    let n = paired_rows(&c.m, &d.m);
+    let [v0, v1, v2, v3, u0, u1, u2, u3] = seven_rounds_of_both(
+        initial_state(a, b),
+        m,
+        initial_state(c, d),
+        n,
+    );
+    let (of_a, of_b) = values([v0, v1, v2, v3]);
+    let (of_c, of_d) = values([u0, u1, u2, u3]);
+    [of_a, of_b, of_c, of_d]
 }

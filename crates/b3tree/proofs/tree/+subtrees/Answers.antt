@@ -20,11 +20,6 @@ pub top_input-returns-in-Some-clause-parent : goal.top_input-returns-in-Some-cla
 top_input-returns-in-Some-clause-parent t c = λ l is more.
     c.whole_top.ensures c.in-Some.ensures.0 ∙ top_input-parent c.args.mode.now c.args.first c.args.bytes.now l is more
 
--- two chunks, and from five to eight
 pub top_input-returns-then-bytes-clause-parent : goal.top_input-returns-then-bytes-clause-parent
 top_input-returns-then-bytes-clause-parent t c = λ l is more.
-    c.pair_top.ensures ∙ top_input-parent c.args.mode.now c.args.first c.args.bytes.now l is more
-
-pub top_input-returns-then-bytes-3-clause-parent : goal.top_input-returns-then-bytes-3-clause-parent
-top_input-returns-then-bytes-3-clause-parent t c = λ l is more.
     c.few_top.ensures ∙ top_input-parent c.args.mode.now c.args.first c.args.bytes.now l is more

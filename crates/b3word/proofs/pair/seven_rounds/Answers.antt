@@ -6,7 +6,7 @@ use Rattle.b3word.proofs.pair.seven_rounds.Goals as goal
 
 pub returns : goal.returns
 unfolding rounds round_words
-returns c = λ k h.
+returns g c = λ k h.
     let s : List ℕ = rows (halves k c.args.v) in
     let m : List ℕ = paired_rows (half k c.args.x) (half k c.args.y) (half k c.args.z) (half k c.args.w) in
     let m1 : _ ≡ round_words m 1 = next_words m _ m 0 (c.permuted.ensures k h) refl in

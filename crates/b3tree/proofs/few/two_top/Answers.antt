@@ -4,10 +4,9 @@ use Rattle.b3tree.specs.declared.mode.Mode.{Mode}
 use Rattle.b3tree.specs.Chunk.{block_count}
 use Rattle.b3tree.specs.Pieces.{before_block}
 use Rattle.b3tree.specs.Tree.{parent_input, subtree_cv}
-use Rattle.b3tree.proofs.LeftLen.{IsLeftLen_chunk}
 use Rattle.b3tree.proofs.ShortInputs.{before_end}
-use Rattle.b3tree.proofs.TopInput.{top_input-parent}
-use Rattle.b3tree.proofs.few.pair_top.Goals as goal
+use Rattle.b3tree.proofs.TopInput.{top_input-two}
+use Rattle.b3tree.proofs.few.two_top.Goals as goal
 
 pub returns : goal.returns
 returns c =
@@ -22,13 +21,13 @@ returns c =
     let sixteen : 16 ≡ block_count (length a) = sym (ap block_count left_len) in
     let counted : count ≡ block_count (length b) = c.block_count-count.ensures ∙ ap (λ (t : List ℕ). block_count (length t)) c.split_at.ensures.back in
     let left : c.value_before-whole.result ≡ subtree_cv mode first a =
-    c.value_before-whole.ensures c.values_before.ensures.left
+    c.value_before-whole.ensures (c.two_before.ensures.left c.key_words.ensures)
     ∙ ap (λ (t : List ℕ). before_block mode first t 16) c.split_at.ensures.front
     ∙ before_end mode first a 16 sixteen (omega arith) in
-    let right : c.values_before.result.1 ≡ subtree_cv mode (first + 1) b =
-    c.values_before.ensures.right
+    let right : c.two_before.result.1 ≡ subtree_cv mode (first + 1) b =
+    c.two_before.ensures.right c.key_words-2.ensures
     ∙ ap (λ (t : List ℕ). before_block mode (first + 1) t count) c.split_at.ensures.back
     ∙ before_end mode (first + 1) b count counted (omega arith) in
     c.parent_input.ensures
     ∙ (λ i. parent_input mode (left i) (right i))
-    ∙ sym (top_input-parent mode first s 1024 (IsLeftLen_chunk (length s) c.requires.more c.requires.two) c.requires.more)
+    ∙ sym (top_input-two mode first s c.requires.more c.requires.two)
