@@ -82,6 +82,23 @@ pub(crate) fn block_input(mode: &Mode, i: u64, chunk: &[u8], k: usize, h: [u32; 
     }
 }
 
+// The same of a whole chunk, where each block is full.
+#[inline(always)]
+pub(crate) fn full_block_input(mode: &Mode, i: u64, chunk: &[u8], k: usize, h: [u32; 8]) -> Input
+    requires len { length chunk.now ≡ 1024 }
+    requires block { k < 16 }
+    ensures { result ≡ block_input mode.now i chunk.now k h }
+{
+    let start = BLOCK_LEN * k;
+    Input {
+        h,
+        m: words_of(&chunk[start..start + BLOCK_LEN]),
+        t: i,
+        b: BLOCK_LEN as u32,
+        d: block_flags(mode, CHUNK_LEN / BLOCK_LEN, k),
+    }
+}
+
 // As `b3word::cv`, in line.
 #[inline(always)]
 fn chaining_value(input: &Input) -> [u32; 8]

@@ -8,7 +8,8 @@ ghost use Rattle.b3tree.specs.Pieces.{before_block, piece};
 ghost use Rattle.b3tree.specs.Tree.{subtree_cv, top_input};
 
 use crate::chunk::{
-    BLOCK_LEN, CHUNK_LEN, block_count, block_flags, block_input, last_chunk_input, value_before,
+    BLOCK_LEN, CHUNK_LEN, block_count, block_flags, block_input, full_block_input,
+    last_chunk_input, value_before,
 };
 use crate::lanes::{BLOCKS, LANES, high_words, key_lanes, low_words, message};
 use crate::mode::Mode;
@@ -168,7 +169,7 @@ fn two_before(
 {
     let mut both = values;
     'next_block: for k in from..to {
-        let of_left = block_input(mode, first, left, k, both.0);
+        let of_left = full_block_input(mode, first, left, k, both.0);
         let of_right = block_input(mode, first + 1, right, k, both.1);
         both = cv_pair::<0>(&of_left, &of_right);
     }
@@ -199,9 +200,9 @@ fn four_before(
     let key = mode.key_words();
     let mut values = [key, key, key, key];
     'next_block: for k in 0..to {
-        let of_a = block_input(mode, first, a, k, values[0]);
-        let of_b = block_input(mode, first + 1, b, k, values[1]);
-        let of_c = block_input(mode, first + 2, c, k, values[2]);
+        let of_a = full_block_input(mode, first, a, k, values[0]);
+        let of_b = full_block_input(mode, first + 1, b, k, values[1]);
+        let of_c = full_block_input(mode, first + 2, c, k, values[2]);
         let of_d = block_input(mode, first + 3, d, k, values[3]);
         values = cv_two_pairs(&of_a, &of_b, &of_c, &of_d);
     }

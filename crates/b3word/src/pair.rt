@@ -94,16 +94,21 @@ fn initial_state(a: &Input, b: &Input) -> [u32x8; 4]
     ]
 }
 
+// By whole rows of eight words, which are read at once.
 #[inline(always)]
 fn paired_rows(m: &[u32; 16], n: &[u32; 16]) -> (u32x8, u32x8, u32x8, u32x8)
     ensures first { paired_rows (half 0 result.0) (half 0 result.1) (half 0 result.2) (half 0 result.3) ≡ m.now }
     ensures second { paired_rows (half 1 result.0) (half 1 result.1) (half 1 result.2) (half 1 result.3) ≡ n.now }
 {
+    let m_front = u32x8::from_array([m[0], m[1], m[2], m[3], m[4], m[5], m[6], m[7]]);
+    let m_back = u32x8::from_array([m[8], m[9], m[10], m[11], m[12], m[13], m[14], m[15]]);
+    let n_front = u32x8::from_array([n[0], n[1], n[2], n[3], n[4], n[5], n[6], n[7]]);
+    let n_back = u32x8::from_array([n[8], n[9], n[10], n[11], n[12], n[13], n[14], n[15]]);
     (
-        u32x8::from_array([m[0], m[2], m[4], m[6], n[0], n[2], n[4], n[6]]),
-        u32x8::from_array([m[1], m[3], m[5], m[7], n[1], n[3], n[5], n[7]]),
-        u32x8::from_array([m[8], m[10], m[12], m[14], n[8], n[10], n[12], n[14]]),
-        u32x8::from_array([m[9], m[11], m[13], m[15], n[9], n[11], n[13], n[15]]),
+        m_front.shuffle(n_front, [0, 2, 4, 6, 8, 10, 12, 14]),
+        m_front.shuffle(n_front, [1, 3, 5, 7, 9, 11, 13, 15]),
+        m_back.shuffle(n_back, [0, 2, 4, 6, 8, 10, 12, 14]),
+        m_back.shuffle(n_back, [1, 3, 5, 7, 9, 11, 13, 15]),
     )
 }
 

@@ -24,10 +24,7 @@ pub fn cv8_determined(inputs: &[Input; 8]) -> ([[u32; 8]; 8], [[u32; 8]; 8])
     (cv8(inputs), cv8(inputs))
 }
 
-pub fn cv_pair_determined(
-    a: &Input,
-    b: &Input,
-) -> (([u32; 8], [u32; 8]), ([u32; 8], [u32; 8]))
+pub fn cv_pair_determined(a: &Input, b: &Input) -> (([u32; 8], [u32; 8]), ([u32; 8], [u32; 8]))
     ensures first { result.0.0 ≡ result.1.0 }
     ensures second { result.0.1 ≡ result.1.1 }
 {

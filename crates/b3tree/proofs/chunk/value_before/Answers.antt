@@ -1,6 +1,5 @@
-use Rattle.std.proofs.Common.{◌≡◌, ℕ, List, sym, ap, ◌∙◌, arith}
+use Rattle.std.proofs.Common.{◌≡◌, ap, ◌∙◌, arith}
 use Rattle.b3word.specs.Compression.{cv}
-use Rattle.b3tree.specs.declared.mode.Mode.{Mode}
 use Rattle.b3tree.specs.Pieces.{before_block}
 use Rattle.b3tree.proofs.Pieces.{value_next}
 use Rattle.b3tree.proofs.chunk.value_before.Goals as goal

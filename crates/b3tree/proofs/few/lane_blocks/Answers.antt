@@ -1,7 +1,7 @@
 use Rattle.std.proofs.Common.{◌≡◌, ◌<◌, ℕ, ◌+◌, ◌-◌, ◌*◌, List, length, slice_index, sym, ap, ◌∙◌, arith}
 use Rattle.b3word.specs.Compression.{cv}
 use Rattle.b3tree.specs.declared.mode.Mode.{Mode}
-use Rattle.b3tree.specs.Chunk.{block, block_count, block_flags, block_words, chunk_input}
+use Rattle.b3tree.specs.Chunk.{block, block_count, block_flags, block_words}
 use Rattle.b3tree.specs.Pieces.{before_block, piece}
 use Rattle.b3tree.proofs.ShortInputs.{block_words-padded, length-block, length-chunk, length-last, up_to_last}
 use Rattle.b3tree.proofs.Pieces.{before_next, chunk_input-before}

@@ -11,7 +11,7 @@ pub next_block-preserved : goal.next_block-preserved
 next_block-preserved c = (
   λ start.
       c.cv_pair-both.ensures.first
-      ∙ ap cv c.block_input-of_left.ensures
+      ∙ ap cv c.full_block_input-of_left.ensures
       ∙ value_next c.args.mode.now c.args.first c.args.left.now c.next_block.k c.next_block.both.0 (c.next_block.invariant.0 start),
   λ start.
       c.cv_pair-both.ensures.second

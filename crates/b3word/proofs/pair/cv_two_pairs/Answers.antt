@@ -1,7 +1,6 @@
-use Rattle.std.proofs.Common.{◌≡◌, ℕ, ◌<◌, List, [], ◌∷◌, take, ◌∙◌, arith}
+use Rattle.std.proofs.Common.{◌≡◌, ℕ, List, [], ◌∷◌, take, ◌∙◌, arith}
 use Rattle.b3word.specs.declared.input.Input.{Input}
 use Rattle.b3word.specs.Compression.{cv, initial_state, out, output_words, rounds}
-use Rattle.b3word.specs.Lanes.{half, halves, paired_rows, rows}
 use Rattle.b3word.proofs.pair.cv_two_pairs.Goals as goal
 
 -- the value of an input, of its state after the rounds
