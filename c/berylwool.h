@@ -41,6 +41,14 @@ extern "C" {
 #define BW_GROUP_CHUNKS 64
 #define BW_RANGES_MAX 55
 
+/* An encoding begins with BW_LENGTH_LEN bytes that are the blob's length, and each parent in it has BW_PARENT_LEN. */
+#define BW_LENGTH_LEN 8
+#define BW_PARENT_LEN 64
+
+/* At most BW_DEPTH_MAX parents are above a chunk, and a slice of so many chunks has at most BW_NODES_MAX(chunks) nodes. */
+#define BW_DEPTH_MAX 54
+#define BW_NODES_MAX(chunks) (2 * (chunks) + 105)
+
 /* What a mode is of. */
 #define BW_MODE_HASH 0
 #define BW_MODE_KEYED_HASH 1
@@ -116,6 +124,19 @@ typedef struct bw_node {
     uint32_t kind;
     uint64_t number;
 } bw_node;
+
+/* A node of a slice: `kind` and `number` as bw_node has them, and how many bytes it has in an encoding, `size`. It is over `len` bytes of the blob, from
+ * byte `start` on. It begins at byte `combined_at` of the combined encoding, and at byte `outboard_at` of the outboard encoding, which has no chunk:
+ * there it is 0. */
+typedef struct bw_placed {
+    uint32_t kind;
+    uint32_t size;
+    uint64_t number;
+    uint64_t start;
+    uint64_t len;
+    uint64_t combined_at;
+    uint64_t outboard_at;
+} bw_placed;
 
 /* `len` bytes from byte `at` on. */
 typedef struct bw_range {
@@ -210,6 +231,12 @@ BW_USE bw_status bw_slice_ranges(uint64_t total, uint64_t start, uint64_t len, b
 /* Which bytes of the outboard encoding of a blob of `total` bytes are its length and the parents of the slice (start, len), in the same way: what comes,
  * with the slice's chunks, is what bw_outline_slice makes of them. BW_ROOM: some of `out` may have been written to. */
 BW_USE bw_status bw_outboard_ranges(uint64_t total, uint64_t start, uint64_t len, bw_range *out, size_t room, size_t *count);
+
+/* The nodes of the slice (start, len) of a blob of `total` bytes, in the order that they have in its encoding after the length, each with its places: so a
+ * slice is put together out of what servers have of either encoding and of the plain blob. *count says how many there are in `out`, whose length `room`
+ * is a number of nodes; BW_NODES_MAX of the slice's chunks are always room enough. BW_TOO_LONG: the combined encoding has 2^64 bytes or more.
+ * BW_ROOM, exactly where there are more nodes: some of `out` may have been written to. */
+BW_USE bw_status bw_slice_nodes(uint64_t total, uint64_t start, uint64_t len, bw_placed *out, size_t room, size_t *count);
 
 /* --- Encodings checked: BW_OK exactly where they are accepted, or else the first fault, BW_SHORT, BW_MISMATCH or BW_TRAILING, and its
  * place in *at. No memory is taken. */

@@ -176,6 +176,7 @@ static void calls(const uint8_t *bytes) {
     uint32_t node = 0;
     size_t count = 0;
     bw_range ranges[BW_RANGES_MAX];
+    static bw_placed nodes[BW_NODES_MAX(BW_GROUP_CHUNKS + 1)];
     bw_handle hasher = BW_EMPTY, seat = BW_EMPTY, other = BW_EMPTY, feed = BW_EMPTY;
     bw_hash(&plain, bytes, 0, root);
     MUST(bw_hasher_new(&plain, &hasher) == BW_OK && bw_store_new(&plain, root, 65536, &seat) == BW_OK && bw_feed_combined(&plain, root, &feed) == BW_OK);
@@ -192,6 +193,7 @@ static void calls(const uint8_t *bytes) {
     TIME_CALLS("bw_slice_len of 64 KiB", CALLS, bw_slice_len(most, most / 3, GROUP_LEN));
     TIME_CALLS("bw_slice_ranges of 64 KiB", CALLS, bw_slice_ranges(most, most / 3, GROUP_LEN, ranges, BW_RANGES_MAX, &count));
     TIME_CALLS("bw_outboard_ranges of 64 KiB", CALLS, bw_outboard_ranges(most, most / 3, GROUP_LEN, ranges, BW_RANGES_MAX, &count));
+    TIME_CALLS("bw_slice_nodes of 64 KiB", CALLS, bw_slice_nodes(most, most / 3, GROUP_LEN, nodes, BW_NODES_MAX(BW_GROUP_CHUNKS + 1), &count));
     TIME_CALLS("bw_hash of no bytes", CALLS, (bw_hash(&plain, bytes, 0, out), BW_OK));
     TIME_CALLS("bw_derive_key of no bytes", CALLS, bw_derive_key(bytes, 0, bytes, 0, out, sizeof out));
     bw_free(&hasher), bw_free(&seat), bw_free(&other), bw_free(&feed);

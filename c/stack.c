@@ -48,6 +48,8 @@ static void range(void) {
     size_t used;
     sink = bw_slice_ranges(UINT64_C(1) << 63, UINT64_MAX, 1, ranges, BW_RANGES_MAX, &used);
     sink = bw_outboard_ranges(UINT64_MAX, UINT64_MAX, 1, ranges, BW_RANGES_MAX, &used);
+    static bw_placed nodes[BW_NODES_MAX(1)];
+    sink = bw_slice_nodes(UINT64_C(1) << 63, UINT64_MAX, 1, nodes, BW_NODES_MAX(1), &used);
 }
 
 /* A text that claims the greatest length, too: its tree is the deepest. */

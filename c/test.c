@@ -996,6 +996,101 @@ static void outboard_ranges(const uint8_t *blob, const uint8_t *root, const hold
     free(text);
 }
 
+/* The nodes of a slice by a walk of its own, from the definition of the tree: a left part has the most chunks that are a power of two and leave something. */
+typedef struct walk {
+    bw_placed *out;
+    size_t count;
+    uint64_t start, end;
+} walk;
+
+static uint64_t parents_over(uint64_t len) {
+    return len == 0 ? 0 : (len - 1) / BW_CHUNK_LEN;
+}
+
+static void walk_tree(walk *to, uint64_t from, uint64_t len, uint64_t combined_at, uint64_t outboard_at) {
+    if (from >= to->end || to->start >= from + (len == 0 ? 1 : len)) return;
+    if (len <= BW_CHUNK_LEN) {
+        to->out[to->count++] = (bw_placed){BW_NODE_CHUNK, (uint32_t)len, from / BW_CHUNK_LEN, from, len, combined_at, 0};
+        return;
+    }
+    uint64_t left = BW_CHUNK_LEN;
+    while (left < len - left) left *= 2;
+    to->out[to->count++] = (bw_placed){BW_NODE_PARENT, 64, (from + left) / BW_CHUNK_LEN, from, len, combined_at, outboard_at};
+    walk_tree(to, from, left, combined_at + 64, outboard_at + 64);
+    walk_tree(to, from + left, len - left, combined_at + 64 + left + 64 * parents_over(left), outboard_at + 64 + 64 * parents_over(left));
+}
+
+static void nodes_are(uint64_t total, uint64_t start, uint64_t len) {
+    static bw_placed own[BW_NODES_MAX(1024)], out[BW_NODES_MAX(1024) + 1];
+    const bw_placed none = {7, 7, 7, 7, 7, 7, 7};
+    uint64_t last = total == 0 ? 0 : total - 1, from = start < last ? start : last, to = start + (len == 0 ? 1 : len);
+    if (to < start || to > total) to = total;
+    if (to <= from) to = from + 1;
+    walk by = {own, 0, from, to};
+    size_t count = 7, chunks = (size_t)((to - 1) / BW_CHUNK_LEN - from / BW_CHUNK_LEN + 1);
+    WANT(chunks <= 1024);
+    walk_tree(&by, 0, total, 8, 8);
+    WANT(by.count <= (size_t)BW_NODES_MAX(chunks) && by.count - chunks <= (chunks == 1 ? BW_DEPTH_MAX : SIZE_MAX));
+    out[by.count - 1] = out[by.count] = none;
+    WANT(bw_slice_nodes(total, start, len, out, by.count - 1, &count) == BW_ROOM && count == 7 && memcmp(&out[by.count - 1], &none, sizeof none) == 0);
+    WANT(bw_slice_nodes(total, start, len, out, by.count, &count) == BW_OK && count == by.count && memcmp(out, own, count * sizeof *out) == 0);
+    WANT(memcmp(&out[count], &none, sizeof none) == 0);
+}
+
+/* Those of slices of short blobs, and of long ones up to the longest. */
+static void slice_nodes(void) {
+    bw_placed nodes[BW_NODES_MAX(2)];
+    size_t count = 7;
+    for (uint64_t total = 0; total <= 17 * BW_CHUNK_LEN; total += total % BW_CHUNK_LEN <= 1 || total % BW_CHUNK_LEN == 1023 ? 1 : 1021)
+        for (uint64_t start = 0; start <= total + BW_CHUNK_LEN; start += 512)
+            for (uint64_t len = 0; len < total + 2 * BW_CHUNK_LEN; len = 3 * len + 1) nodes_are(total, start, len), nodes_are(total, start, UINT64_MAX);
+    uint64_t longest = 0;
+    for (uint64_t step = UINT64_C(1) << 63; step > 0; step /= 2)
+        if (bw_encoded_len(longest + step) != 0) longest += step;
+    for (int bits = 15; bits <= 64; bits++)
+        for (uint64_t less = 0; less < 5000; less = 8 * less + 1) {
+            uint64_t total = bits == 64 ? longest - less : (UINT64_C(1) << bits) + 2500 - less;
+            static const uint64_t lens[] = {0, 1, 1025, 2048, 65536, 200000};
+            for (size_t i = 0; i < sizeof lens / sizeof *lens; i++)
+                for (uint64_t part = 0; part <= 8; part++) {
+                    uint64_t start = part == 8 ? UINT64_MAX : total / 8 * part / 65536 * 65536;
+                    nodes_are(total, start, lens[i]), nodes_are(total, start - BW_CHUNK_LEN, lens[i]);
+                }
+        }
+    /* The deepest: down to the first chunk, and down both sides of the root. */
+    WANT(bw_slice_nodes(longest, 0, 1, nodes, BW_NODES_MAX(1), &count) == BW_OK && count == BW_DEPTH_MAX + 1);
+    WANT(bw_slice_nodes(longest, (UINT64_C(1) << 63) - 1, 2, nodes, BW_NODES_MAX(2), &count) == BW_OK && count == BW_NODES_MAX(2));
+    count = 7;
+    WANT(bw_slice_nodes(longest + 1, 0, 1, nodes, BW_NODES_MAX(1), &count) == BW_TOO_LONG && count == 7);
+    WANT(bw_slice_nodes(UINT64_MAX, 0, 1, NULL, 0, &count) == BW_TOO_LONG && bw_slice_nodes(5000, 0, 1, NULL, 0, &count) == BW_ROOM && count == 7);
+}
+
+/* A slice is put together of what its nodes say of the encodings and of the blob. */
+static void by_nodes(const uint8_t *blob, const holder *good) {
+    static uint8_t slice[4 * GROUP_LEN], ours[4 * GROUP_LEN];
+    static bw_placed nodes[BW_NODES_MAX(256)];
+    uint8_t hash[BW_HASH_LEN];
+    size_t used = 0, count = 7, outboard_len = (size_t)bw_outboard_len(BLOB_LEN);
+    uint8_t *outboard = room(outboard_len);
+    WANT(bw_outboard(&plain, blob, BLOB_LEN, outboard, outboard_len, &used, hash) == BW_OK);
+    for (uint64_t start = 0; start < BLOB_LEN; start += 12345)
+        for (uint64_t len = 1; len <= 130000; len = 3 * len + 5) {
+            size_t done = 8;
+            WANT(bw_cut_slice(good->text, good->len, start, len, slice, sizeof slice, &used) == BW_OK);
+            WANT(bw_slice_nodes(BLOB_LEN, start, len, nodes, BW_NODES_MAX(256), &count) == BW_OK);
+            memcpy(ours, slice, 8);
+            for (size_t i = 0; i < count; done += nodes[i].size, i++) {
+                const bw_placed *it = &nodes[i];
+                WANT(done + it->size <= used && it->combined_at + it->size <= good->len);
+                WANT(memcmp(slice + done, good->text + it->combined_at, it->size) == 0);
+                if (it->kind == BW_NODE_CHUNK) memcpy(ours + done, blob + it->start, it->size);
+                else memcpy(ours + done, outboard + it->outboard_at, it->size);
+            }
+            WANT(done == used && memcmp(slice, ours, used) == 0);
+        }
+    free(outboard);
+}
+
 /* An outline: its bytes are copied, plain chunks are checked beside it as bw_check_bare does, and made the slices that the blob has. */
 static void outlining(const uint8_t *blob, const uint8_t *root, const holder *good) {
     static uint8_t slice[4 * GROUP_LEN], cut[4 * GROUP_LEN];
@@ -1232,6 +1327,8 @@ int main(void) {
     ranges(&holders[0]);
     by_ranges(blob, root, &holders[0]);
     outboard_ranges(blob, root, &holders[0]);
+    slice_nodes();
+    by_nodes(blob, &holders[0]);
     outlining(blob, root, &holders[0]);
     beside(blob, root);
     holding(blob, root, &holders[0]);

@@ -307,6 +307,7 @@ CALLS = [
     ("bw_slice_len of 64 KiB", ""),
     ("bw_slice_ranges of 64 KiB", ""),
     ("bw_outboard_ranges of 64 KiB", ""),
+    ("bw_slice_nodes of 64 KiB", ""),
 ]
 
 # The table of memory: a name, how it was measured, and what is wanted of it.

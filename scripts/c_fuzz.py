@@ -36,6 +36,12 @@ CONTEXT = "berylwool 2026-11-27 a context"
 MODES = ((by.Mode(), c.Mode()), (by.Mode.keyed(KEY), c.Mode(1, c.hash_(*KEY))), (by.Mode.derived(CONTEXT.encode()), derives(CONTEXT)))
 
 
+class Placed(ctypes.Structure):
+    """Kind and size, then number, start, len, combined_at and outboard_at."""
+
+    _fields_ = [("words", ctypes.c_uint32 * 2), ("places", ctypes.c_uint64 * 5)]
+
+
 def wrote(call, *words, room):
     """What a call writes, with the hash if it answers one."""
     out, used = ctypes.create_string_buffer(room + 1), c.size()
@@ -230,12 +236,29 @@ def written(modes, blob, start, count):
     assert calls.bw_outboard_ranges(c.u64(len(blob)), c.u64(start), c.u64(count), ranges, c.size(55), ctypes.byref(found)) == 0
     kept = b"".join(texts[1][at : at + size] for at, size in ranges[: found.value])
     assert len(kept) == len(texts[2]) - sum(node.size for node in by.slice_nodes(len(blob), start, count) if not node.is_parent)
+    nodes_of(len(blob), start, count)
     return root, texts
+
+
+def nodes_of(total, start, count):
+    """The nodes of a slice, with the offsets that they have in the two whole encodings."""
+    combined = {(it.number, it.length): it.offset for it in by.slice_nodes(total, 0, 2**64 - 1)}
+    outboard = {(it.number, it.length): it.offset for it in by.outboard_nodes(total)}
+    wanted = []
+    for it in by.slice_nodes(total, start, count):
+        number = it.number + by.left_len(it.length) // by.CHUNK_LEN if it.is_parent else it.number
+        key = it.number, it.length
+        wanted.append([int(not it.is_parent), it.size, number, by.CHUNK_LEN * it.number, it.length, combined[key], outboard.get(key, 0)])
+    out, found = (Placed * 64)(), c.size()
+    assert calls.bw_slice_nodes(c.u64(total), c.u64(start), c.u64(count), out, c.size(64), ctypes.byref(found)) == 0
+    assert [[*it.words, *it.places] for it in out[: found.value]] == wanted
+    room = len(wanted) - 1
+    assert calls.bw_slice_nodes(c.u64(total), c.u64(start), c.u64(count), out, c.size(room), ctypes.byref(found)) == 1201 and found.value == len(wanted)
 
 
 def main(count):
     rng, refused = random.Random(1), 0
-    for call in (calls.bw_outboard, calls.bw_slice, calls.bw_slice_ranges, calls.bw_outboard_ranges, calls.bw_check_combined, calls.bw_check_outboard):
+    for call in (calls.bw_outboard, calls.bw_slice, calls.bw_slice_ranges, calls.bw_outboard_ranges, calls.bw_slice_nodes, calls.bw_check_combined, calls.bw_check_outboard):
         call.restype, call.argtypes = c.u32, None
     calls.bw_encode.argtypes = calls.bw_cut_slice.argtypes = calls.bw_check_slice.argtypes = None
     blobs = [rng.randbytes(length) for length in LENGTHS]

@@ -18,29 +18,33 @@ use Rattle.bao_text.specs.declared.choice.Choice.{Choice}
 use Rattle.bao_text.specs.Choice.{of_outboard, wants}
 use Rattle.bao_text.specs.Cut.{claimed}
 use Rattle.bao_text.specs.Nodes.{TreeNode, Side, left, right, nodes, subtree_nodes, subtree_size}
-use Rattle.berylwool.specs.Outlines.{HasChunks, HasParentsAt, bare_text}
+use Rattle.berylwool.specs.Outlines.{HasChunks, HasParentsAmong, HasParentsAt, bare_text}
+use Rattle.berylwool.specs.Placed.{outboard_places}
 
-finds : (text : List ℕ) (own : Choice) (number n : ℕ) (sides : List Side) (source at : ℕ) → HasParentsAt text own number n sides source at
-    → Finds (places_of (outboard_nodes text)) own number n sides source at
-finds text own number n sides source at has = record { same = has.same }
+finds : (places : List (ℕ × TreeNode)) (own : Choice) (number n : ℕ) (sides : List Side) (source at : ℕ) → HasParentsAmong places own number n sides source at
+    → Finds places own number n sides source at
+finds places own number n sides source at has = record { same = has.same }
 
 -- the left part of a subtree has its parents after its own
-pub near_at : (text : List ℕ) (own : Choice) (number n : ℕ) (sides : List Side) (source at : ℕ) → 1024 < n → HasParentsAt text own number n sides source at
-    → HasParentsAt text own number (left_len n) (sides ++ left ∷ []) (source + 64) (at + 64)
-near_at text own number n sides source at more has =
-    let found = Finds-near (places_of (outboard_nodes text)) own number n sides source at more has.wants (finds text own number n sides source at has) in
+pub near_at : (places : List (ℕ × TreeNode)) (own : Choice) (number n : ℕ) (sides : List Side) (source at : ℕ) → 1024 < n → HasParentsAmong places own number n sides source at
+    → HasParentsAmong places own number (left_len n) (sides ++ left ∷ []) (source + 64) (at + 64)
+near_at places own number n sides source at more has =
+    let found = Finds-near places own number n sides source at more has.wants (finds places own number n sides source at has) in
     record { wants = near-WantsParents own number n more has.wants; same = found.same }
 
 -- and the right part after those
-pub far_at : (text : List ℕ) (own : Choice) (number n : ℕ) (sides : List Side) (source at : ℕ) → 1024 < n → HasParentsAt text own number n sides source at
-    → HasParentsAt text own (number + left_len n / 1024) (n - left_len n) (sides ++ right ∷ []) (source + 64 + subtree_size (left_len n)) (at + 64 * (left_len n / 1024))
-far_at text own number n sides source at more has =
-    let found = Finds-far (places_of (outboard_nodes text)) own number n sides source at more has.wants (finds text own number n sides source at has) in
+pub far_at : (places : List (ℕ × TreeNode)) (own : Choice) (number n : ℕ) (sides : List Side) (source at : ℕ) → 1024 < n → HasParentsAmong places own number n sides source at
+    → HasParentsAmong places own (number + left_len n / 1024) (n - left_len n) (sides ++ right ∷ []) (source + 64 + subtree_size (left_len n)) (at + 64 * (left_len n / 1024))
+far_at places own number n sides source at more has =
+    let found = Finds-far places own number n sides source at more has.wants (finds places own number n sides source at has) in
     record { wants = far-WantsParents own number n more has.wants; same = found.same }
 
 -- all of them are after the length
+pub all_among : (total : ℕ) → HasParentsAmong (outboard_places total) (of_outboard total) 0 total [] 8 8
+all_among total = record { wants = outboard-WantsParents total; same = (Finds-all total).same }
+
 pub all_at : (text : List ℕ) → HasParentsAt text (of_outboard (claimed text)) 0 (claimed text) [] 8 8
-all_at text = record { wants = outboard-WantsParents (claimed text); same = (Finds-all (claimed text)).same }
+all_at text = all_among (claimed text)
 
 -- what is made of nodes of which none is wanted
 pub beside_none : (text chunks : List ℕ) (first : ℕ) (choice : Choice) (number n : ℕ) (sides : List Side) (source : ℕ) (old new : List ℕ)
@@ -73,14 +77,14 @@ beside_parent text chunks first choice own number n l sides source at old upper 
     let ns : List TreeNode = subtree_nodes choice number (left_len n) (sides ++ left ∷ []) (source + 64) in
     let fs : List TreeNode = subtree_nodes choice (number + left_len n / 1024) (n - left_len n) (sides ++ right ∷ []) (source + 64 + subtree_size (left_len n)) in
     let top : TreeNode = parent_node number n sides source in
-    let is_top : f top ≡ take 64 (drop at text) = parent-beside text chunks first own number n sides source at more has.wants (finds text own number n sides source at has) in
+    let is_top : f top ≡ take 64 (drop at text) = parent-beside text chunks first own number n sides source at more has.wants (finds (places_of (outboard_nodes text)) own number n sides source at has) in
     let is_near : near ≡ upper ++ flat_map f ns =
     subst (λ (k : ℕ). HasParentsAt text own number k (sides ++ left ∷ []) (source + 64) (at + 64)
-    → near ≡ upper ++ flat_map f (subtree_nodes choice number k (sides ++ left ∷ []) (source + 64))) is_l second (near_at text own number n sides source at more has) in
+    → near ≡ upper ++ flat_map f (subtree_nodes choice number k (sides ++ left ∷ []) (source + 64))) is_l second (near_at (places_of (outboard_nodes text)) own number n sides source at more has) in
     let is_new : new ≡ near ++ flat_map f fs =
     subst (λ (k : ℕ). HasParentsAt text own (number + k / 1024) (n - k) (sides ++ right ∷ []) (source + 64 + subtree_size k) (at + 64 * (k / 1024))
     → new ≡ near ++ flat_map f (subtree_nodes choice (number + k / 1024) (n - k) (sides ++ right ∷ []) (source + 64 + subtree_size k))) is_l third
-    (far_at text own number n sides source at more has) in
+    (far_at (places_of (outboard_nodes text)) own number n sides source at more has) in
     let tree : flat_map f (subtree_nodes choice number n sides source) ≡ f top ++ (flat_map f ns ++ flat_map f fs) =
     ap (λ (xs : List TreeNode). flat_map f xs) (subtree_nodes-parent choice number n sides source wanted more) ∙ ap (λ (xs : List ℕ). f top ++ xs) (flat_map-append f ns fs) in
     is_new ∙ ap (λ (xs : List ℕ). xs ++ flat_map f fs) (is_near ∙ ap (λ (xs : List ℕ). xs ++ flat_map f ns) (head ∙ ap (λ (xs : List ℕ). old ++ xs) (sym is_top)))

@@ -6,6 +6,7 @@ pub mod Finishing
 pub mod HandleValues
 pub mod HeldBits
 pub mod Parts
+pub mod Placed
 pub mod Rounds
 pub mod SeatCalls
 pub mod Stores

@@ -8,6 +8,7 @@ pub mod Holding
 pub mod Modes
 pub mod Outlines
 pub mod Pairs
+pub mod Placed
 pub mod CNodes
 pub mod Ranges
 pub mod Status

@@ -9,7 +9,7 @@ use Rattle.bao_check.specs.Parents.{parent_place}
 use Rattle.bao_text.specs.declared.choice.Choice.{Choice}
 use Rattle.bao_text.specs.Choice.{chunk_count}
 use Rattle.bao_text.specs.Cut.{claimed}
-use Rattle.bao_text.specs.Nodes.{Side, placed_nodes, subtree_nodes}
+use Rattle.bao_text.specs.Nodes.{Side, TreeNode, placed_nodes, subtree_nodes}
 use Rattle.store_core.specs.declared.fixed.Fixed.{Fixed}
 use Rattle.store_core.specs.declared.history.Piece.{Piece}
 use Rattle.berylwool.specs.declared.outlined.Outlined.{Outlined}
@@ -59,9 +59,13 @@ bare_piece base text first count chunks = slice_piece base (bare_text text first
 abbrev pub IsOfStore : Fixed → Outlined → Type 0
 IsOfStore fixed it = (it.root ≡ fixed.root) × (it.mode ≡ fixed.mode)
 
--- The subtree over n bytes from chunk `number` on has its parents in an outboard encoding from the place `at` on, and there each is
+-- The subtree over n bytes from chunk `number` on has its parents among places from the place `at` on, and there each is
 -- found that it has.
-pub record HasParentsAt (text : List ℕ) (own : Choice) (number n : ℕ) (sides : List Side) (source at : ℕ) : Type 0 where
+pub record HasParentsAmong (places : List (ℕ × TreeNode)) (own : Choice) (number n : ℕ) (sides : List Side) (source at : ℕ) : Type 0 where
   pub wants : WantsParents own number n
   pub same : (m : ℕ) → number < m → m < number + chunk_count n
-      → parent_place (places_of (outboard_nodes text)) m ≡ parent_place (placed_nodes at (subtree_nodes own number n sides source)) m
+      → parent_place places m ≡ parent_place (placed_nodes at (subtree_nodes own number n sides source)) m
+
+-- among those of an outboard encoding
+abbrev pub HasParentsAt : List ℕ → Choice → ℕ → ℕ → List Side → ℕ → ℕ → Type 0
+HasParentsAt text own number n sides source at = HasParentsAmong (places_of (outboard_nodes text)) own number n sides source at

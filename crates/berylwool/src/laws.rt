@@ -1,7 +1,7 @@
 // That the contracts of the calls without a store determine what they answer: each function here asks one of them twice,
 // of the same, and what it ensures is that both answers are the same. Nobody calls them.
 
-ghost use Rattle.std.specs.Prelude.{◌≡◌, ◌≢◌, ◌↔◌, ◌⊎◌, ℕ, List};
+ghost use Rattle.std.specs.Prelude.{◌≡◌, ◌≢◌, ◌↔◌, ◌⊎◌, ℕ, List, length, take};
 ghost use Rattle.b3tree.specs.declared.mode.Mode.{Mode};
 ghost use Rattle.berylwool.specs.Handles.{HasOutline, HoldsIn};
 ghost use Rattle.berylwool.specs.Modes.{mode_of};
@@ -14,6 +14,7 @@ use crate::handle::BwHandle;
 use crate::hasher::{bw_hasher_finish, bw_hasher_update};
 use crate::hashing::{bw_derive_key, bw_hash, bw_xof};
 use crate::mode::{BwMode, bw_mode_derive};
+use crate::nodes::{BwPlaced, bw_slice_nodes};
 use crate::outlines::{bw_outline_check, bw_outline_length, bw_outline_new, bw_outline_slice};
 use crate::sizes::bw_slice_len;
 use crate::writing::{
@@ -102,6 +103,27 @@ pub fn slice_len_determined(total: u64, start: u64, len: u64) -> (u64, u64)
     (
         bw_slice_len(total, start, len),
         bw_slice_len(total, start, len),
+    )
+}
+
+// With their places. Each buffer has room for as many.
+pub fn slice_nodes_determined(
+    total: u64,
+    start: u64,
+    len: u64,
+    ours: &mut [BwPlaced],
+    theirs: &mut [BwPlaced],
+    used: &mut usize,
+    also: &mut usize,
+) -> (u32, u32)
+    requires { length ours.old ≡ length theirs.old }
+    ensures status { result.0 ≡ result.1 }
+    ensures count { result.0 ≡ 0 → used.new ≡ also.new }
+    ensures nodes { result.0 ≡ 0 → take used.new ours.new ≡ take also.new theirs.new }
+{
+    (
+        bw_slice_nodes(total, start, len, ours, used),
+        bw_slice_nodes(total, start, len, theirs, also),
     )
 }
 

@@ -20,6 +20,7 @@ mod joining;
 mod laws;
 mod loose;
 mod mode;
+mod nodes;
 mod outlined;
 mod outlines;
 mod ranges;
