@@ -391,7 +391,6 @@ int main(int argc, char **argv) {
         .whole = PTHREAD_COND_INITIALIZER, .written = PTHREAD_COND_INITIALIZER,
     };
     words w;
-    tree_start();
     int status = read_words(&f, &w, argc, argv);
     if (status) return status < 0 ? DONE : status;
     status = take_words(&f, &w, argc - optind - 2, argv + optind + 2);

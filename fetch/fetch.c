@@ -152,7 +152,7 @@ static bool make_table(fetch *f, uint64_t total) {
 /* --- The parents that are known: one may take the place of another one, which is asked for again then */
 
 static size_t place_of_known(uint64_t outboard_at) {
-    return (size_t)(outboard_at / PARENT_LEN * 0x9E3779B97F4A7C15 >> (64 - KNOWN_BITS));
+    return (size_t)(outboard_at / BW_PARENT_LEN * 0x9E3779B97F4A7C15 >> (64 - KNOWN_BITS));
 }
 
 void fetch_recall(const fetch *f, path *it) {
@@ -160,7 +160,7 @@ void fetch_recall(const fetch *f, path *it) {
         above *to = &it->list[i];
         const known *from = &f->known[place_of_known(to->outboard_at)];
         if (to->is_known || from->outboard_at != to->outboard_at) continue;
-        memcpy(to->text, from->text, PARENT_LEN);
+        memcpy(to->text, from->text, BW_PARENT_LEN);
         to->is_known = true;
     }
 }
@@ -171,7 +171,7 @@ void fetch_remember(fetch *f, const path *it) {
         known *to = &f->known[place_of_known(from->outboard_at)];
         if (!from->is_known) continue;
         to->outboard_at = from->outboard_at;
-        memcpy(to->text, from->text, PARENT_LEN);
+        memcpy(to->text, from->text, BW_PARENT_LEN);
     }
 }
 

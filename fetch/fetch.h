@@ -70,7 +70,7 @@ typedef struct unit {
 /* A parent that is known to be true, above some unit. */
 typedef struct known {
     uint64_t outboard_at;                   /* or 0 */
-    uint8_t text[PARENT_LEN];
+    uint8_t text[BW_PARENT_LEN];
 } known;
 
 typedef struct fetch fetch;

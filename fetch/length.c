@@ -20,7 +20,7 @@ static bool get_head(conn *c, place *of, line *by, uint64_t *total) {
     http_answer r = conn_heard(c, of, http_begin(c->http, of, &head));
     c->head_of = by, c->head_len = head.have;
     if (r != HTTP_ALL) return false;
-    if (head.have < CLAIM_LEN) return conn_say(c, of, "it ends before"), false;
+    if (head.have < BW_LENGTH_LEN) return conn_say(c, of, "it ends before"), false;
     *total = length_claimed(c->head);
     bool is_wanted = *total <= f->most;
     fetch_lock(f);
@@ -126,7 +126,7 @@ static bool settle_bao(conn *c) {
     fetch_lock(f);
     bool is_adopted = c->unit;
     c->opens = false;
-    if (c->opening == REFUTED) m->bad++, m->wrong += bw_slice_len(c->claimed, UINT64_MAX, 1) - CLAIM_LEN;
+    if (c->opening == REFUTED) m->bad++, m->wrong += bw_slice_len(c->claimed, UINT64_MAX, 1) - BW_LENGTH_LEN;
     fetch_unlock(f);
     if (is_adopted) conn_take(c);
     if (c->opening == REFUTED) conn_say(c, &m->place, "its last chunk isn't the root's");
@@ -153,7 +153,7 @@ static bool settle_plain(conn *c, line *by) {
     if (settle_by(c, total, &(origin){.outboard = &c->parents, .plain = &plain}, &at)) return true;
     /* A parent that is refused is the outboard encoding's own. A chunk may be refused since the claim is false: nobody is
      * blamed. */
-    if (at >= CLAIM_LEN + parents) return false;
+    if (node_at(total, last, BW_CHUNK_LEN, at).kind == BW_NODE_CHUNK) return false;
     conn_say(c, &by->place, "it isn't the root's");
     fetch_lock(c->fetch);
     by->wrong += parents, by->bad++;

@@ -1,7 +1,6 @@
 #define _GNU_SOURCE
 #include "out.h"
 
-#include <berylwool.h>
 #include <errno.h>
 #include <fcntl.h>
 #include <libgen.h>
@@ -144,7 +143,6 @@ void out_drop(out *it) {
 typedef struct learning {
     const out *to;
     path *above;
-    const uint8_t *text;
     bool is_new;
     uint64_t from;
     size_t len;
@@ -157,25 +155,25 @@ static void flush_parents(learning *by) {
     by->len = 0;
 }
 
-static bool learn_node(void *with, const node *it) {
-    learning *by = with;
-    const uint8_t *bytes = by->text;
-    by->text += it->len;
-    if (it->is_chunk) return true;
+static void learn_node(learning *by, const bw_placed *it, const uint8_t *bytes) {
     above *of = path_find(by->above, it->outboard_at);
-    if (of && of->is_known) return true;
-    if (of) memcpy(of->text, bytes, PARENT_LEN), of->is_known = by->is_new = true;
-    if (by->to->is_pipe || atomic_load(&by->to->is_full)) return true;
+    if (of && of->is_known) return;
+    if (of) memcpy(of->text, bytes, BW_PARENT_LEN), of->is_known = by->is_new = true;
+    if (by->to->is_pipe || atomic_load(&by->to->is_full)) return;
     if (it->outboard_at != by->from + by->len || by->len == PARENTS_LEN) flush_parents(by);
     if (!by->len) by->from = it->outboard_at;
-    memcpy(by->bytes + by->len, bytes, PARENT_LEN);
-    by->len += PARENT_LEN;
-    return true;
+    memcpy(by->bytes + by->len, bytes, BW_PARENT_LEN);
+    by->len += BW_PARENT_LEN;
 }
 
 bool out_learn(const out *it, path *above, uint64_t start, uint64_t len, const uint8_t *text) {
-    learning by = {.to = it, .above = above, .text = text + CLAIM_LEN};
-    walk_slice(it->total, start, len, learn_node, &by);
+    learning by = {.to = it, .above = above};
+    slice of;
+    if (!slice_of(&of, it->total, start, len)) return false;
+    text += BW_LENGTH_LEN;
+    for (size_t i = 0; i < of.count; text += of.nodes[i++].size) {
+        if (of.nodes[i].kind == BW_NODE_PARENT) learn_node(&by, &of.nodes[i], text);
+    }
     flush_parents(&by);
     return by.is_new;
 }
@@ -221,18 +219,27 @@ typedef struct saving {
 } saving;
 
 static bool is_hole(const uint8_t *parent) {
-    static const uint8_t none[PARENT_LEN];
-    return !memcmp(parent, none, PARENT_LEN);
+    static const uint8_t none[BW_PARENT_LEN];
+    return !memcmp(parent, none, BW_PARENT_LEN);
 }
 
-static bool save_node(void *with, const node *it) {
-    saving *by = with;
+static bool save_node(saving *by, const bw_placed *it) {
+    bool is_chunk = it->kind == BW_NODE_CHUNK;
     if (it->combined_at < by->end) return true;
-    const uint8_t *bytes = it->is_chunk ? look(&by->chunks, it->from, it->len, BLOCK_LEN)
-                                        : look(&by->parents, by->from->total + it->outboard_at, PARENT_LEN, PARENTS_LEN);
-    if (!it->is_chunk && (!bytes || is_hole(bytes))) return true;
-    by->end = it->combined_at + it->len;
-    return bytes && put_block(&by->to, it->combined_at, bytes, it->len);
+    const uint8_t *bytes = is_chunk ? look(&by->chunks, it->start, it->size, BLOCK_LEN)
+                                    : look(&by->parents, by->from->total + it->outboard_at, it->size, PARENTS_LEN);
+    if (!is_chunk && (!bytes || is_hole(bytes))) return true;
+    by->end = it->combined_at + it->size;
+    return bytes && put_block(&by->to, it->combined_at, bytes, it->size);
+}
+
+static bool save_slice(saving *by, uint64_t start, uint64_t len) {
+    slice of;
+    if (!slice_of(&of, by->from->total, start, len)) return false;
+    for (size_t i = 0; i < of.count; i++) {
+        if (!save_node(by, &of.nodes[i])) return false;
+    }
+    return true;
 }
 
 /* The chunks of a group that are there, as slices of those that lie side by side. */
@@ -240,7 +247,7 @@ static bool save_group(saving *by, uint64_t group, uint64_t held) {
     while (held) {
         unsigned low = (unsigned)__builtin_ctzll(held), count = ~(held >> low) ? (unsigned)__builtin_ctzll(~(held >> low)) : 64;
         uint64_t start = group * GROUP_LEN + (uint64_t)low * BW_CHUNK_LEN;
-        if (!walk_slice(by->from->total, start, (uint64_t)count * BW_CHUNK_LEN, save_node, by)) return false;
+        if (!save_slice(by, start, (uint64_t)count * BW_CHUNK_LEN)) return false;
         held = count + low == 64 ? 0 : held >> (low + count) << (low + count);
     }
     return true;
@@ -248,9 +255,9 @@ static bool save_group(saving *by, uint64_t group, uint64_t held) {
 
 static bool save_all(saving *by, const void *with, held_chunks *held) {
     uint64_t total = by->from->total, groups = (chunks_of(total) - 1) / BW_GROUP_CHUNKS + 1;
-    uint8_t claim[CLAIM_LEN];
+    uint8_t claim[BW_LENGTH_LEN];
     claim_length(claim, total);
-    if (ftruncate(by->to.fd, (off_t)bw_encoded_len(total)) || !put_block(&by->to, 0, claim, CLAIM_LEN)) return false;
+    if (ftruncate(by->to.fd, (off_t)bw_encoded_len(total)) || !put_block(&by->to, 0, claim, BW_LENGTH_LEN)) return false;
     for (uint64_t g = 0; g < groups; g++) {
         if (!save_group(by, g, held(with, g))) return false;
     }

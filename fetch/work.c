@@ -9,8 +9,9 @@
 enum {
     IN_ROW_MOST = 5,                        /* faults in a row, and a mirror is left out */
     LINE_FAULTS_MOST = 5,
-    PATH_LEN = PATH_MOST * PARENT_LEN,
-    BYTES_MOST = UNIT_LEN + UNIT_LEN / BW_CHUNK_LEN * PARENT_LEN + PATH_LEN + BW_CHUNK_LEN + PATH_LEN,
+    UNIT_CHUNKS = UNIT_LEN / BW_CHUNK_LEN,  /* a request is for the slice of a unit, and for that of the last chunk, at most */
+    UNIT_PARENTS = BW_NODES_MAX(UNIT_CHUNKS) - UNIT_CHUNKS,
+    BYTES_MOST = UNIT_LEN + UNIT_PARENTS * BW_PARENT_LEN + BW_CHUNK_LEN + BW_DEPTH_MAX * BW_PARENT_LEN,
     ORPHANS_MOST = 4,                       /* groups below false parents, where none was taken */
     TRY_AFTER = GROUP_LEN                   /* bytes that come before what came is tried again */
 };
@@ -221,7 +222,7 @@ static void keep(conn *c, unsigned group, span it, uint64_t start, size_t used) 
 typedef enum taken { LACKING, TAKEN, REFUSED } taken;
 
 /* Verifies some chunks of a group as a slice, out of what came. The first node that is refused is at *refused. */
-static taken take(conn *c, unsigned group, span it, node *refused) {
+static taken take(conn *c, unsigned group, span it, bw_placed *refused) {
     fetch *f = c->fetch;
     uint64_t start = group_start(c, group) + it.low * BW_CHUNK_LEN, len = (it.high - it.low + 1) * BW_CHUNK_LEN, certified, at;
     origin from = {.known = &c->above};
@@ -243,13 +244,13 @@ typedef struct wrong {
     uint64_t of_mirror, of_line, parent_at;
 } wrong;
 
-static void add_wrong(const conn *c, wrong *to, const node *it) {
-    if (it->is_chunk || !c->line) to->of_mirror += BW_CHUNK_LEN;
-    else if (it->outboard_at != to->parent_at) to->of_line += PARENT_LEN, to->parent_at = it->outboard_at;
+static void add_wrong(const conn *c, wrong *to, const bw_placed *it) {
+    if (it->kind == BW_NODE_CHUNK || !c->line) to->of_mirror += BW_CHUNK_LEN;
+    else if (it->outboard_at != to->parent_at) to->of_line += BW_PARENT_LEN, to->parent_at = it->outboard_at;
 }
 
 /* What is refused is tried in halves, out of the same bytes, down to a chunk. */
-static void salvage(conn *c, unsigned group, span of, const node *refused, wrong *found) {
+static void salvage(conn *c, unsigned group, span of, const bw_placed *refused, wrong *found) {
     if (of.low == of.high) {
         add_wrong(c, found, refused);
         return;
@@ -257,7 +258,7 @@ static void salvage(conn *c, unsigned group, span of, const node *refused, wrong
     unsigned middle = (of.low + of.high) / 2;
     const span halves[] = {{of.low, middle}, {middle + 1, of.high}};
     for (int i = 0; i < 2; i++) {
-        node it = *refused;
+        bw_placed it = *refused;
         if (take(c, group, halves[i], &it) == TAKEN) c->groups_taken++;
         else salvage(c, group, halves[i], &it, found);
     }
@@ -269,7 +270,7 @@ static taken take_group(conn *c, unsigned group) {
     mirror *m = c->mirror;
     const size_t slot = (size_t)(c->unit - f->units);
     wrong found = {0, 0, 0};
-    node refused;
+    bw_placed refused;
     taken r = take(c, group, c->spans[group], &refused);
     if (r == LACKING) return r;
     if (r == REFUSED) salvage(c, group, c->spans[group], &refused, &found);
