@@ -2,6 +2,7 @@ pub mod Accepted
 pub mod AcceptedProp
 pub mod Certificate
 pub mod Inputs
+pub mod Known
 pub mod Faults
 pub mod Pieces
 pub mod Parents

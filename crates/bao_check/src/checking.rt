@@ -164,7 +164,14 @@ impl Checking {
             self.at = len;
             return Ok(());
         }
-        take_node(&self.choice, &mut self.waiting, &self.mode, self.at, node)?;
+        take_node(
+            &self.choice,
+            &mut self.waiting,
+            &self.mode,
+            self.at,
+            node,
+            None,
+        )?;
         self.at += len;
         Ok(())
     }

@@ -2,13 +2,15 @@
 
 ghost use Rattle.std.specs.Prelude.{◌≡◌, ℕ, ◌+◌, ◌-◌, ◌*◌, ◌^◌, ◌<◌, ◌≤◌, List, ◌++◌, length, take, drop, true, IfErr, IfOk, IfSome, IsErr};
 ghost use Rattle.bao_check.specs.Decoded.{Decodes, chunk_bytes, kinds_size, subtree_kinds};
+ghost use Rattle.bao_check.specs.Known.{AreKnown, KnowsNext};
 ghost use Rattle.bao_check.specs.Waiting.{AreParts, HasRefused, HasRefusedIn, HasTaken, next_size};
 
 use crate::fault::CheckFault;
+use crate::known::Known;
 use crate::source::Bytes;
 use crate::waiting::{Waiting, next_part, size, take_node};
 use crate::walk::whole_at_hand;
-use b3tree::{CHUNK_LEN, Mode, left_len};
+use b3tree::{CHUNK_LEN, Cv, Mode, left_len};
 use bao_text::{Choice, PARENT_LEN};
 
 // Copies the chunks of a subtree, whose wanted nodes stand in `text` from place `at` on, into the room from `filled` on.
@@ -54,19 +56,21 @@ fn copy_chunks(
 }
 
 // Takes all nodes of the part that comes first, at place `at` of the encoding, where these are a whole subtree of 8 to 512 chunks
-// that the bytes begin with, and else its first node, where they begin with that. Puts the chunks' bytes into the room, from `filled`
-// on, and answers how many bytes were taken, and where the room is free from then on.
+// that the bytes begin with, and else its first node, where they begin with that: where it is a whole chunk, its value may be known. Puts the
+// chunks' bytes into the room, from `filled` on, and answers how many bytes were taken, and where the room is free from then on.
 fn take_first(
     choice: &Choice,
     waiting: &mut Waiting,
     mode: &Mode,
     at: u64,
     bytes: &[u8],
+    known: Option<Cv>,
     room: &mut [u8],
     filled: usize,
 ) -> Result<Option<(usize, usize)>, CheckFault>
     requires chunks { choice.now.chunks ≡ true }
     requires parts { AreParts choice.now waiting.old.items }
+    requires known { KnowsNext mode.now waiting.old.items bytes.now known }
     requires room { filled + length bytes.now ≤ length room.old }
     ensures parts { AreParts choice.now waiting.new.items }
     ensures size { length room.new ≡ length room.old }
@@ -91,12 +95,54 @@ fn take_first(
     if bytes.len() < len {
         return Ok(None);
     }
-    take_node(choice, waiting, mode, at, &bytes[..len])?;
+    take_node(choice, waiting, mode, at, &bytes[..len], known)?;
     if part.len > CHUNK_LEN as u64 {
         return Ok(Some((len, filled)));
     }
     room[filled..filled + len].copy_from_slice(&bytes[..len]);
     Ok(Some((len, filled + len)))
+}
+
+// Does so from place `used` of the bytes on, where the values of some chunks are known.
+fn take_next(
+    choice: &Choice,
+    waiting: &mut Waiting,
+    mode: &Mode,
+    at: u64,
+    bytes: &[u8],
+    used: usize,
+    known: &mut Known,
+    room: &mut [u8],
+    filled: usize,
+) -> Result<Option<(usize, usize)>, CheckFault>
+    requires chunks { choice.now.chunks ≡ true }
+    requires parts { AreParts choice.now waiting.old.items }
+    requires within { used ≤ length bytes.now }
+    requires known { AreKnown mode.now bytes.now known.old }
+    requires room { filled + (length bytes.now - used) ≤ length room.old }
+    ensures known { AreKnown mode.now bytes.now known.new }
+    ensures parts { AreParts choice.now waiting.new.items }
+    ensures size { length room.new ≡ length room.old }
+    ensures taken { IfOk result (λ step. IfSome step (λ r. (1 ≤ r.0) × (r.0 ≤ length (drop used bytes.now)) × (filled ≤ r.1) × (r.1 ≤ filled + r.0))) }
+    ensures nodes { IfOk result (λ step. IfSome step (λ r. HasTaken mode.now choice.now waiting.old.items waiting.new.items (take r.0 (drop used bytes.now)))) }
+    ensures chunks { IfOk result (λ step. IfSome step (λ r. (part : List ℕ) × (take r.1 room.new ≡ take filled room.old ++ part)
+        × Decodes choice.now waiting.old.items waiting.new.items (take r.0 (drop used bytes.now)) part)) }
+    ensures none { IfOk result (λ step. step ≡ None → (waiting.new ≡ waiting.old) × (room.new ≡ room.old)
+        × IfSome (next_size waiting.old.items) (λ size. length (drop used bytes.now) < size)) }
+    ensures err { IfErr result (HasRefused mode.now choice.now waiting.old.items at (drop used bytes.now)) }
+    ensures same { IsErr result → waiting.new ≡ waiting.old }
+{
+    let value = known.next_value(mode, waiting, bytes, used);
+    take_first(
+        choice,
+        waiting,
+        mode,
+        at,
+        &bytes[used..],
+        value,
+        room,
+        filled,
+    )
 }
 
 // Takes as many whole nodes as the bytes begin with, the first of them at place `at` of the encoding, and puts the chunks' bytes to
@@ -122,16 +168,11 @@ pub(crate) fn take_nodes(
         × IfSome (next_size waiting.new.items) (λ size. length bytes.now < used + size)) }
     ensures err { IfErr result (λ fault. (used : ℕ) × (at.new ≡ at.old + used) × HasRefusedIn mode.now choice.now waiting.old.items waiting.new.items at.old used bytes.now fault) }
 {
+    let mut known = Known::none();
     let mut used = 0;
     let mut filled = 0;
-    'nodes: while let Some((len, free)) = take_first(
-        choice,
-        waiting,
-        mode,
-        *at,
-        &bytes[used..],
-        room,
-        filled,
+    'nodes: while let Some((len, free)) = take_next(
+        choice, waiting, mode, *at, bytes, used, &mut known, room, filled,
     )? {
         used += len;
         filled = free;

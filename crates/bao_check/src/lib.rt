@@ -25,6 +25,7 @@ mod checks;
 mod decoding;
 mod fault;
 mod form;
+mod known;
 mod law;
 mod leaves;
 mod locate;

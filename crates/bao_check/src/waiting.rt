@@ -1,7 +1,11 @@
-ghost use Rattle.std.specs.Prelude.{◌≡◌, ◌+◌, ◌-◌, ◌*◌, ◌/◌, ◌^◌, ◌<◌, ◌≤◌, List, [], ◌∷◌, ◌++◌, length, true, IfErr, OnErr, OnOk, Some};
+ghost use Rattle.std.specs.Prelude.{◌≡◌, ◌↔◌, ◌+◌, ◌-◌, ◌*◌, ◌/◌, ◌^◌, ◌<◌, ◌≤◌, List, [], ◌∷◌, ◌++◌, length, true, IfErr, IfSome, IsTrue, OnErr, OnOk, Some};
+ghost use Rattle.b3word.specs.Compression.{cv};
+ghost use Rattle.b3tree.specs.Chunk.{last_chunk_input};
 ghost use Rattle.b3tree.specs.Tree.{left_len};
 ghost use Rattle.bao_check.specs.declared.part.Part.{Part};
 ghost use Rattle.bao_check.specs.Decoded.{Decodes, subtree_kinds, waiting_kinds};
+ghost use Rattle.bao_check.specs.Known.{KnowsNext};
+ghost use Rattle.bao_check.specs.Walk.{Meets};
 ghost use Rattle.bao_check.specs.Waiting.{AreParts, HasRefused, HasTaken, IsBefore, below_parent, chunk_waits, last_part, next_size, part_size};
 
 use crate::asked::{Asked, meets};
@@ -108,17 +112,35 @@ fn push_halves(choice: &Choice, waiting: &mut Waiting, parent: &Part, left: Cv, 
     push_wanted(choice, waiting, &left_asked, parent.number, left_len);
 }
 
-// Verifies the node that comes next, at place `at` of the encoding, and goes on to what comes after it.
+// Whether the chunk with this number has the value that is asked for. Its own may be known, where it is a whole one below a parent.
+fn chunk_meets(asked: &Asked, mode: &Mode, number: u64, node: &[u8], known: Option<Cv>) -> bool
+    requires chunk { length node.now ≤ 1024 }
+    requires range { 1024 * number + length node.now ≤ 2 ^ 64 - 1 }
+    requires known { IfSome known (λ value. length node.now ≡ 1024 → value.0 ≡ cv (last_chunk_input mode.now number node.now)) }
+    ensures { IsTrue result ↔ Meets asked.now (last_chunk_input mode.now number node.now) }
+{
+    if !asked.top && node.len() == CHUNK_LEN {
+        if let Some(value) = known {
+            return value == asked.value;
+        }
+    }
+    meets(asked, &top_input(mode, number, node))
+}
+
+// Verifies the node that comes next, at place `at` of the encoding, and goes on to what comes after it. Where it is a whole chunk, its value may be
+// known.
 pub(crate) fn take_node(
     choice: &Choice,
     waiting: &mut Waiting,
     mode: &Mode,
     at: u64,
     node: &[u8],
+    known: Option<Cv>,
 ) -> Result<(), CheckFault>
     requires chunks { choice.now.chunks ≡ true }
     requires next { next_size waiting.old.items ≡ Some (length node.now) }
     requires parts { AreParts choice.now waiting.old.items }
+    requires known { KnowsNext mode.now waiting.old.items node.now known }
     ensures parts { AreParts choice.now waiting.new.items }
     ensures same { OnErr result (waiting.new ≡ waiting.old) }
     ensures ok { OnOk result (HasTaken mode.now choice.now waiting.old.items waiting.new.items node.now) }
@@ -130,7 +152,7 @@ pub(crate) fn take_node(
         unreachable!()
     };
     if part.len <= CHUNK_LEN as u64 {
-        if !meets(&part.asked, &top_input(mode, part.number, node)) {
+        if !chunk_meets(&part.asked, mode, part.number, node, known) {
             return Err(CheckFault::Mismatch { at });
         }
         // What is popped is `part`, here and below: it waits until its node is verified.

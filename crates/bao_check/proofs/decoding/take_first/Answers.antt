@@ -1,12 +1,15 @@
-use Rattle.std.proofs.Common.{◌≡◌, ◌+◌, ◌-◌, List, [], ◌∷◌, ◌++◌, ℕ, length, take, Some, refl, sym, ap, subst, ◌∙◌, arith}
-use Rattle.std.proofs.lemmas.List.{length-take-le}
+use Rattle.std.proofs.Common.{◌≡◌, ◌+◌, ◌-◌, nat_le, if◌then◌else◌, List, [], ◌∷◌, ◌++◌, ℕ, length, take, Some, refl, sym, ap, subst, ◌∙◌, arith}
+use Rattle.std.proofs.lemmas.List.{length-take-le, take-take}
 use Rattle.std.proofs.lemmas.Result.{err_from_is_err_and}
 use Rattle.std.proofs.lemmas.Slice.{take-put_mid}
+use Rattle.b3word.specs.Compression.{cv}
+use Rattle.b3tree.specs.declared.values.Cv.{Cv}
+use Rattle.b3tree.specs.Chunk.{last_chunk_input}
 use Rattle.bao_check.specs.declared.part.Part.{Part}
 use Rattle.bao_check.specs.Decoded.{chunk_bytes, subtree_kinds}
 use Rattle.bao_check.specs.Waiting.{last_part, part_size}
 use Rattle.bao_check.specs.Whole.{HasWholeAhead}
-use Rattle.bao_check.proofs.ChunkBytes.{kinds_size-some, refused_front, whole_decodes, whole_size, whole_taken_from}
+use Rattle.bao_check.proofs.ChunkBytes.{kinds_size-some, refused_front, same_part, some_weaker, whole_decodes, whole_size, whole_taken_from}
 use Rattle.bao_check.proofs.Feeding.{first_of, part_taken}
 use Rattle.bao_check.proofs.decoding.take_first.Goals as goal
 
@@ -79,6 +82,20 @@ returns-in-Some-whole_at_hand-clause-chunks c =
       whole_decodes c.args.mode.now c.args.choice.now c.args.waiting.now.items c.pop-taken.new.self.items c.in-Some.part c.in-Some-whole_at_hand.len c.args.bytes.now
           (first.is ∙ ap (λ (s : List Part). s ++ c.in-Some.part ∷ []) (sym c.pop-taken.ensures.rest)) whole,
     )
+
+pub take_node-requires-clause-known : goal.take_node-requires-clause-known
+take_node-requires-clause-known c =
+    let mode = c.args.mode.now in
+    let bytes : List ℕ = c.args.bytes.now in
+    let len : ℕ = c.size-len.result in
+    let last : last_part c.args.waiting.now.items ≡ Some c.in-Some.part = sym c.next_part.ensures ∙ c.in-Some.is in
+    let whole : (part : Part) → last_part c.args.waiting.now.items ≡ Some part → part.len ≡ 1024 → take 1024 bytes ≡ take 1024 (take len bytes) = λ part next one.
+    let len_is : len ≡ 1024 = c.size-len.ensures ∙ ap part_size (same_part (last_part c.args.waiting.now.items) c.in-Some.part part last next)
+    ∙ ap (λ (n : ℕ). if nat_le n 1024 then n else 64) one in
+    sym (take-take 1024 len bytes (omega (arith, len_is))) in
+    some_weaker c.args.known (λ (value : Cv). (part : Part) → last_part c.args.waiting.now.items ≡ Some part → part.len ≡ 1024 → value.0 ≡ cv (last_chunk_input mode part.number (take 1024 bytes)))
+    (λ (value : Cv). (part : Part) → last_part c.args.waiting.now.items ≡ Some part → part.len ≡ 1024 → value.0 ≡ cv (last_chunk_input mode part.number (take 1024 (take len bytes))))
+    (λ value known part next one. known part next one ∙ ap (λ (s : List ℕ). cv (last_chunk_input mode part.number s)) (whole part next one)) c.requires.known
 
 pub returns-in_err-take_node-clause-err : goal.returns-in_err-take_node-clause-err
 returns-in_err-take_node-clause-err c =

@@ -1,5 +1,4 @@
 use Rattle.std.proofs.Common.{◌≡◌, ◌≤◌, ◌<◌, ◌+◌, ◌-◌, ℕ, List, ◌++◌, length, take, drop, IfSome, refl, ap, subst, ◌∙◌, arith, length-drop}
-use Rattle.std.proofs.lemmas.List.{take_all}
 use Rattle.std.proofs.lemmas.Result.{err_from_is_err_and}
 use Rattle.bao_check.specs.declared.part.Part.{Part}
 use Rattle.bao_check.specs.Decoded.{Decodes}
@@ -9,6 +8,7 @@ use Rattle.bao_check.proofs.decoding.take_nodes.Goals as goal
 
 pub nodes-init : goal.nodes-init
 nodes-init c = record {
+  known = c.none-known.ensures c.args.mode.now c.args.bytes.now;
   parts = c.requires.parts;
   size = refl;
   at = omega arith;
@@ -18,32 +18,26 @@ nodes-init c = record {
   decodes = decodes_nothing c.args.choice.now c.args.waiting.now.items;
 }
 
-pub slice_bounds-take_first-start : goal.slice_bounds-take_first-start
-slice_bounds-take_first-start c = omega (arith, c.nodes.invariant.used)
+pub take_next-requires-clause-parts : goal.take_next-requires-clause-parts
+take_next-requires-clause-parts c = c.nodes.invariant.parts
 
-pub slice_bounds-take_first-count : goal.slice_bounds-take_first-count
-slice_bounds-take_first-count c = omega (arith, c.nodes.invariant.used)
-
-pub take_first-requires-clause-parts : goal.take_first-requires-clause-parts
-take_first-requires-clause-parts c = c.nodes.invariant.parts
-
-pub take_first-requires-clause-room : goal.take_first-requires-clause-room
-take_first-requires-clause-room c =
+pub take_next-requires-clause-room : goal.take_next-requires-clause-room
+take_next-requires-clause-room c =
     let bytes : List ℕ = c.args.bytes.now in
-    let rest : List ℕ = take (length bytes - c.nodes.used) (drop c.nodes.used bytes) in
+    let rest : List ℕ = drop c.nodes.used bytes in
     let rest_len : length (drop c.nodes.used bytes) ≡ length bytes - c.nodes.used = length-drop c.nodes.used bytes in
-    let rest_is : rest ≡ drop c.nodes.used bytes = take_all (length bytes - c.nodes.used) (drop c.nodes.used bytes) (omega (arith, rest_len)) in
+    let rest_is : rest ≡ drop c.nodes.used bytes = refl in
     omega (arith, ap length rest_is, rest_len, c.nodes.invariant.filled, c.nodes.invariant.size, c.nodes.invariant.used, c.requires.room)
 
 pub returns-in_err-len-clause-err : goal.returns-in_err-len-clause-err
 returns-in_err-len-clause-err c =
     let inv = c.nodes.invariant in
     let bytes : List ℕ = c.args.bytes.now in
-    let rest : List ℕ = take (length bytes - c.nodes.used) (drop c.nodes.used bytes) in
+    let rest : List ℕ = drop c.nodes.used bytes in
     let rest_len : length (drop c.nodes.used bytes) ≡ length bytes - c.nodes.used = length-drop c.nodes.used bytes in
-    let rest_is : rest ≡ drop c.nodes.used bytes = take_all (length bytes - c.nodes.used) (drop c.nodes.used bytes) (omega (arith, rest_len)) in
+    let rest_is : rest ≡ drop c.nodes.used bytes = refl in
     let p = err_from_is_err_and c.from_residual.result c.from_residual.ensures.1 in
-    let same : c.take_first.new.waiting ≡ c.nodes.waiting = c.in_err-len.ensures.same refl in
+    let same : c.take_next.new.waiting ≡ c.nodes.waiting = c.in_err-len.ensures.same refl in
     let refused = refused_later c.args.mode.now c.args.choice.now c.args.waiting.now.items c.nodes.waiting.items c.args.at.now c.nodes.used c.nodes.at bytes c.in_err-len.field-0.0 inv.used inv.at inv.taken
     (subst (λ (s : List ℕ). HasRefused c.args.mode.now c.args.choice.now c.nodes.waiting.items c.nodes.at s c.in_err-len.field-0.0) rest_is c.in_err-len.ensures.err) in
     rw (p.1, p.2, same) (c.nodes.used, inv.at, refused)
@@ -52,9 +46,9 @@ pub overflow_add-at : goal.overflow_add-at
 overflow_add-at c =
     let inv = c.nodes.invariant in
     let bytes : List ℕ = c.args.bytes.now in
-    let rest : List ℕ = take (length bytes - c.nodes.used) (drop c.nodes.used bytes) in
+    let rest : List ℕ = drop c.nodes.used bytes in
     let rest_len : length (drop c.nodes.used bytes) ≡ length bytes - c.nodes.used = length-drop c.nodes.used bytes in
-    let rest_is : rest ≡ drop c.nodes.used bytes = take_all (length bytes - c.nodes.used) (drop c.nodes.used bytes) (omega (arith, rest_len)) in
+    let rest_is : rest ≡ drop c.nodes.used bytes = refl in
     let Bounds : ℕ × ℕ → Type 0 = λ r. (1 ≤ r.0) × (r.0 ≤ length rest) × (c.nodes.filled ≤ r.1) × (r.1 ≤ c.nodes.filled + r.0) in
     let bounds : Bounds (c.in-Some.len, c.in-Some.free) = some_of c.in_ok-len.field-0 (c.in-Some.len, c.in-Some.free) Bounds c.in-Some.is c.in_ok-len.ensures.taken in
     let rest_size : length rest ≡ length bytes - c.nodes.used = ap length rest_is ∙ rest_len in
@@ -64,9 +58,9 @@ pub nodes-smaller : goal.nodes-smaller
 nodes-smaller c =
     let inv = c.nodes.invariant in
     let bytes : List ℕ = c.args.bytes.now in
-    let rest : List ℕ = take (length bytes - c.nodes.used) (drop c.nodes.used bytes) in
+    let rest : List ℕ = drop c.nodes.used bytes in
     let rest_len : length (drop c.nodes.used bytes) ≡ length bytes - c.nodes.used = length-drop c.nodes.used bytes in
-    let rest_is : rest ≡ drop c.nodes.used bytes = take_all (length bytes - c.nodes.used) (drop c.nodes.used bytes) (omega (arith, rest_len)) in
+    let rest_is : rest ≡ drop c.nodes.used bytes = refl in
     let Bounds : ℕ × ℕ → Type 0 = λ r. (1 ≤ r.0) × (r.0 ≤ length rest) × (c.nodes.filled ≤ r.1) × (r.1 ≤ c.nodes.filled + r.0) in
     let bounds : Bounds (c.in-Some.len, c.in-Some.free) = some_of c.in_ok-len.field-0 (c.in-Some.len, c.in-Some.free) Bounds c.in-Some.is c.in_ok-len.ensures.taken in
     let rest_size : length rest ≡ length bytes - c.nodes.used = ap length rest_is ∙ rest_len in
@@ -76,38 +70,39 @@ pub nodes-preserved : goal.nodes-preserved
 nodes-preserved c =
     let inv = c.nodes.invariant in
     let bytes : List ℕ = c.args.bytes.now in
-    let rest : List ℕ = take (length bytes - c.nodes.used) (drop c.nodes.used bytes) in
+    let rest : List ℕ = drop c.nodes.used bytes in
     let rest_len : length (drop c.nodes.used bytes) ≡ length bytes - c.nodes.used = length-drop c.nodes.used bytes in
-    let rest_is : rest ≡ drop c.nodes.used bytes = take_all (length bytes - c.nodes.used) (drop c.nodes.used bytes) (omega (arith, rest_len)) in
+    let rest_is : rest ≡ drop c.nodes.used bytes = refl in
     let Bounds : ℕ × ℕ → Type 0 = λ r. (1 ≤ r.0) × (r.0 ≤ length rest) × (c.nodes.filled ≤ r.1) × (r.1 ≤ c.nodes.filled + r.0) in
     let bounds : Bounds (c.in-Some.len, c.in-Some.free) = some_of c.in_ok-len.field-0 (c.in-Some.len, c.in-Some.free) Bounds c.in-Some.is c.in_ok-len.ensures.taken in
     let rest_size : length rest ≡ length bytes - c.nodes.used = ap length rest_is ∙ rest_len in
     let choice = c.args.choice.now in
     let a : List Part = c.args.waiting.now.items in
     let b : List Part = c.nodes.waiting.items in
-    let d : List Part = c.take_first.new.waiting.items in
+    let d : List Part = c.take_next.new.waiting.items in
     let Nodes : ℕ × ℕ → Type 0 = λ r. HasTaken c.args.mode.now choice b d (take r.0 rest) in
     let nodes : Nodes (c.in-Some.len, c.in-Some.free) = some_of c.in_ok-len.field-0 (c.in-Some.len, c.in-Some.free) Nodes c.in-Some.is c.in_ok-len.ensures.nodes in
     let had : List ℕ = take c.nodes.filled c.nodes.room in
-    let Chunks : ℕ × ℕ → Type 0 = λ r. (part : List ℕ) × (take r.1 c.take_first.new.room ≡ had ++ part) × Decodes choice b d (take r.0 rest) part in
+    let Chunks : ℕ × ℕ → Type 0 = λ r. (part : List ℕ) × (take r.1 c.take_next.new.room ≡ had ++ part) × Decodes choice b d (take r.0 rest) part in
     let chunks : Chunks (c.in-Some.len, c.in-Some.free) = some_of c.in_ok-len.field-0 (c.in-Some.len, c.in-Some.free) Chunks c.in-Some.is c.in_ok-len.ensures.chunks in
     record {
-      parts = c.take_first.ensures.parts;
-      size = c.take_first.ensures.size ∙ inv.size;
+      known = c.take_next.ensures.known;
+      parts = c.take_next.ensures.parts;
+      size = c.take_next.ensures.size ∙ inv.size;
       at = omega (arith, inv.at);
       used = omega (arith, inv.used, bounds.1, rest_size);
       filled = omega (arith, inv.filled, bounds.3);
       taken = taken_more c.args.mode.now choice a b d bytes rest c.nodes.used c.in-Some.len rest_is inv.taken nodes;
-      decodes = decodes_more choice a b d bytes rest had chunks.0 (take c.in-Some.free c.take_first.new.room) c.nodes.used c.in-Some.len rest_is chunks.1 inv.decodes chunks.2;
+      decodes = decodes_more choice a b d bytes rest had chunks.0 (take c.in-Some.free c.take_next.new.room) c.nodes.used c.in-Some.len rest_is chunks.1 inv.decodes chunks.2;
     }
 
 pub returns-clause-ok : goal.returns-clause-ok
 returns-clause-ok c =
     let inv = c.nodes.invariant in
     let bytes : List ℕ = c.args.bytes.now in
-    let rest : List ℕ = take (length bytes - c.nodes.used) (drop c.nodes.used bytes) in
+    let rest : List ℕ = drop c.nodes.used bytes in
     let rest_len : length (drop c.nodes.used bytes) ≡ length bytes - c.nodes.used = length-drop c.nodes.used bytes in
-    let rest_is : rest ≡ drop c.nodes.used bytes = take_all (length bytes - c.nodes.used) (drop c.nodes.used bytes) (omega (arith, rest_len)) in
+    let rest_is : rest ≡ drop c.nodes.used bytes = refl in
     let none = c.in_ok-len.ensures.none c.in_default.is in
     let most : IfSome (next_size c.nodes.waiting.items) (λ size. length bytes < c.nodes.used + size) =
     some_weaker (next_size c.nodes.waiting.items) (λ size. length rest < size) (λ size. length bytes < c.nodes.used + size) (λ size less. omega (arith, less, ap length rest_is, rest_len)) none.2 in
