@@ -59,7 +59,7 @@ fn write_window<R: Threads + Sync, S: Source + Sync, W: Write>(
     let count = GROUP_BYTES.saturating_mul(window.len() as u64);
     let end = at + count.min(total - at);
     if end >= total {
-        return match put_window(window, hasher, out) {
+        return match put_window(rt, window, hasher, out) {
             Ok(()) => Ok(end),
             Err(fault) => Err(fault),
         };
@@ -71,9 +71,9 @@ fn write_window<R: Threads + Sync, S: Source + Sync, W: Write>(
             ensures { IsFilled S.contents S.faultless wanted.entry.now sources.entry.now end total next.entry.now next.exit.now result }
         { fill_window(rt, alloc, wanted, workers, sources, end, total, next) },
         &mut || -> Result<(), WindowsFault>
-            requires { HasRoomFor hasher.now (length (window_bytes window.now)) }
+            requires { IsSync R.row × HasRoomFor hasher.now (length (window_bytes window.now)) }
             ensures { IsPut (window_bytes window.entry.now) (W.contents out.entry.now) (W.contents out.exit.now) hasher.entry.now hasher.exit.now result }
-        { put_window(window, hasher, out) },
+        { put_window(rt, window, hasher, out) },
     );
     match put {
         Ok(()) => {}

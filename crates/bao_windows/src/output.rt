@@ -9,6 +9,10 @@ use crate::window::Slot;
 use b3tree::Hasher;
 use bao_text::write_text;
 use std::io::Write;
+use std::thread::{Threads, join_mut};
+
+// A window of fewer groups than this is hashed before another thread would have begun to.
+const FEW_GROUPS: usize = 16;
 
 // Takes the bytes of a window into the hash.
 fn take_in(window: &[Slot], hasher: &mut Hasher)
@@ -38,15 +42,31 @@ fn write_slots<W: Write>(window: &[Slot], out: &mut W) -> Result<(), WindowsFaul
     Ok(())
 }
 
-// Takes the bytes of a window into the hash, and writes them.
-pub(crate) fn put_window<W: Write>(
+// Takes the bytes of a window into the hash and writes them, at the same time where they are many.
+pub(crate) fn put_window<R: Threads + Sync, W: Write>(
+    rt: &R,
     window: &[Slot],
     hasher: &mut Hasher,
     out: &mut W,
 ) -> Result<(), WindowsFault>
-    requires { HasRoomFor hasher.old (length (window_bytes window.now)) }
+    requires room { HasRoomFor hasher.old (length (window_bytes window.now)) }
     ensures { IsPut (window_bytes window.now) (W.contents out.old) (W.contents out.new) hasher.old hasher.new result }
 {
-    take_in(window, hasher);
-    write_slots(window, out)
+    if window.len() < FEW_GROUPS {
+        take_in(window, hasher);
+        return write_slots(window, out);
+    }
+    let (_, written) = join_mut(
+        rt,
+        &mut || -> ()
+            requires { HasRoomFor hasher.now (length (window_bytes window.now)) }
+            ensures { TookIn hasher.entry.now hasher.exit.now (window_bytes window.entry.now) }
+        { take_in(window, hasher) },
+        &mut || -> Result<(), WindowsFault>
+            ensures text { OnOk result (Appends (W.contents out.entry.now) (W.contents out.exit.now) (window_bytes window.entry.now)) }
+            ensures begun { WroteBeginning (W.contents out.entry.now) (W.contents out.exit.now) (window_bytes window.entry.now) }
+            ensures fault { IfErr result (λ fault. fault ≡ WindowsFault.Write) }
+        { write_slots(window, out) },
+    );
+    written
 }

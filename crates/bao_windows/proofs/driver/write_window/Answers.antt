@@ -4,8 +4,8 @@ use Rattle.bao_windows.specs.Windows.{window_bytes}
 use Rattle.bao_windows.specs.Written.{HasRoomFor}
 use Rattle.bao_windows.proofs.driver.write_window.Goals as goal
 
-pub put_window-requires : goal.put_window-requires
-put_window-requires g c = fewer c.args.hasher.now (c.args.total - c.args.at) (length (window_bytes c.args.window.now)) c.requires.room (omega (arith, c.requires.whole.size))
+pub put_window-requires-clause-room : goal.put_window-requires-clause-room
+put_window-requires-clause-room g c κs within = fewer c.args.hasher.now (c.args.total - c.args.at) (length (window_bytes c.args.window.now)) c.requires.room (omega (arith, c.requires.whole.size))
 
 pub join_mut-filled-requires-after_bounds : goal.join_mut-filled-requires-after_bounds
 join_mut-filled-requires-after_bounds g c κs within =
