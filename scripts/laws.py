@@ -31,7 +31,7 @@ OF = {
     "berylwool": ["berylwool"],
 }
 # Crates that nobody calls: laws, tests, programs.
-ASIDE = re.compile(r"determined_|tests_|.*_scenarios$|bench$|bao_gather$")
+ASIDE = re.compile(r"determined_|tests_|.*_scenarios$|examples$|bench$|bao_gather$")
 # A public function's head, and its body's first line. One with no body is a law itself: it answers nothing.
 PUBLIC = re.compile(r'^( *)pub (?:(?:const|unsafe|final|extern "C") )*fn (\w+)(?:.*\n)*?(?:\1\{(\}?)$|.*[^ ] \{(\}?)$)', re.M)
 # The type of which an impl's functions are.

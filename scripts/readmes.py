@@ -4,7 +4,7 @@
 usage: python3 scripts/readmes.py [--read]
 
 At the top of the repository. Writes crates/NAME/README.md for each crate of crates.txt that has a lib.rt and isn't laws or tests. The text is lib.rt's own,
-and of each thing that it hands out the first sentence of its documentation. With --read it writes nothing, and fails where a file isn't what it would write.
+a line that leads to the example of crates/examples that calls it, where there is one, and of each thing that it hands out the first sentence of its documentation. With --read it writes nothing, and fails where a file isn't what it would write.
 Prints a line for each such file, and a count.
 """
 import glob
@@ -81,6 +81,8 @@ def readme(crate, uses):
     below = ", ".join(f"[`{it}`](../{it})" for it in sorted(uses)) or "nothing of this repository"
     out = [f"# {crate}", "", wrapped(head_of(crate)), ""]
     out += [FIRST[crate], ""] if crate in FIRST else []
+    example = f"../examples/src/using_{crate}.rt"
+    out += [f"[{example}]({example}) calls it: begin there to use it.", ""] if os.path.isfile(f"crates/{crate}/{example}") else []
     out += [wrapped(f"It stands on {below}."), ""]
     out += ["[ARCHITECTURE](../../docs/ARCHITECTURE.md) has its files, and [PROMISES](../../docs/PROMISES.md) what is proved of it."]
     out += [f'`make statement CALL="{crate}"` prints its contracts with every definition behind them.', ""]

@@ -14,7 +14,7 @@ import re
 import sys
 
 DOCUMENT = "docs/ARCHITECTURE.md"
-ASIDE = ("determined_*", "tests_*", "*_scenarios", "bench")
+ASIDE = ("determined_*", "tests_*", "*_scenarios", "examples", "bench")
 
 
 def stands_on():

@@ -1,5 +1,5 @@
 #!/usr/bin/env python3
-"""Makes the replies that the scenarios of crates/*_scenarios have to get, by the definitions alone.
+"""Makes the replies that the scenarios of crates/*_scenarios have to get, and what crates/examples has to print, by the definitions alone.
 
 usage: python3 scripts/scenarios.py [--write]
 
@@ -1246,7 +1246,47 @@ class Crews:
         return []
 
 
+def examples():
+    """What the program `examples` has to print of its blob."""
+    mode, blob = bao.Mode(), blob_of(200_000)
+    root, size = mode.hash(blob), 1 << 16
+
+    def text(name, data):
+        return f"{name}: {len(data)} bytes {mode.hash(data).hex()}"
+
+    part = text("slice", bao.slice_text(mode, blob, 70_000, 1_000))
+    return [
+        f"hash: {root.hex()}",
+        f"keyed hash: {bao.Mode.keyed(bytes([7] * 32)).hash(blob).hex()}",
+        f"derived key: {bao.Mode.derived(b'examples 2026').hash(blob).hex()}",
+        f"longer output: {mode.output(blob, 0, 48).hex()}",
+        f"hash in pieces: {root.hex()}",
+        f"hash by a pool: {root.hex()}",
+        f"root: {root.hex()}",
+        text("combined", bao.combined(mode, blob)),
+        f"cut {part}",
+        text("outboard", bao.outboard(mode, blob)),
+        part,
+        f"hash of a source: {root.hex()}",
+        f"combined of a source: {mode.hash(bao.combined(mode, blob)).hex()}",
+        text("checked chunk", blob[70_000 // bao.CHUNK_LEN * bao.CHUNK_LEN :][: bao.CHUNK_LEN]),
+        f"certified length: {len(blob)}",
+        text("second chunk", blob[bao.CHUNK_LEN : 2 * bao.CHUNK_LEN]),
+        f"hash of what was decoded: {root.hex()}",
+        f"checked by threads: {bao.chunks_of(len(blob))} chunks",
+        "audit: agrees",
+        f"read of a part: {blob[70_000:][:16].hex()}",
+        f"missing from {2 * size} on",
+        f"served {part}",
+        text("finished", blob),
+        f"read after two seats: {blob[size - 8 :][:16].hex()}",
+        text("gathered", blob),
+        text("gathered by workers", blob),
+    ]
+
+
 SCENARIOS = {"text_scenarios": Texts, "store_scenarios": Stores, "crew_scenarios": Crews, "program_scenarios": Programs}
+PROGRAMS = [*SCENARIOS, "examples"]
 
 
 def replies(kind, script):
@@ -1270,7 +1310,9 @@ def disagreements(file):
 
 
 def made_of(name):
-    """What the program of scenarios of this name has to print."""
+    """What the program of this name has to print."""
+    if name == "examples":
+        return "".join(f"{it}\n" for it in examples())
     with open(f"crates/{name}/stdin", encoding="utf-8") as it:
         return replies(SCENARIOS[name], it.read())
 
@@ -1280,11 +1322,11 @@ def main(words):
         sys.exit(__doc__)
     with concurrent.futures.ProcessPoolExecutor() as pool:
         rows = pool.submit(disagreements, f"{os.path.dirname(os.path.abspath(__file__))}/b3sum.tsv")
-        texts = list(pool.map(made_of, SCENARIOS))
+        texts = list(pool.map(made_of, PROGRAMS))
         wrong = rows.result()
     if wrong:
         print(f"{wrong} rows of b3sum.tsv aren't what the definitions give")
-    for name, made in zip(SCENARIOS, texts):
+    for name, made in zip(PROGRAMS, texts):
         file = f"crates/{name}/stdout"
         if words:
             with open(file, "w", encoding="utf-8") as it:
