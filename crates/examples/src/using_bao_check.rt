@@ -59,10 +59,13 @@ pub fn decoded(alloc: Global, root: &Hash, text: &[u8]) -> Result<Vec<u8>> {
     Ok(blob)
 }
 
-fn show_slices<R: Print>(rt: &R, alloc: Global, root: &Hash, blob: &[u8]) -> Result<()> {
+fn show_chunk<R: Print>(rt: &R, alloc: Global, root: &Hash, blob: &[u8]) -> Result<()> {
     let (_, text) = slice(alloc, &Mode::hash(), blob, 70_000, 1)?;
     let chunk = checked_chunk(alloc, root, 70_000, text.as_slice())?;
-    tell_text(rt, alloc, "checked chunk", chunk)?;
+    tell_text(rt, alloc, "checked chunk", chunk)
+}
+
+fn show_length<R: Print>(rt: &R, alloc: Global, root: &Hash, blob: &[u8]) -> Result<()> {
     let (_, text) = slice(alloc, &Mode::hash(), blob, u64::MAX, 1)?;
     let length = certified_length(alloc, root, text.as_slice())?;
     println!(rt; "certified length: {length}")?;
@@ -79,7 +82,8 @@ fn show_beside<R: Print>(rt: &R, alloc: Global, root: &Hash, blob: &[u8]) -> Res
 /// Prints a line for each.
 pub fn show<R: Print>(rt: &R, alloc: Global, blob: &[u8]) -> Result<()> {
     let root = hash(&Mode::hash(), blob);
-    show_slices(rt, alloc, &root, blob)?;
+    show_chunk(rt, alloc, &root, blob)?;
+    show_length(rt, alloc, &root, blob)?;
     show_beside(rt, alloc, &root, blob)?;
     let (_, text) = combined(alloc, &Mode::hash(), blob)?;
     let decoded = decoded(alloc, &root, text.as_slice())?;

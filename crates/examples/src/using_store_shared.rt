@@ -50,6 +50,16 @@ fn fetch_group(
     Ok(())
 }
 
+/// The 16 bytes from a position on, as soon as a seat sees that their chunks are held, or the first position that isn't.
+pub fn read_16(store: &Assembly, seat: &mut Seat, at: u64) -> Result<[u8; 16], Missing>
+    requires { IsSeatOf store.now seat.old }
+    ensures { IsSeatOf store.now seat.new }
+{
+    let mut bytes = [0; 16];
+    store.read(seat, at, &mut bytes)?;
+    Ok(bytes)
+}
+
 /// The 16 bytes around the border of groups 0 and 1, each of which came by a seat of its own. A seat that joins two has seen what
 /// both have.
 pub fn by_two_seats(alloc: Global, root: Hash, blob: &[u8]) -> Result<[u8; 16]> {
@@ -60,9 +70,8 @@ pub fn by_two_seats(alloc: Global, root: Hash, blob: &[u8]) -> Result<[u8; 16]> 
     fetch_group(alloc, &store, &mut first, &root, blob, 0)?;
     fetch_group(alloc, &store, &mut second, &root, blob, 1)?;
     let mut both = store.join(first, second);
-    let mut bytes = [0; 16];
-    match store.read(&mut both, 65_528, &mut bytes) {
-        Ok(()) => Ok(bytes),
+    match read_16(&store, &mut both, 65_528) {
+        Ok(bytes) => Ok(bytes),
         Err(Missing(position)) => bail!("byte {position}"),
     }
 }
