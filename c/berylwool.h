@@ -324,7 +324,7 @@ BW_USE bw_status bw_feed_take(bw_handle *feed, const uint8_t *node, size_t node_
  * room for as many bytes as are given, or else BW_ROOM, and nothing is changed; from *filled to there it is 0. BW_MISMATCH: the first fault of
  * every encoding that begins with what was taken and these bytes is at *at. BW_TOO_MUCH, with 0 in *at. After either, nodes before the fault may
  * have been taken and `out` is 0: begin a new check from the bytes on that earlier calls handed out. Pieces of 256 KiB take some
- * 1.2 times as long as their hash, and of 64 KiB 1.6 times: chunks at their ends are verified one by one. */
+ * 1.2 times as long as their hash, and of 64 KiB 1.4 times: what a piece has of a subtree at its ends seldom fills eight lanes. */
 BW_USE bw_status bw_feed_take_many(bw_handle *feed, const uint8_t *bytes, size_t bytes_len, uint8_t *out, size_t out_len, size_t *taken,
                                    size_t *filled, uint64_t *at);
 
