@@ -35,7 +35,8 @@ int main(void) {
         LEAST(best, times, bw_hash(&plain, bytes, len, out))
         printf("bw_hash of %zu bytes: %.0f ns, %.2f GB/s\n", len, best * 1e9, (double)len / best / 1e9);
     }
-    bw_handle hasher = BW_EMPTY, seat = BW_EMPTY, other = BW_EMPTY;
+    bw_hasher hasher = BW_EMPTY;
+    bw_seat seat = BW_EMPTY, other = BW_EMPTY;
     LEAST(made, 20000, kept = bw_hasher_new(&plain, &hasher))
     printf("bw_hasher_new, with the old one freed: %.0f ns\n", made * 1e9);
     LEAST(nothing, 100000, kept = bw_hasher_update(&hasher, bytes, 0))
@@ -52,7 +53,7 @@ int main(void) {
     LEAST(checked, 20, kept = bw_check_combined(&plain, root, text, text_len, &at))
     printf("bw_check_combined of 1 MiB: %.0f us, %.2f GB/s\n", checked * 1e6, (1 << 20) / checked / 1e9);
     uint8_t *out_text = malloc(text_len);
-    bw_handle feed = BW_EMPTY;
+    bw_feed feed = BW_EMPTY;
     size_t had = 0, filled = 0;
     uint32_t kind = 0;
     if (!out_text) return 1;
@@ -71,7 +72,7 @@ int main(void) {
             if (bw_feed_take(&feed, text + done, had, &at)) return 1;
     })
     printf("bw_feed_take of 1 MiB, node by node: %.0f us, %.2f of bw_hash\n", nodes * 1e6, nodes / whole);
-    bw_free(&feed), free(out_text);
+    bw_feed_free(&feed), free(out_text);
     if (bw_store_new(&plain, root, 1024, &seat) || bw_cut_slice(text, text_len, 0, 65536, slice, 1 << 18, &used)) return 1;
     LEAST(length, 100000, kept = bw_seat_length(&seat, &at))
     printf("bw_seat_length: %.1f ns\n", length * 1e9);
@@ -94,11 +95,11 @@ int main(void) {
     printf("bw_seat_read of 64 KiB: %.1f us, %.2f GB/s\n", read * 1e6, 65536 / read / 1e9);
     LEAST(held, 1000, kept = bw_seat_held(&seat, 0, &mask))
     printf("bw_seat_held: %.2f us\n", held * 1e6);
-    bw_free(&hasher), bw_free(&seat), bw_free(&other);
+    bw_hasher_free(&hasher), bw_seat_free(&seat), bw_seat_free(&other);
     /* 64 KiB of a plain copy of 64 MiB, beside an outline that is kept and beside one that is checked with them. */
     size_t outboard_len = (size_t)bw_outboard_len(64 << 20);
     uint8_t *outboard = malloc(outboard_len);
-    bw_handle outline = BW_EMPTY;
+    bw_outline outline = BW_EMPTY;
     if (!outboard || bw_outboard(&plain, bytes, 64 << 20, outboard, outboard_len, &used, root)) return 1;
     if (bw_outline_new(&plain, root, outboard, outboard_len, &outline, &at)) return 1;
     LEAST(hashed, 100, bw_hash(&plain, bytes, 65536, out))
@@ -108,7 +109,7 @@ int main(void) {
     printf("bw_outline_slice of 64 KiB of 64 MiB: %.1f us, %.2f of bw_hash\n", sliced * 1e6, sliced / hashed);
     LEAST(bare, 5, kept = bw_check_bare(&plain, root, outboard, outboard_len, 5000, 64, bytes + 5000 * 1024, 65536, &at))
     printf("bw_check_bare of 64 KiB of 64 MiB: %.1f us, %.2f of bw_hash\n", bare * 1e6, bare / hashed);
-    bw_free(&outline);
+    bw_outline_free(&outline);
     free(bytes), free(text), free(slice), free(outboard);
     return 0;
 }

@@ -79,7 +79,7 @@ static void print(const char *name, double seconds) {
 
 /* One thread's part of the blob, from byte `at` on: its seat, its groups' slices, one every `slice_room` bytes, with their lengths, and what it read. */
 typedef struct share {
-    bw_handle seat;
+    bw_seat seat;
     uint64_t at;
     size_t len;
     const uint8_t *slices;
@@ -129,7 +129,7 @@ typedef struct blob {
 /* The blob is committed to a new store and read out of it, by so many threads with a seat each. */
 static void share_times(const blob *it, int count, double *committed, double *read) {
     share shares[MOST_THREADS];
-    bw_handle first = BW_EMPTY;
+    bw_seat first = BW_EMPTY;
     size_t part = (groups_of(it->len) + (size_t)count - 1) / (size_t)count * GROUP_LEN;
     MUST(bw_store_new(&plain, it->root, 65536, &first) == BW_OK);
     for (int k = 0; k < count; k++) {
@@ -147,7 +147,7 @@ static void share_times(const blob *it, int count, double *committed, double *re
     if (took < *read) *read = took;
     MUST(memcmp(it->read, it->bytes, it->len) == 0);
     for (int k = 0; k < count; k++) MUST(bw_seat_join(&first, &shares[k].seat) == BW_OK);
-    bw_free(&first);
+    bw_seat_free(&first);
 }
 
 static void shared(const uint8_t *bytes, size_t len) {
@@ -177,7 +177,9 @@ static void calls(const uint8_t *bytes) {
     size_t count = 0;
     bw_range ranges[BW_RANGES_MAX];
     static bw_placed nodes[BW_NODES_MAX(BW_GROUP_CHUNKS + 1)];
-    bw_handle hasher = BW_EMPTY, seat = BW_EMPTY, other = BW_EMPTY, feed = BW_EMPTY;
+    bw_hasher hasher = BW_EMPTY;
+    bw_seat seat = BW_EMPTY, other = BW_EMPTY;
+    bw_feed feed = BW_EMPTY;
     bw_hash(&plain, bytes, 0, root);
     MUST(bw_hasher_new(&plain, &hasher) == BW_OK && bw_store_new(&plain, root, 65536, &seat) == BW_OK && bw_feed_combined(&plain, root, &feed) == BW_OK);
     TIME_CALLS("bw_hasher_update of no bytes", CALLS, bw_hasher_update(&hasher, bytes, 0));
@@ -194,14 +196,15 @@ static void calls(const uint8_t *bytes) {
     TIME_CALLS("bw_slice_ranges of 64 KiB", CALLS, bw_slice_ranges(most, most / 3, GROUP_LEN, ranges, BW_RANGES_MAX, &count));
     TIME_CALLS("bw_outboard_ranges of 64 KiB", CALLS, bw_outboard_ranges(most, most / 3, GROUP_LEN, ranges, BW_RANGES_MAX, &count));
     TIME_CALLS("bw_slice_nodes of 64 KiB", CALLS, bw_slice_nodes(most, most / 3, GROUP_LEN, nodes, BW_NODES_MAX(BW_GROUP_CHUNKS + 1), &count));
+    TIME_CALLS("bw_node_at of 64 KiB", CALLS, bw_node_at(most, most / 3, GROUP_LEN, GROUP_LEN, nodes));
     TIME_CALLS("bw_hash of no bytes", CALLS, (bw_hash(&plain, bytes, 0, out), BW_OK));
     TIME_CALLS("bw_derive_key of no bytes", CALLS, bw_derive_key(bytes, 0, bytes, 0, out, sizeof out));
-    bw_free(&hasher), bw_free(&seat), bw_free(&other), bw_free(&feed);
+    bw_hasher_free(&hasher), bw_seat_free(&seat), bw_seat_free(&other), bw_feed_free(&feed);
 }
 
 /* An encoding is given in pieces of so many bytes, or node by node for 0. */
 static bw_status pour(const uint8_t *root, const uint8_t *text, size_t len, size_t piece, uint8_t *out) {
-    bw_handle feed = BW_EMPTY;
+    bw_feed feed = BW_EMPTY;
     uint64_t at = 0;
     uint32_t node = 0;
     size_t had = 0, filled = 0, size = 0;
@@ -216,12 +219,12 @@ static bw_status pour(const uint8_t *root, const uint8_t *text, size_t len, size
         if (status == BW_OK) status = bw_feed_take(&feed, text + done, had = size, &at);
     }
     if (status == BW_OK) status = bw_feed_finish(&feed, text, 0, &at);
-    bw_free(&feed);
+    bw_feed_free(&feed);
     return status;
 }
 
 /* A plain copy beside an outline, 64 KiB at a time: checked, made slices of, or stored. */
-static bw_status beside(bw_handle *outline, bw_handle *seat, const uint8_t *bytes, size_t len, uint8_t *out) {
+static bw_status beside(bw_outline *outline, bw_seat *seat, const uint8_t *bytes, size_t len, uint8_t *out) {
     bw_status status = BW_OK;
     uint64_t at = 0, committed = 0, parents = 0;
     size_t used = 0;
@@ -238,11 +241,11 @@ static bw_status beside(bw_handle *outline, bw_handle *seat, const uint8_t *byte
 /* A hasher that takes in 64 KiB at a time. */
 static bw_status update(const uint8_t *bytes, size_t len) {
     uint8_t out[BW_HASH_LEN];
-    bw_handle hasher = BW_EMPTY;
+    bw_hasher hasher = BW_EMPTY;
     bw_status status = bw_hasher_new(&plain, &hasher);
     for (size_t from = 0; status == BW_OK && from < len; from += GROUP_LEN) status = bw_hasher_update(&hasher, bytes + from, len - from < GROUP_LEN ? len - from : GROUP_LEN);
     if (status == BW_OK) status = bw_hasher_finish(&hasher, out);
-    bw_free(&hasher);
+    bw_hasher_free(&hasher);
     return status;
 }
 
@@ -253,7 +256,7 @@ static void first_bytes(const uint8_t *bytes, size_t len) {
     uint8_t *text = room(text_len), *bare = room(bare_len), *out = room(text_len);
     uint64_t at = 0, total = 0;
     bw_input ours, theirs;
-    bw_handle outline = BW_EMPTY;
+    bw_outline outline = BW_EMPTY;
     MUST(len >= 2 * MIB);
     TIME("bw_hash of the first 64 MiB", (bw_hash(&plain, bytes, len, again), BW_OK));
     TIME("bw_hasher_update in pieces of 64 KiB", update(bytes, len));
@@ -273,7 +276,7 @@ static void first_bytes(const uint8_t *bytes, size_t len) {
     TIME("bw_outline_new", bw_outline_new(&plain, root, bare, bare_len, &outline, &at));
     TIME("bw_outline_check", beside(&outline, NULL, bytes, len, NULL));
     TIME("bw_outline_slice", beside(&outline, NULL, bytes, len, out));
-    bw_free(&outline);
+    bw_outline_free(&outline);
     free(text), free(bare), free(out);
 }
 
@@ -283,17 +286,18 @@ static void stores(const uint8_t *bytes, size_t len) {
     size_t text_len = (size_t)bw_encoded_len(len), bare_len = (size_t)bw_outboard_len(len), used = 0;
     uint8_t *text = room(text_len), *bare = room(bare_len), *slice = room(slice_room), *out = room(len);
     uint64_t at = 0, committed = 0, parents = 0;
-    bw_handle seat = BW_EMPTY, outline = BW_EMPTY;
+    bw_seat seat = BW_EMPTY;
+    bw_outline outline = BW_EMPTY;
     bw_node lacking;
     double made = 1e9, parted = 1e9, all = 1e9, chunks = 1e9, bare_ones = 1e9, gathered = 1e9, salvaged = 1e9, settled = 1e9, apart = 1e9;
     MUST(bw_encode(&plain, bytes, len, text, text_len, &used, root) == BW_OK && bw_outboard(&plain, bytes, len, bare, bare_len, &used, root) == BW_OK);
     MUST(bw_outline_new(&plain, root, bare, bare_len, &outline, &at) == BW_OK);
     for (int k = 0; k < ROUNDS; k++) {
         bw_report report = {0, 0, 0, 0, 0, 0, 0};
-        bw_free(&seat);
+        bw_seat_free(&seat);
         double from = now();
         MUST(bw_store_part(&plain, root, 4096, 4096, &seat) == BW_OK);
-        note(&parted, from), bw_free(&seat), from = now();
+        note(&parted, from), bw_seat_free(&seat), from = now();
         MUST(bw_store_new(&plain, root, 65536, &seat) == BW_OK);
         note(&made, from), from = now();
         MUST(bw_seat_commit_chunks(&seat, 0, UINT64_MAX, text, text_len, &committed, &at) == BW_OK);
@@ -327,7 +331,7 @@ static void stores(const uint8_t *bytes, size_t len) {
     TIME("bw_seat_serve_slice of 1 MiB", bw_seat_serve_slice(&seat, MIB, MIB, out, len, &used, &lacking));
     TIME("bw_seat_finish", bw_seat_finish(&seat, out, len, &used));
     MUST(used == len && memcmp(out, bytes, len) == 0);
-    bw_free(&seat), bw_free(&outline);
+    bw_seat_free(&seat), bw_outline_free(&outline);
     free(text), free(bare), free(slice), free(out);
 }
 

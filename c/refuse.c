@@ -49,7 +49,7 @@ static const bw_mode plain = {0, {0}};
 static int gathers(const uint8_t *root, const uint8_t *blob, size_t blob_len, const uint8_t *text, size_t text_len, long n, int alone) {
     static uint8_t found[80000];
     uint64_t chunks = (blob_len + BW_CHUNK_LEN - 1) / BW_CHUNK_LEN;
-    bw_handle seat = BW_EMPTY;
+    bw_seat seat = BW_EMPTY;
     bw_report report = {0, 0, 0, 0, 0, 0, 0};
     size_t used = 0;
     WANT(bw_store_new(&plain, root, 100, &seat) == BW_OK);
@@ -73,7 +73,7 @@ static int gathers(const uint8_t *root, const uint8_t *blob, size_t blob_len, co
     left = 0;
     WANT(bw_seat_finish(&seat, found, sizeof found, &used) == BW_OK && used == blob_len && memcmp(found, blob, used) == 0);
     left = -1;
-    bw_free(&seat);
+    bw_seat_free(&seat);
     return refused;
 }
 
@@ -94,7 +94,10 @@ int main(void) {
     WANT(bw_cut_slice(text, used, UINT64_MAX, 1, tail, sizeof tail, &tail_len) == BW_OK);
     WANT(bw_outboard(&plain, blob, sizeof blob, outboard, sizeof outboard, &outboard_len, root) == BW_OK);
     for (int refused = 1, n = 0; refused != 0; n++) {
-        bw_handle hasher = BW_EMPTY, seat = BW_EMPTY, other = BW_EMPTY, feed = BW_EMPTY, whole = BW_EMPTY, outline = BW_EMPTY, again = BW_EMPTY, part = BW_EMPTY;
+        bw_hasher hasher = BW_EMPTY;
+        bw_seat seat = BW_EMPTY, other = BW_EMPTY, part = BW_EMPTY;
+        bw_feed feed = BW_EMPTY, whole = BW_EMPTY;
+        bw_outline outline = BW_EMPTY, again = BW_EMPTY;
         refused = 0;
         left = n;
         bw_status made = bw_hasher_new(&plain, &hasher), opened = bw_store_new(&plain, root, 100, &seat), split = bw_seat_split(&seat, &other);
@@ -165,7 +168,7 @@ int main(void) {
             WANT(bw_seat_commit_all(&seat, 0, UINT64_MAX, text, used, &mask, &parents, &at) == BW_OK && mask == 5 - had && parents == 5 - before);
         }
         left = -1;
-        bw_free(&hasher), bw_free(&seat), bw_free(&other), bw_free(&feed), bw_free(&whole), bw_free(&outline), bw_free(&again), bw_free(&part);
+        bw_hasher_free(&hasher), bw_seat_free(&seat), bw_seat_free(&other), bw_feed_free(&feed), bw_feed_free(&whole), bw_outline_free(&outline), bw_outline_free(&again), bw_seat_free(&part);
         WANT(n < 1000);
     }
     for (int alone = 0; alone < 2; alone++)

@@ -15,7 +15,10 @@ static const bw_mode plain = {0, {0}};
 static uint8_t *blob, *text, *outboard, *out, root[BW_HASH_LEN], far[8 + BW_CHUNK_LEN];
 static size_t text_len, outboard_len;
 static uint64_t chunks, at, count, parents;
-static bw_handle seat, other, feed, hasher, outline, part;
+static bw_seat seat, other;
+static bw_feed feed;
+static bw_hasher hasher;
+static bw_outline outline, part;
 
 /* What isn't looked at here is what a call answers: the tests do. */
 static bw_status sink;
@@ -28,7 +31,7 @@ static void hash(void) {
     sink = bw_hasher_update(&hasher, blob, BLOB_LEN - 7);
     sink = bw_hasher_finish(&hasher, out);
     sink = bw_hasher_xof(&hasher, 0, out, 1000);
-    bw_free(&hasher);
+    bw_hasher_free(&hasher);
     bw_mode mode;
     sink = bw_mode_derive(blob, 10, &mode);
 }
@@ -50,6 +53,7 @@ static void range(void) {
     sink = bw_outboard_ranges(UINT64_MAX, UINT64_MAX, 1, ranges, BW_RANGES_MAX, &used);
     static bw_placed nodes[BW_NODES_MAX(1)];
     sink = bw_slice_nodes(UINT64_C(1) << 63, UINT64_MAX, 1, nodes, BW_NODES_MAX(1), &used);
+    sink = bw_node_at(UINT64_C(1) << 63, UINT64_MAX, 1, 8 + 64 * 53, nodes);
 }
 
 /* A text that claims the greatest length, too: its tree is the deepest. */
@@ -73,7 +77,7 @@ static void check_beside(void) {
     sink = bw_outline_length(&outline, &len);
     sink = bw_outline_check(&outline, 0, chunks, blob, BLOB_LEN, &at);
     sink = bw_outline_slice(&outline, 0, chunks, blob, BLOB_LEN, out, ROOM, &used, &at);
-    bw_free(&part);
+    bw_outline_free(&part);
 }
 
 static void pour(void) {
@@ -85,7 +89,7 @@ static void pour(void) {
     sink = bw_feed_take(&feed, text, 8, &at);
     sink = bw_feed_take_many(&feed, text + 8, text_len - 8, out, ROOM, &taken, &filled, &at);
     sink = bw_feed_finish(&feed, text, 0, &at);
-    bw_free(&feed);
+    bw_feed_free(&feed);
 }
 
 static void store(void) {
@@ -111,7 +115,7 @@ static void store(void) {
     sink = bw_seat_finish(&seat, out, ROOM, &used);
     sink = bw_store_part(&plain, root, 3, 500, &seat);
     sink = bw_seat_commit_chunks(&seat, 0, UINT64_MAX, text, text_len, &count, &at);
-    bw_free(&seat);
+    bw_seat_free(&seat);
     bw_free(NULL);
 }
 
@@ -122,7 +126,7 @@ static void gather(void) {
     sink = bw_gather(&seat, 0, 1, text, text_len, &report);
     text[text_len / 2] ^= 1;
     sink = bw_seat_salvage(&seat, text, text_len, &report);
-    bw_free(&seat);
+    bw_seat_free(&seat);
 }
 
 static void *run(void *what) {
@@ -167,7 +171,7 @@ int main(void) {
         return 1;
     }
     printf("a thread that calls the C library takes at most %zu bytes of stack, of which it has %zu for itself\n", most, none);
-    bw_free(&outline);
+    bw_outline_free(&outline);
     free(blob), free(text), free(outboard), free(out);
     return 0;
 }

@@ -17,6 +17,9 @@
         }                                                                          \
     } while (0)
 
+/* A handle passed as another kind than its own, which a compiler refuses without this. */
+#define AS(kind, handle) ((kind *)(void *)&(handle))
+
 enum { BLOB_LEN = 1000003, HOLDERS = 3, THREADS = 4, GROUP_LEN = BW_GROUP_CHUNKS * BW_CHUNK_LEN };
 
 static const bw_mode plain = {0, {0}};
@@ -27,7 +30,7 @@ typedef struct holder {
 } holder;
 
 typedef struct worker {
-    bw_handle seat;
+    bw_seat seat;
     const uint8_t *root;
     const holder *holders;
     uint32_t number;
@@ -107,7 +110,7 @@ static void *work(void *arg) {
 
 /* A worker that bw_gather makes of a thread: it goes over its texts in its own order. */
 typedef struct gatherer {
-    bw_handle seat;
+    bw_seat seat;
     const holder *holders;
     uint32_t number;
     bw_report report;
@@ -124,7 +127,7 @@ static void *gather(void *arg) {
 
 /* Four threads fill a store by bw_gather, and then each chunk and each parent was stored once. */
 static void gathering(const uint8_t *blob, const uint8_t *root, const holder *holders) {
-    bw_handle first = BW_EMPTY;
+    bw_seat first = BW_EMPTY;
     bw_report report = {1, 2, 3, 4, 5, 6, 0};
     WANT(bw_gather(&first, 0, 1, holders[0].text, holders[0].len, &report) == BW_NO_HANDLE && report.committed == 1 && report.memory == 6);
     /* A length that is too large is told, and another seat's later round still ends well. */
@@ -159,13 +162,14 @@ static void gathering(const uint8_t *blob, const uint8_t *root, const holder *ho
     WANT(committed + report.committed == chunks && parents + report.parents == chunks - 1);
     WANT(bw_seat_finish(&first, found, BLOB_LEN, &used) == BW_OK && used == BLOB_LEN && memcmp(found, blob, BLOB_LEN) == 0);
     free(found);
-    bw_free(&first);
+    bw_seat_free(&first);
 }
 
 /* Two seats are joined to one with the claims of both; seats of stores that can be told apart are refused, and stay as they were. */
 static void joining(const uint8_t *root, const holder *good) {
     static uint8_t slice[2 * GROUP_LEN];
-    bw_handle first = BW_EMPTY, second = BW_EMPTY, alien = BW_EMPTY, hasher = BW_EMPTY;
+    bw_seat first = BW_EMPTY, second = BW_EMPTY, alien = BW_EMPTY;
+    bw_hasher hasher = BW_EMPTY;
     uint8_t another_root[BW_HASH_LEN], out[BW_HASH_LEN];
     uint64_t mask = 0, at = 0;
     size_t used = 0;
@@ -175,8 +179,8 @@ static void joining(const uint8_t *root, const holder *good) {
     WANT(bw_hasher_new(&plain, &hasher) == BW_OK && bw_store_new(&plain, root, 1024, &first) == BW_OK);
     WANT(bw_seat_join(&first, &second) == BW_NO_HANDLE && bw_seat_meet(&first, &second) == BW_NO_HANDLE && second.at == NULL);
     WANT(bw_seat_join(&second, &first) == BW_NO_HANDLE && bw_seat_meet(&second, &first) == BW_NO_HANDLE && second.at == NULL);
-    WANT(bw_seat_join(&first, &hasher) == BW_NO_HANDLE && bw_seat_meet(&first, &hasher) == BW_NO_HANDLE);
-    WANT(bw_seat_join(&hasher, &first) == BW_NO_HANDLE && bw_seat_meet(&hasher, &first) == BW_NO_HANDLE);
+    WANT(bw_seat_join(&first, AS(bw_seat, hasher)) == BW_NO_HANDLE && bw_seat_meet(&first, AS(bw_seat, hasher)) == BW_NO_HANDLE);
+    WANT(bw_seat_join(AS(bw_seat, hasher), &first) == BW_NO_HANDLE && bw_seat_meet(AS(bw_seat, hasher), &first) == BW_NO_HANDLE);
     WANT(bw_hasher_finish(&hasher, out) == BW_OK);
     WANT(bw_seat_take(&first, 0, 5, &mask) == BW_OK && mask == 5);
     const bw_mode keyed = {1, {7}};
@@ -198,7 +202,7 @@ static void joining(const uint8_t *root, const holder *good) {
     WANT(bw_seat_split(&first, &second) == BW_OK && bw_seat_join(&second, &first) == BW_OK && first.at == NULL);
     WANT(bw_seat_read(&second, GROUP_LEN - 1, out, 1, &at) == BW_OK);
     WANT(strcmp(bw_strerror(BW_OTHER_STORE), bw_strerror(1)) != 0);
-    bw_free(&first), bw_free(&second), bw_free(&alien), bw_free(&hasher);
+    bw_seat_free(&first), bw_seat_free(&second), bw_seat_free(&alien), bw_hasher_free(&hasher);
 }
 
 /* A blob comes in order, group by group, and after each the store serves the slice of each group that it has, and of a byte of it: the bytes
@@ -209,7 +213,7 @@ static void in_order(const uint8_t *root, const holder *good) {
     uint64_t committed = 7, parents = 7, at = 7, all = 0, all_parents = 0;
     size_t used = 0, len = 0;
     bw_node lacking;
-    bw_handle seat = BW_EMPTY;
+    bw_seat seat = BW_EMPTY;
     WANT(bw_store_new(&plain, root, (uint32_t)chunks, &seat) == BW_OK);
     WANT(bw_cut_slice(good->text, good->len, UINT64_MAX, 1, slice, sizeof slice, &used) == BW_OK);
     WANT(bw_seat_settle(&seat, slice, used, &at) == BW_OK);
@@ -229,7 +233,7 @@ static void in_order(const uint8_t *root, const holder *good) {
             }
     }
     WANT(all == chunks && all_parents == chunks - 1);
-    bw_free(&seat);
+    bw_seat_free(&seat);
 }
 
 /* What bw_seat_commit_all stores where others claim, where the slice is of several groups, and what it refuses. */
@@ -238,11 +242,11 @@ static void storing(const uint8_t *blob, const uint8_t *root, const holder *good
     uint64_t committed = 7, parents = 7, at = 7, mask = 0, len = 0;
     size_t used = 0;
     bw_node lacking;
-    bw_handle seat = BW_EMPTY, other = BW_EMPTY;
+    bw_seat seat = BW_EMPTY, other = BW_EMPTY;
     WANT(bw_seat_commit_all(&seat, 0, 1, good->text, good->len, &committed, &parents, &at) == BW_NO_HANDLE);
-    WANT(bw_hasher_new(&plain, &seat) == BW_OK);
+    WANT(bw_hasher_new(&plain, AS(bw_hasher, seat)) == BW_OK);
     WANT(bw_seat_commit_all(&seat, 0, 1, good->text, good->len, &committed, &parents, &at) == BW_NO_HANDLE);
-    WANT(bw_hasher_finish(&seat, out) == BW_OK && committed == 7 && parents == 7 && at == 7);
+    WANT(bw_hasher_finish(AS(bw_hasher, seat), out) == BW_OK && committed == 7 && parents == 7 && at == 7);
     WANT(bw_store_new(&plain, root, 1024, &seat) == BW_OK && bw_seat_split(&seat, &other) == BW_OK);
     WANT(bw_cut_slice(good->text, good->len, 0, GROUP_LEN, slice, sizeof slice, &used) == BW_OK);
     /* No length is recorded yet, or it is another one: nothing is stored. */
@@ -280,7 +284,7 @@ static void storing(const uint8_t *blob, const uint8_t *root, const holder *good
     WANT(bw_seat_finish(&seat, found, BLOB_LEN, &used) == BW_OK && used == BLOB_LEN && memcmp(found, blob, BLOB_LEN) == 0);
     WANT(bw_seat_length(&seat, &len) == BW_OK && len == BLOB_LEN);
     free(found);
-    bw_free(&seat), bw_free(&other);
+    bw_seat_free(&seat), bw_seat_free(&other);
 }
 
 /* A store of a part of a blob counts chunks, groups and positions from its first chunk. No length is recorded in it, and what needs one says so. */
@@ -288,7 +292,8 @@ static void parts(const uint8_t *blob, const uint8_t *root, const holder *good) 
     static uint8_t slice[8 * GROUP_LEN], out[8 * GROUP_LEN];
     const bw_mode unknown = {7, {0}};
     const uint64_t first = 200, chunks = 100, most = UINT64_C(1) << 54;
-    bw_handle seat = BW_EMPTY, other = BW_EMPTY, outline = BW_EMPTY;
+    bw_seat seat = BW_EMPTY, other = BW_EMPTY;
+    bw_outline outline = BW_EMPTY;
     bw_report report = {0, 0, 0, 0, 0, 0, 0};
     bw_node lacking = {7, 7};
     uint64_t mask = 7, committed = 7, parents = 7, at = 7, len = 7;
@@ -301,9 +306,9 @@ static void parts(const uint8_t *blob, const uint8_t *root, const holder *good) 
     WANT(bw_store_part(&plain, root, most, 65536, &seat) == BW_OK && seat.at != NULL);
     WANT(bw_store_part(&plain, root, first, 0, &seat) == BW_CAPACITY && seat.at == NULL);
     WANT(bw_seat_commit_chunks(&seat, 0, UINT64_MAX, good->text, good->len, &committed, &at) == BW_NO_HANDLE);
-    WANT(bw_hasher_new(&plain, &seat) == BW_OK);
+    WANT(bw_hasher_new(&plain, AS(bw_hasher, seat)) == BW_OK);
     WANT(bw_seat_commit_chunks(&seat, 0, UINT64_MAX, good->text, good->len, &committed, &at) == BW_NO_HANDLE);
-    WANT(bw_hasher_finish(&seat, hash) == BW_OK && committed == 7 && at == 7);
+    WANT(bw_hasher_finish(AS(bw_hasher, seat), hash) == BW_OK && committed == 7 && at == 7);
     WANT(bw_store_part(&plain, root, first, (uint32_t)chunks, &seat) == BW_OK);
     WANT(bw_seat_take(&seat, 0, UINT64_MAX, &mask) == BW_OK && mask == UINT64_MAX && bw_seat_take(&seat, 2, 1, &mask) == BW_NO_GROUP);
     WANT(bw_seat_take(&seat, 1, UINT64_MAX, &mask) == BW_OK && mask == (UINT64_C(1) << 36) - 1);
@@ -377,7 +382,7 @@ static void parts(const uint8_t *blob, const uint8_t *root, const holder *good) 
     WANT(bw_seat_serve_slice(&seat, 0, 1, out, sizeof out, &count, &lacking) == BW_LACKING && lacking.kind == 0 && lacking.number == 512);
     WANT(bw_seat_commit_all(&seat, 0, UINT64_MAX, good->text, good->len, &committed, &parents, &at) == BW_OK && committed == 0 && parents == 976);
     WANT(bw_seat_finish(&seat, found, BLOB_LEN, &count) == BW_OK && count == BLOB_LEN && memcmp(found, blob, BLOB_LEN) == 0);
-    bw_free(&seat), bw_free(&other), bw_free(&outline);
+    bw_seat_free(&seat), bw_seat_free(&other), bw_outline_free(&outline);
     free(found), free(outboard);
 }
 
@@ -400,13 +405,13 @@ static void rows(void) {
         WANT(bw_xof(&mode, bytes, it->len, 0, out, sizeof out) == BW_OK);
         WANT(memcmp(out, it->out, sizeof out) == 0);
         WANT(bw_xof(&mode, bytes, it->len, 61, part, sizeof part) == BW_OK && memcmp(part, it->out + 61, sizeof part) == 0);
-        bw_handle hasher = BW_EMPTY;
+        bw_hasher hasher = BW_EMPTY;
         WANT(bw_hasher_new(&mode, &hasher) == BW_OK);
         WANT(bw_hasher_update(&hasher, bytes, it->len / 3) == BW_OK);
         WANT(bw_hasher_update(&hasher, bytes + it->len / 3, it->len - it->len / 3) == BW_OK);
         WANT(bw_hasher_xof(&hasher, 61, part, sizeof part) == BW_OK && memcmp(part, it->out + 61, sizeof part) == 0);
         WANT(bw_hasher_finish(&hasher, out) == BW_OK && memcmp(out, it->out, BW_HASH_LEN) == 0);
-        bw_free(&hasher);
+        bw_hasher_free(&hasher);
     }
 }
 
@@ -419,7 +424,7 @@ static void hashes(const uint8_t *blob, size_t len, const uint8_t *root) {
     bw_hash(&plain, blob, len, out);
     WANT(memcmp(out, root, sizeof out) == 0);
 
-    bw_handle hasher = BW_EMPTY;
+    bw_hasher hasher = BW_EMPTY;
     WANT(bw_hasher_update(&hasher, blob, 1) == BW_NO_HANDLE);
     WANT(bw_hasher_finish(&hasher, out) == BW_NO_HANDLE);
     WANT(bw_hasher_new(&plain, &hasher) == BW_OK);
@@ -431,7 +436,7 @@ static void hashes(const uint8_t *blob, size_t len, const uint8_t *root) {
     WANT(bw_hasher_finish(&hasher, out) == BW_OK);
     WANT(memcmp(out, root, sizeof out) == 0);
     uint64_t mask = 0;
-    WANT(bw_seat_take(&hasher, 0, 1, &mask) == BW_NO_HANDLE);
+    WANT(bw_seat_take(AS(bw_seat, hasher), 0, 1, &mask) == BW_NO_HANDLE);
     WANT(bw_xof(&plain, blob, 1, UINT64_MAX, out, 1) == BW_PAST_OUTPUT);
     WANT(bw_hasher_xof(&hasher, UINT64_MAX, out, 1) == BW_PAST_OUTPUT);
     WANT(bw_xof(&plain, blob, 1, UINT64_MAX, out, 0) == BW_OK);
@@ -440,17 +445,24 @@ static void hashes(const uint8_t *blob, size_t len, const uint8_t *root) {
     WANT(bw_hasher_new(&plain, &hasher) == BW_OK);
     WANT(bw_hasher_finish(&hasher, out) == BW_OK);
     WANT(memcmp(out, of_nothing, sizeof out) == 0);
-    bw_free(&hasher);
-    bw_free(&hasher);
-    bw_free(NULL);
+    bw_hasher_free(&hasher);
+    bw_hasher_free(&hasher);
     WANT(hasher.at == NULL);
+    bw_free(&hasher);
+    WANT(hasher.at == NULL && bw_hasher_new(&plain, &hasher) == BW_OK && hasher.at != NULL);
+    bw_free(&hasher);
+    WANT(hasher.at == NULL);
+    bw_free(NULL), bw_hasher_free(NULL), bw_feed_free(NULL), bw_outline_free(NULL), bw_seat_free(NULL);
 }
 
 /* NULL beside a length of 0 is as good as any address: here each call that takes bytes or a buffer has none, of a blob of no bytes. */
 static void nothings(void) {
     const uint8_t claim[8] = {0};
     uint8_t hash[BW_HASH_LEN], also[BW_HASH_LEN], one[8] = {0};
-    bw_handle hasher = BW_EMPTY, feed = BW_EMPTY, seat = BW_EMPTY, outline = BW_EMPTY;
+    bw_hasher hasher = BW_EMPTY;
+    bw_feed feed = BW_EMPTY;
+    bw_seat seat = BW_EMPTY;
+    bw_outline outline = BW_EMPTY;
     bw_input ours, theirs;
     bw_node lacking;
     bw_mode mode;
@@ -487,14 +499,16 @@ static void nothings(void) {
     WANT(bw_outline_commit(&outline, &seat, 0, 1, NULL, 0, &committed, &parents, &at) == BW_OK && committed == 1 && parents == 0);
     WANT(bw_seat_commit_all(&seat, 0, 1, claim, 8, &committed, &parents, &at) == BW_OK && bw_seat_read(&seat, 0, NULL, 0, &at) == BW_OK);
     WANT(bw_seat_serve_slice(&seat, 0, 1, NULL, 0, &used, &lacking) == BW_ROOM && used == 8 && bw_seat_finish(&seat, NULL, 0, &used) == BW_OK && used == 0);
-    bw_free(&hasher), bw_free(&feed), bw_free(&seat), bw_free(&outline);
+    bw_hasher_free(&hasher), bw_feed_free(&feed), bw_seat_free(&seat), bw_outline_free(&outline);
 }
 
 /* A mode with a derived key is as good as any other, and one of an unknown kind is refused by each call that can. */
 static void modes(const uint8_t *blob) {
     static uint8_t text[9000], out[9000];
     bw_mode mode = {7, {5}}, derived = plain;
-    bw_handle feed = BW_EMPTY, seat = BW_EMPTY, hasher = BW_EMPTY;
+    bw_feed feed = BW_EMPTY;
+    bw_seat seat = BW_EMPTY;
+    bw_hasher hasher = BW_EMPTY;
     bw_input ours, theirs;
     uint8_t root[BW_HASH_LEN], hash[BW_HASH_LEN];
     uint64_t at = 7, total = 7, committed = 7, parents = 7;
@@ -539,7 +553,7 @@ static void modes(const uint8_t *blob) {
         WANT(bw_store_new(&plain, root, 5, &seat) == BW_OK && bw_store_new(&unknown, root, 0, &seat) == BW_NO_MODE && seat.at == NULL);
     }
     WANT(strcmp(bw_strerror(BW_NO_MODE), bw_strerror(1)) != 0);
-    bw_free(&feed), bw_free(&seat), bw_free(&hasher);
+    bw_feed_free(&feed), bw_seat_free(&seat), bw_hasher_free(&hasher);
 }
 
 static void texts(const uint8_t *blob, const uint8_t *root, holder *good) {
@@ -592,7 +606,7 @@ static void texts(const uint8_t *blob, const uint8_t *root, holder *good) {
 }
 
 /* Hands a check in pieces a text, node by node as far as it goes, and then its rest. Answers what the check says. */
-static bw_status fed(bw_handle *feed, const uint8_t *text, size_t len, uint64_t *at) {
+static bw_status fed(bw_feed *feed, const uint8_t *text, size_t len, uint64_t *at) {
     size_t taken = 0, size = 0;
     uint32_t kind = 0;
     for (; bw_feed_wants(feed, &kind, &size) == BW_OK && size != 0 && size <= len - taken; taken += size) {
@@ -605,11 +619,13 @@ static bw_status fed(bw_handle *feed, const uint8_t *text, size_t len, uint64_t 
 /* A slice that is checked in pieces has the status and the place that it has at once: cut at and beside the end of each node, with a byte
  * changed in each, and with a byte more. A node that is refused changes nothing. */
 static void pieces(const bw_mode *mode, const uint8_t *root, uint64_t start, uint64_t slice_len, uint8_t *text, size_t len) {
-    bw_handle feed = BW_EMPTY, other = BW_EMPTY;
+    bw_feed feed = BW_EMPTY, other = BW_EMPTY;
     size_t taken = 0, size = 7;
     uint32_t kind = 7;
-    uint64_t at = 7, wanted = 7;
+    uint64_t at = 7, wanted = 7, total = 0;
+    bw_placed refused;
     uint8_t *longer = room(len + 1);
+    for (int i = 8; i--;) total = total << 8 | text[i];
     WANT(bw_check_slice(mode, root, start, slice_len, text, len, &at) == BW_OK);
     WANT(bw_feed_slice(mode, root, start, slice_len, &feed) == BW_OK);
     while (bw_feed_wants(&feed, &kind, &size) == BW_OK && size != 0) {
@@ -630,6 +646,7 @@ static void pieces(const bw_mode *mode, const uint8_t *root, uint64_t start, uin
         if (taken != 0) { /* another length may have another first node */
             text[taken + size / 2] ^= 16;
             WANT(bw_check_slice(mode, root, start, slice_len, text, len, &wanted) == BW_MISMATCH && wanted == taken);
+            WANT(bw_node_at(total, start, slice_len, wanted, &refused) == BW_OK && refused.kind == kind && refused.size == size);
             WANT(bw_feed_take(&feed, text + taken, size, &at) == BW_MISMATCH && at == wanted);
             WANT(bw_feed_slice(mode, root, start, slice_len, &other) == BW_OK);
             WANT(fed(&other, text, len, &at) == BW_MISMATCH && at == wanted);
@@ -656,12 +673,13 @@ static void pieces(const bw_mode *mode, const uint8_t *root, uint64_t start, uin
         WANT(fed(&other, text, len, &at) == status && at == wanted);
         text[i] ^= 1;
     }
-    bw_free(&feed), bw_free(&other);
+    bw_feed_free(&feed), bw_feed_free(&other);
     free(longer);
 }
 
 static void feeds(const uint8_t *blob, const uint8_t *root, holder *good) {
-    bw_handle feed = BW_EMPTY, hasher = BW_EMPTY;
+    bw_feed feed = BW_EMPTY;
+    bw_hasher hasher = BW_EMPTY;
     uint64_t at = 7;
     size_t size = 7, used = 0;
     uint32_t kind = 7;
@@ -669,11 +687,11 @@ static void feeds(const uint8_t *blob, const uint8_t *root, holder *good) {
     WANT(bw_feed_wants(&feed, &kind, &size) == BW_NO_HANDLE && size == 7 && kind == 7);
     WANT(bw_feed_take(&feed, text, 8, &at) == BW_NO_HANDLE && bw_feed_finish(&feed, text, 0, &at) == BW_NO_HANDLE && at == 7);
     WANT(bw_hasher_new(&plain, &hasher) == BW_OK);
-    WANT(bw_feed_wants(&hasher, &kind, &size) == BW_NO_HANDLE && bw_feed_take(&hasher, text, 8, &at) == BW_NO_HANDLE);
-    WANT(bw_feed_finish(&hasher, text, 0, &at) == BW_NO_HANDLE);
+    WANT(bw_feed_wants(AS(bw_feed, hasher), &kind, &size) == BW_NO_HANDLE && bw_feed_take(AS(bw_feed, hasher), text, 8, &at) == BW_NO_HANDLE);
+    WANT(bw_feed_finish(AS(bw_feed, hasher), text, 0, &at) == BW_NO_HANDLE);
     WANT(bw_feed_combined(&plain, root, &feed) == BW_OK);
-    WANT(bw_hasher_update(&feed, blob, 1) == BW_NO_HANDLE && bw_hasher_finish(&feed, hash) == BW_NO_HANDLE);
-    WANT(bw_seat_length(&feed, &at) == BW_NO_HANDLE && at == 7);
+    WANT(bw_hasher_update(AS(bw_hasher, feed), blob, 1) == BW_NO_HANDLE && bw_hasher_finish(AS(bw_hasher, feed), hash) == BW_NO_HANDLE);
+    WANT(bw_seat_length(AS(bw_seat, feed), &at) == BW_NO_HANDLE && at == 7);
     WANT(fed(&feed, good->text, good->len, &at) == BW_OK && at == 7);
     WANT(bw_feed_combined(&plain, root, &feed) == BW_OK);
     good->text[good->len / 2] ^= 1;
@@ -681,9 +699,9 @@ static void feeds(const uint8_t *blob, const uint8_t *root, holder *good) {
     WANT(bw_check_combined(&plain, root, good->text, good->len, &wanted) == BW_MISMATCH);
     WANT(fed(&feed, good->text, good->len, &at) == BW_MISMATCH && at == wanted);
     good->text[good->len / 2] ^= 1;
-    WANT(bw_feed_combined(&plain, root, &hasher) == BW_OK && bw_feed_wants(&hasher, &kind, &size) == BW_OK && size == 8);
-    bw_free(&hasher);
-    bw_free(&feed);
+    WANT(bw_feed_combined(&plain, root, AS(bw_feed, hasher)) == BW_OK && bw_feed_wants(AS(bw_feed, hasher), &kind, &size) == BW_OK && size == 8);
+    bw_hasher_free(&hasher);
+    bw_feed_free(&feed);
     WANT(feed.at == NULL && bw_feed_wants(&feed, &kind, &size) == BW_NO_HANDLE);
 
     WANT(bw_cut_slice(good->text, good->len, 5000, 3000, text, sizeof text, &used) == BW_OK);
@@ -697,12 +715,12 @@ static void feeds(const uint8_t *blob, const uint8_t *root, holder *good) {
         WANT(bw_feed_combined(&keyed, hash, &feed) == BW_OK && fed(&feed, text, used, &at) == BW_OK);
         WANT(bw_feed_combined(&plain, hash, &feed) == BW_OK && fed(&feed, text, used, &at) == BW_MISMATCH && at == 8);
     }
-    bw_free(&feed);
+    bw_feed_free(&feed);
 }
 
 /* Hands a check in pieces a text, `step` bytes at a time and more where the next node has more, and then its rest. Answers what the check
  * says, and puts what it hands out to `out`, and how many bytes that is to *filled. */
-static bw_status poured(bw_handle *feed, const uint8_t *text, size_t len, size_t step, uint8_t *out, size_t *filled, uint64_t *at) {
+static bw_status poured(bw_feed *feed, const uint8_t *text, size_t len, size_t step, uint8_t *out, size_t *filled, uint64_t *at) {
     uint8_t *part = room(len + 9);
     size_t done = 0, window = step, taken = 7, gained = 7;
     *filled = 0;
@@ -731,7 +749,7 @@ static bw_status poured(bw_handle *feed, const uint8_t *text, size_t len, size_t
  * after it, and with a byte changed. What is handed out is the blob's. */
 static void pours(const bw_mode *mode, const uint8_t *root, uint64_t start, uint64_t slice_len, uint8_t *text, size_t len, const uint8_t *blob, size_t count) {
     static const size_t steps[] = {1, 64, 1000, 1088, 8704, 70000};
-    bw_handle feed = BW_EMPTY;
+    bw_feed feed = BW_EMPTY;
     uint8_t *out = room(len), *longer = room(len + 1);
     size_t filled = 0;
     uint64_t at, wanted;
@@ -759,22 +777,22 @@ static void pours(const bw_mode *mode, const uint8_t *root, uint64_t start, uint
         WANT(poured(&feed, longer, len + 1, steps[k], out, &filled, &at) == BW_TRAILING && at == len);
         WANT(filled == count && memcmp(out, blob, count) == 0);
     }
-    bw_free(&feed);
+    bw_feed_free(&feed);
     free(out), free(longer);
 }
 
 static void pouring(const uint8_t *blob, const uint8_t *root, const holder *good) {
     static uint8_t text[90000], out[90000];
-    bw_handle feed = BW_EMPTY;
+    bw_feed feed = BW_EMPTY;
     uint8_t hash[BW_HASH_LEN];
     size_t used = 0, taken = 7, filled = 7, size = 0;
     uint32_t kind = 7;
     uint64_t at = 7;
     WANT(bw_feed_take_many(&feed, text, 8, out, 8, &taken, &filled, &at) == BW_NO_HANDLE);
     WANT(bw_feed_take_many(&feed, text, 8, out, 7, &taken, &filled, &at) == BW_ROOM);
-    WANT(bw_hasher_new(&plain, &feed) == BW_OK);
+    WANT(bw_hasher_new(&plain, AS(bw_hasher, feed)) == BW_OK);
     WANT(bw_feed_take_many(&feed, text, 8, out, 8, &taken, &filled, &at) == BW_NO_HANDLE);
-    WANT(bw_hasher_finish(&feed, hash) == BW_OK && taken == 7 && filled == 7 && at == 7);
+    WANT(bw_hasher_finish(AS(bw_hasher, feed), hash) == BW_OK && taken == 7 && filled == 7 && at == 7);
     static const struct { uint64_t start, len, from, to; } slices[] = {
         {5000, 3000, 4096, 8192}, {0, 1, 0, 1024}, {70000, 70000, 69632, 140288}, {UINT64_MAX, 1, 976 * 1024, BLOB_LEN}, {999000, UINT64_MAX, 975 * 1024, BLOB_LEN},
     };
@@ -811,7 +829,7 @@ static void pouring(const uint8_t *blob, const uint8_t *root, const holder *good
     WANT(bw_feed_combined(&plain, root, &feed) == BW_OK);
     WANT(poured(&feed, many, good->len, 65536, big, &filled, &at) == BW_MISMATCH && at == wanted && memcmp(big, blob, filled) == 0);
     free(big), free(many);
-    bw_free(&feed);
+    bw_feed_free(&feed);
 }
 
 /* What an accepted encoding is decoded to: the range's bytes, and the length where it is certified. Nothing is written for any other. */
@@ -899,12 +917,12 @@ static void ranges(const holder *good) {
 
 /* Two encodings that are damaged in the same group, at other chunks: group by group the blob isn't gathered, chunk by chunk it is. */
 static void salvaging(const uint8_t *blob, const uint8_t *root, holder *good) {
-    bw_handle seat = BW_EMPTY;
+    bw_seat seat = BW_EMPTY;
     bw_report report = {1, 2, 3, 4, 5, 6, 0};
     size_t used = 0;
     uint8_t *found = room(BLOB_LEN), *other = room(good->len);
     WANT(bw_seat_salvage(&seat, good->text, good->len, &report) == BW_NO_HANDLE && report.committed == 1 && report.memory == 6);
-    WANT(bw_hasher_new(&plain, &seat) == BW_OK && bw_seat_salvage(&seat, good->text, good->len, &report) == BW_NO_HANDLE);
+    WANT(bw_hasher_new(&plain, AS(bw_hasher, seat)) == BW_OK && bw_seat_salvage(&seat, good->text, good->len, &report) == BW_NO_HANDLE);
     memcpy(other, good->text, good->len);
     good->text[300000] ^= 1;
     other[310000] ^= 1;
@@ -916,7 +934,7 @@ static void salvaging(const uint8_t *blob, const uint8_t *root, holder *good) {
     WANT(bw_seat_salvage(&seat, other, good->len, &report) == BW_OK && report.committed == 977 && report.refused == 3 && report.parents == 976);
     WANT(bw_seat_finish(&seat, found, BLOB_LEN, &used) == BW_OK && memcmp(found, blob, BLOB_LEN) == 0);
     good->text[300000] ^= 1;
-    bw_free(&seat);
+    bw_seat_free(&seat);
     free(found), free(other);
 }
 
@@ -939,7 +957,7 @@ static void by_ranges(const uint8_t *blob, const uint8_t *root, const holder *fi
     uint64_t total = 0, at = 0, committed = 0, parents = 0, chunks = 0;
     size_t used = 0;
     bw_node lacking;
-    bw_handle seat = BW_EMPTY;
+    bw_seat seat = BW_EMPTY;
     uint8_t *found = room(BLOB_LEN);
     for (int i = 7; i >= 0; i--) total = total << 8 | file->text[i];
     WANT(bw_store_new(&plain, root, (uint32_t)(total / BW_CHUNK_LEN + 1), &seat) == BW_OK);
@@ -952,14 +970,14 @@ static void by_ranges(const uint8_t *blob, const uint8_t *root, const holder *fi
         WANT(bw_seat_serve_slice(&seat, start, 77777, served, sizeof served, &used, &lacking) == BW_OK && used == len && memcmp(served, slice, len) == 0);
     }
     WANT(chunks == 977 && bw_seat_finish(&seat, found, BLOB_LEN, &used) == BW_OK && used == total && memcmp(found, blob, used) == 0);
-    bw_free(&seat);
+    bw_seat_free(&seat);
     free(found);
 }
 
 /* The ranges of an outboard encoding that have a slice's parents, one after another, are the slice without its chunks, none of which has 64 bytes. */
 static void outboard_ranges(const uint8_t *blob, const uint8_t *root, const holder *good) {
     static uint8_t slice[4 * GROUP_LEN], parents[4 * GROUP_LEN];
-    bw_handle feed = BW_EMPTY;
+    bw_feed feed = BW_EMPTY;
     bw_range ranges[BW_RANGES_MAX];
     uint8_t hash[BW_HASH_LEN];
     uint64_t at = 7, all = (BLOB_LEN + BW_CHUNK_LEN - 1) / BW_CHUNK_LEN;
@@ -992,7 +1010,7 @@ static void outboard_ranges(const uint8_t *blob, const uint8_t *root, const hold
     WANT(bw_outboard_ranges(UINT64_MAX, 0, 1, ranges, BW_RANGES_MAX, &count) == BW_OK && count == 1 && ranges[0].len == 8 + 54 * 64);
     WANT(bw_outboard_ranges(UINT64_MAX, UINT64_MAX, 1, ranges, BW_RANGES_MAX, &count) == BW_OK && count == 54 && ranges[53].len == 64);
     WANT(bw_outboard_ranges(UINT64_C(1) << 63, UINT64_MAX, 1, ranges, BW_RANGES_MAX, &count) == BW_OK && count == 53 && ranges[52].len == 64);
-    bw_free(&feed);
+    bw_feed_free(&feed);
     free(text);
 }
 
@@ -1020,6 +1038,26 @@ static void walk_tree(walk *to, uint64_t from, uint64_t len, uint64_t combined_a
     walk_tree(to, from + left, len - left, combined_at + 64 + left + 64 * parents_over(left), outboard_at + 64 + 64 * parents_over(left));
 }
 
+/* Whose the byte is, wherever it is asked for. */
+static void node_is(uint64_t total, uint64_t start, uint64_t len, uint64_t at, const bw_placed *wanted) {
+    bw_placed it = {7, 7, 7, 7, 7, 7, 7};
+    WANT(bw_node_at(total, start, len, at, &it) == BW_OK && memcmp(&it, wanted, sizeof it) == 0);
+}
+
+/* The first and the last byte of some nodes, the last one among them, and what is before and after all. */
+static void each_byte_is(uint64_t total, uint64_t start, uint64_t len, const bw_placed *nodes, size_t count) {
+    const bw_placed claim = {BW_NODE_LENGTH, 8, 0, 0, 0, 0, 0}, none = {BW_NODE_NONE, 0, 0, 0, 0, 0, 0};
+    uint64_t at = 8;
+    node_is(total, start, len, 0, &claim), node_is(total, start, len, 7, &claim);
+    for (size_t i = 0; i < count; at += nodes[i].size, i++) {
+        if (i % (count / 8 + 1) != 0 && i + 1 != count) continue;
+        node_is(total, start, len, at, &nodes[i]);
+        if (nodes[i].size != 0) node_is(total, start, len, at + nodes[i].size - 1, &nodes[i]);
+    }
+    if (total != 0) node_is(total, start, len, at, &none);
+    node_is(total, start, len, at + 1, &none), node_is(total, start, len, UINT64_MAX, &none);
+}
+
 static void nodes_are(uint64_t total, uint64_t start, uint64_t len) {
     static bw_placed own[BW_NODES_MAX(1024)], out[BW_NODES_MAX(1024) + 1];
     const bw_placed none = {7, 7, 7, 7, 7, 7, 7};
@@ -1035,6 +1073,7 @@ static void nodes_are(uint64_t total, uint64_t start, uint64_t len) {
     WANT(bw_slice_nodes(total, start, len, out, by.count - 1, &count) == BW_ROOM && count == 7 && memcmp(&out[by.count - 1], &none, sizeof none) == 0);
     WANT(bw_slice_nodes(total, start, len, out, by.count, &count) == BW_OK && count == by.count && memcmp(out, own, count * sizeof *out) == 0);
     WANT(memcmp(&out[count], &none, sizeof none) == 0);
+    each_byte_is(total, start, len, own, by.count);
 }
 
 /* Those of slices of short blobs, and of long ones up to the longest. */
@@ -1062,6 +1101,9 @@ static void slice_nodes(void) {
     WANT(bw_slice_nodes(longest, (UINT64_C(1) << 63) - 1, 2, nodes, BW_NODES_MAX(2), &count) == BW_OK && count == BW_NODES_MAX(2));
     count = 7;
     WANT(bw_slice_nodes(longest + 1, 0, 1, nodes, BW_NODES_MAX(1), &count) == BW_TOO_LONG && count == 7);
+    nodes[0] = nodes[1];
+    WANT(bw_node_at(longest + 1, 0, 1, 0, &nodes[0]) == BW_TOO_LONG && bw_node_at(UINT64_MAX, 5, 1, UINT64_MAX, &nodes[0]) == BW_TOO_LONG);
+    WANT(memcmp(&nodes[0], &nodes[1], sizeof nodes[0]) == 0);
     WANT(bw_slice_nodes(UINT64_MAX, 0, 1, NULL, 0, &count) == BW_TOO_LONG && bw_slice_nodes(5000, 0, 1, NULL, 0, &count) == BW_ROOM && count == 7);
 }
 
@@ -1095,7 +1137,7 @@ static void by_nodes(const uint8_t *blob, const holder *good) {
 static void outlining(const uint8_t *blob, const uint8_t *root, const holder *good) {
     static uint8_t slice[4 * GROUP_LEN], cut[4 * GROUP_LEN];
     const bw_mode keyed = {1, {7}};
-    bw_handle outline = BW_EMPTY, other = BW_EMPTY;
+    bw_outline outline = BW_EMPTY, other = BW_EMPTY;
     uint8_t hash[BW_HASH_LEN];
     uint64_t at = 7, len = 7, wanted = 7;
     size_t used = 7, cut_len = 0, text_len = (size_t)bw_outboard_len(BLOB_LEN), all = (BLOB_LEN + BW_CHUNK_LEN - 1) / BW_CHUNK_LEN;
@@ -1109,9 +1151,9 @@ static void outlining(const uint8_t *blob, const uint8_t *root, const holder *go
         WANT(bw_outline_check(&outline, 0, 1, blob, 1024, &at) == BW_NO_HANDLE && bw_outline_check(&outline, 0, 0, blob, 0, &at) == BW_NO_HANDLE && at == 7);
         WANT(bw_outline_slice(&outline, 0, 1, blob, 1024, slice, sizeof slice, &used, &at) == BW_NO_HANDLE && used == 7);
         WANT(bw_outline_share(&outline, &other) == BW_NO_HANDLE && other.at == NULL);
-        if (k == 0) WANT(bw_hasher_new(&plain, &outline) == BW_OK);
+        if (k == 0) WANT(bw_hasher_new(&plain, AS(bw_hasher, outline)) == BW_OK);
     }
-    WANT(bw_hasher_finish(&outline, hash) == BW_OK);
+    WANT(bw_hasher_finish(AS(bw_hasher, outline), hash) == BW_OK);
     /* What isn't accepted leaves an empty handle, and so does a mode of an unknown kind. */
     const bw_mode unknown = {3, {0}};
     WANT(bw_outline_new(&unknown, root, text, text_len, &outline, &at) == BW_NO_MODE && outline.at == NULL && at == 7);
@@ -1163,9 +1205,9 @@ static void outlining(const uint8_t *blob, const uint8_t *root, const holder *go
         }
     WANT(bw_outline_check(&outline, 0, 0, blob, 0, &at) == BW_NO_CHUNKS && bw_outline_check(&outline, UINT64_MAX, UINT64_MAX, blob, 0, &at) == BW_NO_CHUNKS);
     /* The last handle frees it. */
-    bw_free(&outline);
+    bw_outline_free(&outline);
     WANT(bw_outline_check(&other, 0, all, blob, BLOB_LEN, &at) == BW_OK);
-    bw_free(&other);
+    bw_outline_free(&other);
     /* A blob of at most one chunk has no parent: any such outboard encoding is accepted, and the chunk decides. */
     for (size_t n = 0; n < 2; n++) {
         WANT(bw_outboard(&keyed, blob, n, text, text_len, &used, hash) == BW_OK && used == 8);
@@ -1175,7 +1217,7 @@ static void outlining(const uint8_t *blob, const uint8_t *root, const holder *go
         WANT(bw_outline_new(&plain, hash, text, 8, &outline, &at) == BW_OK && bw_outline_check(&outline, 0, 1, blob, n, &at) == BW_MISMATCH);
         at = 7;
     }
-    bw_free(&outline);
+    bw_outline_free(&outline);
     free(text);
 }
 
@@ -1184,7 +1226,8 @@ static void outlining(const uint8_t *blob, const uint8_t *root, const holder *go
 static void beside(const uint8_t *blob, const uint8_t *root) {
     static uint8_t slice[4 * GROUP_LEN], served[4 * GROUP_LEN];
     const bw_mode keyed = {1, {7}};
-    bw_handle seat = BW_EMPTY, outline = BW_EMPTY, alien = BW_EMPTY;
+    bw_seat seat = BW_EMPTY;
+    bw_outline outline = BW_EMPTY, alien = BW_EMPTY;
     bw_node lacking;
     uint8_t hash[BW_HASH_LEN];
     uint64_t at = 7, committed = 7, parents = 7, mask = 7, all = (BLOB_LEN + BW_CHUNK_LEN - 1) / BW_CHUNK_LEN, stored = 0, stored_parents = 0;
@@ -1193,11 +1236,11 @@ static void beside(const uint8_t *blob, const uint8_t *root) {
     WANT(bw_outboard(&plain, blob, BLOB_LEN, text, text_len, &used, hash) == BW_OK);
     WANT(bw_store_new(&plain, root, (uint32_t)all, &seat) == BW_OK);
     WANT(bw_outline_commit(&outline, &seat, 0, 1, blob, 1024, &committed, &parents, &at) == BW_NO_HANDLE);
-    WANT(bw_outline_commit(&seat, &outline, 0, 1, blob, 1024, &committed, &parents, &at) == BW_NO_HANDLE);
-    WANT(bw_hasher_new(&plain, &alien) == BW_OK && bw_outline_commit(&alien, &seat, 0, 1, blob, 1024, &committed, &parents, &at) == BW_NO_HANDLE);
+    WANT(bw_outline_commit(AS(bw_outline, seat), AS(bw_seat, outline), 0, 1, blob, 1024, &committed, &parents, &at) == BW_NO_HANDLE);
+    WANT(bw_hasher_new(&plain, AS(bw_hasher, alien)) == BW_OK && bw_outline_commit(&alien, &seat, 0, 1, blob, 1024, &committed, &parents, &at) == BW_NO_HANDLE);
     WANT(bw_outline_new(&plain, root, text, text_len, &outline, &at) == BW_OK);
-    WANT(bw_outline_commit(&outline, &alien, 0, 1, blob, 1024, &committed, &parents, &at) == BW_NO_HANDLE && bw_hasher_finish(&alien, hash) == BW_OK);
-    WANT(bw_seat_held(&alien, 0, &mask) == BW_NO_HANDLE && bw_seat_held(&outline, 0, &mask) == BW_NO_HANDLE && mask == 7);
+    WANT(bw_outline_commit(&outline, AS(bw_seat, alien), 0, 1, blob, 1024, &committed, &parents, &at) == BW_NO_HANDLE && bw_hasher_finish(AS(bw_hasher, alien), hash) == BW_OK);
+    WANT(bw_seat_held(AS(bw_seat, alien), 0, &mask) == BW_NO_HANDLE && bw_seat_held(AS(bw_seat, outline), 0, &mask) == BW_NO_HANDLE && mask == 7);
     WANT(bw_seat_held(&seat, 16, &mask) == BW_NO_GROUP && bw_seat_held(&seat, UINT32_MAX, &mask) == BW_NO_GROUP && mask == 7);
     WANT(bw_seat_held(&seat, 15, &mask) == BW_OK && mask == 0);
     WANT(committed == 7 && parents == 7 && at == 7);
@@ -1238,19 +1281,19 @@ static void beside(const uint8_t *blob, const uint8_t *root) {
         WANT(bw_seat_held(&seat, group, &mask) == BW_OK && mask == (group < 15 ? UINT64_MAX : (UINT64_C(1) << (all - 960)) - 1));
     WANT(bw_seat_finish(&seat, found, BLOB_LEN, &used) == BW_OK && used == BLOB_LEN && memcmp(found, blob, BLOB_LEN) == 0);
     WANT(strcmp(bw_strerror(BW_OTHER_ROOT), bw_strerror(1)) != 0);
-    bw_free(&seat), bw_free(&outline), bw_free(&alien);
+    bw_seat_free(&seat), bw_outline_free(&outline), bw_outline_free(&alien);
     free(text), free(found), free(shorter);
 }
 
 /* Which chunks a group holds is told without a claim, whoever claims the others. */
 static void holding(const uint8_t *blob, const uint8_t *root, const holder *good) {
     static uint8_t slice[4 * GROUP_LEN];
-    bw_handle seat = BW_EMPTY, other = BW_EMPTY;
+    bw_seat seat = BW_EMPTY, other = BW_EMPTY;
     uint8_t out[BW_HASH_LEN];
     uint64_t at = 7, mask = 7, committed = 0, parents = 0;
     size_t used = 0;
-    WANT(bw_seat_held(&seat, 0, &mask) == BW_NO_HANDLE && bw_hasher_new(&plain, &seat) == BW_OK && bw_seat_held(&seat, 0, &mask) == BW_NO_HANDLE);
-    WANT(bw_hasher_finish(&seat, out) == BW_OK && mask == 7);
+    WANT(bw_seat_held(&seat, 0, &mask) == BW_NO_HANDLE && bw_hasher_new(&plain, AS(bw_hasher, seat)) == BW_OK && bw_seat_held(&seat, 0, &mask) == BW_NO_HANDLE);
+    WANT(bw_hasher_finish(AS(bw_hasher, seat), out) == BW_OK && mask == 7);
     WANT(bw_store_new(&plain, root, 977, &seat) == BW_OK && bw_seat_split(&seat, &other) == BW_OK);
     WANT(bw_seat_held(&seat, 16, &mask) == BW_NO_GROUP && bw_seat_held(&seat, UINT32_MAX, &mask) == BW_NO_GROUP && mask == 7);
     WANT(bw_seat_held(&seat, 15, &mask) == BW_OK && mask == 0 && bw_seat_held(&seat, 0, &mask) == BW_OK && mask == 0);
@@ -1269,7 +1312,7 @@ static void holding(const uint8_t *blob, const uint8_t *root, const holder *good
     WANT(bw_encode(&plain, blob, 0, slice, sizeof slice, &used, out) == BW_OK && bw_store_new(&plain, out, 1, &seat) == BW_OK);
     WANT(bw_seat_settle(&seat, slice, used, &at) == BW_OK && bw_seat_commit_all(&seat, 0, 1, slice, used, &committed, &parents, &at) == BW_OK && committed == 1);
     WANT(bw_seat_held(&seat, 0, &mask) == BW_OK && mask == 0);
-    bw_free(&seat), bw_free(&other);
+    bw_seat_free(&seat), bw_seat_free(&other);
 }
 
 /* With no room, each call that writes tells how long what it would write is. */
@@ -1279,7 +1322,7 @@ static void sizes(const uint8_t *blob, const uint8_t *root, const holder *good) 
     size_t used = 7;
     uint64_t committed = 0, parents = 0, at = 0;
     bw_node lacking;
-    bw_handle seat = BW_EMPTY;
+    bw_seat seat = BW_EMPTY;
     WANT(bw_encode(&plain, blob, BLOB_LEN, out, 0, &used, hash) == BW_ROOM && used == bw_encoded_len(BLOB_LEN));
     WANT(bw_outboard(&plain, blob, BLOB_LEN, out, 100, &used, hash) == BW_ROOM && used == bw_outboard_len(BLOB_LEN));
     WANT(bw_slice(&plain, blob, BLOB_LEN, 5000, 3000, out, 100, &used, hash) == BW_ROOM && used == bw_slice_len(BLOB_LEN, 5000, 3000));
@@ -1289,7 +1332,7 @@ static void sizes(const uint8_t *blob, const uint8_t *root, const holder *good) 
     WANT(bw_seat_commit_all(&seat, 0, UINT64_MAX, good->text, good->len, &committed, &parents, &at) == BW_OK && committed == 977 && parents == 976);
     WANT(bw_seat_serve_slice(&seat, 5000, 3000, out, 100, &used, &lacking) == BW_ROOM && used == bw_slice_len(BLOB_LEN, 5000, 3000));
     WANT(bw_seat_finish(&seat, out, sizeof out, &used) == BW_ROOM && used == BLOB_LEN);
-    bw_free(&seat);
+    bw_seat_free(&seat);
     static const bw_status memory[] = {BW_TEXT_MEMORY, BW_STORE_MEMORY, BW_SPLIT_MEMORY, BW_SERVE_MEMORY, BW_MEMORY};
     for (bw_status status = 0, found = 0; status < 2000; status++) {
         uint32_t is = 0;
@@ -1344,7 +1387,7 @@ int main(void) {
     memset(holders[2].text + holders[2].len / 2, 0, 1000);
     gathering(blob, root, holders);
 
-    bw_handle first = BW_EMPTY;
+    bw_seat first = BW_EMPTY;
     uint64_t at = 0, len = 0, missing = 0;
     WANT(bw_store_new(&plain, root, 0, &first) == BW_CAPACITY && first.at == NULL);
     WANT(bw_store_new(&plain, root, 1024, &first) == BW_OK);
@@ -1378,7 +1421,7 @@ int main(void) {
         WANT(pthread_join(threads[k], NULL) == 0);
         stored += workers[k].stored;
         parents += workers[k].parents;
-        bw_free(&workers[k].seat);
+        bw_seat_free(&workers[k].seat);
     }
     WANT(stored == (BLOB_LEN + BW_CHUNK_LEN - 1) / BW_CHUNK_LEN && parents == stored - 1);
     /* The finished store serves the whole encoding, as it would be written. */
@@ -1392,7 +1435,7 @@ int main(void) {
     WANT(bw_seat_read(&first, BLOB_LEN - 5, found, 6, &missing) == BW_MISSING && missing == BLOB_LEN);
     WANT(bw_seat_finish(&first, found, BLOB_LEN, &used) == BW_OK && used == BLOB_LEN);
     WANT(memcmp(found, blob, BLOB_LEN) == 0);
-    bw_free(&first);
+    bw_seat_free(&first);
     WANT(bw_seat_finish(&first, found, BLOB_LEN, &used) == BW_NO_HANDLE);
     for (int k = 0; k < HOLDERS; k++) free(holders[k].text);
     free(blob);

@@ -277,7 +277,7 @@ static void show(const fetch *f, double began, const char *end) {
 }
 
 /* Hashes the unit that comes next, as it stands in OUT.part or is passed on. Its status. */
-static int drain(fetch *f, bw_handle *hasher, uint8_t *bytes) {
+static int drain(fetch *f, bw_hasher *hasher, uint8_t *bytes) {
     uint64_t from = f->drained * UNIT_LEN, end = f->total - from < UNIT_LEN ? f->total : from + UNIT_LEN;
     while (from < end) {
         size_t len = end - from < DRAIN_LEN ? (size_t)(end - from) : DRAIN_LEN;
@@ -289,7 +289,7 @@ static int drain(fetch *f, bw_handle *hasher, uint8_t *bytes) {
 }
 
 /* Until each unit was hashed, in order, or the fetch can't go on. */
-static int watch(fetch *f, bw_handle *hasher, uint8_t *bytes) {
+static int watch(fetch *f, bw_hasher *hasher, uint8_t *bytes) {
     double began = seconds_now();
     int status = DONE;
     fetch_lock(f);
@@ -356,7 +356,7 @@ static void not_fetched(fetch *f) {
 }
 
 static int run(fetch *f, unsigned each) {
-    bw_handle hasher = BW_EMPTY;
+    bw_hasher hasher = BW_EMPTY;
     uint8_t *bytes = malloc(DRAIN_LEN), found[BW_HASH_LEN];
     int status = bytes && !bw_hasher_new(&f->mode, &hasher) ? start(f, each) : no_memory();
     if (!status) status = watch(f, &hasher, bytes);
@@ -367,7 +367,7 @@ static int run(fetch *f, unsigned each) {
     if (f->verbose || status == NOT_FETCHED) report(f);
     if (status == NOT_FETCHED) not_fetched(f);
     if (status) out_drop(&f->out);
-    bw_free(&hasher);
+    bw_hasher_free(&hasher);
     free(bytes);
     return status;
 }

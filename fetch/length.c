@@ -153,7 +153,8 @@ static bool settle_plain(conn *c, line *by) {
     if (settle_by(c, total, &(origin){.outboard = &c->parents, .plain = &plain}, &at)) return true;
     /* A parent that is refused is the outboard encoding's own. A chunk may be refused since the claim is false: nobody is
      * blamed. */
-    if (node_at(total, last, BW_CHUNK_LEN, at).kind == BW_NODE_CHUNK) return false;
+    bw_placed refused;
+    if (bw_node_at(total, last, BW_CHUNK_LEN, at, &refused) || refused.kind != BW_NODE_PARENT) return false;
     conn_say(c, &by->place, "it isn't the root's");
     fetch_lock(c->fetch);
     by->wrong += parents, by->bad++;

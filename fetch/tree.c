@@ -134,12 +134,3 @@ size_t slice_put(uint64_t total, uint64_t start, uint64_t len, const origin *fro
     }
     return used;
 }
-
-bw_placed node_at(uint64_t total, uint64_t start, uint64_t len, uint64_t at) {
-    slice of = {.count = 0};
-    uint64_t next = BW_LENGTH_LEN;
-    size_t i = 0;
-    slice_of(&of, total, start, len);
-    while (next < at && i + 1 < of.count) next += of.nodes[i++].size;
-    return of.nodes[i];
-}

@@ -78,7 +78,4 @@ bool add_parents(pieces *out, const path *known, uint64_t total, uint64_t start,
 /* Puts a slice of chunks of one group together. Its length, or 0 where a node is lacking or `room` is too small. */
 size_t slice_put(uint64_t total, uint64_t start, uint64_t len, const origin *from, uint8_t *out, size_t room);
 
-/* The node that begins at byte `at` of the encoding of such a slice, after the length. */
-bw_placed node_at(uint64_t total, uint64_t start, uint64_t len, uint64_t at);
-
 #endif

@@ -232,8 +232,7 @@ static taken take(conn *c, unsigned group, span it, bw_placed *refused) {
     size_t text_len = slice_put(f->total, start, len, &from, c->text, GROUP_SLICE_MOST);
     if (!text_len) return LACKING;
     if (bw_decode(&f->mode, f->root, start, len, c->text, text_len, c->chunks, GROUP_LEN, &used, &certified, &at)) {
-        *refused = node_at(f->total, start, len, at);
-        return REFUSED;
+        return bw_node_at(f->total, start, len, at, refused) ? LACKING : REFUSED;
     }
     keep(c, group, it, start, used);
     return TAKEN;

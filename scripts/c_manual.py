@@ -10,7 +10,11 @@ import sys
 
 ROOT = pathlib.Path(__file__).resolve().parent.parent
 # a comment, a declaration or a list of statuses of the header, from the first column on
-PART = re.compile(r"/\*.*?\*/|^(?:typedef )?(?:struct|enum)\b.*?^\}[^;]*;|^(?:BW_USE )?(?:void |bw_status |uint32_t |uint64_t |const char \*)bw_\w+\(.*?\);", re.S | re.M)
+PART = re.compile(
+    r"/\*.*?\*/|^(?:typedef )?(?:struct|enum)\b.*?^\}[^;]*;|^(?:BW_USE )?(?:void |bw_status |uint32_t |uint64_t |const char \*)bw_\w+\(.*?\);"
+    r"|^static inline void bw_\w+\([^\n]*\) \{[^\n]*\}$",
+    re.S | re.M,
+)
 STATUS = re.compile(r"^\s*(BW_\w+) = (\d+),?\s*(?:/\* (.*?) \*/)?$", re.M)
 
 
@@ -57,8 +61,9 @@ def page(header):
         elif part.startswith("/*"):
             out += list(paragraphs(part))
         else:
+            part = re.sub(r"^static inline (.*\)) \{.*\}$", r"\1;", part)
             names += re.findall(r"\b(bw_\w+)\(", part)
-            out += code(re.sub("BW_USE ", "", part))
+            out += code(re.sub(r"BW_USE | BW_NONNULL\([^)]*\)", "", part))
     return "\n".join(out) + "\n", names
 
 
@@ -66,7 +71,7 @@ def main(folder):
     folder = pathlib.Path(folder)
     folder.mkdir(parents=True, exist_ok=True)
     text, names = page((ROOT / "c" / "berylwool.h").read_text())
-    declared = set(re.findall(r"^(?:BW_USE )?(?:const )?\w+ \*?(bw_\w+)\(", (ROOT / "c" / "berylwool.h").read_text(), re.M))
+    declared = set(re.findall(r"^(?:BW_USE |static inline )?(?:const )?\w+ \*?(bw_\w+)\(", (ROOT / "c" / "berylwool.h").read_text(), re.M))
     if set(names) != declared:
         stop(f"not on the page: {sorted(declared - set(names))}")
     (folder / "berylwool.3").write_text(text)

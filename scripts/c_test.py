@@ -77,6 +77,17 @@ def vectors():
     (OUT / "vectors.h").write_text("\n".join(text) + "\n")
 
 
+def kinds():
+    """A compiler takes each kind of handle where it is asked for, and no other one there."""
+    kinds = ("hasher", "feed", "outline", "seat")
+    for wanted in kinds:
+        for given in kinds:
+            text = f"#include <berylwool.h>\nvoid test(void) {{ bw_{given} it = BW_EMPTY; bw_{wanted}_free(&it); }}\n"
+            words = ["cc", *FLAGS, "-fsyntax-only", "-x", "c", "-"]
+            if (subprocess.run(words, input=text, text=True, capture_output=True, cwd=ROOT).returncode == 0) != (wanted == given):
+                sys.exit(f"c_test.py: a compiler takes a bw_{given} for a bw_{wanted}, or not its own")
+
+
 def installed():
     """Makes an example with the folder of a release that was moved, by what pkg-config says of it, and runs it over its shared library."""
     with tempfile.TemporaryDirectory() as folder:
@@ -100,6 +111,7 @@ def main():
     with open(OUT / "tie.c", "w") as tie:
         run(sys.executable, "scripts/header.py", "crates/berylwool/src", ARCHIVE, stdout=tie)
     run("cc", *FLAGS, "-c", OUT / "tie.c", "-o", OUT / "tie.o")
+    kinds()
     if there("c++"):
         run("c++", "-x", "c++", "-std=c++17", "-Wall", "-Wextra", "-Werror", "-fsyntax-only", "c/berylwool.h")
     builds = [("cc", "plain", [])]
@@ -107,7 +119,7 @@ def main():
         builds.append(("clang", "clang", []))
     for name, flag in (("asan", "-fsanitize=address,undefined"), ("tsan", "-fsanitize=thread")):
         if sanitizes("cc", flag):
-            builds.append(("cc", name, [flag]))
+            builds.append(("cc", name, [flag, *(["-fno-sanitize-recover=undefined"] if name == "asan" else [])]))
     for compiler, name, more in builds:
         run(compiler, *FLAGS, *more, "c/test.c", ARCHIVE, "-o", OUT / f"test-{name}")
         run(OUT / f"test-{name}")

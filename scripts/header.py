@@ -4,7 +4,8 @@
 usage: python3 scripts/header.py SOURCE_DIR ARCHIVE > tie.c
 
 Each exported function gives a static assertion over the type that the header has for it, and each #[repr(C)] struct assertions over its
-size and over the type and the place of each field. Each status of status.rt has to be one of the header's numbers. The names that the
+size and over the type and the place of each field. A handle is one struct there, and one for each kind in the header. What is a
+reference to one thing has to be marked as never null, but an array, of which C says it by itself. Each status of status.rt has to be one of the header's numbers. The names that the
 archive defines for others have to be those of the sources, and of c/strerror.c."""
 import pathlib
 import re
@@ -17,9 +18,11 @@ ARRAY = re.compile(r"\[(\w+); (\d+)\]")
 STRUCT = re.compile(r"#\[repr\(C\)\](?:\s*#\[[^\]]*\])*\s*pub struct (\w+) \{(.*?)\n\}", re.S)
 FIELD = re.compile(r"^\s*(?:pub )?(\w+): ([^,\n]+),", re.M)
 EXPORT = re.compile(r'#\[unsafe\(no_mangle\)\]\s*pub extern "C" fn (\w+)\((.*?)\)(?: -> (\w+))?\s*(?=\n\s+(?:requires|ensures|ghost)|\{)', re.S)
+MARKED = re.compile(r"^(?:BW_USE )?\w+ (bw_\w+)\([^;]*?\)(?: BW_NONNULL\(([\d, ]+)\))?;", re.M)
 STATUS = re.compile(r"^pub\(crate\) const (\w+): u32 = (\d+);", re.M)
+HANDLE = "BwHandle"
+HANDLES = ("hasher", "feed", "outline", "seat")
 REFERENCE = re.compile(r"&(mut )?(?:\[(\w+)(?:; (\d+))?\]|(\w+))")
-POINTER = re.compile(r"\*mut (\w+)")
 
 
 def stop(text):
@@ -37,7 +40,9 @@ def parameter(kind, structs):
         return []
     if kind in NUMBERS:
         return [NUMBERS[kind][0]]
-    found = REFERENCE.fullmatch(POINTER.sub(r"&mut \1", kind))
+    if kind == f"*mut {HANDLE}":
+        return ["void *"]
+    found = REFERENCE.fullmatch(kind)
     if not found:
         stop(f"no C type is known for {kind}")
     is_mut, element, count, name = found.groups()
@@ -50,6 +55,14 @@ def parameter(kind, structs):
         stop(f"no C type is known for {kind}")
     pointer = f"{target} *" if is_mut else f"const {target} *"
     return [pointer, "size_t"] if element and not count else [pointer]
+
+
+def handle(name, before):
+    """The kind of a handle, which is one type in Rust: a parameter is named by it, or is another of the kind of the one before."""
+    kind = before if name == "other" else name
+    if kind not in HANDLES:
+        stop(f"no handle is called {name}")
+    return kind
 
 
 def field(kind):
@@ -65,22 +78,37 @@ def field(kind):
 
 
 def struct_lines(name, fields):
+    """The assertions for the struct that the header calls by this name."""
     at, widest = 0, 1
     for field_name, kind in fields:
         if kind == "Global":  # it takes no bytes
             continue
         size, align, pointer = field(kind)
         at = -(-at // align) * align
-        place = f"{c_struct(name)}, {field_name}"
+        place = f"{name}, {field_name}"
         yield f'_Static_assert(offsetof({place}) == {at}, "{place}");'
-        yield f'_Static_assert(_Generic(&(({c_struct(name)} *)0)->{field_name}, {pointer}: 1, default: 0), "{place}");'
+        yield f'_Static_assert(_Generic(&(({name} *)0)->{field_name}, {pointer}: 1, default: 0), "{place}");'
         at, widest = at + size, max(widest, align)
-    yield f'_Static_assert(sizeof({c_struct(name)}) == {-(-at // widest) * widest}, "{name}");'
+    yield f'_Static_assert(sizeof({name}) == {-(-at // widest) * widest}, "{name}");'
 
 
-def function_line(name, parameters, result, structs):
-    kinds = [it.split(": ", 1)[1].strip() for it in re.split(r",\s*(?=\w+:|$)", parameters.strip()) if it.strip()]
-    taken = ", ".join(it for kind in kinds for it in parameter(kind, structs)) or "void"
+def function_line(name, parameters, result, structs, marked):
+    """The assertion for a function. The parameters that the header marks have to be those that are references to one thing."""
+    taken, wanted, before = [], [], None
+    for it in re.split(r",\s*(?=\w+:|$)", parameters.strip()):
+        if not it.strip():
+            continue
+        word, kind = (part.strip() for part in it.split(": ", 1))
+        if kind == f"&mut {HANDLE}":
+            before = handle(word, before)
+            taken.append(f"bw_{before} *")
+        else:
+            taken += parameter(kind, structs)
+        if REFERENCE.fullmatch(kind) and "[" not in kind:
+            wanted.append(len(taken))
+    if marked != wanted:
+        stop(f"{name} has the references {wanted}, and the header marks {marked}")
+    taken = ", ".join(taken) or "void"
     given = NUMBERS[result][0] if result else "void"
     return f'_Static_assert(_Generic(&{name}, {given} (*)({taken}): 1, default: 0), "{name}");'
 
@@ -99,11 +127,15 @@ def main(folder, archive):
     for name, number in statuses:
         if number not in known:
             stop(f"the header has no status {number}, {name}")
+    marked = {name: [int(it) for it in numbers.split(", ")] if numbers else [] for name, numbers in MARKED.findall(header)}
     print('#include "berylwool.h"\n')
     for name, fields in structs.items():
-        print("\n".join(struct_lines(name, fields)))
+        for it in [f"bw_{kind}" for kind in HANDLES] if name == HANDLE else [c_struct(name)]:
+            print("\n".join(struct_lines(it, fields)))
+    for kind in HANDLES:
+        print(f'_Static_assert(_Generic(&bw_{kind}_free, void (*)(bw_{kind} *): 1, default: 0), "bw_{kind}_free");')
     for name, parameters, result in exports:
-        print(function_line(name, parameters, result, structs))
+        print(function_line(name, parameters, result, structs, marked.get(name, [])))
     lines = subprocess.run(["nm", "-g", "--defined-only", archive], capture_output=True, text=True, check=True).stdout
     defined = {line.split()[-1] for line in lines.splitlines() if line.split()[1:2] == ["T"]}
     names = {it[0] for it in exports} | set(re.findall(r"^const char \*(bw_\w+)\(", (C / "strerror.c").read_text(), re.M))

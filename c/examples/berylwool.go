@@ -100,7 +100,7 @@ func CheckSlice(root Hash, start, count uint64, text []byte) error {
 
 // A Seat is one goroutine's at a time. Close it at the end.
 type Seat struct {
-	handle C.bw_handle
+	handle C.bw_seat
 	store  *byte // the same for the seats of one store alone
 }
 
@@ -145,7 +145,7 @@ func (seat *Seat) Finish(out []byte) (int, error) {
 }
 
 // Close frees the seat, and the store with its last seat.
-func (seat *Seat) Close() { C.bw_free(&seat.handle) }
+func (seat *Seat) Close() { C.bw_seat_free(&seat.handle) }
 
 func must(err error) {
 	if err != nil {

@@ -21,7 +21,7 @@ typedef struct copy {
 } copy;
 
 typedef struct worker {
-    bw_handle seat;
+    bw_seat seat;
     const uint8_t *root;
     const copy *copies;
     uint32_t copy_count, number, groups, served;
@@ -82,7 +82,7 @@ static void *work(void *arg) {
 }
 
 /* The length comes from the first copy that has a true last chunk. */
-static uint64_t settle(bw_handle *seat, const copy *copies, uint32_t count) {
+static uint64_t settle(bw_seat *seat, const copy *copies, uint32_t count) {
     static uint8_t tail[8 + 64 * 64 + BW_CHUNK_LEN];
     uint64_t len = 0, at = 0;
     size_t used = 0;
@@ -112,7 +112,7 @@ int main(int count, char **words) {
         if (copies[k].len / BW_CHUNK_LEN + 1 > chunks) chunks = copies[k].len / BW_CHUNK_LEN + 1;
     }
 
-    bw_handle seat = BW_EMPTY;
+    bw_seat seat = BW_EMPTY;
     must("store", bw_store_new(&plain, root, chunks < 65536 ? (uint32_t)chunks : 65536, &seat));
     uint64_t len = settle(&seat, copies, copy_count);
     worker workers[THREADS];
@@ -127,14 +127,14 @@ int main(int count, char **words) {
     for (int k = 0; k < THREADS; k++) {
         pthread_join(threads[k], NULL);
         served += workers[k].served;
-        bw_free(&workers[k].seat);
+        bw_seat_free(&workers[k].seat);
     }
     uint8_t *blob = room((size_t)len);
     size_t used = 0;
     must("blob", bw_seat_finish(&seat, blob, (size_t)len, &used));
     fwrite(blob, 1, used, stdout);
     fprintf(stderr, "%zu bytes; %u slices served on the way\n", used, served);
-    bw_free(&seat);
+    bw_seat_free(&seat);
     for (uint32_t k = 0; k < copy_count; k++) free(copies[k].text);
     free(copies);
     free(blob);

@@ -33,7 +33,7 @@ typedef uint8_t slice_room[8 + 2 * GROUP_LEN];
 
 /* A worker's part in a window, which begins with this chunk of the blob. */
 typedef struct worker {
-    bw_handle seat;
+    bw_seat seat;
     const task *of;
     uint64_t first_chunk;
     uint32_t groups, number;
@@ -119,7 +119,7 @@ static void fill(worker *workers, uint64_t first_chunk, uint32_t chunks) {
 }
 
 /* Takes a window's bytes into the hash and writes them. */
-static void put(bw_handle *seat, uint64_t len, bw_handle *hasher) {
+static void put(bw_seat *seat, uint64_t len, bw_hasher *hasher) {
     static uint8_t bytes[GROUP_LEN];
     uint64_t missing = 0;
     for (uint64_t at = 0; at < len;) {
@@ -163,7 +163,7 @@ int main(int count, char **words) {
     of.copies = copies;
     of.len = certified(&of);
 
-    bw_handle hasher = BW_EMPTY;
+    bw_hasher hasher = BW_EMPTY;
     uint8_t hash[BW_HASH_LEN];
     must("hasher", bw_hasher_new(&plain, &hasher));
     const uint64_t window_len = (uint64_t)WINDOW_CHUNKS * BW_CHUNK_LEN;
@@ -173,11 +173,11 @@ int main(int count, char **words) {
         fill(workers, at / BW_CHUNK_LEN, (uint32_t)((len + BW_CHUNK_LEN - 1) / BW_CHUNK_LEN));
         put(&workers[0].seat, len, &hasher);
     }
-    bw_free(&workers[0].seat);
+    bw_seat_free(&workers[0].seat);
     must("hash", bw_hasher_finish(&hasher, hash));
     if (fflush(stdout)) stop("standard output", "can't be written");
     if (memcmp(hash, of.root, sizeof hash) != 0) stop("blob", bw_strerror(BW_NOT_THE_ROOT));
-    bw_free(&hasher);
+    bw_hasher_free(&hasher);
     free(copies);
     return 0;
 }

@@ -22,7 +22,7 @@ abbrev pub parent_at : ℕ → ℕ → ℕ → ℕ → ℕ → BwPlaced
 parent_at number n l source at = record { kind = 0; size = 64; number = number + l / 1024; start = 1024 * number; len = n; combined_at = source; outboard_at = at }
 
 -- the outboard encoding has it where its subtree's parents begin
-parent_is : (total : ℕ) (own : Choice) (number n l : ℕ) (sides : List Side) (source at : ℕ) → 1024 < n → l ≡ left_len n → HasParentsAmong (outboard_places total) own number n sides source at
+pub parent_is : (total : ℕ) (own : Choice) (number n l : ℕ) (sides : List Side) (source at : ℕ) → 1024 < n → l ≡ left_len n → HasParentsAmong (outboard_places total) own number n sides source at
     → parent_at number n l source at ≡ placed_of total (parent_node number n sides source)
 parent_is total own number n l sides source at more is_l has =
     let parts : Parts n (left_len n) = left_len-Parts n more in

@@ -1,11 +1,11 @@
 -- The nodes of a slice as C has them: with the bytes that they are over, and where they stand in the encodings.
-use Rattle.std.specs.Prelude.{ℕ, ◌*◌, List, if◌then◌else◌}
-use Rattle.std.specs.Option.{unwrap_or}
+use Rattle.std.specs.Prelude.{ℕ, ◌-◌, ◌*◌, List, [], ◌∷◌, max, nat_lt, if◌then◌else◌, Option, None, Some}
+use Rattle.std.specs.Option.{option_map, unwrap_or}
 use Rattle.bao_check.specs.Accepted.{places_of}
 use Rattle.bao_check.specs.Parents.{parent_place}
 use Rattle.bao_text.specs.Choice.{of_outboard}
 use Rattle.bao_text.specs.NodeNames.{boundary}
-use Rattle.bao_text.specs.Nodes.{TreeNode, chosen_nodes, size}
+use Rattle.bao_text.specs.Nodes.{TreeNode, chosen_nodes, nodes, size}
 use Rattle.berylwool.specs.declared.nodes.BwPlaced.{BwPlaced}
 
 -- the nodes of the outboard encoding of a blob of `total` bytes, with their places
@@ -23,3 +23,18 @@ placed_of total node = record {
   combined_at = node.source;
   outboard_at = if node.is_chunk then 0 else unwrap_or (parent_place (outboard_places total) (boundary node)) 0;
 }
+
+-- Whose byte `at` is, where the nodes' bytes follow one another. The chunk of a blob of no bytes counts as one byte.
+abbrev pub node_over : List TreeNode → ℕ → Option TreeNode
+node_over [] at = None
+node_over (node ∷ rest) at = if nat_lt at (max (size node) 1) then Some node else node_over rest (at - size node)
+
+-- what is over no byte of the blob: an encoding's length, with which each encoding begins, and what is no node
+abbrev pub over_no_byte : ℕ → ℕ → BwPlaced
+over_no_byte kind size = record { kind = kind; size = size; number = 0; start = 0; len = 0; combined_at = 0; outboard_at = 0 }
+
+-- whose byte `at` of the encoding of the slice (start, len) of a blob of `total` bytes is: kind 2 is the length, and kind 3 no node
+abbrev pub placed_at : ℕ → ℕ → ℕ → ℕ → BwPlaced
+placed_at total start len at =
+    if nat_lt at 8 then over_no_byte 2 8
+    else unwrap_or (option_map (placed_of total) (node_over (nodes total start len) (at - 8))) (over_no_byte 3 0)

@@ -14,7 +14,7 @@ use crate::handle::BwHandle;
 use crate::hasher::{bw_hasher_finish, bw_hasher_update};
 use crate::hashing::{bw_derive_key, bw_hash, bw_xof};
 use crate::mode::{BwMode, bw_mode_derive};
-use crate::nodes::{BwPlaced, bw_slice_nodes};
+use crate::nodes::{BwPlaced, bw_node_at, bw_slice_nodes};
 use crate::outlines::{bw_outline_check, bw_outline_length, bw_outline_new, bw_outline_slice};
 use crate::sizes::bw_slice_len;
 use crate::writing::{
@@ -124,6 +124,25 @@ pub fn slice_nodes_determined(
     (
         bw_slice_nodes(total, start, len, ours, used),
         bw_slice_nodes(total, start, len, theirs, also),
+    )
+}
+
+// Of one place.
+pub fn node_at_determined(
+    total: u64,
+    start: u64,
+    len: u64,
+    at: u64,
+    ours: &mut BwPlaced,
+    theirs: &mut BwPlaced,
+) -> (u32, u32)
+    requires { ours.old ≡ theirs.old }
+    ensures status { result.0 ≡ result.1 }
+    ensures node { ours.new ≡ theirs.new }
+{
+    (
+        bw_node_at(total, start, len, at, ours),
+        bw_node_at(total, start, len, at, theirs),
     )
 }
 

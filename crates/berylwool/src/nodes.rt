@@ -1,10 +1,11 @@
-ghost use Rattle.std.specs.Prelude.{◌≡◌, ◌≢◌, ◌↔◌, ℕ, ◌+◌, ◌-◌, ◌*◌, ◌^◌, ◌<◌, ◌≤◌, List, [], ◌∷◌, ◌++◌, length, map, take, true, false, IfNone, IfSome};
+ghost use Rattle.std.specs.Prelude.{◌≡◌, ◌≢◌, ◌↔◌, ℕ, ◌+◌, ◌-◌, ◌*◌, ◌^◌, ◌<◌, ◌≤◌, List, [], ◌∷◌, ◌++◌, length, map, take, true, false, IfErr, IfNone, IfOk, IfSome, OnErr, Some};
+ghost use Rattle.std.specs.Option.{option_map};
 ghost use Rattle.b3tree.specs.Tree.{left_len};
 ghost use Rattle.bao_text.specs.declared.choice.Choice.{Choice};
 ghost use Rattle.bao_text.specs.Choice.{chunk_count};
-ghost use Rattle.bao_text.specs.Nodes.{Side, nodes, subtree_nodes, subtree_size};
+ghost use Rattle.bao_text.specs.Nodes.{Side, TreeNode, nodes, subtree_nodes, subtree_size};
 ghost use Rattle.berylwool.specs.Outlines.{HasParentsAmong};
-ghost use Rattle.berylwool.specs.Placed.{outboard_places, placed_of};
+ghost use Rattle.berylwool.specs.Placed.{node_over, outboard_places, over_no_byte, placed_at, placed_of};
 
 use crate::status::{ROOM, TOO_LONG};
 use b3tree::{CHUNK_LEN, left_len};
@@ -57,6 +58,22 @@ fn chunk(number: u64, len: u64, combined_at: u64) -> BwPlaced
     }
 }
 
+// A parent over `len` bytes from chunk `number` on, of which the right part begins with chunk `middle`.
+fn parent(number: u64, middle: u64, len: u64, combined_at: u64, outboard_at: u64) -> BwPlaced
+    requires range { 1024 * number + len ≤ 2 ^ 64 - 1 }
+    ensures { result ≡ record { kind = 0; size = 64; number = middle; start = 1024 * number; len = len; combined_at = combined_at; outboard_at = outboard_at } }
+{
+    BwPlaced {
+        kind: 0,
+        size: PARENT_LEN as u32,
+        number: middle,
+        start: CHUNK_LEN as u64 * number,
+        len,
+        combined_at,
+        outboard_at,
+    }
+}
+
 // Puts the wanted nodes of the subtree over `n` bytes from chunk `number` on, which begins at the place `combined_at` of a combined encoding and has
 // its parents from the place `outboard_at` of an outboard encoding on, after the first `count`.
 fn put_subtree(
@@ -92,15 +109,7 @@ fn put_subtree(
     let top = put_node(
         out,
         count,
-        BwPlaced {
-            kind: 0,
-            size: PARENT_LEN as u32,
-            number: middle,
-            start,
-            len: n,
-            combined_at,
-            outboard_at,
-        },
+        parent(number, middle, n, combined_at, outboard_at),
     )?;
     let below = combined_at + PARENT_LEN as u64;
     let near = put_subtree(
@@ -153,5 +162,120 @@ pub extern "C" fn bw_slice_nodes(
         return ROOM;
     };
     *count = all;
+    0
+}
+
+// What is over no byte of the blob.
+fn over_no_byte(kind: u32, size: u32) -> BwPlaced
+    ensures { result ≡ over_no_byte kind size }
+{
+    BwPlaced {
+        kind,
+        size,
+        number: 0,
+        start: 0,
+        len: 0,
+        combined_at: 0,
+        outboard_at: 0,
+    }
+}
+
+// Whose byte `at` of the wanted nodes of a subtree is, which has its places as in `put_subtree`; and else how much of `at` is left after them. It
+// goes down only where a subtree is wanted in part, so along the two edges of the wanted positions, and where the byte is.
+fn find_node(
+    choice: &Choice,
+    number: u64,
+    n: u64,
+    combined_at: u64,
+    outboard_at: u64,
+    at: u64,
+) -> Result<BwPlaced, u64>
+    requires range { 1024 * number + n ≤ 2 ^ 64 - 1 }
+    requires combined { combined_at + subtree_size n < 2 ^ 64 }
+    requires outboard { outboard_at + 64 * (chunk_count n - 1) < 2 ^ 64 }
+    requires chunks { choice.now.chunks ≡ true }
+    ensures found { IfOk result (λ node. (total : ℕ) (own : Choice) (sides : List Side) (rest : List TreeNode) → HasParentsAmong (outboard_places total) own number n sides combined_at outboard_at
+        → option_map (placed_of total) (node_over (subtree_nodes choice.now number n sides combined_at ++ rest) at) ≡ Some node) }
+    ensures after { IfErr result (λ left. (sides : List Side) (rest : List TreeNode)
+        → node_over (subtree_nodes choice.now number n sides combined_at ++ rest) at ≡ node_over rest left) }
+{
+    let start = CHUNK_LEN as u64 * number;
+    if !choice.wants(start, n) {
+        return Err(at);
+    }
+    if n <= CHUNK_LEN as u64 {
+        if at < n.max(1) {
+            return Ok(chunk(number, n, combined_at));
+        }
+        return Err(at - n);
+    }
+    let size = subtree_size(n) as u64;
+    if at >= size && choice.covers(start, n) {
+        return Err(at - size);
+    }
+    let left_len = left_len(n);
+    let left_chunks = left_len / CHUNK_LEN as u64;
+    let middle = number + left_chunks;
+    let parent_len = PARENT_LEN as u64;
+    if at < parent_len {
+        return Ok(parent(number, middle, n, combined_at, outboard_at));
+    }
+    let below = combined_at + parent_len;
+    let near = find_node(
+        choice,
+        number,
+        left_len,
+        below,
+        outboard_at + parent_len,
+        at - parent_len,
+    );
+    let Err(left) = near else {
+        return near;
+    };
+    let far_at = below + subtree_size(left_len) as u64;
+    find_node(
+        choice,
+        middle,
+        n - left_len,
+        far_at,
+        outboard_at + parent_len * left_chunks,
+        left,
+    )
+}
+
+// What a search found, or no node.
+fn found_or_none(found: Result<BwPlaced, u64>) -> BwPlaced
+    ensures found { IfOk found (λ node. result ≡ node) }
+    ensures none { OnErr found (result ≡ over_no_byte 3 0) }
+{
+    match found {
+        Ok(node) => node,
+        Err(_) => over_no_byte(3, 0),
+    }
+}
+
+/// Which node of the slice of `len` bytes from byte `start` on of a blob of `total` bytes has byte `at` of its encoding: to `node`. Where the byte is one
+/// of the length, the kind is 2 and the size 8, and where the encoding ends before it, the kind is 3 and the size 0: all else is 0 then. The chunk of a
+/// blob of no bytes is at 8. It takes a few steps a level of the tree.
+///
+/// 201 exactly where the combined encoding has more than 2^64 - 1 bytes: `node` is unchanged then.
+#[unsafe(no_mangle)]
+pub extern "C" fn bw_node_at(total: u64, start: u64, len: u64, at: u64, node: &mut BwPlaced) -> u32
+    ensures node { result ≡ 0 → node.new ≡ placed_at total start len at }
+    ensures too_long { result ≡ 201 ↔ (2 ^ 64 ≤ 8 + subtree_size total) }
+    ensures status { result ≢ 0 → result ≡ 201 }
+    ensures same { result ≢ 0 → node.new ≡ node.old }
+{
+    if encoded_len(total) > u128::from(u64::MAX) {
+        return TOO_LONG;
+    }
+    let first = LENGTH_LEN as u64;
+    if at < first {
+        *node = over_no_byte(2, LENGTH_LEN as u32);
+        return 0;
+    }
+    let choice = Choice::of_slice(total, start, len);
+    let found = find_node(&choice, 0, total, first, first, at - first);
+    *node = found_or_none(found);
     0
 }

@@ -1,6 +1,7 @@
-use Rattle.std.proofs.Common.{◌≡◌, ◌∙◌, [], ◌∷◌, ◌++◌, length, Option, None, Some, IfNone, arith, refl, sym}
+use Rattle.std.proofs.Common.{◌≡◌, ◌∙◌, [], ◌∷◌, ◌++◌, length, Option, None, Some, IfNone, ap, arith, refl, sym, take}
 use Rattle.std.proofs.lemmas.Option.{IfSome_then}
 use Rattle.bao_text.specs.Nodes.{left, right, subtree_nodes}
+use Rattle.berylwool.specs.declared.nodes.BwPlaced.{BwPlaced}
 use Rattle.berylwool.proofs.Placed.{chunk_many, chunk_placed, none_many, none_placed, parent_many, parent_placed}
 use Rattle.berylwool.proofs.nodes.+put_subtree.Goals as goal
 
@@ -63,7 +64,7 @@ pub returns-clause-nodes : goal.returns-clause-nodes
 returns-clause-nodes t c = IfSome_then c.put_subtree-2.result c.put_subtree-2.ensures.nodes (λ k third total own sides has.
     parent_placed total c.args.choice.now own c.args.number c.args.n c.left_len-left_len.result c.subtree_size.result sides c.args.combined_at c.args.outboard_at _ _ _ _
     (omega (arith, c.if-n.false)) (sym c.wants.ensures ∙ c.if-not-wants.false) c.left_len-left_len.ensures.value c.subtree_size.ensures has
-    c.in_ok-top.ensures.node (λ its. c.in_ok-near.ensures.nodes total own (sides ++ left ∷ []) its) (λ its. third total own (sides ++ right ∷ []) its))
+    (c.in_ok-top.ensures.node ∙ ap (λ (it : BwPlaced). take c.args.count c.args.out.now ++ it ∷ []) c.parent.ensures) (λ its. c.in_ok-near.ensures.nodes total own (sides ++ left ∷ []) its) (λ its. third total own (sides ++ right ∷ []) its))
 
 pub returns-clause-full : goal.returns-clause-full
 returns-clause-full t c = none_then c.put_subtree-2.result c.put_subtree-2.ensures.full (λ is sides.
