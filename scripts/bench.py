@@ -308,6 +308,7 @@ CALLS = [
     ("bw_slice_ranges of 64 KiB", ""),
     ("bw_outboard_ranges of 64 KiB", ""),
     ("bw_slice_nodes of 64 KiB", ""),
+    ("bw_node_at of 64 KiB", ""),
 ]
 
 # The table of memory: a name, how it was measured, and what is wanted of it.

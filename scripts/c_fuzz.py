@@ -241,7 +241,7 @@ def written(modes, blob, start, count):
 
 
 def nodes_of(total, start, count):
-    """The nodes of a slice, with the offsets that they have in the two whole encodings."""
+    """The nodes of a slice, with the offsets that they have in the two whole encodings, and where they begin in its own."""
     combined = {(it.number, it.length): it.offset for it in by.slice_nodes(total, 0, 2**64 - 1)}
     outboard = {(it.number, it.length): it.offset for it in by.outboard_nodes(total)}
     wanted = []
@@ -252,13 +252,16 @@ def nodes_of(total, start, count):
     out, found = (Placed * 64)(), c.size()
     assert calls.bw_slice_nodes(c.u64(total), c.u64(start), c.u64(count), out, c.size(64), ctypes.byref(found)) == 0
     assert [[*it.words, *it.places] for it in out[: found.value]] == wanted
+    places, node = [8 + sum(it[1] for it in wanted[:k]) for k in range(len(wanted))], Placed()
+    for at, told in [(7, [2, 8, 0, 0, 0, 0, 0]), *zip(places, wanted), (places[-1] + max(wanted[-1][1], 1), [3, 0, 0, 0, 0, 0, 0])]:
+        assert calls.bw_node_at(c.u64(total), c.u64(start), c.u64(count), c.u64(at), ctypes.byref(node)) == 0 and [*node.words, *node.places] == told
     room = len(wanted) - 1
     assert calls.bw_slice_nodes(c.u64(total), c.u64(start), c.u64(count), out, c.size(room), ctypes.byref(found)) == 1201 and found.value == len(wanted)
 
 
 def main(count):
     rng, refused = random.Random(1), 0
-    for call in (calls.bw_outboard, calls.bw_slice, calls.bw_slice_ranges, calls.bw_outboard_ranges, calls.bw_slice_nodes, calls.bw_check_combined, calls.bw_check_outboard):
+    for call in (calls.bw_outboard, calls.bw_slice, calls.bw_slice_ranges, calls.bw_outboard_ranges, calls.bw_slice_nodes, calls.bw_node_at, calls.bw_check_combined, calls.bw_check_outboard):
         call.restype, call.argtypes = c.u32, None
     calls.bw_encode.argtypes = calls.bw_cut_slice.argtypes = calls.bw_check_slice.argtypes = None
     blobs = [rng.randbytes(length) for length in LENGTHS]

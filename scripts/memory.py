@@ -88,6 +88,14 @@ def counted(name, refused, blob):
     return f"{name}: {refused} of {-(-bao.chunks_of(BLOBS[blob]) // GROUP_LEN)} groups of 64 KiB refused"
 
 
+def missing(blob):
+    """What is told of FILEs that all have a changed byte in the middle chunk."""
+    size = GROUP_LEN * bao.CHUNK_LEN
+    at = bao.chunks_of(BLOBS[blob]) // 2 // GROUP_LEN * size
+    after = min(at + size, BLOBS[blob])
+    return [f"missing: bytes {at} to {after - 1}", f"missing: {after - at} of {BLOBS[blob]} bytes, parts: 1"]
+
+
 def gather(blob, *files, how=""):
     return (" ".join(["gather", *how.split(), f"@{blob}", OUT, *files]),)
 
@@ -117,7 +125,7 @@ TRUE_AND_ZEROS = [counted("64M.bao", 0, "64M"), counted("zeros-3G", 1, NOTHING)]
 # Holders that are many, or large.
 HOLDERS = [
     Row("twenty holders with one damaged chunk in common", gather("64M", *TWENTY), WINDOW, UNFINISHED, read=FOUR_TIMES),
-    Row("these twenty, each counted", gather("64M", *TWENTY, how="--verbose"), WINDOW, UNFINISHED, told=[counted(it, 1, "64M") for it in TWENTY]),
+    Row("these twenty, each counted", gather("64M", *TWENTY, how="--verbose"), WINDOW, UNFINISHED, told=[*(counted(it, 1, "64M") for it in TWENTY), *missing("64M")]),
     Row("a damaged holder beside one of 3 GiB of zeros", BESIDE_ZEROS[0], WINDOW, UNFINISHED, read=LITTLE),
     Row("a damaged holder beside one of 1 TiB of zeros", BESIDE_ZEROS[1], WINDOW, UNFINISHED, read=LITTLE),
     Row("a true holder beside one of 3 GiB of zeros, each counted", TRUE_BESIDE_ZEROS, WINDOW, like="64M", told=TRUE_AND_ZEROS, read=FOUR_TIMES),
@@ -218,7 +226,7 @@ UNOPENED = [
     Row("64 holders where 40 files may be open, a true one early", TRUE_EARLY, GATHERS, like="4M", files=40),
     Row("64 holders where 40 files may be open, a true one last", TRUE_LAST, GATHERS, UNFINISHED, files=40),
     Row("a folder before a true holder", FOLDER_TRUE, GATHERS, like="4M", told=[f"left out {FOLDER}: not opened", TRUE]),
-    Row("a folder before a damaged holder", FOLDER_TORN, GATHERS, UNFINISHED, told=[f"left out {FOLDER}: can't be read", TORN]),
+    Row("a folder before a damaged holder", FOLDER_TORN, GATHERS, UNFINISHED, told=[f"left out {FOLDER}: can't be read", TORN, *missing("4M")]),
     Row("a file that may not be read before a true holder", LOCKED_TRUE, GATHERS, like="4M", told=[f"left out {LOCKED}: can't be read", TRUE]),
 ]
 

@@ -35,14 +35,15 @@ import scenarios
 
 HERE = os.path.dirname(os.path.abspath(__file__))
 
-OUT, KEPT, STDOUT, STDERR = "out", b"kept", "standard output", "standard error"
+OUT, KEPT, STDOUT, STDERR, LIST = "out", b"kept", "standard output", "standard error", "list"
 PLAIN = b"bao_gather: memory\n"
 
 # The new file beside OUT.
 DRAFT = re.compile(rf"(?:.*/)?{OUT}\.part[2-9]?")
 
-# The lines of --verbose; the one of a FILE that was counted, and those in its place for want of memory.
-TOLD = re.compile(rb"bao_gather: (?:left out .*|.*: not counted: no memory|.*: \d+ of \d+ groups of 64 KiB refused)\n")
+# The lines of --verbose, and of a list that isn't written; the one of a FILE that was counted, and those in its place for want of memory.
+TOLD = re.compile(rb"bao_gather: (?:left out .*|missing: .*|nothing fits ROOT: .*|list: left as it is: .*|.*: not counted: no memory|.*: \d+ of \d+ groups of 64 KiB refused)\n")
+UNLISTED = re.compile(rb"bao_gather: list: left as it is: (?:memory|what is missing isn't known)\n")
 COUNTED = re.compile(rb"bao_gather: (.*): \d+ of \d+ groups of 64 KiB refused")
 UNCOUNTED, STARVED = b"bao_gather: %b: not counted: no memory", b"bao_gather: left out %b: no memory"
 
@@ -212,7 +213,7 @@ class Case:
         if fault.call == "malloc":
             if is_told_for_less(whole.complaint, ended.complaint):
                 return dataclasses.replace(ended, complaint=whole.complaint) == whole
-            return self.is_of_memory(ended)
+            return self.is_of_memory(ended) or is_unlisted(whole, ended)
         if fault.call == "pthread_create" or fault.how in HARMLESS:
             return ended == whole
         # What is read in order ends where a read gives nothing, and so does what is verified as it is read.
@@ -229,7 +230,8 @@ class Case:
             return any(self.is_ending(it, places, ended, TOLD) for it in (whole, self.ending(changes), self.ending(emptied)))
         # What is asked of a FILE may not matter, where it does for OUT.
         wanted = [self.ending(changes), *([whole] if fault.call in AVOIDABLE_CALLS else [])]
-        return self.is_changed(fault, met, ended) or any(self.is_ending(it, places, ended) for it in wanted)
+        listed = TOLD if any(it.startswith(LIST) for it in places) else None
+        return self.is_changed(fault, met, ended) or any(self.is_ending(it, places, ended, listed) for it in wanted)
 
     def is_changed(self, fault, met, ended):
         """A file couldn't be read again, or had changed."""
@@ -258,6 +260,12 @@ class Case:
             status, complaint = 3, complaint + b"bao_gather: cannot write output\n"
         told = complaint.startswith(ended.complaint) if STDERR in places else ended.complaint == complaint
         return ended.status == status and ended.printed in printed and told and out
+
+
+def is_unlisted(wanted, got):
+    """Whether this is the wanted ending, but for a list that isn't written for want of memory."""
+    told = UNLISTED.sub(b"", got.complaint)
+    return told != got.complaint and dataclasses.replace(got, complaint=told) == wanted
 
 
 def is_told_for_less(wanted, got):
@@ -343,6 +351,7 @@ def tasks(options):
     yield case(f"gather --capacity 100 --encode {root} out whole damaged copy", {"whole": whole, "copy": whole, "damaged": damaged})
     yield case(f"gather --workers 3 --capacity 69 {root} out damaged", {"damaged": damaged})
     yield case(f"gather --verbose --capacity 100 {root} out piece nofile whole", {"piece": piece, "whole": whole})
+    yield case(f"gather --missing list --workers 1 --capacity 100 {root} out damaged", {"damaged": damaged})
     yield case(f"gather --outboard parents --capacity 100 {root} out marred blob", {"parents": parents, "marred": marred, "blob": blob})
     yield case(f"gather --outboard parents --workers 1 --encode {root} out blob", {"parents": parents, "blob": blob})
     yield case(f"gather --workers 1 --capacity 100 {root} out first second", torn)

@@ -9,6 +9,7 @@ command. Compares these files with the replies made here, and says where they di
 """
 import concurrent.futures
 import os
+import re
 import sys
 
 import definitions as bao
@@ -684,7 +685,7 @@ class Programs:
 
     # Which word after the command's name is OUT, and the names that it may not have.
     OUTS = {"encode": 1, "outboard": 1, "slice": 3, "decode": 2, "decode-slice": 4, "gather": 1}
-    STANDARD_OUTPUT = ["/dev/stdout", "/dev/fd/1", "/proc/self/fd/1"]
+    STANDARD_OUTPUT = ["-", "/dev/stdout", "/dev/fd/1", "/proc/self/fd/1"]
 
     def __init__(self):
         # /dev/zero has no end, and no more of it is read than this.
@@ -747,6 +748,8 @@ class Programs:
             mode = self.mode_of(options.get("--key"), options.get("--context"), options.get("--key-file"))
             if name in self.OUTS and given[self.OUTS[name]] in self.STANDARD_OUTPUT:
                 raise Refused(2, "usage: OUT is standard output")
+            if "--missing" in options and options["--missing"] in [given[1], *self.STANDARD_OUTPUT]:
+                raise Refused(2, "usage: LIST is OUT or standard output")
             out = [f"out: {it}" for it in getattr(self, name.replace("-", "_"))(mode, root, options, given).splitlines()]
             return ["status 0", *out, *(f"err: bao_gather: {it}" for it in self.told)]
         except Refused as fault:
@@ -784,26 +787,52 @@ class Programs:
             raise Refused(1, str(fault)) from None
 
     def decode(self, mode, root, options, given):
-        outline = self.outline(mode, root, options)
-        if outline is None:
-            return self.decoded(mode, root, 0, None, *given[1:])
+        if "--outboard" not in options:
+            return self.decoded(mode, root, options, 0, None, *given[1:])
+        parents = self.read(options["--outboard"])
+        try:
+            outline = Outline(mode, root, parents)
+        except bao.Fault as fault:
+            raise self.refused(options, options["--outboard"], parents, fault, bao.outboard_nodes) from None
         copy = self.read(given[1])
         try:
             outline.beside(copy, 0, bao.chunks_of(outline.length))
         except bao.Fault as fault:
+            if "--verbose" in options and options["--outboard"] not in self.irregular:
+                last = min(fault.at + bao.CHUNK_LEN, outline.length) - 1
+                self.told = [f"{given[1]}: {self.place_of(fault) or f'damaged at bytes {fault.at} to {last} of the blob'}"]
             raise Refused(1, str(fault)) from None
         self.write(given[2], copy)
         return f"ok {len(copy)}"
 
     def decode_slice(self, mode, root, options, given):
-        return self.decoded(mode, root, int(given[1]), int(given[2]), *given[3:])
+        return self.decoded(mode, root, options, int(given[1]), int(given[2]), *given[3:])
 
-    def decoded(self, mode, root, start, count, file, out):
+    def place_of(self, fault):
+        """What is told of a file that is too short or too long."""
+        if str(fault).startswith("501"):
+            return f"too short: ends within what begins at its byte {fault.at}"
+        return f"too long: bytes follow its first {fault.at}" if str(fault).startswith("503") else None
+
+    def refused(self, options, file, text, fault, given):
+        """The refusal of an encoding whose nodes these are for a length; with --verbose it is told where the file is at fault."""
+        if "--verbose" in options and not (file in self.irregular and file == options.get("--outboard")):
+            place = self.place_of(fault)
+            if place is None and file in self.irregular:
+                place = f"damaged at its byte {fault.at}"
+            if place is None:
+                it = next(it for it in given(int.from_bytes(text[:8], "little")) if it.offset == fault.at)
+                first = bao.CHUNK_LEN * it.number
+                place = f"damaged {'parent over' if it.is_parent else 'at'} bytes {first} to {max(first + it.length, 1) - 1} of the blob"
+            self.told = [f"{file}: {place}"]
+        return Refused(1, str(fault))
+
+    def decoded(self, mode, root, options, start, count, file, out):
         text, asked = self.read(file), 2**64 - 1 if count is None else count
         try:
             length, found, _ = bao.checked(mode, root, text, lambda length: bao.slice_nodes(length, start, asked))
         except bao.Fault as fault:
-            raise Refused(1, str(fault)) from None
+            raise self.refused(options, file, text, fault, lambda length: bao.slice_nodes(length, start, asked)) from None
         first, last = (0, length) if count is None else (min(start, length), min(start + count, length))
         made = b""
         for it in found:
@@ -820,7 +849,11 @@ class Programs:
         # The outboard encoding comes first: where it is refused no file is opened.
         if "--verbose" in options:
             self.told = [f"left out {it}: not opened" for it in files]
-        outline = self.outline(mode, root, options)
+        try:
+            outline = self.outline(mode, root, options)
+        except Refused:
+            self.told += self.unlisted(options)
+            raise
         self.told = []
         found = [it for it in files if it in self.files]
         regular = [it for it in found if it not in self.irregular]
@@ -840,10 +873,63 @@ class Programs:
                 self.told.append(f"left out {it}: can't be read")
             else:
                 self.told.append(f"{it}: {self.worth(mode, root, int(options['--capacity']), outline, self.given(it, options, outline))} groups of 64 KiB refused")
+        lack = None
+        if str(answer) == "901 unfinished":
+            lack = self.lack(mode, root, outline, [self.given(it, options, outline) for it in opened], grains[-1])
+        if "--verbose" in options and str(answer) == "901 unfinished":
+            self.told += self.lack_told(lack)
+            counts = [it.group(1, 2) for it in [re.fullmatch(r".*: (\d+) of (\d+) groups of 64 KiB refused", it) for it in self.told] if it]
+            if self.told[-1] == self.NO_END and counts and all(refused == groups for refused, groups in counts):
+                self.told.append(self.NOTHING)
         if isinstance(answer, Refused):
+            self.told += self.unlisted(options) if lack is None else self.listed(options, lack[1])
             raise answer
-        self.write(out, bao.combined(mode, answer) if "--encode" in options else answer)
+        try:
+            self.write(out, bao.combined(mode, answer) if "--encode" in options else answer)
+        except Refused:
+            self.told += self.unlisted(options)
+            raise
+        if "--missing" in options:
+            self.write(options["--missing"], b"")
         return f"ok {len(answer)}"
+
+    def unlisted(self, options):
+        """What is told where what is missing isn't known, and a list of it is asked for."""
+        return [f"{options['--missing']}: left as it is: what is missing isn't known"] if "--missing" in options else []
+
+    def listed(self, options, parts):
+        """Writes these parts to the list that is asked for, and answers what is told where that can't be."""
+        try:
+            if "--missing" in options:
+                self.write(options["--missing"], b"".join(b"%d %d\n" % (first, after - first) for first, after in parts))
+            return []
+        except Refused as fault:
+            return [f"{options['--missing']}: left as it is: {fault}"]
+
+    # The most parts that are shown of what is missing, and what is told where none has the end, and where nothing is under the root.
+    MOST_SHOWN = 8
+    NO_END = "missing: the end, so that the length isn't known"
+    NOTHING = "nothing fits ROOT: look at ROOT, the key and --context; plain copies go with --outboard, encodings without"
+
+    def lack(self, mode, root, outline, texts, grain):
+        """What none of these texts has: the end, which is told by none, or parts of so many chunks each, those together that follow one another."""
+        end = next(self.pieces(mode, root, outline, texts, 2**64 - 1, 1), None)
+        if end is None:
+            return None
+        total, size, parts = end.length, bao.CHUNK_LEN * grain, []
+        for start in range(0, bao.CHUNK_LEN * bao.chunks_of(total), size):
+            if next(self.pieces(mode, root, outline, texts, start, size), None) is None:
+                first = parts.pop()[0] if parts and parts[-1][1] == start else start
+                parts.append((first, min(start + size, total)))
+        return total, parts
+
+    def lack_told(self, lack):
+        """What is told of it."""
+        if lack is None:
+            return [self.NO_END]
+        total, parts = lack
+        shown = [f"missing: bytes {first} to {after - 1}" for first, after in parts[: self.MOST_SHOWN]]
+        return [*shown, f"missing: {sum(after - first for first, after in parts)} of {total} bytes, parts: {len(parts)}"]
 
     def given(self, name, options, outline):
         """What a file gives: of one that isn't regular no more is read than can help, and a byte."""

@@ -21,9 +21,9 @@ mode_answer request old (Ok done) fault is of = absurd is
 mode_answer request old (Err e) fault is of = subst (LeavesOf request old old) (sym is) (mode_leaves request old fault of)
 
 -- and is due as that
-pub mode_due : (root past many out mixed keys : Type 0) (result : Result Unit Fault) (fault : Fault) → IsErrAnd result (λ e. e ≡ fault) → IsDue ⊥ ⊥ ⊥ ⊥ ⊥ keys fault
-    → IfErr result (IsDue root past many out mixed keys)
-mode_due root past many out mixed keys (Ok done) fault is due = tt
-mode_due root past many out mixed keys (Err e) fault is due =
-    subst (IsDue root past many out mixed keys) (sym is)
-    (λ i. absurd (due.0 i), λ i. absurd (due.1 i), λ i. absurd (due.2 i), λ i. absurd (due.3 i), λ i. absurd (due.4 i), due.5)
+pub mode_due : (root past many out mixed keys list : Type 0) (result : Result Unit Fault) (fault : Fault) → IsErrAnd result (λ e. e ≡ fault) → IsDue ⊥ ⊥ ⊥ ⊥ ⊥ keys ⊥ fault
+    → IfErr result (IsDue root past many out mixed keys list)
+mode_due root past many out mixed keys list (Ok done) fault is due = tt
+mode_due root past many out mixed keys list (Err e) fault is due =
+    subst (IsDue root past many out mixed keys list) (sym is)
+    (λ i. absurd (due.0 i), λ i. absurd (due.1 i), λ i. absurd (due.2 i), λ i. absurd (due.3 i), λ i. absurd (due.4 i), due.5, λ i. absurd (due.6 i))

@@ -6,7 +6,7 @@ use Rattle.b3tree.specs.declared.mode.Mode.{Mode}
 use Rattle.b3tree.specs.declared.values.Hash.{Hash as Root32}
 use Rattle.b3tree.specs.Hashing.{hash, stream}
 use Rattle.bao_command.specs.declared.fault.Fault.{Fault}
-use Rattle.bao_command.specs.declared.fault.Fault.TheVariants.{Word, Root, Key, KeyAndContext, KeyFile, KeyFileAndOthers, OutputRange, TooManyFiles, OutIsOutput, LongAndOthers, File, Decode as Undecoded, Gather as Ungathered, Replay as Unreplayed}
+use Rattle.bao_command.specs.declared.fault.Fault.TheVariants.{Word, Root, Key, KeyAndContext, KeyFile, KeyFileAndOthers, OutputRange, TooManyFiles, OutIsOutput, LongAndOthers, ListIsOut, File, Decode as Undecoded, Gather as Ungathered, Replay as Unreplayed}
 use Rattle.bao_files.specs.declared.fault.FileFault.{FileFault}
 use Rattle.bao_files.specs.declared.fault.FileFault.TheVariants as file
 use Rattle.bao_files.specs.declared.kinds.Part.{Part}
@@ -30,66 +30,83 @@ part_line part bytes = ok_line (written_count part bytes)
 abbrev pub line_of : Mode → Task → List ℕ → List ℕ
 line_of mode (Hash at length file) bytes = digits_line (stream mode bytes at length)
 line_of mode (Encode encoding file out) bytes = digits_line (hash mode bytes)
-line_of mode (Decode root part file out) bytes = part_line part bytes
-line_of mode (DecodeCopy root outboard copy out) bytes = ok_line (length bytes)
-line_of mode (Gather root workers capacity long outboard salvage encode verbose files out) bytes = ok_line (length bytes)
+line_of mode (Decode root part verbose file out) bytes = part_line part bytes
+line_of mode (DecodeCopy root outboard verbose copy out) bytes = ok_line (length bytes)
+line_of mode (Gather root workers capacity long outboard salvage encode verbose missing files out) bytes = ok_line (length bytes)
 line_of mode (Replay root capacity script files) bytes = bytes
 
 -- the task's root, where it has one, is 64 hexadecimal digits
 abbrev pub HasRoot : Task → Type 0
 HasRoot (Hash at length file) = Unit {0}
 HasRoot (Encode encoding file out) = Unit {0}
-HasRoot (Decode root part file out) = IsDigits root.now
-HasRoot (DecodeCopy root outboard copy out) = IsDigits root.now
-HasRoot (Gather root workers capacity long outboard salvage encode verbose files out) = IsDigits root.now
+HasRoot (Decode root part verbose file out) = IsDigits root.now
+HasRoot (DecodeCopy root outboard verbose copy out) = IsDigits root.now
+HasRoot (Gather root workers capacity long outboard salvage encode verbose missing files out) = IsDigits root.now
 HasRoot (Replay root capacity script files) = IsDigits root.now
 
--- the path isn't one of the three names of standard output
+-- the path isn't one of the four names of standard output
 abbrev pub IsNoOutput : List ℕ → Type 0
-IsNoOutput path = (path ≢ codes "/dev/stdout") × (path ≢ codes "/dev/fd/1") × (path ≢ codes "/proc/self/fd/1")
+IsNoOutput path = (path ≢ codes "-") × (path ≢ codes "/dev/stdout") × (path ≢ codes "/dev/fd/1") × (path ≢ codes "/proc/self/fd/1")
+
+-- the file that the list goes to has OUT's name, or is standard output
+abbrev pub IsListAt : List ℕ → Option (Bor (List ℕ)) → Type 0
+IsListAt out None = ⊥
+IsListAt out (Some list) = (list.now ≡ out) ⊎ (¬ IsNoOutput list.now)
+
+abbrev pub ListClashes : Task → Type 0
+ListClashes (Hash at length file) = ⊥
+ListClashes (Encode encoding file out) = ⊥
+ListClashes (Decode root part verbose file out) = ⊥
+ListClashes (DecodeCopy root outboard verbose copy out) = ⊥
+ListClashes (Gather root workers capacity long outboard salvage encode verbose missing files out) = IsListAt out.now missing
+ListClashes (Replay root capacity script files) = ⊥
 
 -- what the task writes to a file doesn't go where its line is printed
 abbrev pub WritesApart : Task → Type 0
 WritesApart (Hash at length file) = Unit {0}
 WritesApart (Encode encoding file out) = IsNoOutput out.now
-WritesApart (Decode root part file out) = IsNoOutput out.now
-WritesApart (DecodeCopy root outboard copy out) = IsNoOutput out.now
-WritesApart (Gather root workers capacity long outboard salvage encode verbose files out) = IsNoOutput out.now
+WritesApart (Decode root part verbose file out) = IsNoOutput out.now
+WritesApart (DecodeCopy root outboard verbose copy out) = IsNoOutput out.now
+WritesApart (Gather root workers capacity long outboard salvage encode verbose missing files out) = IsNoOutput out.now
 WritesApart (Replay root capacity script files) = Unit {0}
+
+-- nor to the file that the list goes to, which isn't where the line is printed either
+abbrev pub GoesApart : Task → Type 0
+GoesApart task = WritesApart task × (¬ ListClashes task)
 
 -- the output that the task asks for ends after 2^64 - 1
 abbrev pub IsPastOutput : Task → Type 0
 IsPastOutput (Hash at length file) = ¬ (at + length ≤ 2 ^ 64 - 1)
 IsPastOutput (Encode encoding file out) = ⊥
-IsPastOutput (Decode root part file out) = ⊥
-IsPastOutput (DecodeCopy root outboard copy out) = ⊥
-IsPastOutput (Gather root workers capacity long outboard salvage encode verbose files out) = ⊥
+IsPastOutput (Decode root part verbose file out) = ⊥
+IsPastOutput (DecodeCopy root outboard verbose copy out) = ⊥
+IsPastOutput (Gather root workers capacity long outboard salvage encode verbose missing files out) = ⊥
 IsPastOutput (Replay root capacity script files) = ⊥
 
 -- A blob of any length is asked for, and a capacity that isn't the one that counts where none is given, or an encoding in its place.
 abbrev pub IsMixed : Task → Type 0
 IsMixed (Hash at length file) = ⊥
 IsMixed (Encode encoding file out) = ⊥
-IsMixed (Decode root part file out) = ⊥
-IsMixed (DecodeCopy root outboard copy out) = ⊥
-IsMixed (Gather root workers capacity long outboard salvage encode verbose files out) = (long ≡ true) × ((capacity ≢ 65536) ⊎ (encode ≡ true))
+IsMixed (Decode root part verbose file out) = ⊥
+IsMixed (DecodeCopy root outboard verbose copy out) = ⊥
+IsMixed (Gather root workers capacity long outboard salvage encode verbose missing files out) = (long ≡ true) × ((capacity ≢ 65536) ⊎ (encode ≡ true))
 IsMixed (Replay root capacity script files) = ⊥
 
 -- the task has more than 64 files
 abbrev pub HasManyFiles : Task → Type 0
 HasManyFiles (Hash at length file) = ⊥
 HasManyFiles (Encode encoding file out) = ⊥
-HasManyFiles (Decode root part file out) = ⊥
-HasManyFiles (DecodeCopy root outboard copy out) = ⊥
-HasManyFiles (Gather root workers capacity long outboard salvage encode verbose files out) = 64 < length files.items
+HasManyFiles (Decode root part verbose file out) = ⊥
+HasManyFiles (DecodeCopy root outboard verbose copy out) = ⊥
+HasManyFiles (Gather root workers capacity long outboard salvage encode verbose missing files out) = 64 < length files.items
 HasManyFiles (Replay root capacity script files) = 64 < length files.items
 
--- The arguments are refused only with reason: for the root, for where the output ends, for how many files there are, for where OUT is, and
--- for what excludes each other, in the task and in the mode.
-abbrev pub IsDue : Type 0 → Type 0 → Type 0 → Type 0 → Type 0 → Type 0 → Fault → Type 0
-IsDue root past many out mixed keys fault =
+-- The arguments are refused only with reason: for the root, for where the output ends, for how many files there are, for where OUT is, for what
+-- excludes each other, in the task and in the mode, and for where LIST is.
+abbrev pub IsDue : Type 0 → Type 0 → Type 0 → Type 0 → Type 0 → Type 0 → Type 0 → Fault → Type 0
+IsDue root past many out mixed keys list fault =
     (fault ≡ Root → root) × (fault ≡ OutputRange → past) × (fault ≡ TooManyFiles → many) × (fault ≡ OutIsOutput → out) × (fault ≡ LongAndOthers → mixed)
-    × (fault ≡ KeyFileAndOthers → keys)
+    × (fault ≡ KeyFileAndOthers → keys) × (fault ≡ ListIsOut → list)
 
 -- the text of a part of the blob with this root, in hexadecimal digits, is accepted
 abbrev pub IsRightPart : Mode → List ℕ → Part → List ℕ → Type 0
@@ -118,21 +135,21 @@ IsBeside mode root (Some outboard) = (key : List ℕ) × ((decode_of root ≡ Ok
 abbrev pub IsRight : Mode → Task → List ℕ → Type 0
 IsRight mode (Hash at length file) bytes = Unit {0}
 IsRight mode (Encode encoding file out) bytes = Unit {0}
-IsRight mode (Decode root part file out) bytes = IsRightPart mode root.now part bytes
-IsRight mode (DecodeCopy root outboard copy out) bytes = IsRightCopy mode root.now bytes
-IsRight mode (Gather root workers capacity long outboard salvage encode verbose files out) bytes =
+IsRight mode (Decode root part verbose file out) bytes = IsRightPart mode root.now part bytes
+IsRight mode (DecodeCopy root outboard verbose copy out) bytes = IsRightCopy mode root.now bytes
+IsRight mode (Gather root workers capacity long outboard salvage encode verbose missing files out) bytes =
     (length files.items ≤ 64) × ((HasHash mode root.now bytes × Fits long capacity (length bytes)) × IsBeside mode root.now outboard)
 IsRight mode (Replay root capacity script files) bytes = (length files.items ≤ 64) × IsReplay mode root.now capacity (length files.items) bytes
 
--- the line of the request on some bytes, in the request's mode, was printed, and nothing of its file OUT beside it
+-- the line of the request on some bytes, in the request's mode, was printed, and nothing of its files OUT and LIST beside it
 abbrev pub PrintsLine : Request → Option (List ℕ) → Option (List ℕ) → Type 0
 PrintsLine request old new =
-    (mode : Mode) × (bytes : List ℕ) × HasMode request mode × WritesApart request.task × IsRight mode request.task bytes × Appends old new (line_of mode request.task bytes)
+    (mode : Mode) × (bytes : List ℕ) × HasMode request mode × GoesApart request.task × IsRight mode request.task bytes × Appends old new (line_of mode request.task bytes)
 
 -- the same, but that a beginning of the line was printed, if anything
 abbrev pub PrintsBeginning : Request → Option (List ℕ) → Option (List ℕ) → Type 0
 PrintsBeginning request old new =
-    (mode : Mode) × (bytes : List ℕ) × HasMode request mode × WritesApart request.task × IsRight mode request.task bytes
+    (mode : Mode) × (bytes : List ℕ) × HasMode request mode × GoesApart request.task × IsRight mode request.task bytes
     × AppendsBeginning old new (line_of mode request.task bytes)
 
 -- what standard output holds after a fault of the request
@@ -154,6 +171,7 @@ LeavesOf request old new OutputRange = Keeps old new
 LeavesOf request old new TooManyFiles = Keeps old new
 LeavesOf request old new OutIsOutput = Keeps old new
 LeavesOf request old new LongAndOthers = Keeps old new
+LeavesOf request old new ListIsOut = Keeps old new
 LeavesOf request old new (File fault) = LeavesOfFile request old new fault
 LeavesOf request old new (Undecoded fault) = Keeps old new
 LeavesOf request old new (Ungathered fault) = Keeps old new

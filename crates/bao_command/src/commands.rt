@@ -1,4 +1,4 @@
-ghost use Rattle.std.specs.Prelude.{◌≡◌, ◌≢◌, ◌⊎◌, true, false, if◌then◌else◌, ◌+◌, ◌-◌, ◌*◌, ◌^◌, ◌<◌, ◌≤◌, ℕ, List, length, map, string_bytes, IfErr, IfOk, IsErrAnd, OnOk};
+ghost use Rattle.std.specs.Prelude.{◌≡◌, ◌≢◌, ◌⊎◌, true, false, if◌then◌else◌, ◌+◌, ◌-◌, ◌*◌, ◌^◌, ◌<◌, ◌≤◌, ℕ, List, length, map, string_bytes, take, IfErr, IfOk, IsErr, IsErrAnd, OnOk};
 ghost use Rattle.bao_command.specs.declared.fault.Fault.TheVariants as Fault;
 ghost use Rattle.gather.specs.declared.grain.Grain.TheVariants as Grain;
 ghost use Rattle.std.specs.Io.KnownBytes.{Appends, Keeps};
@@ -6,25 +6,30 @@ ghost use Rattle.b3tree.specs.Hashing.{hash as hash_of, stream};
 ghost use Rattle.clap.specs.Words.{kind_of};
 ghost use Rattle.hex.specs.Hex.{decode_of};
 ghost use Rattle.bao_request.specs.CommandLine.{IsHelp};
-ghost use Rattle.bao_files.specs.Printed.{IsDigits, digits_line, ok_line};
+ghost use Rattle.bao_files.specs.Printed.{IsDigits, IsQuiet, digits_line, ok_line};
+ghost use Rattle.bao_files.specs.declared.fault.FileFault.{FileFault};
 ghost use Rattle.bao_tasks.specs.Gathered.{Fits};
 ghost use Rattle.bao_command.specs.ModeWords.{MixesKeys};
 ghost use Rattle.bao_command.specs.Outcome.{AreRefused, Begun, Done};
 ghost use Rattle.bao_command.specs.Printed.{CommandPrints, OnPrinted, told_of};
-ghost use Rattle.bao_command.specs.Tasks.{Answers, HasHash, HasManyFiles, HasRoot, IsBeside, IsDue, IsMixed, IsPastOutput, IsReplay, IsRight, IsRightCopy, IsRightPart, WritesApart, line_of, part_line};
-ghost use Rattle.bao_command.specs.Told.{worth_line};
+ghost use Rattle.bao_command.specs.Tasks.{Answers, HasHash, HasManyFiles, HasRoot, IsBeside, IsDue, IsMixed, IsListAt, IsNoOutput, IsPastOutput, IsReplay, IsRight, IsRightCopy, IsRightPart, ListClashes, WritesApart, line_of, part_line};
+ghost use Rattle.bao_command.specs.Told.{part_line as missing_line, parts_line, unlooked_line, worth_line};
 
 use crate::fault::Fault;
 use crate::help::{show, shown_status};
 use crate::mode::asked_mode;
+use crate::refused::{tell_beside, tell_encoding};
 use b3tree::{Hash, Mode, xof_fits};
-use bao_decode::{decode_copy, decode_file};
+use bao_decode::{DecodeFault, decode_copy, decode_file};
 use bao_files::{
-    Encoding, FileFault, Once, Part, Progress, Shown, bytes_of_digits, encode_file, open_file,
-    print_count, print_digits, print_input, print_text, shared_len,
+    Encoding, FileFault, Once, Part, Progress, Shown, System, bytes_of_digits, encode_file,
+    open_file, print_count, print_digits, print_input, print_text, shared_len,
 };
 use bao_request::{Request, Task, parse};
-use bao_tasks::{Fate, Form, Gathering, Grain, Worth, gather_beside, gather_files, replay_files};
+use bao_tasks::{
+    Fate, Form, Gathering, Grain, Lack, MissingParts, Notes, Span, Worth, gather_beside,
+    gather_files, list_parts, replay_files,
+};
 use clap::error::ErrorKind;
 use std::alloc::Global;
 use std::fs::File;
@@ -35,6 +40,9 @@ use std::thread::Threads;
 
 // The most files that a task takes.
 const MOST_FILES: usize = 64;
+
+// The most parts of what is missing that are told one by one.
+const MOST_SHOWN: usize = 8;
 
 // The capacity of a blob that is gathered, in chunks, where none is given.
 const MOST_CHUNKS: u32 = 65_536;
@@ -80,12 +88,14 @@ fn serve<
     ensures root { ¬ HasRoot request.now.task → IsErrAnd result (λ fault. fault ≡ Fault.Root) }
     ensures mixed { HasRoot request.now.task → IsMixed request.now.task → IsErrAnd result (λ fault. fault ≡ Fault.LongAndOthers) }
     ensures keys { HasRoot request.now.task → ¬ IsMixed request.now.task → MixesKeys request.now → IsErrAnd result (λ fault. fault ≡ Fault.KeyFileAndOthers) }
-    ensures due { IfErr result (IsDue (¬ HasRoot request.now.task) (IsPastOutput request.now.task) (HasManyFiles request.now.task) (¬ WritesApart request.now.task) (IsMixed request.now.task) (MixesKeys request.now)) }
+    ensures list { ListClashes request.now.task → IsErr result }
+    ensures due { IfErr result (IsDue (¬ HasRoot request.now.task) (IsPastOutput request.now.task) (HasManyFiles request.now.task) (¬ WritesApart request.now.task) (IsMixed request.now.task) (MixesKeys request.now) (ListClashes request.now.task)) }
 {
     check_root(&request.task)?;
     check_long(&request.task)?;
     let mode = asked_mode(rt, request)?;
     if writes_apart(&request.task) {
+        check_list(&request.task)?;
         serve_task(rt, &mode, &request.task, out, err, progress)
     } else {
         Err(Fault::OutIsOutput)
@@ -95,7 +105,7 @@ fn serve<
 // The answer of printing, as a fault of the program.
 fn told<'a>(printed: Result<(), FileFault<'a>>) -> Result<(), Fault<'a>>
     ensures prints { result ≡ told_of printed.entry }
-    ensures due { IfErr result (IsDue ⊥ ⊥ ⊥ ⊥ ⊥ ⊥) }
+    ensures due { IfErr result (IsDue ⊥ ⊥ ⊥ ⊥ ⊥ ⊥ ⊥) }
 {
     match printed {
         Ok(()) => Ok(()),
@@ -125,7 +135,7 @@ fn hash<'a, R: Files<File = File> + AllocGlobal + Threads + Sync, O: Write, P: P
     progress: &P,
 ) -> Result<(), Fault<'a>>
     ensures prints { (bytes : List ℕ) × CommandPrints (digits_line (stream mode.now bytes at len)) (O.contents out.old) (O.contents out.new) result }
-    ensures due { IfErr result (IsDue ⊥ (¬ (at + len ≤ 2 ^ 64 - 1)) ⊥ ⊥ ⊥ ⊥) }
+    ensures due { IfErr result (IsDue ⊥ (¬ (at + len ≤ 2 ^ 64 - 1)) ⊥ ⊥ ⊥ ⊥ ⊥) }
 {
     if !xof_fits(at, u64::from(len)) {
         return Err(Fault::OutputRange);
@@ -150,7 +160,7 @@ fn encode<'a, R: Files<File = File> + AllocGlobal + Threads + Sync, O: Write, P:
     progress: &P,
 ) -> Result<(), Fault<'a>>
     ensures prints { (bytes : List ℕ) × CommandPrints (digits_line (hash_of mode.now bytes)) (O.contents out.old) (O.contents out.new) result }
-    ensures due { IfErr result (IsDue ⊥ ⊥ ⊥ ⊥ ⊥ ⊥) }
+    ensures due { IfErr result (IsDue ⊥ ⊥ ⊥ ⊥ ⊥ ⊥ ⊥) }
 {
     match encode_file(rt, mode, encoding, file, path, progress) {
         Ok(hash) => told(print_digits(rt.alloc(), &hash.0, out)),
@@ -158,45 +168,64 @@ fn encode<'a, R: Files<File = File> + AllocGlobal + Threads + Sync, O: Write, P:
     }
 }
 
-// Decodes the file, and prints how many bytes were written.
-fn decode<'a, R: Files<File = File> + AllocGlobal + Threads + Sync, O: Write>(
+// Decodes the file, and prints how many bytes were written. It says where it is asked at which place the file is refused.
+fn decode<'a, R: Files<File = File> + AllocGlobal + Threads + Sync, O: Write, E: Write>(
     rt: &R,
     mode: &Mode,
     digits: &str,
     part: &Part,
+    verbose: bool,
     file: &'a str,
     path: &'a str,
     out: &mut O,
+    err: &mut E,
 ) -> Result<(), Fault<'a>>
     ensures prints { (bytes : List ℕ) × OnPrinted result (IsRightPart mode.now digits.now part.now bytes)
         × CommandPrints (part_line part.now bytes) (O.contents out.old) (O.contents out.new) result }
-    ensures due { IfErr result (IsDue (¬ IsDigits digits.now) ⊥ ⊥ ⊥ ⊥ ⊥) }
+    ensures due { IfErr result (IsDue (¬ IsDigits digits.now) ⊥ ⊥ ⊥ ⊥ ⊥ ⊥) }
 {
     let root = root_of(digits)?;
     match decode_file(rt, mode, &root, part, file, path) {
         Ok(count) => told(print_count(rt.alloc(), count, out)),
-        Err(fault) => Err(Fault::Decode(fault)),
+        Err(fault) => {
+            match fault {
+                DecodeFault::Check(fault) if verbose => tell_encoding(rt, part, file, fault, err),
+                _ => {}
+            }
+            Err(Fault::Decode(fault))
+        }
     }
 }
 
-// Verifies the plain copy beside the outboard encoding, and prints how many bytes were written.
-fn decode_beside<'a, R: Files<File = File> + AllocGlobal, O: Write>(
+// Verifies the plain copy beside the outboard encoding, and prints how many bytes were written. It says where it is asked which
+// of the two is refused, and at which place.
+fn decode_beside<'a, R: Files<File = File> + AllocGlobal, O: Write, E: Write>(
     rt: &R,
     mode: &Mode,
     digits: &str,
     outboard: &'a str,
+    verbose: bool,
     copy: &'a str,
     path: &'a str,
     out: &mut O,
+    err: &mut E,
 ) -> Result<(), Fault<'a>>
     ensures prints { (bytes : List ℕ) × OnPrinted result (IsRightCopy mode.now digits.now bytes)
         × CommandPrints (ok_line (length bytes)) (O.contents out.old) (O.contents out.new) result }
-    ensures due { IfErr result (IsDue (¬ IsDigits digits.now) ⊥ ⊥ ⊥ ⊥ ⊥) }
+    ensures due { IfErr result (IsDue (¬ IsDigits digits.now) ⊥ ⊥ ⊥ ⊥ ⊥ ⊥) }
 {
     let root = root_of(digits)?;
     match decode_copy(rt, mode, &root, outboard, copy, path) {
         Ok(count) => told(print_count(rt.alloc(), count, out)),
-        Err(fault) => Err(Fault::Decode(fault)),
+        Err(fault) => {
+            match fault {
+                DecodeFault::Check(fault) if verbose => {
+                    tell_beside(rt, mode, &root, outboard, copy, fault, err);
+                }
+                _ => {}
+            }
+            Err(Fault::Decode(fault))
+        }
     }
 }
 
@@ -220,16 +249,116 @@ fn tell_fate<E: Write>(file: &str, fate: Fate, err: &mut E) -> io::Result<()> {
     }
 }
 
-// Says so of each file, where that is asked. A write that fails is the last, and changes nothing.
-fn tell<E: Write>(verbose: bool, files: &[&str], fates: &[Fate], err: &mut E) {
+// The number of the last byte of a part.
+pub(crate) fn last_of(part: Span) -> u64
+    ensures { result ≡ part.end - 1 }
+{
+    part.end.saturating_sub(1)
+}
+
+// Says which bytes of the blob no file has.
+fn tell_part<W: Write>(part: Span, out: &mut W) -> io::Result<()>
+    ensures { OnOk result (Appends (W.contents out.old) (W.contents out.new) (missing_line part)) }
+{
+    let (first, last) = (part.at, last_of(part));
+    writeln!(out, "bao_gather: missing: bytes {first} to {last}")
+}
+
+// Says how many they are, of how many, and in how many parts.
+fn tell_parts<W: Write>(parts: &MissingParts, out: &mut W) -> io::Result<()>
+    ensures { OnOk result (Appends (W.contents out.old) (W.contents out.new) (parts_line parts.now)) }
+{
+    let (bytes, looked, count) = (parts.bytes, parts.looked, parts.count);
+    writeln!(
+        out,
+        "bao_gather: missing: {bytes} of {looked} bytes, parts: {count}"
+    )
+}
+
+// Says which bytes of the blob were not looked for.
+fn tell_unlooked<W: Write>(parts: &MissingParts, out: &mut W) -> io::Result<()>
+    ensures { OnOk result (Appends (W.contents out.old) (W.contents out.new) (unlooked_line parts.now)) }
+{
+    let (looked, total) = (parts.looked, parts.total);
+    writeln!(
+        out,
+        "bao_gather: missing: not looked for: bytes from {looked} on, of {total}"
+    )
+}
+
+// The parts that are told one by one.
+fn first_of(parts: &[Span]) -> &[Span]
+    ensures { result.now ≡ take 8 parts.now }
+{
+    &parts[..parts.len().min(MOST_SHOWN)]
+}
+
+// Whether there are files that were counted, and all groups of each of them are refused.
+fn fits_none(fates: &[Fate]) -> bool {
+    let mut some = false;
+    for fate in fates {
+        match fate {
+            Fate::Taken(Some(worth)) if worth.refused == worth.groups => some = true,
+            Fate::Taken(_) => return false,
+            Fate::Unread | Fate::Starved | Fate::Unopened => {}
+        }
+    }
+    some
+}
+
+// Says that no file has the end of the blob, and where none fits the root at all what that may come of.
+fn tell_no_end<E: Write>(fates: &[Fate], err: &mut E) -> io::Result<()> {
+    writeln!(
+        Once(err),
+        "bao_gather: missing: the end, so that the length isn't known"
+    )?;
+    if !fits_none(fates) {
+        return Ok(());
+    }
+    writeln!(
+        Once(err),
+        "bao_gather: nothing fits ROOT: look at ROOT, the key and --context; plain copies go with --outboard, encodings without"
+    )
+}
+
+// Says what no file has of a blob that stayed unfinished.
+fn tell_lack<E: Write>(notes: &Notes, err: &mut E) -> io::Result<()> {
+    match &notes.lack {
+        Lack::Unasked => Ok(()),
+        Lack::Starved => writeln!(Once(err), "bao_gather: missing: not looked for: no memory"),
+        Lack::End => tell_no_end(notes.fates.as_slice(), err),
+        Lack::Missing(parts) => {
+            for part in first_of(parts.shown.as_slice()) {
+                tell_part(*part, &mut Once(err))?;
+            }
+            tell_parts(parts, &mut Once(err))?;
+            if parts.looked < parts.total {
+                tell_unlooked(parts, &mut Once(err))?;
+            }
+            Ok(())
+        }
+    }
+}
+
+// Says so of each file, and what none of them has, where that is asked. A write that fails is the last, and changes nothing.
+fn tell<E: Write>(verbose: bool, files: &[&str], notes: &Notes, err: &mut E) {
     if !verbose {
         return;
     }
-    for (file, fate) in files.iter().zip(fates) {
+    for (file, fate) in files.iter().zip(notes.fates.as_slice()) {
         if tell_fate(file, *fate, err).is_err() {
             return;
         }
     }
+    let _ = tell_lack(notes, err);
+}
+
+// The files that a gathering names beside those that it gathers from.
+#[derive(Clone, Copy)]
+struct Paths<'a> {
+    out: &'a str,
+    outboard: Option<&'a str>,
+    list: Option<&'a str>,
 }
 
 // The smallest part that the files are asked for.
@@ -239,68 +368,97 @@ fn grain_of(salvage: bool) -> Grain
     if salvage { Grain::Chunk } else { Grain::Group }
 }
 
-// How a blob is gathered, as the arguments have it.
-fn how_of(
-    workers: u32,
-    capacity: u32,
-    long: bool,
-    salvage: bool,
-    encode: bool,
-    verbose: bool,
-) -> Gathering
-    ensures workers { result.workers ≡ workers }
-    ensures capacity { result.capacity ≡ capacity }
-    ensures long { result.long ≡ long }
-    ensures encode { result.encode ≡ encode }
-    ensures count { result.count ≡ verbose }
-    ensures grain { result.grain ≡ (if salvage then Grain.Chunk else Grain.Group) }
+// How many parts of what is missing are asked for: all for the list, the first for what is told, or none.
+fn parts_asked(verbose: bool, list: Option<&str>) -> usize {
+    match (verbose, list) {
+        (_, Some(_)) => usize::MAX,
+        (true, None) => MOST_SHOWN,
+        (false, None) => 0,
+    }
+}
+
+// Makes the list empty, where there is one: nothing is missing.
+fn list_nothing<'a, R: Files<File = File> + AllocGlobal>(
+    rt: &R,
+    list: Option<&'a str>,
+) -> Result<(), Fault<'a>>
+    ensures quiet { IfErr result (λ fault. (file : FileFault) × (fault ≡ Fault.File file) × IsQuiet file) }
 {
-    Gathering {
-        workers,
-        capacity,
-        long,
-        encode,
-        count: verbose,
-        grain: grain_of(salvage),
+    let Some(path) = list else {
+        return Ok(());
+    };
+    match list_parts(&mut System::new(rt), &[], path) {
+        Ok(()) => Ok(()),
+        Err(fault) => Err(Fault::File(fault)),
+    }
+}
+
+// Writes what no file has to the list, where there is one and that is known. It says why not, where it doesn't: what gathering met stands.
+fn list_lack<R: Files<File = File> + AllocGlobal, E: Write>(
+    rt: &R,
+    list: Option<&str>,
+    lack: &Lack,
+    err: &mut E,
+) {
+    let Some(path) = list else {
+        return;
+    };
+    let Lack::Missing(parts) = lack else {
+        let _ = writeln!(
+            Once(err),
+            "bao_gather: {path}: left as it is: what is missing isn't known"
+        );
+        return;
+    };
+    match list_parts(&mut System::new(rt), parts.shown.as_slice(), path) {
+        Ok(()) => {}
+        Err(fault) => {
+            let _ = writeln!(Once(err), "bao_gather: {path}: left as it is: {fault}");
+        }
     }
 }
 
 // Gathers the blob out of the files, which are plain copies where an outboard encoding is named. It says where it is
-// asked what each of them is worth, and prints how many bytes the blob has.
+// asked what each of them is worth, lists where it is asked what none of them has, and prints how many bytes the blob has.
 fn gather<'a, R: Files<File = File> + AllocGlobal + Threads + Sync, O: Write, E: Write>(
     rt: &R,
     mode: &Mode,
     digits: &str,
     how: Gathering,
-    outboard: Option<&'a str>,
+    paths: Paths<'a>,
     files: &[&'a str],
-    path: &'a str,
     out: &mut O,
     err: &mut E,
 ) -> Result<(), Fault<'a>>
-    ensures beside { OnPrinted result (IsBeside mode.now digits.now outboard.entry) }
+    ensures beside { OnPrinted result (IsBeside mode.now digits.now paths.entry.outboard) }
     ensures answer { (blob : List ℕ) × OnPrinted result (HasHash mode.now digits.now blob × Fits how.long how.capacity (length blob))
         × CommandPrints (ok_line (length blob)) (O.contents out.old) (O.contents out.new) result }
     ensures few { OnPrinted result (length files.now ≤ 64) }
     ensures many { 64 < length files.now → IsErrAnd result (λ fault. fault ≡ Fault.TooManyFiles) }
-    ensures due { IfErr result (IsDue (¬ IsDigits digits.now) ⊥ (64 < length files.now) ⊥ ⊥ ⊥) }
+    ensures due { IfErr result (IsDue (¬ IsDigits digits.now) ⊥ (64 < length files.now) ⊥ ⊥ ⊥ ⊥) }
 {
     if files.len() > MOST_FILES {
         return Err(Fault::TooManyFiles);
     }
     let root = root_of(digits)?;
-    let Ok(mut fates) = vec![in rt.alloc(); Fate::Unopened; files.len()] else {
+    let Ok(mut notes) = Notes::new(rt.alloc(), files.len()) else {
         return Err(Fault::File(FileFault::Memory));
     };
-    let fates_of = fates.as_mut_slice();
-    let gathered = match outboard {
-        Some(outboard) => gather_beside(rt, mode, &root, how, outboard, files, path, fates_of),
-        None => gather_files(rt, mode, &root, &Form::Slices, how, files, path, fates_of),
+    let kept = &mut notes;
+    let gathered = match paths.outboard {
+        Some(outboard) => gather_beside(rt, mode, &root, how, outboard, files, paths.out, kept),
+        None => gather_files(rt, mode, &root, &Form::Slices, how, files, paths.out, kept),
     };
-    tell(how.count, files, fates.as_slice(), err);
+    tell(how.count, files, &notes, err);
     match gathered {
-        Ok(count) => told(print_count(rt.alloc(), count, out)),
-        Err(fault) => Err(Fault::Gather(fault)),
+        Ok(count) => {
+            list_nothing(rt, paths.list)?;
+            told(print_count(rt.alloc(), count, out))
+        }
+        Err(fault) => {
+            list_lack(rt, paths.list, &notes.lack, err);
+            Err(Fault::Gather(fault))
+        }
     }
 }
 
@@ -318,7 +476,7 @@ fn replay<'a, R: Files + AllocGlobal, O: Write>(
         × CommandPrints text (O.contents out.old) (O.contents out.new) result }
     ensures few { OnPrinted result (length files.now ≤ 64) }
     ensures many { 64 < length files.now → IsErrAnd result (λ fault. fault ≡ Fault.TooManyFiles) }
-    ensures due { IfErr result (IsDue (¬ IsDigits digits.now) ⊥ (64 < length files.now) ⊥ ⊥ ⊥) }
+    ensures due { IfErr result (IsDue (¬ IsDigits digits.now) ⊥ (64 < length files.now) ⊥ ⊥ ⊥ ⊥) }
 {
     if files.len() > MOST_FILES {
         return Err(Fault::TooManyFiles);
@@ -347,7 +505,7 @@ fn serve_task<
 ) -> Result<(), Fault<'a>>
     ensures prints { (bytes : List ℕ) × OnPrinted result (IsRight mode.now task.now bytes)
         × CommandPrints (line_of mode.now task.now bytes) (O.contents out.old) (O.contents out.new) result }
-    ensures due { IfErr result (IsDue (¬ HasRoot task.now) (IsPastOutput task.now) (HasManyFiles task.now) ⊥ ⊥ ⊥) }
+    ensures due { IfErr result (IsDue (¬ HasRoot task.now) (IsPastOutput task.now) (HasManyFiles task.now) ⊥ ⊥ ⊥ ⊥) }
 {
     match task {
         Task::Hash { at, length, file } => hash(rt, mode, *at, *length, file, out, progress),
@@ -359,15 +517,17 @@ fn serve_task<
         Task::Decode {
             root,
             part,
+            verbose,
             file,
             out: path,
-        } => decode(rt, mode, root, part, file, path, out),
+        } => decode(rt, mode, root, part, *verbose, file, path, out, err),
         Task::DecodeCopy {
             root,
             outboard,
+            verbose,
             copy,
             out: path,
-        } => decode_beside(rt, mode, root, outboard, copy, path, out),
+        } => decode_beside(rt, mode, root, outboard, *verbose, copy, path, out, err),
         Task::Gather {
             root,
             workers,
@@ -377,12 +537,25 @@ fn serve_task<
             salvage,
             encode,
             verbose,
+            missing,
             files,
             out: path,
         } => {
-            let how = how_of(*workers, *capacity, *long, *salvage, *encode, *verbose);
-            let files = files.as_slice();
-            gather(rt, mode, root, how, *outboard, files, path, out, err)
+            let how = Gathering {
+                workers: *workers,
+                capacity: *capacity,
+                long: *long,
+                encode: *encode,
+                count: *verbose,
+                parts: parts_asked(*verbose, *missing),
+                grain: grain_of(*salvage),
+            };
+            let paths = Paths {
+                out: path,
+                outboard: *outboard,
+                list: *missing,
+            };
+            gather(rt, mode, root, how, paths, files.as_slice(), out, err)
         }
         Task::Replay {
             root,
@@ -425,6 +598,36 @@ fn check_long<'a>(task: &Task<'a>) -> Result<(), Fault<'a>>
     }
 }
 
+// Whether the path is a name of standard output.
+fn is_output(path: &str) -> bool
+    ensures yes { result ≡ true → ¬ IsNoOutput path.now }
+    ensures no { result ≡ false → IsNoOutput path.now }
+{
+    matches!(path, "-" | "/dev/stdout" | "/dev/fd/1" | "/proc/self/fd/1")
+}
+
+// Whether the list goes to the file of OUT, by its name, or to standard output.
+fn is_list_at(out: &str, list: Option<&str>) -> bool
+    ensures yes { result ≡ true → IsListAt out.now list.entry }
+    ensures no { result ≡ false → ¬ IsListAt out.now list.entry }
+{
+    match list {
+        Some(list) => list == out || is_output(list),
+        None => false,
+    }
+}
+
+// What is missing goes to another file than OUT, and not to standard output.
+fn check_list<'a>(task: &Task<'a>) -> Result<(), Fault<'a>>
+    ensures ok { OnOk result (¬ ListClashes task.now) }
+    ensures err { IfErr result (λ fault. (fault ≡ Fault.ListIsOut) × ListClashes task.now) }
+{
+    match task {
+        Task::Gather { missing, out, .. } if is_list_at(out, *missing) => Err(Fault::ListIsOut),
+        _ => Ok(()),
+    }
+}
+
 // Whether what the task writes to a file goes elsewhere than its line.
 fn writes_apart(task: &Task<'_>) -> bool
     ensures yes { result ≡ true → WritesApart task.now }
@@ -435,7 +638,7 @@ fn writes_apart(task: &Task<'_>) -> bool
         Task::DecodeCopy { out, .. } | Task::Gather { out, .. } => out,
         Task::Hash { .. } | Task::Replay { .. } => return true,
     };
-    !matches!(*path, "/dev/stdout" | "/dev/fd/1" | "/proc/self/fd/1")
+    !is_output(path)
 }
 
 // Prints what `clap` has to say: help and the version on `out`, whose reader may have read enough, a refusal on `err`.

@@ -45,6 +45,9 @@ pub enum Fault<'a> {
     /// `--long` is given, and `--encode` or a `--capacity` other than 65536 with it. Status 2.
     #[error("usage: long excludes capacity and encode")]
     LongAndOthers,
+    /// LIST, the file of `--missing`, has the name of OUT, or is a name of standard output. Status 2.
+    #[error("usage: LIST is OUT or standard output")]
+    ListIsOut,
     /// A file or standard output was not read or written. Status 3, and 4 out of memory.
     #[error("{0}")]
     File(FileFault<'a>),
@@ -151,7 +154,8 @@ impl Fault<'_> {
             | Fault::OutputRange
             | Fault::TooManyFiles
             | Fault::OutIsOutput
-            | Fault::LongAndOthers => 2,
+            | Fault::LongAndOthers
+            | Fault::ListIsOut => 2,
             Fault::File(fault) => file_status(fault),
             Fault::Decode(fault) => decode_status(fault),
             Fault::Gather(fault) => gathered_status(fault),
@@ -173,7 +177,8 @@ impl Fault<'_> {
             | Fault::OutputRange
             | Fault::TooManyFiles
             | Fault::OutIsOutput
-            | Fault::LongAndOthers => None,
+            | Fault::LongAndOthers
+            | Fault::ListIsOut => None,
             Fault::File(fault) => fault.code(),
             Fault::Decode(fault) => fault.code(),
             Fault::Gather(fault) => fault.code(),

@@ -11,4 +11,5 @@ mod fault;
 mod help;
 mod mode;
 mod program;
+mod refused;
 mod words;

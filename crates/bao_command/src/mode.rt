@@ -66,7 +66,7 @@ pub(crate) fn asked_mode<'a, R: Files>(rt: &R, request: &Request<'a>) -> Result<
     ensures mode { IfOk result (HasMode request.now) }
     ensures mixed { MixesKeys request.now → IsErrAnd result (λ fault. fault ≡ Fault.KeyFileAndOthers) }
     ensures fault { IfErr result (IsModeFault request.now.key_file) }
-    ensures due { IfErr result (IsDue ⊥ ⊥ ⊥ ⊥ ⊥ (MixesKeys request.now)) }
+    ensures due { IfErr result (IsDue ⊥ ⊥ ⊥ ⊥ ⊥ (MixesKeys request.now) ⊥) }
 {
     match (request.key_file, request.key, request.context) {
         (None, key, context) => mode_of(key, context),

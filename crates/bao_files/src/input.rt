@@ -90,11 +90,19 @@ pub fn read_sized<R: Read>(reader: &mut R, size: u64, bytes: &mut Vec<u8>) -> Re
     read_whole(reader, bytes)
 }
 
-/// The file at `path`, to be read. Where it can't be opened the fault is `Read`.
+/// The path that means standard input, where a file is to be read. A file of this name is read as `./-`.
+pub const STANDARD_INPUT: &str = "-";
+
+/// The file at `path`, to be read; `-` is standard input. Where it can't be opened the fault is `Read`.
 pub fn open_file<'a, R: Files>(rt: &R, path: &'a str) -> Result<R::File, FileFault<'a>>
     ensures { IfErr result (λ fault. fault ≡ FileFault.Read path.entry) }
 {
-    match fs::open(rt, path) {
+    let opened = if path == STANDARD_INPUT {
+        fs::open(rt, "/dev/stdin")
+    } else {
+        fs::open(rt, path)
+    };
+    match opened {
         Ok(file) => Ok(file),
         Err(_) => Err(FileFault::Read(path)),
     }

@@ -8,7 +8,8 @@ pub use extent::Extent;
 pub use fault::FileFault;
 pub use held::{Held, HeldInput};
 pub use input::{
-    ReadFault, is_same_file, open_file, read_file, read_input, read_sized, read_whole, shared_len,
+    ReadFault, STANDARD_INPUT, is_same_file, open_file, read_file, read_input, read_sized,
+    read_whole, shared_len,
 };
 pub use key::read_key;
 pub use kinds::{Encoding, Part};

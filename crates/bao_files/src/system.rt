@@ -1,7 +1,7 @@
 use crate::disk::Disk;
 use crate::extent::Extent;
 use crate::fault::FileFault;
-use crate::input::{is_same_file, open_file};
+use crate::input::{STANDARD_INPUT, is_same_file, open_file};
 use crate::late_file::LateFile;
 use std::alloc::AllocError;
 use std::fs;
@@ -57,6 +57,9 @@ impl<'a, R: Files<File = File> + AllocGlobal> Disk for System<'a, R> {
     }
 
     fn look(&self, path: &str) -> Option<Extent> {
+        if path == STANDARD_INPUT {
+            return None;
+        }
         match fs::metadata(self.rt, path) {
             Ok(metadata) => Some(extent_of(&metadata)),
             Err(_) => None,

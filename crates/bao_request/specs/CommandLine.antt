@@ -84,11 +84,15 @@ slice_rule = place_rule (codes "SLICE")
 abbrev pub outboard_rule : Rule
 outboard_rule = option_rule (codes "outboard")
 
+-- whether it is told what is wrong with the files: an option `--verbose` without a value
+abbrev pub verbose_rule : Rule
+verbose_rule = record (new_rule (codes "verbose")) { long = Some (codes "verbose"); action = Some SetTrue }
+
 abbrev pub with_encoding_rules : App → App
 with_encoding_rules app = with_mode_rules (with_rule (with_rule (with_rule app root_rule) enc_rule) out_rule)
 
 abbrev pub decode_app : App
-decode_app = with_encoding_rules (with_rule (new_app (codes "decode")) outboard_rule)
+decode_app = with_encoding_rules (with_rule (with_rule (new_app (codes "decode")) outboard_rule) verbose_rule)
 
 abbrev pub with_range_rules : App → App
 with_range_rules app = with_rule (with_rule (with_rule app root_rule) start_rule) len_rule
@@ -97,7 +101,7 @@ abbrev pub with_slice_rules : App → App
 with_slice_rules app = with_mode_rules (with_rule (with_rule app slice_rule) out_rule)
 
 abbrev pub decode_slice_app : App
-decode_slice_app = with_slice_rules (with_range_rules (new_app (codes "decode-slice")))
+decode_slice_app = with_slice_rules (with_range_rules (with_rule (new_app (codes "decode-slice")) verbose_rule))
 
 -- how many workers gather
 abbrev pub workers_rule : Rule
@@ -115,9 +119,9 @@ salvage_rule = record (new_rule (codes "salvage")) { long = Some (codes "salvage
 abbrev pub encode_rule : Rule
 encode_rule = record (new_rule (codes "encode")) { long = Some (codes "encode"); action = Some SetTrue }
 
--- whether the files that were left out are named: an option `--verbose` without a value
-abbrev pub verbose_rule : Rule
-verbose_rule = record (new_rule (codes "verbose")) { long = Some (codes "verbose"); action = Some SetTrue }
+-- the file to which is written what is missing
+abbrev pub missing_rule : Rule
+missing_rule = option_rule (codes "missing")
 
 -- the most chunks of a blob
 abbrev pub capacity_rule : Rule
@@ -131,7 +135,7 @@ abbrev pub with_holders_rules : App → App
 with_holders_rules app = with_mode_rules (with_rule (with_rule (with_rule app root_rule) out_rule) files_rule)
 
 abbrev pub gather_app : App
-gather_app = with_holders_rules (with_rule (with_rule (with_rule (with_rule (with_rule (with_rule (with_rule (new_app (codes "gather")) workers_rule) capacity_rule) long_rule) outboard_rule) salvage_rule) encode_rule) verbose_rule)
+gather_app = with_holders_rules (with_rule (with_rule (with_rule (with_rule (with_rule (with_rule (with_rule (with_rule (new_app (codes "gather")) workers_rule) capacity_rule) long_rule) outboard_rule) salvage_rule) encode_rule) verbose_rule) missing_rule)
 
 abbrev pub script_rule : Rule
 script_rule = place_rule (codes "SCRIPT")

@@ -34,6 +34,13 @@ fn count(words: &ArgMatches<'_>, id: &str) -> Option<u32>
     u32::try_from(number(words, id)?).ok()
 }
 
+// Whether the option `id`, which has no value, is given.
+fn flag(words: &ArgMatches<'_>, id: &str) -> bool
+    ensures { GivesFlag (rows_of (found_of words.now)) id.now result }
+{
+    matches!(text(words, id), Some("true"))
+}
+
 // The range that the arguments START and LEN give.
 fn range(words: &ArgMatches<'_>) -> Option<(u64, u64)>
     ensures { Finds (λ range. GivesRange (rows_of (found_of words.now)) range.0 range.1) result }
@@ -78,16 +85,19 @@ fn decode_of<'a>(words: &ArgMatches<'a>) -> Option<Task<'a>>
     let root = text(words, "ROOT")?;
     let file = text(words, "ENC")?;
     let out = text(words, "OUT")?;
+    let verbose = flag(words, "verbose");
     match text(words, "outboard") {
         Some(outboard) => Some(Task::DecodeCopy {
             root,
             outboard,
+            verbose,
             copy: file,
             out,
         }),
         None => Some(Task::Decode {
             root,
             part: Part::Whole,
+            verbose,
             file,
             out,
         }),
@@ -102,16 +112,10 @@ fn decode_slice_of<'a>(words: &ArgMatches<'a>) -> Option<Task<'a>>
     Some(Task::Decode {
         root: text(words, "ROOT")?,
         part: Part::Slice { start, len },
+        verbose: flag(words, "verbose"),
         file: text(words, "SLICE")?,
         out: text(words, "OUT")?,
     })
-}
-
-// Whether the option `id`, which has no value, is given.
-fn flag(words: &ArgMatches<'_>, id: &str) -> bool
-    ensures { GivesFlag (rows_of (found_of words.now)) id.now result }
-{
-    matches!(text(words, id), Some("true"))
 }
 
 // The texts of the argument `id`, all of them.
@@ -143,6 +147,7 @@ fn gather_of<'a>(alloc: Global, words: &ArgMatches<'a>) -> Result<Option<Task<'a
         salvage: flag(words, "salvage"),
         encode: flag(words, "encode"),
         verbose: flag(words, "verbose"),
+        missing: text(words, "missing"),
         files: files.to_vec(alloc)?,
         out,
     }))

@@ -1,7 +1,7 @@
 ghost use Rattle.std.specs.Prelude.{◌≡◌, IfOk, Some, false};
 ghost use Rattle.clap.specs.Words.{app_of, rule_of, with_rule};
 ghost use Rattle.clap.specs.declared.builder.command.Command.TheViews.{out-Command};
-ghost use Rattle.bao_request.specs.CommandLine.{IsApp, any_number, at_rule, capacity_rule, checkers_app, decode_app, decode_slice_app, encode_app, encode_rule, files_rule, gather_app, hash_app, length_rule, long_rule, option_rule, outboard_app, outboard_rule, place_rule, program_app, replay_app, salvage_rule, slice_app, verbose_rule, with_encoding_rules, with_file_rules, with_holders_rules, with_mode_rules, with_range_rules, with_script_rules, with_slice_rules, workers_rule, writers_app};
+ghost use Rattle.bao_request.specs.CommandLine.{IsApp, any_number, at_rule, capacity_rule, checkers_app, decode_app, decode_slice_app, encode_app, encode_rule, files_rule, gather_app, hash_app, length_rule, long_rule, missing_rule, option_rule, outboard_app, outboard_rule, place_rule, program_app, replay_app, salvage_rule, slice_app, verbose_rule, with_encoding_rules, with_file_rules, with_holders_rules, with_mode_rules, with_range_rules, with_script_rules, with_slice_rules, workers_rule, writers_app};
 
 use clap::{Arg, ArgAction, Command, value_parser};
 use std::alloc::{AllocError, Global};
@@ -24,9 +24,12 @@ const OF_KEY_FILE: &str =
 // What help says of the file that is written.
 const OF_OUT: &str = "The file to write; one that is there is written over";
 
+// What help says of the option of those that check one encoding.
+const OF_VERBOSE: &str = "Says on standard error which file is at fault, and where";
+
 // What help says below the options.
 const OF_PROGRAM: &str =
-    "FILE, ENC, SLICE and SCRIPT may be /dev/stdin. Exit status: 0 done; 1 what was given doesn't verify, or is unfinished;\n2 wrong words; 3 a file can't be read or written; 4 out of memory.";
+    "FILE, ENC, SLICE and SCRIPT may be -, standard input. Exit status: 0 done; 1 what was given doesn't verify, or is unfinished;\n2 wrong words; 3 a file can't be read or written; 4 out of memory.";
 
 const OF_SLICE: &str =
     "The range ends where FILE does; a LEN of 0 counts as 1, and a START at or past the end as that of the last byte.";
@@ -85,6 +88,17 @@ fn outboard_option<'a>(alloc: Global, help: &'a str) -> Arg<'a>
     ensures global { result.global ≡ false }
 {
     option(alloc, "outboard", "FILE").help(help)
+}
+
+// The option that tells more.
+fn verbose_flag<'a>(alloc: Global, help: &'a str) -> Arg<'a>
+    ensures rule { rule_of result ≡ verbose_rule }
+    ensures global { result.global ≡ false }
+{
+    Arg::new(alloc, "verbose")
+        .long("verbose")
+        .action(ArgAction::SetTrue)
+        .help(help)
 }
 
 // The place `id` of a number of 64 bits.
@@ -180,7 +194,8 @@ fn decode_command<'a>(alloc: Global) -> Result<Command<'a>, AllocError>
     let command = Command::new(alloc, "decode")
         .about("Checks a combined Bao encoding, or a plain copy, under a root, and writes the blob")
         .after_help(OF_DECODE)
-        .arg(outboard)?;
+        .arg(outboard)?
+        .arg(verbose_flag(alloc, OF_VERBOSE))?;
     with_encoding(alloc, command)
 }
 
@@ -212,7 +227,8 @@ fn decode_slice_command<'a>(alloc: Global) -> Result<Command<'a>, AllocError>
     let about = "Checks a Bao slice under a root, and writes its bytes";
     let command = Command::new(alloc, "decode-slice")
         .about(about)
-        .after_help(OF_DECODE_SLICE);
+        .after_help(OF_DECODE_SLICE)
+        .arg(verbose_flag(alloc, OF_VERBOSE))?;
     let command = with_range(alloc, command)?;
     with_slice(alloc, command)
 }
@@ -257,14 +273,13 @@ fn encode_flag<'a>(alloc: Global) -> Arg<'a>
         .help("Writes the blob's combined Bao encoding in place of the blob")
 }
 
-fn verbose_flag<'a>(alloc: Global) -> Arg<'a>
-    ensures rule { rule_of result ≡ verbose_rule }
+fn missing_option<'a>(alloc: Global) -> Arg<'a>
+    ensures rule { rule_of result ≡ missing_rule }
     ensures global { result.global ≡ false }
 {
-    Arg::new(alloc, "verbose")
-        .long("verbose")
-        .action(ArgAction::SetTrue)
-        .help("Says on standard error which FILEs were left out, and why")
+    option(alloc, "missing", "LIST").help(
+        "Writes to the file LIST which bytes no FILE has, in lines of START and LEN",
+    )
 }
 
 fn capacity_option<'a>(alloc: Global) -> Arg<'a>
@@ -309,15 +324,27 @@ fn with_sizes<'a>(alloc: Global, command: Command<'a>) -> Result<Command<'a>, Al
     command.arg(capacity_option(alloc))?.arg(long_flag(alloc))
 }
 
-// The command with what is gathered, written and told: an option and three flags.
-fn with_flags<'a>(alloc: Global, command: Command<'a>) -> Result<Command<'a>, AllocError>
+// The command with what is gathered and written: an option and two flags.
+fn with_forms<'a>(alloc: Global, command: Command<'a>) -> Result<Command<'a>, AllocError>
     requires { (out-Command command).has_globals ≡ false }
-    ensures { IfOk result (IsApp (with_rule (with_rule (with_rule (with_rule (app_of command.entry) outboard_rule) salvage_rule) encode_rule) verbose_rule)) }
+    ensures { IfOk result (IsApp (with_rule (with_rule (with_rule (app_of command.entry) outboard_rule) salvage_rule) encode_rule)) }
 {
     let help = "Gathers out of plain copies, beside this outboard encoding";
     let outboard = outboard_option(alloc, help);
     let command = command.arg(outboard)?.arg(salvage_flag(alloc))?;
-    command.arg(encode_flag(alloc))?.arg(verbose_flag(alloc))
+    command.arg(encode_flag(alloc))
+}
+
+// The command with what is told: a flag and an option.
+fn with_reports<'a>(alloc: Global, command: Command<'a>) -> Result<Command<'a>, AllocError>
+    requires { (out-Command command).has_globals ≡ false }
+    ensures { IfOk result (IsApp (with_rule (with_rule (app_of command.entry) verbose_rule) missing_rule)) }
+{
+    let verbose = verbose_flag(
+        alloc,
+        "Says on standard error what is wrong with each FILE, and which bytes none has",
+    );
+    command.arg(verbose)?.arg(missing_option(alloc))
 }
 
 fn gather_command<'a>(alloc: Global) -> Result<Command<'a>, AllocError>
@@ -329,7 +356,8 @@ fn gather_command<'a>(alloc: Global) -> Result<Command<'a>, AllocError>
         )
         .after_help(OF_GATHER);
     let command = with_sizes(alloc, command)?;
-    let command = with_flags(alloc, command)?;
+    let command = with_forms(alloc, command)?;
+    let command = with_reports(alloc, command)?;
     with_holders(alloc, command)
 }
 

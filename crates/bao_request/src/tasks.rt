@@ -27,25 +27,29 @@ pub enum Task<'a> {
         file: &'a str,
         out: &'a str,
     },
-    /// The bytes that a text certifies under a root, to the file `out`.
+    /// The bytes that a text certifies under a root, to the file `out`. With `verbose` it is said where a text that is refused is at
+    /// fault.
     Decode {
         root: &'a str,
         part: Part,
+        verbose: bool,
         file: &'a str,
         out: &'a str,
     },
     /// The bytes of a plain copy of the blob with this root, verified beside the outboard encoding in the file
-    /// `outboard`, to the file `out`.
+    /// `outboard`, to the file `out`. With `verbose` it is said which of them is at fault, and where.
     DecodeCopy {
         root: &'a str,
         outboard: &'a str,
+        verbose: bool,
         copy: &'a str,
         out: &'a str,
     },
     /// The blob with this root, of at most `capacity` chunks, 1 to 65,536, or with `long` of any length, gathered by 1 to 64
     /// workers out of the files, one or more, to the file `out`: its bytes, or with `encode` its combined encoding. The files are combined
     /// encodings, or with `outboard` plain copies beside the outboard encoding in that file. With `salvage` they are asked
-    /// at last for each missing chunk by itself. With `verbose` it is said which files were left out.
+    /// at last for each missing chunk by itself. With `verbose` it is said which files were left out. Which bytes no file has is written to
+    /// the file `missing`, where there is one.
     Gather {
         root: &'a str,
         workers: u32,
@@ -55,6 +59,7 @@ pub enum Task<'a> {
         salvage: bool,
         encode: bool,
         verbose: bool,
+        missing: Option<&'a str>,
         files: Vec<&'a str>,
         out: &'a str,
     },

@@ -46,3 +46,10 @@ said_part (Some s) faultless Q room text start len at size none here long part i
 pub judged : {A E : Type 0} (r : Result A E) (refused : Bool) (P : Type 0) → refused ≡ is_err r → (IsOk r ↔ P) → JudgesGroup refused P
 judged (Ok a) refused P is same = subst (λ (b : Bool). JudgesGroup b P) (sym is) (same.0 refl)
 judged (Err e) refused P is same = subst (λ (b : Bool). JudgesGroup b P) (sym is) (λ p. let no : false ≡ true = same.1 p in cc)
+
+-- or of the text that was cut out of one for a slice
+pub said_slice : (contents : Option (List ℕ)) (faultless : Type 0) (Q : List ℕ → Type 0) (room text : List ℕ) (start len : ℕ) → room ≡ []
+    → OfBytes contents (λ bytes. text ≡ room ++ cut_text bytes start len) → Q text → IsSaidOf contents faultless (λ bytes. Q (cut_text bytes start len))
+said_slice None faultless Q room text start len none cut is = tt
+said_slice (Some s) faultless Q room text start len none cut is =
+    λ few sound. subst Q (cut few ∙ (λ i. none i ++ cut_text s start len)) is

@@ -14,6 +14,12 @@ IsQuietGathered (File fault) = file.IsQuiet fault
 IsQuietGathered (Outboard fault) = Unit {0}
 IsQuietGathered (Gather fault) = Unit {0}
 
+-- it isn't one of an outboard encoding
+abbrev pub IsOfFiles : GatheredFault → Type 0
+IsOfFiles (File fault) = Unit {0}
+IsOfFiles (Outboard fault) = ⊥
+IsOfFiles (Gather fault) = Unit {0}
+
 -- a fault of reading names the one path, and a fault of writing the other
 abbrev pub NamesGatheredPaths : Bor (List ℕ) → Bor (List ℕ) → GatheredFault → Type 0
 NamesGatheredPaths input output (File fault) = file.NamesPaths input output fault

@@ -5,3 +5,6 @@ pub mod Fates
 pub mod Worth
 pub mod GatheredFaults
 pub mod Givens
+pub mod Listed
+pub mod Missing
+pub mod Spots

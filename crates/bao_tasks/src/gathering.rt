@@ -2,7 +2,7 @@ ghost use Rattle.std.specs.Borrow.{Bor};
 ghost use Rattle.std.specs.Prelude.{◌≡◌, ◌≤◌, ℕ, List, IfErr, IfOk, IfSome, IsSome, IsTrue, OnOk, length};
 ghost use Rattle.bao_files.specs.declared.fault.FileFault.TheVariants as FileFault;
 ghost use Rattle.bao_text.specs.Choice.{chunk_count};
-ghost use Rattle.bao_tasks.specs.GatheredFaults.{IsQuietGathered, NamesBeside, NamesFirst};
+ghost use Rattle.bao_tasks.specs.GatheredFaults.{IsOfFiles, IsQuietGathered, NamesBeside, NamesFirst};
 ghost use Rattle.bao_tasks.specs.Gathered.{Fits, HasOutline, HasRootAndFits};
 ghost use Rattle.bao_tasks.specs.Givens.{IsHeld, given_contents};
 ghost use Rattle.bao_tasks.specs.Worth.{IsWorthAs};
@@ -10,12 +10,14 @@ ghost use Rattle.bao_tasks.specs.Worth.{IsWorthAs};
 use crate::fate::Fate;
 use crate::gathered_fault::GatheredFault;
 use crate::given::{Given, held, placed};
+use crate::missing::{Lack, lack_of};
+use crate::notes::Notes;
 use crate::worth::{Worth, worth_of_copy, worth_of_encoding};
 use crate::writing::write_gathered;
 use b3tree::{Hash, Mode};
 use bao_check::check_outboard;
 use bao_decode::read_outboard;
-use bao_files::{FileFault, LateFile, open_file};
+use bao_files::{FileFault, LateFile, STANDARD_INPUT, open_file};
 use bao_windows::{Wanted as Windows, WindowsFault, write_windows};
 use gather::{Form, GatherFault, Grain, chunks_within};
 use std::alloc::{AllocError, Global};
@@ -39,6 +41,8 @@ pub struct Gathering {
     pub encode: bool,
     /// Whether it is counted what each file that is read is worth.
     pub count: bool,
+    /// The most parts that are noted of what no file has, where the blob stays unfinished. With 0 it isn't looked for.
+    pub parts: usize,
     /// The smallest part that the files are asked for.
     pub grain: Grain,
 }
@@ -50,6 +54,23 @@ struct Wanted<'a> {
     root: &'a Hash,
     how: Gathering,
     form: &'a Form<'a>,
+}
+
+impl<'a> Wanted<'a> {
+    // The same, as it is gathered window by window.
+    fn windows(&self) -> Windows<'a>
+        ensures root { result.root ≡ self.now.root.now }
+        ensures mode { result.mode ≡ self.now.mode.now }
+        ensures form { result.form ≡ self.now.form.now }
+        ensures grain { result.grain ≡ self.now.how.grain }
+    {
+        Windows {
+            root: *self.root,
+            mode: *self.mode,
+            form: *self.form,
+            grain: self.how.grain,
+        }
+    }
 }
 
 // What the files give that were taken so far, and how many bytes the longest of them has.
@@ -66,7 +87,7 @@ fn note(fates: &mut [Fate], place: usize, fate: Fate) {
     }
 }
 
-// Which of the files are regular, so that they are read by position. It is asked once, so that each file has its turn
+// Which of the files are regular, so that they are read by position; standard input isn't. It is asked once, so that each file has its turn
 // whatever becomes of it. What can't be asked about can't be read, as long as nothing else is noted.
 fn kinds_of<R: Files>(
     rt: &R,
@@ -77,6 +98,7 @@ fn kinds_of<R: Files>(
     let mut kinds = Vec::with_capacity(alloc, paths.len())?;
     for (place, path) in paths.iter().enumerate() {
         let (is_regular, fate) = match fs::metadata(rt, path) {
+            _ if *path == STANDARD_INPUT => (false, Fate::Unopened),
             Ok(metadata) => (metadata.is_file(), Fate::Unopened),
             Err(_) => (false, Fate::Unread),
         };
@@ -198,6 +220,7 @@ fn cause_of<'a>(
     path: &'a str,
 ) -> GatheredFault<'a>
     ensures quiet { IsQuietGathered result }
+    ensures files { IsOfFiles result }
     ensures paths { NamesFirst files.now path.entry result }
 {
     if starved {
@@ -207,6 +230,23 @@ fn cause_of<'a>(
         (None, Some(first)) => GatheredFault::File(FileFault::Read(first)),
         (None, None) => GatheredFault::Gather(GatherFault::Unfinished),
         (Some(fault), _) => GatheredFault::Gather(fault),
+    }
+}
+
+// What none of the files has that were taken, where the blob stayed unfinished for that, and it is asked for.
+fn lack_left(
+    alloc: Global,
+    wanted: &Wanted<'_>,
+    starved: bool,
+    met: Option<GatherFault>,
+    taken: &Taken,
+) -> Lack {
+    match met {
+        Some(GatherFault::Unfinished) if wanted.how.parts > 0 && !starved => {
+            let windows = wanted.windows();
+            lack_of(alloc, &windows, taken.givens.as_slice(), wanted.how.parts)
+        }
+        _ => Lack::Unasked,
     }
 }
 
@@ -233,6 +273,7 @@ fn write_taken<'a, R: AllocGlobal + Threads + Sync, W: Write>(
 ) -> Result<u64, GatheredFault<'a>>
     ensures ok { IfOk result (λ count. (blob : List ℕ) × HasRootAndFits wanted.now.how wanted.now.mode.now wanted.now.root.now.0 blob × (count ≡ length blob)) }
     ensures err { IfErr result IsQuietGathered }
+    ensures files { IfErr result IsOfFiles }
     ensures paths { IfErr result (λ fault. (inputs : List (Bor (List ℕ))) → NamesFirst inputs path.entry fault) }
 {
     let Wanted {
@@ -246,12 +287,7 @@ fn write_taken<'a, R: AllocGlobal + Threads + Sync, W: Write>(
         let room = u32::try_from(chunks_within(taken.longest)).unwrap_or(u32::MAX);
         return write_gathered(rt, mode, root, form, how, room, givens, path, out);
     }
-    let windows = Windows {
-        root: *root,
-        mode: *mode,
-        form: *form,
-        grain: how.grain,
-    };
+    let windows = wanted.windows();
     match write_windows(rt, &windows, how.workers, most_chunks(&how), givens, out) {
         Ok(count) => Ok(count),
         Err(WindowsFault::Gather(fault)) => Err(GatheredFault::Gather(fault)),
@@ -289,9 +325,10 @@ fn finished<'a, R: Files>(
 /// opened only where the regular ones leave the blob unfinished, but at once for a `long` blob where the file can't be
 /// replaced. No more of it is read, and held, than the longest encoding, or copy, of a blob of `capacity` chunks has, and
 /// one byte. A file is left out that can't be opened or read, or for which there is no descriptor or no memory. One
-/// descriptor is kept for `path`. What became of each file is noted in `fates` at its place, as far as that has places,
+/// descriptor is kept for `path`. What became of each file is noted in `notes` at its place, as far as these have places,
 /// whatever is answered. With `count` it is noted, too, what each one that was taken is worth (`worth_of_encoding`, or
-/// `worth_of_copy`), where there was memory to count it.
+/// `worth_of_copy`), where there was memory to count it. And where the blob stays unfinished, it is noted there what none of
+/// them has ([`lack_of`]), if `parts` asks for it; else that is left as it is.
 ///
 /// Refuses files of which none can be read (`File` with `Read` of the first), a blob that did not come together (`Gather`,
 /// or `File` with `Memory` where there was none for one of the files), one for whose encoding there was no memory (`File`
@@ -304,10 +341,11 @@ pub fn gather_files<'a, R: Files<File = File> + AllocGlobal + Threads + Sync>(
     how: Gathering,
     files: &[&'a str],
     path: &'a str,
-    fates: &mut [Fate],
+    notes: &mut Notes,
 ) -> Result<u64, GatheredFault<'a>>
     ensures ok { IfOk result (λ count. (blob : List ℕ) × HasRootAndFits how mode.now root.now.0 blob × (count ≡ length blob)) }
     ensures err { IfErr result IsQuietGathered }
+    ensures files { IfErr result IsOfFiles }
     ensures paths { IfErr result (NamesFirst files.now path.entry) }
 {
     let wanted = Wanted {
@@ -316,7 +354,7 @@ pub fn gather_files<'a, R: Files<File = File> + AllocGlobal + Threads + Sync>(
         how,
         form,
     };
-    let Ok(kinds) = kinds_of(rt, rt.alloc(), files, fates) else {
+    let Ok(kinds) = kinds_of(rt, rt.alloc(), files, notes.fates.as_mut_slice()) else {
         return Err(GatheredFault::File(FileFault::Memory));
     };
     let mut taken = Taken {
@@ -328,6 +366,7 @@ pub fn gather_files<'a, R: Files<File = File> + AllocGlobal + Threads + Sync>(
     let mut tried = 0;
     for regular in [true, false] {
         let kinds = kinds.as_slice();
+        let fates = notes.fates.as_mut_slice();
         starved |= take_files(rt, &wanted, files, kinds, regular, &mut taken, fates);
         let Ok(mut out) = LateFile::new(rt, path) else {
             return Err(GatheredFault::File(FileFault::Memory));
@@ -345,6 +384,7 @@ pub fn gather_files<'a, R: Files<File = File> + AllocGlobal + Threads + Sync>(
             return finished(ended?, out, path);
         }
     }
+    notes.lack = lack_left(rt.alloc(), &wanted, starved, met, &taken);
     Err(cause_of(starved, met, files, path))
 }
 
@@ -363,7 +403,7 @@ pub fn gather_beside<'a, R: Files<File = File> + AllocGlobal + Threads + Sync>(
     outboard: &'a str,
     files: &[&'a str],
     path: &'a str,
-    fates: &mut [Fate],
+    notes: &mut Notes,
 ) -> Result<u64, GatheredFault<'a>>
     ensures ok { IfOk result (λ count. (blob : List ℕ) × HasRootAndFits how mode.now root.now.0 blob × (count ≡ length blob)) }
     ensures outline { OnOk result (HasOutline mode.now root.now.0) }
@@ -376,5 +416,5 @@ pub fn gather_beside<'a, R: Files<File = File> + AllocGlobal + Threads + Sync>(
         Err(fault) => return Err(GatheredFault::Outboard(fault)),
     };
     let form = Form::Bare(&outline);
-    gather_files(rt, mode, root, &form, how, files, path, fates)
+    gather_files(rt, mode, root, &form, how, files, path, notes)
 }

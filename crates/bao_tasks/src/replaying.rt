@@ -6,6 +6,7 @@ ghost use Rattle.bao_script.specs.declared.fault.ReplayScriptFault.TheVariants a
 ghost use Rattle.bao_files.specs.declared.fault.FileFault.TheVariants as FileFault;
 ghost use Rattle.bao_tasks.specs.declared.rerun_fault.RerunFault.TheVariants as RerunFault;
 ghost use Rattle.bao_tasks.specs.Replayed.{IsAcceptedRun, IsRefusedRun, IsReplayOf, IsRun, IsStoppedRun};
+ghost use Rattle.bao_tasks.specs.RerunFaults.{IsOfNoFile, NamesRead};
 
 use crate::rerun_fault::RerunFault;
 use b3tree::{Hash, Mode};
@@ -55,6 +56,7 @@ pub fn replay_text<'a>(
         × IsAcceptedRun mode.now root.now script.now (map (λ file. file.items) files.now) }
     ensures within { IsOk result → (0 < capacity) × (capacity ≤ 65536) }
     ensures illegal_within { (number : ℕ) → IsErrOf result (RerunFault.Replay (replay.Illegal number)) → (0 < capacity) × (capacity ≤ 65536) }
+    ensures file { IfErr result IsOfNoFile }
 {
     let script = match parse(alloc, script, files.len()) {
         Ok(script) => script,
@@ -78,7 +80,11 @@ pub fn replay_files<'a, R: Files + AllocGlobal>(
     script: &'a str,
     files: &[&'a str],
 ) -> Result<Vec<u8>, RerunFault<'a>>
-    ensures { IfOk result (λ text. IsReplayOf mode.now root.now capacity (length files.now) text.items) }
+    ensures answer { IfOk result (λ text. IsReplayOf mode.now root.now capacity (length files.now) text.items) }
+    ensures capacity { IsErrOf result (RerunFault.Replay replay.Capacity) → (capacity ≡ 0) ⊎ (65536 < capacity) }
+    ensures within { IsOk result → (0 < capacity) × (capacity ≤ 65536) }
+    ensures illegal_within { (number : ℕ) → IsErrOf result (RerunFault.Replay (replay.Illegal number)) → (0 < capacity) × (capacity ≤ 65536) }
+    ensures file { IfErr result (NamesRead script.entry files.now) }
 {
     let text = read_file(rt, script)?;
     let files = read_all(rt, files)?;

@@ -1,3 +1,4 @@
+pub mod Gaps
 pub mod Blobs
 pub mod Outcomes
 pub mod Copies

@@ -1,8 +1,9 @@
 -- What the runs of one script answer.
-use Rattle.std.proofs.Common.{◌≡◌, ◌⊎◌, inl, inr, ℕ, ◌<◌, ◌≤◌, List, length, Result, Ok, Err, IfOk, IsErrOf, IsOk, refl, ap, subst, ◌∙◌, arith}
+use Rattle.std.proofs.Common.{◌≡◌, ◌⊎◌, inl, inr, ℕ, ◌<◌, ◌≤◌, List, length, Result, Ok, Err, IfErr, IfOk, IsErrOf, IsOk, refl, ap, subst, ◌∙◌, arith}
 use Rattle.b3tree.specs.declared.mode.Mode.{Mode}
 use Rattle.b3tree.specs.declared.values.Hash.{Hash}
 use Rattle.bao_check.specs.declared.fault.CheckFault.{CheckFault}
+use Rattle.bao_files.specs.declared.fault.FileFault.TheVariants as file
 use Rattle.bao_script.specs.declared.fault.ReplayScriptFault.TheVariants.{Refused, Illegal, Capacity, Cutting, Replaying, Memory}
 use Rattle.bao_script.specs.declared.numbered.NumberedLine.{NumberedLine}
 use Rattle.bao_script.specs.Printouts.{IsPrinted, IsStopped}
@@ -13,6 +14,7 @@ use Rattle.store_core.specs.declared.fixed.Fixed.{Fixed}
 use Rattle.bao_tasks.specs.declared.rerun_fault.RerunFault.{RerunFault}
 use Rattle.bao_tasks.specs.declared.rerun_fault.RerunFault.TheVariants.{File, Script, Replay}
 use Rattle.bao_tasks.specs.Replayed.{IsAcceptedRun, IsRefusedRun, IsRun, IsStoppedRun}
+use Rattle.bao_tasks.specs.RerunFaults.{IsOfNoFile}
 use Rattle.determined_files.specs.Agreeing.{AgreeUnless}
 use Rattle.determined_program.proofs.Lines.{one_script}
 use Rattle.determined_tasks.proofs.Pieces as pieces
@@ -31,7 +33,7 @@ module _ (mode : Mode) (root : Hash) (capacity : ℕ) (text : List ℕ) (files :
   -- what an answer says
   abbrev pub Says : {X : Type 0} → (X → List ℕ) → Result X RerunFault → Type 0
   Says items (Ok x) = IsRun mode root capacity text files (items x) × HasRoom capacity
-  Says items (Err (File fault)) = Unit {0}
+  Says items (Err (File fault)) = fault ≡ file.Memory
   Says items (Err (Script n)) = IsFirstRefused (length files) text n
   Says items (Err (Replay (Refused n fault))) = IsRefusedRun mode root text files n fault
   Says items (Err (Replay (Illegal n))) = IsStoppedRun mode root capacity text files n × HasRoom capacity
@@ -101,16 +103,16 @@ module _ (mode : Mode) (root : Hash) (capacity : ℕ) (text : List ℕ) (files :
   answers_agree items (Err (Replay Capacity)) (Err (Replay (Refused y yf))) p q = absurd (refused_accepted y yf q p.1)
   answers_agree items (Err (Replay Capacity)) (Err (Replay (Illegal y))) p q = absurd (no_room q.1 p.0)
   answers_agree items (Err (Replay Capacity)) (Err (Replay Capacity)) p q = inl refl
-  answers_agree items (Err (File e)) (Ok y) p q = tt
-  answers_agree items (Err (File e)) (Err f) p q = inr (inl tt)
+  answers_agree items (Err (File e)) (Ok y) p q = p
+  answers_agree items (Err (File e)) (Err f) p q = inr (inl p)
   answers_agree items (Err (Replay Cutting)) (Ok y) p q = tt
   answers_agree items (Err (Replay Cutting)) (Err f) p q = inr (inl tt)
   answers_agree items (Err (Replay Replaying)) (Ok y) p q = tt
   answers_agree items (Err (Replay Replaying)) (Err f) p q = inr (inl tt)
   answers_agree items (Err (Replay Memory)) (Ok y) p q = tt
   answers_agree items (Err (Replay Memory)) (Err f) p q = inr (inl tt)
-  answers_agree items (Ok x) (Err (File f)) p q = tt
-  answers_agree items (Err e) (Err (File f)) p q = inr (inr tt)
+  answers_agree items (Ok x) (Err (File f)) p q = q
+  answers_agree items (Err e) (Err (File f)) p q = inr (inr q)
   answers_agree items (Ok x) (Err (Replay Cutting)) p q = tt
   answers_agree items (Err e) (Err (Replay Cutting)) p q = inr (inr tt)
   answers_agree items (Ok x) (Err (Replay Replaying)) p q = tt
@@ -122,13 +124,13 @@ module _ (mode : Mode) (root : Hash) (capacity : ℕ) (text : List ℕ) (files :
       → ((n : ℕ) → IsErrOf one (Replay (Illegal n)) → IsStoppedRun mode root capacity text files n)
       → ((n : ℕ) (f : CheckFault) → IsErrOf one (Replay (Refused n f)) → IsRefusedRun mode root text files n f)
       → (IsErrOf one (Replay Capacity) → ((capacity ≡ 0) ⊎ (65536 < capacity)) × IsAcceptedRun mode root text files)
-      → (IsOk one → HasRoom capacity) → ((n : ℕ) → IsErrOf one (Replay (Illegal n)) → HasRoom capacity) → Says items one
-  says items (Ok x) count size answer script illegal refused none within room = (answer, within refl)
-  says items (Err (File fault)) count size answer script illegal refused none within room = tt
-  says items (Err (Script n)) count size answer script illegal refused none within room = subst (λ (k : ℕ). IsFirstRefused k text n) size (script n refl)
-  says items (Err (Replay (Refused n f))) count size answer script illegal refused none within room = refused n f refl
-  says items (Err (Replay (Illegal n))) count size answer script illegal refused none within room = (illegal n refl, room n refl)
-  says items (Err (Replay Capacity)) count size answer script illegal refused none within room = none refl
-  says items (Err (Replay Cutting)) count size answer script illegal refused none within room = tt
-  says items (Err (Replay Replaying)) count size answer script illegal refused none within room = tt
-  says items (Err (Replay Memory)) count size answer script illegal refused none within room = tt
+      → (IsOk one → HasRoom capacity) → ((n : ℕ) → IsErrOf one (Replay (Illegal n)) → HasRoom capacity) → IfErr one IsOfNoFile → Says items one
+  says items (Ok x) count size answer script illegal refused none within room want = (answer, within refl)
+  says items (Err (File fault)) count size answer script illegal refused none within room want = want
+  says items (Err (Script n)) count size answer script illegal refused none within room want = subst (λ (k : ℕ). IsFirstRefused k text n) size (script n refl)
+  says items (Err (Replay (Refused n f))) count size answer script illegal refused none within room want = refused n f refl
+  says items (Err (Replay (Illegal n))) count size answer script illegal refused none within room want = (illegal n refl, room n refl)
+  says items (Err (Replay Capacity)) count size answer script illegal refused none within room want = none refl
+  says items (Err (Replay Cutting)) count size answer script illegal refused none within room want = tt
+  says items (Err (Replay Replaying)) count size answer script illegal refused none within room want = tt
+  says items (Err (Replay Memory)) count size answer script illegal refused none within room want = tt

@@ -1,3 +1,4 @@
 pub mod Blobs
 pub mod Copies
 pub mod Replays
+pub mod Lacks

@@ -1,4 +1,6 @@
 -- The faults of a schedule that may come at any time.
+use Rattle.std.specs.Prelude.{◌≡◌}
+use Rattle.bao_files.specs.declared.fault.FileFault.TheVariants as file
 use Rattle.bao_script.specs.declared.fault.ReplayScriptFault.{ReplayScriptFault}
 use Rattle.bao_script.specs.declared.fault.ReplayScriptFault.TheVariants.{Refused, Illegal, Capacity, Cutting, Replaying, Memory}
 use Rattle.bao_tasks.specs.declared.rerun_fault.RerunFault.{RerunFault}
@@ -14,6 +16,6 @@ IsWantOfRun Replaying = Unit {0}
 IsWantOfRun Memory = Unit {0}
 
 abbrev pub IsWant : RerunFault → Type 0
-IsWant (File fault) = Unit {0}
+IsWant (File fault) = fault ≡ file.Memory
 IsWant (Script line) = ⊥
 IsWant (Replay fault) = IsWantOfRun fault

@@ -5,6 +5,9 @@
 
 mod decoding;
 mod gathering;
+mod lacks;
+mod lists;
 mod replaying;
+mod spots;
 mod values;
 mod worths;

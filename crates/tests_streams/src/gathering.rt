@@ -138,6 +138,7 @@ fn is_written<R: AllocGlobal + Threads + Sync + Abort>(
         long: false,
         encode,
         count: false,
+        parts: 0,
         grain: Grain::Group,
     };
     for room in [0, 10, 2048] {

@@ -7,13 +7,13 @@ use Rattle.bao_command.proofs.Telling.{on_printed, told_prints}
 use Rattle.bao_command.proofs.commands.decode.Goals as goal
 
 -- printing refuses no arguments
-due_of_none : (root past many out mixed keys : Type 0) (result : Result Unit Fault) → IfErr result (IsDue ⊥ ⊥ ⊥ ⊥ ⊥ ⊥) → IfErr result (IsDue root past many out mixed keys)
-due_of_none root past many out mixed keys (Ok done) due = tt
-due_of_none root past many out mixed keys (Err fault) due =
-    (λ is. absurd (due.0 is), λ is. absurd (due.1 is), λ is. absurd (due.2 is), λ is. absurd (due.3 is), λ is. absurd (due.4 is), λ is. absurd (due.5 is))
+due_of_none : (root past many out mixed keys list : Type 0) (result : Result Unit Fault) → IfErr result (IsDue ⊥ ⊥ ⊥ ⊥ ⊥ ⊥ ⊥) → IfErr result (IsDue root past many out mixed keys list)
+due_of_none root past many out mixed keys list (Ok done) due = tt
+due_of_none root past many out mixed keys list (Err fault) due =
+    (λ is. absurd (due.0 is), λ is. absurd (due.1 is), λ is. absurd (due.2 is), λ is. absurd (due.3 is), λ is. absurd (due.4 is), λ is. absurd (due.5 is), λ is. absurd (due.6 is))
 
 pub returns-in-Ok-clause-due : goal.returns-in-Ok-clause-due
-returns-in-Ok-clause-due g c = due_of_none _ _ _ _ _ _ c.told.result c.told.ensures.due
+returns-in-Ok-clause-due g c = due_of_none _ _ _ _ _ _ _ c.told.result c.told.ensures.due
 
 pub returns-in-Ok-clause-prints : goal.returns-in-Ok-clause-prints
 returns-in-Ok-clause-prints g c =

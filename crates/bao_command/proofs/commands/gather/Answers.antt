@@ -14,7 +14,7 @@ returns-in-Ok-gathered-clause-beside g c =
     let mode = c.args.mode.now in
     let digits : List ℕ = c.args.digits.now in
     let key : List ℕ = c.in_ok-root.root.0 in
-    let beside : IsBeside mode digits c.args.outboard = elim c.match-outboard.branch [
+    let beside : IsBeside mode digits c.args.paths.outboard = elim c.match-paths.branch [
       | in-None w ↦ rw w.in-None.is tt
       | in-Some w ↦
           let outline : HasOutline mode key = subst (λ (r : Result ℕ GatheredFault). OnOk r (HasOutline mode key)) (sym w.gathered-is ∙ c.in-Ok-gathered.is) w.gather_beside-gathered.ensures.outline in
@@ -27,7 +27,7 @@ returns-in-Ok-gathered-clause-answer g c =
     let mode = c.args.mode.now in
     let key : List ℕ = c.in_ok-root.root.0 in
     let Gathers : ℕ → Type 0 = λ count. (blob : List ℕ) × HasRootAndFits c.args.how mode key blob × (count ≡ length blob) in
-    let gathered : IfOk c.match-outboard.gathered Gathers = elim c.match-outboard.branch [
+    let gathered : IfOk c.match-paths.gathered Gathers = elim c.match-paths.branch [
       | in-None w ↦ subst (λ (r : Result ℕ GatheredFault). IfOk r Gathers) (sym w.gathered-is) w.gather_files-gathered.ensures.ok
       | in-Some w ↦ subst (λ (r : Result ℕ GatheredFault). IfOk r Gathers) (sym w.gathered-is) w.gather_beside-gathered.ensures.ok
     ] in

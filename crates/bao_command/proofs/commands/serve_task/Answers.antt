@@ -17,16 +17,11 @@ returns-in-Gather-clause-prints g c =
     let old = g.O.Write.contents c.args.out.now in
     let new = g.O.Write.contents c.gather.new.out in
     let few : OnPrinted result (length c.in-Gather.files.items ≤ 64) =
-    subst (λ (files : List (Bor (List ℕ))). OnPrinted result (length files ≤ 64)) c.as_slice-files.ensures.value c.gather.ensures.few in
+    subst (λ (files : List (Bor (List ℕ))). OnPrinted result (length files ≤ 64)) c.as_slice.ensures.value c.gather.ensures.few in
     let answer = c.gather.ensures.answer in
-    let how = c.how_of-how.result in
-    let bounded : OnPrinted result (HasHash mode c.in-Gather.root.now answer.0 × Fits how.long c.in-Gather.capacity (length answer.0)) =
-    subst (λ (n : ℕ). OnPrinted result (HasHash mode c.in-Gather.root.now answer.0 × Fits how.long n (length answer.0))) c.how_of-how.ensures.capacity answer.1 in
-    let fits : OnPrinted result (HasHash mode c.in-Gather.root.now answer.0 × Fits c.in-Gather.long c.in-Gather.capacity (length answer.0)) =
-    subst (λ (b : Bool). OnPrinted result (HasHash mode c.in-Gather.root.now answer.0 × Fits b c.in-Gather.capacity (length answer.0))) c.how_of-how.ensures.long bounded in
     let prints =
     subst (λ (task : Task). (bytes : List ℕ) × OnPrinted result (IsRight mode task bytes) × CommandPrints (line_of mode task bytes) old new result) (sym c.in-Gather.is)
-    (answer.0, both _ _ result few (both _ _ result fits c.gather.ensures.beside), answer.2) in
+    (answer.0, both _ _ result few (both _ _ result answer.1 c.gather.ensures.beside), answer.2) in
     prints
 
 pub returns-in-Replay-clause-prints : goal.returns-in-Replay-clause-prints
@@ -39,7 +34,7 @@ returns-in-Replay-clause-prints g c =
     let right : OnPrinted result ((length c.in-Replay.files.items ≤ 64) × IsReplay mode c.in-Replay.root.now c.in-Replay.capacity (length c.in-Replay.files.items) answer.0) =
     subst
     (λ (files : List (Bor (List ℕ))). OnPrinted result ((length files ≤ 64) × IsReplay mode c.in-Replay.root.now c.in-Replay.capacity (length files) answer.0))
-    c.as_slice.ensures.value
+    c.as_slice-in-Replay.ensures.value
     (both _ _ result c.replay.ensures.few answer.1) in
     let prints =
     subst (λ (task : Task). (bytes : List ℕ) × OnPrinted result (IsRight mode task bytes) × CommandPrints (line_of mode task bytes) old new result) (sym c.in-Replay.is)

@@ -1,0 +1,190 @@
+// What is told of a file that is refused: where it is at fault, and which bytes of the blob that are.
+
+ghost use Rattle.std.specs.Prelude.{OnOk};
+ghost use Rattle.std.specs.Io.KnownBytes.{Appends};
+ghost use Rattle.bao_command.specs.Told.{chunk_line, damage_line, long_line, parent_line, short_line};
+
+use crate::commands::last_of;
+use b3tree::{CHUNK_LEN, Hash, Mode};
+use bao_check::{CheckFault, check_outboard};
+use bao_decode::read_outboard;
+use bao_files::{Once, Part, STANDARD_INPUT, open_file};
+use bao_tasks::{Span, Spot, spot_in_outboard, spot_in_slice};
+use std::io::{Read, Write};
+use std::rt::Files;
+use std::{fs, io};
+
+// Says that a file ends too early.
+fn tell_short<W: Write>(file: &str, at: u64, out: &mut W) -> io::Result<()>
+    ensures { OnOk result (Appends (W.contents out.old) (W.contents out.new) (short_line file.now at)) }
+{
+    writeln!(
+        out,
+        "bao_gather: {file}: too short: ends within what begins at its byte {at}"
+    )
+}
+
+// Says that it goes on after its end.
+fn tell_long<W: Write>(file: &str, at: u64, out: &mut W) -> io::Result<()>
+    ensures { OnOk result (Appends (W.contents out.old) (W.contents out.new) (long_line file.now at)) }
+{
+    writeln!(
+        out,
+        "bao_gather: {file}: too long: bytes follow its first {at}"
+    )
+}
+
+// Says at which of its bytes something begins that isn't the root's.
+fn tell_damage<W: Write>(file: &str, at: u64, out: &mut W) -> io::Result<()>
+    ensures { OnOk result (Appends (W.contents out.old) (W.contents out.new) (damage_line file.now at)) }
+{
+    writeln!(out, "bao_gather: {file}: damaged at its byte {at}")
+}
+
+// Says which bytes of the blob a chunk has that isn't the root's.
+fn tell_chunk<W: Write>(file: &str, bytes: Span, out: &mut W) -> io::Result<()>
+    ensures { OnOk result (Appends (W.contents out.old) (W.contents out.new) (chunk_line file.now bytes)) }
+{
+    let (first, last) = (bytes.at, last_of(bytes));
+    writeln!(
+        out,
+        "bao_gather: {file}: damaged at bytes {first} to {last} of the blob"
+    )
+}
+
+// Says which bytes of the blob are below a parent that isn't the root's.
+fn tell_parent<W: Write>(file: &str, bytes: Span, out: &mut W) -> io::Result<()>
+    ensures { OnOk result (Appends (W.contents out.old) (W.contents out.new) (parent_line file.now bytes)) }
+{
+    let (first, last) = (bytes.at, last_of(bytes));
+    writeln!(
+        out,
+        "bao_gather: {file}: damaged parent over bytes {first} to {last} of the blob"
+    )
+}
+
+// Says where a file is damaged: in the blob, where that is known.
+fn tell_spot<E: Write>(file: &str, at: u64, spot: Option<Spot>, err: &mut E) -> io::Result<()> {
+    match spot {
+        Some(spot) if spot.is_chunk => tell_chunk(file, spot.bytes, &mut Once(err)),
+        Some(spot) => tell_parent(file, spot.bytes, &mut Once(err)),
+        None => tell_damage(file, at, &mut Once(err)),
+    }
+}
+
+// The length that an encoding in a regular file claims, which is read again for it.
+fn claimed_again<R: Files>(rt: &R, path: &str) -> Option<u64> {
+    if !is_regular(rt, path) {
+        return None;
+    }
+    let mut file = open_file(rt, path).ok()?;
+    let mut head = [0; 8];
+    file.read_exact(&mut head).ok()?;
+    Some(u64::from_le_bytes(head))
+}
+
+// Whether a regular file is at the path, which can be read again.
+fn is_regular<R: Files>(rt: &R, path: &str) -> bool {
+    match fs::metadata(rt, path) {
+        Ok(metadata) => metadata.is_file() && path != STANDARD_INPUT,
+        Err(_) => false,
+    }
+}
+
+// What is at a place of the encoding of a part, in the file of this path.
+fn spot_of_part<R: Files>(rt: &R, part: &Part, path: &str, at: u64) -> Option<Spot> {
+    let total = claimed_again(rt, path)?;
+    match part {
+        Part::Whole => spot_in_slice(total, 0, u64::MAX, at),
+        Part::Slice { start, len } => spot_in_slice(total, *start, *len, at),
+    }
+}
+
+// What is at a place of an outboard encoding, in the file of this path.
+fn spot_of_outboard<R: Files>(rt: &R, path: &str, at: u64) -> Option<Spot> {
+    spot_in_outboard(claimed_again(rt, path)?, at)
+}
+
+// The chunk that begins at a place of a plain copy of a blob of `total` bytes.
+fn spot_of_copy(total: u64, at: u64) -> Spot {
+    let end = at.saturating_add(CHUNK_LEN as u64).min(total);
+    Spot {
+        is_chunk: true,
+        bytes: Span { at, end },
+    }
+}
+
+// Says where a file is at fault, of which what is damaged is this.
+fn tell_fault<E: Write>(
+    file: &str,
+    fault: CheckFault,
+    spot: Option<Spot>,
+    err: &mut E,
+) -> io::Result<()> {
+    match fault {
+        CheckFault::Short { at } => tell_short(file, at, &mut Once(err)),
+        CheckFault::Trailing { at } => tell_long(file, at, &mut Once(err)),
+        CheckFault::Mismatch { at } => tell_spot(file, at, spot, err),
+        CheckFault::Memory | CheckFault::Reader => Ok(()),
+    }
+}
+
+// Where a file is damaged, if it is.
+fn damaged_at(fault: CheckFault) -> Option<u64> {
+    match fault {
+        CheckFault::Mismatch { at } => Some(at),
+        _ => None,
+    }
+}
+
+// Says where the encoding of a part is at fault. A write that fails changes nothing.
+pub(crate) fn tell_encoding<R: Files, E: Write>(
+    rt: &R,
+    part: &Part,
+    file: &str,
+    fault: CheckFault,
+    err: &mut E,
+) {
+    let spot = match damaged_at(fault) {
+        Some(at) => spot_of_part(rt, part, file, at),
+        None => None,
+    };
+    let _ = tell_fault(file, fault, spot, err);
+}
+
+// Says where an outboard encoding is at fault.
+fn tell_outboard<R: Files, E: Write>(rt: &R, file: &str, fault: CheckFault, err: &mut E) {
+    let spot = match damaged_at(fault) {
+        Some(at) => spot_of_outboard(rt, file, at),
+        None => None,
+    };
+    let _ = tell_fault(file, fault, spot, err);
+}
+
+// Says which file is at fault of an outboard encoding and a copy, and where. The first is read again for it. A write that fails changes
+// nothing.
+pub(crate) fn tell_beside<R: Files + AllocGlobal, E: Write>(
+    rt: &R,
+    mode: &Mode,
+    root: &Hash,
+    outboard: &str,
+    copy: &str,
+    fault: CheckFault,
+    err: &mut E,
+) {
+    if !is_regular(rt, outboard) {
+        return;
+    }
+    let Ok(text) = read_outboard(rt, mode, root, outboard) else {
+        return;
+    };
+    match check_outboard(rt.alloc(), mode, root, text.as_slice()) {
+        Ok(outline) => {
+            let total = outline.claimed();
+            let spot = damaged_at(fault).map(|at| spot_of_copy(total, at));
+            let _ = tell_fault(copy, fault, spot, err);
+        }
+        Err(CheckFault::Memory) => {}
+        Err(fault) => tell_outboard(rt, outboard, fault, err),
+    }
+}

@@ -1,0 +1,132 @@
+-- Gaps, one after another.
+use Rattle.std.proofs.Common.{◌≡◌, ◌⊎◌, ℕ, ◌+◌, ◌-◌, ◌*◌, ◌<◌, ◌≤◌, min, Bool, true, false, List, [], ◌∷◌, ◌++◌, length, map, take, Option, Some, slice_get, append-nil, append_assoc, inl, inr, sym, ap, subst, ◌∙◌, arith}
+use Rattle.std.proofs.lemmas.Bool.{cases_lt}
+use Rattle.std.proofs.lemmas.List.{length-take, length_push, take-append-le, take_all}
+use Rattle.std.proofs.lemmas.List.Sums.{sum_by_push}
+use Rattle.gather.specs.declared.grain.Grain.{Grain}
+use Rattle.gather.specs.declared.grain.Grain.TheVariants.{Group, Chunk}
+use Rattle.bao_windows.specs.declared.wanted.Wanted.{Wanted}
+use Rattle.bao_tasks.specs.Worth.{IsSaidOf}
+use Rattle.bao_tasks.specs.declared.missing.MissingParts.{MissingParts}
+use Rattle.bao_tasks.specs.declared.missing.Span.{Span}
+use Rattle.bao_tasks.specs.Missing.{AreGaps, AreParts, GoesUpTo, HasUnit, IsNextGap, JudgesUnit, Tells, place_of, span_len, span_of, unit_chunks, units_in}
+
+-- a unit that comes later begins no earlier
+pub place_order : (grain : Grain) (total a b : ℕ) → a ≤ b → place_of grain total a ≤ place_of grain total b
+place_order Group total a b below = omega (arith, below)
+place_order Chunk total a b below = omega (arith, below)
+
+-- a unit of a blob begins within it, or is the first
+pub unit_begins : (grain : Grain) (total u : ℕ) → u < units_in grain total → (1024 * (unit_chunks grain * u) < total) ⊎ (u ≡ 0)
+unit_begins Group total u below = elim (cases_lt 0 u) [
+  | inl later ↦ inl (omega (arith, below, later))
+  | inr first ↦ inr (omega (arith, first))
+]
+unit_begins Chunk total u below = elim (cases_lt 0 u) [
+  | inl later ↦ inl (omega (arith, below, later))
+  | inr first ↦ inr (omega (arith, first))
+]
+
+-- what is shown, where there is room for one more, and where there is none
+pub shown_more : (most : ℕ) (spans : List Span) (part : Span) (shown : List Span) → shown ≡ take most spans → length shown < most
+    → shown ++ part ∷ [] ≡ take most (spans ++ part ∷ [])
+shown_more most spans part shown is room =
+    let size : length shown ≡ min most (length spans) = ap (λ (s : List Span). length s) is ∙ length-take most spans in
+    let short : length spans < most = omega (arith, size, room) in
+    let one : length (spans ++ part ∷ []) ≡ length spans + 1 = length_push spans part in
+    ap (λ (s : List Span). s ++ part ∷ []) (is ∙ take_all most spans (omega (arith, short))) ∙ sym (take_all most (spans ++ part ∷ []) (omega (arith, one, short)))
+
+pub shown_same : (most : ℕ) (spans : List Span) (part : Span) (shown : List Span) → shown ≡ take most spans → most ≤ length shown
+    → shown ≡ take most (spans ++ part ∷ [])
+shown_same most spans part shown is full =
+    let size : length shown ≡ min most (length spans) = ap (λ (s : List Span). length s) is ∙ length-take most spans in
+    is ∙ sym (take-append-le most spans (part ∷ []) (omega (arith, size, full)))
+
+-- one part more is told
+pub tells_more : (most : ℕ) (old new : MissingParts) (part : Span) → ((spans : List Span) → old.shown.items ≡ take most spans → new.shown.items ≡ take most (spans ++ part ∷ []))
+    → new.count ≡ old.count + 1 → new.bytes ≡ old.bytes + span_len part → (spans : List Span) → Tells most old spans → Tells most new (spans ++ part ∷ [])
+tells_more most old new part shown count bytes spans p = record {
+  shown = shown spans p.shown;
+  count = count ∙ ap (λ (n : ℕ). n + 1) p.count ∙ sym (length_push spans part);
+  bytes = bytes ∙ ap (λ (n : ℕ). n + span_len part) p.bytes ∙ sym (sum_by_push span_len spans part);
+}
+
+-- what is told of a gap more, where what was told before ends no later than the gap begins
+pub bytes_more : (grain : Grain) (total from first end bytes : ℕ) → bytes ≤ place_of grain total from → from ≤ first → first ≤ end
+    → bytes + (place_of grain total end - place_of grain total first) ≤ place_of grain total end
+bytes_more grain total from first end bytes within before order =
+    let low : place_of grain total from ≤ place_of grain total first = place_order grain total from first before in
+    let high : place_of grain total first ≤ place_of grain total end = place_order grain total first end order in omega (arith, within, low, high)
+
+some_same : {S : Type 0} (a b : S) → Some a ≡ Some b → a ≡ b
+some_same a b is = cc
+
+module _ {S : Type 0} (contents : S → Option (List ℕ)) (faultless : S → Type 0) (wanted : Wanted) (sources : List S) (units : ℕ) where
+  abbrev Judges : ℕ → Bool → Type 0
+  Judges u verdict = JudgesUnit contents faultless wanted sources u verdict
+
+  -- one source more lacks a unit
+  pub lacked_more : (u n : ℕ) (item : S) → slice_get sources n ≡ Some item → IsSaidOf (contents item) (faultless item) (λ bytes. ¬ HasUnit wanted u bytes)
+      → ((i : ℕ) (source : S) → i < n → slice_get sources i ≡ Some source → IsSaidOf (contents source) (faultless source) (λ bytes. ¬ HasUnit wanted u bytes))
+      → (i : ℕ) (source : S) → i < n + 1 → slice_get sources i ≡ Some source → IsSaidOf (contents source) (faultless source) (λ bytes. ¬ HasUnit wanted u bytes)
+  lacked_more u n item at lacks before i source below found = elim (cases_lt i n) [
+    | inl earlier ↦ before i source earlier found
+    | inr late ↦
+        let here : i ≡ n = omega (arith, below, late) in
+        let same : item ≡ source = some_same item source (sym at ∙ ap (λ (k : ℕ). slice_get sources k) (sym here) ∙ found) in
+        subst (λ (it : S). IsSaidOf (contents it) (faultless it) (λ bytes. ¬ HasUnit wanted u bytes)) same lacks
+  ]
+
+  -- one unit more has the verdict
+  pub one_more : (verdict : Bool) (from at : ℕ) → ((u : ℕ) → from ≤ u → u < at → Judges u verdict) → Judges at verdict → (u : ℕ) → from ≤ u → u < at + 1 → Judges u verdict
+  one_more verdict from at before here u low high = elim (cases_lt u at) [
+    | inl earlier ↦ before u low earlier
+    | inr late ↦ let same : at ≡ u = omega (arith, high, late) in subst (λ (n : ℕ). Judges n verdict) same here
+  ]
+
+  -- units that were had, up to the first that is lacked, and those that are lacked behind it
+  pub gap_of : (from first end : ℕ) → GoesUpTo contents faultless wanted sources units false true from first → first < units
+      → GoesUpTo contents faultless wanted sources units true false (first + 1) end → IsNextGap contents faultless wanted sources units from first end
+  gap_of from first end p below q = record {
+    before = p;
+    some = omega (arith, q.after);
+    gap = record {
+      after = omega (arith, q.after);
+      within = q.within;
+      same = λ u low high. elim (cases_lt first u) [
+        | inl above ↦ q.same u (omega (arith, above)) high
+        | inr at ↦ let here : first ≡ u = omega (arith, low, at) in subst (λ (n : ℕ). Judges n true) here (p.next below)
+      ];
+      next = q.next;
+    };
+  }
+
+  -- where none is lacked any more
+  pub no_more : (from first : ℕ) → GoesUpTo contents faultless wanted sources units false true from first → units ≤ first → AreGaps contents faultless wanted sources units from []
+  no_more from first p past = λ u low high. p.same u low (omega (arith, high, past))
+
+  -- one gap more
+  pub gap_more : (from : ℕ) (gaps : List (ℕ × ℕ)) (gap : ℕ × ℕ)
+      → ((rest : List (ℕ × ℕ)) → AreGaps contents faultless wanted sources units from rest → AreGaps contents faultless wanted sources units 0 (gaps ++ rest))
+      → IsNextGap contents faultless wanted sources units from gap.0 gap.1
+      → (rest : List (ℕ × ℕ)) → AreGaps contents faultless wanted sources units gap.1 rest → AreGaps contents faultless wanted sources units 0 ((gaps ++ gap ∷ []) ++ rest)
+  gap_more from gaps gap before next rest follow =
+      subst (λ (all : List (ℕ × ℕ)). AreGaps contents faultless wanted sources units 0 all) (sym (append_assoc gaps (gap ∷ []) rest)) (before (gap ∷ rest) (next, follow))
+
+  -- all of them
+  pub gaps_all : (from : ℕ) (gaps : List (ℕ × ℕ)) → ((rest : List (ℕ × ℕ)) → AreGaps contents faultless wanted sources units from rest → AreGaps contents faultless wanted sources units 0 (gaps ++ rest))
+      → AreGaps contents faultless wanted sources units from [] → AreGaps contents faultless wanted sources units 0 gaps
+  gaps_all from gaps before none =
+      subst (λ (all : List (ℕ × ℕ)). AreGaps contents faultless wanted sources units 0 all) (append-nil gaps) (before [] none)
+
+  -- they are all parts of a blob of so many bytes
+  pub parts_all : (most : ℕ) (parts : MissingParts) (total : ℕ) (gaps : List (ℕ × ℕ)) → parts.total ≡ total → units ≡ units_in wanted.grain total
+      → parts.looked ≡ place_of wanted.grain total units → Tells most parts (map (span_of wanted.grain total) gaps) → AreGaps contents faultless wanted sources units 0 gaps
+      → AreParts contents faultless wanted sources most parts
+  parts_all most parts total gaps is count looked told are = record {
+    looked =
+        looked ∙ ap (place_of wanted.grain total) count ∙ ap (λ (n : ℕ). place_of wanted.grain n (units_in wanted.grain n)) (sym is);
+    gaps = gaps;
+    are = subst (λ (n : ℕ). AreGaps contents faultless wanted sources n 0 gaps) (count ∙ ap (units_in wanted.grain) (sym is)) are;
+    told = subst (λ (n : ℕ). Tells most parts (map (span_of wanted.grain n) gaps)) (sym is) told;
+  }

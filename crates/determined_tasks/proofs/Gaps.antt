@@ -1,0 +1,86 @@
+-- The gaps between what sources have are these and no others.
+use Rattle.std.proofs.Common.{◌≡◌, ℕ, ◌+◌, ◌<◌, ◌≤◌, ◌^◌, Bool, true, false, List, [], ◌∷◌, length, map, take, Option, None, Some, slice_get, inl, inr, refl, sym, ap, subst, ◌∙◌, arith}
+use Rattle.std.proofs.lemmas.Bool.{cases_lt}
+use Rattle.std.specs.List.{sum_by}
+use Rattle.bao_windows.specs.declared.wanted.Wanted.{Wanted}
+use Rattle.bao_tasks.specs.declared.missing.Lack.{Lack}
+use Rattle.bao_tasks.specs.declared.missing.Lack.TheVariants.{Unasked, Starved, End, Missing}
+use Rattle.bao_tasks.specs.declared.missing.MissingParts.{MissingParts}
+use Rattle.bao_tasks.specs.declared.missing.Span.{Span}
+use Rattle.bao_tasks.specs.Missing.{AreGaps, AreParts, GoesUpTo, HasUnit, IsHad, IsLackOf, IsLacked, IsNextGap, JudgesUnit, Tells, place_of, span_len, span_of, units_in}
+use Rattle.bao_tasks.specs.Worth.{IsSaidOf}
+use Rattle.determined_tasks.specs.Lacks.{AreSound, SameLack, SameParts}
+
+said_is : (contents : Option (List ℕ)) (faultless : Type 0) (P : List ℕ → Type 0) (bytes : List ℕ) → contents ≡ Some bytes → length bytes < 2 ^ 64 → faultless
+    → IsSaidOf contents faultless P → P bytes
+said_is None faultless P bytes is few sound said = cc
+said_is (Some s) faultless P bytes is few sound said =
+    let same : s ≡ bytes = cc in subst P same (said (subst (λ (x : List ℕ). length x < 2 ^ 64) (sym same) few) sound)
+
+module _ {S : Type 0} (contents : S → Option (List ℕ)) (faultless : S → Type 0) (wanted : Wanted) (sources : List S) (sound : AreSound contents faultless sources) where
+  -- what none has, none has
+  apart : (u : ℕ) → IsLacked contents faultless wanted sources u → IsHad contents faultless wanted sources u → ⊥
+  apart u lacked had =
+      let known = sound had.0 had.1 had.2 in
+      said_is (contents had.1) (faultless had.1) (λ bytes. HasUnit wanted u bytes → ⊥) known.0 known.1 known.2 known.3 (lacked had.0 had.1 had.2)
+      (said_is (contents had.1) (faultless had.1) (HasUnit wanted u) known.0 known.1 known.2 known.3 had.3)
+
+  -- where the verdict turns
+  one_place : (units : ℕ) (verdict other : Bool) → ((u : ℕ) → JudgesUnit contents faultless wanted sources u verdict → JudgesUnit contents faultless wanted sources u other → ⊥) → (from a b : ℕ)
+      → GoesUpTo contents faultless wanted sources units verdict other from a → GoesUpTo contents faultless wanted sources units verdict other from b → a ≡ b
+  one_place units verdict other differ from a b p q = elim (cases_lt a b) [
+    | inl less ↦ absurd (differ a (q.same a p.after less) (p.next (omega (arith, less, q.within))))
+    | inr above ↦ elim (cases_lt b a) [
+      | inl less ↦ absurd (differ b (p.same b q.after less) (q.next (omega (arith, less, p.within))))
+      | inr below ↦ omega (arith, above, below)
+    ]
+  ]
+
+  one_gap : (units from f e g h : ℕ) → IsNextGap contents faultless wanted sources units from f e → IsNextGap contents faultless wanted sources units from g h → (f ≡ g) × (e ≡ h)
+  one_gap units from f e g h p q =
+      let first : f ≡ g = one_place units false true (λ u had lacked. apart u lacked had) from f g p.before q.before in
+      let gap = subst (λ (n : ℕ). GoesUpTo contents faultless wanted sources units true false n e) first p.gap in
+      (first, one_place units true false (λ u lacked had. apart u lacked had) g e h gap q.gap)
+
+  no_gap : (units from f e : ℕ) → IsNextGap contents faultless wanted sources units from f e → ((u : ℕ) → from ≤ u → u < units → IsHad contents faultless wanted sources u) → ⊥
+  no_gap units from f e p all =
+      apart f (p.gap.same f (omega arith) p.some) (all f p.before.after (omega (arith, p.some, p.gap.within)))
+
+  one_pair : (x y : ℕ × ℕ) → x.0 ≡ y.0 → x.1 ≡ y.1 → x ≡ y
+  one_pair x y first second = λ i. (first i, second i)
+
+  pub one_list : (units from : ℕ) (xs ys : List (ℕ × ℕ)) → AreGaps contents faultless wanted sources units from xs → AreGaps contents faultless wanted sources units from ys → xs ≡ ys
+  one_list units from [] [] p q = refl
+  one_list units from [] (y ∷ ys) p q = absurd (no_gap units from y.0 y.1 q.0 p)
+  one_list units from (x ∷ xs) [] p q = absurd (no_gap units from x.0 x.1 p.0 q)
+  one_list units from (x ∷ xs) (y ∷ ys) p q =
+      let same = one_gap units from x.0 x.1 y.0 y.1 p.0 q.0 in
+      let rest : xs ≡ ys =
+      one_list units x.1 xs ys p.1 (subst (λ (n : ℕ). AreGaps contents faultless wanted sources units n ys) (sym same.1) q.1) in
+      let head : x ≡ y = one_pair x y same.0 same.1 in
+      λ i. head i ∷ rest i
+
+  one_telling : (most : ℕ) (a b : MissingParts) (xs ys : List Span) → xs ≡ ys → a.looked ≡ b.looked → Tells most a xs → Tells most b ys → SameParts a b
+  one_telling most a b xs ys same looked p q = (
+    looked,
+    p.shown ∙ ap (λ (s : List Span). take most s) same ∙ sym q.shown,
+    p.count ∙ ap (λ (s : List Span). length s) same ∙ sym q.count,
+    p.bytes ∙ ap (λ (s : List Span). sum_by span_len s) same ∙ sym q.bytes,
+  )
+
+  one_parts : (most : ℕ) (a b : MissingParts) → AreParts contents faultless wanted sources most a → AreParts contents faultless wanted sources most b → a.total ≡ b.total → SameParts a b
+  one_parts most a b p q total =
+      let gaps : p.gaps ≡ q.gaps =
+      one_list (units_in wanted.grain b.total) 0 p.gaps q.gaps (subst (λ (n : ℕ). AreGaps contents faultless wanted sources (units_in wanted.grain n) 0 p.gaps) total p.are) q.are in
+      let looked : a.looked ≡ b.looked =
+      p.looked ∙ ap (λ (n : ℕ). place_of wanted.grain n (units_in wanted.grain n)) total ∙ sym q.looked in
+      one_telling most a b _ _ (λ i. map (span_of wanted.grain (total i)) (gaps i)) looked p.told q.told
+
+  pub one_lack : (most : ℕ) (a b : Lack) → IsLackOf contents faultless wanted sources most a → IsLackOf contents faultless wanted sources most b → SameLack a b
+  one_lack most (Missing a) (Missing b) p q = one_parts most a b p.1 q.1
+  one_lack most Unasked b p q = absurd p
+  one_lack most Starved b p q = tt
+  one_lack most End b p q = tt
+  one_lack most (Missing a) Unasked p q = absurd q
+  one_lack most (Missing a) Starved p q = tt
+  one_lack most (Missing a) End p q = tt
