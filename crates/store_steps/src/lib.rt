@@ -18,3 +18,4 @@ mod places;
 mod plays;
 mod rule;
 mod words;
+mod zeros;

@@ -42,14 +42,26 @@ pub(crate) fn claim_place(fixed: &Fixed, group: u32) -> usize
     groups(fixed) + group as usize
 }
 
-// Where a word of a chunk's cell stands.
-pub(crate) fn cell_place(fixed: &Fixed, chunk: u32, word: u8) -> usize
+// Where the cells begin.
+pub(crate) fn cells_place(fixed: &Fixed) -> usize
+    ensures { result ≡ 2 * groups fixed.now }
+{
+    2 * groups(fixed)
+}
+
+// Where a word of a chunk's cell stands, of cells that begin at the place `cells`.
+#[inline(always)]
+pub(crate) fn cell_place(fixed: &Fixed, cells: usize, chunk: u32, word: u8) -> usize
+    requires cells { cells ≡ 2 * groups fixed.now }
+    requires small { cells ≤ 2 ^ 27 }
     requires chunk { chunk < fixed.now.capacity }
     requires word { word < 129 }
     ensures place { result ≡ cell_place fixed.now (129 * chunk + word) }
     ensures within { result < word_count fixed.now }
 {
-    2 * groups(fixed) + CELL_WORDS as usize * chunk as usize + word as usize
+    // So that the contract can speak of it.
+    let _ = fixed;
+    cells + CELL_WORDS as usize * chunk as usize + word as usize
 }
 
 // Where the length word stands.

@@ -1,4 +1,5 @@
 ghost use Rattle.std.specs.Prelude.{◌≡◌, [], Some, is_some, ◌+◌, ◌*◌, ◌/◌, ◌%◌, ◌^◌, ◌<◌, ◌≤◌, ℕ, nat_lt, not, ◌&&◌, true, IfErr, IfOk, IsErrOf, IsOk, OnErr};
+ghost use Rattle.store_core.specs.Machine.{groups};
 ghost use Rattle.store_steps.specs.Layout.{word_count};
 
 use crate::fault::NewFault;
@@ -6,8 +7,8 @@ use crate::grip::Grip;
 use crate::joins::{Both, Entering, Leaving, LookingRound, Meeting, Merging, Parting, Parts};
 use crate::lengths::{length_in, settling};
 use crate::places::{
-    cell_place, claim_place, has_node, held_place, length_place, node_place, parent_claim_place,
-    parent_held_place, parent_place, word_count,
+    cell_place, cells_place, claim_place, has_node, held_place, length_place, node_place,
+    parent_claim_place, parent_held_place, parent_place, word_count,
 };
 use crate::plays::{
     Answering, Asked, AskedNode, ClaimingParents, Copying, CopyingParent, Giving, Loading,
@@ -15,6 +16,7 @@ use crate::plays::{
     Settling as SettlingStep, Storing, StoringParent, Taking,
 };
 use crate::rule::Law;
+use crate::zeros::{ZEROS_LEN, zeros};
 use atomic_table::Table;
 use b3tree::{Hash, Mode};
 use bao_check::{Checked, Tail};
@@ -35,11 +37,15 @@ use store_core::{Fixed, SeatView, Settling, mask_below};
 pub struct Words {
     table: Table<(), LinkedList<SeatView>, Fixed, Law, Global>,
     fixed: Fixed,
+    // Where the cells begin: it is asked for with each word of them.
+    cells: usize,
     ghost key_is: { table.shared.key ≡ fixed },
     ghost count: { table.shared.table_id.words ≡ word_count fixed },
     ghost some: { 0 < fixed.capacity },
     ghost limit: { fixed.capacity ≤ 65536 },
     ghost low: { fixed.base ≤ 2 ^ 54 },
+    ghost begin: { cells ≡ 2 * groups fixed },
+    ghost few: { cells ≤ 2 ^ 27 },
 }
 
 impl Words {
@@ -86,9 +92,22 @@ impl Words {
             capacity,
             base,
         };
-        let zeros = vec![in alloc; 0u64; word_count(&fixed)]?;
-        let (table, seat) = Table::of_words(alloc, zeros.as_slice(), &fixed)?;
-        Ok((Words { table, fixed }, Grip { seat }))
+        let count = word_count(&fixed);
+        let (table, seat) = if count <= ZEROS_LEN {
+            Table::of_words(alloc, zeros(count), &fixed)?
+        } else {
+            let zeros = vec![in alloc; 0u64; count]?;
+            Table::of_words(alloc, zeros.as_slice(), &fixed)?
+        };
+        let cells = cells_place(&fixed);
+        Ok((
+            Words {
+                table,
+                fixed,
+                cells,
+            },
+            Grip { seat },
+        ))
     }
 
     /// The root, the mode, the capacity in chunks and the first chunk, which never change.
@@ -206,7 +225,7 @@ impl Words {
         ensures of { IsGripOf self.now grip.new }
         ensures stored { Stores chunk word value grip.old.view grip.new.view }
     {
-        let place = cell_place(&self.fixed, chunk, word);
+        let place = cell_place(&self.fixed, self.cells, chunk, word);
         self.table
             .shared
             .store::<Storing<A>>(&mut grip.seat, place, value);
@@ -314,7 +333,7 @@ impl Words {
         ensures same { grip.new ≡ grip.old }
         ensures word { FindsWord chunk word result grip.old.view }
     {
-        let place = cell_place(&self.fixed, chunk, word);
+        let place = cell_place(&self.fixed, self.cells, chunk, word);
         self.table.shared.load::<Copying<A>>(&mut grip.seat, place)
     }
 
