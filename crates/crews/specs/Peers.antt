@@ -4,7 +4,7 @@ use Rattle.bao_text.specs.declared.walk.Node.{Node}
 use Rattle.store_core.specs.declared.history.Call.TheVariants.{Serve}
 use Rattle.store_core.specs.declared.history.Serving.TheVariants.{Lacking, NoLength, Text}
 use Rattle.store_core.specs.declared.view.SeatView.{SeatView}
-use Rattle.store_calls.specs.Serving.{SeatSliceBinds}
+use Rattle.store_calls.specs.Serving.{SeatSliceBinds, SeatSliceIsAccepted}
 use Rattle.store_shared.specs.declared.assembly.Assembly.{Assembly}
 use Rattle.store_shared.specs.Seats.{Gripped}
 use Rattle.store_core.specs.Knowledge.{Called, Sees}
@@ -20,12 +20,14 @@ abbrev pub IsFetchCall : ℕ → ℕ → List ℕ → SeatView → SeatView → 
 IsFetchCall start len text old new = Called (Serve start len (Text text)) old new
     ⊎ ((text ≡ []) × (Called (Serve start len NoLength) old new ⊎ ((node : Node) × Called (Serve start len (Lacking node)) old new)))
 
--- A text is appended. If it isn't empty it is the slice of each blob with the root, or a collision is exhibited.
+-- A text is appended. If it isn't empty it is the slice of each blob with the root, or a collision is exhibited; and it is accepted
+-- under any root, or two pieces clash.
 pub record Fetches (start len : ℕ) (before after : List ℕ) (old new : SeatView) : Type 0 where
   pub text : List ℕ
   pub is : after ≡ before ++ text
   pub served : IsFetchCall start len text old new
   pub binds : (text ≡ []) ⊎ SeatSliceBinds new start len text
+  pub accepted : (text ≡ []) ⊎ SeatSliceIsAccepted new start len text
 
 -- there was no memory for the slice, or for what it is appended to
 abbrev pub Starves : ℕ → ℕ → SeatView → SeatView → Type 0

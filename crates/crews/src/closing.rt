@@ -1,7 +1,8 @@
 ghost use Rattle.std.specs.Prelude.{◌⊎◌, ℕ, List, sum_by};
-ghost use Rattle.gather.specs.Available.{HaveSlices, IsFilled, IsServed};
+ghost use Rattle.gather.specs.Available.{IsFilled, IsServed};
 ghost use Rattle.gather.specs.Counts.{HasFailed, Reports};
-ghost use Rattle.gather.specs.Forms.{AreSlices, made_of};
+ghost use Rattle.gather.specs.Forms.{made_of};
+ghost use Rattle.gather.specs.Parts.{HaveParts, IsFor};
 ghost use Rattle.gather.specs.Holders.{IsHanded};
 ghost use Rattle.gather.specs.Large.{IsTooLarge};
 ghost use Rattle.store_shared.specs.Seats.{IsSeatOf};
@@ -26,7 +27,7 @@ pub(crate) fn closing_rounds<H: Holder>(
     requires { IsSeatOf assembly.now seat.old }
     ensures of { IsSeatOf assembly.now seat.new }
     ensures reports { Reports fixed_of GoneOn seat.old seat.new (IsHanded (made_of form.now H.gives) holders.old) (IsHanded (made_of form.now H.gives) holders.new) (sum_by H.count holders.old) (sum_by H.count holders.new) report.old report.new }
-    ensures served { AreSlices form.now → (blob : List ℕ) → IsServed (fixed_of seat.old) blob → HaveSlices grain (made_of form.now H.gives) (fixed_of seat.old).mode blob holders.old
+    ensures served { (blob : List ℕ) → IsFor form.now (fixed_of seat.old) blob → IsServed (fixed_of seat.old) blob → HaveParts form.now grain H.gives (fixed_of seat.old).mode blob holders.old
         → HasFailed report.new ⊎ IsTooLarge (IsHanded (made_of form.now H.gives) holders.old) (fixed_of seat.old) ⊎ IsFilled RecordsOn HoldsOn IsBusyOn seat.old seat.new blob }
 {
     let place = Place {

@@ -1,6 +1,11 @@
-ghost use Rattle.std.specs.Prelude.{map, vec_items};
-ghost use Rattle.gather.specs.HandedOut.{Gathers};
-ghost use Rattle.gather.specs.Lists.{IsPartOfCopy};
+ghost use Rattle.std.specs.Prelude.{◌≡◌, ℕ, List, ◌≤◌, Some, length, map, slice_get, vec_items};
+ghost use Rattle.bao_check.specs.Outline.{outline_mode};
+ghost use Rattle.bao_text.specs.Choice.{chunk_count};
+ghost use Rattle.gather.specs.declared.form.Form.TheVariants.{Bare};
+ghost use Rattle.gather.specs.HandedOut.{Gathers, IsHandedOut};
+ghost use Rattle.gather.specs.Lists.{IsPartOfCopy, copy_gives};
+ghost use Rattle.gather.specs.Parts.{HaveParts, IsOutlineFor, IsOwnOutline};
+ghost use Rattle.store_core.specs.Laws.{IsBlob};
 ghost use Rattle.crews.specs.Beside.{fixed_beside};
 
 use crate::gathering::{How, gather_from};
@@ -24,6 +29,16 @@ use store_core::Fixed;
 /// the pieces of at most 256 KiB in which it is read from the store and hashed, on about so many threads at the most. An
 /// unfinished blob is 911 where memory was refused to a worker, or in the last round, else 805 `TooLarge` where one met a
 /// length above 1,024 times the capacity, else 901 `Unfinished`.
+///
+/// Where the outboard encoding is that of a blob with the root, of at least one byte and at most `capacity` chunks, and one of the
+/// copies is that blob, it is answered, whatever the other copies are and however the workers meet; or there was no memory, which is
+/// 801, 806, 903 or 911; or such a collision as follows is exhibited. So 805, 901 and 902 say then that there is one. Nor need any
+/// copy be whole: it is enough that what one has of the last chunk makes, with the outboard encoding's parents, the blob's slice, and
+/// so of one for each group of its chunks, or with `Grain::Chunk` for each chunk.
+///
+/// What is answered is each blob with the root, at 805 each of them is longer than the capacity, and at 902 there is none;
+/// or a collision is exhibited, two different inputs with one chaining value, one of the blob's and one of a slice's that is
+/// made of the outboard encoding's parents and of a part of one of the copies.
 pub fn gather_copies<R: Threads + Sync>(
     rt: &R,
     alloc: Global,
@@ -33,7 +48,13 @@ pub fn gather_copies<R: Threads + Sync>(
     grain: Grain,
     copies: &[Vec<u8>],
 ) -> Result<Vec<u8>, GatherFault>
-    ensures { Gathers vec_items (IsPartOfCopy outline.now (map vec_items copies.now)) (fixed_beside outline.now capacity) result }
+    ensures gathers { Gathers vec_items (IsPartOfCopy outline.now (map vec_items copies.now)) (fixed_beside outline.now capacity) result }
+    ensures available { (blob : List ℕ) (i : ℕ) → IsBlob (fixed_beside outline.now capacity) blob → chunk_count (length blob) ≤ capacity → IsOwnOutline (fixed_beside outline.now capacity) outline.now blob
+        → slice_get (map vec_items copies.now) i ≡ Some blob
+        → IsHandedOut vec_items (IsPartOfCopy outline.now (map vec_items copies.now)) (fixed_beside outline.now capacity) blob result }
+    ensures covered { (blob : List ℕ) → IsBlob (fixed_beside outline.now capacity) blob → chunk_count (length blob) ≤ capacity → IsOutlineFor (fixed_beside outline.now capacity) outline.now blob
+        → HaveParts (Bare outline.entry) grain copy_gives (outline_mode outline.now) blob (map vec_items copies.now)
+        → IsHandedOut vec_items (IsPartOfCopy outline.now (map vec_items copies.now)) (fixed_beside outline.now capacity) blob result }
 {
     let fixed = Fixed {
         root: outline.root(),

@@ -1,9 +1,10 @@
 ghost use Rattle.std.specs.Prelude.{◌≡◌, ◌↔◌, ◌⊎◌, ◌<◌, ◌≤◌, ℕ, IfErr, IfOk, IsErrOf, List, length};
 ghost use Rattle.bao_text.specs.Choice.{chunk_count};
-ghost use Rattle.gather.specs.Forms.{AreSlices, made_of};
+ghost use Rattle.gather.specs.Forms.{made_of};
 ghost use Rattle.gather.specs.HandedOut.{Gathers, IsHandedOut, own_bytes};
 ghost use Rattle.gather.specs.Large.{fixed_as};
 ghost use Rattle.gather.specs.Lists.{HaveAll, IsLent};
+ghost use Rattle.gather.specs.Parts.{IsFor};
 ghost use Rattle.store_core.specs.Laws.{IsBlob};
 ghost use Rattle.store_core.specs.Knowledge.{opening_view};
 ghost use Rattle.store_shared.specs.Seats.{IsSeatOf, fixed_of};
@@ -58,8 +59,8 @@ fn gather_within<R: Threads + Sync, H: Holder + Send + Drop, L: Lists<H>>(
 ) -> Result<Whole, GatherFault>
     requires whole { fixed.now.base ≡ 0 }
     ensures gathers { Gathers own_bytes (IsLent (made_of form.now H.gives) (L.over lists.now)) fixed.now result }
-    ensures available { AreSlices form.now → (blob : List ℕ) → IsBlob fixed.now blob → chunk_count (length blob) ≤ fixed.now.capacity
-        → HaveAll how.grain (made_of form.now H.gives) (L.over lists.now) fixed.now.mode blob
+    ensures available { (blob : List ℕ) → IsBlob fixed.now blob → chunk_count (length blob) ≤ fixed.now.capacity
+        → IsFor form.now fixed.now blob → HaveAll form.now how.grain H.gives (L.over lists.now) fixed.now.mode blob
         → IsHandedOut own_bytes (IsLent (made_of form.now H.gives) (L.over lists.now)) fixed.now blob result }
 {
     let (assembly, seat) = store_for(alloc, fixed)?;
@@ -85,8 +86,8 @@ pub(crate) fn gather_from<R: Threads + Sync, H: Holder + Send + Drop, L: Lists<H
 ) -> Result<Whole, GatherFault>
     requires whole { fixed.now.base ≡ 0 }
     ensures gathers { Gathers own_bytes (IsLent (made_of form.now H.gives) (L.over lists.now)) fixed.now result }
-    ensures available { AreSlices form.now → (blob : List ℕ) → IsBlob fixed.now blob → chunk_count (length blob) ≤ fixed.now.capacity
-        → HaveAll how.grain (made_of form.now H.gives) (L.over lists.now) fixed.now.mode blob
+    ensures available { (blob : List ℕ) → IsBlob fixed.now blob → chunk_count (length blob) ≤ fixed.now.capacity
+        → IsFor form.now fixed.now blob → HaveAll form.now how.grain H.gives (L.over lists.now) fixed.now.mode blob
         → IsHandedOut own_bytes (IsLent (made_of form.now H.gives) (L.over lists.now)) fixed.now blob result }
 {
     if let Some(first) = first_room(how.room, fixed.capacity) {

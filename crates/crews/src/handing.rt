@@ -1,9 +1,10 @@
 ghost use Rattle.std.specs.Prelude.{◌≡◌, ◌<◌, ◌≤◌, ℕ, IsTrue, List, length};
 ghost use Rattle.bao_text.specs.Choice.{chunk_count};
-ghost use Rattle.gather.specs.Forms.{AreSlices, made_of};
+ghost use Rattle.gather.specs.Forms.{made_of};
 ghost use Rattle.gather.specs.HandedOut.{Gathers, IsHandedOut, own_bytes};
 ghost use Rattle.gather.specs.Large.{IsTooLarge};
 ghost use Rattle.gather.specs.Lists.{HaveAll, IsLent};
+ghost use Rattle.gather.specs.Parts.{IsFor};
 ghost use Rattle.store_core.specs.Laws.{IsBlob};
 ghost use Rattle.store_shared.specs.Seats.{IsSeatOf, fixed_of};
 ghost use Rattle.crews.specs.Closing.{IsLeft};
@@ -33,8 +34,8 @@ pub(crate) fn hand_out<R: Threads + Sync, H: Holder + Drop, L: Lists<H>>(
     requires left { IsLeft (IsLent (made_of form.now H.gives) (L.over lists.now)) seat.view }
     requires large { IsTrue report.too_large → IsTooLarge (IsLent (made_of form.now H.gives) (L.over lists.now)) (fixed_of assembly) }
     ensures gathers { Gathers own_bytes (IsLent (made_of form.now H.gives) (L.over lists.now)) (fixed_of assembly) result }
-    ensures available { AreSlices form.now → (blob : List ℕ) → IsBlob (fixed_of assembly) blob → (fixed_of assembly).base ≡ 0 → chunk_count (length blob) ≤ (fixed_of assembly).capacity
-        → HaveAll grain (made_of form.now H.gives) (L.over lists.now) (fixed_of assembly).mode blob
+    ensures available { (blob : List ℕ) → IsBlob (fixed_of assembly) blob → (fixed_of assembly).base ≡ 0 → chunk_count (length blob) ≤ (fixed_of assembly).capacity
+        → IsFor form.now (fixed_of assembly) blob → HaveAll form.now grain H.gives (L.over lists.now) (fixed_of assembly).mode blob
         → IsHandedOut own_bytes (IsLent (made_of form.now H.gives) (L.over lists.now)) (fixed_of assembly) blob result }
 {
     // For the prover alone: the flags of a mode are apart from the tree's.

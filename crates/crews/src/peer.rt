@@ -61,8 +61,8 @@ impl<'a> Holder for Peer<'a> {
     /// Where the store has a length and holds all nodes of the slice, as far as the seat has seen, that slice's encoding is appended.
     ///
     /// What isn't empty is the slice of each blob with the store's root; or a collision is exhibited, two different inputs with
-    /// one chaining value, one of the blob's and one of a piece's that was committed to the store, by which its length was settled,
-    /// or whose parents were stored.
+    /// one chaining value, one of the blob's and one of the piece's that a node of the slice or the recorded length is of. Under
+    /// any root it is accepted as that slice, or two such pieces clash, as `Assembly::serve_slice` says.
     fn fetch(&mut self, start: u64, len: u64, into: &mut Vec<u8>) -> Result<(), HolderFault>
         ensures appended { OnOk result (Appends (λ _. Unit {0}) into.old.items into.new.items) }
         ensures no_more { Unit {0} → Unit {0} }

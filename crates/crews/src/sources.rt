@@ -4,7 +4,8 @@ ghost use Rattle.bao_text.specs.Texts.{combined_text};
 ghost use Rattle.gather.specs.Available.{HaveSlices};
 ghost use Rattle.gather.specs.Forms.{AreSlices};
 ghost use Rattle.gather.specs.HandedOut.{Gathers, IsHandedOut, own_bytes};
-ghost use Rattle.gather.specs.Lists.{IsFromSource, source_gives};
+ghost use Rattle.gather.specs.Lists.{IsFromSource, part_gives, source_gives};
+ghost use Rattle.gather.specs.Parts.{HaveParts, IsBareFor, IsOwn};
 ghost use Rattle.store_core.specs.Laws.{IsBlob};
 
 use crate::gathering::{How, gather_from};
@@ -42,6 +43,10 @@ use store_core::Fixed;
 /// is enough that what one gives as the slice of the last byte is known to be the blob's, and for each group of the blob's
 /// chunks what one gives as the group's slice, or with `Grain::Chunk` for each chunk as the chunk's.
 ///
+/// Beside the outboard encoding of a blob of at least one byte, a source is enough that never fails and whose bytes are known to be
+/// that blob. Nor need it be whole: it is enough that what one gives of the last chunk is known to make, with the outboard encoding's
+/// parents, the blob's slice, and so for each group of its chunks, or with `Grain::Chunk` for each chunk.
+///
 /// What is answered is each blob with the root, at 805 each of them is longer than the capacity, and at 902 there is none;
 /// or a collision is exhibited, two different inputs with one chaining value, one of the blob's and one of a slice's that is
 /// accepted under the root. Where the bytes of the source are known from which it came, it is cut out of them, or made of a part of
@@ -61,6 +66,12 @@ pub fn gather<R: Threads + Sync, S: Source + Sync>(
         → IsHandedOut own_bytes (IsFromSource form.now S.contents S.faultless sources.now) fixed.now blob result }
     ensures covered { AreSlices form.now → (blob : List ℕ) → IsBlob fixed.now blob → chunk_count (length blob) ≤ fixed.now.capacity
         → HaveSlices how.grain (source_gives S.contents S.faultless) fixed.now.mode blob sources.now
+        → IsHandedOut own_bytes (IsFromSource form.now S.contents S.faultless sources.now) fixed.now blob result }
+    ensures copied { (blob : List ℕ) (i : ℕ) (source : S) → IsBlob fixed.now blob → chunk_count (length blob) ≤ fixed.now.capacity → IsOwn form.now fixed.now blob
+        → slice_get sources.now i ≡ Some source → S.contents source ≡ Some blob → S.faultless source
+        → IsHandedOut own_bytes (IsFromSource form.now S.contents S.faultless sources.now) fixed.now blob result }
+    ensures beside { (blob : List ℕ) → IsBlob fixed.now blob → chunk_count (length blob) ≤ fixed.now.capacity → IsBareFor form.now fixed.now blob
+        → HaveParts form.now how.grain (part_gives S.contents S.faultless) fixed.now.mode blob sources.now
         → IsHandedOut own_bytes (IsFromSource form.now S.contents S.faultless sources.now) fixed.now blob result }
 {
     match form {

@@ -6,3 +6,6 @@ pub mod Sums
 pub mod Stored
 pub mod Firsts
 pub mod Alike
+pub mod LoneStoring
+pub mod PieceNodes
+pub mod SlicesServed

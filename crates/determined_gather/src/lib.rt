@@ -11,6 +11,7 @@ mod finishing;
 mod holders;
 mod lists;
 mod rooms;
+mod served;
 mod shared;
 mod texts;
 mod wholes;

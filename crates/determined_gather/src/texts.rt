@@ -17,6 +17,7 @@ ghost use Rattle.gather.specs.Forms.{AreSlices};
 ghost use Rattle.gather.specs.HandedOut.{own_bytes};
 ghost use Rattle.gather.specs.Large.{HasCollision, fixed_as};
 ghost use Rattle.gather.specs.Lists.{IsFromSource, source_gives};
+ghost use Rattle.gather.specs.Parts.{IsOwn};
 ghost use Rattle.store_core.specs.Laws.{IsBlob};
 
 use b3tree::{Hash, Mode, bytes_are};
@@ -131,6 +132,9 @@ pub fn gather_determined<R: Threads + Sync, S: Source + Sync>(
         → BothAnswer own_bytes blob result.0 result.1 ⊎ HasCollision (IsFromSource form.now S.contents S.faultless sources.now) fixed.now blob }
     ensures available { AreSlices form.now → (blob : List ℕ) (i : ℕ) (source : S) → IsBlob fixed.now blob → chunk_count (length blob) ≤ fixed.now.capacity
         → slice_get sources.now i ≡ Some source → S.contents source ≡ Some (combined_text fixed.now.mode blob) → S.faultless source
+        → BothAnswer own_bytes blob result.0 result.1 ⊎ HasCollision (IsFromSource form.now S.contents S.faultless sources.now) fixed.now blob }
+    ensures copied { (blob : List ℕ) (i : ℕ) (source : S) → IsBlob fixed.now blob → chunk_count (length blob) ≤ fixed.now.capacity → IsOwn form.now fixed.now blob
+        → slice_get sources.now i ≡ Some source → S.contents source ≡ Some blob → S.faultless source
         → BothAnswer own_bytes blob result.0 result.1 ⊎ HasCollision (IsFromSource form.now S.contents S.faultless sources.now) fixed.now blob }
 {
     let one = gather(rt, alloc, fixed, form, ours, sources);

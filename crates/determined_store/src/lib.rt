@@ -3,6 +3,7 @@
 //! stand for the same, but where one runs out of memory.
 #![tactic(auto)]
 
+mod pieces;
 mod replays;
 mod runs;
 mod store;

@@ -1,11 +1,14 @@
 -- What is known of holders' lists by what they are over.
 use Rattle.b3tree.specs.Pieces.{piece as part}
-use Rattle.gather.proofs.Common.{◌≡◌, ◌⊎◌, ℕ, ◌+◌, ◌-◌, ◌*◌, ◌^◌, ◌<◌, ◌≤◌, zero, suc, List, [], ◌∷◌, ◌++◌, append-nil, length, take, map, slice_get, Option, None, Some, refl, sym, subst, ◌∙◌, arith, inl, inr, Mode, Outline, chunk_count, combined_text, slice_text, cut_text, cut_text-combined, length-combined_text, Piece}
-use Rattle.gather.specs.Lists.{IsLent, source_gives}
+use Rattle.gather.proofs.Common.{◌≡◌, ◌⊎◌, ℕ, ◌+◌, ◌-◌, ◌*◌, ◌^◌, ◌<◌, ◌≤◌, zero, suc, List, [], ◌∷◌, ◌++◌, append-nil, length, take, map, slice_get, Option, None, Some, refl, sym, subst, ◌∙◌, arith, inl, inr, Mode, Outline, bare_len, outline_claimed, chunk_count, combined_text, slice_text, cut_text, cut_text-combined, length-combined_text, Piece}
+use Rattle.gather.specs.Lists.{IsLent, part_gives, source_gives}
 use Rattle.gather.specs.declared.grain.Grain.{Grain}
 use Rattle.gather.specs.Available.{HasSlice, HasTrue, HaveSlices}
 use Rattle.gather.specs.Holders.{Appends, IsHanded}
-use Rattle.gather.specs.Forms.{IsMadeBeside}
+use Rattle.gather.specs.declared.form.Form.{Form}
+use Rattle.gather.specs.declared.form.Form.TheVariants.{Slices, Bare}
+use Rattle.gather.specs.Forms.{IsMadeBeside, made_of}
+use Rattle.gather.specs.Parts.{HaveParts}
 use Rattle.gather.specs.Places.{AreKnown, IsCutAt, IsLost, IsPartAt, OfBytes}
 use Rattle.gather.proofs.Appending.{Appends-known, of_known}
 use Rattle.gather.proofs.Binding.{handed_over}
@@ -117,3 +120,39 @@ lent_beside outline f gives all piece is =
       there = from.there;
       given = record { bytes = from.given.bytes; given = from.given.given; is = from.given.is };
     })
+
+-- what is made of what holders give is made of what they are over
+made_over : {H S : Type 0} (form : Form) (f : H → S) (gives : S → ℕ → ℕ → List ℕ → Type 0) (x : H) (y : S) → f x ≡ y → (start len : ℕ) (text : List ℕ)
+    → made_of form (λ (holder : H) start len text. gives (f holder) start len text) x start len text → made_of form gives y start len text
+made_over Slices f gives x y same start len text given = subst (λ s. gives s start len text) same given
+made_over (Bare outline) f gives x y same start len text given =
+    record { bytes = given.bytes; given = subst (λ s. gives s start (bare_len (outline_claimed outline.now) start len) given.bytes) same given.given; is = given.is }
+
+made_mapped : {H S : Type 0} (form : Form) (f : H → S) (gives : S → ℕ → ℕ → List ℕ → Type 0) (mode : Mode) (blob : List ℕ) (start len : ℕ) (holders : List H) (all : List S)
+    → map f holders ≡ all → HasSlice (made_of form gives) mode blob start len all
+    → HasSlice (made_of form (λ (holder : H) start len text. gives (f holder) start len text)) mode blob start len holders
+made_mapped {H = H} {S = S} form f gives mode blob start len holders all are has =
+    let mapped : slice_get (map f holders) has.place ≡ Some has.holder = subst (λ (xs : List S). slice_get xs has.place ≡ Some has.holder) (sym are) has.there in
+    let at = mapped_there f holders has.place has.holder mapped in
+    record {
+      place = has.place;
+      holder = at.0;
+      there = at.1;
+      gives_slice = λ text given. has.gives_slice text (made_over form f gives at.0 has.holder at.2 start len text given);
+    }
+
+pub parts_mapped : {H S : Type 0} (form : Form) (f : H → S) (gives : S → ℕ → ℕ → List ℕ → Type 0) (grain : Grain) (mode : Mode) (blob : List ℕ) (holders : List H) (all : List S)
+    → map f holders ≡ all → HaveParts form grain gives mode blob all → HaveParts form grain (λ (holder : H) start len text. gives (f holder) start len text) mode blob holders
+parts_mapped form f gives grain mode blob holders all are have = record {
+  end = λ start len is. made_mapped form f gives mode blob start len holders all are (have.end start len is);
+  each = λ c start len below asked. made_mapped form f gives mode blob start len holders all are (have.each c start len below asked);
+}
+
+-- a source that never fails, whose bytes are a blob, gives nothing but parts of it
+pub part_true : {S : Type 0} (contents : S → Option (List ℕ)) (faultless : S → Type 0) (blob : List ℕ) (source : S) → chunk_count (length blob) ≤ 2 ^ 32 → contents source ≡ Some blob
+    → faultless source → (at n : ℕ) (bytes : List ℕ) → part_gives contents faultless source at n bytes → bytes ≡ part blob at n
+part_true contents faultless blob source few known sound at n bytes given =
+    elim ((subst (λ (o : Option (List ℕ)). IsPartAt o (faultless source) at n bytes) known given) (omega (arith, few))) [
+      | inl same ↦ same
+      | inr lost ↦ absurd (lost.1 sound)
+    ]

@@ -17,3 +17,4 @@ pub mod Rooms
 pub mod Reading
 pub mod Appending
 pub mod Lending
+pub mod Owning

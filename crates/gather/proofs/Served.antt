@@ -1,8 +1,6 @@
 -- The slices of a blob with the root, for which the store has room.
-use Rattle.gather.proofs.Common.{◌≡◌, ℕ, ◌+◌, ◌-◌, ◌/◌, ◌^◌, ◌<◌, ◌≤◌, List, length, true, is_some, IsSome, Option, None, Some, refl, sym, subst, arith, option_map, IsKeyed, IsAccepted, places_of, slice_nodes, chunk_in, chunk_place, chunk_in-place, slice_present, claimed-chosen_text, slice_accepted, chunk_count, of_slice, slice_end, slice_start, nodes, slice_text, Fixed, has_room_of, IsBlob, EndsBlob, holds_chunk, length_of, places_in}
-use Rattle.gather.specs.declared.grain.Grain.{Grain}
-use Rattle.gather.specs.declared.grain.Grain.TheVariants.{Group as ByGroup, Chunk as ByChunk}
-use Rattle.gather.specs.Available.{IsAskedBy, IsServed, slice_of}
+use Rattle.gather.proofs.Common.{◌≡◌, ℕ, ◌+◌, ◌-◌, ◌*◌, ◌/◌, ◌^◌, ◌<◌, ◌≤◌, List, length, true, is_some, IsSome, Option, None, Some, refl, sym, subst, arith, option_map, IsKeyed, IsAccepted, places_of, slice_nodes, chunk_in, chunk_place, chunk_in-place, slice_present, claimed-chosen_text, slice_accepted, chunk_count, of_slice, slice_end, slice_start, nodes, slice_text, Fixed, has_room_of, IsBlob, EndsBlob, holds_chunk, length_of, places_in}
+use Rattle.gather.specs.Available.{IsServed, slice_of}
 
 some_mapped : {X Y : Type 0} (f : X → Y) (o : Option X) → IsSome o → IsSome (option_map f o)
 some_mapped f None is = is
@@ -20,11 +18,11 @@ module _ (fixed : Fixed) (blob : List ℕ) (short : length blob < 2 ^ 64) where
       let placed = subst (λ (total : ℕ). IsSome (chunk_place (places_of (nodes total start len)) c)) (sym (long start len)) there in
       subst (λ (o : Option (List ℕ)). IsSome o) (sym (chunk_in-place text (places_of (slice_nodes text start len)) c)) (some_mapped _ _ placed)
 
-  last_there : EndsBlob (slice_of fixed blob (2 ^ 64 - 1) 1)
-  last_there =
+  last_there : (start len : ℕ) → length blob ≤ start + len → EndsBlob (slice_of fixed blob start len)
+  last_there start len reaches =
       let n = length blob in
-      subst (λ (total : ℕ). is_some (chunk_in (slice_text fixed.mode blob (2 ^ 64 - 1) 1) (places_in (slice_of fixed blob (2 ^ 64 - 1) 1)) (chunk_count total - 1)) ≡ true) (sym (long (2 ^ 64 - 1) 1))
-      (present (2 ^ 64 - 1) 1 (chunk_count n - 1) (omega (arith, short)) (omega (arith, short)))
+      subst (λ (total : ℕ). is_some (chunk_in (slice_text fixed.mode blob start len) (places_in (slice_of fixed blob start len)) (chunk_count total - 1)) ≡ true) (sym (long start len))
+      (present start len (chunk_count n - 1) (omega (arith, short)) (omega (arith, short, reaches)))
 
   -- the chunk of a store that begins with the blob's first chunk
   counted : (start len c : ℕ) → fixed.base ≡ 0 → is_some (chunk_in (slice_text fixed.mode blob start len) (places_in (slice_of fixed blob start len)) c) ≡ true
@@ -33,9 +31,8 @@ module _ (fixed : Fixed) (blob : List ℕ) (short : length blob < 2 ^ 64) where
       let at : c ≡ fixed.base + c = omega (arith, first) in
       subst (λ (n : ℕ). is_some (chunk_in (slice_text fixed.mode blob start len) (places_in (slice_of fixed blob start len)) n) ≡ true) at there
 
-  asked_there : (grain : Grain) (c start len : ℕ) → fixed.base ≡ 0 → c < chunk_count (length blob) → IsAskedBy grain c start len → holds_chunk (slice_of fixed blob start len) c ≡ true
-  asked_there ByGroup c start len first below asked = counted start len c first (present start len c (omega (arith, asked.0, below)) (omega (arith, asked.0, asked.1, below)))
-  asked_there ByChunk c start len first below asked = counted start len c first (present start len c (omega (arith, asked.0, below)) (omega (arith, asked.0, asked.1, below)))
+  reached : (c start len : ℕ) → fixed.base ≡ 0 → c < chunk_count (length blob) → start ≤ 1024 * c → 1024 * c < start + len → holds_chunk (slice_of fixed blob start len) c ≡ true
+  reached c start len first below before after = counted start len c first (present start len c (omega (arith, before)) (omega (arith, below, before, after)))
 
 pub served : (fixed : Fixed) (blob : List ℕ) → IsKeyed fixed.mode → IsBlob fixed blob → fixed.base ≡ 0 → chunk_count (length blob) ≤ fixed.capacity → fixed.capacity ≤ 65536
     → IsServed fixed blob
@@ -50,5 +47,5 @@ served fixed blob keyed is first room limit =
           (slice_accepted fixed.mode blob start len keyed short);
       claims = long fixed blob short;
       ends = last_there fixed blob short;
-      holds = λ grain c start len below asked. asked_there fixed blob short grain c start len first below asked;
+      holds = λ c start len below before after. reached fixed blob short c start len first below before after;
     }

@@ -31,9 +31,9 @@ is_of fixed known it start len text same is = record {
   mode = is.mode_is ∙ ap (λ (f : Fixed). f.mode) same;
 }
 
--- the slice of the last byte has the last chunk
-pub holds_last : (fixed : Fixed) (it : Checked) (blob : List ℕ) → IsServed fixed blob → piece_of fixed.base it ≡ slice_of fixed blob (2 ^ 64 - 1) 1 → HoldsLast it
-holds_last fixed it blob served is = subst (λ (piece : Piece). EndsBlob piece) (sym is) served.ends
+-- a slice that reaches the end has the last chunk
+pub holds_last : (fixed : Fixed) (it : Checked) (blob : List ℕ) (start len : ℕ) → IsServed fixed blob → length blob ≤ start + len → piece_of fixed.base it ≡ slice_of fixed blob start len → HoldsLast it
+holds_last fixed it blob start len served reaches is = subst (λ (piece : Piece). EndsBlob piece) (sym is) (served.ends start len reaches)
 
 -- and its length is never too large
 pub never_large : (fixed : Fixed) (piece : Piece) (blob : List ℕ) (start len : ℕ) → IsServed fixed blob → piece ≡ slice_of fixed blob start len → EndsTooFar fixed piece → ⊥
@@ -119,13 +119,6 @@ pub later_slice : {H : Type 0} (gives : H → ℕ → ℕ → List ℕ → Type 
 later_slice gives mode blob start len old new later has =
     let then = later.each has.place has.holder has.there in
     record { place = has.place; holder = then.0; there = then.1; gives_slice = λ text is. has.gives_slice text (then.2 start len text is) }
-
-pub later_slices : {H : Type 0} (grain : Grain) (gives : H → ℕ → ℕ → List ℕ → Type 0) (mode : Mode) (blob : List ℕ) (old new : List H) → AreLater gives old new
-    → HaveSlices grain gives mode blob old → HaveSlices grain gives mode blob new
-later_slices grain gives mode blob old new later have = record {
-  end = later_slice gives mode blob (2 ^ 64 - 1) 1 old new later have.end;
-  each = λ c start len below asked. later_slice gives mode blob start len old new later (have.each c start len below asked);
-}
 
 -- one that gives nothing but the slices of a blob gives each
 true_slice : {H : Type 0} (gives : H → ℕ → ℕ → List ℕ → Type 0) (mode : Mode) (blob : List ℕ) (start len : ℕ) (holders : List H) → HasTrue gives mode blob holders

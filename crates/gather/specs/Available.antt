@@ -1,5 +1,5 @@
 -- What comes of a holder that gives the slices of one blob alone.
-use Rattle.std.specs.Prelude.{◌≡◌, ◌≢◌, ◌⊎◌, ℕ, ◌*◌, ◌/◌, ◌%◌, ◌^◌, ◌-◌, ◌<◌, ◌≤◌, Bool, true, false, List, length, Some, slice_get}
+use Rattle.std.specs.Prelude.{◌≡◌, ◌≢◌, ◌⊎◌, ℕ, ◌+◌, ◌*◌, ◌/◌, ◌%◌, ◌^◌, ◌-◌, ◌<◌, ◌≤◌, Bool, true, false, List, length, Some, slice_get}
 use Rattle.b3tree.specs.declared.mode.Mode.{Mode}
 use Rattle.bao_check.specs.Accepted.{IsAccepted, slice_nodes}
 use Rattle.bao_text.specs.Choice.{chunk_count}
@@ -30,8 +30,8 @@ pub record IsServed (fixed : Fixed) (blob : List ℕ) : Type 0 where
   pub few : chunk_count (length blob) ≤ 65536
   pub accepted : (start len : ℕ) → IsAccepted fixed.mode fixed.root.0 (slice_text fixed.mode blob start len) (slice_nodes (slice_text fixed.mode blob start len) start len)
   pub claims : (start len : ℕ) → length_of (slice_of fixed blob start len) ≡ length blob
-  pub ends : EndsBlob (slice_of fixed blob (2 ^ 64 - 1) 1)
-  pub holds : (grain : Grain) (c start len : ℕ) → c < chunk_count (length blob) → IsAskedBy grain c start len → holds_chunk (slice_of fixed blob start len) c ≡ true
+  pub ends : (start len : ℕ) → length blob ≤ start + len → EndsBlob (slice_of fixed blob start len)
+  pub holds : (c start len : ℕ) → c < chunk_count (length blob) → start ≤ 1024 * c → 1024 * c < start + len → holds_chunk (slice_of fixed blob start len) c ≡ true
 
 -- what a holder gives as the slice (start, len) is the blob's
 abbrev pub GivesSlice : {H : Type 0} → (H → ℕ → ℕ → List ℕ → Type 0) → Mode → List ℕ → ℕ → ℕ → H → Type 0

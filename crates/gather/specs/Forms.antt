@@ -1,5 +1,6 @@
 -- What a worker asks its holders for, and what it makes of what they give.
 use Rattle.std.specs.Prelude.{◌≡◌, ◌↔◌, ℕ, ◌+◌, ◌-◌, ◌*◌, ◌/◌, ◌^◌, ◌<◌, max, min, List, IfOk, IsOk, Result}
+use Rattle.b3tree.specs.declared.mode.Mode.{Mode}
 use Rattle.bao_check.specs.declared.checked.Checked.{Checked}
 use Rattle.bao_check.specs.declared.fault.CheckFault.{CheckFault}
 use Rattle.bao_check.specs.declared.outline.Outline.{Outline}
@@ -7,7 +8,7 @@ use Rattle.bao_check.specs.Accepted.{IsAccepted, slice_nodes}
 use Rattle.bao_check.specs.Bare.{bare_part}
 use Rattle.bao_check.specs.Beside.{bare_len, beside_text}
 use Rattle.bao_check.specs.Checked.{IsPiece}
-use Rattle.bao_check.specs.Outline.{outline_claimed, outline_text}
+use Rattle.bao_check.specs.Outline.{outline_claimed, outline_mode, outline_root, outline_text}
 use Rattle.bao_text.specs.Choice.{chunk_count}
 use Rattle.gather.specs.declared.form.Form.{Form}
 use Rattle.gather.specs.declared.form.Form.TheVariants.{Slices, Bare}
@@ -80,9 +81,27 @@ IsMade Slices part text piece = (piece.start ≡ part.start) × (piece.len ≡ p
 IsMade (Bare outline) part text piece =
     (piece.start ≡ part.start) × (part.len ≡ bare_len (outline_claimed outline.now) piece.start piece.len) × (piece.text ≡ beside_text (outline_text outline.now) piece.start piece.len text)
 
--- a slice is accepted exactly where it should be under the store's root and in its mode
+-- How many bytes the slice has that is checked for a part, and its text. What plain copies give is checked as whole chunks,
+-- with the outline's parents.
+abbrev pub checked_len : Form → Part → ℕ
+checked_len Slices part = part.len
+checked_len (Bare outline) part = bare_part (chunks_of_part part)
+
+abbrev pub checked_text : Form → Part → List ℕ → List ℕ
+checked_text Slices part text = text
+checked_text (Bare outline) part text = beside_text (outline_text outline.now) part.start (bare_part (chunks_of_part part)) text
+
+-- in which mode and under which root: those of the store, or of the outline
+abbrev pub form_mode : Form → Fixed → Mode
+form_mode Slices fixed = fixed.mode
+form_mode (Bare outline) fixed = outline_mode outline.now
+
+abbrev pub form_root : Form → Fixed → List ℕ
+form_root Slices fixed = fixed.root.0
+form_root (Bare outline) fixed = outline_root outline.now
+
+-- the slice is accepted exactly where it should be
 abbrev pub IsSliceCheck : Form → Fixed → Part → List ℕ → Result Checked CheckFault → Type 0
-IsSliceCheck Slices fixed part text result =
-    (IsOk result ↔ IsAccepted fixed.mode fixed.root.0 text (slice_nodes text part.start part.len))
-    × IfOk result (λ piece. IsPiece piece fixed.mode fixed.root.0 part.start part.len text)
-IsSliceCheck (Bare outline) fixed part text result = Unit {0}
+IsSliceCheck form fixed part text result =
+    (IsOk result ↔ IsAccepted (form_mode form fixed) (form_root form fixed) (checked_text form part text) (slice_nodes (checked_text form part text) part.start (checked_len form part)))
+    × IfOk result (λ piece. IsPiece piece (form_mode form fixed) (form_root form fixed) part.start (checked_len form part) (checked_text form part text))

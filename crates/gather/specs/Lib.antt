@@ -17,3 +17,4 @@ pub mod Working
 pub mod Lasting
 pub mod Finished
 pub mod Lists
+pub mod Parts

@@ -9,9 +9,9 @@ use Rattle.gather.specs.declared.form.Form.{Form}
 use Rattle.gather.specs.declared.form.Form.TheVariants.{Slices, Bare}
 use Rattle.gather.specs.declared.sources.CopyAt.{CopyAt}
 use Rattle.gather.specs.declared.sources.SourceAt.{SourceAt}
-use Rattle.gather.specs.Available.{HaveSlices}
 use Rattle.gather.specs.Forms.{IsMadeBeside}
 use Rattle.gather.specs.Holders.{IsHanded}
+use Rattle.gather.specs.Parts.{HaveParts}
 use Rattle.gather.specs.Places.{IsCutAt, IsPartAt}
 use Rattle.store_core.specs.declared.history.Piece.{Piece}
 
@@ -21,9 +21,9 @@ pub record IsLent {H : Type 0} (gives : H → ℕ → ℕ → List ℕ → Type 
   pub are : over holders
   pub handed : IsHanded gives holders piece
 
--- in each such list the blob's slices are given that its chunks are asked for by, where a store may have room for it
-abbrev pub HaveAll : {H : Type 0} → Grain → (H → ℕ → ℕ → List ℕ → Type 0) → (List H → Type 0) → Mode → List ℕ → Type 0
-HaveAll grain gives over mode blob = (holders : _) → over holders → chunk_count (length blob) ≤ 65536 → HaveSlices grain gives mode blob holders
+-- in each such list what makes the blob's slices is given that its chunks are asked for by, where a store may have room for it
+abbrev pub HaveAll : {H : Type 0} → Form → Grain → (H → ℕ → ℕ → List ℕ → Type 0) → (List H → Type 0) → Mode → List ℕ → Type 0
+HaveAll form grain gives over mode blob = (holders : _) → over holders → chunk_count (length blob) ≤ 65536 → HaveParts form grain gives mode blob holders
 
 -- the source that a holder is over
 abbrev pub source_of : {S : Type 0} → SourceAt S → S

@@ -4,6 +4,7 @@ ghost use Rattle.gather.specs.Claims.{Among};
 ghost use Rattle.gather.specs.Counts.{HasFailed, Reports};
 ghost use Rattle.gather.specs.declared.grain.Grain.TheVariants.{Chunk as ByChunk};
 ghost use Rattle.gather.specs.Forms.{AreSlices, made_of};
+ghost use Rattle.gather.specs.Parts.{HaveParts, IsFor};
 ghost use Rattle.gather.specs.Holders.{AreLater, IsHanded};
 ghost use Rattle.gather.specs.Large.{IsTooLarge};
 
@@ -28,6 +29,8 @@ use store_core::{MAX_CAPACITY, with_bit};
 /// It is enough that, of a blob with the root for which the store has room, one of the holders gives the slice of the last
 /// byte, and for each of its chunks one gives the chunk's slice, whatever they give as other slices, as with
 /// [`run_one`](crate::run_one).
+/// Beside an outboard encoding that claims the blob's length, of at least one byte, the same is enough of what its parents and a
+/// holder's bytes make together, the last chunk in the place of the last byte.
 ///
 /// It refuses nothing. The report goes on from what it was, as with [`work`](crate::work).
 pub fn salvage<S: Shelf, H: Holder>(
@@ -44,6 +47,8 @@ pub fn salvage<S: Shelf, H: Holder>(
     ensures later { AreLater (made_of form.now H.gives) holders.old holders.new }
     ensures claims { Among (S.claims seat.old) (S.claims seat.new) }
     ensures served { AreSlices form.now → (blob : List ℕ) → IsServed (S.fixed_of seat.old) blob → HaveSlices ByChunk (made_of form.now H.gives) (S.fixed_of seat.old).mode blob holders.old
+        → HasFailed report.new ⊎ IsTooLarge (IsHanded (made_of form.now H.gives) holders.old) (S.fixed_of seat.old) ⊎ IsFilled S.records S.holds S.busy seat.old seat.new blob }
+    ensures parts { (blob : List ℕ) → IsFor form.now (S.fixed_of seat.old) blob → IsServed (S.fixed_of seat.old) blob → HaveParts form.now ByChunk H.gives (S.fixed_of seat.old).mode blob holders.old
         → HasFailed report.new ⊎ IsTooLarge (IsHanded (made_of form.now H.gives) holders.old) (S.fixed_of seat.old) ⊎ IsFilled S.records S.holds S.busy seat.old seat.new blob }
 {
     report.fits();

@@ -1,10 +1,11 @@
-ghost use Rattle.std.specs.Prelude.{IfSome, IsSome, IsTrue, List, length, true, false, ◌⊎◌, ◌≡◌, ℕ, ◌-◌, ◌*◌, ◌^◌, ◌<◌, ◌≤◌, [], Bool, IfNone, nat_lt, sum_by};
+ghost use Rattle.std.specs.Prelude.{IfSome, IsTrue, List, length, true, false, ◌⊎◌, ◌≡◌, ℕ, ◌-◌, ◌*◌, ◌<◌, ◌≤◌, [], Bool, IfNone, nat_lt, sum_by};
 ghost use Rattle.gather.specs.Claims.{Among, AmongAnd};
 ghost use Rattle.bao_text.specs.Choice.{chunk_count};
 ghost use Rattle.store_core.specs.Masks.{in_mask};
 ghost use Rattle.gather.specs.Available.{GivesSlice, HasSlice, HaveSlices, IsFilled, IsServed, IsWanted, slice_of};
 ghost use Rattle.gather.specs.declared.grain.Grain.TheVariants.{Group as ByGroup};
-ghost use Rattle.gather.specs.Forms.{AreSlices, IsLengthOf, IsPart, made_of};
+ghost use Rattle.gather.specs.Forms.{AreSlices, IsLengthOf, IsPart, checked_len, made_of};
+ghost use Rattle.gather.specs.Parts.{HaveParts, IsAgreed, IsEndIn, IsFor};
 ghost use Rattle.store_core.specs.Pieces.{holds_chunk};
 ghost use Rattle.gather.specs.Counts.{HasFailed, Reports};
 ghost use Rattle.gather.specs.Large.{IsTooLarge};
@@ -45,7 +46,8 @@ fn ask_end<S: Shelf, H: Holder>(
     ensures reports { Reports S.fixed_of S.gained seat.old seat.new (IsGiven (made_of form.now H.gives) holder.old) (IsGiven (made_of form.now H.gives) holder.new) (H.count holder.old) (H.count holder.new) report.old report.new }
     ensures no_more { GivesNoMore (made_of form.now H.gives) holder.old holder.new }
     ensures claims { Among (S.claims seat.old) (S.claims seat.new) }
-    ensures agreed { AreSlices form.now → (blob : List ℕ) → IsServed (S.fixed_of seat.old) blob → GivesSlice (made_of form.now H.gives) (S.fixed_of seat.old).mode blob (2 ^ 64 - 1) 1 holder.old
+    ensures agreed { (blob : List ℕ) (start len : ℕ) → IsFor form.now (S.fixed_of seat.old) blob → IsServed (S.fixed_of seat.old) blob → IsEndIn form.now start len
+        → GivesSlice (made_of form.now H.gives) (S.fixed_of seat.old).mode blob start len holder.old
         → HasFailed report.new ⊎ ((l : ℕ) × S.records seat.new l) }
     ensures large { IsTrue result → IsTooLarge (IsGiven (made_of form.now H.gives) holder.old) (S.fixed_of seat.old) }
 {
@@ -102,8 +104,9 @@ pub(crate) fn agree<S: Shelf, H: Holder>(
     ensures claims { Among (S.claims seat.old) (S.claims seat.new) }
     ensures records { IfSome result (λ l. S.records seat.new l) }
     ensures of { IfSome result (λ l. IsLengthOf form.now l) }
-    ensures agreed { AreSlices form.now → (blob : List ℕ) → IsServed (S.fixed_of seat.old) blob → HasSlice (made_of form.now H.gives) (S.fixed_of seat.old).mode blob (2 ^ 64 - 1) 1 holders.old
-        → HasFailed report.new ⊎ IsTooLarge (IsHanded (made_of form.now H.gives) holders.old) (S.fixed_of seat.old) ⊎ IsSome result }
+    ensures agreed { (blob : List ℕ) (start len : ℕ) → IsFor form.now (S.fixed_of seat.old) blob → IsServed (S.fixed_of seat.old) blob → IsEndIn form.now start len
+        → HasSlice (made_of form.now H.gives) (S.fixed_of seat.old).mode blob start len holders.old
+        → HasFailed report.new ⊎ IsTooLarge (IsHanded (made_of form.now H.gives) holders.old) (S.fixed_of seat.old) ⊎ IsAgreed S.records form.now result seat.new }
 {
     report.fits();
     let mut length = shelf.length(seat);
@@ -145,8 +148,9 @@ fn ask<S: Shelf, H: Holder>(
     ensures fewer { (c : ℕ) → in_mask group result c ≡ true → in_mask group left c ≡ true }
     ensures kept { (c : ℕ) → in_mask group left c ≡ true → S.claims seat.old c ≡ true
         → ((in_mask group result c ≡ true) × (S.claims seat.new c ≡ true)) ⊎ ((in_mask group result c ≡ false) × S.holds seat.new c) }
-    ensures served { AreSlices form.now → (blob : List ℕ) → IsServed (S.fixed_of seat.old) blob → GivesSlice (made_of form.now H.gives) (S.fixed_of seat.old).mode blob part.now.start part.now.len holder.old
-        → ((c : ℕ) → in_mask group left c ≡ true → (S.claims seat.old c ≡ true) × (holds_chunk (slice_of (S.fixed_of seat.old) blob part.now.start part.now.len) c ≡ true))
+    ensures served { (blob : List ℕ) → IsFor form.now (S.fixed_of seat.old) blob → IsServed (S.fixed_of seat.old) blob
+        → GivesSlice (made_of form.now H.gives) (S.fixed_of seat.old).mode blob part.now.start (checked_len form.now part.now) holder.old
+        → ((c : ℕ) → in_mask group left c ≡ true → (S.claims seat.old c ≡ true) × (holds_chunk (slice_of (S.fixed_of seat.old) blob part.now.start (checked_len form.now part.now)) c ≡ true))
         → HasFailed report.new ⊎ ((c : ℕ) → in_mask group result c ≡ false) }
 {
     report.fits();
@@ -203,8 +207,9 @@ pub(crate) fn work_part<S: Shelf, H: Holder>(
     ensures reports { Reports S.fixed_of S.gained seat.old seat.new (IsHanded (made_of form.now H.gives) holders.old) (IsHanded (made_of form.now H.gives) holders.new) (sum_by H.count holders.old) (sum_by H.count holders.new) report.old report.new }
     ensures later { AreLater (made_of form.now H.gives) holders.old holders.new }
     ensures claims { Among (S.claims seat.old) (S.claims seat.new) }
-    ensures served { AreSlices form.now → (blob : List ℕ) → IsServed (S.fixed_of seat.old) blob → HasSlice (made_of form.now H.gives) (S.fixed_of seat.old).mode blob part.now.start part.now.len holders.old
-        → ((c : ℕ) → IsWanted group want c → (c < chunk_count (length blob)) × (holds_chunk (slice_of (S.fixed_of seat.old) blob part.now.start part.now.len) c ≡ true))
+    ensures served { (blob : List ℕ) → IsFor form.now (S.fixed_of seat.old) blob → IsServed (S.fixed_of seat.old) blob
+        → HasSlice (made_of form.now H.gives) (S.fixed_of seat.old).mode blob part.now.start (checked_len form.now part.now) holders.old
+        → ((c : ℕ) → IsWanted group want c → (c < chunk_count (length blob)) × (holds_chunk (slice_of (S.fixed_of seat.old) blob part.now.start (checked_len form.now part.now)) c ≡ true))
         → HasFailed report.new ⊎ ((c : ℕ) → IsWanted group want c → S.holds seat.new c ⊎ S.busy seat.old c) }
 {
     report.fits();
@@ -271,6 +276,10 @@ pub fn work<S: Shelf, H: Holder>(
 /// length other than L, at first or after asking.
 ///
 /// What the holders hand over are the slices that the outboard encoding's parents and their bytes make together.
+///
+/// Of a blob of at least one byte, of which the outboard encoding claims the length, it is enough that what one of the holders
+/// gives of the last chunk makes its slice with the outboard encoding's parents, and so of one for each group of the blob's
+/// chunks, whatever they give as other parts, as with [`run_one`](crate::run_one).
 pub fn work_as<S: Shelf, H: Holder>(
     alloc: Global,
     form: &Form<'_>,
@@ -287,6 +296,8 @@ pub fn work_as<S: Shelf, H: Holder>(
     ensures later { AreLater (made_of form.now H.gives) holders.old holders.new }
     ensures claims { Among (S.claims seat.old) (S.claims seat.new) }
     ensures served { AreSlices form.now → (blob : List ℕ) → IsServed (S.fixed_of seat.old) blob → HaveSlices ByGroup (made_of form.now H.gives) (S.fixed_of seat.old).mode blob holders.old
+        → HasFailed report.new ⊎ IsTooLarge (IsHanded (made_of form.now H.gives) holders.old) (S.fixed_of seat.old) ⊎ IsFilled S.records S.holds S.busy seat.old seat.new blob }
+    ensures parts { (blob : List ℕ) → IsFor form.now (S.fixed_of seat.old) blob → IsServed (S.fixed_of seat.old) blob → HaveParts form.now ByGroup H.gives (S.fixed_of seat.old).mode blob holders.old
         → HasFailed report.new ⊎ IsTooLarge (IsHanded (made_of form.now H.gives) holders.old) (S.fixed_of seat.old) ⊎ IsFilled S.records S.holds S.busy seat.old seat.new blob }
 {
     report.fits();

@@ -15,7 +15,7 @@ use Rattle.store_core.specs.Machine.{groups}
 use Rattle.store_core.specs.Pieces.{length_of}
 use Rattle.store_core.specs.States.{State, empty}
 use Rattle.store_core.proofs.Lasting.{run-append}
-use Rattle.store_core.proofs.ServingLaws.{parent_held_binds}
+use Rattle.store_core.proofs.ServingLaws.{held_parent_binds}
 use Rattle.store_steps.specs.Asks.{AreParentsWritten}
 use Rattle.store_steps.specs.Grips.{Gripped}
 use Rattle.store_steps.specs.Slices.{is_recorded, unstored_events}
@@ -29,7 +29,7 @@ use Rattle.store_calls.specs.Parents.{AreParentsOf, HaveParentWords, SeatParents
 -- what the seat has seen held is the blob's
 pub parents_bind : (words : Words) (grip : Gripped) → IsKeyed (fixed_of words).mode → IsGripOf words grip → SeatParentsBind grip.view
 parents_bind words grip keyed of blob is m bytes held =
-    parent_held_binds grip.view.fixed grip.view.seen blob m bytes (subst (λ (f : Fixed). IsKeyed f.mode) (sym of.knows.fixed_is) keyed) is of.knows.legal held
+    held_parent_binds grip.view.fixed grip.view.seen blob m bytes (subst (λ (f : Fixed). IsKeyed f.mode) (sym of.knows.fixed_is) keyed) is of.knows.legal held
 
 from_not : (b : Bool) → not b ≡ true → b ≡ false
 from_not true h = let never : false ≡ true = h in cc

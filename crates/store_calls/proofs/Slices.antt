@@ -32,11 +32,12 @@ use Rattle.store_core.specs.Views.{names_of as calls_as}
 use Rattle.store_core.proofs.Lasting.{held_from, legal-append, legal_is_sound, recorded_from, run-append}
 use Rattle.store_core.proofs.HasRoom.{recorded_fits}
 use Rattle.store_core.proofs.ParentOrigins.{parents_from}
-use Rattle.store_core.proofs.ServingLaws.{served_binds}
+use Rattle.store_core.proofs.Accepting.{served_accepted}
+use Rattle.store_core.proofs.ServingLaws.{served_nodes_bind}
 use Rattle.store_steps.specs.Slices.{node_events, node_number, unserved_events}
 use Rattle.store_core.specs.Knowledge.{Called, GoesOn, Looked, Sees, event_of}
 use Rattle.store_core.proofs.Going.{LeavesClaims, called_then, looked_state, sees_none, sees_then}
-use Rattle.store_calls.specs.Serving.{SeatSliceBinds}
+use Rattle.store_calls.specs.Serving.{SeatSliceBinds, SeatSliceIsAccepted}
 
 -- what the one state holds of nodes the other holds too, and it has the same length recorded
 pub record Keeps (s t : State) : Type 0 where
@@ -271,9 +272,9 @@ names_below fixed history l start len legal some capacity =
           rw parent (omega (arith, high, fits))
     ]))
 
--- What was served is a blob's slice, or a collision is exhibited.
-pub serve_binds : (first new : SeatView) (start len : ℕ) (text : List ℕ) → IsKeyed new.fixed.mode → Called (Serve start len (Text text)) first new → SeatSliceBinds new start len text
-serve_binds first new start len text keyed called blob is =
+-- an encoding that was served is served by what the seat has seen
+still_served : (first new : SeatView) (start len : ℕ) (text : List ℕ) → Called (Serve start len (Text text)) first new → serving (state_after new.seen) start len ≡ Text text
+still_served first new start len text called =
     let call : Call = Serve start len (Text text) in
     let on : GoesOn first new called.between (event_of first call ∷ []) = called.goes_on in
     let s : State = state_after (first.seen ++ called.between) in
@@ -283,4 +284,14 @@ serve_binds first new start len text keyed called blob is =
     (legal-append new.fixed empty (first.seen ++ called.between) (event_of first call ∷ [])
     (subst (λ (h : List Event). IsLegal new.fixed h) on.seen_is on.legal)).1.0 in
     let answer : Text text ≡ serving s start len = right in
-    served_binds new.fixed new.seen blob start len text keyed is on.legal (ap (λ (t : State). serving t start len) state ∙ sym answer)
+    ap (λ (t : State). serving t start len) state ∙ sym answer
+
+-- What was served is a blob's slice, or a collision is exhibited.
+pub serve_binds : (first new : SeatView) (start len : ℕ) (text : List ℕ) → IsKeyed new.fixed.mode → Called (Serve start len (Text text)) first new → SeatSliceBinds new start len text
+serve_binds first new start len text keyed called blob is =
+    served_nodes_bind new.fixed new.seen blob start len text keyed is called.goes_on.legal (still_served first new start len text called)
+
+-- It is accepted, or two pieces clash.
+pub serve_accepted : (first new : SeatView) (start len : ℕ) (text : List ℕ) → Called (Serve start len (Text text)) first new → SeatSliceIsAccepted new start len text
+serve_accepted first new start len text called =
+    served_accepted new.fixed new.seen start len text called.goes_on.legal (still_served first new start len text called)

@@ -1,6 +1,7 @@
 -- Parents on the way: which words a seat stored since a view, where nothing else of what it knows changed. And what those
 -- are that it has seen held.
 use Rattle.std.specs.Prelude.{◌≡◌, ◌≢◌, ◌⊎◌, ℕ, ◌+◌, ◌*◌, ◌/◌, ◌%◌, ◌<◌, true, not, ◌&&◌, List, Some, is_some}
+use Rattle.bao_text.specs.declared.walk.Node.TheVariants.{Parent}
 use Rattle.bao_check.specs.Parents.{parent_of}
 use Rattle.store_core.specs.declared.fixed.Fixed.{Fixed}
 use Rattle.store_core.specs.declared.history.Piece.{Piece}
@@ -8,7 +9,7 @@ use Rattle.store_core.specs.declared.history.Storing.{Storing}
 use Rattle.store_core.specs.declared.history.Storing.TheVariants.{OtherLength, Stored}
 use Rattle.store_core.specs.declared.view.SeatView.{SeatView}
 use Rattle.store_core.specs.Histories.{state_after}
-use Rattle.store_core.specs.Laws.{IsBlob, CollisionFrom}
+use Rattle.store_core.specs.Laws.{IsBlob, CollisionOf}
 use Rattle.store_core.specs.Masks.{IsMaskOf, in_mask}
 use Rattle.store_core.specs.Pieces.{holds_parent, parent_bytes}
 use Rattle.store_core.specs.Views.{stored}
@@ -38,7 +39,7 @@ AreAllParents view group piece OtherLength = Unit {0}
 AreAllParents view group piece (Stored mask) = IsMaskOf group mask (λ m. holds_parent piece m && not (is_some ((state_after view.seen).parents m)))
 
 -- For each blob with the store's root: each parent that the seat has seen held is the blob's at that boundary, or a collision
--- is exhibited from the blob and a piece of what it has seen.
+-- is exhibited from the blob and a piece, in what it has seen, that this parent or the length is of.
 abbrev pub SeatParentsBind : SeatView → Type 0
 SeatParentsBind view = (blob : List ℕ) → IsBlob view.fixed blob → (m : ℕ) (bytes : List ℕ) → (state_after view.seen).parents m ≡ Some bytes
-    → (parent_of view.fixed.mode blob m ≡ Some bytes) ⊎ CollisionFrom view.fixed view.seen blob
+    → (parent_of view.fixed.mode blob m ≡ Some bytes) ⊎ CollisionOf view.fixed view.seen blob (λ node. node ≡ Parent m)

@@ -3,13 +3,15 @@ use Rattle.std.specs.Prelude.{◌≡◌, ◌⊎◌, ℕ, List}
 use Rattle.bao_text.specs.declared.walk.Node.{Node}
 use Rattle.bao_text.specs.declared.walk.Node.TheVariants.{Chunk, Parent}
 use Rattle.bao_text.specs.Texts.{slice_text}
+use Rattle.bao_check.specs.Accepted.{IsAccepted, slice_nodes}
 use Rattle.store_core.specs.declared.fault.ServeFault.{ServeFault}
 use Rattle.store_core.specs.declared.fault.ServeFault.TheVariants as refused
 use Rattle.store_core.specs.declared.history.Call.TheVariants.{Serve}
 use Rattle.store_core.specs.declared.history.Serving.TheVariants.{Lacking, NoLength}
 use Rattle.store_core.specs.declared.view.SeatView.{SeatView}
-use Rattle.store_core.specs.Laws.{IsBlob, CollisionFrom}
+use Rattle.store_core.specs.Histories.{state_after}
 use Rattle.store_core.specs.Knowledge.{Called, Sees}
+use Rattle.store_core.specs.Laws.{IsBlob, IsServed, CollisionOf, PiecesClash}
 
 -- how many bytes a node has at most
 abbrev pub room_of : Node → ℕ
@@ -23,8 +25,13 @@ SeatIsRefused start len refused.NoLength old new = Called (Serve start len NoLen
 SeatIsRefused start len (refused.Lacking node) old new = Called (Serve start len (Lacking node)) old new
 SeatIsRefused start len refused.Memory old new = Sees old new
 
--- For each blob with the store's root an encoding that is served is the blob's slice, or a collision is exhibited from the blob and a piece
--- that a call, in what the seat has seen, committed, settled or stored parents of.
+-- For each blob with the store's root an encoding that is served is the blob's slice, or a collision is exhibited from the blob and a piece,
+-- in what the seat has seen, that a node of the slice or the length is of.
 abbrev pub SeatSliceBinds : SeatView → ℕ → ℕ → List ℕ → Type 0
 SeatSliceBinds view start len text =
-    (blob : List ℕ) → IsBlob view.fixed blob → (text ≡ slice_text view.fixed.mode blob start len) ⊎ CollisionFrom view.fixed view.seen blob
+    (blob : List ℕ) → IsBlob view.fixed blob → (text ≡ slice_text view.fixed.mode blob start len) ⊎ CollisionOf view.fixed view.seen blob (IsServed (state_after view.seen) start len)
+
+-- It is accepted under the store's root, be it a blob's hash or not; or two such pieces clash.
+abbrev pub SeatSliceIsAccepted : SeatView → ℕ → ℕ → List ℕ → Type 0
+SeatSliceIsAccepted view start len text =
+    IsAccepted view.fixed.mode view.fixed.root.0 text (slice_nodes text start len) ⊎ PiecesClash view.fixed view.seen (IsServed (state_after view.seen) start len)

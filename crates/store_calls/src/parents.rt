@@ -66,8 +66,7 @@ fn store_parents(words: &Words, grip: &mut Grip, group: u32, piece: &Checked<'_>
 /// it. It takes no memory.
 ///
 /// For each blob with the store's root, each parent that the grip has seen held is the blob's at that boundary; or
-/// a collision is exhibited, one input of the blob's and one of a piece's that the grip has seen
-/// committed or settled or whose parents it has seen stored.
+/// a collision is exhibited, one input of the blob's and one of the piece's that this parent or the recorded length is of.
 pub fn commit_parents(words: &Words, grip: &mut Grip, group: u32, piece: &Checked<'_>) -> Storing
     requires of { IsGripOf words.now grip.old }
     requires piece { IsOf (fixed_of words.now) piece.now }

@@ -1,7 +1,7 @@
 ghost use Rattle.std.specs.Prelude.{◌≡◌, IfErr, IfOk};
 ghost use Rattle.store_core.specs.declared.history.Call.TheVariants.{Serve};
 ghost use Rattle.store_core.specs.declared.history.Serving.TheVariants.{Text};
-ghost use Rattle.store_calls.specs.Serving.{SeatIsRefused, SeatSliceBinds};
+ghost use Rattle.store_calls.specs.Serving.{SeatIsRefused, SeatSliceBinds, SeatSliceIsAccepted};
 ghost use Rattle.store_core.specs.Knowledge.{Called};
 ghost use Rattle.store_steps.specs.Words.{IsGripOf};
 
@@ -22,7 +22,10 @@ use store_steps::{Grip, Words};
 /// only seen more. The grip claims what it claimed before, and all that it had seen it still has.
 ///
 /// For each blob with the store's root it is the blob's slice; or a collision is exhibited, one input
-/// of the blob's and one of a piece's that was committed, settled or stored parents of.
+/// of the blob's and one of the piece's that a node of this slice or the recorded length is of. Under any root, a blob's
+/// hash or not, it is accepted as this slice; or a chunk of it was committed of a piece that claims another length than
+/// that by which the length was settled, or at a parent of it a collision is exhibited, one input of the piece that the
+/// parent was stored of and one of another that a node of the slice or the length is of.
 pub fn serve_slice(
     alloc: Global,
     words: &Words,
@@ -36,6 +39,7 @@ pub fn serve_slice(
     ensures refused { IfErr result (λ fault. SeatIsRefused start len fault grip.old.view grip.new.view) }
     ensures storing { grip.new.view.storing ≡ grip.old.view.storing }
     ensures binds { IfOk result (λ text. SeatSliceBinds grip.new.view start len text.items) }
+    ensures accepted { IfOk result (λ text. SeatSliceIsAccepted grip.new.view start len text.items) }
 {
     // A law, so that the proof has what it says: nothing runs.
     words.fixed().mode.is_keyed();

@@ -5,10 +5,11 @@ use Rattle.std.proofs.Math.Logic.{∥∥₁_elim}
 use Rattle.b3tree.specs.Valid.{IsKeyed}
 use Rattle.store_core.specs.declared.fixed.Fixed.{Fixed}
 use Rattle.store_core.specs.declared.slot.Slot.{Slot}
-use Rattle.store_core.specs.Laws.{IsBlob, CollisionFrom}
+use Rattle.store_core.specs.Laws.{CollisionOf, IsBlob, IsServed, PiecesClash}
 use Rattle.store_core.specs.Reached.{IsReached}
 use Rattle.store_core.specs.Slots.{state_in, with_parents}
 use Rattle.store_core.specs.States.{State, byte_at}
+use Rattle.bao_check.specs.Accepted.{IsAccepted, slice_nodes}
 use Rattle.bao_check.specs.Parents.{parent_of}
 use Rattle.bao_check.proofs.Laws.{accepted_binds}
 use Rattle.store_core.specs.declared.history.Piece.{Piece}
@@ -16,9 +17,11 @@ use Rattle.bao_check.specs.Pieces.{chunk_of}
 use Rattle.store_core.specs.Pieces.{IsAcceptedPiece}
 use Rattle.store_core.specs.Stores.{ChunksBind, CollisionCommitted, CollisionSettled}
 use Rattle.store_core.proofs.Bound.{byte_binds, record_binds}
-use Rattle.store_core.proofs.ServingLaws.{parent_held_binds, served_binds}
+use Rattle.store_core.proofs.Accepting.{served_accepted}
+use Rattle.store_core.proofs.ServingLaws.{held_parent_binds, served_nodes_bind}
 use Rattle.store_core.specs.Serves.{serving}
 use Rattle.store_core.specs.declared.history.Serving.TheVariants.{Text}
+use Rattle.bao_text.specs.declared.walk.Node.TheVariants.{Parent}
 use Rattle.bao_text.specs.Texts.{slice_text}
 use Rattle.store_core.proofs.HasRoom.{base_recorded, recorded_fits}
 
@@ -64,11 +67,18 @@ piece_binds fixed piece group mask keyed accepted blob is c bytes hit has = elim
     ) [ inl same ↦ inl (subst (λ (n : ℕ). chunk_of blob (n + c) ≡ Some bytes) accepted.base same.0) | inr named ↦ inr named ]
 
 pub slice_binds : (fixed : Fixed) (s : State) (blob : List ℕ) (start len : ℕ) (text : List ℕ) → IsKeyed fixed.mode → IsBlob fixed blob → serving s start len ≡ Text text
-    → (by : IsReached fixed s) → (text ≡ slice_text fixed.mode blob start len) ⊎ CollisionFrom fixed by.history blob
+    → (by : IsReached fixed s) → (text ≡ slice_text fixed.mode blob start len) ⊎ CollisionOf fixed by.history blob (IsServed s start len)
 slice_binds fixed s blob start len text keyed is h r =
-    served_binds fixed r.history blob start len text keyed is r.legal (subst (λ (t : State). serving t start len ≡ Text text) (sym r.is) h)
+    subst (λ (t : State). (text ≡ slice_text fixed.mode blob start len) ⊎ CollisionOf fixed r.history blob (IsServed t start len)) r.is
+    (served_nodes_bind fixed r.history blob start len text keyed is r.legal (subst (λ (t : State). serving t start len ≡ Text text) (sym r.is) h))
+
+pub slice_accepted : (fixed : Fixed) (s : State) (start len : ℕ) (text : List ℕ) → serving s start len ≡ Text text → (by : IsReached fixed s)
+    → IsAccepted fixed.mode fixed.root.0 text (slice_nodes text start len) ⊎ PiecesClash fixed by.history (IsServed s start len)
+slice_accepted fixed s start len text h r =
+    subst (λ (t : State). IsAccepted fixed.mode fixed.root.0 text (slice_nodes text start len) ⊎ PiecesClash fixed r.history (IsServed t start len)) r.is
+    (served_accepted fixed r.history start len text r.legal (subst (λ (t : State). serving t start len ≡ Text text) (sym r.is) h))
 
 pub parents_bind : (fixed : Fixed) (s : State) (blob : List ℕ) → IsKeyed fixed.mode → IsBlob fixed blob → (by : IsReached fixed s) → (m : ℕ) (bytes : List ℕ) → s.parents m ≡ Some bytes
-    → (parent_of fixed.mode blob m ≡ Some bytes) ⊎ CollisionFrom fixed by.history blob
+    → (parent_of fixed.mode blob m ≡ Some bytes) ⊎ CollisionOf fixed by.history blob (λ node. node ≡ Parent m)
 parents_bind fixed s blob keyed is r m bytes h =
-    parent_held_binds fixed r.history blob m bytes keyed is r.legal (subst (λ (t : State). t.parents m ≡ Some bytes) (sym r.is) h)
+    held_parent_binds fixed r.history blob m bytes keyed is r.legal (subst (λ (t : State). t.parents m ≡ Some bytes) (sym r.is) h)

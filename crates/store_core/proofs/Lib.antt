@@ -29,6 +29,7 @@ pub mod Replaying
 pub mod Listed
 pub mod ParentOrigins
 pub mod ServingLaws
+pub mod Accepting
 pub mod ServingSteps
 pub mod StoredParents
 pub mod Bits

@@ -1,9 +1,15 @@
 -- The laws of histories.
-use Rattle.std.specs.Prelude.{◌≡◌, ◌⊎◌, ℕ, ◌+◌, ◌*◌, ◌/◌, ◌%◌, ◌<◌, ◌≤◌, Bool, true, false, if◌then◌else◌, List, [], ◌++◌, length, Contains, count_by, count_ones, None, Some, slice_get, slice_index, ◌||◌}
+use Rattle.std.specs.Prelude.{◌≡◌, ◌≢◌, ◌⊎◌, ℕ, ◌+◌, ◌*◌, ◌/◌, ◌%◌, ◌<◌, ◌≤◌, Bool, true, false, if◌then◌else◌, List, [], ◌++◌, length, Contains, count_by, count_ones, None, Some, slice_get, slice_index, ◌||◌}
 use Rattle.std.specs.List.{sum_by}
 use Rattle.b3tree.specs.Hashing.{hash}
+use Rattle.b3tree.specs.Tree.{parent_input}
 use Rattle.b3tree.specs.Valid.{AreBytes, IsKeyed}
-use Rattle.bao_check.specs.Inputs.{NamesCollision}
+use Rattle.bao_check.specs.Accepted.{IsAccepted, part_value, slice_nodes}
+use Rattle.bao_check.specs.Inputs.{Names, NamesCollision, marked, text_inputs}
+use Rattle.bao_text.specs.declared.walk.Node.{Node}
+use Rattle.bao_text.specs.declared.walk.Node.TheVariants.{Chunk, Parent}
+use Rattle.bao_text.specs.NodeNames.{slice_names}
+use Rattle.bao_text.specs.Nodes.{left, right}
 use Rattle.bao_text.specs.Texts.{slice_text}
 use Rattle.bao_check.specs.Parents.{parent_of}
 use Rattle.bao_check.specs.Pieces.{chunk_of}
@@ -184,23 +190,65 @@ HeldBinds = (fixed : Fixed) (history : List Event) (blob : List ℕ) (c : ℕ) (
     → IsLegal fixed history → (state_after history).held c ≡ Some bytes
     → (chunk_of blob (fixed.base + c) ≡ Some bytes) ⊎ ((from : IsCommitted fixed history c bytes) × CollidesWith fixed blob from.piece)
 
--- A collision is exhibited from the blob and a piece that a history committed, settled a length by, or stored parents of.
-pub data CollisionFrom (fixed : Fixed) (history : List Event) (blob : List ℕ) : Type 0 where
-  of_chunk : (c : ℕ) (bytes : List ℕ) (from : IsCommitted fixed history c bytes) → CollidesWith fixed blob from.piece → CollisionFrom fixed history blob
-  of_length : (l : ℕ) (from : IsSettled fixed history l) → CollidesWith fixed blob from.piece → CollisionFrom fixed history blob
-  of_parent : (m : ℕ) (bytes : List ℕ) (from : IsStored fixed history m bytes) → CollidesWith fixed blob from.piece → CollisionFrom fixed history blob
+-- The piece is one that a history used: a chunk of it was committed, or a parent of it stored, that is among these nodes;
+-- or the recorded length was settled by it.
+pub data IsUsed (fixed : Fixed) (history : List Event) (Among : Node → Type 0) (piece : Piece) : Type 0 where
+  of_chunk : (c : ℕ) (bytes : List ℕ) (from : IsCommitted fixed history c bytes) → Among (Chunk c) → from.piece ≡ piece → IsUsed fixed history Among piece
+  of_length : (l : ℕ) (from : IsSettled fixed history l) → (state_after history).recorded ≡ Some l → from.piece ≡ piece → IsUsed fixed history Among piece
+  of_parent : (m : ℕ) (bytes : List ℕ) (from : IsStored fixed history m bytes) → Among (Parent m) → from.piece ≡ piece → IsUsed fixed history Among piece
 
--- For each blob with the root: a parent that is held is the blob's at that boundary, or a collision is exhibited.
+-- A collision is exhibited from the blob and such a piece.
+pub record CollisionOf (fixed : Fixed) (history : List Event) (blob : List ℕ) (Among : Node → Type 0) : Type 0 where
+  pub piece : Piece
+  pub used : IsUsed fixed history Among piece
+  pub pair : CollidesWith fixed blob piece
+
+-- whatever chunks and parents it was used for
+abbrev pub CollisionFrom : Fixed → List Event → List ℕ → Type 0
+CollisionFrom fixed history blob = CollisionOf fixed history blob (λ node. Unit {0})
+
+-- For each blob with the root: a parent that is held is the blob's at that boundary, or a collision is exhibited from the
+-- piece that this parent or the recorded length is of.
 abbrev pub ParentHeldBinds : Type 0
 ParentHeldBinds = (fixed : Fixed) (history : List Event) (blob : List ℕ) (m : ℕ) (bytes : List ℕ) → IsKeyed fixed.mode → IsBlob fixed blob
     → IsLegal fixed history → (state_after history).parents m ≡ Some bytes
-    → (parent_of fixed.mode blob m ≡ Some bytes) ⊎ CollisionFrom fixed history blob
+    → (parent_of fixed.mode blob m ≡ Some bytes) ⊎ CollisionOf fixed history blob (λ node. node ≡ Parent m)
 
--- For each blob with the root: an encoding that is served is the blob's slice, or a collision is exhibited.
+-- the node is one of the slice (start, len) of a blob of the recorded length
+abbrev pub IsServed : State → ℕ → ℕ → Node → Type 0
+IsServed s start len node = (l : ℕ) × ((s.recorded ≡ Some l) × Contains (slice_names l start len) node)
+
+-- For each blob with the root: an encoding that is served is the blob's slice, or a collision is exhibited from a piece
+-- that one of its nodes or the recorded length is of.
 abbrev pub ServedBinds : Type 0
 ServedBinds = (fixed : Fixed) (history : List Event) (blob : List ℕ) (start len : ℕ) (text : List ℕ) → IsKeyed fixed.mode → IsBlob fixed blob
     → IsLegal fixed history → serving (state_after history) start len ≡ Text text
-    → (text ≡ slice_text fixed.mode blob start len) ⊎ CollisionFrom fixed history blob
+    → (text ≡ slice_text fixed.mode blob start len) ⊎ CollisionOf fixed history blob (IsServed (state_after history) start len)
+
+-- A history stored a parent at boundary m, and another piece has a different one there with the same chaining value: a
+-- collision is exhibited, one input of the piece that the parent was stored of and one of the other's.
+pub record CollidesAt (fixed : Fixed) (history : List Event) (m : ℕ) (other : Piece) : Type 0 where
+  pub bytes : List ℕ
+  pub from : IsStored fixed history m bytes
+  pub its : List ℕ
+  pub has : parent_bytes other m ≡ Some its
+  pub top : Bool
+  pub pair : Names (text_inputs fixed.mode from.piece.text (places_in from.piece)) (text_inputs fixed.mode other.text (places_in other))
+      (marked top (parent_input fixed.mode (part_value left bytes) (part_value right bytes))) (marked top (parent_input fixed.mode (part_value left its) (part_value right its)))
+
+-- Two pieces that a history used for these nodes clash: a chunk among them was committed of a piece that claims another
+-- length than the one by which the length was settled; or the piece that a parent among them was stored of, and another
+-- that the history used for them, collide at this parent.
+pub data PiecesClash (fixed : Fixed) (history : List Event) (Among : Node → Type 0) : Type 0 where
+  of_lengths : (c l : ℕ) (bytes : List ℕ) (from : IsCommitted fixed history c bytes) (settled : IsSettled fixed history l) → Among (Chunk c)
+      → (state_after history).recorded ≡ Some l → (length_of from.piece ≢ length_of settled.piece) → PiecesClash fixed history Among
+  of_parents : (m : ℕ) (other : Piece) → Among (Parent m) → IsUsed fixed history Among other → CollidesAt fixed history m other → PiecesClash fixed history Among
+
+-- An encoding that is served is accepted as that slice under the root, be it a blob's hash or not; or two pieces that its
+-- nodes or the recorded length are of clash.
+abbrev pub ServedAccepted : Type 0
+ServedAccepted = (fixed : Fixed) (history : List Event) (start len : ℕ) (text : List ℕ) → IsLegal fixed history → serving (state_after history) start len ≡ Text text
+    → IsAccepted fixed.mode fixed.root.0 text (slice_nodes text start len) ⊎ PiecesClash fixed history (IsServed (state_after history) start len)
 
 -- x is the byte at position q of a chunk that a history committed
 pub record ByteFrom (fixed : Fixed) (history : List Event) (q x : ℕ) : Type 0 where

@@ -19,9 +19,11 @@ use Rattle.bao_check.specs.declared.checked.Checked.{Checked}
 use Rattle.store_core.specs.declared.fault.Missing.{Missing}
 use Rattle.store_core.specs.declared.store.Store.{Store}
 use Rattle.store_core.specs.Events.{IsRightReply, after_call, has_room}
-use Rattle.store_core.specs.Laws.{IsBlob, IsCommitted, IsSettled, CollisionFrom, CollidesWith}
+use Rattle.store_core.specs.Laws.{IsBlob, IsCommitted, IsServed, IsSettled, CollisionOf, CollidesWith, PiecesClash}
+use Rattle.bao_text.specs.declared.walk.Node.TheVariants.{Parent}
 use Rattle.bao_text.specs.Texts.{slice_text}
 use Rattle.store_core.specs.Reached.{IsReached}
+use Rattle.bao_check.specs.Accepted.{IsAccepted, slice_nodes}
 use Rattle.bao_check.specs.Parents.{parent_of}
 use Rattle.bao_check.specs.Pieces.{chunk_of}
 use Rattle.store_core.specs.declared.history.Piece.{Piece}
@@ -155,13 +157,19 @@ GainsNode None old new there = there ≡ false
 GainsNode (Some bytes) old new there = (there ≡ true) × (new ≡ old ++ bytes)
 
 -- For each blob with the root and every legal history that leads to the store: an encoding that is served is the blob's slice,
--- or a collision is exhibited from the blob and a piece of this history.
+-- or a collision is exhibited from the blob and a piece of this history that a node of the slice or the length is of.
 abbrev pub SliceBinds : Store → ℕ → ℕ → List ℕ → Type 0
 SliceBinds store start len text = (blob : List ℕ) → IsBlob (fixed_of store) blob → (by : IsReached (fixed_of store) (state_of store))
-    → (text ≡ slice_text (fixed_of store).mode blob start len) ⊎ CollisionFrom (fixed_of store) by.history blob
+    → (text ≡ slice_text (fixed_of store).mode blob start len) ⊎ CollisionOf (fixed_of store) by.history blob (IsServed (state_of store) start len)
 
--- Each parent that is held is the blob's at that boundary, or such a collision is exhibited.
+-- It is accepted under the store's root, be it a blob's hash or not; or two such pieces of this history clash.
+abbrev pub SliceIsAccepted : Store → ℕ → ℕ → List ℕ → Type 0
+SliceIsAccepted store start len text = (by : IsReached (fixed_of store) (state_of store))
+    → IsAccepted (fixed_of store).mode (fixed_of store).root.0 text (slice_nodes text start len) ⊎ PiecesClash (fixed_of store) by.history (IsServed (state_of store) start len)
+
+-- Each parent that is held is the blob's at that boundary, or a collision is exhibited from the piece that this parent or
+-- the length is of.
 abbrev pub ParentsBind : Store → Type 0
 ParentsBind store = (blob : List ℕ) → IsBlob (fixed_of store) blob → (by : IsReached (fixed_of store) (state_of store))
     → (m : ℕ) (bytes : List ℕ) → (state_of store).parents m ≡ Some bytes
-    → (parent_of (fixed_of store).mode blob m ≡ Some bytes) ⊎ CollisionFrom (fixed_of store) by.history blob
+    → (parent_of (fixed_of store).mode blob m ≡ Some bytes) ⊎ CollisionOf (fixed_of store) by.history blob (λ node. node ≡ Parent m)

@@ -1,4 +1,4 @@
-ghost use Rattle.store_core.specs.Laws.{ByteBinds, ClaimsApart, ClaimsLast, CommittedAddUp, CommittedOnce, HeldBinds, HeldIsCommitted, HeldLasts, JoinKeeps, ParentHeldBinds, ParentIsStored, ParentLasts, LegalIsSound, ReadMeans, RecordBinds, RecordIsSettled, RecordLasts, RunsAreLegal, RunsAreOne, ServedBinds, SplitKeeps, StateDetermines};
+ghost use Rattle.store_core.specs.Laws.{ByteBinds, ClaimsApart, ClaimsLast, CommittedAddUp, CommittedOnce, HeldBinds, HeldIsCommitted, HeldLasts, JoinKeeps, ParentHeldBinds, ParentIsStored, ParentLasts, LegalIsSound, ReadMeans, RecordBinds, RecordIsSettled, RecordLasts, RunsAreLegal, RunsAreOne, ServedAccepted, ServedBinds, SplitKeeps, StateDetermines};
 ghost use Rattle.store_core.specs.Orders.{JoinKeepsOrder, LeastIsOne, OrderIsOne, SplitKeepsOrder};
 
 /// The state after a history determines every reply, but for which parents are stored. A law: nothing runs.
@@ -79,9 +79,13 @@ pub fn parents_last()
 {}
 
 /// For each blob with the root of a store: a parent that the store holds is the blob's parent at that boundary, and an
-/// encoding that it serves is the blob's slice; or a collision is exhibited, one input of the blob's and one of a piece's that was
-/// committed or settled or whose parents were stored. A law: nothing runs.
+/// encoding that it serves is the blob's slice; or a collision is exhibited, one input of the blob's and one of the piece's
+/// that this parent, a node of this slice or the recorded length is of. Under any root, a blob's hash or not, an encoding
+/// that is served is accepted; or a chunk of it was committed of a piece that claims another length than that by which the
+/// length was settled, or at a parent of it a collision is exhibited, one input of the piece that the parent was stored of
+/// and one of another that a node of the slice or the length is of. A law: nothing runs.
 pub fn served_binds()
     ensures parent { ParentHeldBinds }
     ensures text { ServedBinds }
+    ensures accepted { ServedAccepted }
 {}

@@ -55,7 +55,7 @@ impl Store {
     ghost use Rattle.store_core.specs.declared.history.Serving.TheVariants.{Text};
     ghost use Rattle.store_core.specs.Serves.{node_held};
     ghost use Rattle.store_core.specs.States.{claims, empty, held_count};
-    ghost use Rattle.store_core.specs.Stores.{ChunksBind, ClaimBinds, DidRead, DidServe, DidStore, GainsNode, IsEvent, IsNew, IsOf, IsSame, IsUnserved, IsUnstored, LengthBinds, ParentsBind, ReadBinds, Settles, SliceBinds, StoresParent, filled_count, fixed_of, missing_in, state_of};
+    ghost use Rattle.store_core.specs.Stores.{ChunksBind, ClaimBinds, DidRead, DidServe, DidStore, GainsNode, IsEvent, IsNew, IsOf, IsSame, IsUnserved, IsUnstored, LengthBinds, ParentsBind, ReadBinds, Settles, SliceBinds, SliceIsAccepted, StoresParent, filled_count, fixed_of, missing_in, state_of};
 
     /// A store of a whole blob that holds, claims and records nothing. It takes no memory.
     ///
@@ -318,8 +318,8 @@ impl Store {
     /// then stands for the same.
     ///
     /// For each blob with the store's root, each parent that is then held is the blob's parent there; or, whatever legal
-    /// history led to the store, a collision is exhibited, one input of the blob's and one of a
-    /// piece's that this history committed, settled or stored parents of.
+    /// history led to the store, a collision is exhibited, one input of the blob's and one of the piece's of which this
+    /// history stored that parent, or by which it settled the length.
     pub fn commit_parents(&mut self, group: u32, piece: &Checked<'_>) -> Result<u64, StoreFault>
         ensures ok { IfOk result (λ mask. DidStore self.old self.new group piece.now (Stored mask)) }
         ensures all { IfOk result (λ mask. IsMaskOf group mask (λ m. holds_parent (piece_of (fixed_of self.old).base piece.now) m && not (is_some ((state_of self.old).parents m)))) }
@@ -372,13 +372,16 @@ impl Store {
     /// and 810 `Memory`.
     ///
     /// For each blob with the store's root it is the blob's slice; or, whatever legal history led to the store, a
-    /// collision is exhibited, one input of the blob's and one of a piece's that this history
-    /// committed, settled or stored parents of.
+    /// collision is exhibited, one input of the blob's and one of the piece's that a node of the slice, or the length, is of.
+    /// It is accepted as that slice under the store's root, be that a blob's hash or not; or two pieces of this history
+    /// clash. A chunk of the slice was committed of one that claims another length than that by which the length was
+    /// settled; or at a parent of the slice a collision is exhibited, one input of each.
     pub fn serve_slice(&self, start: u64, len: u64) -> Result<Vec<u8>, ServeFault>
         ensures served { IfOk result (λ text. DidServe self.now start len (Text text.items)) }
         ensures refused { IfErr result (λ fault. IsUnserved self.now start len fault) }
         ensures no_length { IsErrOf result NoLength ↔ ((state_of self.now).recorded ≡ None) }
         ensures binds { IfOk result (λ text. SliceBinds self.now start len text.items) }
+        ensures accepted { IfOk result (λ text. SliceIsAccepted self.now start len text.items) }
     {
         // A law, so that the proof has what it says: nothing runs.
         self.fixed.mode.is_keyed();

@@ -1,5 +1,7 @@
 -- Calls of a shared store: each is an event of its history.
-use Rattle.std.specs.Prelude.{◌≡◌, ◌⊎◌, ℕ, ◌/◌, false, true, List, is_some, length}
+use Rattle.std.specs.Prelude.{◌≡◌, ◌⊎◌, ℕ, ◌/◌, false, true, List, Contains, Some, is_some, length}
+use Rattle.bao_text.specs.declared.walk.Node.{Node}
+use Rattle.bao_text.specs.NodeNames.{slice_names}
 use Rattle.bao_check.specs.declared.checked.Checked.{Checked}
 use Rattle.store_core.specs.declared.fixed.Fixed.{Fixed}
 use Rattle.store_core.specs.declared.history.Call.TheVariants.{Parents, Settle}
@@ -12,6 +14,7 @@ use Rattle.store_core.specs.Events.{has_room}
 use Rattle.store_core.specs.Histories.{state_after}
 use Rattle.store_core.specs.Laws.{CollidesWith, IsBlob, IsSettled}
 use Rattle.store_core.specs.Pieces.{holds_parent, length_of, piece_of}
+use Rattle.store_core.specs.Serves.{node_held}
 use Rattle.store_core.specs.Stores.{IsOf}
 use Rattle.store_shared.specs.declared.fault.ParentsFault.{ParentsFault}
 use Rattle.store_shared.specs.declared.fault.ParentsFault.TheVariants as unstored
@@ -40,6 +43,12 @@ SeatLengthBinds view l = (blob : List ℕ) → IsBlob view.fixed blob
 -- The seat has seen each parent held that the piece holds at a boundary of the group.
 abbrev pub AreParentsHeld : SeatView → ℕ → Piece → Type 0
 AreParentsHeld view group piece = (m : ℕ) → m / 64 ≡ group → holds_parent piece m ≡ true → is_some ((state_after view.seen).parents m) ≡ true
+
+-- The seat has seen a length recorded, and held each node of that slice of a blob of this length.
+pub record HasSliceHeld (view : SeatView) (start len : ℕ) : Type 0 where
+  pub length : ℕ
+  pub recorded : (state_after view.seen).recorded ≡ Some length
+  pub held : (node : Node) → Contains (slice_names length start len) node → is_some (node_held (state_after view.seen) node) ≡ true
 
 abbrev pub number_of : ParentsFault → ℕ
 number_of unstored.OtherRoot = 804

@@ -30,13 +30,13 @@ impl Assembly {
     ghost use Rattle.store_core.specs.declared.history.Serving.TheVariants.{Text};
     ghost use Rattle.store_core.specs.declared.history.Storing.TheVariants.{Stored};
     ghost use Rattle.store_calls.specs.Parents.{AreAllParents, SeatParentsBind};
-    ghost use Rattle.store_calls.specs.Serving.{SeatIsRefused, SeatSliceBinds};
+    ghost use Rattle.store_calls.specs.Serving.{SeatIsRefused, SeatSliceBinds, SeatSliceIsAccepted};
     ghost use Rattle.store_core.specs.Machine.{groups};
     ghost use Rattle.store_core.specs.Pieces.{piece_of};
     ghost use Rattle.store_core.specs.declared.history.Settling.TheVariants.{OtherRoot as RootIsOther};
     ghost use Rattle.store_core.specs.Stores.{ChunksBind, ClaimBinds, IsOf, filled_count, missing_in};
     ghost use Rattle.store_calls.specs.Reading.{SeatDidRead, SeatReadBinds};
-    ghost use Rattle.store_shared.specs.Calls.{AreParentsHeld, SeatIsUnstored, SeatLengthBinds, SeatSettles};
+    ghost use Rattle.store_shared.specs.Calls.{AreParentsHeld, HasSliceHeld, SeatIsUnstored, SeatLengthBinds, SeatSettles};
     ghost use Rattle.store_shared.specs.Seats.{IsGroupOf, IsSeatOf, fixed_of};
     ghost use Rattle.store_core.specs.Knowledge.{AreAllNames, AreMet, ArePartsOf, Called, IsMerged, KeepsClaims, LooksRound, NoneIsClaimedByBoth, opening_view};
 
@@ -292,8 +292,7 @@ impl Assembly {
     /// `OtherLength` where the length that it claims isn't the recorded one, or there is none.
     ///
     /// For each blob with the store's root, each parent that is then seen held is the blob's parent there; or
-    /// a collision is exhibited, one input of the blob's and one of a piece's that was committed, by
-    /// which the length was settled, or whose parents were stored.
+    /// a collision is exhibited, one input of the blob's and one of the piece's that this parent or the recorded length is of.
     pub fn commit_parents(
         &self,
         seat: &mut Seat,
@@ -323,17 +322,22 @@ impl Assembly {
     /// The encoding of the slice (`start`, `len`) of the blob: the recorded length, and the bytes of the slice's nodes.
     ///
     /// 808 `NoLength` where no length is recorded, 809 `Lacking` with the first node in the encoding's order that isn't held,
-    /// and 810 `Memory`, where the seat has seen more and made no call.
+    /// and 810 `Memory`, where the seat has seen more and made no call. Where the seat has seen a length recorded and all nodes
+    /// of the slice held, memory alone may refuse it.
     ///
-    /// For each blob with the store's root it is the blob's slice; or a collision is exhibited, one
-    /// input of the blob's and one of a piece's that was committed, by which the length was settled, or whose parents
-    /// were stored.
+    /// For each blob with the store's root it is the blob's slice; or a collision is exhibited, one input of the blob's and one
+    /// of the piece's that a node of this slice or the recorded length is of. Under any root, a blob's hash or not, it is accepted
+    /// as this slice; or a chunk of it was committed of a piece that claims another length than that by which the length was
+    /// settled, or at a parent of it a collision is exhibited, one input of the piece that the parent was stored of and one of
+    /// another that a node of the slice or the length is of.
     pub fn serve_slice(&self, seat: &mut Seat, start: u64, len: u64) -> Result<Vec<u8>, ServeFault>
         requires of { IsSeatOf self.now seat.old }
         ensures of { IsSeatOf self.now seat.new }
         ensures served { IfOk result (λ text. Called (Serve start len (Text text.items)) seat.old.view seat.new.view) }
         ensures refused { IfErr result (λ fault. SeatIsRefused start len fault seat.old.view seat.new.view) }
+        ensures held { HasSliceHeld seat.old.view start len → IfErr result (λ fault. fault ≡ ServeFault.Memory) }
         ensures binds { IfOk result (λ text. SeatSliceBinds seat.new.view start len text.items) }
+        ensures accepted { IfOk result (λ text. SeatSliceIsAccepted seat.new.view start len text.items) }
     {
         serve_slice(self.alloc, &self.words, &mut seat.grip, start, len)
     }

@@ -1,30 +1,33 @@
-use Rattle.crews.proofs.Common.{sym, subst, inl, inr, Grain, HaveSlices, IsServed, made_of, IsHanded, IsTooLarge, large_wider, onward, later_slices, Fixed}
+use Rattle.crews.proofs.Common.{sym, subst, inl, inr, Grain, IsServed, made_of, IsHanded, IsTooLarge, large_wider, onward, Fixed}
+use Rattle.gather.proofs.Forming.{later_parts}
 use Rattle.gather.specs.declared.grain.Grain.TheVariants.{Chunk as ByChunk}
+use Rattle.gather.specs.Parts.{HaveParts, IsFor}
 use Rattle.crews.specs.Going.{goes}
 use Rattle.crews.specs.Lasting.{alone_on}
 use Rattle.crews.specs.Seats.{GoneOn, fixed_of}
 use Rattle.crews.proofs.closing.closing_rounds.Goals as goal
 
 pub returns-in-Group-clause-served : goal.returns-in-Group-clause-served
-returns-in-Group-clause-served g c = λ form blob served have.
-    c.work_as.ensures.served form blob served
-    (subst (λ (grain : Grain). HaveSlices grain (made_of c.args.form.now g.H.Holder.gives) (fixed_of c.args.seat.now).mode blob c.args.holders.now) c.in-Group.is have)
+returns-in-Group-clause-served g c = λ blob of served have.
+    c.work_as.ensures.parts blob of served
+    (subst (λ (grain : Grain). HaveParts c.args.form.now grain g.H.Holder.gives (fixed_of c.args.seat.now).mode blob c.args.holders.now) c.in-Group.is have)
 
 pub returns-in-Chunk-clause-reports : goal.returns-in-Chunk-clause-reports
 returns-in-Chunk-clause-reports g c = onward fixed_of GoneOn goes _ _ _ _ _ _ _ _ _ _ _ _ c.work_as.ensures.reports c.salvage.ensures.reports
 
 pub returns-in-Chunk-clause-served : goal.returns-in-Chunk-clause-served
-returns-in-Chunk-clause-served g c = λ form blob served have.
-    let gives = made_of c.args.form.now g.H.Holder.gives in
+returns-in-Chunk-clause-served g c = λ blob of served have.
+    let form = c.args.form.now in
+    let gives = made_of form g.H.Holder.gives in
     let old = c.args.holders.now in
     let first = c.work_as.ensures in
     let mid = c.work_as.new.seat in
     let F : Fixed = fixed_of c.args.seat.now in
     let same = goes.keeps _ c.args.seat.now mid _ _ first.reports.gains in
-    let asked : HaveSlices ByChunk gives F.mode blob old = subst (λ (grain : Grain). HaveSlices grain gives F.mode blob old) c.in-Chunk.is have in
-    let now : HaveSlices ByChunk gives (fixed_of mid).mode blob c.work_as.new.holders =
-    subst (λ (f : Fixed). HaveSlices ByChunk gives f.mode blob c.work_as.new.holders) (sym same) (later_slices ByChunk gives F.mode blob _ _ first.later asked) in
-    elim (c.salvage.ensures.served form blob (subst (λ (f : Fixed). IsServed f blob) (sym same) served) now) [
+    let asked : HaveParts form ByChunk g.H.Holder.gives F.mode blob old = subst (λ (grain : Grain). HaveParts form grain g.H.Holder.gives F.mode blob old) c.in-Chunk.is have in
+    let now : HaveParts form ByChunk g.H.Holder.gives (fixed_of mid).mode blob c.work_as.new.holders =
+    subst (λ (f : Fixed). HaveParts form ByChunk g.H.Holder.gives f.mode blob c.work_as.new.holders) (sym same) (later_parts form ByChunk g.H.Holder.gives F.mode blob _ _ first.later asked) in
+    elim (c.salvage.ensures.parts blob (subst (λ (f : Fixed). IsFor form f blob) (sym same) of) (subst (λ (f : Fixed). IsServed f blob) (sym same) served) now) [
       | inl failed ↦ inl failed
       | inr (inl large) ↦
           inr (inl (large_wider _ (IsHanded gives old) first.reports.no_more F

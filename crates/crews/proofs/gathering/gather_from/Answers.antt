@@ -8,6 +8,6 @@ returns-then-not-may_lack_room-clause-gathers g c =
     (λ e. both_ways _ c.if-not-may_lack_room.true (c.may_lack_room.ensures.1 (inl e)))
 
 pub returns-then-not-may_lack_room-clause-available : goal.returns-then-not-may_lack_room-clause-available
-returns-then-not-may_lack_room-clause-available g c = λ slices blob is fits there.
+returns-then-not-may_lack_room-clause-available g c = λ blob is fits of there.
     out_by own_bytes _ _ blob c.gather_within-gathered.result (returns-then-not-may_lack_room-clause-gathers g c) is
     (λ e. absurd (both_ways _ c.if-not-may_lack_room.true (c.may_lack_room.ensures.1 (inl e)))) (λ e. absurd (both_ways _ c.if-not-may_lack_room.true (c.may_lack_room.ensures.1 (inr e))))

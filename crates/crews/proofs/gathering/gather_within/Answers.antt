@@ -1,4 +1,5 @@
 use Rattle.crews.proofs.Common.{◌≡◌, ℕ, ◌≤◌, List, IsTrue, length, sym, ap, arith, subst, ◌∙◌, with_items_is, All, chunk_count, HaveAll, IsLent, Report, made_of, Gathers, IsHandedOut, own_bytes, large_wider, whole_is, Fixed, Piece, SeatView, IsBlob, IsSeatOf, fixed_of, opening_view}
+use Rattle.gather.specs.Parts.{IsFor}
 use Rattle.crews.specs.declared.crew.Crew.{Crew}
 use Rattle.crews.specs.Crews.{IsHandedTo, all_of}
 use Rattle.crews.specs.Joined.{AreCallsOf, AreClaimsOf, HasAllNamesOf, HaveAllNames}
@@ -56,10 +57,10 @@ returns-clause-gathers g c =
     subst (λ (f : Fixed). Gathers own_bytes handed f c.hand_out.result) (c.in_ok-assembly.ensures.fixed ∙ whole_is c.args.fixed.now c.requires.whole) c.hand_out.ensures.gathers
 
 pub returns-clause-available : goal.returns-clause-available
-returns-clause-available g c = λ slices.
+returns-clause-available g c =
     let gives = made_of c.args.form.now g.H.Holder.gives in
     let over = g.L.Lists.over c.args.lists.now in
     let handed : Piece → Type 0 = IsLent gives over in
-    subst (λ (f : Fixed). (blob : List ℕ) → IsBlob f blob → chunk_count (length blob) ≤ f.capacity → HaveAll c.args.how.grain gives over f.mode blob
+    subst (λ (f : Fixed). (blob : List ℕ) → IsBlob f blob → chunk_count (length blob) ≤ f.capacity → IsFor c.args.form.now f blob → HaveAll c.args.form.now c.args.how.grain g.H.Holder.gives over f.mode blob
     → IsHandedOut own_bytes handed f blob c.hand_out.result) (c.in_ok-assembly.ensures.fixed ∙ whole_is c.args.fixed.now c.requires.whole)
-    (λ blob is room have. c.hand_out.ensures.available slices blob is (ap (λ (f : Fixed). f.base) c.in_ok-assembly.ensures.fixed) room have)
+    (λ blob is room of have. c.hand_out.ensures.available blob is (ap (λ (f : Fixed). f.base) c.in_ok-assembly.ensures.fixed) room of have)

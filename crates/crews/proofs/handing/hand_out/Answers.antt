@@ -1,5 +1,6 @@
 use Rattle.crews.proofs.Common.{◌≡◌, List, ℕ, Err, Ok, IfOk, Result, ap, arith, sym, subst, ◌∙◌, Mode, IsKeyed, certifies_none, certifies_ok, gathers_none, gathers_ok, why_gathers, found_by, pair_of, FinishFault, GatherFault, Starved, BindsTo, IsFinished, made_of, Gathers, own_bytes, IsLent, AreFrom, Fixed, Piece, IsLegal, state_after, read_bytes, fixed_of, out_by, why_unfinished, lent_by, large_pair}
 use Rattle.crews.proofs.HandingOut.{cuts, large_cut, unfinished_handed}
+use Rattle.gather.specs.Parts.{HaveParts, IsFor}
 use Rattle.crews.proofs.Rereading.{round_full}
 use Rattle.crews.proofs.handing.hand_out.Goals as goal
 
@@ -43,7 +44,7 @@ returns-in-Ok-ended-clause-gathers g c =
     c.certify-ended.ensures.on c.look_round.ensures.looked) binds))
 
 pub returns-in-Ok-ended-clause-available : goal.returns-in-Ok-ended-clause-available
-returns-in-Ok-ended-clause-available g c = λ form blob is first room there. (returns-in-Ok-ended-clause-gathers g c).found blob is
+returns-in-Ok-ended-clause-available g c = λ blob is first room of there. (returns-in-Ok-ended-clause-gathers g c).found blob is
 
 pub returns-in-Err-ended-clause-gathers : goal.returns-in-Err-ended-clause-gathers
 returns-in-Err-ended-clause-gathers g c =
@@ -66,7 +67,7 @@ returns-in-Err-ended-clause-gathers g c =
     (λ e blob is. pair_of handed fixed c.certify-ended.result.1.view.seen blob from (c.certify-ended.ensures.binds.none (c.in-Err-ended.is ∙ ap unfinished_by e) blob is)))
 
 pub returns-in-Err-ended-clause-available : goal.returns-in-Err-ended-clause-available
-returns-in-Err-ended-clause-available g c = λ form blob is first room there.
+returns-in-Err-ended-clause-available g c = λ blob is first room meant there.
     let gives = made_of c.args.form.now g.H.Holder.gives in
     let handed : Piece → Type 0 = IsLent gives (g.L.Lists.over c.args.lists.now) in
     let fixed : Fixed = fixed_of c.args.assembly in
@@ -80,7 +81,8 @@ returns-in-Err-ended-clause-available g c = λ form blob is first room there.
     let told = why_unfinished c.in-Err-ended.fault c.closing_rounds.new.report (sym c.why.ensures ∙ cc) in
     unfinished_handed _ gives g.H.Holder.count handed fixed c.args.seat c.closing_rounds.new.seat c.certify-ended.result.1.view c.look_round.new.seat.view holders
     c.closing_rounds.new.holders c.args.report c.closing_rounds.new.report wide c.requires.of.knows.fixed_is met.of.knows.fixed_is c.requires.left met.reports
-    c.certify-ended.ensures.on c.look_round.ensures.looked c.args.grain blob keyed is first room c.args.assembly.words.limit
-    (there holders (subst (λ (all : List g.row.H.Denot). g.L.Lists.over c.args.lists.now all) (sym c.as_mut_slice.ensures.value) c.in-Ok.ensures) (omega (arith, room, c.args.assembly.words.limit)))
+    c.certify-ended.ensures.on c.look_round.ensures.looked blob keyed is first room c.args.assembly.words.limit
     (subst (λ (f : Fixed). IsLegal f c.certify-ended.result.1.view.seen) of.knows.fixed_is of.knows.legal) told.1
-    (λ slices has. met.served form blob slices has) (c.certify-ended.ensures.unfinished (c.in-Err-ended.is ∙ ap unfinished_by told.0)))
+    (λ slices. met.served blob (subst (λ (f : Fixed). IsFor c.args.form.now f blob) (sym c.requires.of.knows.fixed_is) meant) slices
+    (subst (λ (f : Fixed). HaveParts c.args.form.now c.args.grain g.H.Holder.gives f.mode blob holders) (sym c.requires.of.knows.fixed_is)
+    (there holders (subst (λ (all : List g.row.H.Denot). g.L.Lists.over c.args.lists.now all) (sym c.as_mut_slice.ensures.value) c.in-Ok.ensures) (omega (arith, room, c.args.assembly.words.limit))))) (c.certify-ended.ensures.unfinished (c.in-Err-ended.is ∙ ap unfinished_by told.0)))

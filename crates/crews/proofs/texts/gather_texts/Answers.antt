@@ -1,4 +1,6 @@
-use Rattle.crews.proofs.Common.{◌≡◌, ℕ, List, arith, map, vec_items, Encoded, IsCut, IsCutOf, cut_gives, encoding, own_bytes, fixed_as, IsLent, gathers_wider, memory_gathers, memory_out, out_wider, text_true, lent_over, slices_mapped, true_slices, Piece}
+use Rattle.crews.proofs.Common.{◌≡◌, ℕ, List, arith, map, vec_items, Encoded, IsCut, IsCutOf, cut_gives, encoding, own_bytes, fixed_as, IsLent, gathers_wider, memory_gathers, memory_out, out_wider, text_true, lent_over, true_slices, Piece, Slices}
+use Rattle.gather.proofs.Forming.{slices_parts}
+use Rattle.gather.proofs.Lending.{parts_mapped}
 use Rattle.crews.proofs.texts.gather_texts.Goals as goal
 
 -- what holders over these texts hand over
@@ -18,7 +20,8 @@ returns-clause-covered g c = λ blob is fits have.
     let fixed = fixed_as c.args.root c.args.mode c.args.capacity in
     memory_out fixed c.gather_from-gathered.result (IsCutOf texts) blob c.in_memory.result c.in_memory.ensures.blob c.in_memory.ensures.fault
     (out_wider own_bytes (Lent texts) (IsCutOf texts) (lent_over encoding cut_gives texts) fixed blob c.gather_from-gathered.result
-    (c.gather_from-gathered.ensures.available tt blob is fits (λ holders are few. slices_mapped encoding cut_gives c.args.grain c.args.mode blob holders texts are have)))
+    (c.gather_from-gathered.ensures.available blob is fits tt (λ holders are few.
+    parts_mapped Slices encoding cut_gives c.args.grain c.args.mode blob holders texts are (slices_parts Slices c.args.grain cut_gives c.args.mode blob texts tt have))))
 
 pub returns-clause-available : goal.returns-clause-available
 returns-clause-available g c = λ blob i is fits there.

@@ -24,3 +24,9 @@ returns-clause-available g c = λ slices blob i source is fits there all faultle
     both_answer own_bytes (IsFromSource c.args.form.now g.S.Source.contents g.S.Source.faultless c.args.sources.now) c.args.fixed.now blob
     c.gather-one.result c.gather-other.result c.gather-one.ensures.gathers.certified c.gather-other.ensures.gathers.certified
     (c.gather-one.ensures.available slices blob i source is fits there all faultless) (c.gather-other.ensures.available slices blob i source is fits there all faultless)
+
+pub returns-clause-copied : goal.returns-clause-copied
+returns-clause-copied g c = λ blob i source is fits own there all faultless.
+    both_answer own_bytes (IsFromSource c.args.form.now g.S.Source.contents g.S.Source.faultless c.args.sources.now) c.args.fixed.now blob
+    c.gather-one.result c.gather-other.result c.gather-one.ensures.gathers.certified c.gather-other.ensures.gathers.certified
+    (c.gather-one.ensures.copied blob i source is fits own there all faultless) (c.gather-other.ensures.copied blob i source is fits own there all faultless)

@@ -1,4 +1,4 @@
-use Rattle.gather.proofs.Common.{◌-◌, ◌^◌, ◌≡◌, ◌⊎◌, ◌∙◌, ◌<◌, ℕ, Option, IsSome, IsTrue, false, true, ap, get_or, length, slice_get, sum_by, refl, sym, subst, arith, inl, inr, cases_lt, set-get_or, slice_get_within, Fixed}
+use Rattle.gather.proofs.Common.{◌≡◌, ◌⊎◌, ◌∙◌, ◌<◌, ℕ, Option, IfSome, IsSome, IsTrue, false, true, ap, get_or, length, slice_get, sum_by, refl, sym, subst, arith, inl, inr, cases_lt, set-get_or, slice_get_within, Fixed}
 use Rattle.gather.specs.Available.{GivesSlice, IsServed}
 use Rattle.gather.specs.Counts.{Reports}
 use Rattle.gather.specs.Holders.{AreLater, IsHanded}
@@ -7,7 +7,7 @@ use Rattle.gather.proofs.Gaining.{among_onward}
 use Rattle.gather.proofs.Reporting.{among_holders, handed_here, large_wider, later_one, later_then, onward, onward_none}
 use Rattle.gather.proofs.Serving.{fails_on, get_set_after, known_some, slice_here}
 use Rattle.gather.specs.Forms.{made_of}
-use Rattle.gather.proofs.Forming.{slice_length}
+use Rattle.gather.specs.Parts.{IsFor}
 use Rattle.gather.proofs.worker.agree.Goals.{then-is_some-via-else-is_some+then-too_large, then-is_some-via-then-is_some}
 use Rattle.gather.proofs.worker.agree.Goals as goal
 
@@ -37,19 +37,19 @@ loop-holder-preserved g c =
           large_wider _ handed x.invariant.1.no_more F
           (subst (λ (f : Fixed). IsTooLarge (IsHanded (made_of c.args.form.now g.H.Holder.gives) x.holders) f) same
           (large_wider _ (IsHanded (made_of c.args.form.now g.H.Holder.gives) x.holders) (handed_here (made_of c.args.form.now g.H.Holder.gives) x.holders x.holder-index c.holder-item.result here) _ (met.large large))),
-      λ are blob served has before. elim (cases_lt has.place x.holder-index) [
-        | inl sooner ↦ elim (x.invariant.7 are blob served has sooner) [
+      λ blob start len are served end has before. elim (cases_lt has.place x.holder-index) [
+        | inl sooner ↦ elim (x.invariant.7 blob start len are served end has sooner) [
           | inl failed ↦ inl (fails_on x.report c.ask_end-too_large.new.report met.reports.no_less failed)
           | inr (inl large) ↦ inr (inl large)
           | inr (inr some) ↦ inr (inr (known some))
         ]
         | inr not_sooner ↦
             let at : has.place ≡ x.holder-index = omega (arith, before, not_sooner) in
-            let slices : GivesSlice (made_of c.args.form.now g.H.Holder.gives) F.mode blob (2 ^ 64 - 1) 1 (get_or x.holders x.holder-index c.holder-item.result) =
-            subst (λ (k : ℕ). GivesSlice (made_of c.args.form.now g.H.Holder.gives) F.mode blob (2 ^ 64 - 1) 1 (get_or x.holders k c.holder-item.result)) at
-            (slice_here (made_of c.args.form.now g.H.Holder.gives) F.mode blob (2 ^ 64 - 1) 1 c.args.holders.now x.holders c.holder-item.result has (x.invariant.4 has.place (omega (arith, at)))) in
-            elim (met.agreed are blob (subst (λ (f : Fixed). IsServed f blob) (sym same) served)
-            (subst (λ (f : Fixed). GivesSlice (made_of c.args.form.now g.H.Holder.gives) f.mode blob (2 ^ 64 - 1) 1 (get_or x.holders x.holder-index c.holder-item.result)) (sym same) slices)) [
+            let slices : GivesSlice (made_of c.args.form.now g.H.Holder.gives) F.mode blob start len (get_or x.holders x.holder-index c.holder-item.result) =
+            subst (λ (k : ℕ). GivesSlice (made_of c.args.form.now g.H.Holder.gives) F.mode blob start len (get_or x.holders k c.holder-item.result)) at
+            (slice_here (made_of c.args.form.now g.H.Holder.gives) F.mode blob start len c.args.holders.now x.holders c.holder-item.result has (x.invariant.4 has.place (omega (arith, at)))) in
+            elim (met.agreed blob start len (subst (λ (f : Fixed). IsFor c.args.form.now f blob) (sym same) are) (subst (λ (f : Fixed). IsServed f blob) (sym same) served) end
+            (subst (λ (f : Fixed). GivesSlice (made_of c.args.form.now g.H.Holder.gives) f.mode blob start len (get_or x.holders x.holder-index c.holder-item.result)) (sym same) slices)) [
               | inl failed ↦ inl failed
               | inr recorded ↦ inr (inr (subst (λ (o : Option ℕ). IsSome o) (sym (then.known recorded.0 recorded.1)) refl))
             ]
@@ -77,8 +77,8 @@ loop-holder-preserved-then-is_some g c =
       λ k after. ap (λ holders. slice_get holders k) same ∙ x.invariant.4 k (omega (arith, after)),
       x.invariant.5,
       x.invariant.6,
-      λ are blob served has before. elim (cases_lt has.place x.holder-index) [
-        | inl sooner ↦ x.invariant.7 are blob served has sooner
+      λ blob start len are served end has before. elim (cases_lt has.place x.holder-index) [
+        | inl sooner ↦ x.invariant.7 blob start len are served end has sooner
         | inr not_sooner ↦ elim either [
           | inl some ↦ inr (inr some)
           | inr large ↦ inr (inl (x.invariant.6 large))
@@ -87,13 +87,24 @@ loop-holder-preserved-then-is_some g c =
     )
 
 pub returns-in_default-clause-agreed : goal.returns-in_default-clause-agreed
-returns-in_default-clause-agreed g c = λ are blob served has.
-    let met : IsTrue c.is_of.result = c.is_of.ensures.1 (slice_length c.args.form.now c.in-Some.length are) in
-    let no : false ≡ true = sym c.if-is_of.false ∙ met in cc
+returns-in_default-clause-agreed g c = λ blob start len are served end has. inr (inr (record {
+  recorded = c.in-Some.length;
+  is = subst (λ (o : Option ℕ). IfSome o (λ n. g.S.Shelf.records c.loop-holder.seat n)) c.in-Some.is c.loop-holder.invariant.5;
+  told = λ of.
+      let met : IsTrue c.is_of.result = c.is_of.ensures.1 of in
+      let no : false ≡ true = sym c.if-is_of.false ∙ met in cc;
+}))
+
+pub returns-in-Some-clause-agreed : goal.returns-in-Some-clause-agreed
+returns-in-Some-clause-agreed g c = λ blob start len are served end has. inr (inr (record {
+  recorded = c.in-Some.length;
+  is = subst (λ (o : Option ℕ). IfSome o (λ n. g.S.Shelf.records c.loop-holder.seat n)) c.in-Some.is c.loop-holder.invariant.5;
+  told = λ of. refl;
+}))
 
 pub returns-in_default-2-clause-agreed : goal.returns-in_default-2-clause-agreed
-returns-in_default-2-clause-agreed g c = λ are blob served has.
-    elim (c.loop-holder.invariant.7 are blob served has
+returns-in_default-2-clause-agreed g c = λ blob start len are served end has.
+    elim (c.loop-holder.invariant.7 blob start len are served end has
     (omega (arith, slice_get_within c.args.holders.now has.place has.holder has.there, c.loop-holder.invariant.3.len, c.loop-holder-test.false))) [
       | inl failed ↦ inl failed
       | inr (inl large) ↦ inr (inl large)

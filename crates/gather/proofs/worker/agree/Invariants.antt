@@ -1,6 +1,7 @@
-use Rattle.gather.specs.Forms.{AreSlices, made_of}
+use Rattle.gather.specs.Forms.{made_of}
+use Rattle.gather.specs.Parts.{IsEndIn, IsFor}
 use Rattle.gather.specs.Claims.{Among}
-use Rattle.gather.proofs.Common.{sum_by, ◌-◌, ◌^◌, ◌≡◌, ◌⊎◌, ℕ, ◌<◌, ◌≤◌, List, IfSome, IsSome, IsTrue, slice_get}
+use Rattle.gather.proofs.Common.{sum_by, ◌≡◌, ◌⊎◌, ℕ, ◌<◌, ◌≤◌, List, IfSome, IsSome, IsTrue, slice_get}
 use Rattle.gather.specs.Counts.{Reports}
 use Rattle.gather.specs.Holders.{AreLater, IsHanded}
 use Rattle.gather.proofs.worker.agree.Given as goal
@@ -16,5 +17,6 @@ invariant-loop-holder g l = g.S.Shelf.has l.shelf l.seat
     × ((k : ℕ) → l.holder-index ≤ k → slice_get l.holders k ≡ slice_get l.fn.holders k)
     × IfSome l.length (λ n. g.S.Shelf.records l.seat n)
     × (IsTrue l.too_large → IsTooLarge (IsHanded (made_of l.form g.H.Holder.gives) l.fn.holders) (g.S.Shelf.fixed_of l.fn.seat))
-    × (AreSlices l.form → (blob : List ℕ) → IsServed (g.S.Shelf.fixed_of l.fn.seat) blob → (has : HasSlice (made_of l.form g.H.Holder.gives) (g.S.Shelf.fixed_of l.fn.seat).mode blob (2 ^ 64 - 1) 1 l.fn.holders) → has.place < l.holder-index
+    × ((blob : List ℕ) (start len : ℕ) → IsFor l.form (g.S.Shelf.fixed_of l.fn.seat) blob → IsServed (g.S.Shelf.fixed_of l.fn.seat) blob → IsEndIn l.form start len
+    → (has : HasSlice (made_of l.form g.H.Holder.gives) (g.S.Shelf.fixed_of l.fn.seat).mode blob start len l.fn.holders) → has.place < l.holder-index
     → HasFailed l.report ⊎ IsTooLarge (IsHanded (made_of l.form g.H.Holder.gives) l.fn.holders) (g.S.Shelf.fixed_of l.fn.seat) ⊎ IsSome l.length)

@@ -9,7 +9,7 @@ use Rattle.gather.proofs.Reporting.{starved, beside, fetch_fault, fetch_some, lo
 use Rattle.gather.specs.Available.{slice_of}
 use Rattle.gather.proofs.Bits.{in_without}
 use Rattle.gather.proofs.Serving.{rest_parts}
-use Rattle.gather.specs.Forms.{made_of}
+use Rattle.gather.specs.Forms.{checked_len, made_of}
 use Rattle.gather.proofs.Forming.{made_given, made_no_more, slice_given, slice_lost, slice_made, slice_of_store, slice_refused}
 use Rattle.gather.proofs.worker.ask.Goals as goal
 
@@ -24,10 +24,10 @@ returns-in-Err-clause-reports g c =
     c.in-Err.ensures.counts (λ device. c.in-Err.ensures.device (ap (λ (f : HolderFault). Err f) device))
 
 pub returns-in-Err-clause-served : goal.returns-in-Err-clause-served
-returns-in-Err-clause-served g c = λ are blob served slices asked.
+returns-in-Err-clause-served g c = λ blob are served slices asked.
     elim (lost_or_failed _ _ c.in-Err.fault c.count_lost.ensures (λ device. c.in-Err.ensures.lost (ap (λ (f : HolderFault). Err f) device))) [
       | inl failed ↦ inl failed
-      | inr lost ↦ absurd (slice_lost c.args.form.now g.H.Holder.gives (g.S.Shelf.fixed_of c.args.seat.now).mode blob c.args.holder.now c.args.part.now are slices lost)
+      | inr lost ↦ absurd (slice_lost c.args.form.now g.H.Holder.gives (g.S.Shelf.fixed_of c.args.seat.now) blob c.args.holder.now c.args.part.now c.requires.part are served slices lost)
     ]
 
 pub returns-in-Err-check-clause-reports : goal.returns-in-Err-check-clause-reports
@@ -65,11 +65,11 @@ returns-in-Ok-commit-clause-kept g c = λ n asked claimed.
     ]
 
 pub returns-in-Ok-commit-clause-served : goal.returns-in-Ok-commit-clause-served
-returns-in-Ok-commit-clause-served g c = λ are blob served slices asked.
+returns-in-Ok-commit-clause-served g c = λ blob are served slices asked.
     let F = g.S.Shelf.fixed_of c.args.seat.now in
-    let text = slice_given c.args.form.now g.H.Holder.gives F.mode blob c.args.holder.now c.args.part.now c.as_slice.result.now _ are slices c.as_slice.ensures.value (appended_all _ _ _ c.clear.ensures.items c.in-Ok.ensures.appended) in
-    let is : piece_of (g.S.Shelf.fixed_of c.args.seat.now).base c.in-Ok-check.piece ≡ slice_of F blob c.args.part.now.start c.args.part.now.len =
-    slice_made c.args.form.now F _ c.args.part.now _ c.in-Ok-check.piece blob _ _ are refl refl text c.in-Ok-check.ensures.slice in
+    let text = slice_given c.args.form.now g.H.Holder.gives F.mode blob c.args.holder.now c.args.part.now c.as_slice.result.now _ c.requires.part slices c.as_slice.ensures.value (appended_all _ _ _ c.clear.ensures.items c.in-Ok.ensures.appended) in
+    let is : piece_of (g.S.Shelf.fixed_of c.args.seat.now).base c.in-Ok-check.piece ≡ slice_of F blob c.args.part.now.start (checked_len c.args.form.now c.args.part.now) =
+    slice_made c.args.form.now F _ c.args.part.now _ c.in-Ok-check.piece blob _ _ refl refl text c.in-Ok-check.ensures.slice in
     inr (λ n. elim (cases_Bool (in_mask c.args.group c.without.result n)) [
       | inr out ↦ out
       | inl rest ↦
@@ -81,10 +81,10 @@ returns-in-Ok-commit-clause-served g c = λ are blob served slices asked.
     ])
 
 pub returns-in-Err-check-clause-served : goal.returns-in-Err-check-clause-served
-returns-in-Err-check-clause-served g c = λ are blob served slices asked.
+returns-in-Err-check-clause-served g c = λ blob are served slices asked.
     let F = g.S.Shelf.fixed_of c.args.seat.now in
-    let text = slice_given c.args.form.now g.H.Holder.gives F.mode blob c.args.holder.now c.args.part.now c.as_slice.result.now _ are slices c.as_slice.ensures.value (appended_all _ _ _ c.clear.ensures.items c.in-Ok.ensures.appended) in
-    absurd (slice_refused c.args.form.now F c.fixed-fixed.result c.args.part.now _ blob _ are served c.fixed-fixed.ensures text c.in-Err-check.ensures.slice)
+    let text = slice_given c.args.form.now g.H.Holder.gives F.mode blob c.args.holder.now c.args.part.now c.as_slice.result.now _ c.requires.part slices c.as_slice.ensures.value (appended_all _ _ _ c.clear.ensures.items c.in-Ok.ensures.appended) in
+    absurd (slice_refused c.args.form.now F c.fixed-fixed.result c.args.part.now _ blob c.in-Err-check.fault are served c.fixed-fixed.ensures text c.in-Err-check.ensures.slice)
 
 pub returns-then-eq-clause-reports : goal.returns-then-eq-clause-reports
 returns-then-eq-clause-reports g c =
@@ -103,7 +103,7 @@ returns-else-eq-clause-reports g c =
     c.fits.ensures (c.in-Ok.ensures.counts, c.count_asked.ensures)
 
 pub returns-else-eq-clause-served : goal.returns-else-eq-clause-served
-returns-else-eq-clause-served g c = λ are blob served slices asked. elim c.in-Err-commit.ensures.refused [
+returns-else-eq-clause-served g c = λ blob are served slices asked. elim c.in-Err-commit.ensures.refused [
   | inl memory ↦ let no : false ≡ true = rw memory at c.if-eq.ensures in cc
-  | inr other ↦ absurd (other (slice_of_store c.args.form.now (g.S.Shelf.fixed_of c.args.seat.now) c.fixed-fixed.result c.args.part.now _ c.in-Ok-check.piece are c.fixed-fixed.ensures c.in-Ok-check.ensures.slice))
+  | inr other ↦ absurd (other (slice_of_store c.args.form.now (g.S.Shelf.fixed_of c.args.seat.now) c.fixed-fixed.result blob c.args.part.now _ c.in-Ok-check.piece are c.fixed-fixed.ensures c.in-Ok-check.ensures.slice))
 ]

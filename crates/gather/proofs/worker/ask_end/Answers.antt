@@ -1,4 +1,4 @@
-use Rattle.gather.proofs.Common.{Err, ◌∙◌, ◌≡◌, ◌-◌, ◌^◌, false, true, ap, inl, inr, refl, sym, subst, Checked, piece_of, IsOf}
+use Rattle.gather.proofs.Common.{Err, ◌∙◌, ◌≡◌, false, true, ap, inl, inr, refl, sym, subst, Checked, piece_of, IsOf}
 use Rattle.gather.specs.declared.holder.HolderFault.{HolderFault}
 use Rattle.gather.specs.Holders.{IsGiven}
 use Rattle.gather.proofs.Gaining.{among_onward}
@@ -7,7 +7,7 @@ use Rattle.gather.proofs.Reporting.{beside, fetch_fault, fetch_large, fetch_some
 use Rattle.gather.specs.Available.{slice_of}
 use Rattle.gather.proofs.Serving.{holds_last, never_large}
 use Rattle.gather.specs.Forms.{made_of}
-use Rattle.gather.proofs.Forming.{made_given, made_no_more, end_given, end_lost, slice_end, slice_made, slice_of_store, slice_refused}
+use Rattle.gather.proofs.Forming.{end_checked, end_reaches, end_slice, made_given, made_no_more, slice_given, slice_lost, slice_made, slice_of_store, slice_refused}
 use Rattle.gather.proofs.worker.ask_end.Goals as goal
 
 pub returns-in_default-clause-reports : goal.returns-in_default-clause-reports
@@ -27,10 +27,11 @@ returns-in-Err-clause-reports g c =
     c.in-Err.ensures.counts (λ device. c.in-Err.ensures.device (ap (λ (f : HolderFault). Err f) device))
 
 pub returns-in-Err-clause-agreed : goal.returns-in-Err-clause-agreed
-returns-in-Err-clause-agreed g c = λ are blob served slices.
+returns-in-Err-clause-agreed g c = λ blob start len are served end slices.
     elim (lost_or_failed _ _ c.in-Err.fault c.count_lost.ensures (λ device. c.in-Err.ensures.lost (ap (λ (f : HolderFault). Err f) device))) [
       | inl failed ↦ inl failed
-      | inr lost ↦ absurd (end_lost c.args.form.now g.H.Holder.gives (g.S.Shelf.fixed_of c.args.seat.now).mode blob c.args.holder.now c.end-part.result are c.end-part.ensures.end slices lost)
+      | inr lost ↦ absurd (slice_lost c.args.form.now g.H.Holder.gives (g.S.Shelf.fixed_of c.args.seat.now) blob c.args.holder.now c.end-part.result c.end-part.ensures.part are served
+          (end_slice c.args.form.now g.H.Holder.gives (g.S.Shelf.fixed_of c.args.seat.now).mode blob c.args.holder.now c.end-part.result start len c.end-part.ensures.end end slices) lost)
     ]
 
 pub returns-in-Err-check-clause-reports : goal.returns-in-Err-check-clause-reports
@@ -49,14 +50,15 @@ returns-in_default-settle g c =
           (onward g.S.Shelf.fixed_of g.S.Shelf.gained g.S.Shelf.goes _ _ _ A A A _ _ _ _ _ _ settled (beside g.S.Shelf.fixed_of g.S.Shelf.gained g.S.Shelf.goes _ _ A _ _ _ _ given c.store_parents.ensures.reports));
       no_more = made_no_more c.args.form.now g.H.Holder.gives _ _ c.in-Ok.ensures.no_more;
       large = λ no. cc;
-      agreed = λ are blob served slices.
+      agreed = λ blob start len are served end slices.
           let stored = c.store_parents.ensures.reports in
           let F = g.S.Shelf.fixed_of c.args.seat.now in
-          let text = end_given c.args.form.now g.H.Holder.gives F.mode blob c.args.holder.now c.end-part.result c.as_slice.result.now _ are c.end-part.ensures.end slices c.as_slice.ensures.value (appended_all _ _ _ c.clear.ensures.items c.in-Ok.ensures.appended) in
-          let at = slice_end c.args.form.now c.end-part.result are c.end-part.ensures.end in
-          let is : piece_of (g.S.Shelf.fixed_of c.args.seat.now).base c.in-Ok-check.piece ≡ slice_of F blob (2 ^ 64 - 1) 1 = slice_made c.args.form.now F _ c.end-part.result _ c.in-Ok-check.piece blob _ _ are at.0 at.1 text c.in-Ok-check.ensures.slice in
+          let here = end_slice c.args.form.now g.H.Holder.gives F.mode blob c.args.holder.now c.end-part.result start len c.end-part.ensures.end end slices in
+          let text = slice_given c.args.form.now g.H.Holder.gives F.mode blob c.args.holder.now c.end-part.result c.as_slice.result.now _ c.end-part.ensures.part here c.as_slice.ensures.value (appended_all _ _ _ c.clear.ensures.items c.in-Ok.ensures.appended) in
+          let at = end_checked c.args.form.now c.end-part.result start len c.end-part.ensures.end end in
+          let is : piece_of (g.S.Shelf.fixed_of c.args.seat.now).base c.in-Ok-check.piece ≡ slice_of F blob start len = slice_made c.args.form.now F _ c.end-part.result _ c.in-Ok-check.piece blob start len at.0 at.1 text c.in-Ok-check.ensures.slice in
           let tail_is = ap (λ (it : Checked). piece_of (g.S.Shelf.fixed_of c.args.seat.now).base it) c.in-Some.ensures.piece ∙ is in
-          let of : IsOf F c.in-Ok-check.piece = slice_of_store c.args.form.now F c.fixed-fixed.result c.end-part.result _ c.in-Ok-check.piece are c.fixed-fixed.ensures c.in-Ok-check.ensures.slice in
+          let of : IsOf F c.in-Ok-check.piece = slice_of_store c.args.form.now F c.fixed-fixed.result blob c.end-part.result _ c.in-Ok-check.piece are c.fixed-fixed.ensures c.in-Ok-check.ensures.slice in
           let known = c.settle.ensures.records (λ large. never_large F _ blob _ _ served tail_is (c.settle.ensures.large large))
           (λ other. c.settle.ensures.other other (subst (λ (it : Checked). IsOf F it) (sym c.in-Some.ensures.piece) of)) in
           inr (known.0, g.S.Shelf.lasts.length _ _ _ stored.chunks stored.parents known.0 stored.gains known.1);
@@ -64,20 +66,22 @@ returns-in_default-settle g c =
     }
 
 pub returns-in_default-clause-agreed : goal.returns-in_default-clause-agreed
-returns-in_default-clause-agreed g c = λ are blob served slices.
+returns-in_default-clause-agreed g c = λ blob start len are served end slices.
     let F = g.S.Shelf.fixed_of c.args.seat.now in
-    let text = end_given c.args.form.now g.H.Holder.gives F.mode blob c.args.holder.now c.end-part.result c.as_slice.result.now _ are c.end-part.ensures.end slices c.as_slice.ensures.value (appended_all _ _ _ c.clear.ensures.items c.in-Ok.ensures.appended) in
-    let at = slice_end c.args.form.now c.end-part.result are c.end-part.ensures.end in
-    let is : piece_of (g.S.Shelf.fixed_of c.args.seat.now).base c.in-Ok-check.piece ≡ slice_of F blob (2 ^ 64 - 1) 1 = slice_made c.args.form.now F _ c.end-part.result _ c.in-Ok-check.piece blob _ _ are at.0 at.1 text c.in-Ok-check.ensures.slice in
-    let no : false ≡ true = c.in_default.ensures.there.1 (holds_last F c.in-Ok-check.piece blob served is) in
+    let here = end_slice c.args.form.now g.H.Holder.gives F.mode blob c.args.holder.now c.end-part.result start len c.end-part.ensures.end end slices in
+    let text = slice_given c.args.form.now g.H.Holder.gives F.mode blob c.args.holder.now c.end-part.result c.as_slice.result.now _ c.end-part.ensures.part here c.as_slice.ensures.value (appended_all _ _ _ c.clear.ensures.items c.in-Ok.ensures.appended) in
+    let at = end_checked c.args.form.now c.end-part.result start len c.end-part.ensures.end end in
+    let is : piece_of (g.S.Shelf.fixed_of c.args.seat.now).base c.in-Ok-check.piece ≡ slice_of F blob start len = slice_made c.args.form.now F _ c.end-part.result _ c.in-Ok-check.piece blob start len at.0 at.1 text c.in-Ok-check.ensures.slice in
+    let no : false ≡ true = c.in_default.ensures.there.1 (holds_last F c.in-Ok-check.piece blob start len served (end_reaches c.args.form.now F blob start len are served end) is) in
     cc
 
 pub returns-in-TooLarge-clause-agreed : goal.returns-in-TooLarge-clause-agreed
-returns-in-TooLarge-clause-agreed g c = λ are blob served slices.
+returns-in-TooLarge-clause-agreed g c = λ blob start len are served end slices.
     let F = g.S.Shelf.fixed_of c.args.seat.now in
-    let text = end_given c.args.form.now g.H.Holder.gives F.mode blob c.args.holder.now c.end-part.result c.as_slice.result.now _ are c.end-part.ensures.end slices c.as_slice.ensures.value (appended_all _ _ _ c.clear.ensures.items c.in-Ok.ensures.appended) in
-    let at = slice_end c.args.form.now c.end-part.result are c.end-part.ensures.end in
-    let is : piece_of (g.S.Shelf.fixed_of c.args.seat.now).base c.in-Ok-check.piece ≡ slice_of F blob (2 ^ 64 - 1) 1 = slice_made c.args.form.now F _ c.end-part.result _ c.in-Ok-check.piece blob _ _ are at.0 at.1 text c.in-Ok-check.ensures.slice in
+    let here = end_slice c.args.form.now g.H.Holder.gives F.mode blob c.args.holder.now c.end-part.result start len c.end-part.ensures.end end slices in
+    let text = slice_given c.args.form.now g.H.Holder.gives F.mode blob c.args.holder.now c.end-part.result c.as_slice.result.now _ c.end-part.ensures.part here c.as_slice.ensures.value (appended_all _ _ _ c.clear.ensures.items c.in-Ok.ensures.appended) in
+    let at = end_checked c.args.form.now c.end-part.result start len c.end-part.ensures.end end in
+    let is : piece_of (g.S.Shelf.fixed_of c.args.seat.now).base c.in-Ok-check.piece ≡ slice_of F blob start len = slice_made c.args.form.now F _ c.end-part.result _ c.in-Ok-check.piece blob start len at.0 at.1 text c.in-Ok-check.ensures.slice in
     let tail_is = ap (λ (it : Checked). piece_of (g.S.Shelf.fixed_of c.args.seat.now).base it) c.in-Some.ensures.piece ∙ is in
     absurd (never_large F _ blob _ _ served tail_is (c.in-TooLarge.ensures.large refl))
 
@@ -88,7 +92,8 @@ returns-in-TooLarge-clause-large g c = λ _.
     record { piece = _; from = subst (λ (it : Checked). A (piece_of (g.S.Shelf.fixed_of c.args.seat.now).base it)) (sym c.in-Some.ensures.piece) given; large = c.in-TooLarge.ensures.large refl }
 
 pub returns-in-Err-check-clause-agreed : goal.returns-in-Err-check-clause-agreed
-returns-in-Err-check-clause-agreed g c = λ are blob served slices.
+returns-in-Err-check-clause-agreed g c = λ blob start len are served end slices.
     let F = g.S.Shelf.fixed_of c.args.seat.now in
-    let text = end_given c.args.form.now g.H.Holder.gives F.mode blob c.args.holder.now c.end-part.result c.as_slice.result.now _ are c.end-part.ensures.end slices c.as_slice.ensures.value (appended_all _ _ _ c.clear.ensures.items c.in-Ok.ensures.appended) in
-    absurd (slice_refused c.args.form.now F c.fixed-fixed.result c.end-part.result _ blob _ are served c.fixed-fixed.ensures text c.in-Err-check.ensures.slice)
+    let here = end_slice c.args.form.now g.H.Holder.gives F.mode blob c.args.holder.now c.end-part.result start len c.end-part.ensures.end end slices in
+    let text = slice_given c.args.form.now g.H.Holder.gives F.mode blob c.args.holder.now c.end-part.result c.as_slice.result.now _ c.end-part.ensures.part here c.as_slice.ensures.value (appended_all _ _ _ c.clear.ensures.items c.in-Ok.ensures.appended) in
+    absurd (slice_refused c.args.form.now F c.fixed-fixed.result c.end-part.result _ blob c.in-Err-check.fault are served c.fixed-fixed.ensures text c.in-Err-check.ensures.slice)

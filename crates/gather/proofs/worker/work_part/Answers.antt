@@ -9,7 +9,8 @@ use Rattle.gather.proofs.Reporting.{counted_none, starved, still_gained, later_n
 use Rattle.gather.proofs.worker.work_part.Goals.{else-loop-holder-test, then-loop-holder-test+then-left-eq0}
 use Rattle.gather.specs.Available.{GivesSlice, IsServed, slice_of}
 use Rattle.gather.proofs.Serving.{fails_on, get_set_after, slice_here}
-use Rattle.gather.specs.Forms.{made_of}
+use Rattle.gather.specs.Forms.{checked_len, made_of}
+use Rattle.gather.specs.Parts.{IsFor}
 use Rattle.gather.proofs.worker.work_part.Goals as goal
 
 pub loop-holder-preserved : goal.loop-holder-preserved
@@ -36,20 +37,20 @@ loop-holder-preserved g c =
             ] in
             inr (gone, g.S.Shelf.lasts.chunk _ _ _ met.reports.chunks met.reports.parents n met.reports.gains held.1)
       ],
-      λ are blob served has before bound. elim (cases_lt has.place x.holder-index) [
-        | inl sooner ↦ elim (x.invariant.7 are blob served has sooner bound) [
+      λ blob are served has before bound. elim (cases_lt has.place x.holder-index) [
+        | inl sooner ↦ elim (x.invariant.7 blob are served has sooner bound) [
           | inl failed ↦ inl (fails_on x.report c.ask-left.new.report met.reports.no_less failed)
           | inr none ↦ inr (λ n. elim (cases_Bool (in_mask group c.ask-left.result n)) [ inl is ↦ absurd (both_ways _ (none n) (met.fewer n is)) | inr out ↦ out ])
         ]
         | inr not_sooner ↦
             let at : has.place ≡ x.holder-index = omega (arith, before, not_sooner) in
-            let slices : GivesSlice (made_of c.args.form.now g.H.Holder.gives) F.mode blob c.args.part.now.start c.args.part.now.len (get_or x.holders x.holder-index c.holder-item.result) =
-            subst (λ (k : ℕ). GivesSlice (made_of c.args.form.now g.H.Holder.gives) F.mode blob c.args.part.now.start c.args.part.now.len (get_or x.holders k c.holder-item.result)) at
-            (slice_here (made_of c.args.form.now g.H.Holder.gives) F.mode blob c.args.part.now.start c.args.part.now.len c.args.holders.now x.holders c.holder-item.result has (x.invariant.4 has.place (omega (arith, at)))) in
-            met.served are blob (subst (λ (f : Fixed). IsServed f blob) (sym same) served)
-            (subst (λ (f : Fixed). GivesSlice (made_of c.args.form.now g.H.Holder.gives) f.mode blob c.args.part.now.start c.args.part.now.len (get_or x.holders x.holder-index c.holder-item.result)) (sym same) slices) (λ n asked. (
+            let slices : GivesSlice (made_of c.args.form.now g.H.Holder.gives) F.mode blob c.args.part.now.start (checked_len c.args.form.now c.args.part.now) (get_or x.holders x.holder-index c.holder-item.result) =
+            subst (λ (k : ℕ). GivesSlice (made_of c.args.form.now g.H.Holder.gives) F.mode blob c.args.part.now.start (checked_len c.args.form.now c.args.part.now) (get_or x.holders k c.holder-item.result)) at
+            (slice_here (made_of c.args.form.now g.H.Holder.gives) F.mode blob c.args.part.now.start (checked_len c.args.form.now c.args.part.now) c.args.holders.now x.holders c.holder-item.result has (x.invariant.4 has.place (omega (arith, at)))) in
+            met.served blob (subst (λ (f : Fixed). IsFor c.args.form.now f blob) (sym same) are) (subst (λ (f : Fixed). IsServed f blob) (sym same) served)
+            (subst (λ (f : Fixed). GivesSlice (made_of c.args.form.now g.H.Holder.gives) f.mode blob c.args.part.now.start (checked_len c.args.form.now c.args.part.now) (get_or x.holders x.holder-index c.holder-item.result)) (sym same) slices) (λ n asked. (
               elim (x.invariant.6 n (x.invariant.5 n asked)) [ inl left ↦ left.1 | inr held ↦ absurd (both_ways _ held.0 asked) ],
-              subst (λ (f : Fixed). holds_chunk (slice_of f blob c.args.part.now.start c.args.part.now.len) n ≡ true) (sym same) (bound n (x.invariant.5 n asked)),
+              subst (λ (f : Fixed). holds_chunk (slice_of f blob c.args.part.now.start (checked_len c.args.form.now c.args.part.now)) n ≡ true) (sym same) (bound n (x.invariant.5 n asked)),
             ))
       ],
     )
@@ -92,7 +93,7 @@ returns-then-left-eq0-2 g c =
           (sym same) x.invariant.1;
       later = subst (λ holders. AreLater (made_of c.args.form.now g.H.Holder.gives) c.args.holders.now holders) (sym same) x.invariant.3;
       claims = among_and_none _ _ group (subst (λ (left : ℕ). AmongAnd (g.S.Shelf.claims c.args.seat.now) group left (g.S.Shelf.claims x.seat)) c.if-left-eq0-2.true x.invariant.2);
-      served = λ are blob served has wanted. inr (λ n asked. elim (c.in-Ok.ensures.rest n asked (omega (arith, (wanted n asked).0, served.room))) [
+      served = λ blob are served has wanted. inr (λ n asked. elim (c.in-Ok.ensures.rest n asked (omega (arith, (wanted n asked).0, served.room))) [
         | inr (inl held) ↦ inl (g.S.Shelf.lasts.chunk _ _ _ x.invariant.1.chunks x.invariant.1.parents n x.invariant.1.gains held)
         | inr (inr busy) ↦ inr busy
         | inl granted ↦ elim (x.invariant.6 n granted) [
@@ -103,7 +104,7 @@ returns-then-left-eq0-2 g c =
     }
 
 pub returns-clause-served : goal.returns-clause-served
-returns-clause-served g c = λ are blob served has wanted.
+returns-clause-served g c = λ blob are served has wanted.
     let x = c.loop-holder in
     let group = c.args.group in
     let still = c.give.ensures.gained in
@@ -112,7 +113,7 @@ returns-clause-served g c = λ are blob served has wanted.
       | else-loop-holder-test w ↦ omega (arith, slice_get_within c.args.holders.now has.place has.holder has.there, x.invariant.3.len, w.loop-holder-test.false)
       | then-loop-holder-test+then-left-eq0 w ↦ absurd (c.if-left-eq0-2.false w.if-left-eq0.true)
     ] in
-    elim (x.invariant.7 are blob served has over (λ n granted. (wanted n (c.in-Ok.ensures.granted n granted).0).1)) [
+    elim (x.invariant.7 blob are served has over (λ n granted. (wanted n (c.in-Ok.ensures.granted n granted).0).1)) [
       | inl failed ↦ inl failed
       | inr none ↦ inr (λ n asked. elim (c.in-Ok.ensures.rest n asked (omega (arith, (wanted n asked).0, served.room))) [
         | inr (inl held) ↦ inl (on n (g.S.Shelf.lasts.chunk _ _ _ x.invariant.1.chunks x.invariant.1.parents n x.invariant.1.gains held))
@@ -133,5 +134,5 @@ loop-holder-init g c = (
   λ k _. refl,
   λ n is. is,
   λ n is. inl (is, (c.in-Ok.ensures.granted n is).1),
-  λ are blob served has before bound. absurd (omega (arith, before)),
+  λ blob are served has before bound. absurd (omega (arith, before)),
 )

@@ -1,4 +1,5 @@
-use Rattle.gather.specs.Forms.{AreSlices, made_of}
+use Rattle.gather.specs.Forms.{checked_len, made_of}
+use Rattle.gather.specs.Parts.{IsFor}
 use Rattle.gather.specs.Claims.{AmongAnd}
 use Rattle.gather.proofs.Common.{sum_by, ◌≡◌, ◌⊎◌, ℕ, ◌<◌, ◌≤◌, List, true, false, slice_get, holds_chunk, in_mask}
 use Rattle.gather.specs.Counts.{Reports}
@@ -15,5 +16,6 @@ invariant-loop-holder g l = g.S.Shelf.has l.shelf l.seat
     × ((k : ℕ) → l.holder-index ≤ k → slice_get l.holders k ≡ slice_get l.fn.holders k)
     × ((c : ℕ) → in_mask l.group l.left c ≡ true → in_mask l.group l.granted c ≡ true)
     × ((c : ℕ) → in_mask l.group l.granted c ≡ true → ((in_mask l.group l.left c ≡ true) × (g.S.Shelf.claims l.seat c ≡ true)) ⊎ ((in_mask l.group l.left c ≡ false) × g.S.Shelf.holds l.seat c))
-    × (AreSlices l.form → (blob : List ℕ) → IsServed (g.S.Shelf.fixed_of l.fn.seat) blob → (has : HasSlice (made_of l.form g.H.Holder.gives) (g.S.Shelf.fixed_of l.fn.seat).mode blob l.part.start l.part.len l.fn.holders) → has.place < l.holder-index
-    → ((c : ℕ) → in_mask l.group l.granted c ≡ true → holds_chunk (slice_of (g.S.Shelf.fixed_of l.fn.seat) blob l.part.start l.part.len) c ≡ true) → HasFailed l.report ⊎ ((c : ℕ) → in_mask l.group l.left c ≡ false))
+    × ((blob : List ℕ) → IsFor l.form (g.S.Shelf.fixed_of l.fn.seat) blob → IsServed (g.S.Shelf.fixed_of l.fn.seat) blob
+    → (has : HasSlice (made_of l.form g.H.Holder.gives) (g.S.Shelf.fixed_of l.fn.seat).mode blob l.part.start (checked_len l.form l.part) l.fn.holders) → has.place < l.holder-index
+    → ((c : ℕ) → in_mask l.group l.granted c ≡ true → holds_chunk (slice_of (g.S.Shelf.fixed_of l.fn.seat) blob l.part.start (checked_len l.form l.part)) c ≡ true) → HasFailed l.report ⊎ ((c : ℕ) → in_mask l.group l.left c ≡ false))

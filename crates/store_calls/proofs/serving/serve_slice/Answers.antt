@@ -13,7 +13,7 @@ use Rattle.store_core.specs.Serves.{node_held}
 use Rattle.store_core.specs.Stores.{GainsNode}
 use Rattle.store_steps.specs.Slices.{node_number}
 use Rattle.store_core.specs.Knowledge.{Called, Sees}
-use Rattle.store_calls.proofs.Slices.{AreBelow, IsServing, below_next, has_length, lacks, names_below, none_told, serve_binds, serves_first, serves_on}
+use Rattle.store_calls.proofs.Slices.{AreBelow, IsServing, below_next, has_length, lacks, names_below, none_told, serve_accepted, serve_binds, serves_first, serves_on}
 use Rattle.store_calls.proofs.serving.serve_slice.Goals as goal
 
 pub returns-in_err-extend_from_slice-clause-refused : goal.returns-in_err-extend_from_slice-clause-refused
@@ -84,3 +84,11 @@ returns-clause-binds c =
     subst (λ (o : Option Node). IsServing first new c.args.start c.args.len o (rest_of c.nodes.rest) c.nodes.out.items) c.in_default-next.is c.nodes.invariant.1 in
     serve_binds first new c.args.start c.args.len c.nodes.out.items
     (subst (λ (f : Fixed). IsKeyed f.mode) (c.fixed.ensures ∙ sym c.nodes.invariant.0.knows.fixed_is) c.is_keyed.ensures) called
+
+pub returns-clause-accepted : goal.returns-clause-accepted
+returns-clause-accepted c =
+    let first : SeatView = c.args.grip.now.view in
+    let new : SeatView = c.nodes.grip.view in
+    let called : Called (Serve c.args.start c.args.len (Text c.nodes.out.items)) first new =
+    subst (λ (o : Option Node). IsServing first new c.args.start c.args.len o (rest_of c.nodes.rest) c.nodes.out.items) c.in_default-next.is c.nodes.invariant.1 in
+    serve_accepted first new c.args.start c.args.len c.nodes.out.items called

@@ -10,7 +10,7 @@ returns-in-Err-NoLength-clause-fetches c =
     c.in-Err-NoLength.ensures.refused in
     let called : Called (Serve c.args.start c.args.len NoLength) c.args.self.now.seat.view c.serve_slice.new.seat.view =
     subst (λ (p : Peered). Called (Serve c.args.start c.args.len NoLength) p.seat.view c.serve_slice.new.seat.view) c.self.view_is refused in
-    record { text = []; is = sym (append-nil c.args.into.now.items); served = inr (refl, inl called); binds = inl refl }
+    record { text = []; is = sym (append-nil c.args.into.now.items); served = inr (refl, inl called); binds = inl refl; accepted = inl refl }
 
 pub returns-in-Err-Lacking-clause-fetches : goal.returns-in-Err-Lacking-clause-fetches
 returns-in-Err-Lacking-clause-fetches c =
@@ -19,14 +19,14 @@ returns-in-Err-Lacking-clause-fetches c =
     c.in-Err-Lacking.ensures.refused in
     let called : Called (Serve c.args.start c.args.len (Lacking node)) c.args.self.now.seat.view c.serve_slice.new.seat.view =
     subst (λ (p : Peered). Called (Serve c.args.start c.args.len (Lacking node)) p.seat.view c.serve_slice.new.seat.view) c.self.view_is refused in
-    record { text = []; is = sym (append-nil c.args.into.now.items); served = inr (refl, inr (node, called)); binds = inl refl }
+    record { text = []; is = sym (append-nil c.args.into.now.items); served = inr (refl, inr (node, called)); binds = inl refl; accepted = inl refl }
 
 pub returns-in-Ok-extend_from_slice-clause-fetches : goal.returns-in-Ok-extend_from_slice-clause-fetches
 returns-in-Ok-extend_from_slice-clause-fetches c =
     let text = c.in-Ok.text.items in
     let called : Called (Serve c.args.start c.args.len (Text text)) c.args.self.now.seat.view c.serve_slice.new.seat.view =
     subst (λ (p : Peered). Called (Serve c.args.start c.args.len (Text text)) p.seat.view c.serve_slice.new.seat.view) c.self.view_is c.in-Ok.ensures.served in
-    record { text = text; is = c.in-Ok-extend_from_slice.ensures.items ∙ ap (λ (xs : List ℕ). c.args.into.now.items ++ xs) c.as_slice.ensures.value; served = inl called; binds = inr c.in-Ok.ensures.binds }
+    record { text = text; is = c.in-Ok-extend_from_slice.ensures.items ∙ ap (λ (xs : List ℕ). c.args.into.now.items ++ xs) c.as_slice.ensures.value; served = inl called; binds = inr c.in-Ok.ensures.binds; accepted = inr c.in-Ok.ensures.accepted }
 
 pub returns-in-Err-NoLength-clause-gives : goal.returns-in-Err-NoLength-clause-gives
 returns-in-Err-NoLength-clause-gives c = fetch_gives _ _ _ _ _ _ (returns-in-Err-NoLength-clause-fetches c)
@@ -44,7 +44,7 @@ returns-then-is_empty-clause-fetches c =
     subst (λ (p : Peered). Called (Serve c.args.start c.args.len (Text text)) p.seat.view c.serve_slice.new.seat.view) c.self.view_is c.in-Ok.ensures.served in
     let long : vec_len c.args.into.now ≡ length c.args.into.now.items = search rules in
     let empty : c.args.into.now.items ≡ [] = nil_from_length c.args.into.now.items (sym long ∙ eqb-true (vec_len c.args.into.now) 0 (sym c.if-is_empty.ensures)) in
-    record { text = text; is = ap (λ (xs : List ℕ). xs ++ text) (sym empty); served = inl called; binds = inr c.in-Ok.ensures.binds }
+    record { text = text; is = ap (λ (xs : List ℕ). xs ++ text) (sym empty); served = inl called; binds = inr c.in-Ok.ensures.binds; accepted = inr c.in-Ok.ensures.accepted }
 
 pub returns-then-is_empty-clause-gives : goal.returns-then-is_empty-clause-gives
 returns-then-is_empty-clause-gives c = fetch_gives _ _ _ _ _ _ (returns-then-is_empty-clause-fetches c)

@@ -1,0 +1,113 @@
+-- Which nodes a piece has: those of the slice that it is of, and all of them where it is of the whole blob.
+use Rattle.std.proofs.Common.{◌≡◌, ℕ, ◌+◌, ◌-◌, ◌*◌, ◌^◌, ◌<◌, ◌≤◌, ◌==◌, ◌&&◌, min, true, List, [], ◌∷◌, map, Option, IsSome, None, Some, is_some, option_map, inl, inr, refl, sym, subst, ◌∙◌, arith, eq-eqb}
+use Rattle.std.specs.Prelude.{Contains}
+use Rattle.std.proofs.lemmas.Bool.{cases_Bool}
+use Rattle.bao_text.specs.declared.choice.Choice.{Choice}
+use Rattle.bao_text.specs.declared.walk.Node.{Node}
+use Rattle.bao_text.specs.declared.walk.Node.TheVariants.{Chunk, Parent}
+use Rattle.bao_text.specs.Choice.{chunk_count, of_slice}
+use Rattle.bao_text.specs.NodeNames.{boundary, name}
+use Rattle.bao_text.specs.Nodes.{TreeNode, nodes, placed_nodes, size}
+use Rattle.bao_check.specs.Parents.{is_parent_at, parent_in}
+use Rattle.bao_check.specs.Pieces.{chunk_in}
+use Rattle.bao_check.proofs.Finding.{half, is_there, lowest_of}
+use Rattle.bao_check.proofs.Lists.{All-member, Contains-cons_cases, Contains-head, Contains-tail}
+use Rattle.bao_check.proofs.Locating.{IsWithin, chunk_in-place, numbers_within}
+use Rattle.bao_check.proofs.Parenting.{IsInside, boundaries_inside, parent_in-some}
+use Rattle.bao_check.proofs.Presence.{Meets, slice_present, wants-from_Meets}
+use Rattle.store_core.specs.declared.history.Piece.{Piece}
+use Rattle.store_core.specs.Pieces.{length_of, nodes_of, places_in}
+use Rattle.determined_gather.specs.Serves.{HasNode, HasSliceOf}
+
+-- an encoding has the node of this name among its nodes
+abbrev HasIn : List ℕ → ℕ → List TreeNode → Node → Type 0
+HasIn text at some (Chunk c) = is_some (chunk_in text (placed_nodes at some) c) ≡ true
+HasIn text at some (Parent m) = is_some (parent_in text (placed_nodes at some) m) ≡ true
+
+first_named : (text : List ℕ) (at : ℕ) (node : TreeNode) (rest : List TreeNode) → HasIn text at (node ∷ rest) (name node)
+first_named text at node rest = elim (cases_Bool node.is_chunk) [
+  | inl chunk ↦ rw chunk (rw (eq-eqb node.number node.number refl) refl)
+  | inr parent ↦ rw parent (rw (eq-eqb (boundary node) (boundary node) refl) refl)
+]
+
+later_named : (text : List ℕ) (at : ℕ) (node : TreeNode) (rest : List TreeNode) (x : Node) → HasIn text (at + size node) rest x → HasIn text at (node ∷ rest) x
+later_named text at node rest (Chunk c) has = elim (cases_Bool (node.is_chunk && (node.number == c))) [
+  | inl it ↦ rw it refl
+  | inr other ↦ rw other has
+]
+later_named text at node rest (Parent m) has = elim (cases_Bool (is_parent_at m node)) [
+  | inl it ↦ rw it refl
+  | inr other ↦ rw other has
+]
+
+named_there : (text : List ℕ) (at : ℕ) (some : List TreeNode) (x : Node) → Contains (map name some) x → HasIn text at some x
+named_there text at [] x there = absurd (omega (arith, there.1))
+named_there text at (node ∷ rest) x there = elim (Contains-cons_cases (map name rest) (name node) x there) [
+  | inl same ↦ subst (λ (y : Node). HasIn text at (node ∷ rest) y) (sym same) (first_named text at node rest)
+  | inr inner ↦ later_named text at node rest x (named_there text (at + size node) rest x inner)
+]
+
+-- a piece for a store that begins with the blob's first chunk
+has_node : (piece : Piece) → piece.base ≡ 0 → (x : Node) → HasIn piece.text 8 (nodes_of piece) x → HasNode piece x
+has_node piece first (Chunk c) has =
+    let at : c ≡ piece.base + c = omega (arith, first) in
+    subst (λ (n : ℕ). is_some (chunk_in piece.text (places_in piece) n) ≡ true) at has
+has_node piece first (Parent m) has = has
+
+-- the slice that it is of
+pub own_slice : (piece : Piece) → piece.base ≡ 0 → HasSliceOf piece piece.start piece.len
+own_slice piece first x there = has_node piece first x (named_there piece.text 8 (nodes_of piece) x there)
+
+-- a name among names is a node's
+unnamed : (some : List TreeNode) (x : Node) → Contains (map name some) x → (node : TreeNode) × (Contains some node × (x ≡ name node))
+unnamed [] x there = absurd (omega (arith, there.1))
+unnamed (node ∷ rest) x there = elim (Contains-cons_cases (map name rest) (name node) x there) [
+  | inl same ↦ (node, (Contains-head rest node, same))
+  | inr inner ↦ let found = unnamed rest x inner in (found.0, (Contains-tail rest node found.0 found.1.0, found.1.1))
+]
+
+some_mapped : {X Y : Type 0} (f : X → Y) (o : Option X) → IsSome o → is_some (option_map f o) ≡ true
+some_mapped f None is = is
+some_mapped f (Some x) is = refl
+
+-- all of a blob's nodes are of the slice of everything
+module _ (text : List ℕ) (n len : ℕ) (range : n ≤ 2 ^ 64 - 1) (all : n ≤ len) where
+  abbrev whole : Choice
+  whole = of_slice n 0 len
+
+  chunk_of_whole : (c : ℕ) → c < chunk_count n → is_some (chunk_in text (placed_nodes 8 (nodes n 0 len)) c) ≡ true
+  chunk_of_whole c below =
+      subst (λ (o : Option (List ℕ)). is_some o ≡ true) (sym (chunk_in-place text (placed_nodes 8 (nodes n 0 len)) c))
+      (some_mapped _ _ ((slice_present n 0 len 8 c).1 (omega arith, omega (arith, below, all))))
+
+  parent_of_whole : (m : ℕ) → 0 < m → m < chunk_count n → is_some (parent_in text (placed_nodes 8 (nodes n 0 len)) m) ≡ true
+  parent_of_whole m low high =
+      let above : m - 0 < chunk_count n = omega (arith, high) in
+      let split = lowest_of whole 0 n 8 m low above range in
+      let h : ℕ = half whole 0 n 8 m low above range in
+      let fits : h ≤ m = omega (arith, split.1, split.2.1) in
+      let meets : Meets whole (1024 * (0 + (m - 0 - h))) (min (1024 * (2 * h)) (n - 1024 * (m - 0 - h))) = record {
+        before = omega (arith, low, high, all, fits);
+        after = omega arith;
+      } in
+      parent_in-some text (placed_nodes 8 (nodes n 0 len)) m ∙ is_there whole 0 n 8 m low above range (wants-from_Meets whole _ _ meets) [] 8
+
+  node_of_whole : (start some : ℕ) (node : TreeNode) → Contains (nodes n start some) node → HasIn text 8 (nodes n 0 len) (name node)
+  node_of_whole start some node there =
+      let within : IsWithin 0 (chunk_count n) node = All-member (IsWithin 0 (chunk_count n)) (nodes n start some) (numbers_within (of_slice n start some) 0 n [] 8) node there in
+      elim (cases_Bool node.is_chunk) [
+        | inl chunk ↦ rw chunk (chunk_of_whole node.number (omega (arith, within.1)))
+        | inr parent ↦
+            let inside = All-member (IsInside 0 (chunk_count n)) (nodes n start some) (boundaries_inside (of_slice n start some) 0 n [] 8) node there parent in
+            rw parent (parent_of_whole (boundary node) (omega (arith, inside.0)) (omega (arith, inside.1)))
+      ]
+
+-- each slice
+pub every_slice : (piece : Piece) → piece.base ≡ 0 → piece.start ≡ 0 → length_of piece ≤ piece.len → length_of piece ≤ 2 ^ 64 - 1 → (start len : ℕ) → HasSliceOf piece start len
+every_slice piece first begin all range start len x there =
+    let found = unnamed (nodes (length_of piece) start len) x there in
+    let own : HasIn piece.text 8 (nodes (length_of piece) 0 piece.len) (name found.0) =
+    node_of_whole piece.text (length_of piece) piece.len range all start len found.0 found.1.0 in
+    has_node piece first x
+    (subst (λ (from : ℕ). HasIn piece.text 8 (nodes (length_of piece) from piece.len) x) (sym begin)
+    (subst (λ (y : Node). HasIn piece.text 8 (nodes (length_of piece) 0 piece.len) y) (sym found.1.1) own))
