@@ -304,7 +304,7 @@ BW_USE bw_status bw_audit(const bw_mode *mode, const uint8_t root[BW_AT_LEAST(BW
  * 1,024 * first on to where the last of them ends. Each call but bw_outline_new can answer BW_NO_HANDLE. */
 
 /* Checks an outboard encoding, as bw_check_outboard does, and keeps a copy of it; what the handle owned is freed. BW_SHORT, BW_MISMATCH, BW_TRAILING,
- * BW_MEMORY: the handle is empty then. */
+ * BW_MEMORY: the handle is empty then. One that isn't there as a whole goes by bw_feed_outboard. */
 BW_USE bw_status bw_outline_new(const bw_mode *mode, const uint8_t root[BW_AT_LEAST(BW_HASH_LEN)], const uint8_t *outboard, size_t outboard_len,
                                 bw_outline *outline, uint64_t *at) BW_NONNULL(1, 5, 6);
 
@@ -366,6 +366,24 @@ BW_USE bw_status bw_feed_take_many(bw_feed *feed, const uint8_t *bytes, size_t b
  * next, BW_TRAILING where none does and `rest` has bytes. BW_OTHER_SIZE: `rest` has all bytes of a node, which is to be taken first. The check
  * is as it was, and can go on. */
 BW_USE bw_status bw_feed_finish(bw_feed *feed, const uint8_t *rest, size_t rest_len, uint64_t *at) BW_NONNULL(1, 4);
+
+/* --- Outboard encodings checked in pieces, of any size, while they come, and kept: at its end one is an outline. What is accepted, and else the
+ * first fault and its place, are those of bw_check_outboard. A program hands bw_feed_push what came, again and again, and then asks for the outline.
+ * Each call but bw_feed_outboard can answer BW_NO_HANDLE, as it does for a check in pieces that bw_feed_slice or bw_feed_combined made; so do
+ * theirs for one that bw_feed_outboard made. */
+
+/* A check of an outboard encoding of which no byte has come; what the handle owned is freed. BW_MEMORY, with an empty handle. */
+BW_USE bw_status bw_feed_outboard(const bw_mode *mode, const uint8_t root[BW_AT_LEAST(BW_HASH_LEN)], bw_feed *feed) BW_NONNULL(1, 3);
+
+/* Takes the bytes that come next, and verifies each parent as soon as it is wholly there. BW_MISMATCH at a parent that is false, and BW_TRAILING
+ * where something follows the last: that is the first fault of every outboard encoding that begins with what was taken and these bytes, at *at.
+ * BW_MEMORY. None of the bytes are taken then, and others can come in their place. */
+BW_USE bw_status bw_feed_push(bw_feed *feed, const uint8_t *bytes, size_t bytes_len, uint64_t *at) BW_NONNULL(1, 4);
+
+/* Makes an outline of the encoding that came, as bw_outline_new makes one, but no parent is hashed once more and no byte is copied. `feed` is empty
+ * then; what `outline` owned is freed. BW_SHORT: the encoding goes on, with the node that comes next at *at, and more of it can be handed in.
+ * BW_MEMORY: `feed` is empty then. `outline` is empty after either. The length isn't certified, as bw_outline_length says. */
+BW_USE bw_status bw_feed_outline(bw_feed *feed, bw_outline *outline, uint64_t *at) BW_NONNULL(1, 2, 3);
 
 /* --- The store that threads share: each thread has a seat of its own, and the store lives until its last seat is freed. Nothing is taken on
  * anybody's word: what is stored comes from encodings accepted under the store's root. Chunks are in groups of 64, and a mask is of a group:

@@ -223,6 +223,18 @@ static bw_status pour(const uint8_t *root, const uint8_t *text, size_t len, size
     return status;
 }
 
+/* An outboard encoding that comes in pieces of 64 KiB, and its outline. */
+static bw_status push(const uint8_t *root, const uint8_t *text, size_t len, bw_outline *outline) {
+    bw_feed feed = BW_EMPTY;
+    uint64_t at = 0;
+    bw_status status = bw_feed_outboard(&plain, root, &feed);
+    for (size_t done = 0; status == BW_OK && done < len; done += GROUP_LEN)
+        status = bw_feed_push(&feed, text + done, len - done < GROUP_LEN ? len - done : GROUP_LEN, &at);
+    if (status == BW_OK) status = bw_feed_outline(&feed, outline, &at);
+    bw_feed_free(&feed);
+    return status;
+}
+
 /* A plain copy beside an outline, 64 KiB at a time: checked, made slices of, or stored. */
 static bw_status beside(bw_outline *outline, bw_seat *seat, const uint8_t *bytes, size_t len, uint8_t *out) {
     bw_status status = BW_OK;
@@ -273,6 +285,7 @@ static void first_bytes(const uint8_t *bytes, size_t len) {
     TIME("bw_feed_take_many in pieces of 64 KiB", pour(root, text, text_len, GROUP_LEN, out));
     TIME("bw_feed_take_many in pieces of 256 KiB", pour(root, text, text_len, 4 * GROUP_LEN, out));
     TIME("bw_feed_take", pour(root, text, text_len, 0, out));
+    TIME("bw_feed_push", push(root, bare, bare_len, &outline));
     TIME("bw_outline_new", bw_outline_new(&plain, root, bare, bare_len, &outline, &at));
     TIME("bw_outline_check", beside(&outline, NULL, bytes, len, NULL));
     TIME("bw_outline_slice", beside(&outline, NULL, bytes, len, out));

@@ -96,8 +96,8 @@ int main(void) {
     for (int refused = 1, n = 0; refused != 0; n++) {
         bw_hasher hasher = BW_EMPTY;
         bw_seat seat = BW_EMPTY, other = BW_EMPTY, part = BW_EMPTY;
-        bw_feed feed = BW_EMPTY, whole = BW_EMPTY;
-        bw_outline outline = BW_EMPTY, again = BW_EMPTY;
+        bw_feed feed = BW_EMPTY, whole = BW_EMPTY, coming = BW_EMPTY;
+        bw_outline outline = BW_EMPTY, again = BW_EMPTY, came = BW_EMPTY;
         refused = 0;
         left = n;
         bw_status made = bw_hasher_new(&plain, &hasher), opened = bw_store_new(&plain, root, 100, &seat), split = bw_seat_split(&seat, &other);
@@ -108,9 +108,19 @@ int main(void) {
         bw_status bare = bw_outboard(&plain, blob, sizeof blob, spare, sizeof spare, &spare_len, root);
         bw_status kept = bw_outline_new(&plain, root, outboard, outboard_len, &outline, &at), shared = bw_outline_share(&outline, &again);
         bw_status parted = bw_store_part(&plain, root, 3, 60, &part);
+        bw_status begun = bw_feed_outboard(&plain, root, &coming), one = bw_feed_push(&coming, outboard, 100, &at);
+        bw_status two = bw_feed_push(&coming, outboard + 100, outboard_len - 100, &at), ended = bw_feed_outline(&coming, &came, &at);
         bw_status beside = bw_outline_slice(&outline, 0, 64, blob, 65536, spare, sizeof spare, &beside_len, &at);
         left = 0; /* no other call takes memory */
         WANT(kept == BW_OK || (kept == BW_MEMORY && outline.at == NULL && ++refused));
+        WANT(begun == BW_OK || (begun == BW_MEMORY && coming.at == NULL && ++refused));
+        /* What isn't taken can come again. With its first bytes missing the rest is no outboard encoding. */
+        WANT(one == BW_OK || (one == (begun == BW_OK ? BW_MEMORY : BW_NO_HANDLE) && ++refused));
+        WANT(two == BW_OK || begun != BW_OK || (two == BW_MEMORY && ++refused) || one != BW_OK);
+        WANT(ended == BW_OK || came.at == NULL);
+        WANT(ended != BW_MEMORY || (one == BW_OK && two == BW_OK && coming.at == NULL && ++refused));
+        WANT(ended != BW_OK || (coming.at == NULL && bw_outline_length(&came, &len) == BW_OK && len == sizeof blob));
+        WANT(ended == BW_OK || ended == BW_MEMORY || ended == (begun == BW_OK ? BW_SHORT : BW_NO_HANDLE));
         WANT(shared == BW_OK || (again.at == NULL && shared == (kept == BW_OK ? BW_MEMORY : BW_NO_HANDLE) && ++refused));
         WANT(beside == BW_OK || (beside == (kept == BW_OK ? BW_TEXT_MEMORY : BW_NO_HANDLE) && ++refused));
         WANT(beside != BW_OK || sliced != BW_OK || (beside_len == cut && memcmp(spare, slice, cut) == 0));
@@ -168,7 +178,7 @@ int main(void) {
             WANT(bw_seat_commit_all(&seat, 0, UINT64_MAX, text, used, &mask, &parents, &at) == BW_OK && mask == 5 - had && parents == 5 - before);
         }
         left = -1;
-        bw_hasher_free(&hasher), bw_seat_free(&seat), bw_seat_free(&other), bw_feed_free(&feed), bw_feed_free(&whole), bw_outline_free(&outline), bw_outline_free(&again), bw_seat_free(&part);
+        bw_hasher_free(&hasher), bw_seat_free(&seat), bw_seat_free(&other), bw_feed_free(&feed), bw_feed_free(&whole), bw_feed_free(&coming), bw_outline_free(&outline), bw_outline_free(&again), bw_outline_free(&came), bw_seat_free(&part);
         WANT(n < 1000);
     }
     for (int alone = 0; alone < 2; alone++)

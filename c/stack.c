@@ -90,6 +90,10 @@ static void pour(void) {
     sink = bw_feed_take_many(&feed, text + 8, text_len - 8, out, ROOM, &taken, &filled, &at);
     sink = bw_feed_finish(&feed, text, 0, &at);
     bw_feed_free(&feed);
+    sink = bw_feed_outboard(&plain, root, &feed);
+    sink = bw_feed_push(&feed, outboard, outboard_len, &at);
+    sink = bw_feed_outline(&feed, &part, &at);
+    bw_outline_free(&part);
 }
 
 static void store(void) {

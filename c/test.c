@@ -494,6 +494,8 @@ static void nothings(void) {
     WANT(bw_seat_commit_parents(&seat, 0, 0, 1, NULL, 0, &parents, &at) == BW_SHORT && bw_seat_commit_all(&seat, 0, 1, NULL, 0, &committed, &parents, &at) == BW_SHORT);
     WANT(bw_gather(&seat, 0, 1, NULL, 0, &report) == BW_OK && bw_seat_salvage(&seat, NULL, 0, &report) == BW_OK);
     WANT(bw_outline_new(&plain, hash, NULL, 0, &outline, &at) == BW_SHORT && bw_outline_new(&plain, hash, claim, 8, &outline, &at) == BW_OK);
+    WANT(bw_feed_outboard(&plain, hash, &feed) == BW_OK && bw_feed_push(&feed, NULL, 0, &at) == BW_OK && bw_feed_outline(&feed, &outline, &at) == BW_SHORT && at == 0);
+    WANT(bw_feed_push(&feed, claim, 8, &at) == BW_OK && bw_feed_push(&feed, NULL, 0, &at) == BW_OK && bw_feed_outline(&feed, &outline, &at) == BW_OK);
     WANT(bw_outline_check(&outline, 0, 1, NULL, 0, &at) == BW_OK && bw_outline_slice(&outline, 0, 1, NULL, 0, NULL, 0, &used, &at) == BW_ROOM && used == 8);
     WANT(bw_outline_slice(&outline, 0, 1, NULL, 0, one, 8, &used, &at) == BW_OK && used == 8 && memcmp(one, claim, sizeof claim) == 0);
     WANT(bw_outline_commit(&outline, &seat, 0, 1, NULL, 0, &committed, &parents, &at) == BW_OK && committed == 1 && parents == 0);
@@ -550,6 +552,7 @@ static void modes(const uint8_t *blob) {
         WANT(bw_hasher_new(&plain, &hasher) == BW_OK && bw_hasher_new(&unknown, &hasher) == BW_NO_MODE && hasher.at == NULL);
         WANT(bw_feed_combined(&plain, root, &feed) == BW_OK && bw_feed_combined(&unknown, root, &feed) == BW_NO_MODE && feed.at == NULL);
         WANT(bw_feed_slice(&plain, root, 0, 1, &feed) == BW_OK && bw_feed_slice(&unknown, root, 0, 1, &feed) == BW_NO_MODE && feed.at == NULL);
+        WANT(bw_feed_outboard(&plain, root, &feed) == BW_OK && bw_feed_outboard(&unknown, root, &feed) == BW_NO_MODE && feed.at == NULL);
         WANT(bw_store_new(&plain, root, 5, &seat) == BW_OK && bw_store_new(&unknown, root, 0, &seat) == BW_NO_MODE && seat.at == NULL);
     }
     WANT(strcmp(bw_strerror(BW_NO_MODE), bw_strerror(1)) != 0);
@@ -1108,6 +1111,86 @@ static void slice_nodes(void) {
 }
 
 /* A slice is put together of what its nodes say of the encodings and of the blob. */
+/* An outboard encoding in pieces of `step` bytes: the first fault, its place, and that nothing of a piece that is refused is kept. Else its outline. */
+static bw_status pushed(bw_feed *feed, const uint8_t *text, size_t len, size_t step, bw_outline *outline, uint64_t *at) {
+    for (size_t done = 0; done < len;) {
+        size_t some = len - done < step ? len - done : step;
+        uint64_t again = 0;
+        bw_status status = bw_feed_push(feed, text + done, some, at);
+        if (status == BW_OK) done += some;
+        else {
+            WANT(bw_feed_push(feed, text + done, some, &again) == status && again == *at);
+            return status;
+        }
+    }
+    return bw_feed_outline(feed, outline, at);
+}
+
+static void pushing(const uint8_t *blob, const uint8_t *root) {
+    static const size_t steps[] = {1, 7, 8, 63, 64, 65, 4096, SIZE_MAX};
+    size_t len = (size_t)bw_outboard_len(BLOB_LEN), used = 0;
+    uint8_t *text = room(len + 1), *slice = room(80000), *also = room(80000), hash[BW_HASH_LEN];
+    bw_feed feed = BW_EMPTY, whole = BW_EMPTY;
+    bw_hasher hasher = BW_EMPTY;
+    bw_outline outline = BW_EMPTY, other = BW_EMPTY;
+    uint64_t at = 7, wanted = 0, claimed = 0;
+    size_t size = 7, filled = 7, more = 7;
+    uint32_t kind = 7;
+    WANT(bw_outboard(&plain, blob, BLOB_LEN, text, len, &used, hash) == BW_OK && used == len);
+    WANT(bw_outline_new(&plain, root, text, len, &other, &at) == BW_OK && at == 7);
+    for (size_t k = 0; k < sizeof steps / sizeof *steps; k++) {
+        size_t step = steps[k];
+        at = 7;
+        WANT(bw_feed_outboard(&plain, root, &feed) == BW_OK && pushed(&feed, text, len, step, &outline, &at) == BW_OK && at == 7 && feed.at == NULL);
+        WANT(bw_outline_length(&outline, &claimed) == BW_OK && claimed == BLOB_LEN);
+        WANT(bw_outline_slice(&outline, 0, 64, blob, 65536, slice, 80000, &used, &at) == BW_OK);
+        WANT(bw_outline_slice(&other, 0, 64, blob, 65536, also, 80000, &filled, &at) == BW_OK && filled == used && memcmp(slice, also, used) == 0);
+        /* Each beginning goes on at its next node, and what follows the last is trailing. */
+        for (size_t cut = 0; cut < len; cut += cut < 300 ? 1 : 9973) {
+            WANT(bw_check_outboard(&plain, root, text, cut, &wanted) == BW_SHORT);
+            WANT(bw_feed_outboard(&plain, root, &feed) == BW_OK && pushed(&feed, text, cut, step < 64 ? 64 : step, &outline, &at) == BW_SHORT);
+            WANT(at == wanted && outline.at == NULL && feed.at != NULL);
+            if (cut % 5 == 0) WANT(pushed(&feed, text + cut, len - cut, 4096, &outline, &at) == BW_OK && feed.at == NULL);
+        }
+        text[len] = 1;
+        WANT(bw_feed_outboard(&plain, root, &feed) == BW_OK && pushed(&feed, text, len + 1, step, &outline, &at) == BW_TRAILING && at == len);
+        /* Where that byte came by itself, all before it was taken. */
+        if (step <= 8 && len % step == 0) WANT(bw_feed_outline(&feed, &outline, &at) == BW_OK && bw_outline_length(&outline, &claimed) == BW_OK);
+        /* A false parent is refused as soon as its last byte is there, and a true one is taken in its place. */
+        for (size_t bad = 8; bad < len; bad += bad < 300 ? 3 : 7919) {
+            size_t end = 8 + ((bad - 8) / 64 + 1) * 64;
+            text[bad] ^= 4;
+            WANT(bw_check_outboard(&plain, root, text, len, &wanted) == BW_MISMATCH && wanted == end - 64);
+            WANT(bw_feed_outboard(&plain, root, &feed) == BW_OK && pushed(&feed, text, len, step, &outline, &at) == BW_MISMATCH && at == wanted);
+            WANT(bw_feed_outboard(&plain, root, &feed) == BW_OK && bw_feed_push(&feed, text, end - 1, &at) == BW_OK);
+            WANT(bw_feed_push(&feed, text + end - 1, 1, &at) == BW_MISMATCH && at == wanted && bw_feed_outline(&feed, &outline, &at) == BW_SHORT && at == wanted);
+            text[bad] ^= 4;
+        }
+    }
+    /* The length that is claimed has no proof of its own: another one that has so many parents is accepted, and one that hasn't is short or trailing. */
+    for (size_t bit = 0; bit < 20; bit++) {
+        text[bit / 8] ^= (uint8_t)(1 << bit % 8);
+        bw_status status = bw_check_outboard(&plain, root, text, len, &wanted);
+        WANT(bw_feed_outboard(&plain, root, &feed) == BW_OK && pushed(&feed, text, len, 1000, &outline, &at) == status && (status == BW_OK || at == wanted));
+        text[bit / 8] ^= (uint8_t)(1 << bit % 8);
+    }
+    /* Handles of another kind, and none. */
+    bw_feed_free(&feed), bw_outline_free(&outline), at = 7;
+    WANT(bw_feed_push(&feed, text, 8, &at) == BW_NO_HANDLE && bw_feed_outline(&feed, &outline, &at) == BW_NO_HANDLE && at == 7);
+    WANT(bw_hasher_new(&plain, &hasher) == BW_OK && bw_feed_push(AS(bw_feed, hasher), text, 8, &at) == BW_NO_HANDLE);
+    WANT(bw_feed_outline(AS(bw_feed, hasher), &other, &at) == BW_NO_HANDLE && other.at == NULL && bw_hasher_finish(&hasher, hash) == BW_OK);
+    WANT(bw_feed_combined(&plain, root, &whole) == BW_OK && bw_feed_push(&whole, text, 8, &at) == BW_NO_HANDLE);
+    WANT(bw_feed_outline(&whole, &outline, &at) == BW_NO_HANDLE && bw_feed_wants(&whole, &kind, &size) == BW_OK && kind == BW_NODE_LENGTH && size == 8);
+    WANT(bw_feed_outboard(&plain, root, &feed) == BW_OK && bw_feed_push(&feed, text, 100, &at) == BW_OK);
+    WANT(bw_feed_wants(&feed, &kind, &size) == BW_NO_HANDLE && bw_feed_take(&feed, text, 8, &at) == BW_NO_HANDLE && bw_feed_finish(&feed, text, 0, &at) == BW_NO_HANDLE);
+    WANT(bw_feed_take_many(&feed, text, 8, slice, 8, &more, &filled, &at) == BW_NO_HANDLE && bw_outline_length(AS(bw_outline, feed), &claimed) == BW_NO_HANDLE);
+    WANT(bw_hasher_update(AS(bw_hasher, feed), text, 8) == BW_NO_HANDLE && bw_seat_length(AS(bw_seat, feed), &claimed) == BW_NO_HANDLE && at == 7);
+    WANT(bw_feed_push(&feed, text + 100, len - 100, &at) == BW_OK && bw_feed_outline(&feed, &outline, &at) == BW_OK && bw_feed_outline(&feed, &outline, &at) == BW_NO_HANDLE);
+    WANT(outline.at == NULL);
+    bw_feed_free(&whole), bw_hasher_free(&hasher), bw_outline_free(&other);
+    free(text), free(slice), free(also);
+}
+
 static void by_nodes(const uint8_t *blob, const holder *good) {
     static uint8_t slice[4 * GROUP_LEN], ours[4 * GROUP_LEN];
     static bw_placed nodes[BW_NODES_MAX(256)];
@@ -1373,6 +1456,7 @@ int main(void) {
     slice_nodes();
     by_nodes(blob, &holders[0]);
     outlining(blob, root, &holders[0]);
+    pushing(blob, root);
     beside(blob, root);
     holding(blob, root, &holders[0]);
     salvaging(blob, root, &holders[0]);

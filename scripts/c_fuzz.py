@@ -120,6 +120,21 @@ def poured(mode, hashed, start, count, text, rng):
     return status, at.value, given
 
 
+def pushed(mode, hashed, text, rng):
+    """The status and the place of a check of the text as an outboard encoding in pieces of any size, and the length that its outline claims."""
+    feed, outline, at, claimed, done, status = c.Handle(), c.Handle(), c.u64(), c.u64(), 0, 0
+    assert calls.bw_feed_outboard(mode, hashed, feed) == 0
+    while done < len(text) and not status:
+        part = text[done : done + rng.choice((1, 8, 64, 65, 1000))]
+        status = calls.bw_feed_push(feed, part, len(part), at)
+        done += len(part)
+    status = status or calls.bw_feed_outline(feed, outline, at)
+    if not status:
+        assert calls.bw_outline_length(outline, claimed) == 0
+    calls.bw_free(feed), calls.bw_free(outline)
+    return status, at.value, claimed.value
+
+
 def decoded(mode, hashed, start, count, text, wanted, blob):
     """Holds what a text is decoded to to the blob, or to the fault that it has."""
     room, used, total, at = 9000, c.size(7), c.u64(7), c.u64()
@@ -282,6 +297,10 @@ def main(count):
             status = calls.bw_check_outboard(ctypes.byref(modes[1]), hashed, text, size, ctypes.byref(at))
             wanted = fault_of(modes[0], root, text, by.outboard_nodes)
             beside(modes, root, hashed, text, wanted, blob, rng)
+            *told, claimed = pushed(modes[1], hashed, text, rng)
+            if tuple(told) != wanted:
+                sys.exit(f"c_fuzz.py: text {number}: the library answers {told} where it comes in pieces, the definitions {wanted}")
+            assert claimed == (0 if wanted[0] else int.from_bytes(text[:8], "little")), number
         else:
             status = calls.bw_check_slice(ctypes.byref(modes[1]), hashed, c.u64(start), c.u64(length), text, size, ctypes.byref(at))
             wanted = fault_of(modes[0], root, text, lambda total: by.slice_nodes(total, start, length))

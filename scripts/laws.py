@@ -19,7 +19,7 @@ HEADING = "## Which answers are determined"
 # The crates of laws, and of whose calls each has them. No crate can stand on a static library, so that it has its own.
 OF = {
     "determined_b3": ["b3word", "b3tree", "bao_text"],
-    "determined_check": ["bao_check", "bao_join", "bao_bind"],
+    "determined_check": ["bao_check", "bao_join", "bao_feed", "bao_bind"],
     "determined_store": ["store_core"],
     "determined_shared": ["store_steps", "store_calls", "store_shared"],
     "determined_gather": ["gather", "crews"],

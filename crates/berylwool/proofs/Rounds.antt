@@ -76,6 +76,6 @@ gathers grain store text holder later report report' old new keyed is of of' rep
       served = λ blob can slices. elim (served blob can (true_slices grain IsCut (fixed_at old).mode blob (holder ∷ []) (has_true text blob holder old is slices))) [
         | inl failed ↦ inl failed
         | inr (inl now) ↦ inr (inl (wider now))
-        | inr (inr filled) ↦ inr (inr (filled.recorded, filled.is))
+        | inr (inr filled) ↦ inr (inr filled)
       ];
     }

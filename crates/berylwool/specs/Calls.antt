@@ -4,16 +4,18 @@ use Rattle.bao_check.specs.Accepted.{IsAccepted, slice_nodes}
 use Rattle.store_calls.specs.Parents.{SeatParentsBind}
 use Rattle.store_core.specs.declared.history.Call.TheVariants.{Commit, Parents, Serve, Settle}
 use Rattle.store_core.specs.declared.history.Piece.{Piece}
+use Rattle.store_core.specs.declared.history.Serving.{Serving}
 use Rattle.store_core.specs.declared.history.Serving.TheVariants.{Text}
 use Rattle.store_core.specs.declared.history.Settling.TheVariants.{Known, Settled}
 use Rattle.store_core.specs.declared.history.Storing.TheVariants.{Stored}
 use Rattle.store_core.specs.declared.view.SeatView.{SeatView}
 use Rattle.store_core.specs.Stores.{ChunksBind, filled_count}
 use Rattle.store_calls.specs.Reading.{SeatDidRead, SeatReadBinds}
-use Rattle.store_calls.specs.Serving.{SeatSliceBinds}
+use Rattle.store_calls.specs.Serving.{SeatSliceBinds, SeatSliceIsAccepted}
+use Rattle.store_shared.specs.Calls.{AreParentsHeld, HasSliceHeld}
 use Rattle.store_shared.specs.declared.assembly.Assembly.{Assembly}
 use Rattle.store_shared.specs.Seats.{Gripped, fixed_of}
-use Rattle.store_core.specs.Knowledge.{AreMet, Called, KeepsClaims, NoneIsClaimedByBoth}
+use Rattle.store_core.specs.Knowledge.{AreAllNames, AreMet, Called, KeepsClaims, NoneIsClaimedByBoth}
 use Rattle.berylwool.specs.Status.{IsRefused}
 
 -- the piece that an encoding is, as the slice of `len` bytes from byte `start` on, to a store from this chunk of the blob on
@@ -34,10 +36,11 @@ pub record Commits (store : Assembly) (group : ℕ) (piece : Piece) (committed :
   pub binds : ChunksBind (fixed_of store) piece group committed
 
 -- Parents of the piece are stored: an event of the store, and for each blob with its root those that the seat has seen held are the blob's
--- or a collision is exhibited.
+-- or a collision is exhibited. Where the seat has all names, all that the piece has at the group's boundaries are held then.
 pub record StoresParents (group : ℕ) (piece : Piece) (stored : ℕ) (old new : Gripped) : Type 0 where
   pub called : Called (Parents group piece (Stored stored)) old.view new.view
   pub binds : SeatParentsBind new.view
+  pub held : AreAllNames old.view.names → AreParentsHeld new.view group piece
 
 -- the piece's length is recorded: now, or as it was
 abbrev pub HasSettled : Piece → SeatView → SeatView → Type 0
@@ -48,10 +51,17 @@ pub record Reads (at : ℕ) (before after : List ℕ) (missing : Option ℕ) (ol
   pub did : SeatDidRead old.view new.view at before after missing
   pub binds : SeatReadBinds new.view at after (filled_count at (length before) missing)
 
--- A slice is served: an event of the store, and for each blob with its root the encoding is the blob's slice or a collision is exhibited.
+-- A slice is served: an event of the store, and for each blob with its root the encoding is the blob's slice or a collision is exhibited. It is
+-- accepted under the root, a blob's hash or not, or two pieces that it was put together of clash.
 pub record Serves (start len : ℕ) (text : List ℕ) (old new : Gripped) : Type 0 where
   pub called : Called (Serve start len (Text text)) old.view new.view
   pub binds : SeatSliceBinds new.view start len text
+  pub accepted : SeatSliceIsAccepted new.view start len text
+
+-- A slice isn't served, for want of a length or a node: an event of the store, whose seat had not seen all of it held.
+pub record LacksSlice (start len : ℕ) (answer : Serving) (old new : Gripped) : Type 0 where
+  pub called : Called (Serve start len answer) old.view new.view
+  pub some : ¬ HasSliceHeld old.view start len
 
 -- Two seats have met: both have seen one history, and claim what they claimed, of which no chunk is claimed by both.
 pub record HaveMet (first second first' second' : Gripped) : Type 0 where

@@ -6,6 +6,7 @@ pub mod Gathering
 pub mod Handles
 pub mod Holding
 pub mod Modes
+pub mod Outboards
 pub mod Outlines
 pub mod Pairs
 pub mod Placed

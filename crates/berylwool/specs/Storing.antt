@@ -6,11 +6,12 @@ use Rattle.store_core.specs.declared.history.Call.TheVariants.{Commit, Length, P
 use Rattle.store_core.specs.declared.history.Piece.{Piece}
 use Rattle.store_core.specs.declared.history.Storing.TheVariants.{Stored}
 use Rattle.store_core.specs.declared.view.SeatView.{SeatView}
-use Rattle.store_core.specs.Knowledge.{Called}
+use Rattle.store_core.specs.Knowledge.{AreAllNames, Called}
 use Rattle.store_core.specs.Machine.{groups}
 use Rattle.store_core.specs.Masks.{IsMaskOf}
 use Rattle.store_core.specs.Pieces.{holds_chunk, holds_parent, length_of}
 use Rattle.store_core.specs.Stores.{ChunksBind}
+use Rattle.store_shared.specs.Calls.{AreParentsHeld}
 
 -- The piece has none of a group's: nothing is done.
 pub record Passes (has : ℕ → Bool) (group count : ℕ) (old new : SeatView) : Type 0 where
@@ -34,11 +35,12 @@ pub record ClaimsAndCommits (fixed : Fixed) (piece : Piece) (group count : ℕ) 
 abbrev pub CommitsGroup : Fixed → Piece → ℕ → ℕ → SeatView → SeatView → Type 0
 CommitsGroup fixed piece group count old new = Passes (λ c. holds_chunk piece c) group count old new ⊎ ClaimsAndCommits fixed piece group count old new
 
--- Of a group's boundaries, the parents are stored that the piece has.
+-- Of a group's boundaries, the parents are stored that the piece has. Where the seat has all names, all of them are held then.
 pub record StoresSome (piece : Piece) (group count : ℕ) (old new : SeatView) : Type 0 where
   pub mask : ℕ
   pub stores : Called (Parents group piece (Stored mask)) old new
   pub binds : SeatParentsBind new
+  pub held : AreAllNames old.names → AreParentsHeld new group piece
   pub count_is : count ≡ count_ones mask
 
 abbrev pub StoresGroup : Piece → ℕ → ℕ → SeatView → SeatView → Type 0

@@ -1,6 +1,7 @@
 use crate::outlined::Outlined;
 use b3tree::Hasher;
 use bao_check::Checking;
+use bao_feed::OutboardFeed;
 use std::alloc::Global;
 use std::sync::Arc;
 use store_shared::{Assembly, Seat};
@@ -17,6 +18,7 @@ pub struct Seated {
 pub enum Held {
     Hasher(Hasher),
     Feed(Checking),
+    Outboard(OutboardFeed),
     Seat(Seated),
     Outline(Arc<Outlined, Global>),
     /// Nothing, while a call has what it owned.

@@ -145,9 +145,11 @@ pub extern "C" fn bw_seat_meet(alloc: Global, seat: &mut BwHandle, other: &mut B
     let status = match &mut *held {
         Held::Seat(one) => match &mut *others {
             Held::Seat(two) => met(&one.store, &mut one.seat, &two.store, &mut two.seat),
-            Held::Hasher(_) | Held::Feed(_) | Held::Outline(_) | Held::Gone => NO_HANDLE,
+            Held::Hasher(_) | Held::Feed(_) | Held::Outboard(_) | Held::Outline(_) | Held::Gone =>
+                NO_HANDLE,
         },
-        Held::Hasher(_) | Held::Feed(_) | Held::Outline(_) | Held::Gone => NO_HANDLE,
+        Held::Hasher(_) | Held::Feed(_) | Held::Outboard(_) | Held::Outline(_) | Held::Gone =>
+            NO_HANDLE,
     };
     put(seat, held);
     put(other, others);

@@ -21,6 +21,7 @@ mod laws;
 mod loose;
 mod mode;
 mod nodes;
+mod outboards;
 mod outlined;
 mod outlines;
 mod ranges;

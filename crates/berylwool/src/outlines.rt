@@ -31,7 +31,7 @@ fn copy(alloc: Global, bytes: &[u8]) -> Result<Vec<u8>, AllocError>
 }
 
 // Puts an outline into a handle that is empty.
-fn put_outline(alloc: Global, it: Outlined, outline: &mut BwHandle) -> u32
+pub(crate) fn put_outline(alloc: Global, it: Outlined, outline: &mut BwHandle) -> u32
     requires { outline.old.held ≡ None }
     ensures made { result ≡ 0 → HasOutline (λ its. its ≡ it) outline.new.held }
     ensures status { result ≢ 0 → result ≡ 1203 }

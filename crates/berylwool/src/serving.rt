@@ -1,10 +1,10 @@
 ghost use Rattle.std.specs.Prelude.{◌≡◌, ◌≢◌, ◌↔◌, ◌<◌, ◌≤◌, ℕ, List, length, take};
-ghost use Rattle.store_core.specs.declared.history.Call.TheVariants.{Parents, Serve};
+ghost use Rattle.store_core.specs.declared.history.Call.TheVariants.{Parents};
 ghost use Rattle.store_core.specs.declared.history.Serving.TheVariants.{Lacking, NoLength};
 ghost use Rattle.store_core.specs.declared.history.Storing.TheVariants.{OtherLength};
 ghost use Rattle.store_shared.specs.Seats.{IsSeatOf, fixed_of};
 ghost use Rattle.store_core.specs.Knowledge.{Called, Sees};
-ghost use Rattle.berylwool.specs.Calls.{IsNoSliceOf, IsSliceOf, Serves, StoresParents, slice_piece};
+ghost use Rattle.berylwool.specs.Calls.{IsNoSliceOf, IsSliceOf, LacksSlice, Serves, StoresParents, slice_piece};
 ghost use Rattle.berylwool.specs.Handles.{HasSeat, SeatDid};
 ghost use Rattle.berylwool.specs.CNodes.{node_of};
 
@@ -129,8 +129,8 @@ fn served(
     ensures serves { result ≡ 0 → Serves start len (take used.new out.new) seat.old seat.new }
     ensures within { result ≡ 0 → used.new ≤ length out.new }
     ensures no_room { result ≡ 1201 → (text : List ℕ) × Serves start len text seat.old seat.new × (length out.old < length text) × (used.new ≡ length text) }
-    ensures no_length { result ≡ 808 → Called (Serve start len NoLength) seat.old.view seat.new.view }
-    ensures lacking { result ≡ 809 → Called (Serve start len (Lacking (node_of lacking.new))) seat.old.view seat.new.view }
+    ensures no_length { result ≡ 808 → LacksSlice start len NoLength seat.old seat.new }
+    ensures lacking { result ≡ 809 → LacksSlice start len (Lacking (node_of lacking.new)) seat.old seat.new }
     ensures memory { result ≡ 810 → Sees seat.old.view seat.new.view }
     ensures whole { result ≢ 808 → result ≢ 810 → (fixed_of store.now).base ≡ 0 }
     ensures status { result ≢ 0 → result ≢ 808 → result ≢ 809 → result ≢ 810 → result ≡ 1201 }
@@ -158,7 +158,7 @@ fn served(
 ///
 /// 808 where no length is recorded, as always where the store's first chunk isn't the blob's, 809 where a node isn't held, with the first such in the encoding's order in `lacking`, 810 where there is no
 /// memory, 1201 where `out` has no room, with how long the encoding is in `used`, and 1202 where the handle has no seat: then `out` is
-/// unchanged.
+/// unchanged. 808 and 809 don't come where the seat has seen a length recorded and all nodes of the slice held.
 #[unsafe(no_mangle)]
 pub extern "C" fn bw_seat_serve_slice(
     alloc: Global,
@@ -172,8 +172,8 @@ pub extern "C" fn bw_seat_serve_slice(
     ensures serves { result ≡ 0 → SeatDid (λ _ old new. Serves start len (take used.new out.new) old new) seat.old.held seat.new.held }
     ensures within { result ≡ 0 → used.new ≤ length out.new }
     ensures no_room { result ≡ 1201 → SeatDid (λ _ old new. (text : List ℕ) × Serves start len text old new × (length out.old < length text) × (used.new ≡ length text)) seat.old.held seat.new.held }
-    ensures no_length { result ≡ 808 → SeatDid (λ _ old new. Called (Serve start len NoLength) old.view new.view) seat.old.held seat.new.held }
-    ensures lacking { result ≡ 809 → SeatDid (λ _ old new. Called (Serve start len (Lacking (node_of lacking.new))) old.view new.view) seat.old.held seat.new.held }
+    ensures no_length { result ≡ 808 → SeatDid (λ _ old new. LacksSlice start len NoLength old new) seat.old.held seat.new.held }
+    ensures lacking { result ≡ 809 → SeatDid (λ _ old new. LacksSlice start len (Lacking (node_of lacking.new)) old new) seat.old.held seat.new.held }
     ensures memory { result ≡ 810 → SeatDid (λ _ old new. Sees old.view new.view) seat.old.held seat.new.held }
     ensures whole { result ≢ 808 → result ≢ 810 → result ≢ 1202 → HasSeat (λ store _. (fixed_of store).base ≡ 0) seat.old.held }
     ensures no_seat { result ≡ 1202 ↔ (¬ HasSeat (λ _ _. Unit) seat.old.held) }

@@ -353,9 +353,11 @@ pub extern "C" fn bw_outline_commit(
                 parents,
                 at,
             ),
-            Held::Hasher(_) | Held::Feed(_) | Held::Outline(_) | Held::Gone => NO_HANDLE,
+            Held::Hasher(_) | Held::Feed(_) | Held::Outboard(_) | Held::Outline(_) | Held::Gone =>
+                NO_HANDLE,
         },
-        Held::Hasher(_) | Held::Feed(_) | Held::Seat(_) | Held::Gone => NO_HANDLE,
+        Held::Hasher(_) | Held::Feed(_) | Held::Outboard(_) | Held::Seat(_) | Held::Gone =>
+            NO_HANDLE,
     };
     put(seat, held);
     put(outline, beside);

@@ -8,3 +8,4 @@ pub mod Same
 pub mod Offsets
 pub mod Left
 pub mod Audited
+pub mod Pushed

@@ -7,6 +7,8 @@ use Rattle.bao_check.specs.declared.outline.Outline.{Outline}
 use Rattle.bao_check.specs.Checked.{IsPiece, piece_len, piece_mode, piece_root, piece_start, piece_text}
 use Rattle.bao_check.specs.Outline.{IsOutline, outline_mode, outline_root, outline_text}
 use Rattle.bao_check.specs.Streams.{IsOfBytes}
+use Rattle.bao_feed.specs.declared.feed.OutboardFeed.{OutboardFeed}
+use Rattle.bao_feed.specs.Feeds.{IsFeed, feed_mode, feed_root, feed_text}
 
 -- both are accepted, or both have one fault
 abbrev pub Agree : {X E : Type 0} → (X → X → Type 0) → Result X E → Result X E → Type 0
@@ -40,3 +42,7 @@ SamePiece a b = IsPiece a (piece_mode b) (piece_root b) (piece_start b) (piece_l
 
 abbrev pub SameOutline : Outline → Outline → Type 0
 SameOutline a b = IsOutline a (outline_mode b) (outline_root b) (outline_text b)
+
+-- of both has come the same, and they check it as the same
+abbrev pub SameFeed : OutboardFeed → OutboardFeed → Type 0
+SameFeed a b = IsFeed a (feed_mode b) (feed_root b) (feed_text b)

@@ -1,4 +1,4 @@
-//! That the contracts of `bao_check`, `bao_bind` and `bao_join` determine what their functions answer: each function here asks one
+//! That the contracts of `bao_check`, `bao_bind`, `bao_join` and `bao_feed` determine what their functions answer: each function here asks one
 //! of theirs twice, of the same, and what it ensures is that both answers are equal.
 #![tactic(auto)]
 
@@ -6,6 +6,7 @@ mod audits;
 mod checks;
 mod feeding;
 mod joins;
+mod outboards;
 mod pieces;
 mod streams;
 mod subtrees;

@@ -1,4 +1,4 @@
-use Rattle.std.proofs.Common.{◌∙◌, ◌*◌, Option, Some, subst, sym}
+use Rattle.std.proofs.Common.{◌≤◌, ◌∙◌, ◌*◌, Option, Some, length, subst, sym}
 use Rattle.bao_check.specs.Accepted.{IsAccepted, slice_nodes}
 use Rattle.bao_check.specs.Bare.{bare_part}
 use Rattle.berylwool.specs.declared.held.Held.{Held}
@@ -30,3 +30,9 @@ returns-clause-fault c = λ low high.
     let so : Outlined → Type 0 = AreNotBeside c.args.first c.args.count c.args.chunks.now c.sliced-status.result c.sliced-status.new.at in
     subst (λ (o : Option Held). HasOutline so o) c.in-Some.ensures.held
     (subst (λ (h : Held). HasOutline so (Some h)) (sym (sym c.deref_mut.ensures.value ∙ c.in-Outline.is)) (subst so c.deref.ensures (c.sliced-status.ensures.fault low high)))
+
+pub returns-clause-fits : goal.returns-clause-fits
+returns-clause-fits c = λ way.
+    let so : Outlined → Type 0 = λ it. length (bare_text (outlined_text it) c.args.first c.args.count c.args.chunks.now) ≤ length c.args.out.now in
+    subst (λ (o : Option Held). HasOutline so o) c.in-Some.ensures.held
+    (subst (λ (h : Held). HasOutline so (Some h)) (sym (sym c.deref_mut.ensures.value ∙ c.in-Outline.is)) (subst so c.deref.ensures (c.sliced-status.ensures.fits way)))

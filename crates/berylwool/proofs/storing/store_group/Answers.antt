@@ -28,4 +28,4 @@ returns-clause-records c =
     records_on piece (Parents c.args.group piece (Stored c.in-Ok.mask)) c.args.seat.now c.commit_parents.new.seat (length_of piece) refl c.in-Ok.ensures.called c.requires.records
 
 pub returns-clause-stores : goal.returns-clause-stores
-returns-clause-stores c = inr (record { mask = c.in-Ok.mask; stores = c.in-Ok.ensures.called; binds = c.in-Ok.ensures.binds; count_is = refl })
+returns-clause-stores c = inr (record { mask = c.in-Ok.mask; stores = c.in-Ok.ensures.called; binds = c.in-Ok.ensures.binds; held = c.in-Ok.ensures.held; count_is = refl })

@@ -1,0 +1,96 @@
+ghost use Rattle.std.specs.Prelude.{◌≡◌, ◌↔◌, ℕ, [], ◌++◌, IfErr, IfOk, IsOk, OnErr, OnOk};
+ghost use Rattle.bao_check.specs.declared.fault.CheckFault.TheVariants.{Short};
+ghost use Rattle.bao_check.specs.Accepted.{IsAccepted, outboard_nodes};
+ghost use Rattle.bao_check.specs.Faults.{IsFirstFault};
+ghost use Rattle.bao_check.specs.Outline.{IsOutline};
+ghost use Rattle.bao_feed.specs.Verified.{IsGoodSoFar, IsPieceFault, IsVerified, IsVerified-prop};
+
+use crate::parents::verify;
+use b3tree::{Hash, Mode};
+use bao_check::{CheckFault, Outline};
+use bao_text::{LENGTH_LEN, PARENT_LEN, chunk_count, claimed};
+use std::alloc::Global;
+
+/// An outboard encoding that is checked while its bytes come, in pieces of any size: `check_outboard` for a caller that hasn't the whole
+/// encoding. It keeps the bytes, so that at their end they are an outline.
+#[derive(Drop)]
+pub struct OutboardFeed {
+    mode: Mode,
+    root: Hash,
+    text: Vec<u8>,
+    // How many parents are verified: all that are wholly there.
+    verified: usize,
+    ghost known: { IsVerified mode root.0 text.items verified } by { IsVerified-prop mode root.0 text.items verified },
+}
+
+impl OutboardFeed {
+    ghost use Rattle.bao_feed.specs.Feeds.{IsFeed, feed_mode, feed_root, feed_text};
+
+    /// A check of an outboard encoding of the blob with the hash `root` in `mode`, of which no byte has come. It takes no memory before
+    /// bytes come.
+    pub fn new(alloc: Global, mode: &Mode, root: &Hash) -> OutboardFeed
+        ensures { IsFeed result mode.now root.now.0 [] }
+    {
+        OutboardFeed {
+            mode: *mode,
+            root: *root,
+            text: Vec::new(alloc),
+            verified: 0,
+        }
+    }
+
+    /// Takes the bytes that come next, as many as there are, and verifies each parent as soon as it is wholly there.
+    ///
+    /// Refused, with the place of the first fault of every outboard encoding that begins with what was taken and these bytes: 502
+    /// `Mismatch` at a parent that hasn't the value that is asked for, and 503 `Trailing` at what follows the last. 504 `Memory` when out of
+    /// memory. None of the bytes are taken then, and others can come in their place.
+    pub fn push(&mut self, bytes: &[u8]) -> Result<(), CheckFault>
+        ensures taken { OnOk result (IsFeed self.new (feed_mode self.old) (feed_root self.old) (feed_text self.old ++ bytes.now)) }
+        ensures good { OnOk result (IsGoodSoFar (feed_mode self.old) (feed_root self.old) (feed_text self.old ++ bytes.now)) }
+        ensures fault { IfErr result (IsPieceFault (feed_mode self.old) (feed_root self.old) (feed_text self.old ++ bytes.now)) }
+        ensures same { OnErr result (IsFeed self.new (feed_mode self.old) (feed_root self.old) (feed_text self.old)) }
+    {
+        let had = self.text.len();
+        let Ok(()) = self.text.extend_from_slice(bytes) else {
+            return Err(CheckFault::Memory);
+        };
+        match verify(&self.mode, &self.root, self.text.as_slice(), self.verified) {
+            Ok(verified) => {
+                self.verified = verified;
+                Ok(())
+            }
+            Err(fault) => {
+                self.text.truncate(had);
+                Err(fault)
+            }
+        }
+    }
+
+    /// What `check_outboard` says of the bytes so far, without hashing them once more.
+    ///
+    /// Refused: 501 `Short` where they end too soon. They have no other fault.
+    pub fn outline(&self) -> Result<Outline<'_>, CheckFault>
+        ensures accepted { IsOk result ↔ IsAccepted (feed_mode self.now) (feed_root self.now) (feed_text self.now) (outboard_nodes (feed_text self.now)) }
+        ensures outline { IfOk result (λ outline. IsOutline outline (feed_mode self.now) (feed_root self.now) (feed_text self.now)) }
+        ensures fault { IfErr result (λ fault. IsFirstFault (feed_mode self.now) (feed_root self.now) (feed_text self.now) (outboard_nodes (feed_text self.now)) fault) }
+        ensures short { IfErr result (λ fault. (at : ℕ) × (fault ≡ Short at)) }
+    {
+        let text = self.text.as_slice();
+        if text.len() < LENGTH_LEN {
+            return Err(CheckFault::Short { at: 0 });
+        }
+        if (self.verified as u64) < chunk_count(claimed(text)) - 1 {
+            return Err(CheckFault::Short {
+                at: (LENGTH_LEN + PARENT_LEN * self.verified) as u64,
+            });
+        }
+        Ok(Outline::new(&self.mode, &self.root, text))
+    }
+
+    /// The bytes so far.
+    pub fn into_text(self) -> Vec<u8>
+        ensures { result.items ≡ feed_text self }
+    {
+        self.text
+    }
+}
