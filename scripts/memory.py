@@ -13,6 +13,7 @@ Prints a line for each case, with what was wrong, and last 'N passed, M failed'.
 """
 import argparse
 import contextlib
+import errno
 import filecmp
 import functools
 import os
@@ -86,6 +87,11 @@ def linked(name, count, first=0):
 def counted(name, refused, blob):
     """What is told of a FILE: how many groups of this blob are refused."""
     return f"{name}: {refused} of {-(-bao.chunks_of(BLOBS[blob]) // GROUP_LEN)} groups of 64 KiB refused"
+
+
+def unread(name, number):
+    """What is told of a FILE that can't be read, for that reason of the system's."""
+    return f"left out {name}: can't be read: {os.strerror(number)} (os error {number})"
 
 
 def missing(blob):
@@ -226,8 +232,8 @@ UNOPENED = [
     Row("64 holders where 40 files may be open, a true one early", TRUE_EARLY, GATHERS, like="4M", files=40),
     Row("64 holders where 40 files may be open, a true one last", TRUE_LAST, GATHERS, UNFINISHED, files=40),
     Row("a folder before a true holder", FOLDER_TRUE, GATHERS, like="4M", told=[f"left out {FOLDER}: not opened", TRUE]),
-    Row("a folder before a damaged holder", FOLDER_TORN, GATHERS, UNFINISHED, told=[f"left out {FOLDER}: can't be read", TORN, *missing("4M")]),
-    Row("a file that may not be read before a true holder", LOCKED_TRUE, GATHERS, like="4M", told=[f"left out {LOCKED}: can't be read", TRUE]),
+    Row("a folder before a damaged holder", FOLDER_TORN, GATHERS, UNFINISHED, told=[unread(FOLDER, errno.EISDIR), TORN, *missing("4M")]),
+    Row("a file that may not be read before a true holder", LOCKED_TRUE, GATHERS, like="4M", told=[unread(LOCKED, errno.EACCES), TRUE]),
 ]
 
 ROWS = [*HOLDERS, *OUTBOARDS, *PIPED, *LONG, *ANY_LENGTH, *KEYS, *OVER_ITSELF, *UNOPENED]

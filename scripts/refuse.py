@@ -9,7 +9,7 @@ Holders that lie are tried, with a true one among them or none. What a terminal 
 such call in turn, until a run meets none: an allocation, a thread's start, an open, a read, a write, a sync, a rename, a close, or the
 question how long a file is (scripts/shim.c). It fails as FAULTS says, that once or from then on, or the process is killed there. What has to
 come is what scripts/scenarios.py gives by the definitions alone, of the files as the run found them, or a fault of docs/CLI.md: never another
-text or status. OUT is what it was, or all that was to be written, and no file is left beside it, but by a process that was killed.
+text or status. OUT is what it was, or all that was to be written, and so is the list of what is missing. No file is left beside them, but by a process that was killed.
 Prints each case, each run that ended otherwise, and last 'N passed, M failed'. The exit status is 1 where one failed. Needs cc.
 """
 import argparse
@@ -38,11 +38,16 @@ HERE = os.path.dirname(os.path.abspath(__file__))
 OUT, KEPT, STDOUT, STDERR, LIST = "out", b"kept", "standard output", "standard error", "list"
 PLAIN = b"bao_gather: memory\n"
 
-# The new file beside OUT.
-DRAFT = re.compile(rf"(?:.*/)?{OUT}\.part[2-9]?")
+# What a task writes: OUT, and the list of what is missing where it is asked for.
+WRITTEN = (OUT, LIST)
+
+# The new file beside OUT, or beside the list.
+DRAFT = re.compile(rf"(?:.*/)?({OUT}|{LIST})\.part[2-9]?")
 
 # The lines of --verbose, and of a list that isn't written; the one of a FILE that was counted, and those in its place for want of memory.
 TOLD = re.compile(rb"bao_gather: (?:left out .*|missing: .*|nothing fits ROOT: .*|list: left as it is: .*|.*: not counted: no memory|.*: \d+ of \d+ groups of 64 KiB refused)\n")
+# What the system has against a FILE, in a line of its own or at the end of one.
+REASON = re.compile(rb"^bao_gather: [^:\n]*: [^:\n]* \(os error \d+\)\n|(?<=can't be read): [^:\n]* \(os error \d+\)", re.MULTILINE)
 UNLISTED = re.compile(rb"bao_gather: list: left as it is: (?:memory|what is missing isn't known)\n")
 COUNTED = re.compile(rb"bao_gather: (.*): \d+ of \d+ groups of 64 KiB refused")
 UNCOUNTED, STARVED = b"bao_gather: %b: not counted: no memory", b"bao_gather: left out %b: no memory"
@@ -118,12 +123,13 @@ STORED = ["401", "801", "806"]
 
 @dataclass(frozen=True)
 class Ending:
-    """How a run ended: its status, what it printed, what stands at OUT, and how many files beside it."""
+    """How a run ended: its status, what it printed, what stands at OUT and in the list of what is missing, and how many files beside them."""
 
     status: int
     printed: bytes
     complaint: bytes
     out: bytes
+    listed: bytes = KEPT
     beside: int = 0
 
 
@@ -131,7 +137,7 @@ class Case:
     """A run of the program on words, over files."""
 
     def __init__(self, words, files, sizes=None, is_avoidable=False, pipes=()):
-        self.words, self.files, self.sizes, self.pipes = words, {**files, OUT: KEPT}, sizes or {}, pipes
+        self.words, self.files, self.sizes, self.pipes = words, {**files, OUT: KEPT, LIST: KEPT}, sizes or {}, pipes
         # An encoding is kept where it can't be read twice.
         is_kept = words[0] in DECODES and "--outboard" not in words and ("/dev/stdin" in files or bool(pipes))
         own = OWN[words[0]] + (STORED if "--encode" in words else []) + (["504"] if is_kept else [])
@@ -159,7 +165,7 @@ class Case:
                 model.files[file] = model.files[file][:end]
         status, *lines = model.do("run", " ".join(self.words))
         told = {name: "".join(f"{it[5:]}\n" for it in lines if it.startswith(f"{name}: ")).encode() for name in ("out", "err")}
-        return Ending(int(status.split()[1]), told["out"], told["err"], model.files[OUT])
+        return Ending(int(status.split()[1]), told["out"], told["err"], model.files[OUT], model.files[LIST])
 
     def lay_out(self, folder):
         """Writes its files. One that has a size is zeros up to there, of which only the first are in the model; nobody writes to a pipe."""
@@ -172,9 +178,10 @@ class Case:
                     it.truncate(self.sizes.get(file, len(data)))
 
     def run(self, program, folder, settings):
-        """Runs it, with OUT as before, and answers how it ended and the calls that were met: of each the file and its place there."""
-        with open(f"{folder}/{OUT}", "wb") as it:
-            it.write(KEPT)
+        """Runs it, with OUT and the list as before, and answers how it ended and the calls that were met: of each the file and its place there."""
+        for name in WRITTEN:
+            with open(f"{folder}/{name}", "wb") as it:
+                it.write(KEPT)
         met = f"{folder}.met"
         if os.path.exists(met):
             os.remove(met)
@@ -192,22 +199,25 @@ class Case:
                 )
             except subprocess.TimeoutExpired:
                 return Ending(-1, b"", b"held for ever", b""), []
-        beside = glob.glob(f"{folder}/{OUT}.*")
+        beside = [file for name in WRITTEN for file in glob.glob(f"{folder}/{name}.*")]
         for file in beside:
             os.remove(file)
-        with open(f"{folder}/{OUT}", "rb") as it:
-            ended = Ending(ran.returncode, ran.stdout, ran.stderr, it.read(), len(beside))
+        left = []
+        for name in WRITTEN:
+            with open(f"{folder}/{name}", "rb") as it:
+                left.append(it.read())
+        ended = Ending(ran.returncode, ran.stdout, ran.stderr, *left, len(beside))
         if not os.path.exists(met):
             return ended, []
         with open(met, encoding="utf-8") as it:
             met = [line.rstrip("\n").split(" ", 1) for line in it]
-        return ended, [[byte, DRAFT.sub(OUT, file)] for byte, file in met]
+        return ended, [[byte, DRAFT.sub(r"\1", file)] for byte, file in met]
 
     def is_right(self, fault, met, ended):
         """Whether it ended as promised, where these calls were met."""
         whole = self.ending()
         if met and fault.how == KILLED:
-            return ended.status == -signal.SIGKILL and ended.out in (KEPT, whole.out)
+            return ended.status == -signal.SIGKILL and ended.out in (KEPT, whole.out) and ended.listed in (KEPT, whole.listed)
         if ended.beside:
             return False
         if fault.call == "malloc":
@@ -219,19 +229,22 @@ class Case:
         # What is read in order ends where a read gives nothing, and so does what is verified as it is read.
         is_in_order = fault.call == "read" or fault.call == "pread" and self.words[0] in DECODES
         ends_early = is_in_order and fault.how == "none"
-        changes = frozenset((file, int(byte) if ends_early else None) for byte, file in met if file in self.files and file != OUT)
-        is_again = self.is_placed and fault.call == "open" and all(file in self.files and file != OUT for _, file in met)
-        if ended == whole and (is_again or fault.call in AVOIDABLE_CALLS or fault.how in AVOIDABLE):
+        changes = frozenset((file, int(byte) if ends_early else None) for byte, file in met if file in self.files and file not in WRITTEN)
+        is_again = self.is_placed and fault.call == "open" and all(file in self.files and file not in WRITTEN for _, file in met)
+        if unreasoned(ended) == unreasoned(whole) and (is_again or fault.call in AVOIDABLE_CALLS or fault.how in AVOIDABLE):
             return True
         places = {file for _, file in met}
         if self.is_placed and fault.call == "pread":
             # A FILE that could be opened and read gives nothing where a read of it fails, and by that it is counted.
             emptied = frozenset((file, 0) for file, _ in changes)
-            return any(self.is_ending(it, places, ended, TOLD) for it in (whole, self.ending(changes), self.ending(emptied)))
+            # What it has is looked for once more where the blob stays unfinished: that read may fail, and no other, or none any more.
+            is_more = is_list_of_more(whole.listed, ended.listed)
+            wanted = [dataclasses.replace(it, listed=ended.listed) if is_more and it.status == 1 else it for it in (whole, self.ending(changes), self.ending(emptied))]
+            return any(self.is_ending(it, places, ended, TOLD) for it in wanted)
         # What is asked of a FILE may not matter, where it does for OUT.
         wanted = [self.ending(changes), *([whole] if fault.call in AVOIDABLE_CALLS else [])]
-        listed = TOLD if any(it.startswith(LIST) for it in places) else None
-        return self.is_changed(fault, met, ended) or any(self.is_ending(it, places, ended, listed) for it in wanted)
+        told = TOLD if LIST in places else None
+        return self.is_changed(fault, met, ended) or any(self.is_ending(it, places, ended, told) for it in wanted)
 
     def is_changed(self, fault, met, ended):
         """A file couldn't be read again, or had changed."""
@@ -244,17 +257,24 @@ class Case:
     def is_of_memory(self, ended):
         """It ended with a fault of memory of its own, and OUT is as it was, or whole where the line on standard output found no room."""
         complaint = TOLD.sub(b"", ended.complaint)
-        left = [KEPT, self.ending().out] if complaint == PLAIN else [KEPT]
-        return ended.status == 4 and not ended.printed and complaint in self.memory and ended.out in left
+        whole = self.ending()
+        left, listed = ([KEPT, whole.out], [KEPT, whole.listed]) if complaint == PLAIN else ([KEPT], [KEPT])
+        return ended.status == 4 and not ended.printed and complaint in self.memory and ended.out in left and ended.listed in listed
 
     def is_ending(self, wanted, places, ended, apart=None):
-        """It ended so, but for what a call on one of these places took away, and for what is told apart from that."""
+        """It ended so, but for what a call on one of these places took away, for the system's reasons, and for what is told apart from that."""
+        if STDERR not in places:
+            wanted, ended = unreasoned(wanted), unreasoned(ended)
         if apart:
             wanted, ended = (dataclasses.replace(it, complaint=apart.sub(b"", it.complaint)) for it in (wanted, ended))
         status, printed, complaint, out = wanted.status, [wanted.printed], wanted.complaint, ended.out == wanted.out
-        if status == 0 and OUT in places:
-            status, printed, complaint = 3, [b""], complaint + f"bao_gather: cannot write {OUT}\n".encode()
-            out = ended.out == KEPT
+        # What can't be written is as it was. OUT is in place before the list is made.
+        out = out and ended.listed == (KEPT if places & {*WRITTEN} else wanted.listed)
+        if status == 0 and places & {*WRITTEN}:
+            place = OUT if OUT in places else LIST
+            left = f"bao_gather: {LIST}: left as it is: what is missing isn't known\n" if place == OUT and "--missing" in self.words else ""
+            status, printed, complaint = 3, [b""], complaint + f"{left}bao_gather: cannot write {place}\n".encode()
+            out = (ended.out, ended.listed) == (KEPT if place == OUT else wanted.out, KEPT)
         elif status == 0 and STDOUT in places:
             printed = [wanted.printed[:k] for k in range(len(wanted.printed))]
             status, complaint = 3, complaint + b"bao_gather: cannot write output\n"
@@ -262,10 +282,23 @@ class Case:
         return ended.status == status and ended.printed in printed and told and out
 
 
+def unreasoned(ended):
+    """The same ending, without what the system has against a FILE."""
+    return dataclasses.replace(ended, complaint=REASON.sub(b"", ended.complaint))
+
+
 def is_unlisted(wanted, got):
     """Whether this is the wanted ending, but for a list that isn't written for want of memory."""
     told = UNLISTED.sub(b"", got.complaint)
-    return told != got.complaint and dataclasses.replace(got, complaint=told) == wanted
+    return told != got.complaint and dataclasses.replace(got, complaint=told) == dataclasses.replace(wanted, listed=KEPT)
+
+
+def is_list_of_more(wanted, got):
+    """Whether a list has what is wanted of it, and maybe more."""
+    if KEPT in (wanted, got):
+        return False
+    parts = lambda text: [(int(start), int(start) + int(count)) for start, count in (line.split() for line in text.splitlines())]
+    return all(any(start <= first and after <= end for start, end in parts(got)) for first, after in parts(wanted))
 
 
 def is_told_for_less(wanted, got):
@@ -306,7 +339,7 @@ def tried(case, faults, program, shim, room):
                 else:
                     wrong.append(f"{case.name}: {fault}, call {number}, at {met}: {ended}"[:900])
         for file, data in case.files.items():
-            if file != OUT and "/" not in file:
+            if file not in WRITTEN and "/" not in file:
                 with open(f"{folder}/{file}", "rb") as it:
                     wrong += [f"{case.name}: {file} was changed"] if it.read(len(data)) != data else []
     wrong += [f"{case.name}: never {it!r}" for it in case.needed - seen if faults]
@@ -352,6 +385,8 @@ def tasks(options):
     yield case(f"gather --workers 3 --capacity 69 {root} out damaged", {"damaged": damaged})
     yield case(f"gather --verbose --capacity 100 {root} out piece nofile whole", {"piece": piece, "whole": whole})
     yield case(f"gather --missing list --workers 1 --capacity 100 {root} out damaged", {"damaged": damaged})
+    yield case(f"gather --missing list --workers 1 --capacity 100 {root} out whole", {"whole": whole})
+    yield case(f"gather --missing list --salvage --workers 1 --outboard parents {root} out third fifth", {"parents": parents, "fifth": changed(worn["fourth"], 66_000), **worn})
     yield case(f"gather --outboard parents --capacity 100 {root} out marred blob", {"parents": parents, "marred": marred, "blob": blob})
     yield case(f"gather --outboard parents --workers 1 --encode {root} out blob", {"parents": parents, "blob": blob})
     yield case(f"gather --workers 1 --capacity 100 {root} out first second", torn)

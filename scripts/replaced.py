@@ -9,6 +9,7 @@ Each row of ROWS is an OUT: how it is laid out, the tasks that write to it, how 
 is replaced at once: so it is what it was or what was to come, a link stays a link, permissions stay, and no file is left beside it. What was to
 come is what scripts/definitions.py gives. Two runs at a time on one OUT leave what one of them was to write.
 What is to be seen where a call fails, or the process is killed, scripts/refuse.py tries.
+OUT may not lead to standard output, nor the list of what is missing to another file of the command, by whatever name: then all stays as it was.
 Prints a line for each row and task, with what was wrong, and last 'N passed, M failed'. The exit status is 1 where one failed.
 """
 import argparse
@@ -204,6 +205,88 @@ def into_pipe(program):
     return wrong
 
 
+def refused(program, words, out, usage, make, stdout=None):
+    """Runs a task that has to be refused as usage, with all files as they were; answers what was wrong."""
+    with tempfile.TemporaryDirectory(prefix="replaced-") as folder:
+        lay_out(folder, Row("", "out", {"out": KEPT, "key": b"0" * 64}, folders=("there",)))
+        make(folder)
+        before = found(folder)
+        given = [out if it == "OUT" else it for it in words.split()]
+        with open(f"{folder}/{stdout}" if stdout else os.devnull, "ab") as it:
+            ran = subprocess.run([program, *given], cwd=folder, stdin=subprocess.DEVNULL, stdout=it, stderr=subprocess.PIPE, text=True, timeout=HELD)
+        got, wanted = (ran.returncode, ran.stderr), (2, f"bao_gather: usage: {usage}\n")
+        return [f"{words} {out}: {got} in place of {wanted}"] * (got != wanted) + [f"{words} {out}: a file has changed"] * (found(folder) != before)
+
+
+def onto_output(program):
+    """OUT isn't the file that standard output is open on."""
+    wrong, usage = [], "OUT leads to standard output"
+    names = {
+        "open": lambda folder: None,
+        "./there/../open": lambda folder: None,
+        "soft": lambda folder: os.symlink("open", f"{folder}/soft"),
+        "hard": lambda folder: os.link(f"{folder}/open", f"{folder}/hard"),
+        "output": lambda folder: os.symlink("/dev/stdout", f"{folder}/output"),
+        "/proc/self/fd/./1": lambda folder: None,
+    }
+
+    def made(folder, make):
+        with open(f"{folder}/open", "wb") as it:
+            it.write(b"before")
+        make(folder)
+
+    for words in TASKS:
+        for out, make in names.items():
+            wrong += refused(program, words, out, usage, lambda folder, make=make: made(folder, make), stdout="open")
+    # Where nothing stands, nothing is mixed up; and another file that is open is another file.
+    for words, wanted in TASKS.items():
+        with tempfile.TemporaryDirectory(prefix="replaced-") as folder:
+            lay_out(folder, ROWS[0])
+            with open(os.devnull, "wb") as nowhere:
+                given = ["/dev/null" if it == "OUT" else it for it in words.split()]
+                statuses = [subprocess.run([program, *given], cwd=folder, stdin=subprocess.DEVNULL, stdout=nowhere, timeout=HELD).returncode]
+            with open(f"{folder}/log", "wb") as log:
+                given = ["out" if it == "OUT" else it for it in words.split()]
+                statuses.append(subprocess.run([program, *given], cwd=folder, stdin=subprocess.DEVNULL, stdout=log, timeout=HELD).returncode)
+            with open(f"{folder}/out", "rb") as it:
+                if statuses != [0, 0] or it.read() != wanted:
+                    wrong.append(f"{words}: {statuses}")
+    return wrong
+
+
+def onto_list(program):
+    """The list of what is missing is no other file of the command."""
+    wrong, leads = [], "LIST leads to another file of the command"
+    soft = lambda to: lambda folder: os.symlink(to, f"{folder}/list")
+    hard = lambda to: lambda folder: os.link(f"{folder}/{to}", f"{folder}/list")
+    nothing = lambda folder: None
+    gather, beside = f"gather --missing OUT {ROOT} out torn.bao", f"gather --missing OUT --outboard blob.obao {ROOT} out blob"
+    trials = [
+        (gather, "torn.bao", "LIST is a file that is read", nothing),
+        (beside, "blob.obao", "LIST is a file that is read", nothing),
+        (gather, "out", "LIST is OUT or standard output", nothing),
+        (gather, "there/../torn.bao", leads, nothing),
+        (beside, "./blob.obao", leads, nothing),
+        *[(gather, "list", leads, make(to)) for make in (soft, hard) for to in ("torn.bao", "out")],
+        *[(beside, "list", leads, make(to)) for make in (soft, hard) for to in ("blob", "blob.obao", "out")],
+        *[(f"gather --missing OUT --key-file key {ROOT} out torn.bao", "list", leads, make("key")) for make in (soft, hard)],
+        (f"gather --missing OUT {ROOT} new torn.bao", "there/../new", leads, nothing),
+        (f"gather --missing OUT {ROOT} there/new torn.bao", "./there/new", leads, nothing),
+    ]
+    for words, name, usage, make in trials:
+        wrong += refused(program, words, name, usage, make)
+    wrong += refused(program, gather, "list", leads, soft("/dev/stdout"), stdout="other")
+    # A link to nothing leads to the list once OUT is there: then OUT is what it was to be, and the list isn't made.
+    for words in (GATHER, f"gather --long {ROOT} OUT blob.bao"):
+        with tempfile.TemporaryDirectory(prefix="replaced-") as folder:
+            lay_out(folder, Row("", "link", links={"link": "new"}))
+            ran = run(program, folder, words.replace("gather", "gather --missing new", 1), "link")
+            with open(f"{folder}/new", "rb") as it:
+                if (ran.returncode, ran.stdout, ran.stderr, it.read()) != (3, "", "bao_gather: cannot write new\n", BLOB):
+                    wrong.append(f"{words}: {ran.returncode}, {ran.stdout!r}, {ran.stderr!r}")
+    return wrong
+
+
 def two_at_a_time(program):
     """Two runs on one OUT, many times."""
     wrong = []
@@ -226,7 +309,8 @@ def main():
     asked = asked.parse_args()
     program = os.path.abspath(asked.program)
     trials = [(f"{row.name}: {words.replace(ROOT, 'ROOT')}", lambda row=row, words=words: tried(program, row, words)) for row in ROWS for words in row.tasks]
-    trials += [("an open file", lambda: through_descriptor(program)), ("a pipe", lambda: into_pipe(program)), ("two runs at a time", lambda: two_at_a_time(program))]
+    trials += [("an open file", lambda: through_descriptor(program)), ("a pipe", lambda: into_pipe(program))]
+    trials += [("standard output", lambda: onto_output(program)), ("the list", lambda: onto_list(program)), ("two runs at a time", lambda: two_at_a_time(program))]
     passed = failed = 0
     for name, trial in trials:
         if asked.only not in name:

@@ -5,7 +5,7 @@ use Rattle.bao_files.specs.Printed as file
 use Rattle.bao_files.specs.declared.fault.FileFault.{FileFault}
 use Rattle.bao_files.specs.declared.fault.FileFault.TheVariants as files
 use Rattle.bao_command.specs.declared.fault.Fault.{Fault}
-use Rattle.bao_command.specs.declared.fault.Fault.TheVariants.{Word, Root, Key, KeyAndContext, KeyFile, KeyFileAndOthers, OutputRange, TooManyFiles, OutIsOutput, LongAndOthers, ListIsOut, File, Decode, Gather, Replay}
+use Rattle.bao_command.specs.declared.fault.Fault.TheVariants.{Word, Root, Key, KeyAndContext, KeyFile, KeyFileAndOthers, OutputRange, TooManyFiles, OutIsOutput, OutLeadsToOutput, LongAndOthers, ListIsOut, ListIsRead, ListLeadsToOther, File, Decode, Gather, Replay}
 
 -- what a fault leaves of the line that was to be printed: a beginning where it is that of standard
 -- output, and nothing else
@@ -19,8 +19,11 @@ CommandLeaves line old new KeyFileAndOthers = Keeps old new
 CommandLeaves line old new OutputRange = Keeps old new
 CommandLeaves line old new TooManyFiles = Keeps old new
 CommandLeaves line old new OutIsOutput = Keeps old new
+CommandLeaves line old new OutLeadsToOutput = Keeps old new
 CommandLeaves line old new LongAndOthers = Keeps old new
 CommandLeaves line old new ListIsOut = Keeps old new
+CommandLeaves line old new ListIsRead = Keeps old new
+CommandLeaves line old new ListLeadsToOther = Keeps old new
 CommandLeaves line old new (File fault) = file.Leaves line old new fault
 CommandLeaves line old new (Decode fault) = Keeps old new
 CommandLeaves line old new (Gather fault) = Keeps old new

@@ -1,12 +1,12 @@
 -- what a task prints, and what it writes to its file OUT
-use Rattle.std.specs.Prelude.{◌≡◌, ◌≢◌, ◌⊎◌, ◌<◌, ◌≤◌, ℕ, ◌+◌, ◌-◌, ◌^◌, true, List, length, Option, Some, None, Result, Ok, Err, codes}
+use Rattle.std.specs.Prelude.{◌≡◌, ◌≢◌, ◌⊎◌, ◌<◌, ◌≤◌, ℕ, ◌+◌, ◌-◌, ◌^◌, true, List, length, Option, Some, None, Result, Ok, Err, codes, HoldsAt}
 use Rattle.std.specs.Borrow.{Bor}
 use Rattle.std.specs.Io.KnownBytes.{Appends, Keeps}
 use Rattle.b3tree.specs.declared.mode.Mode.{Mode}
 use Rattle.b3tree.specs.declared.values.Hash.{Hash as Root32}
 use Rattle.b3tree.specs.Hashing.{hash, stream}
 use Rattle.bao_command.specs.declared.fault.Fault.{Fault}
-use Rattle.bao_command.specs.declared.fault.Fault.TheVariants.{Word, Root, Key, KeyAndContext, KeyFile, KeyFileAndOthers, OutputRange, TooManyFiles, OutIsOutput, LongAndOthers, ListIsOut, File, Decode as Undecoded, Gather as Ungathered, Replay as Unreplayed}
+use Rattle.bao_command.specs.declared.fault.Fault.TheVariants.{Word, Root, Key, KeyAndContext, KeyFile, KeyFileAndOthers, OutputRange, TooManyFiles, OutIsOutput, OutLeadsToOutput, LongAndOthers, ListIsOut, ListIsRead, ListLeadsToOther, File, Decode as Undecoded, Gather as Ungathered, Replay as Unreplayed}
 use Rattle.bao_files.specs.declared.fault.FileFault.{FileFault}
 use Rattle.bao_files.specs.declared.fault.FileFault.TheVariants as file
 use Rattle.bao_files.specs.declared.kinds.Part.{Part}
@@ -19,7 +19,7 @@ use Rattle.bao_request.specs.declared.tasks.Request.{Request}
 use Rattle.bao_request.specs.declared.tasks.Task.{Task}
 use Rattle.bao_request.specs.declared.tasks.Task.TheVariants.{Hash, Encode, Decode, DecodeCopy, Gather, Replay}
 use Rattle.hex.specs.Hex.{decode_of}
-use Rattle.bao_command.specs.ModeWords.{HasMode}
+use Rattle.bao_command.specs.ModeWords.{HasMode, MixesKeys}
 
 -- that of a part of a text
 abbrev pub part_line : Part → List ℕ → List ℕ
@@ -61,6 +61,31 @@ ListClashes (DecodeCopy root outboard verbose copy out) = ⊥
 ListClashes (Gather root workers capacity long outboard salvage encode verbose missing files out) = IsListAt out.now missing
 ListClashes (Replay root capacity script files) = ⊥
 
+-- a file is named, by this path
+abbrev pub IsNamed : List ℕ → Option (Bor (List ℕ)) → Type 0
+IsNamed path None = ⊥
+IsNamed path (Some named) = named.now ≡ path
+
+-- one of these files has this path
+abbrev pub IsPathAmong : List ℕ → List (Bor (List ℕ)) → Type 0
+IsPathAmong path files = (k : ℕ) × (k < length files) × HoldsAt (λ file. file.now ≡ path) files k
+
+-- the file that the list goes to is read, by its name: it is one of the files, or has the outboard encoding, or the key
+abbrev pub IsListRead : Option (Bor (List ℕ)) → Option (Bor (List ℕ)) → List (Bor (List ℕ)) → Option (Bor (List ℕ)) → Type 0
+IsListRead key_file outboard files None = ⊥
+IsListRead key_file outboard files (Some list) = IsPathAmong list.now files ⊎ IsNamed list.now outboard ⊎ IsNamed list.now key_file
+
+abbrev pub ReadsListOf : Option (Bor (List ℕ)) → Task → Type 0
+ReadsListOf key_file (Hash at length file) = ⊥
+ReadsListOf key_file (Encode encoding file out) = ⊥
+ReadsListOf key_file (Decode root part verbose file out) = ⊥
+ReadsListOf key_file (DecodeCopy root outboard verbose copy out) = ⊥
+ReadsListOf key_file (Gather root workers capacity long outboard salvage encode verbose missing files out) = IsListRead key_file outboard files.items missing
+ReadsListOf key_file (Replay root capacity script files) = ⊥
+
+abbrev pub ReadsList : Request → Type 0
+ReadsList request = ReadsListOf request.key_file request.task
+
 -- what the task writes to a file doesn't go where its line is printed
 abbrev pub WritesApart : Task → Type 0
 WritesApart (Hash at length file) = Unit {0}
@@ -70,9 +95,9 @@ WritesApart (DecodeCopy root outboard verbose copy out) = IsNoOutput out.now
 WritesApart (Gather root workers capacity long outboard salvage encode verbose missing files out) = IsNoOutput out.now
 WritesApart (Replay root capacity script files) = Unit {0}
 
--- nor to the file that the list goes to, which isn't where the line is printed either
-abbrev pub GoesApart : Task → Type 0
-GoesApart task = WritesApart task × (¬ ListClashes task)
+-- nor to the file that the list goes to, which isn't where the line is printed either, and isn't read
+abbrev pub GoesApart : Request → Type 0
+GoesApart request = WritesApart request.task × (¬ ListClashes request.task) × (¬ ReadsList request)
 
 -- the output that the task asks for ends after 2^64 - 1
 abbrev pub IsPastOutput : Task → Type 0
@@ -101,12 +126,45 @@ HasManyFiles (DecodeCopy root outboard verbose copy out) = ⊥
 HasManyFiles (Gather root workers capacity long outboard salvage encode verbose missing files out) = 64 < length files.items
 HasManyFiles (Replay root capacity script files) = 64 < length files.items
 
--- The arguments are refused only with reason: for the root, for where the output ends, for how many files there are, for where OUT is, for what
--- excludes each other, in the task and in the mode, and for where LIST is.
-abbrev pub IsDue : Type 0 → Type 0 → Type 0 → Type 0 → Type 0 → Type 0 → Type 0 → Fault → Type 0
-IsDue root past many out mixed keys list fault =
-    (fault ≡ Root → root) × (fault ≡ OutputRange → past) × (fault ≡ TooManyFiles → many) × (fault ≡ OutIsOutput → out) × (fault ≡ LongAndOthers → mixed)
-    × (fault ≡ KeyFileAndOthers → keys) × (fault ≡ ListIsOut → list)
+-- What the arguments may be refused for: the root, where the output ends, how many files there are, where OUT is, what excludes each other, in the task
+-- and in the mode, where LIST is, and that it is read.
+pub record Reasons : Type 1 where
+  pub root : Type 0
+  pub past : Type 0
+  pub many : Type 0
+  pub out : Type 0
+  pub mixed : Type 0
+  pub keys : Type 0
+  pub list : Type 0
+  pub read : Type 0
+
+-- none of these
+abbrev pub no_reasons : Reasons
+no_reasons = record { root = ⊥; past = ⊥; many = ⊥; out = ⊥; mixed = ⊥; keys = ⊥; list = ⊥; read = ⊥ }
+
+-- those of a request
+abbrev pub reasons_of : Request → Reasons
+reasons_of request = record {
+  root = ¬ HasRoot request.task;
+  past = IsPastOutput request.task;
+  many = HasManyFiles request.task;
+  out = ¬ WritesApart request.task;
+  mixed = IsMixed request.task;
+  keys = MixesKeys request;
+  list = ListClashes request.task;
+  read = ReadsList request;
+}
+
+-- The arguments are refused only with reason.
+pub record IsDue (reasons : Reasons) (fault : Fault) : Type 0 where
+  pub root : fault ≡ Root → reasons.root
+  pub past : fault ≡ OutputRange → reasons.past
+  pub many : fault ≡ TooManyFiles → reasons.many
+  pub out : fault ≡ OutIsOutput → reasons.out
+  pub mixed : fault ≡ LongAndOthers → reasons.mixed
+  pub keys : fault ≡ KeyFileAndOthers → reasons.keys
+  pub list : fault ≡ ListIsOut → reasons.list
+  pub read : fault ≡ ListIsRead → reasons.read
 
 -- the text of a part of the blob with this root, in hexadecimal digits, is accepted
 abbrev pub IsRightPart : Mode → List ℕ → Part → List ℕ → Type 0
@@ -144,12 +202,12 @@ IsRight mode (Replay root capacity script files) bytes = (length files.items ≤
 -- the line of the request on some bytes, in the request's mode, was printed, and nothing of its files OUT and LIST beside it
 abbrev pub PrintsLine : Request → Option (List ℕ) → Option (List ℕ) → Type 0
 PrintsLine request old new =
-    (mode : Mode) × (bytes : List ℕ) × HasMode request mode × GoesApart request.task × IsRight mode request.task bytes × Appends old new (line_of mode request.task bytes)
+    (mode : Mode) × (bytes : List ℕ) × HasMode request mode × GoesApart request × IsRight mode request.task bytes × Appends old new (line_of mode request.task bytes)
 
 -- the same, but that a beginning of the line was printed, if anything
 abbrev pub PrintsBeginning : Request → Option (List ℕ) → Option (List ℕ) → Type 0
 PrintsBeginning request old new =
-    (mode : Mode) × (bytes : List ℕ) × HasMode request mode × GoesApart request.task × IsRight mode request.task bytes
+    (mode : Mode) × (bytes : List ℕ) × HasMode request mode × GoesApart request × IsRight mode request.task bytes
     × AppendsBeginning old new (line_of mode request.task bytes)
 
 -- what standard output holds after a fault of the request
@@ -170,8 +228,11 @@ LeavesOf request old new KeyFileAndOthers = Keeps old new
 LeavesOf request old new OutputRange = Keeps old new
 LeavesOf request old new TooManyFiles = Keeps old new
 LeavesOf request old new OutIsOutput = Keeps old new
+LeavesOf request old new OutLeadsToOutput = Keeps old new
 LeavesOf request old new LongAndOthers = Keeps old new
 LeavesOf request old new ListIsOut = Keeps old new
+LeavesOf request old new ListIsRead = Keeps old new
+LeavesOf request old new ListLeadsToOther = Keeps old new
 LeavesOf request old new (File fault) = LeavesOfFile request old new fault
 LeavesOf request old new (Undecoded fault) = Keeps old new
 LeavesOf request old new (Ungathered fault) = Keeps old new

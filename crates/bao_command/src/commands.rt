@@ -12,13 +12,16 @@ ghost use Rattle.bao_tasks.specs.Gathered.{Fits};
 ghost use Rattle.bao_command.specs.ModeWords.{MixesKeys};
 ghost use Rattle.bao_command.specs.Outcome.{AreRefused, Begun, Done};
 ghost use Rattle.bao_command.specs.Printed.{CommandPrints, OnPrinted, told_of};
-ghost use Rattle.bao_command.specs.Tasks.{Answers, HasHash, HasManyFiles, HasRoot, IsBeside, IsDue, IsMixed, IsListAt, IsNoOutput, IsPastOutput, IsReplay, IsRight, IsRightCopy, IsRightPart, ListClashes, WritesApart, line_of, part_line};
+ghost use Rattle.bao_command.specs.Tasks.{Answers, HasHash, HasManyFiles, HasRoot, IsBeside, IsDue, IsMixed, IsNoOutput, IsPastOutput, IsReplay, IsRight, IsRightCopy, IsRightPart, ListClashes, ReadsList, WritesApart, line_of, no_reasons, part_line, reasons_of};
 ghost use Rattle.bao_command.specs.Told.{part_line as missing_line, parts_line, unlooked_line, worth_line};
 
 use crate::fault::Fault;
 use crate::help::{show, shown_status};
+use crate::lists::check_list;
 use crate::mode::asked_mode;
+use crate::places::{check_places, is_one_file};
 use crate::refused::{tell_beside, tell_encoding};
+use crate::unread::{tell_left_out, tell_why};
 use b3tree::{Hash, Mode, xof_fits};
 use bao_decode::{DecodeFault, decode_copy, decode_file};
 use bao_files::{
@@ -70,7 +73,10 @@ pub fn command<
     match parse(rt.alloc(), words) {
         Ok(request) => match serve(rt, &request, out, err, progress) {
             Ok(()) => 0,
-            Err(fault) => fault.report(err),
+            Err(fault) => {
+                tell_why(rt, &request.task, fault, err);
+                fault.report(err)
+            }
         },
         Err(error) => answer_clap(rt.alloc(), &error, out, err),
     }
@@ -89,13 +95,15 @@ fn serve<
     ensures mixed { HasRoot request.now.task → IsMixed request.now.task → IsErrAnd result (λ fault. fault ≡ Fault.LongAndOthers) }
     ensures keys { HasRoot request.now.task → ¬ IsMixed request.now.task → MixesKeys request.now → IsErrAnd result (λ fault. fault ≡ Fault.KeyFileAndOthers) }
     ensures list { ListClashes request.now.task → IsErr result }
-    ensures due { IfErr result (IsDue (¬ HasRoot request.now.task) (IsPastOutput request.now.task) (HasManyFiles request.now.task) (¬ WritesApart request.now.task) (IsMixed request.now.task) (MixesKeys request.now) (ListClashes request.now.task)) }
+    ensures read { ReadsList request.now → IsErr result }
+    ensures due { IfErr result (IsDue (reasons_of request.now)) }
 {
     check_root(&request.task)?;
     check_long(&request.task)?;
     let mode = asked_mode(rt, request)?;
     if writes_apart(&request.task) {
-        check_list(&request.task)?;
+        check_list(request)?;
+        check_places(rt, request)?;
         serve_task(rt, &mode, &request.task, out, err, progress)
     } else {
         Err(Fault::OutIsOutput)
@@ -105,7 +113,7 @@ fn serve<
 // The answer of printing, as a fault of the program.
 fn told<'a>(printed: Result<(), FileFault<'a>>) -> Result<(), Fault<'a>>
     ensures prints { result ≡ told_of printed.entry }
-    ensures due { IfErr result (IsDue ⊥ ⊥ ⊥ ⊥ ⊥ ⊥ ⊥) }
+    ensures due { IfErr result (IsDue no_reasons) }
 {
     match printed {
         Ok(()) => Ok(()),
@@ -135,7 +143,7 @@ fn hash<'a, R: Files<File = File> + AllocGlobal + Threads + Sync, O: Write, P: P
     progress: &P,
 ) -> Result<(), Fault<'a>>
     ensures prints { (bytes : List ℕ) × CommandPrints (digits_line (stream mode.now bytes at len)) (O.contents out.old) (O.contents out.new) result }
-    ensures due { IfErr result (IsDue ⊥ (¬ (at + len ≤ 2 ^ 64 - 1)) ⊥ ⊥ ⊥ ⊥ ⊥) }
+    ensures due { IfErr result (IsDue (record no_reasons { past = ¬ (at + len ≤ 2 ^ 64 - 1) })) }
 {
     if !xof_fits(at, u64::from(len)) {
         return Err(Fault::OutputRange);
@@ -160,7 +168,7 @@ fn encode<'a, R: Files<File = File> + AllocGlobal + Threads + Sync, O: Write, P:
     progress: &P,
 ) -> Result<(), Fault<'a>>
     ensures prints { (bytes : List ℕ) × CommandPrints (digits_line (hash_of mode.now bytes)) (O.contents out.old) (O.contents out.new) result }
-    ensures due { IfErr result (IsDue ⊥ ⊥ ⊥ ⊥ ⊥ ⊥ ⊥) }
+    ensures due { IfErr result (IsDue no_reasons) }
 {
     match encode_file(rt, mode, encoding, file, path, progress) {
         Ok(hash) => told(print_digits(rt.alloc(), &hash.0, out)),
@@ -182,7 +190,7 @@ fn decode<'a, R: Files<File = File> + AllocGlobal + Threads + Sync, O: Write, E:
 ) -> Result<(), Fault<'a>>
     ensures prints { (bytes : List ℕ) × OnPrinted result (IsRightPart mode.now digits.now part.now bytes)
         × CommandPrints (part_line part.now bytes) (O.contents out.old) (O.contents out.new) result }
-    ensures due { IfErr result (IsDue (¬ IsDigits digits.now) ⊥ ⊥ ⊥ ⊥ ⊥ ⊥) }
+    ensures due { IfErr result (IsDue (record no_reasons { root = ¬ IsDigits digits.now })) }
 {
     let root = root_of(digits)?;
     match decode_file(rt, mode, &root, part, file, path) {
@@ -212,7 +220,7 @@ fn decode_beside<'a, R: Files<File = File> + AllocGlobal, O: Write, E: Write>(
 ) -> Result<(), Fault<'a>>
     ensures prints { (bytes : List ℕ) × OnPrinted result (IsRightCopy mode.now digits.now bytes)
         × CommandPrints (ok_line (length bytes)) (O.contents out.old) (O.contents out.new) result }
-    ensures due { IfErr result (IsDue (¬ IsDigits digits.now) ⊥ ⊥ ⊥ ⊥ ⊥ ⊥) }
+    ensures due { IfErr result (IsDue (record no_reasons { root = ¬ IsDigits digits.now })) }
 {
     let root = root_of(digits)?;
     match decode_copy(rt, mode, &root, outboard, copy, path) {
@@ -241,8 +249,9 @@ fn tell_worth<W: Write>(file: &str, worth: Worth, out: &mut W) -> io::Result<()>
 }
 
 // Says why a file was left out, or what it is worth, or that there was no memory to count that.
-fn tell_fate<E: Write>(file: &str, fate: Fate, err: &mut E) -> io::Result<()> {
+fn tell_fate<R: Files, E: Write>(rt: &R, file: &str, fate: Fate, err: &mut E) -> io::Result<()> {
     match (fate.reason(), fate) {
+        (Some(reason), Fate::Unread) => tell_left_out(rt, file, reason, err),
         (Some(reason), _) => writeln!(Once(err), "bao_gather: left out {file}: {reason}"),
         (None, Fate::Taken(Some(worth))) => tell_worth(file, worth, &mut Once(err)),
         (None, _) => writeln!(Once(err), "bao_gather: {file}: not counted: no memory"),
@@ -327,6 +336,12 @@ fn tell_lack<E: Write>(notes: &Notes, err: &mut E) -> io::Result<()> {
         Lack::Unasked => Ok(()),
         Lack::Starved => writeln!(Once(err), "bao_gather: missing: not looked for: no memory"),
         Lack::End => tell_no_end(notes.fates.as_slice(), err),
+        Lack::Missing(parts) if parts.count == 0 && parts.looked == parts.total => {
+            writeln!(
+                Once(err),
+                "bao_gather: missing: nothing at a second look: a read failed before"
+            )
+        }
         Lack::Missing(parts) => {
             for part in first_of(parts.shown.as_slice()) {
                 tell_part(*part, &mut Once(err))?;
@@ -341,12 +356,12 @@ fn tell_lack<E: Write>(notes: &Notes, err: &mut E) -> io::Result<()> {
 }
 
 // Says so of each file, and what none of them has, where that is asked. A write that fails is the last, and changes nothing.
-fn tell<E: Write>(verbose: bool, files: &[&str], notes: &Notes, err: &mut E) {
+fn tell<R: Files, E: Write>(rt: &R, verbose: bool, files: &[&str], notes: &Notes, err: &mut E) {
     if !verbose {
         return;
     }
     for (file, fate) in files.iter().zip(notes.fates.as_slice()) {
-        if tell_fate(file, *fate, err).is_err() {
+        if tell_fate(rt, file, *fate, err).is_err() {
             return;
         }
     }
@@ -377,16 +392,19 @@ fn parts_asked(verbose: bool, list: Option<&str>) -> usize {
     }
 }
 
-// Makes the list empty, where there is one: nothing is missing.
+// Makes the list empty, where there is one: nothing is missing. A link may have led it to OUT, which is there now: then it can't be written.
 fn list_nothing<'a, R: Files<File = File> + AllocGlobal>(
     rt: &R,
-    list: Option<&'a str>,
+    paths: Paths<'a>,
 ) -> Result<(), Fault<'a>>
     ensures quiet { IfErr result (λ fault. (file : FileFault) × (fault ≡ Fault.File file) × IsQuiet file) }
 {
-    let Some(path) = list else {
+    let Some(path) = paths.list else {
         return Ok(());
     };
+    if is_one_file(rt, path, paths.out) {
+        return Err(Fault::File(FileFault::Write(path)));
+    }
     match list_parts(&mut System::new(rt), &[], path) {
         Ok(()) => Ok(()),
         Err(fault) => Err(Fault::File(fault)),
@@ -435,7 +453,7 @@ fn gather<'a, R: Files<File = File> + AllocGlobal + Threads + Sync, O: Write, E:
         × CommandPrints (ok_line (length blob)) (O.contents out.old) (O.contents out.new) result }
     ensures few { OnPrinted result (length files.now ≤ 64) }
     ensures many { 64 < length files.now → IsErrAnd result (λ fault. fault ≡ Fault.TooManyFiles) }
-    ensures due { IfErr result (IsDue (¬ IsDigits digits.now) ⊥ (64 < length files.now) ⊥ ⊥ ⊥ ⊥) }
+    ensures due { IfErr result (IsDue (record no_reasons { root = ¬ IsDigits digits.now; many = 64 < length files.now })) }
 {
     if files.len() > MOST_FILES {
         return Err(Fault::TooManyFiles);
@@ -449,10 +467,10 @@ fn gather<'a, R: Files<File = File> + AllocGlobal + Threads + Sync, O: Write, E:
         Some(outboard) => gather_beside(rt, mode, &root, how, outboard, files, paths.out, kept),
         None => gather_files(rt, mode, &root, &Form::Slices, how, files, paths.out, kept),
     };
-    tell(how.count, files, &notes, err);
+    tell(rt, how.count, files, &notes, err);
     match gathered {
         Ok(count) => {
-            list_nothing(rt, paths.list)?;
+            list_nothing(rt, paths)?;
             told(print_count(rt.alloc(), count, out))
         }
         Err(fault) => {
@@ -476,7 +494,7 @@ fn replay<'a, R: Files + AllocGlobal, O: Write>(
         × CommandPrints text (O.contents out.old) (O.contents out.new) result }
     ensures few { OnPrinted result (length files.now ≤ 64) }
     ensures many { 64 < length files.now → IsErrAnd result (λ fault. fault ≡ Fault.TooManyFiles) }
-    ensures due { IfErr result (IsDue (¬ IsDigits digits.now) ⊥ (64 < length files.now) ⊥ ⊥ ⊥ ⊥) }
+    ensures due { IfErr result (IsDue (record no_reasons { root = ¬ IsDigits digits.now; many = 64 < length files.now })) }
 {
     if files.len() > MOST_FILES {
         return Err(Fault::TooManyFiles);
@@ -505,7 +523,7 @@ fn serve_task<
 ) -> Result<(), Fault<'a>>
     ensures prints { (bytes : List ℕ) × OnPrinted result (IsRight mode.now task.now bytes)
         × CommandPrints (line_of mode.now task.now bytes) (O.contents out.old) (O.contents out.new) result }
-    ensures due { IfErr result (IsDue (¬ HasRoot task.now) (IsPastOutput task.now) (HasManyFiles task.now) ⊥ ⊥ ⊥ ⊥) }
+    ensures due { IfErr result (IsDue (record no_reasons { root = ¬ HasRoot task.now; past = IsPastOutput task.now; many = HasManyFiles task.now })) }
 {
     match task {
         Task::Hash { at, length, file } => hash(rt, mode, *at, *length, file, out, progress),
@@ -599,33 +617,11 @@ fn check_long<'a>(task: &Task<'a>) -> Result<(), Fault<'a>>
 }
 
 // Whether the path is a name of standard output.
-fn is_output(path: &str) -> bool
+pub(crate) fn is_output(path: &str) -> bool
     ensures yes { result ≡ true → ¬ IsNoOutput path.now }
     ensures no { result ≡ false → IsNoOutput path.now }
 {
     matches!(path, "-" | "/dev/stdout" | "/dev/fd/1" | "/proc/self/fd/1")
-}
-
-// Whether the list goes to the file of OUT, by its name, or to standard output.
-fn is_list_at(out: &str, list: Option<&str>) -> bool
-    ensures yes { result ≡ true → IsListAt out.now list.entry }
-    ensures no { result ≡ false → ¬ IsListAt out.now list.entry }
-{
-    match list {
-        Some(list) => list == out || is_output(list),
-        None => false,
-    }
-}
-
-// What is missing goes to another file than OUT, and not to standard output.
-fn check_list<'a>(task: &Task<'a>) -> Result<(), Fault<'a>>
-    ensures ok { OnOk result (¬ ListClashes task.now) }
-    ensures err { IfErr result (λ fault. (fault ≡ Fault.ListIsOut) × ListClashes task.now) }
-{
-    match task {
-        Task::Gather { missing, out, .. } if is_list_at(out, *missing) => Err(Fault::ListIsOut),
-        _ => Ok(()),
-    }
 }
 
 // Whether what the task writes to a file goes elsewhere than its line.

@@ -42,12 +42,21 @@ pub enum Fault<'a> {
     /// OUT is a name of standard output, where the line with the hash or with `ok` goes. Status 2.
     #[error("usage: OUT is standard output")]
     OutIsOutput,
+    /// OUT leads to the file that standard output is open on, by another name. Status 2.
+    #[error("usage: OUT leads to standard output")]
+    OutLeadsToOutput,
     /// `--long` is given, and `--encode` or a `--capacity` other than 65536 with it. Status 2.
     #[error("usage: long excludes capacity and encode")]
     LongAndOthers,
     /// LIST, the file of `--missing`, has the name of OUT, or is a name of standard output. Status 2.
     #[error("usage: LIST is OUT or standard output")]
     ListIsOut,
+    /// LIST has the name of a file that is read: of one of the files, of the outboard encoding, or of the key. Status 2.
+    #[error("usage: LIST is a file that is read")]
+    ListIsRead,
+    /// LIST leads to OUT, to standard output or to a file that is read, by another name. Status 2.
+    #[error("usage: LIST leads to another file of the command")]
+    ListLeadsToOther,
     /// A file or standard output was not read or written. Status 3, and 4 out of memory.
     #[error("{0}")]
     File(FileFault<'a>),
@@ -154,8 +163,11 @@ impl Fault<'_> {
             | Fault::OutputRange
             | Fault::TooManyFiles
             | Fault::OutIsOutput
+            | Fault::OutLeadsToOutput
             | Fault::LongAndOthers
-            | Fault::ListIsOut => 2,
+            | Fault::ListIsOut
+            | Fault::ListIsRead
+            | Fault::ListLeadsToOther => 2,
             Fault::File(fault) => file_status(fault),
             Fault::Decode(fault) => decode_status(fault),
             Fault::Gather(fault) => gathered_status(fault),
@@ -177,8 +189,11 @@ impl Fault<'_> {
             | Fault::OutputRange
             | Fault::TooManyFiles
             | Fault::OutIsOutput
+            | Fault::OutLeadsToOutput
             | Fault::LongAndOthers
-            | Fault::ListIsOut => None,
+            | Fault::ListIsOut
+            | Fault::ListIsRead
+            | Fault::ListLeadsToOther => None,
             Fault::File(fault) => fault.code(),
             Fault::Decode(fault) => fault.code(),
             Fault::Gather(fault) => fault.code(),

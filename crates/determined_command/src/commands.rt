@@ -2,6 +2,9 @@
 
 ghost use Rattle.std.specs.Prelude.{◌≡◌, ◌≢◌, map, string_bytes};
 ghost use Rattle.bao_command.specs.Outcome.{AreRefused};
+ghost use Rattle.bao_command.specs.Tasks.{ReadsList};
+ghost use Rattle.bao_request.specs.declared.tasks.Request.{Request};
+ghost use Rattle.bao_request.specs.CommandLine.{AsksFor, AsksForHelp};
 ghost use Rattle.determined_command.specs.Commands.{BothKeep, SameStatus};
 
 use bao_command::{Fault, command};
@@ -46,4 +49,18 @@ pub fn command_determined<
         command(rt, words, ours, err, progress),
         command(rt, words, theirs, err, progress),
     )
+}
+
+// A list that would take the place of a file that is read, by its name, is never made: no such command is done.
+pub fn list_read_refused<
+    R: Files<File = File> + AllocGlobal + Threads + Sync,
+    O: Write,
+    E: Write,
+    P: Progress + Sync,
+>(rt: &R, words: &[String], out: &mut O, err: &mut E, progress: &P) -> u8
+    requires asked { (request : Request) → AsksFor (map string_bytes words.now) request → ReadsList request }
+    requires work { ¬ AsksForHelp (map string_bytes words.now) }
+    ensures { result ≢ 0 }
+{
+    command(rt, words, out, err, progress)
 }

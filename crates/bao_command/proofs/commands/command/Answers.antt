@@ -3,7 +3,7 @@ use Rattle.clap.specs.Words.{Text}
 use Rattle.bao_request.specs.declared.tasks.Request.{Request}
 use Rattle.bao_request.specs.CommandLine.{AsksFor}
 use Rattle.bao_command.specs.declared.fault.Fault.{Fault}
-use Rattle.bao_command.specs.declared.fault.Fault.TheVariants.{Word, Root, Key, KeyAndContext, KeyFile, KeyFileAndOthers, OutputRange, TooManyFiles, OutIsOutput, LongAndOthers, ListIsOut, File, Decode, Gather, Replay}
+use Rattle.bao_command.specs.declared.fault.Fault.TheVariants.{Word, Root, Key, KeyAndContext, KeyFile, KeyFileAndOthers, OutputRange, TooManyFiles, OutIsOutput, OutLeadsToOutput, LongAndOthers, ListIsOut, ListIsRead, ListLeadsToOther, File, Decode, Gather, Replay}
 use Rattle.bao_files.specs.declared.fault.FileFault.TheVariants as file
 use Rattle.bao_command.specs.Outcome.{Begun}
 use Rattle.bao_command.specs.Tasks.{LeavesOf}
@@ -20,8 +20,11 @@ begun words request old new KeyFileAndOthers asks leaves = inl leaves
 begun words request old new OutputRange asks leaves = inl leaves
 begun words request old new TooManyFiles asks leaves = inl leaves
 begun words request old new OutIsOutput asks leaves = inl leaves
+begun words request old new OutLeadsToOutput asks leaves = inl leaves
 begun words request old new LongAndOthers asks leaves = inl leaves
 begun words request old new ListIsOut asks leaves = inl leaves
+begun words request old new ListIsRead asks leaves = inl leaves
+begun words request old new ListLeadsToOther asks leaves = inl leaves
 begun words request old new (File (file.Read path)) asks leaves = inl leaves
 begun words request old new (File (file.Write path)) asks leaves = inl leaves
 begun words request old new (File file.Output) asks leaves = inr (inr (request, asks, leaves))

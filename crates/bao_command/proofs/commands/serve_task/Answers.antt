@@ -1,9 +1,8 @@
-use Rattle.std.proofs.Common.{◌≤◌, ℕ, Bool, List, length, Result, Ok, Err, Bor, subst, sym}
+use Rattle.std.proofs.Common.{◌≤◌, ℕ, List, length, Result, Ok, Err, Bor, subst, sym}
 use Rattle.bao_command.specs.declared.fault.Fault.{Fault}
 use Rattle.bao_command.specs.Printed.{CommandPrints, OnPrinted}
-use Rattle.bao_command.specs.Tasks.{HasHash, IsReplay, IsRight, line_of}
+use Rattle.bao_command.specs.Tasks.{IsReplay, IsRight, line_of}
 use Rattle.bao_request.specs.declared.tasks.Task.{Task}
-use Rattle.bao_tasks.specs.Gathered.{Fits}
 use Rattle.bao_command.proofs.commands.serve_task.Goals as goal
 
 both : (P Q : Type 0) (result : Result Unit Fault) → OnPrinted result P → OnPrinted result Q → OnPrinted result (P × Q)

@@ -1,0 +1,99 @@
+// Where the list of what is missing goes: not to another file of the command, by its name.
+
+ghost use Rattle.std.specs.Prelude.{◌≡◌, ◌⊎◌, IfErr, OnOk, true, false};
+ghost use Rattle.bao_command.specs.declared.fault.Fault.TheVariants as Fault;
+ghost use Rattle.bao_command.specs.Tasks.{IsPathAmong, IsListAt, IsListRead, IsNamed, ListClashes, ReadsList, ReadsListOf};
+
+use crate::commands::is_output;
+use crate::fault::Fault;
+use bao_request::{Request, Task};
+
+// Whether the list goes to the file of OUT, by its name, or to standard output.
+fn is_list_at(out: &str, list: Option<&str>) -> bool
+    ensures yes { result ≡ true → IsListAt out.now list.entry }
+    ensures no { result ≡ false → ¬ IsListAt out.now list.entry }
+{
+    match list {
+        Some(list) => list == out || is_output(list),
+        None => false,
+    }
+}
+
+// Whether one of the files has this path.
+pub(crate) fn is_among(path: &str, files: &[&str]) -> bool
+    ensures yes { result ≡ true → IsPathAmong path.now files.now }
+    ensures no { result ≡ false → ¬ IsPathAmong path.now files.now }
+{
+    files.contains(&path)
+}
+
+// Whether this path is the one that is named, if one is.
+fn is_named(path: &str, named: Option<&str>) -> bool
+    ensures yes { result ≡ true → IsNamed path.now named.entry }
+    ensures no { result ≡ false → ¬ IsNamed path.now named.entry }
+{
+    match named {
+        Some(named) => named == path,
+        None => false,
+    }
+}
+
+// Whether the list goes to a file that is read, by its name.
+fn is_list_read(
+    key_file: Option<&str>,
+    outboard: Option<&str>,
+    files: &[&str],
+    list: Option<&str>,
+) -> bool
+    ensures yes { result ≡ true → IsListRead key_file.entry outboard.entry files.now list.entry }
+    ensures no { result ≡ false → ¬ IsListRead key_file.entry outboard.entry files.now list.entry }
+{
+    match list {
+        Some(list) => {
+            is_among(list, files) || is_named(list, outboard) || is_named(list, key_file)
+        }
+        None => false,
+    }
+}
+
+// Whether the task's list goes to a file that is read, or to the one with the key.
+fn reads_list(key_file: Option<&str>, task: &Task<'_>) -> bool
+    ensures yes { result ≡ true → ReadsListOf key_file.entry task.now }
+    ensures no { result ≡ false → ¬ ReadsListOf key_file.entry task.now }
+{
+    match task {
+        Task::Gather {
+            outboard,
+            missing,
+            files,
+            ..
+        } => is_list_read(key_file, *outboard, files.as_slice(), *missing),
+        _ => false,
+    }
+}
+
+// Whether the task's list goes to the file of OUT, or to standard output.
+fn clashes(task: &Task<'_>) -> bool
+    ensures yes { result ≡ true → ListClashes task.now }
+    ensures no { result ≡ false → ¬ ListClashes task.now }
+{
+    match task {
+        Task::Gather { missing, out, .. } => is_list_at(out, *missing),
+        _ => false,
+    }
+}
+
+/// What is missing goes to another file than OUT, not to standard output, and not to a file that is read.
+pub(crate) fn check_list<'a>(request: &Request<'a>) -> Result<(), Fault<'a>>
+    ensures clash { OnOk result (¬ ListClashes request.now.task) }
+    ensures read { OnOk result (¬ ReadsList request.now) }
+    ensures err { IfErr result (λ fault. ((fault ≡ Fault.ListIsOut) × ListClashes request.now.task) ⊎ ((fault ≡ Fault.ListIsRead) × ReadsList request.now)) }
+{
+    if clashes(&request.task) {
+        return Err(Fault::ListIsOut);
+    }
+    if reads_list(request.key_file, &request.task) {
+        return Err(Fault::ListIsRead);
+    }
+    Ok(())
+}
