@@ -4,7 +4,7 @@ SHELL := bash
 .SHELLFLAGS := -eu -o pipefail -c
 .DEFAULT_GOAL := help
 .DELETE_ON_ERROR:
-.PHONY: help build run try install dist sum test proofs trials c-trials wrong-bodies scenarios docs c-library c-levels c-install c-test c-bench fetch fetch-install fetch-test fetch-bench bench refuse replaced memory stress statement cites fmt FORCE
+.PHONY: help build run try install dist sum test proofs trials c-trials wrong-bodies scenarios program-scenarios docs c-library c-levels c-install c-test c-bench fetch fetch-install fetch-test fetch-bench bench refuse replaced memory stress statement cites fmt FORCE
 
 PREFIX ?= /usr/local
 # Where the C library and its header go.
@@ -19,7 +19,7 @@ CPU := $(if $(filter-out $(sort $(shell cat /proc/cpuinfo 2>/dev/null)),$(V3_NEE
 endif
 
 # Crates of which nothing goes into the program.
-ASIDE := bao_bind bench berylwool text_scenarios store_scenarios crew_scenarios program_scenarios examples $(notdir $(wildcard crates/tests_* crates/determined_*))
+ASIDE := bao_bind bao_feed bench berylwool text_scenarios store_scenarios crew_scenarios examples $(notdir $(wildcard crates/tests_* crates/determined_*))
 
 # The files and folders whose change asks for a new proof. With the folders, a file that was taken
 # away is seen too.
@@ -42,7 +42,8 @@ help:
 	@echo 'make statement CALL="b3tree::hash" prints a contract, of a call, a type or a crate, with every definition'
 	@echo '                          behind it, in reading order'
 	@echo 'make cites NAME=IsPiece   prints what cites a definition'
-	@echo 'make scenarios            holds what the programs of scenarios have to print to replies made by the definitions alone'
+	@echo 'make scenarios            holds the replies of all scenarios to those that the definitions alone give'
+	@echo 'make program-scenarios    runs the program on the lines of its scenarios, and compares what it prints and writes with their replies'
 	@echo 'make c-library            proves the C library and builds it, as out/libberylwool.a and .so (needs cc and binutils)'
 	@echo 'make c-install PREFIX=DIR copies the C library to DIR/lib for both processor levels, its header to DIR/include and its'
 	@echo '                          manual pages to DIR/share/man, with what pkg-config asks for; libdir=DIR and includedir=DIR put'
@@ -120,20 +121,25 @@ proofs:
 	rt ci
 
 trials:
+	@python3 scripts/program_scenarios.py crates/bao_gather/out/bao_gather{,.by-rattle}
 	@python3 scripts/refuse_libraries.py
 	@python3 scripts/refuse.py crates/bao_gather/out/bao_gather
 	@python3 scripts/replaced.py crates/bao_gather/out/bao_gather
 	@python3 scripts/memory.py crates/bao_gather/out/bao_gather
 
 c-trials:
-	@$(MAKE) --no-print-directory c-test
-	@if $(HAS_CURL); then $(MAKE) --no-print-directory fetch-test; else echo 'left out: make fetch-test, since libcurl with its headers is not installed here'; fi
+	@$(MAKE) --no-print-directory c-library
+	@if $(HAS_CURL); then fetch=fetch-test; else fetch=; echo 'left out: make fetch-test, since libcurl with its headers is not installed here'; fi; \
+	    $(MAKE) --no-print-directory -j 2 --output-sync=recurse c-test $$fetch
 
 wrong-bodies:
 	@python3 scripts/wrong_bodies.py $(if $(JOBS),--jobs $(JOBS)) $(CRATES)
 
 scenarios:
 	@python3 scripts/scenarios.py
+
+program-scenarios: out/bao_gather
+	@python3 scripts/program_scenarios.py out/bao_gather
 
 docs: out/bao_gather
 	@python3 scripts/docs.py out/bao_gather
@@ -198,8 +204,8 @@ out/bao_gather: out/cpu $(SOURCES)
 out/bench: out/cpu $(SOURCES) $(wildcard crates/bench/src/* crates/bao_bind/src/* crates/bao_join/src/*)
 	$(call built,bench,src/main.rt)
 
-# The C library stands on these, of which bao_bind isn't in SOURCES.
-C_SOURCES := $(SOURCES) $(shell shopt -s globstar nullglob; echo crates/{bao_bind,berylwool}/{src,specs,proofs}/**)
+# The C library stands on these, of which bao_bind and bao_feed aren't in SOURCES.
+C_SOURCES := $(SOURCES) $(shell shopt -s globstar nullglob; echo crates/{bao_bind,bao_feed,berylwool}/{src,specs,proofs}/**)
 
 # Where the kit's three functions over malloc lie.
 KIT_C = $(dir $(shell rt doc))c/liblibc_c.a

@@ -1,13 +1,15 @@
 #!/usr/bin/env python3
-"""Makes the replies that the scenarios of crates/*_scenarios have to get, and what crates/examples has to print, by the definitions alone.
+"""Makes the replies that the scenarios of crates/*_scenarios and of the program have to get, and what crates/examples has to print, by the definitions alone.
 
 usage: python3 scripts/scenarios.py [--write]
 
-At the top of the repository. A scenario is a program's file stdin: a command a line, with empty lines and lines that begin
-with '#' between them. What the program has to print, its file stdout, is the same lines with a reply, indented, below each
-command. Compares these files with the replies made here, and says where they differ; with --write writes them.
+At the top of the repository. A scenario is a file of commands, one a line, with empty lines and lines that begin with '#' between
+them: a program's file stdin, or the lines that scripts/program_scenarios.py has the program run on. Another file, stdout or replies.txt,
+is the same lines with a reply, indented, below each command. Compares these files with the replies made here, and says where they
+differ; with --write writes them.
 """
 import concurrent.futures
+import errno
 import os
 import re
 import sys
@@ -698,6 +700,36 @@ class Programs:
             raise Refused(3, f"cannot read {file}")
         return self.files[file]
 
+    # Folders that a case names; whatever else can't be read isn't there.
+    FOLDERS = ["/", "."]
+
+    def reason_of(self, file):
+        """What the system has against reading a file."""
+        number = errno.EISDIR if file in self.FOLDERS else errno.ENOENT
+        return f"{os.strerror(number)} (os error {number})"
+
+    def why(self, name, options, given, fault):
+        """What is told with --verbose of a file that can't be read. Of the files of a gathering it is told where they are left out."""
+        file = fault.removeprefix("cannot read ")
+        is_told = name == "gather" and file in given[2:] or name not in ("decode", "decode-slice", "gather")
+        return [f"{file}: {self.reason_of(file)}"] if "--verbose" in options and file != fault and not is_told else []
+
+    def check_list(self, options, given):
+        """Refuses a list that has the name of another file of the command."""
+        if options["--missing"] in [given[1], *self.STANDARD_OUTPUT]:
+            raise Refused(2, "usage: LIST is OUT or standard output")
+        if options["--missing"] in self.read_by(options, given):
+            raise Refused(2, "usage: LIST is a file that is read")
+
+    def read_by(self, options, given):
+        return [*given[2:], *(options[it] for it in ("--outboard", "--key-file") if it in options)]
+
+    def check_list_leads(self, options, given):
+        """Refuses a list that goes to another file of the command by another name."""
+        others = [given[1], *self.STANDARD_OUTPUT, *self.read_by(options, given)]
+        if os.path.normpath(options["--missing"]) in map(os.path.normpath, others):
+            raise Refused(2, "usage: LIST leads to another file of the command")
+
     def write(self, file, data):
         if "/" in file:
             raise Refused(3, f"cannot write {file}")
@@ -748,12 +780,17 @@ class Programs:
             mode = self.mode_of(options.get("--key"), options.get("--context"), options.get("--key-file"))
             if name in self.OUTS and given[self.OUTS[name]] in self.STANDARD_OUTPUT:
                 raise Refused(2, "usage: OUT is standard output")
-            if "--missing" in options and options["--missing"] in [given[1], *self.STANDARD_OUTPUT]:
-                raise Refused(2, "usage: LIST is OUT or standard output")
+            if "--missing" in options:
+                self.check_list(options, given)
+            if name in self.OUTS and os.path.normpath(given[self.OUTS[name]]) in self.STANDARD_OUTPUT:
+                raise Refused(2, "usage: OUT leads to standard output")
+            if "--missing" in options:
+                self.check_list_leads(options, given)
             out = [f"out: {it}" for it in getattr(self, name.replace("-", "_"))(mode, root, options, given).splitlines()]
             return ["status 0", *out, *(f"err: bao_gather: {it}" for it in self.told)]
         except Refused as fault:
-            return [f"status {fault.status}", *(f"err: bao_gather: {it}" for it in [*self.told, fault])]
+            told = [*self.told, *self.why(name, options, given, str(fault)), fault]
+            return [f"status {fault.status}", *(f"err: bao_gather: {it}" for it in told)]
 
     def hash(self, mode, root, options, given):
         at, length = int(options["--at"]), int(options["--length"])
@@ -870,7 +907,7 @@ class Programs:
             if it in self.irregular and it not in opened:
                 self.told.append(f"left out {it}: not opened")
             elif it not in self.files:
-                self.told.append(f"left out {it}: can't be read")
+                self.told.append(f"left out {it}: can't be read: {self.reason_of(it)}")
             else:
                 self.told.append(f"{it}: {self.worth(mode, root, int(options['--capacity']), outline, self.given(it, options, outline))} groups of 64 KiB refused")
         lack = None
@@ -928,6 +965,8 @@ class Programs:
         if lack is None:
             return [self.NO_END]
         total, parts = lack
+        if not parts:
+            return ["missing: nothing at a second look: a read failed before"]
         shown = [f"missing: bytes {first} to {after - 1}" for first, after in parts[: self.MOST_SHOWN]]
         return [*shown, f"missing: {sum(after - first for first, after in parts)} of {total} bytes, parts: {len(parts)}"]
 
@@ -1341,6 +1380,10 @@ def examples():
         return f"{name}: {len(data)} bytes {mode.hash(data).hex()}"
 
     part = text("slice", bao.slice_text(mode, blob, 70_000, 1_000))
+    encoding = bao.combined(mode, blob)
+    first_copy = bytes(byte ^ (at == 10_000) for at, byte in enumerate(encoding))
+    _, lacking = Programs().lack(mode, root, None, [first_copy], GROUP_LEN)
+    schedule = b"claim 1 0 1\nhash 1 0 0 1000\nfill 1 0\npublish 1 0\nload 2 1000 5\n"
     return [
         f"hash: {root.hex()}",
         f"keyed hash: {bao.Mode.keyed(bytes([7] * 32)).hash(blob).hex()}",
@@ -1349,30 +1392,42 @@ def examples():
         f"hash in pieces: {root.hex()}",
         f"hash by a pool: {root.hex()}",
         f"root: {root.hex()}",
-        text("combined", bao.combined(mode, blob)),
+        text("combined", encoding),
         f"cut {part}",
         text("outboard", bao.outboard(mode, blob)),
         part,
         f"hash of a source: {root.hex()}",
-        f"combined of a source: {mode.hash(bao.combined(mode, blob)).hex()}",
+        f"combined of a source: {mode.hash(encoding).hex()}",
         text("checked chunk", blob[70_000 // bao.CHUNK_LEN * bao.CHUNK_LEN :][: bao.CHUNK_LEN]),
         f"certified length: {len(blob)}",
         text("second chunk", blob[bao.CHUNK_LEN : 2 * bao.CHUNK_LEN]),
         f"hash of what was decoded: {root.hex()}",
         f"checked by threads: {bao.chunks_of(len(blob))} chunks",
+        f"claimed by an outboard in pieces: {len(blob)}",
         "audit: agrees",
+        text("combined in a file", encoding),
+        text("decoded slice", blob[70_000:][:1_000]),
         f"read of a part: {blob[70_000:][:16].hex()}",
         f"missing from {2 * size} on",
         f"served {part}",
         text("finished", blob),
         f"read after two seats: {blob[size - 8 :][:16].hex()}",
+        text("replies to a schedule", Schedule(mode, root, 256, schedule, [encoding]).run().encode()),
         text("gathered", blob),
         text("gathered by workers", blob),
+        text("written by windows", blob),
+        text("list of what a copy lacks", b"".join(b"%d %d\n" % (start, end - start) for start, end in lacking)),
     ]
 
 
-SCENARIOS = {"text_scenarios": Texts, "store_scenarios": Stores, "crew_scenarios": Crews, "program_scenarios": Programs}
-PROGRAMS = [*SCENARIOS, "examples"]
+# What does a scenario's commands, and its files: the commands, and the same with the replies.
+SCENARIOS = [
+    (Texts, "crates/text_scenarios/stdin", "crates/text_scenarios/stdout"),
+    (Stores, "crates/store_scenarios/stdin", "crates/store_scenarios/stdout"),
+    (Crews, "crates/crew_scenarios/stdin", "crates/crew_scenarios/stdout"),
+    (Programs, "crates/bao_gather/scenarios/lines.txt", "crates/bao_gather/scenarios/replies.txt"),
+]
+EXAMPLES = "crates/examples/stdout"
 
 
 def replies(kind, script):
@@ -1395,12 +1450,11 @@ def disagreements(file):
     return sum(mode_of(modes[mode]).output(blob_of(int(length)), 0, len(digits) // 2).hex() != digits for mode, length, digits in rows)
 
 
-def made_of(name):
-    """What the program of this name has to print."""
-    if name == "examples":
-        return "".join(f"{it}\n" for it in examples())
-    with open(f"crates/{name}/stdin", encoding="utf-8") as it:
-        return replies(SCENARIOS[name], it.read())
+def made_of(scenario):
+    """The commands of a scenario with their replies."""
+    kind, lines, _ = scenario
+    with open(lines, encoding="utf-8") as it:
+        return replies(kind, it.read())
 
 
 def main(words):
@@ -1408,12 +1462,13 @@ def main(words):
         sys.exit(__doc__)
     with concurrent.futures.ProcessPoolExecutor() as pool:
         rows = pool.submit(disagreements, f"{os.path.dirname(os.path.abspath(__file__))}/b3sum.tsv")
-        texts = list(pool.map(made_of, PROGRAMS))
+        texts = {file: pool.submit(made_of, (kind, lines, file)) for kind, lines, file in SCENARIOS}
+        texts = {file: it.result() for file, it in texts.items()}
         wrong = rows.result()
+    texts[EXAMPLES] = "".join(f"{it}\n" for it in examples())
     if wrong:
         print(f"{wrong} rows of b3sum.tsv aren't what the definitions give")
-    for name, made in zip(PROGRAMS, texts):
-        file = f"crates/{name}/stdout"
+    for file, made in texts.items():
         if words:
             with open(file, "w", encoding="utf-8") as it:
                 it.write(made)

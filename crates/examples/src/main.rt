@@ -7,9 +7,15 @@ mod telling;
 mod using_b3tree;
 mod using_bao_bind;
 mod using_bao_check;
+mod using_bao_decode;
+mod using_bao_feed;
+mod using_bao_files;
 mod using_bao_join;
 mod using_bao_read;
+mod using_bao_script;
+mod using_bao_tasks;
 mod using_bao_text;
+mod using_bao_windows;
 mod using_crews;
 mod using_gather;
 mod using_store_core;
@@ -35,21 +41,45 @@ fn encodings<R: Print + Threads + Sync>(rt: &R, alloc: Global, blob: &[u8]) -> R
     using_bao_read::show(rt, alloc, blob)?;
     using_bao_check::show(rt, alloc, blob)?;
     using_bao_join::show(rt, alloc, blob)?;
+    using_bao_feed::show(rt, alloc, blob)?;
     using_bao_bind::show(rt, alloc, blob)
+}
+
+// The examples of files.
+fn files<R: Print + AllocGlobal + Threads + Sync>(
+    rt: &R,
+    alloc: Global,
+    blob: &[u8],
+) -> Result<()> {
+    using_bao_files::show(rt, alloc, blob)?;
+    using_bao_decode::show(rt, alloc, blob)
 }
 
 // The examples of stores.
 fn stores<R: Print + Threads + Sync>(rt: &R, alloc: Global, blob: &[u8]) -> Result<()> {
     using_store_core::show(rt, alloc, blob)?;
     using_store_shared::show(rt, alloc, blob)?;
+    using_bao_script::show(rt, alloc, blob)?;
     using_gather::show(rt, alloc, blob)?;
     using_crews::show(rt, alloc, blob)
+}
+
+// The examples of windows.
+fn windows<R: Print + AllocGlobal + Threads + Sync>(
+    rt: &R,
+    alloc: Global,
+    blob: &[u8],
+) -> Result<()> {
+    using_bao_windows::show(rt, alloc, blob)?;
+    using_bao_tasks::show(rt, alloc, blob)
 }
 
 fn run<R: Print + AllocGlobal + Threads + Sync>(rt: &R) -> Result<()> {
     let blob = example_blob(rt.alloc())?;
     encodings(rt, rt.alloc(), blob.as_slice())?;
-    stores(rt, rt.alloc(), blob.as_slice())
+    files(rt, rt.alloc(), blob.as_slice())?;
+    stores(rt, rt.alloc(), blob.as_slice())?;
+    windows(rt, rt.alloc(), blob.as_slice())
 }
 
 fn main(rt: HostRuntime) -> Result<()> {

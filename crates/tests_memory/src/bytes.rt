@@ -3,11 +3,17 @@ use std::alloc::Global;
 use std::io;
 use std::test::Fail;
 
-// The bytes i mod 251, as in BLAKE3's test vectors.
+// After so many bytes they come again.
+const CYCLE: usize = 251;
+
+// The bytes i mod 251, as in BLAKE3's test vectors. They are copied a cycle at a time, since a test is run once for each of its
+// allocations.
 pub(crate) fn blob(alloc: Global, len: usize) -> Result<Vec<u8>, Fail> {
-    let mut bytes = Vec::with_capacity(alloc, len)?;
-    for i in 0..len {
-        bytes.push((i % 251) as u8)?;
+    let cycle = array::<CYCLE>();
+    let mut bytes = vec![in alloc; 0u8; len]?;
+    for part in bytes.as_mut_slice().chunks_mut(CYCLE) {
+        let count = part.len().min(CYCLE);
+        part[..count].copy_from_slice(&cycle[..count]);
     }
     Ok(bytes)
 }
@@ -16,7 +22,7 @@ pub(crate) fn blob(alloc: Global, len: usize) -> Result<Vec<u8>, Fail> {
 pub(crate) fn array<const N: usize>() -> [u8; N] {
     let mut bytes = [0; N];
     for (i, byte) in bytes.iter_mut().enumerate() {
-        *byte = (i % 251) as u8;
+        *byte = (i % CYCLE) as u8;
     }
     bytes
 }
