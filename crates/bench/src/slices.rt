@@ -39,16 +39,28 @@ pub fn least_times<R: Clock + AllocGlobal>(rt: &R, bytes: &[u8]) -> Result<Slice
         of_sixteenth: Duration::MAX,
         larger: Duration::MAX,
     };
+    // Each smaller slice comes after the larger one, so that both find the processor's cache in the same state.
     for _ in 0..ROUNDS {
-        least.of_all = least.of_all.min(timed(rt, all.as_slice(), SLICE_LEN)?);
-        least.of_sixteenth = least
-            .of_sixteenth
-            .min(timed(rt, sixteenth.as_slice(), SLICE_LEN)?);
-        least.larger = least
-            .larger
-            .min(timed(rt, all.as_slice(), SLICE_LEN * LARGER)?);
+        let (larger, of_all) = timed_pair(rt, all.as_slice(), all.as_slice())?;
+        least.larger = least.larger.min(larger);
+        least.of_all = least.of_all.min(of_all);
+        let (larger, of_sixteenth) = timed_pair(rt, all.as_slice(), sixteenth.as_slice())?;
+        least.larger = least.larger.min(larger);
+        least.of_sixteenth = least.of_sixteenth.min(of_sixteenth);
     }
     Ok(least)
+}
+
+// How long the larger slice of one encoding takes, and then the smaller one of another.
+fn timed_pair<R: Clock + AllocGlobal>(
+    rt: &R,
+    larger: &[u8],
+    smaller: &[u8],
+) -> Result<(Duration, Duration)> {
+    Ok((
+        timed(rt, larger, SLICE_LEN * LARGER)?,
+        timed(rt, smaller, SLICE_LEN)?,
+    ))
 }
 
 // How long the slice of the first `len` bytes takes.
