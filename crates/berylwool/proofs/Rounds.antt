@@ -6,14 +6,13 @@ use Rattle.bao_check.proofs.Laws.{accepted_binds}
 use Rattle.crews.specs.Going.{goes}
 use Rattle.crews.specs.Lasting.{HoldsOn, IsBusyOn, RecordsOn}
 use Rattle.crews.specs.Seats.{GoneOn, SeenBinds, claims_of, fixed_of as fixed_at}
-use Rattle.gather.specs.declared.holder.Encoded.{Encoded}
 use Rattle.gather.specs.declared.report.Report.{Report}
 use Rattle.gather.specs.declared.grain.Grain.{Grain}
 use Rattle.gather.specs.Available.{HasTrue, HaveSlices, IsFilled, IsServed}
 use Rattle.gather.proofs.Serving.{true_slices}
 use Rattle.gather.specs.Claims.{Among}
 use Rattle.gather.specs.Counts.{HasFailed, Reports}
-use Rattle.gather.specs.Encodings.{IsCut, encoding}
+use Rattle.gather.specs.Encodings.{EncodedBytes, IsCut, encoding}
 use Rattle.gather.specs.Holders.{IsHanded}
 use Rattle.gather.specs.Large.{IsTooLarge}
 use Rattle.gather.proofs.Binding.{are_longer, handed_cut}
@@ -32,7 +31,7 @@ seen_binds : (store : Assembly) (seat : Gripped) → IsKeyed (fixed_of store).mo
 seen_binds store seat keyed of blob is c bytes held = held_binds seat.view.fixed seat.view.seen blob c bytes (seat_keyed store seat keyed of) is of.knows.legal held
 
 -- the one holder gives the slices of the blob
-has_true : (text blob : List ℕ) (holder : Encoded) (seat : Gripped) → encoding holder ≡ text → HasSlices text seat blob → HasTrue IsCut (fixed_at seat).mode blob (holder ∷ [])
+has_true : (text blob : List ℕ) (holder : EncodedBytes) (seat : Gripped) → encoding holder ≡ text → HasSlices text seat blob → HasTrue IsCut (fixed_at seat).mode blob (holder ∷ [])
 has_true text blob holder seat is slices = record {
   place = 0;
   holder = holder;
@@ -40,15 +39,15 @@ has_true text blob holder seat is slices = record {
   gives_slices = λ start len t given. given ∙ subst (λ (whole : List ℕ). HasSlices whole seat blob) (sym is) slices start len;
 }
 
-pub gathers : (grain : Grain) (store : Assembly) (text : List ℕ) (holder : Encoded) (later : List Encoded) (report report' : Report) (old new : Gripped)
+pub gathers : (grain : Grain) (store : Assembly) (text : List ℕ) (holder : EncodedBytes) (later : List EncodedBytes) (report report' : Report) (old new : Gripped)
     → IsKeyed (fixed_of store).mode → encoding holder ≡ text → IsSeatOf store old → IsSeatOf store new
-    → Reports fixed_at GoneOn old new (IsHanded IsCut (holder ∷ [])) (IsHanded IsCut later) (sum_by (λ (h : Encoded). 0) (holder ∷ [])) (sum_by (λ (h : Encoded). 0) later) report report'
+    → Reports fixed_at GoneOn old new (IsHanded IsCut (holder ∷ [])) (IsHanded IsCut later) (sum_by (λ (h : EncodedBytes). 0) (holder ∷ [])) (sum_by (λ (h : EncodedBytes). 0) later) report report'
     → Among (claims_of old) (claims_of new)
     → ((blob : List ℕ) → IsServed (fixed_at old) blob → HaveSlices grain IsCut (fixed_at old).mode blob (holder ∷ [])
     → HasFailed report' ⊎ IsTooLarge (IsHanded IsCut (holder ∷ [])) (fixed_at old) ⊎ IsFilled RecordsOn HoldsOn IsBusyOn old new blob)
     → GathersOn text report report' old new
 gathers grain store text holder later report report' old new keyed is of of' reports claimed served =
-    let holders : List Encoded = holder ∷ [] in
+    let holders : List EncodedBytes = holder ∷ [] in
     let over : map encoding holders ≡ text ∷ [] = λ i. is i ∷ [] in
     let cut = handed_cut holders (text ∷ []) over in
     let wider = large_wider (IsHanded IsCut holders) (IsOutOf text) cut (fixed_at old) in
@@ -62,7 +61,7 @@ gathers grain store text holder later report report' old new keyed is of of' rep
         no_more = λ piece from. from;
         committed = reports.committed;
         stored = reports.stored;
-        failed = omega (arith, reports.failed, none_failed (λ (holder : Encoded). 0) (λ holder. refl) holders, none_failed (λ (holder : Encoded). 0) (λ holder. refl) later);
+        failed = omega (arith, reports.failed, none_failed (λ (holder : EncodedBytes). 0) (λ holder. refl) holders, none_failed (λ (holder : EncodedBytes). 0) (λ holder. refl) later);
         answered = reports.answered;
         no_less = reports.no_less;
         too_large = large;

@@ -3,7 +3,7 @@ use crate::holder::{Asked, Kind, holder_of, source_of};
 use crate::line::number;
 use crate::texts::{Texts, told};
 use anyhow::{Context, Result, bail};
-use gather::{EncodedAt, Holder, HolderFault, PlainAt};
+use gather::{Encoded, Holder, HolderFault, Plain};
 use std::alloc::Global;
 
 // The ranges that are asked for: nothing, one byte, the last chunk, groups, across chunks and groups, everything and more.
@@ -58,9 +58,9 @@ fn placed<'a>(kind: &str, source: Dealing<'a>) -> Result<Asked<'a>> {
 // How many reads a fetch makes, by holders that count faults themselves.
 fn reads(alloc: Global, kind: &str, source: &Dealing<'_>, start: u64, len: u64) -> Result<u64> {
     if kind == "encoded_at" {
-        appended(alloc, &mut EncodedAt::new(source), start, len)?;
+        appended(alloc, &mut Encoded::at(source), start, len)?;
     } else {
-        appended(alloc, &mut PlainAt::new(source), start, len)?;
+        appended(alloc, &mut Plain::at(source), start, len)?;
     }
     Ok(source.reads())
 }
@@ -144,7 +144,7 @@ fn failing(alloc: Global, texts: &Texts, word: &str, start: u64, len: u64) -> Re
 
 // What a holder over an encoding at places appends, and how many faults it then counts.
 fn encoded(alloc: Global, source: &Dealing<'_>, start: u64, len: u64) -> Result<(Vec<u8>, u64)> {
-    let mut holder = EncodedAt::new(source);
+    let mut holder = Encoded::at(source);
     let text = appended(alloc, &mut holder, start, len)?;
     Ok((text, holder.faults()))
 }
@@ -170,7 +170,7 @@ fn shrinking(alloc: Global, texts: &Texts, words: &[&str]) -> Result<String> {
 // The length that a stranger claims takes no room.
 fn endless(alloc: Global, start: u64, len: u64) -> Result<String> {
     let mut text = Vec::new(alloc);
-    EncodedAt::new(&Endless).fetch(start, len, &mut text)?;
+    Encoded::at(&Endless).fetch(start, len, &mut text)?;
     let count = text.len();
     let room = if text.capacity() < 1 << 18 {
         "little"

@@ -6,7 +6,7 @@ use crate::line::number;
 use crate::texts::Texts;
 use anyhow::{Context, Result, bail};
 use crews::Peer;
-use gather::{Encoded, EncodedAt, Holder, HolderFault, Plain, PlainAt};
+use gather::{Encoded, Holder, HolderFault, Plain};
 use std::alloc::Global;
 
 // What a holder is over.
@@ -14,9 +14,9 @@ use std::alloc::Global;
 pub enum Kind<'a> {
     // A device that fails at each fetch.
     Broken,
-    Encoded(Encoded<'a>),
+    Encoded(Encoded<&'a [u8]>),
     EncodedAt(Dealing<'a>),
-    Plain(Plain<'a>),
+    Plain(Plain<&'a [u8]>),
     PlainAt(Dealing<'a>),
     Peer(Peer<'a>),
 }
@@ -42,9 +42,9 @@ impl Kind<'_> {
         match self {
             Kind::Broken => Err(HolderFault::Device),
             Kind::Encoded(holder) => fetched(holder, start, len, into),
-            Kind::EncodedAt(source) => { fetched(&mut EncodedAt::new(&*source), start, len, into) }
+            Kind::EncodedAt(source) => { fetched(&mut Encoded::at(&*source), start, len, into) }
             Kind::Plain(holder) => fetched(holder, start, len, into),
-            Kind::PlainAt(source) => fetched(&mut PlainAt::new(&*source), start, len, into),
+            Kind::PlainAt(source) => fetched(&mut Plain::at(&*source), start, len, into),
             Kind::Peer(holder) => fetched(holder, start, len, into),
         }
     }

@@ -33,14 +33,14 @@ pub use Rattle.gather.proofs.Serving.{true_slices}
 pub use Rattle.gather.specs.Available.{HaveSlices, IsFilled, IsServed, IsWanted}
 pub use Rattle.gather.specs.Claims.{Among, AmongAnd, Without}
 pub use Rattle.gather.specs.Counts.{HasFailed, IsAnswered, Reports, Still}
-pub use Rattle.gather.specs.Encodings.{IsCut, IsCutOf, cut_gives, encoding}
+pub use Rattle.gather.specs.Encodings.{EncodedBytes, IsCut, IsCutOf, cut_gives, encoding}
 pub use Rattle.gather.specs.Finished.{BindsTo, IsFinished, IsWhole, Judges, LacksByte}
 pub use Rattle.gather.specs.Forms.{AreSlices, IsMadeBeside, made_of}
 pub use Rattle.gather.specs.HandedOut.{Gathers, IsHandedOut, own_bytes}
 pub use Rattle.gather.specs.Holders.{IsHanded, IsIt, IsNone}
 pub use Rattle.gather.specs.Large.{EndsTooFar, HasCollision, IsTooLarge, fixed_as}
 pub use Rattle.gather.specs.Lists.{HaveAll, IsFromSource, IsLent, IsPartOfCopy, copy_gives, copy_source_of, part_gives, source_gives, source_of}
-pub use Rattle.gather.specs.Plains.{IsPartOf, copy_of}
+pub use Rattle.gather.specs.Plains.{IsPartOf, PlainBytes, copy_of}
 pub use Rattle.gather.specs.Worked.{AreFrom, IsFrom, parents_of}
 pub use Rattle.gather.specs.Working.{from_wider}
 pub use Rattle.gather.specs.declared.fault.FinishFault.{FinishFault}
@@ -50,8 +50,6 @@ pub use Rattle.gather.specs.declared.fault.GatherFault.TheVariants.{Starved}
 pub use Rattle.gather.specs.declared.form.Form.{Form}
 pub use Rattle.gather.specs.declared.form.Form.TheVariants.{Slices}
 pub use Rattle.gather.specs.declared.grain.Grain.{Grain}
-pub use Rattle.gather.specs.declared.holder.Encoded.{Encoded}
-pub use Rattle.gather.specs.declared.plain.Plain.{Plain}
 pub use Rattle.gather.specs.declared.report.Report.{Report}
 pub use Rattle.store_calls.specs.Reading.{SeatDidRead}
 pub use Rattle.store_calls.specs.Serving.{SeatIsRefused}

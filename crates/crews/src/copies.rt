@@ -68,7 +68,7 @@ pub fn gather_copies<R: Threads + Sync>(
         room: capacity,
     };
     let form = Form::Bare(outline);
-    let gathered = gather_from::<R, Plain<'_>, Copies<'_>>(
+    let gathered = gather_from::<R, Plain<&[u8]>, Copies<'_>>(
         rt,
         alloc,
         &fixed,

@@ -11,7 +11,7 @@ ghost use Rattle.store_core.specs.Laws.{IsBlob};
 use crate::gathering::{How, gather_from};
 use crate::whole::Whole;
 use bao_read::Source;
-use gather::{CopiesAt, CopyAt, Form, GatherFault, SourceAt, Sources};
+use gather::{CopiesAt, Encoded, Form, GatherFault, Placed, Plain, Sources};
 use std::alloc::Global;
 use std::thread::Threads;
 use store_core::Fixed;
@@ -75,7 +75,7 @@ pub fn gather<R: Threads + Sync, S: Source + Sync>(
         → IsHandedOut own_bytes (IsFromSource form.now S.contents S.faultless sources.now) fixed.now blob result }
 {
     match form {
-        Form::Slices => gather_from::<R, SourceAt<'_, S>, Sources<'_, S>>(
+        Form::Slices => gather_from::<R, Encoded<Placed<'_, S>>, Sources<'_, S>>(
             rt,
             alloc,
             fixed,
@@ -83,7 +83,7 @@ pub fn gather<R: Threads + Sync, S: Source + Sync>(
             how,
             &Sources(sources),
         ),
-        Form::Bare(_) => gather_from::<R, CopyAt<'_, S>, CopiesAt<'_, S>>(
+        Form::Bare(_) => gather_from::<R, Plain<Placed<'_, S>>, CopiesAt<'_, S>>(
             rt,
             alloc,
             fixed,

@@ -36,7 +36,7 @@ pub fn crews_over<'a>(
     seat: Seat,
     workers: u32,
     texts: &'a [Vec<u8>],
-) -> Result<(Vec<Crew<Encoded<'a>>>, Seat), GatherFault>
+) -> Result<(Vec<Crew<Encoded<&'a [u8]>>>, Seat), GatherFault>
     requires { IsSeatOf assembly.now seat }
     ensures of { IfOk result (λ made. All (λ crew. IsSeatOf assembly.now crew.seat) made.0.items) }
     ensures count { IfOk result (λ made. vec_len made.0 ≡ workers) }
@@ -103,7 +103,7 @@ pub fn gather_texts<R: Threads + Sync>(
         room: room_for(texts, capacity),
     };
     let lists = Texts(texts);
-    let gathered = gather_from::<R, Encoded<'_>, Texts<'_>>(
+    let gathered = gather_from::<R, Encoded<&[u8]>, Texts<'_>>(
         rt,
         alloc,
         &fixed,

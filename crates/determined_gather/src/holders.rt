@@ -7,9 +7,9 @@ ghost use Rattle.gather.specs.Places.{OfBytes};
 ghost use Rattle.gather.specs.Plains.{copy_of};
 
 use bao_read::Source;
-use gather::{Encoded, EncodedAt, Holder, HolderFault, Plain, PlainAt};
+use gather::{Encoded, Holder, HolderFault, Plain};
 
-pub fn encoded_determined<'a>(text: &'a [u8]) -> (Encoded<'a>, Encoded<'a>)
+pub fn encoded_determined<'a>(text: &'a [u8]) -> (Encoded<&'a [u8]>, Encoded<&'a [u8]>)
     ensures { encoding result.0 ≡ encoding result.1 }
 {
     let one = Encoded::new(text);
@@ -18,8 +18,8 @@ pub fn encoded_determined<'a>(text: &'a [u8]) -> (Encoded<'a>, Encoded<'a>)
 }
 
 pub fn encoded_fetch_determined(
-    a: &mut Encoded<'_>,
-    b: &mut Encoded<'_>,
+    a: &mut Encoded<&[u8]>,
+    b: &mut Encoded<&[u8]>,
     start: u64,
     len: u64,
     ours: &mut Vec<u8>,
@@ -34,13 +34,13 @@ pub fn encoded_fetch_determined(
     (a.fetch(start, len, ours), b.fetch(start, len, theirs))
 }
 
-pub fn encoded_faults_determined(a: &Encoded<'_>, b: &Encoded<'_>) -> (u64, u64)
+pub fn encoded_faults_determined(a: &Encoded<&[u8]>, b: &Encoded<&[u8]>) -> (u64, u64)
     ensures { result.0 ≡ result.1 }
 {
     (a.faults(), b.faults())
 }
 
-pub fn plain_determined<'a>(copy: &'a [u8]) -> (Plain<'a>, Plain<'a>)
+pub fn plain_determined<'a>(copy: &'a [u8]) -> (Plain<&'a [u8]>, Plain<&'a [u8]>)
     ensures { copy_of result.0 ≡ copy_of result.1 }
 {
     let one = Plain::new(copy);
@@ -49,8 +49,8 @@ pub fn plain_determined<'a>(copy: &'a [u8]) -> (Plain<'a>, Plain<'a>)
 }
 
 pub fn plain_fetch_determined(
-    a: &mut Plain<'_>,
-    b: &mut Plain<'_>,
+    a: &mut Plain<&[u8]>,
+    b: &mut Plain<&[u8]>,
     start: u64,
     len: u64,
     ours: &mut Vec<u8>,
@@ -65,7 +65,7 @@ pub fn plain_fetch_determined(
     (a.fetch(start, len, ours), b.fetch(start, len, theirs))
 }
 
-pub fn plain_faults_determined(a: &Plain<'_>, b: &Plain<'_>) -> (u64, u64)
+pub fn plain_faults_determined(a: &Plain<&[u8]>, b: &Plain<&[u8]>) -> (u64, u64)
     ensures { result.0 ≡ result.1 }
 {
     (a.faults(), b.faults())
@@ -83,8 +83,8 @@ pub fn encoded_at_fetch_determined<S: Source>(
     ensures text { OfBytes (S.contents source.now) (λ _. OnOk result.0 (OnOk result.1 (ours.new.items ≡ theirs.new.items))) }
     ensures memory { S.faultless source.now → IfErr result.0 (λ fault. fault ≡ Memory) }
 {
-    let mut a = EncodedAt::new(source);
-    let mut b = EncodedAt::new(source);
+    let mut a = Encoded::at(source);
+    let mut b = Encoded::at(source);
     (a.fetch(start, len, ours), b.fetch(start, len, theirs))
 }
 
@@ -99,8 +99,8 @@ pub fn plain_at_fetch_determined<S: Source>(
     ensures text { OfBytes (S.contents source.now) (λ _. OnOk result.0 (OnOk result.1 (ours.new.items ≡ theirs.new.items))) }
     ensures memory { S.faultless source.now → IfErr result.0 (λ fault. fault ≡ Memory) }
 {
-    let mut a = PlainAt::new(source);
-    let mut b = PlainAt::new(source);
+    let mut a = Plain::at(source);
+    let mut b = Plain::at(source);
     (a.fetch(start, len, ours), b.fetch(start, len, theirs))
 }
 
@@ -108,8 +108,5 @@ pub fn plain_at_fetch_determined<S: Source>(
 pub fn new_faults_determined<S: Source>(source: &S) -> (u64, u64)
     ensures { result.0 ≡ result.1 }
 {
-    (
-        EncodedAt::new(source).faults(),
-        PlainAt::new(source).faults(),
-    )
+    (Encoded::at(source).faults(), Plain::at(source).faults())
 }

@@ -7,8 +7,7 @@ ghost use Rattle.gather.specs.Plains.{copy_of};
 
 use bao_read::Source;
 use gather::{
-    Copies, CopiesAt, CopyAt, Encoded, Lists, Plain, SourceAt, Sources, Texts, copies_over,
-    holders_over,
+    Copies, CopiesAt, Encoded, Lists, Placed, Plain, Sources, Texts, copies_over, holders_over,
 };
 use std::alloc::{AllocError, Global};
 
@@ -16,8 +15,8 @@ pub fn holders_over_determined<'a>(
     alloc: Global,
     texts: &'a [Vec<u8>],
 ) -> (
-    Result<Vec<Encoded<'a>>, AllocError>,
-    Result<Vec<Encoded<'a>>, AllocError>,
+    Result<Vec<Encoded<&'a [u8]>>, AllocError>,
+    Result<Vec<Encoded<&'a [u8]>>, AllocError>,
 )
     ensures { IfOk result.0 (λ a. IfOk result.1 (λ b. map encoding a.items ≡ map encoding b.items)) }
 {
@@ -30,8 +29,8 @@ pub fn copies_over_determined<'a>(
     alloc: Global,
     copies: &'a [Vec<u8>],
 ) -> (
-    Result<Vec<Plain<'a>>, AllocError>,
-    Result<Vec<Plain<'a>>, AllocError>,
+    Result<Vec<Plain<&'a [u8]>>, AllocError>,
+    Result<Vec<Plain<&'a [u8]>>, AllocError>,
 )
     ensures { IfOk result.0 (λ a. IfOk result.1 (λ b. map copy_of a.items ≡ map copy_of b.items)) }
 {
@@ -44,8 +43,8 @@ pub fn texts_list_determined<'a>(
     alloc: Global,
     texts: &Texts<'a>,
 ) -> (
-    Result<Vec<Encoded<'a>>, AllocError>,
-    Result<Vec<Encoded<'a>>, AllocError>,
+    Result<Vec<Encoded<&'a [u8]>>, AllocError>,
+    Result<Vec<Encoded<&'a [u8]>>, AllocError>,
 )
     ensures { IfOk result.0 (λ a. IfOk result.1 (λ b. map encoding a.items ≡ map encoding b.items)) }
 {
@@ -58,8 +57,8 @@ pub fn copies_list_determined<'a>(
     alloc: Global,
     copies: &Copies<'a>,
 ) -> (
-    Result<Vec<Plain<'a>>, AllocError>,
-    Result<Vec<Plain<'a>>, AllocError>,
+    Result<Vec<Plain<&'a [u8]>>, AllocError>,
+    Result<Vec<Plain<&'a [u8]>>, AllocError>,
 )
     ensures { IfOk result.0 (λ a. IfOk result.1 (λ b. map copy_of a.items ≡ map copy_of b.items)) }
 {
@@ -72,8 +71,8 @@ pub fn sources_list_determined<'a, S: Source>(
     alloc: Global,
     sources: &Sources<'a, S>,
 ) -> (
-    Result<Vec<SourceAt<'a, S>>, AllocError>,
-    Result<Vec<SourceAt<'a, S>>, AllocError>,
+    Result<Vec<Encoded<Placed<'a, S>>>, AllocError>,
+    Result<Vec<Encoded<Placed<'a, S>>>, AllocError>,
 )
     ensures { IfOk result.0 (λ a. IfOk result.1 (λ b. map source_of a.items ≡ map source_of b.items)) }
 {
@@ -86,8 +85,8 @@ pub fn copies_at_list_determined<'a, S: Source>(
     alloc: Global,
     copies: &CopiesAt<'a, S>,
 ) -> (
-    Result<Vec<CopyAt<'a, S>>, AllocError>,
-    Result<Vec<CopyAt<'a, S>>, AllocError>,
+    Result<Vec<Plain<Placed<'a, S>>>, AllocError>,
+    Result<Vec<Plain<Placed<'a, S>>>, AllocError>,
 )
     ensures { IfOk result.0 (λ a. IfOk result.1 (λ b. map copy_source_of a.items ≡ map copy_source_of b.items)) }
 {

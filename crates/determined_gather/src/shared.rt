@@ -139,8 +139,8 @@ pub fn crews_over_determined<'a>(
     workers: u32,
     texts: &'a [Vec<u8>],
 ) -> (
-    Result<(Vec<Crew<Encoded<'a>>>, Seat), GatherFault>,
-    Result<(Vec<Crew<Encoded<'a>>>, Seat), GatherFault>,
+    Result<(Vec<Crew<Encoded<&'a [u8]>>>, Seat), GatherFault>,
+    Result<(Vec<Crew<Encoded<&'a [u8]>>>, Seat), GatherFault>,
 )
     requires of { IsSeatOf a.now first }
     requires of_theirs { IsSeatOf b.now second }

@@ -1,7 +1,6 @@
 -- What comes from accepted texts is the blob's, or a collision is exhibited.
 use Rattle.gather.proofs.Common.{Contains, map, option_map, ap, ◌∙◌, ◌≡◌, ◌⊎◌, zero, suc, ℕ, ◌+◌, ◌-◌, ◌<◌, List, length, Option, None, Some, is_some, true, false, slice_get, slice_index, refl, sym, subst, arith, inl, inr, below_more, ext_get_or, All-member, slice_get-map, get_or_from_slice_get, IsKeyed, AcceptedBinds, chunk_in, chunk_of, chunk_count, Fixed, Piece, Store, IsBlob, CollidesWith, has_room, length_of, places_in, Event, AreLegalFrom, IsLegal, run, IsReached, fixed_of, state_of, State, empty}
-use Rattle.gather.specs.declared.holder.Encoded.{Encoded}
-use Rattle.gather.specs.Encodings.{IsCut, IsCutOf, cut_gives, encoding}
+use Rattle.gather.specs.Encodings.{EncodedBytes, IsCut, IsCutOf, cut_gives, encoding}
 use Rattle.gather.specs.Holders.{IsHanded}
 use Rattle.gather.specs.Finished.{BindsNone, BindsTo, IsNamedIn}
 use Rattle.gather.specs.Large.{AreLonger, AreTheBlob, HasCollision, IsOfNone, IsTooLarge}
@@ -66,7 +65,7 @@ handed_over {H = H} {S = S} f gives holders all over piece from = record {
 }
 
 -- what holders over texts hand over is cut out of the texts
-pub handed_cut : (holders : List Encoded) (texts : List (List ℕ)) → map encoding holders ≡ texts → (piece : Piece) → IsHanded IsCut holders piece → IsCutOf texts piece
+pub handed_cut : (holders : List EncodedBytes) (texts : List (List ℕ)) → map encoding holders ≡ texts → (piece : Piece) → IsHanded IsCut holders piece → IsCutOf texts piece
 handed_cut holders texts over piece from = handed_over encoding cut_gives holders texts over piece from
 
 pub pair_wider : (handed wider : Piece → Type 0) → ((piece : Piece) → handed piece → wider piece) → (fixed : Fixed) (blob : List ℕ) → HasCollision handed fixed blob

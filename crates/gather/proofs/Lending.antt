@@ -1,16 +1,15 @@
 -- What is known of holders' lists by what they are over.
 use Rattle.b3tree.specs.Pieces.{piece as part}
-use Rattle.gather.proofs.Common.{◌≡◌, ◌⊎◌, ℕ, ◌+◌, ◌-◌, ◌*◌, ◌^◌, ◌<◌, ◌≤◌, zero, suc, List, [], ◌∷◌, ◌++◌, append-nil, length, take, map, slice_get, Option, None, Some, refl, sym, subst, ◌∙◌, arith, inl, inr, Mode, Outline, bare_len, outline_claimed, chunk_count, combined_text, slice_text, cut_text, cut_text-combined, length-combined_text, Piece}
+use Rattle.gather.proofs.Common.{◌≡◌, ℕ, ◌+◌, ◌-◌, ◌*◌, ◌^◌, ◌<◌, ◌≤◌, zero, suc, List, [], ◌∷◌, length, map, slice_get, Option, None, Some, refl, sym, subst, ◌∙◌, arith, inl, inr, Mode, Outline, bare_len, outline_claimed, chunk_count, combined_text, slice_text, cut_text-combined, length-combined_text, Piece}
 use Rattle.gather.specs.Lists.{IsLent, part_gives, source_gives}
 use Rattle.gather.specs.declared.grain.Grain.{Grain}
 use Rattle.gather.specs.Available.{HasSlice, HasTrue, HaveSlices}
-use Rattle.gather.specs.Holders.{Appends, IsHanded}
+use Rattle.gather.specs.Holders.{IsHanded}
 use Rattle.gather.specs.declared.form.Form.{Form}
 use Rattle.gather.specs.declared.form.Form.TheVariants.{Slices, Bare}
 use Rattle.gather.specs.Forms.{IsMadeBeside, made_of}
 use Rattle.gather.specs.Parts.{HaveParts}
-use Rattle.gather.specs.Places.{AreKnown, IsCutAt, IsLost, IsPartAt, OfBytes}
-use Rattle.gather.proofs.Appending.{Appends-known, of_known}
+use Rattle.gather.specs.Places.{IsCutAt, IsPartAt}
 use Rattle.gather.proofs.Binding.{handed_over}
 
 -- what holders of such a list hand over
@@ -73,40 +72,6 @@ slices_mapped f gives grain mode blob holders all are have = record {
   end = slice_mapped f gives mode blob (2 ^ 64 - 1) 1 holders all are have.end;
   each = λ c start len below asked. slice_mapped f gives mode blob start len holders all are (have.each c start len below asked);
 }
-
-lost : (contents : Option (List ℕ)) (faultless : Type 0) (text_of : List ℕ → List ℕ) → (faultless → ⊥) → OfBytes contents (λ s. ([] ≡ text_of s) ⊎ IsLost faultless [])
-lost None faultless text_of never = tt
-lost (Some s) faultless text_of never = λ fits. inr (refl, never)
-
--- a read that failed gives nothing
-pub lost_cut : (contents : Option (List ℕ)) (faultless : Type 0) (start len : ℕ) → (faultless → ⊥) → IsCutAt contents faultless start len []
-lost_cut contents faultless start len never = lost contents faultless (λ s. cut_text s start len) never
-
-pub lost_piece : (contents : Option (List ℕ)) (faultless : Type 0) (start len : ℕ) → (faultless → ⊥) → IsPartAt contents faultless start len []
-lost_piece contents faultless start len never = lost contents faultless (λ s. part s start len) never
-
--- what was cut out, or copied, follows
-pub cut_appends : (contents : Option (List ℕ)) (faultless : Type 0) (start len : ℕ) (old new : List ℕ) → take (length old) new ≡ old
-    → ((s : List ℕ) → AreKnown contents s → new ≡ old ++ cut_text s start len) → Appends (IsCutAt contents faultless start len) old new
-cut_appends contents faultless start len old new kept cut =
-    Appends-known contents faultless old new (λ s. cut_text s start len) kept (of_known contents (λ s. new ≡ old ++ cut_text s start len) cut)
-
-pub part_appends : (contents : Option (List ℕ)) (faultless : Type 0) (start len : ℕ) (old new : List ℕ) → take (length old) new ≡ old
-    → ((s : List ℕ) → AreKnown contents s → new ≡ old ++ part s start len) → Appends (IsPartAt contents faultless start len) old new
-part_appends contents faultless start len old new kept copied =
-    Appends-known contents faultless old new (λ s. part s start len) kept (of_known contents (λ s. new ≡ old ++ part s start len) copied)
-
--- nothing follows where a read failed
-pub lost_appends : (contents : Option (List ℕ)) (faultless : Type 0) (start len : ℕ) (old new : List ℕ) → new ≡ old → (faultless → ⊥)
-    → Appends (IsCutAt contents faultless start len) old new
-lost_appends contents faultless start len old new same never =
-    record { text = []; is = same ∙ sym (append-nil old); given = lost_cut contents faultless start len never }
-
--- nor of a plain copy
-pub lost_part : (contents : Option (List ℕ)) (faultless : Type 0) (start len : ℕ) (old new : List ℕ) → new ≡ old → (faultless → ⊥)
-    → Appends (IsPartAt contents faultless start len) old new
-lost_part contents faultless start len old new same never =
-    record { text = []; is = same ∙ sym (append-nil old); given = lost_piece contents faultless start len never }
 
 -- what holders over plain copies hand over beside an outline is made of parts of these copies
 pub lent_beside : {H S : Type 0} (outline : Outline) (f : H → S) (gives : S → ℕ → ℕ → List ℕ → Type 0) (all : List S) (piece : Piece)

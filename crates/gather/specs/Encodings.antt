@@ -1,15 +1,20 @@
--- The bytes of a holder over a combined encoding, and what it hands over.
+-- The bytes of a holder over a combined encoding in memory, and what it hands over.
+use denote.Ref.{Bor}
 use Rattle.std.specs.Prelude.{◌≡◌, ℕ, List}
 use Rattle.bao_text.specs.Cut.{cut_text}
-use Rattle.gather.specs.declared.holder.Encoded.{Encoded}
+use Rattle.gather.specs.declared.encoded.Encoded.{Encoded}
 use Rattle.gather.specs.Holders.{IsHanded}
 use Rattle.store_core.specs.declared.history.Piece.{Piece}
 
-abbrev pub encoding : Encoded → List ℕ
-encoding holder = holder.text.now
+-- a holder over bytes in memory
+abbrev pub EncodedBytes : Type 0
+EncodedBytes = Encoded (Bor (List ℕ))
+
+abbrev pub encoding : EncodedBytes → List ℕ
+encoding holder = holder.places.now
 
 -- the slice as it is cut out of them
-abbrev pub IsCut : Encoded → ℕ → ℕ → List ℕ → Type 0
+abbrev pub IsCut : EncodedBytes → ℕ → ℕ → List ℕ → Type 0
 IsCut holder start len text = text ≡ cut_text (encoding holder) start len
 
 -- a text gives what is cut out of it

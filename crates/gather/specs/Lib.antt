@@ -1,5 +1,6 @@
 pub mod Faults
 pub mod Holders
+pub mod Given
 pub mod Encodings
 pub mod Forms
 pub mod Plains

@@ -7,8 +7,9 @@ use Rattle.bao_text.specs.Choice.{chunk_count}
 use Rattle.gather.specs.declared.grain.Grain.{Grain}
 use Rattle.gather.specs.declared.form.Form.{Form}
 use Rattle.gather.specs.declared.form.Form.TheVariants.{Slices, Bare}
-use Rattle.gather.specs.declared.sources.CopyAt.{CopyAt}
-use Rattle.gather.specs.declared.sources.SourceAt.{SourceAt}
+use Rattle.gather.specs.declared.encoded.Encoded.{Encoded}
+use Rattle.gather.specs.declared.places.Placed.{Placed}
+use Rattle.gather.specs.declared.plain.Plain.{Plain}
 use Rattle.gather.specs.Forms.{IsMadeBeside}
 use Rattle.gather.specs.Holders.{IsHanded}
 use Rattle.gather.specs.Parts.{HaveParts}
@@ -26,12 +27,12 @@ abbrev pub HaveAll : {H : Type 0} → Form → Grain → (H → ℕ → ℕ → 
 HaveAll form grain gives over mode blob = (holders : _) → over holders → chunk_count (length blob) ≤ 65536 → HaveParts form grain gives mode blob holders
 
 -- the source that a holder is over
-abbrev pub source_of : {S : Type 0} → SourceAt S → S
-source_of holder = holder.0.now
+abbrev pub source_of : {S : Type 0} → Encoded (Placed S) → S
+source_of holder = holder.places.source.now
 
 -- or one over a source of plain copies
-abbrev pub copy_source_of : {S : Type 0} → CopyAt S → S
-copy_source_of holder = holder.0.now
+abbrev pub copy_source_of : {S : Type 0} → Plain (Placed S) → S
+copy_source_of holder = holder.places.source.now
 
 -- what a source gives as a slice: what is cut out of its bytes, where they are known, or nothing, since a read failed
 abbrev pub source_gives : {S : Type 0} → (S → Option (List ℕ)) → (S → Type 0) → S → ℕ → ℕ → List ℕ → Type 0

@@ -1,8 +1,7 @@
-ghost use Rattle.std.specs.Prelude.{◌≡◌, ℕ, List, [], ◌<◌, ◌≤◌, ◌++◌, IsErrOf, OnErr, OnOk};
+ghost use Rattle.std.specs.Prelude.{◌≡◌, ℕ, List, [], ◌<◌, ◌≤◌, IsErrOf, OnErr, OnOk};
 ghost use Rattle.gather.specs.declared.holder.HolderFault.TheVariants.{Device};
 ghost use Rattle.gather.specs.Holders.{Appends, GivesNoMore};
 
-use bao_text::append_cut;
 use thiserror::Error;
 
 /// Why a holder gave no text.
@@ -44,53 +43,4 @@ pub trait Holder {
     /// How many faults of its device it has counted.
     fn faults(&self) -> u64
         ensures { result ≡ count self.now };
-}
-
-/// The holder over the bytes of a combined encoding, which nobody has checked. It keeps them by reference.
-#[derive(Drop)]
-pub struct Encoded<'a> {
-    text: &'a [u8],
-}
-
-impl<'a> Encoded<'a> {
-    ghost use Rattle.gather.specs.Encodings.{encoding};
-
-    /// A holder of these bytes.
-    pub fn new(text: &'a [u8]) -> Encoded<'a>
-        ensures { encoding result ≡ text.now }
-    {
-        Encoded { text }
-    }
-}
-
-impl<'a> Holder for Encoded<'a> {
-    ghost use Rattle.bao_text.specs.Cut.{cut_text};
-    ghost use Rattle.gather.specs.Encodings.{IsCut, encoding};
-
-    ghost count = { λ _. 0 };
-
-    ghost gives = { λ holder start len text. IsCut holder start len text };
-
-    /// Appends the slice as `append_cut` cuts it out of the bytes. No device fails.
-    fn fetch(&mut self, start: u64, len: u64, into: &mut Vec<u8>) -> Result<(), HolderFault>
-        ensures appended { OnOk result (Appends (IsCut self.old start len) into.old.items into.new.items) }
-        ensures no_more { GivesNoMore IsCut self.old self.new }
-        ensures unchanged { OnErr result (into.new.items ≡ into.old.items) }
-        ensures device { IsErrOf result Device → 0 < 0 }
-        ensures lost { IsErrOf result Device → IsCut self.old start len [] }
-        ensures counts { 0 ≤ 0 }
-        ensures same { encoding self.new ≡ encoding self.old }
-        ensures cut { OnOk result (into.new.items ≡ into.old.items ++ cut_text (encoding self.old) start len) }
-    {
-        let before = into.len();
-        if append_cut(&self.text, start, len, into).is_err() {
-            into.truncate(before);
-            return Err(HolderFault::Memory);
-        }
-        Ok(())
-    }
-
-    fn faults(&self) -> u64 {
-        0
-    }
 }

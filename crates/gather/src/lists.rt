@@ -2,7 +2,7 @@ ghost use Rattle.std.specs.Prelude.{◌≡◌, IfOk, List, map, vec_items};
 ghost use Rattle.gather.specs.Encodings.{encoding};
 ghost use Rattle.gather.specs.Plains.{copy_of};
 
-use crate::holder::Encoded;
+use crate::encoded::Encoded;
 use crate::plain::{Plain, copies_over};
 use crate::texts::holders_over;
 use std::alloc::{AllocError, Global};
@@ -21,10 +21,10 @@ pub trait Lists<H> {
 #[derive(Clone, Copy)]
 pub struct Texts<'a>(pub &'a [Vec<u8>]);
 
-impl<'a> Lists<Encoded<'a>> for Texts<'a> {
+impl<'a> Lists<Encoded<&'a [u8]>> for Texts<'a> {
     ghost over = { λ texts holders. map encoding holders ≡ map vec_items texts.0.now };
 
-    fn list(&self, alloc: Global) -> Result<Vec<Encoded<'a>>, AllocError> {
+    fn list(&self, alloc: Global) -> Result<Vec<Encoded<&'a [u8]>>, AllocError> {
         holders_over(alloc, self.0)
     }
 }
@@ -33,10 +33,10 @@ impl<'a> Lists<Encoded<'a>> for Texts<'a> {
 #[derive(Clone, Copy)]
 pub struct Copies<'a>(pub &'a [Vec<u8>]);
 
-impl<'a> Lists<Plain<'a>> for Copies<'a> {
+impl<'a> Lists<Plain<&'a [u8]>> for Copies<'a> {
     ghost over = { λ copies holders. map copy_of holders ≡ map vec_items copies.0.now };
 
-    fn list(&self, alloc: Global) -> Result<Vec<Plain<'a>>, AllocError> {
+    fn list(&self, alloc: Global) -> Result<Vec<Plain<&'a [u8]>>, AllocError> {
         copies_over(alloc, self.0)
     }
 }

@@ -1,10 +1,10 @@
-ghost use Rattle.std.specs.Prelude.{◌≡◌, true, ◌+◌, ◌-◌, ◌^◌, ◌<◌, ◌≤◌, ◌++◌, length, take, nat_le, IfOk, IfSome, IsErrOf, OnOk};
+ghost use Rattle.std.specs.Prelude.{◌≡◌, true, ◌+◌, ◌-◌, ◌<◌, ◌≤◌, ◌++◌, length, take, nat_le, IfOk};
 ghost use Rattle.b3tree.specs.Pieces.{piece};
 ghost use Rattle.gather.specs.declared.holder.HolderFault.TheVariants.{Device};
-ghost use Rattle.gather.specs.Places.{OfBytes};
 ghost use Rattle.gather.specs.Reads.{ReadFrom};
 
 use crate::holder::HolderFault;
+use crate::holding::Holding;
 use bao_read::Source;
 use bao_text::Places;
 
@@ -14,18 +14,32 @@ const END: u128 = u64::MAX as u128;
 // The most bytes that are asked for at once: a group's chunks with their parents are fewer.
 const READ_LEN: u128 = 1 << 17;
 
-// What a source has, as bytes that lie at places.
+/// What a source has, as bytes that lie at places, and how many faults of its reads are counted. It keeps the source by
+/// reference.
 #[derive(Drop)]
-pub(crate) struct Placed<'a, S: Source>(pub(crate) &'a S);
+pub struct Placed<'a, S: Source> {
+    source: &'a S,
+    faults: u64,
+}
+
+impl<'a, S: Source> Placed<'a, S> {
+    // What this source has. No fault is counted yet.
+    pub(crate) fn new(source: &'a S) -> Placed<'a, S>
+        ensures source { result.source.now ≡ source.now }
+        ensures faults { result.faults ≡ 0 }
+    {
+        Placed { source, faults: 0 }
+    }
+}
 
 impl<'a, S: Source> Places for Placed<'a, S> {
     ghost use Rattle.gather.specs.Places.{AreKnown};
 
     type Fault = HolderFault;
 
-    ghost holds = { λ placed bytes. AreKnown (S.contents placed.0.now) bytes };
+    ghost holds = { λ placed bytes. AreKnown (S.contents placed.source.now) bytes };
 
-    ghost fails = { λ placed fault. fault ≡ Device → S.faultless placed.0.now → ⊥ };
+    ghost fails = { λ placed fault. fault ≡ Device → S.faultless placed.source.now → ⊥ };
 
     // By as many reads as it takes. Room is taken as the bytes come.
     #[tactic(auto, using(crate::proofs::Reading::read_more))]
@@ -42,7 +56,7 @@ impl<'a, S: Source> Places for Placed<'a, S> {
                 return Err(HolderFault::Memory);
             }
             match self
-                .0
+                .source
                 .read_at(&mut into.as_mut_slice()[start..], place as u64)
             {
                 Ok(count) => {
@@ -59,46 +73,39 @@ impl<'a, S: Source> Places for Placed<'a, S> {
     }
 }
 
-// A fault of a fetch that isn't counted, once what the fetch appended is taken back: one of the device is none.
-pub(crate) fn passed_over(
-    fault: HolderFault,
-    before: usize,
-    into: &mut Vec<u8>,
-) -> Result<(), HolderFault>
-    requires { before ≤ length into.old.items }
-    ensures back { into.new.items ≡ take before into.old.items }
-    ensures device { IsErrOf result Device → ⊥ }
-    ensures ok { OnOk result (fault ≡ Device) }
-{
-    into.truncate(before);
-    match fault {
-        HolderFault::Device => Ok(()),
-        HolderFault::Memory => Err(HolderFault::Memory),
-    }
-}
+/// `Device` where a read answered a fault, one of the kind `Interrupted` too, which is not tried again.
+impl<'a, S: Source> Holding for Placed<'a, S> {
+    ghost use Rattle.std.specs.Prelude.{◌⊎◌, ◌^◌};
+    ghost use Rattle.std.proofs.Common.{refl};
+    ghost use Rattle.gather.specs.Given.{given_there};
+    ghost use Rattle.gather.specs.Places.{IsLost, OfBytes};
 
-// A fault of a fetch, once it is counted and what the fetch appended is taken back. Where the count is full, a fault of
-// the device is none.
-pub(crate) fn taken_back(
-    fault: HolderFault,
-    before: usize,
-    faults: &mut u64,
-    into: &mut Vec<u8>,
-) -> Result<(), HolderFault>
-    requires { before ≤ length into.old.items }
-    ensures back { into.new.items ≡ take before into.old.items }
-    ensures device { IsErrOf result Device → faults.old < faults.new }
-    ensures counts { faults.old ≤ faults.new }
-    ensures of { IsErrOf result Device → fault ≡ Device }
-    ensures ok { OnOk result ((fault ≡ Device) × (faults.old ≡ 2 ^ 64 - 1)) }
-{
-    into.truncate(before);
-    match (fault, faults.checked_add(1)) {
-        (HolderFault::Device, Some(more)) => {
-            *faults = more;
-            Err(HolderFault::Device)
+    ghost count = { λ placed. placed.faults };
+
+    ghost may_fail = { λ placed. S.faultless placed.source.now → ⊥ };
+
+    ghost stays = { λ old new. new.source.now ≡ old.source.now };
+
+    ghost gives = { λ placed way text. OfBytes (S.contents placed.source.now) (λ bytes. (text ≡ way bytes) ⊎ IsLost (S.faultless placed.source.now) text) };
+
+    ghost adds = { λ placed way old new. placed.faults < 2 ^ 64 - 1 → OfBytes (S.contents placed.source.now) (λ bytes. new ≡ old ++ way bytes) };
+
+    ghost given = { λ placed. given_there (S.contents placed.source.now) (S.faultless placed.source.now) (placed.faults < 2 ^ 64 - 1) };
+
+    ghost still = { λ placed. refl };
+
+    fn missed(&mut self, fault: HolderFault) -> Result<(), HolderFault> {
+        match (fault, self.faults.checked_add(1)) {
+            (HolderFault::Device, Some(more)) => {
+                self.faults = more;
+                Err(HolderFault::Device)
+            }
+            (HolderFault::Device, None) => Ok(()),
+            (HolderFault::Memory, _) => Err(HolderFault::Memory),
         }
-        (HolderFault::Device, None) => Ok(()),
-        (HolderFault::Memory, _) => Err(HolderFault::Memory),
+    }
+
+    fn faults(&self) -> u64 {
+        self.faults
     }
 }

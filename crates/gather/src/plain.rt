@@ -1,57 +1,82 @@
-ghost use Rattle.std.specs.Prelude.{◌≡◌, [], ◌<◌, ◌≤◌, ◌++◌, IfOk, IsErrOf, OnErr, OnOk, map, vec_items};
+ghost use Rattle.std.specs.Prelude.{◌≡◌, [], ◌+◌, ◌<◌, ◌≤◌, length, IfOk, IsErrOf, OnErr, OnOk, map, vec_items};
 ghost use Rattle.b3tree.specs.Pieces.{piece};
 ghost use Rattle.gather.specs.declared.holder.HolderFault.TheVariants.{Device};
 ghost use Rattle.gather.specs.Holders.{Appends, GivesNoMore};
-ghost use Rattle.gather.specs.Plains.{IsPartOf, copy_of};
+ghost use Rattle.gather.specs.Plains.{copy_of};
 
 use crate::holder::{Holder, HolderFault};
-use bao_text::part_of;
+use crate::holding::Holding;
+use crate::places::Placed;
+use bao_read::Source;
 use std::alloc::{AllocError, Global};
 
-/// The holder over a plain copy of a blob, which nobody has checked. It keeps the copy's bytes by reference.
+/// The holder over a plain copy of a blob, which nobody has checked: over its bytes, or over a source from which it is read
+/// by position. It keeps them by reference.
 #[derive(Drop)]
-pub struct Plain<'a> {
-    copy: &'a [u8],
+pub struct Plain<P> {
+    places: P,
 }
 
-impl<'a> Plain<'a> {
-    /// A holder of this copy.
-    pub fn new(copy: &'a [u8]) -> Plain<'a>
-        ensures { copy_of result ≡ copy.now }
+impl<P: Holding> Plain<P> {
+    /// A holder of what is there.
+    pub fn new(places: P) -> Plain<P>
+        ensures { result.places ≡ places }
     {
-        Plain { copy }
+        Plain { places }
     }
 }
 
-impl<'a> Holder for Plain<'a> {
-    ghost count = { λ _. 0 };
+impl<'a, S: Source> Plain<Placed<'a, S>> {
+    /// A holder of what this source has. Its memory doesn't grow with the copy. No fault is counted yet.
+    pub fn at(source: &'a S) -> Plain<Placed<'a, S>>
+        ensures source { result.places.source.now ≡ source.now }
+        ensures faults { result.places.faults ≡ 0 }
+    {
+        Plain {
+            places: Placed::new(source),
+        }
+    }
+}
 
-    ghost gives = { λ holder start len text. IsPartOf holder start len text };
+impl<P: Holding> Holder for Plain<P> {
+    ghost count = { λ holder. P.count holder.places };
+
+    ghost gives = { λ holder start len text. P.gives holder.places (λ bytes. piece bytes start len) text };
 
     /// Appends the copy's bytes from byte `start` on, `len` in number, as far as it has them: with a copy of N bytes, from
-    /// min(start, N) up to and without min(start + len, N). No device fails.
+    /// min(start, N) up to and without min(start + len, N). Where it is read, room is taken as they come.
     fn fetch(&mut self, start: u64, len: u64, into: &mut Vec<u8>) -> Result<(), HolderFault>
-        ensures appended { OnOk result (Appends (IsPartOf self.old start len) into.old.items into.new.items) }
-        ensures no_more { GivesNoMore IsPartOf self.old self.new }
+        ensures appended { OnOk result (Appends (P.gives self.old.places (λ bytes. piece bytes start len)) into.old.items into.new.items) }
+        ensures no_more { GivesNoMore (λ holder start len text. P.gives holder.places (λ bytes. piece bytes start len) text) self.old self.new }
         ensures unchanged { OnErr result (into.new.items ≡ into.old.items) }
-        ensures device { IsErrOf result Device → 0 < 0 }
-        ensures lost { IsErrOf result Device → IsPartOf self.old start len [] }
-        ensures counts { 0 ≤ 0 }
-        ensures same { copy_of self.new ≡ copy_of self.old }
-        ensures part { OnOk result (into.new.items ≡ into.old.items ++ piece (copy_of self.old) start len) }
+        ensures device { IsErrOf result Device → P.count self.old.places < P.count self.new.places }
+        ensures lost { IsErrOf result Device → P.gives self.old.places (λ bytes. piece bytes start len) [] }
+        ensures counts { P.count self.old.places ≤ P.count self.new.places }
+        ensures failed { IsErrOf result Device → P.may_fail self.old.places }
+        ensures same { P.stays self.old.places self.new.places }
+        ensures part { OnOk result (P.adds self.old.places (λ bytes. piece bytes start len) into.old.items into.new.items) }
+        ensures few { OnOk result (length into.new.items ≤ length into.old.items + len) }
     {
-        let part = part_of(self.copy, u128::from(start), u128::from(len));
-        into.extend_from_slice(part)
-            .map_err(|_| HolderFault::Memory)
+        let before = into.len();
+        match self.places.append(u128::from(start), u128::from(len), into) {
+            Ok(_) => Ok(()),
+            Err(fault) => {
+                into.truncate(before);
+                self.places.missed(fault)
+            }
+        }
     }
 
     fn faults(&self) -> u64 {
-        0
+        self.places.faults()
     }
 }
 
 /// A holder over each plain copy, in their order. The copies' bytes stay where they are.
-pub fn copies_over<'a>(alloc: Global, copies: &'a [Vec<u8>]) -> Result<Vec<Plain<'a>>, AllocError>
+pub fn copies_over<'a>(
+    alloc: Global,
+    copies: &'a [Vec<u8>],
+) -> Result<Vec<Plain<&'a [u8]>>, AllocError>
     ensures { IfOk result (λ holders. map copy_of holders.items ≡ map vec_items copies.now) }
 {
     let mut holders = Vec::with_capacity(alloc, copies.len())?;

@@ -8,9 +8,9 @@ ghost use Rattle.gather.specs.declared.grain.Grain.TheVariants.{Group as ByGroup
 ghost use Rattle.gather.specs.Encodings.{IsCutOf, cut_gives, encoding};
 ghost use Rattle.gather.specs.Large.{fixed_as};
 
+use crate::encoded::Encoded;
 use crate::fault::{GatherFault, may_lack_room, why};
 use crate::finish::finish_one;
-use crate::holder::Encoded;
 use crate::one::run_one;
 use crate::room::{first_room, room_for};
 use b3tree::{Hash, Mode};
@@ -18,7 +18,10 @@ use std::alloc::{AllocError, Global};
 use store_core::Store;
 
 /// A holder over each text, in their order. The texts are not copied.
-pub fn holders_over<'a>(alloc: Global, texts: &'a [Vec<u8>]) -> Result<Vec<Encoded<'a>>, AllocError>
+pub fn holders_over<'a>(
+    alloc: Global,
+    texts: &'a [Vec<u8>],
+) -> Result<Vec<Encoded<&'a [u8]>>, AllocError>
     ensures { IfOk result (λ holders. map encoding holders.items ≡ map vec_items texts.now) }
 {
     let mut holders = Vec::with_capacity(alloc, texts.len())?;

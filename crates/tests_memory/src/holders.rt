@@ -1,10 +1,7 @@
 use crate::bytes::array;
 use b3tree::{Hash, Mode};
 use bao_text::{combined, slice};
-use gather::{
-    Encoded, EncodedAt, GatherFault, Holder, HolderFault, PlainAt, finish_one, gather_texts,
-    run_one,
-};
+use gather::{Encoded, GatherFault, Holder, HolderFault, Plain, finish_one, gather_texts, run_one};
 use std::alloc::Global;
 use std::process::Abort;
 use std::test::Fail;
@@ -84,7 +81,7 @@ fn holders_of_encodings_at_places(rt: HostRuntime) -> Result<(), Fail> {
     let bytes = array::<3000>();
     let (_, text) = combined(rt.alloc(), &Mode::hash(), &bytes)?;
     let (_, expected) = slice(rt.alloc(), &Mode::hash(), &bytes, 1024, 1)?;
-    let got = appended_at_last(rt.alloc(), &mut EncodedAt::new(&text.as_slice()), 1024)?;
+    let got = appended_at_last(rt.alloc(), &mut Encoded::at(&text.as_slice()), 1024)?;
     assert_eq!(rt; got.as_slice(), expected.as_slice());
     Ok(())
 }
@@ -92,7 +89,7 @@ fn holders_of_encodings_at_places(rt: HostRuntime) -> Result<(), Fail> {
 #[test]
 fn holders_of_copies_at_places(rt: HostRuntime) -> Result<(), Fail> {
     let bytes = array::<3000>();
-    let got = appended_at_last(rt.alloc(), &mut PlainAt::new(&bytes.as_slice()), 255)?;
+    let got = appended_at_last(rt.alloc(), &mut Plain::at(&bytes.as_slice()), 255)?;
     assert_eq!(rt; got.as_slice(), [4].as_slice());
     Ok(())
 }

@@ -16,7 +16,7 @@ use store_shared::{Assembly, Seat};
 #[derive(Drop)]
 struct Third<'a> {
     group: u64,
-    whole: Encoded<'a>,
+    whole: Encoded<&'a [u8]>,
 }
 
 impl Holder for Third<'_> {

@@ -17,7 +17,7 @@ use store_shared::{Assembly, Seat};
 struct Late<'a> {
     meeting: &'a Meeting,
     waits: bool,
-    holder: Encoded<'a>,
+    holder: Encoded<&'a [u8]>,
 }
 
 impl Holder for Late<'_> {

@@ -1,4 +1,4 @@
-use Rattle.crews.proofs.Common.{◌≡◌, ℕ, List, map, subst, vec_items, ◌≤◌, length, chunk_count, Outline, Plain, HaveAll, IsBlob, IsHandedOut, IsMadeBeside, Gathers, own_bytes, fixed_as, IsLent, IsPartOfCopy, copy_gives, IsPartOf, copy_of, gathers_wider, memory_gathers, memory_out, out_wider, lent_beside, Fixed, Piece}
+use Rattle.crews.proofs.Common.{◌≡◌, ℕ, List, map, subst, vec_items, ◌≤◌, length, chunk_count, Outline, PlainBytes, HaveAll, IsBlob, IsHandedOut, IsMadeBeside, Gathers, own_bytes, fixed_as, IsLent, IsPartOfCopy, copy_gives, IsPartOf, copy_of, gathers_wider, memory_gathers, memory_out, out_wider, lent_beside, Fixed, Piece}
 use Rattle.gather.specs.declared.form.Form.TheVariants.{Bare}
 use Rattle.gather.proofs.Lending.{parts_mapped}
 use Rattle.gather.specs.Parts.{IsFor}
@@ -8,7 +8,7 @@ use Rattle.crews.specs.Beside.{fixed_beside}
 
 -- what holders over these copies hand over beside an outline
 abbrev Lent : Outline → List (List ℕ) → Piece → Type 0
-Lent outline copies piece = IsLent (IsMadeBeside outline IsPartOf) (λ (holders : List Plain). map copy_of holders ≡ copies) piece
+Lent outline copies piece = IsLent (IsMadeBeside outline IsPartOf) (λ (holders : List PlainBytes). map copy_of holders ≡ copies) piece
 
 pub returns-clause-gathers : goal.returns-clause-gathers
 returns-clause-gathers g c =
@@ -30,7 +30,7 @@ returns-clause-covered g c = λ blob is fits meant have.
     let form = Bare c.args.outline in
     let same : fixed_as c.root.result c.mode.result c.args.capacity ≡ fixed = λ i. record { root = record { 0 = c.root.ensures i }; mode = c.mode.ensures i; capacity = c.args.capacity; base = 0 } in
     let available = subst (λ (f : Fixed). (it : List ℕ) → IsBlob f it → chunk_count (length it) ≤ f.capacity → IsFor form f it
-    → HaveAll form c.args.grain IsPartOf (λ (holders : List Plain). map copy_of holders ≡ copies) f.mode it → IsHandedOut own_bytes (Lent outline copies) f it gathered) same c.gather_from-gathered.ensures.available in
+    → HaveAll form c.args.grain IsPartOf (λ (holders : List PlainBytes). map copy_of holders ≡ copies) f.mode it → IsHandedOut own_bytes (Lent outline copies) f it gathered) same c.gather_from-gathered.ensures.available in
     memory_out fixed gathered (IsPartOfCopy outline copies) blob c.in_memory.result c.in_memory.ensures.blob c.in_memory.ensures.fault
     (out_wider own_bytes (Lent outline copies) (IsPartOfCopy outline copies) (λ piece. lent_beside outline copy_of copy_gives copies piece) fixed blob gathered
     (available blob is fits meant (λ holders are few. parts_mapped form copy_of copy_gives c.args.grain fixed.mode blob holders copies are have)))

@@ -2,7 +2,8 @@ use Rattle.crews.proofs.Common.{arith, ◌≡◌, ℕ, List, Option, map, subst,
 use Rattle.gather.proofs.Forming.{bare_for, own_for, own_parts, slices_for, slices_parts}
 use Rattle.gather.proofs.Lending.{part_true, parts_mapped}
 use Rattle.gather.specs.Parts.{HaveParts, IsBareFor, IsOwn}
-use Rattle.gather.specs.declared.sources.SourceAt.{SourceAt}
+use Rattle.gather.specs.declared.encoded.Encoded.{Encoded}
+use Rattle.gather.specs.declared.places.Placed.{Placed}
 use Rattle.crews.proofs.sources.gather.Goals as goal
 
 -- what holders over these sources hand over, in a form
@@ -24,7 +25,7 @@ returns-in-Slices-clause-gathers g c =
 -- slices that sources give holders over them give, in this form
 have_all : {S : Type 0} (form : Form) (contents : S → Option (List ℕ)) (faultless : S → Type 0) (sources : List S) → form ≡ Slices → (grain : Grain) (mode : Mode) (blob : List ℕ)
     → (chunk_count (length blob) ≤ 65536 → HaveSlices grain (source_gives contents faultless) mode blob sources)
-    → HaveAll form grain (λ (holder : SourceAt S) start len text. source_gives contents faultless (source_of holder) start len text) (λ (holders : List (SourceAt S)). map source_of holders ≡ sources) mode blob
+    → HaveAll form grain (λ (holder : Encoded (Placed S)) start len text. source_gives contents faultless (source_of holder) start len text) (λ (holders : List (Encoded (Placed S))). map source_of holders ≡ sources) mode blob
 have_all form contents faultless sources is grain mode blob have holders are few =
     subst (λ (f : Form). HaveParts f grain (λ holder start len text. source_gives contents faultless (source_of holder) start len text) mode blob holders) (sym is)
     (parts_mapped Slices source_of (source_gives contents faultless) grain mode blob holders sources are (slices_parts Slices grain (source_gives contents faultless) mode blob sources tt (have few)))

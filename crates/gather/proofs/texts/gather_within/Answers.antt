@@ -10,7 +10,6 @@ use Rattle.gather.specs.declared.fault.FinishFault.{FinishFault}
 use Rattle.gather.specs.declared.fault.GatherFault.{GatherFault}
 use Rattle.gather.specs.declared.fault.GatherFault.TheVariants.{Starved}
 use Rattle.gather.specs.declared.grain.Grain.TheVariants.{Group as ByGroup}
-use Rattle.gather.specs.declared.holder.Encoded.{Encoded}
 use Rattle.gather.specs.Available.{HaveSlices, IsFilled}
 use Rattle.gather.specs.Counts.{HasFailed}
 use Rattle.gather.specs.Encodings.{IsCut, IsCutOf, cut_gives, encoding}
@@ -24,7 +23,7 @@ use Rattle.gather.specs.Working.{wider_work}
 pub returns-in-Ok-finish_one-clause-gathers : goal.returns-in-Ok-finish_one-clause-gathers
 returns-in-Ok-finish_one-clause-gathers c =
     let texts = map vec_items c.args.texts.now in
-    let over : map encoding c.as_mut_slice.result.now ≡ texts = ap (λ (all : List Encoded). map encoding all) c.as_mut_slice.ensures.value ∙ c.in-Ok.ensures in
+    let over : map encoding c.as_mut_slice.result.now ≡ texts = ap (map encoding) c.as_mut_slice.ensures.value ∙ c.in-Ok.ensures in
     let fixed = fixed_as c.args.root c.args.mode c.args.capacity in
     let made = c.in_ok-store.ensures.made in
     let gains = c.run_one-report.ensures.worked in
@@ -56,7 +55,7 @@ returns-in_err-store-clause-gathers c =
 pub returns-clause-gathers : goal.returns-clause-gathers
 returns-clause-gathers c =
     let texts = map vec_items c.args.texts.now in
-    let over : map encoding c.as_mut_slice.result.now ≡ texts = ap (λ (all : List Encoded). map encoding all) c.as_mut_slice.ensures.value ∙ c.in-Ok.ensures in
+    let over : map encoding c.as_mut_slice.result.now ≡ texts = ap (map encoding) c.as_mut_slice.ensures.value ∙ c.in-Ok.ensures in
     let fixed = fixed_as c.args.root c.args.mode c.args.capacity in
     let made = c.in_ok-store.ensures.made in
     let met = c.run_one-report.ensures in
@@ -74,7 +73,7 @@ returns-clause-covered c = λ blob is room have.
     let holders = c.as_mut_slice.result.now in
     let texts = map vec_items c.args.texts.now in
     let cut = IsCutOf texts in
-    let over : map encoding holders ≡ texts = ap (λ (all : List Encoded). map encoding all) c.as_mut_slice.ensures.value ∙ c.in-Ok.ensures in
+    let over : map encoding holders ≡ texts = ap (map encoding) c.as_mut_slice.ensures.value ∙ c.in-Ok.ensures in
     let fixed = fixed_as c.args.root c.args.mode c.args.capacity in
     let store = c.in_ok-store.store in
     let made = c.in_ok-store.ensures.made in

@@ -21,7 +21,7 @@ kept items room read after rest start count size front len fits within =
 
 pub reads-preserved : goal.reads-preserved
 reads-preserved g c =
-    let contents = g.S.Source.contents c.args.self.now.0.now in
+    let contents = g.S.Source.contents c.args.self.now.source.now in
     let items : List ℕ = c.reads.into.items in
     let start : ℕ = c.len-start.result in
     let count : ℕ = c.in-Ok.count in
