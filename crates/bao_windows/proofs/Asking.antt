@@ -23,7 +23,7 @@ use Rattle.store_core.specs.Pieces.{EndsBlob}
 use Rattle.bao_windows.proofs.Owning.{own_makes}
 use Rattle.bao_windows.proofs.Served.{the_slice}
 use Rattle.bao_windows.specs.declared.wanted.Wanted.{Wanted}
-use Rattle.bao_windows.specs.Available.{HasNot, HasRefused, HasRefusedEnd, IsAcceptedAs, IsFitting, IsOfRoot, IsWithin, end_span, end_start, gives_in, slice_in, slice_piece, span_in}
+use Rattle.bao_windows.specs.Available.{GaveEnd, HasNot, HasRefused, IsAcceptedAs, IsFitting, IsOfRoot, IsWithin, end_span, end_start, gives_in, slice_in, slice_piece, span_in}
 use Rattle.bao_windows.specs.Copies.{HasPart, HaveCopies, IsOwn, IsOwnOutline, IsPartBy}
 use Rattle.bao_windows.specs.Windows.{IsBeside}
 
@@ -40,11 +40,10 @@ pub refused_slice : {S : Type 0} (form : Form) (contents : S → Option (List �
 refused_slice Slices contents faultless wanted source at len span text are bytes cut why = (text, bytes, cut, why)
 refused_slice (Bare outline) contents faultless wanted source at len span text are bytes cut why = absurd are
 
-pub refused_slice_end : {S : Type 0} (form : Form) (contents : S → Option (List ℕ)) (faultless : S → Type 0) (wanted : Wanted) (source : S) (text : List ℕ) → AreSlices form
-    → IsCutAt (contents source) (faultless source) (2 ^ 64 - 1) 1 text
-    → (IsAcceptedAs wanted (slice_piece (2 ^ 64 - 1) 1 text) → ⊥) ⊎ (EndsBlob (slice_piece (2 ^ 64 - 1) 1 text) → ⊥) → HasRefusedEnd form contents faultless wanted source
-refused_slice_end Slices contents faultless wanted source text are cut why = (text, cut, why)
-refused_slice_end (Bare outline) contents faultless wanted source text are cut why = absurd are
+pub gave_slice_end : {S : Type 0} (form : Form) (contents : S → Option (List ℕ)) (faultless : S → Type 0) (source : S) (text : List ℕ) (P : Piece → Type 0) → AreSlices form
+    → IsCutAt (contents source) (faultless source) (2 ^ 64 - 1) 1 text → P (slice_piece (2 ^ 64 - 1) 1 text) → GaveEnd form contents faultless source P
+gave_slice_end Slices contents faultless source text P are cut why = (text, cut, why)
+gave_slice_end (Bare outline) contents faultless source text P are cut why = absurd are
 
 -- the slice that an outline's parents and a part make
 abbrev pub made_piece : Outline → ℕ → ℕ → List ℕ → Piece
@@ -60,23 +59,29 @@ refused_part (Bare beside) outline contents faultless wanted source at len span 
     subst (λ (o : Outline). (text : List ℕ) × AreBytes text × part_gives contents faultless source at (bare_len (outline_claimed o) at n) text × HasNot wanted (made_piece o at n text) at len) (sym same)
     (bytes, valid, subst (λ (k : ℕ). part_gives contents faultless source at k bytes) size given, why)
 
-pub refused_part_end : {S : Type 0} (form : Form) (outline : Outline) (contents : S → Option (List ℕ)) (faultless : S → Type 0) (wanted : Wanted) (source : S) (at count : ℕ) (bytes : List ℕ)
+pub gave_part_end : {S : Type 0} (form : Form) (outline : Outline) (contents : S → Option (List ℕ)) (faultless : S → Type 0) (source : S) (at count : ℕ) (bytes : List ℕ) (P : Piece → Type 0)
     → IsBeside form outline → at ≡ 1024 * (chunk_count (outline_claimed outline) - 1) → IsPartAt (contents source) (faultless source) at count bytes
-    → count ≡ bare_len (outline_claimed outline) at (bare_part 1)
-    → (IsAcceptedAs wanted (made_piece outline at (bare_part 1) bytes) → ⊥) ⊎ (EndsBlob (made_piece outline at (bare_part 1) bytes) → ⊥) → HasRefusedEnd form contents faultless wanted source
-refused_part_end Slices outline contents faultless wanted source at count bytes never place given size why = absurd never
-refused_part_end (Bare beside) outline contents faultless wanted source at count bytes same place given size why =
+    → count ≡ bare_len (outline_claimed outline) at (bare_part 1) → P (made_piece outline at (bare_part 1) bytes) → GaveEnd form contents faultless source P
+gave_part_end Slices outline contents faultless source at count bytes P never place given size why = absurd never
+gave_part_end (Bare beside) outline contents faultless source at count bytes P same place given size why =
     let n : ℕ = bare_part 1 in
     subst (λ (o : Outline). (text : List ℕ) × part_gives contents faultless source (1024 * (chunk_count (outline_claimed o) - 1)) (bare_len (outline_claimed o) (1024 * (chunk_count (outline_claimed o) - 1)) n) text
-    × ((IsAcceptedAs wanted (made_piece o (1024 * (chunk_count (outline_claimed o) - 1)) n text) → ⊥) ⊎ (EndsBlob (made_piece o (1024 * (chunk_count (outline_claimed o) - 1)) n text) → ⊥))) (sym same)
-    (subst (λ (q : ℕ). (text : List ℕ) × part_gives contents faultless source q (bare_len (outline_claimed outline) q n) text
-    × ((IsAcceptedAs wanted (made_piece outline q n text) → ⊥) ⊎ (EndsBlob (made_piece outline q n text) → ⊥))) place
+    × P (made_piece o (1024 * (chunk_count (outline_claimed o) - 1)) n text)) (sym same)
+    (subst (λ (q : ℕ). (text : List ℕ) × part_gives contents faultless source q (bare_len (outline_claimed outline) q n) text × P (made_piece outline q n text)) place
     (bytes, subst (λ (k : ℕ). part_gives contents faultless source at k bytes) size given, why))
 
 -- the outline that copies are checked beside
 pub of_root : (form : Form) (outline : Outline) (wanted : Wanted) → IsBeside form outline → IsFitting wanted form → IsOfRoot wanted outline
 of_root Slices outline wanted never fitting = absurd never
 of_root (Bare beside) outline wanted same fitting = subst (λ (o : Outline). IsOfRoot wanted o) same fitting
+
+pub fits_root : (form : Form) (outline : Outline) (wanted : Wanted) → IsBeside form outline → IsOfRoot wanted outline → IsFitting wanted form
+fits_root Slices outline wanted never of = absurd never
+fits_root (Bare beside) outline wanted same of = subst (λ (o : Outline). IsOfRoot wanted o) (sym same) of
+
+pub fits_slices : (form : Form) (wanted : Wanted) → AreSlices form → IsFitting wanted form
+fits_slices Slices wanted are = tt
+fits_slices (Bare outline) wanted are = absurd are
 
 pub chunks_within : (form : Form) (outline : Outline) (at len : ℕ) → IsBeside form outline → IsWithin form at len → AreChunksOf outline (at / 1024) (chunk_count len)
 chunks_within Slices outline at len never within = absurd never

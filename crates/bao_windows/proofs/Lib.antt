@@ -12,3 +12,4 @@ pub mod Slots
 pub mod Finishing
 pub mod Writing
 pub mod Outlines
+pub mod Ends

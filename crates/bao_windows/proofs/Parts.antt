@@ -21,11 +21,11 @@ use Rattle.gather.specs.Places.{IsCutAt, IsPartAt}
 use Rattle.store_core.specs.declared.fixed.Fixed.{Fixed}
 use Rattle.store_core.specs.declared.history.Piece.{Piece}
 use Rattle.store_core.specs.Pieces.{EndsBlob, nodes_of, piece_of}
-use Rattle.bao_windows.proofs.Asking.{made_piece, of_root, refused_part, refused_part_end, refused_slice, refused_slice_end}
+use Rattle.bao_windows.proofs.Asking.{fits_root, fits_slices, gave_part_end, gave_slice_end, made_piece, of_root, refused_part, refused_slice}
 use Rattle.bao_windows.proofs.Pieces.{IsSound, takes_of}
 use Rattle.bao_windows.proofs.Sources.{slice_from}
 use Rattle.bao_windows.specs.declared.wanted.Wanted.{Wanted}
-use Rattle.bao_windows.specs.Available.{HasNot, IsAcceptedAs, IsOfRoot, Refuses, RefusesEnd, slice_piece}
+use Rattle.bao_windows.specs.Available.{CertifiesEnd, HasNot, IsAcceptedAs, IsEndOf, IsNoEnd, IsOfRoot, Refuses, RefusesEnd, slice_piece}
 use Rattle.bao_windows.specs.Windows.{IsBeside, IsFrom, LacksChunk, Takes, TakesOf, fixed_for}
 
 pub if_ok : {T E : Type 0} (r : Result T E) (P Q : T → Type 0) → ((x : T) → P x → Q x) → IfOk r P → IfOk r Q
@@ -75,8 +75,24 @@ pub refuses_end : {S : Type 0} (contents : S → Option (List ℕ)) (faultless :
     → AreSlices wanted.form → slice_get sources place ≡ Some source → IsCutAt (contents source) (faultless source) (2 ^ 64 - 1) 1 text
     → (IsAcceptedAs wanted (slice_piece (2 ^ 64 - 1) 1 text) → ⊥) ⊎ (EndsBlob (slice_piece (2 ^ 64 - 1) 1 text) → ⊥) → RefusesEnd contents faultless wanted sources place
 refuses_end {S = S} contents faultless wanted sources place source text are there cut why fitting other same =
-    refused_slice_end wanted.form contents faultless wanted other text are
+    gave_slice_end wanted.form contents faultless other text (IsNoEnd wanted) are
     (subst (λ (s : S). IsCutAt (contents s) (faultless s) (2 ^ 64 - 1) 1 text) (some_is source other (sym there ∙ same)) cut) why
+
+-- or that certifies a length
+pub certifies_end : {S : Type 0} (contents : S → Option (List ℕ)) (faultless : S → Type 0) (wanted : Wanted) (sources : List S) (place : ℕ) (source : S) (piece : Checked) (tail : Tail) (text : List ℕ) (l : ℕ)
+    → AreSlices wanted.form → slice_get sources place ≡ Some source → IsCutAt (contents source) (faultless source) (2 ^ 64 - 1) 1 text
+    → IsPiece piece wanted.mode wanted.root.0 (2 ^ 64 - 1) 1 text → IsAcceptedAs wanted (slice_piece (2 ^ 64 - 1) 1 text) → HoldsLast piece
+    → tail_piece tail ≡ piece → l ≡ piece_claimed (tail_piece tail) → CertifiesEnd contents faultless wanted sources place l
+certifies_end contents faultless wanted sources place source piece tail text l are there cut is accepted last same value = (
+  source,
+  there,
+  fits_slices wanted.form wanted are,
+  gave_slice_end wanted.form contents faultless source text (IsEndOf wanted l) are cut (
+    accepted,
+    subst (λ (p : Piece). EndsBlob p) (piece_is 0 piece wanted.mode wanted.root.0 (2 ^ 64 - 1) 1 text is) last,
+    value ∙ ap (λ (p : Checked). piece_claimed p) same ∙ ap (λ (s : List ℕ). claimed s) is.text_is,
+  ),
+)
 
 -- what a plain copy gave that was refused beside the outline
 pub refuses_part : {S : Type 0} (contents : S → Option (List ℕ)) (faultless : S → Type 0) (wanted : Wanted) (outline : Outline) (sources : List S) (at len span place count : ℕ) (source : S)
@@ -93,7 +109,7 @@ pub refuses_part_end : {S : Type 0} (contents : S → Option (List ℕ)) (faultl
     → (IsOfRoot wanted outline → (IsAcceptedAs wanted (made_piece outline at (bare_part 1) bytes) → ⊥) ⊎ (EndsBlob (made_piece outline at (bare_part 1) bytes) → ⊥))
     → RefusesEnd contents faultless wanted sources place
 refuses_part_end {S = S} contents faultless wanted outline sources place at count source bytes beside there is given size why fitting other same =
-    refused_part_end wanted.form outline contents faultless wanted other at count bytes beside is
+    gave_part_end wanted.form outline contents faultless other at count bytes (IsNoEnd wanted) beside is
     (subst (λ (s : S). IsPartAt (contents s) (faultless s) at count bytes) (some_is source other (sym there ∙ same)) given) size (why (of_root wanted.form outline wanted beside fitting))
 
 -- a slice that isn't accepted under an outline's root in its mode isn't under the root in the mode
@@ -102,6 +118,31 @@ pub not_accepted : (wanted : Wanted) (outline : Outline) (piece : Piece) → (Is
 not_accepted wanted outline piece never of accepted =
     never (subst (λ (mode : Mode). IsAccepted mode (outline_root outline) piece.text (nodes_of piece)) (sym of.0)
     (subst (λ (root : List ℕ). IsAccepted wanted.mode root piece.text (nodes_of piece)) (sym of.1) accepted))
+
+-- and one that is accepted is
+pub accepted_of : (wanted : Wanted) (outline : Outline) (piece : Piece) → IsAccepted (outline_mode outline) (outline_root outline) piece.text (nodes_of piece) → IsOfRoot wanted outline
+    → IsAcceptedAs wanted piece
+accepted_of wanted outline piece accepted of =
+    subst (λ (mode : Mode). IsAccepted mode wanted.root.0 piece.text (nodes_of piece)) of.0
+    (subst (λ (root : List ℕ). IsAccepted (outline_mode outline) root piece.text (nodes_of piece)) of.1 accepted)
+
+-- so that a plain copy certifies a length
+pub certifies_part_end : {S : Type 0} (contents : S → Option (List ℕ)) (faultless : S → Type 0) (wanted : Wanted) (outline : Outline) (sources : List S) (place at count : ℕ) (source : S)
+    (piece : Checked) (tail : Tail) (bytes : List ℕ) (l : ℕ) → IsBeside wanted.form outline → slice_get sources place ≡ Some source → at ≡ 1024 * (chunk_count (outline_claimed outline) - 1)
+    → IsPartAt (contents source) (faultless source) at count bytes → count ≡ bare_len (outline_claimed outline) at (bare_part 1)
+    → IsPiece piece (outline_mode outline) (outline_root outline) at (bare_part 1) (beside_text (outline_text outline) at (bare_part 1) bytes)
+    → IsAccepted (outline_mode outline) (outline_root outline) (made_piece outline at (bare_part 1) bytes).text (nodes_of (made_piece outline at (bare_part 1) bytes)) → IsOfRoot wanted outline
+    → HoldsLast piece → tail_piece tail ≡ piece → l ≡ piece_claimed (tail_piece tail) → CertifiesEnd contents faultless wanted sources place l
+certifies_part_end contents faultless wanted outline sources place at count source piece tail bytes l beside there begins given size is accepted of last same value = (
+  source,
+  there,
+  fits_root wanted.form outline wanted beside of,
+  gave_part_end wanted.form outline contents faultless source at count bytes (IsEndOf wanted l) beside begins given size (
+    accepted_of wanted outline (made_piece outline at (bare_part 1) bytes) accepted of,
+    subst (λ (p : Piece). EndsBlob p) (piece_is 0 piece (outline_mode outline) (outline_root outline) at (bare_part 1) (beside_text (outline_text outline) at (bare_part 1) bytes) is) last,
+    value ∙ ap (λ (p : Checked). piece_claimed p) same ∙ ap (λ (s : List ℕ). claimed s) is.text_is,
+  ),
+)
 
 -- a piece of which not all was taken lacks a chunk
 pub takes_none : (took : Bool) (piece : Checked) (it : Piece) (wanted : Wanted) (at len : ℕ) (old new : List ℕ) → piece_of 0 piece ≡ it → AreBytes (piece_text piece)
@@ -132,6 +173,12 @@ is_of_root wanted outline fixed root mode fixed_is root_is mode_is of =
     let same : root.0 ≡ wanted.root.0 = root_is ∙ of.1 in
     let here : root ≡ wanted.root = λ i. record { 0 = same i } in
     (here ∙ ap (λ (f : Fixed). f.root) (sym fixed_is), mode_is ∙ of.0 ∙ ap (λ (f : Fixed). f.mode) (sym fixed_is))
+
+-- which then is the outline's
+pub of_is_root : (wanted : Wanted) (outline : Outline) (fixed : Fixed) (root : Hash) (mode : Mode) → fixed ≡ fixed_for wanted → root.0 ≡ outline_root outline → mode ≡ outline_mode outline
+    → root ≡ fixed.root → mode ≡ fixed.mode → IsOfRoot wanted outline
+of_is_root wanted outline fixed root mode fixed_is root_is mode_is of_root of_mode =
+    (sym mode_is ∙ of_mode ∙ ap (λ (f : Fixed). f.mode) fixed_is, sym root_is ∙ ap (λ (h : Hash). h.0) (of_root ∙ ap (λ (f : Fixed). f.root) fixed_is))
 
 -- what is found, if something is
 pub if_found : {T E : Type 0} (r : Result (Option T) E) (P Q : T → Type 0) → ((x : T) → P x → Q x) → IfOk r (λ found. IfSome found P) → IfOk r (λ found. IfSome found Q)

@@ -14,7 +14,7 @@ use Rattle.gather.specs.declared.form.Form.TheVariants.{Slices, Bare}
 use Rattle.gather.specs.declared.grain.Grain.TheVariants.{Chunk as ByChunk}
 use Rattle.gather.specs.Lists.{part_gives, source_gives}
 use Rattle.store_core.specs.declared.history.Piece.{Piece}
-use Rattle.store_core.specs.Pieces.{EndsBlob, nodes_of}
+use Rattle.store_core.specs.Pieces.{EndsBlob, length_of, nodes_of}
 use Rattle.bao_windows.specs.declared.wanted.Wanted.{Wanted}
 use Rattle.bao_windows.specs.declared.window.Slot.{Slot}
 use Rattle.bao_windows.specs.Windows.{AreOfSlot, AreOfWindow, IsFrom, LacksChunk, fixed_for}
@@ -106,17 +106,43 @@ abbrev pub end_span : Form → ℕ
 end_span Slices = 1
 end_span (Bare outline) = bare_part 1
 
--- What a source gave for the length isn't accepted, or hasn't the last chunk of the length that it claims.
+-- Of the slice that what a source gave for the length makes this is so.
+abbrev pub GaveEnd : {S : Type 0} → Form → (S → Option (List ℕ)) → (S → Type 0) → S → (Piece → Type 0) → Type 0
+GaveEnd form contents faultless source P =
+    (text : List ℕ) × gives_in form contents faultless source (end_start form) (end_span form) text × P (slice_in form (end_start form) (end_span form) text)
+
+-- it isn't accepted, or hasn't the last chunk of the length that it claims
+abbrev pub IsNoEnd : Wanted → Piece → Type 0
+IsNoEnd wanted piece = (IsAcceptedAs wanted piece → ⊥) ⊎ (EndsBlob piece → ⊥)
+
 abbrev pub HasRefusedEnd : {S : Type 0} → Form → (S → Option (List ℕ)) → (S → Type 0) → Wanted → S → Type 0
-HasRefusedEnd form contents faultless wanted source =
-    (text : List ℕ) × gives_in form contents faultless source (end_start form) (end_span form) text
-    × ((IsAcceptedAs wanted (slice_in form (end_start form) (end_span form) text) → ⊥)
-    ⊎ (EndsBlob (slice_in form (end_start form) (end_span form) text) → ⊥))
+HasRefusedEnd form contents faultless wanted source = GaveEnd form contents faultless source (IsNoEnd wanted)
+
+-- it is accepted, and has the last chunk of the length that it claims, which is this
+abbrev pub IsEndOf : Wanted → ℕ → Piece → Type 0
+IsEndOf wanted l piece = IsAcceptedAs wanted piece × EndsBlob piece × (l ≡ length_of piece)
+
+-- So it is of the source at this place. Where plain copies are given, the outline is of the root.
+abbrev pub CertifiesEnd : {S : Type 0} → (S → Option (List ℕ)) → (S → Type 0) → Wanted → List S → ℕ → ℕ → Type 0
+CertifiesEnd {S} contents faultless wanted sources place l =
+    (source : S) × (slice_get sources place ≡ Some source) × IsFitting wanted wanted.form × GaveEnd wanted.form contents faultless source (IsEndOf wanted l)
 
 -- So it is of the source at this place. Of plain copies this is so where the outline is of the root.
 abbrev pub RefusesEnd : {S : Type 0} → (S → Option (List ℕ)) → (S → Type 0) → Wanted → List S → ℕ → Type 0
 RefusesEnd contents faultless wanted sources place =
     IsFitting wanted wanted.form → (source : _) → slice_get sources place ≡ Some source → HasRefusedEnd wanted.form contents faultless wanted source
+
+-- the bytes of each source are known, as many as a file or a slice of memory can have, and no read of it fails
+abbrev pub AreSound : {S : Type 0} → (S → Option (List ℕ)) → (S → Type 0) → List S → Type 0
+AreSound contents faultless sources =
+    (i : ℕ) (source : _) → slice_get sources i ≡ Some source → (bytes : List ℕ) × (contents source ≡ Some bytes) × (length bytes < 2 ^ 64) × faultless source
+
+-- The first of the sources that has the last chunk certifies this length by it.
+pub record IsFirstEnd {S : Type 0} (contents : S → Option (List ℕ)) (faultless : S → Type 0) (wanted : Wanted) (sources : List S) (l : ℕ) : Type 0 where
+  pub place : ℕ
+  pub below : place < length sources
+  pub certifies : CertifiesEnd contents faultless wanted sources place l
+  pub before : (k : ℕ) → k < place → RefusesEnd contents faultless wanted sources k
 
 -- no source has the last chunk
 abbrev pub HasNoEnd : {S : Type 0} → (S → Option (List ℕ)) → (S → Type 0) → Wanted → List S → Type 0

@@ -2,7 +2,7 @@ ghost use Rattle.std.specs.Prelude.{◌≡◌, ◌⊎◌, ◌<◌, length, None,
 ghost use Rattle.gather.specs.declared.fault.GatherFault.TheVariants.{Starved, Unfinished};
 ghost use Rattle.bao_check.specs.Outline.{outline_claimed};
 ghost use Rattle.gather.specs.Forms.{AreSlices, IsLengthOf};
-ghost use Rattle.bao_windows.specs.Available.{HasNoEnd, RefusesEnd};
+ghost use Rattle.bao_windows.specs.Available.{CertifiesEnd, HasNoEnd, IsFirstEnd, RefusesEnd};
 ghost use Rattle.bao_windows.specs.Windows.{IsBeside, IsFrom, IsLengthOfEach, fixed_for};
 
 use crate::appending::CHUNK_BYTES;
@@ -11,7 +11,7 @@ use crate::wanted::Wanted;
 use bao_check::{Outline, check_bare, check_slice};
 use bao_read::Source;
 use bao_text::chunk_count;
-use gather::{EncodedAt, Form, GatherFault, Holder, PlainAt};
+use gather::{Encoded, Form, GatherFault, Holder, Plain};
 use std::alloc::{AllocError, Global};
 
 // The length that the slice of the last byte certifies, which this source has.
@@ -25,10 +25,11 @@ fn length_by_slice<S: Source>(
     requires form { AreSlices wanted.now.form }
     requires place { place < length sources.now }
     ensures each { IfOk result (λ found. IfSome found (λ l. IsLengthOfEach (IsFrom wanted.now S.contents S.faultless sources.now) (fixed_for wanted.now) l)) }
+    ensures certified { IfOk result (λ found. IfSome found (CertifiesEnd S.contents S.faultless wanted.now sources.now place)) }
     ensures refused { IfOk result (λ found. found ≡ None → RefusesEnd S.contents S.faultless wanted.now sources.now place) }
 {
     room.clear();
-    let mut holder = EncodedAt::new(&sources[place]);
+    let mut holder = Encoded::at(&sources[place]);
     pass_over(holder.fetch(u64::MAX, 1, room))?;
     match check_slice(
         alloc,
@@ -62,6 +63,7 @@ fn length_by_copy<S: Source>(
     requires place { place < length sources.now }
     ensures each { IfOk result (λ found. IfSome found (λ l. IsLengthOfEach (IsFrom wanted.now S.contents S.faultless sources.now) (fixed_for wanted.now) l)) }
     ensures claims { IfOk result (λ found. IfSome found (λ l. l ≡ outline_claimed outline.now)) }
+    ensures certified { IfOk result (λ found. IfSome found (CertifiesEnd S.contents S.faultless wanted.now sources.now place)) }
     ensures refused { IfOk result (λ found. found ≡ None → RefusesEnd S.contents S.faultless wanted.now sources.now place) }
 {
     if !wanted.fixed().is_of(&outline.root(), &outline.mode()) {
@@ -71,7 +73,7 @@ fn length_by_copy<S: Source>(
     let last = chunk_count(total) - 1;
     let at = CHUNK_BYTES * last;
     room.clear();
-    let mut holder = PlainAt::new(&sources[place]);
+    let mut holder = Plain::at(&sources[place]);
     pass_over(holder.fetch(at, total - at, room))?;
     match check_bare(outline, last, 1, room.as_slice()) {
         Ok(piece) => {
@@ -97,6 +99,7 @@ fn length_from<S: Source>(
     requires { place < length sources.now }
     ensures each { IfOk result (λ found. IfSome found (λ l. IsLengthOfEach (IsFrom wanted.now S.contents S.faultless sources.now) (fixed_for wanted.now) l)) }
     ensures of { IfOk result (λ found. IfSome found (λ l. IsLengthOf wanted.now.form l)) }
+    ensures certified { IfOk result (λ found. IfSome found (CertifiesEnd S.contents S.faultless wanted.now sources.now place)) }
     ensures refused { IfOk result (λ found. found ≡ None → RefusesEnd S.contents S.faultless wanted.now sources.now place) }
 {
     match wanted.form {
@@ -110,7 +113,7 @@ fn length_from<S: Source>(
 ///
 /// It is the length of each blob with the root, or a collision is exhibited, two different inputs with one chaining value, one of the
 /// blob's and one of a slice's that is accepted under the root and came from one of the sources. Beside an outboard encoding it is the one
-/// that this claims.
+/// that this claims. Of the sources before that one what each gave is refused.
 ///
 /// 911 `Starved` where there is no memory for what a source gives, and 901 `Unfinished` where none has the last chunk: what each gave as that
 /// slice, or beside an outboard encoding of the root as that chunk, isn't accepted, or hasn't the last chunk of the length that it claims.
@@ -121,6 +124,7 @@ pub fn certified_length<S: Source>(
 ) -> Result<u64, GatherFault>
     ensures each { IfOk result (λ l. IsLengthOfEach (IsFrom wanted.now S.contents S.faultless sources.now) (fixed_for wanted.now) l) }
     ensures of { IfOk result (λ l. IsLengthOf wanted.now.form l) }
+    ensures certified { IfOk result (IsFirstEnd S.contents S.faultless wanted.now sources.now) }
     ensures fault { IfErr result (λ fault. (fault ≡ Unfinished) ⊎ (fault ≡ Starved)) }
     ensures missing { IsErrOf result Unfinished → HasNoEnd S.contents S.faultless wanted.now sources.now }
 {

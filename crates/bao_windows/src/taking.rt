@@ -10,7 +10,7 @@ use b3tree::bytes_are;
 use bao_check::{Outline, bare_fits, check_bare, check_slice};
 use bao_read::Source;
 use bao_text::chunk_count;
-use gather::{EncodedAt, Form, Holder, PlainAt};
+use gather::{Encoded, Form, Holder, Plain};
 use std::alloc::{AllocError, Global};
 
 // So many bytes of a blob from byte `at` on.
@@ -39,7 +39,7 @@ fn take_slice<S: Source>(
     ensures refused { IfOk result (λ took. took ≡ false → Refuses S.contents S.faultless wanted.now sources.now part.at part.len span place) }
 {
     room.clear();
-    let mut holder = EncodedAt::new(&sources[place]);
+    let mut holder = Encoded::at(&sources[place]);
     pass_over(holder.fetch(part.at, span, room))?;
     // For the prover alone: the elements of a text are bytes.
     bytes_are(room.as_slice());
@@ -90,7 +90,7 @@ fn take_bare<S: Source>(
         .saturating_mul(count)
         .min(outline.claimed().saturating_sub(part.at));
     room.clear();
-    let mut holder = PlainAt::new(&sources[place]);
+    let mut holder = Plain::at(&sources[place]);
     pass_over(holder.fetch(part.at, len, room))?;
     // For the prover alone: the elements of a text are bytes.
     bytes_are(room.as_slice());

@@ -1,26 +1,38 @@
 -- Blobs that were written for one root are one, or a collision.
-use Rattle.std.proofs.Common.{◌≡◌, ◌≢◌, ◌⊎◌, inl, inr, ℕ, ◌^◌, ◌<◌, ◌≤◌, List, [], ◌∷◌, length, Option, None, Some, IfOk, IfSome, Result, Ok, Err, refl, sym, ap, subst, ◌∙◌, arith}
+use Rattle.std.proofs.Common.{◌≡◌, ◌≢◌, ◌⊎◌, inl, inr, ℕ, ◌^◌, ◌<◌, ◌≤◌, List, [], ◌∷◌, length, Option, None, Some, IfOk, IfSome, IsErrOf, Result, Ok, Err, refl, sym, ap, subst, ◌∙◌, arith}
 use Rattle.std.specs.Io.KnownBytes.{Appends}
 use Rattle.std.proofs.lemmas.Bool.{cases_lt}
 use Rattle.b3tree.specs.declared.mode.Mode.{Mode}
 use Rattle.b3tree.specs.declared.values.Hash.{Hash}
 use Rattle.b3tree.specs.Hashing.{hash}
 use Rattle.bao_text.specs.Choice.{chunk_count}
+use Rattle.bao_windows.proofs.Ends.{end_or_none, one_end}
+use Rattle.bao_windows.specs.Available.{AreSound, HasNoEnd, IsFirstEnd}
 use Rattle.bao_windows.specs.Copies.{HaveCopies, IsOwn}
 use Rattle.bao_windows.specs.declared.fault.WindowsFault.{WindowsFault}
 use Rattle.bao_windows.specs.declared.wanted.Wanted.{Wanted}
 use Rattle.bao_windows.specs.Windows.{IsFrom, IsLengthOfEach, fixed_for}
 use Rattle.bao_windows.specs.Written.{IsWrittenOut, WroteBlob}
-use Rattle.determined_windows.specs.Agreeing.{HaveBlob, IsClaimed, IsHad, IsOneAnswer, SameBlob}
+use Rattle.determined_windows.specs.Agreeing.{HaveBlob, IsClaimed, IsHad, IsOneAnswer, SameBlob, SameLength}
 use Rattle.gather.specs.Available.{HaveSlices}
 use Rattle.gather.specs.declared.form.Form.{Form}
 use Rattle.gather.specs.declared.form.Form.TheVariants.{Slices, Bare}
 use Rattle.gather.specs.Forms.{AreSlices, IsLengthOf}
 use Rattle.gather.specs.Lists.{source_gives}
 use Rattle.gather.specs.declared.fault.GatherFault.{GatherFault}
+use Rattle.gather.specs.declared.fault.GatherFault.TheVariants.{Unfinished}
 use Rattle.gather.specs.Large.{HasCollision}
 use Rattle.store_core.specs.declared.history.Piece.{Piece}
 use Rattle.store_core.specs.Laws.{IsBlob}
+
+-- a length that is certified of sources whose bytes are known is one, and always is
+pub one_length : {S : Type 0} (contents : S → Option (List ℕ)) (faultless : S → Type 0) (wanted : Wanted) (sources : List S) → AreSound contents faultless sources → (a b : Result ℕ GatherFault)
+    → IfOk a (IsFirstEnd contents faultless wanted sources) → IfOk b (IsFirstEnd contents faultless wanted sources) → (IsErrOf a Unfinished → HasNoEnd contents faultless wanted sources)
+    → (IsErrOf b Unfinished → HasNoEnd contents faultless wanted sources) → SameLength a b
+one_length contents faultless wanted sources sound (Ok m) (Ok n) p q never none = one_end contents faultless wanted sources sound m n p q
+one_length contents faultless wanted sources sound (Ok m) (Err fault) p q never none = λ is. end_or_none contents faultless wanted sources sound m p (none (ap Err is))
+one_length contents faultless wanted sources sound (Err fault) (Ok n) p q never none = λ is. end_or_none contents faultless wanted sources sound n q (never (ap Err is))
+one_length contents faultless wanted sources sound (Err fault) (Err other) p q never none = tt
 
 one_number : (m n : ℕ) → (m ≡ n) ⊎ (m ≢ n)
 one_number m n = elim (cases_lt m n) [

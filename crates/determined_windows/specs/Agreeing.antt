@@ -1,5 +1,5 @@
 -- Blobs that were written for one root.
-use Rattle.std.specs.Prelude.{◌≡◌, ◌≢◌, ◌⊎◌, ℕ, ◌^◌, ◌<◌, ◌≤◌, IfErr, IfOk, List, Option, Result, length}
+use Rattle.std.specs.Prelude.{◌≡◌, ◌≢◌, ◌⊎◌, ℕ, ◌^◌, ◌<◌, ◌≤◌, IfErr, IfOk, List, Option, Result, Ok, Err, length}
 use Rattle.std.specs.Io.KnownBytes.{Appends}
 use Rattle.b3tree.specs.declared.mode.Mode.{Mode}
 use Rattle.b3tree.specs.Hashing.{hash}
@@ -11,6 +11,8 @@ use Rattle.bao_windows.specs.declared.wanted.Wanted.{Wanted}
 use Rattle.bao_windows.specs.Windows.{fixed_for}
 use Rattle.bao_windows.specs.Written.{IsExcusedWrite}
 use Rattle.gather.specs.Available.{HaveSlices}
+use Rattle.gather.specs.declared.fault.GatherFault.{GatherFault}
+use Rattle.gather.specs.declared.fault.GatherFault.TheVariants.{Unfinished}
 use Rattle.gather.specs.declared.form.Form.{Form}
 use Rattle.gather.specs.declared.form.Form.TheVariants.{Slices, Bare}
 use Rattle.gather.specs.Lists.{source_gives}
@@ -47,6 +49,13 @@ pub record IsHad {S : Type 0} (wanted : Wanted) (contents : S → Option (List �
 -- two answers are one: the same was written, and no fault is one of what was gathered from
 abbrev pub IsOneAnswer : Option (List ℕ) → Option (List ℕ) → Result ℕ WindowsFault → Result ℕ WindowsFault → Type 0
 IsOneAnswer a b r s = IfOk r (λ m. IfOk s (λ n. (m ≡ n) × (a ≡ b))) × IfErr r IsExcusedWrite × IfErr s IsExcusedWrite
+
+-- two answers are one length, or none; memory may run out at any time
+abbrev pub SameLength : Result ℕ GatherFault → Result ℕ GatherFault → Type 0
+SameLength (Ok m) (Ok n) = m ≡ n
+SameLength (Ok m) (Err fault) = fault ≢ Unfinished
+SameLength (Err fault) (Ok n) = fault ≢ Unfinished
+SameLength (Err fault) (Err other) = Unit {0}
 
 -- plain copies are given, beside an outboard encoding that claims this length
 abbrev pub IsClaimed : Form → ℕ → Type 0

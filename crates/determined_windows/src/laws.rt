@@ -2,8 +2,9 @@
 // is certified, or in what is written. Which fault is answered depends on what each holder has, and isn't determined.
 
 ghost use Rattle.std.specs.Prelude.{◌≡◌, ◌⊎◌, ℕ, List, IfOk, IfSome};
+ghost use Rattle.bao_windows.specs.Available.{AreSound};
 ghost use Rattle.bao_windows.specs.Windows.{IsFrom, fixed_for};
-ghost use Rattle.determined_windows.specs.Agreeing.{IsClaimed, IsHad, IsOneAnswer, SameBlob};
+ghost use Rattle.determined_windows.specs.Agreeing.{IsClaimed, IsHad, IsOneAnswer, SameBlob, SameLength};
 ghost use Rattle.gather.specs.Large.{HasCollision};
 ghost use Rattle.store_core.specs.Laws.{IsBlob};
 
@@ -33,6 +34,21 @@ pub fn certified_length_determined<S: Source, T: Source>(
     (
         certified_length(alloc, wanted, sources),
         certified_length(alloc, other, other_sources),
+    )
+}
+
+// Where the bytes of the sources are known and no read of them fails, a length is certified always or never, and it is one.
+pub fn certified_length_of_known<S: Source>(
+    alloc: Global,
+    wanted: &Wanted<'_>,
+    sources: &[S],
+) -> (Result<u64, GatherFault>, Result<u64, GatherFault>)
+    requires { AreSound S.contents S.faultless sources.now }
+    ensures { SameLength result.0 result.1 }
+{
+    (
+        certified_length(alloc, wanted, sources),
+        certified_length(alloc, wanted, sources),
     )
 }
 

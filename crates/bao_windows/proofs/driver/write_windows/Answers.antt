@@ -1,4 +1,4 @@
-use Rattle.std.proofs.Common.{◌≡◌, ◌≤◌, length, Err, Ok, ap, arith, inl, sym}
+use Rattle.std.proofs.Common.{◌≡◌, ◌≤◌, length, Err, Ok, ap, arith, inl, inr, sym}
 use Rattle.std.proofs.KnownBytes.{Appends-kept}
 use Rattle.bao_text.specs.Choice.{chunk_count}
 use Rattle.gather.specs.declared.fault.GatherFault.{GatherFault}
@@ -14,6 +14,11 @@ pub returns-in-Err-clause-missing : goal.returns-in-Err-clause-missing
 returns-in-Err-clause-missing g c = λ is.
     let same : c.in-Err.missing ≡ Unfinished = cc in
     inl (c.in-Err.ensures.missing (ap (λ (f : GatherFault). Err f) same))
+
+pub returns-in-Err-write_all-clause-missing : goal.returns-in-Err-write_all-clause-missing
+returns-in-Err-write_all-clause-missing g c = λ is.
+    let same : c.in-Err-write_all.fault ≡ Gather Unfinished = cc in
+    inr (c.in-Ok.total, c.in-Ok.ensures.of, c.in-Ok.ensures.each, c.in-Err-write_all.ensures.missing (ap (λ (f : WindowsFault). Err f) same))
 
 pub returns-in-Ok-flush-clause-blob : goal.returns-in-Ok-flush-clause-blob
 returns-in-Ok-flush-clause-blob g c =

@@ -10,7 +10,7 @@ use Rattle.gather.specs.Places.{IsPartAt}
 use Rattle.store_core.specs.declared.history.Piece.{Piece}
 use Rattle.store_core.specs.Pieces.{EndsBlob, piece_of}
 use Rattle.bao_windows.proofs.Asking.{made_piece, of_root}
-use Rattle.bao_windows.proofs.Parts.{is_of_root, not_accepted, refuses_part_end, sound_beside, tail_claims}
+use Rattle.bao_windows.proofs.Parts.{certifies_part_end, is_of_root, not_accepted, of_is_root, refuses_part_end, sound_beside, tail_claims}
 use Rattle.bao_windows.proofs.Pieces.{length_each}
 use Rattle.bao_windows.proofs.Sources.{part_by, part_from, there_at}
 use Rattle.bao_windows.specs.declared.wanted.Wanted.{Wanted}
@@ -34,7 +34,7 @@ returns-in-Some-clause-each g c =
     let place : 1024 * (c.chunk_count-last.result - 1) ≡ start = refl in
     let cut : IsPartAt (g.S.Source.contents source) (g.S.Source.faultless source) start (c.claimed-total.result - 1024 * (c.chunk_count-last.result - 1)) bytes =
     subst (λ (n : ℕ). IsPartAt (g.S.Source.contents source) (g.S.Source.faultless source) n (c.claimed-total.result - 1024 * (c.chunk_count-last.result - 1)) bytes) place
-    (subst (λ (s : List ℕ). IsPartAt (g.S.Source.contents source) (g.S.Source.faultless source) (1024 * (c.chunk_count-last.result - 1)) (c.claimed-total.result - 1024 * (c.chunk_count-last.result - 1)) s) (sym c.as_slice.ensures.value) (part_by g.S.Source.contents g.S.Source.faultless c.new-holder.result.source.now source (1024 * (c.chunk_count-last.result - 1)) (c.claimed-total.result - 1024 * (c.chunk_count-last.result - 1)) c.fetch.result c.clear.new.self.items c.fetch.new.into.items c.new-holder.ensures.source c.clear.ensures.items
+    (subst (λ (s : List ℕ). IsPartAt (g.S.Source.contents source) (g.S.Source.faultless source) (1024 * (c.chunk_count-last.result - 1)) (c.claimed-total.result - 1024 * (c.chunk_count-last.result - 1)) s) (sym c.as_slice.ensures.value) (part_by g.S.Source.contents g.S.Source.faultless c.at-holder.result.places.source.now source (1024 * (c.chunk_count-last.result - 1)) (c.claimed-total.result - 1024 * (c.chunk_count-last.result - 1)) c.fetch.result c.clear.new.self.items c.fetch.new.into.items c.at-holder.ensures.source c.clear.ensures.items
     c.fetch.ensures.appended c.fetch.ensures.unchanged c.fetch.ensures.lost c.in_ok-pass_over.ensures)) in
     let sound = sound_beside piece wanted outline c.fixed.result c.root.result c.mode.result start len text c.fixed.ensures of.0 of.1 c.root.ensures c.mode.ensures c.in-Ok.ensures.piece
     c.is_accepted.ensures.bytes c.is_accepted.ensures.accepted in
@@ -42,6 +42,26 @@ returns-in-Some-clause-each g c =
     (omega (arith, c.chunk_count-last.ensures, c.claimed-total.ensures, c.claimed-total.type_inv)) (piece_is 0 piece (outline_mode outline) (outline_root outline) start len text c.in-Ok.ensures.piece) in
     length_each (IsFrom wanted g.S.Source.contents g.S.Source.faultless c.args.sources.now) wanted.mode wanted.root piece c.in-Some.tail c.length.result sound from c.in-Some.ensures.piece
     c.length.ensures.binds
+
+pub returns-in-Some-clause-certified : goal.returns-in-Some-clause-certified
+returns-in-Some-clause-certified g c =
+    let wanted : Wanted = c.args.wanted.now in
+    let outline : Outline = c.args.outline.now in
+    let bytes : List ℕ = c.as_slice.result.now in
+    let source = c.index-sources-place.result in
+    let there : slice_get c.args.sources.now c.args.place ≡ Some source = there_at c.args.sources.now c.args.place source c.requires.place c.index-sources-place.is in
+    let yes : c.is_of.result ≡ true = search rules in
+    let is_of = c.is_of.ensures.0 yes in
+    let at : ℕ = 1024 * (c.chunk_count-last.result - 1) in
+    let count : ℕ = c.claimed-total.result - at in
+    let given : IsPartAt (g.S.Source.contents source) (g.S.Source.faultless source) at count bytes =
+    subst (λ (s : List ℕ). IsPartAt (g.S.Source.contents source) (g.S.Source.faultless source) at count s) (sym c.as_slice.ensures.value) (part_by g.S.Source.contents g.S.Source.faultless c.at-holder.result.places.source.now source at count c.fetch.result c.clear.new.self.items c.fetch.new.into.items c.at-holder.ensures.source c.clear.ensures.items
+    c.fetch.ensures.appended c.fetch.ensures.unchanged c.fetch.ensures.lost c.in_ok-pass_over.ensures) in
+    let place : at ≡ 1024 * (chunk_count (outline_claimed outline) - 1) = omega (arith, c.chunk_count-last.ensures, c.claimed-total.ensures) in
+    let size : count ≡ bare_len (outline_claimed outline) at (bare_part 1) = omega (arith, c.chunk_count-last.ensures, c.claimed-total.ensures, c.claimed-total.type_inv) in
+    let of : IsOfRoot wanted outline = of_is_root wanted outline c.fixed.result c.root.result c.mode.result c.fixed.ensures c.root.ensures c.mode.ensures is_of.0 is_of.1 in
+    certifies_part_end g.S.Source.contents g.S.Source.faultless wanted outline c.args.sources.now c.args.place at count source c.in-Ok.piece c.in-Some.tail bytes c.length.result c.requires.form there
+    place given size c.in-Ok.ensures.piece (c.in-Ok.ensures.slice.0 refl) of (c.in-Some.ensures.there.0 refl) c.in-Some.ensures.piece c.length.ensures.value
 
 pub returns-in-Some-clause-claims : goal.returns-in-Some-clause-claims
 returns-in-Some-clause-claims g c =
@@ -69,7 +89,7 @@ returns-in-None-clause-refused g c = λ _.
     let at : ℕ = 1024 * (c.chunk_count-last.result - 1) in
     let count : ℕ = c.claimed-total.result - at in
     let given : IsPartAt (g.S.Source.contents source) (g.S.Source.faultless source) at count bytes =
-    subst (λ (s : List ℕ). IsPartAt (g.S.Source.contents source) (g.S.Source.faultless source) at count s) (sym c.as_slice.ensures.value) (part_by g.S.Source.contents g.S.Source.faultless c.new-holder.result.source.now source at count c.fetch.result c.clear.new.self.items c.fetch.new.into.items c.new-holder.ensures.source c.clear.ensures.items
+    subst (λ (s : List ℕ). IsPartAt (g.S.Source.contents source) (g.S.Source.faultless source) at count s) (sym c.as_slice.ensures.value) (part_by g.S.Source.contents g.S.Source.faultless c.at-holder.result.places.source.now source at count c.fetch.result c.clear.new.self.items c.fetch.new.into.items c.at-holder.ensures.source c.clear.ensures.items
     c.fetch.ensures.appended c.fetch.ensures.unchanged c.fetch.ensures.lost c.in_ok-pass_over.ensures) in
     let place : at ≡ 1024 * (chunk_count (outline_claimed outline) - 1) = omega (arith, c.chunk_count-last.ensures, c.claimed-total.ensures) in
     let size : count ≡ bare_len (outline_claimed outline) at (bare_part 1) = omega (arith, c.chunk_count-last.ensures, c.claimed-total.ensures, c.claimed-total.type_inv) in
@@ -89,7 +109,7 @@ returns-in-Err-clause-refused g c = λ _.
     let at : ℕ = 1024 * (c.chunk_count-last.result - 1) in
     let count : ℕ = c.claimed-total.result - at in
     let given : IsPartAt (g.S.Source.contents source) (g.S.Source.faultless source) at count bytes =
-    subst (λ (s : List ℕ). IsPartAt (g.S.Source.contents source) (g.S.Source.faultless source) at count s) (sym c.as_slice.ensures.value) (part_by g.S.Source.contents g.S.Source.faultless c.new-holder.result.source.now source at count c.fetch.result c.clear.new.self.items c.fetch.new.into.items c.new-holder.ensures.source c.clear.ensures.items
+    subst (λ (s : List ℕ). IsPartAt (g.S.Source.contents source) (g.S.Source.faultless source) at count s) (sym c.as_slice.ensures.value) (part_by g.S.Source.contents g.S.Source.faultless c.at-holder.result.places.source.now source at count c.fetch.result c.clear.new.self.items c.fetch.new.into.items c.at-holder.ensures.source c.clear.ensures.items
     c.fetch.ensures.appended c.fetch.ensures.unchanged c.fetch.ensures.lost c.in_ok-pass_over.ensures) in
     let place : at ≡ 1024 * (chunk_count (outline_claimed outline) - 1) = omega (arith, c.chunk_count-last.ensures, c.claimed-total.ensures) in
     let size : count ≡ bare_len (outline_claimed outline) at (bare_part 1) = omega (arith, c.chunk_count-last.ensures, c.claimed-total.ensures, c.claimed-total.type_inv) in

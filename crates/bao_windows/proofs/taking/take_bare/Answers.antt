@@ -56,7 +56,7 @@ returns-in-Ok-clause-took g c =
     let place : c.args.part.at ≡ start = omega (arith, c.requires.aligned) in
     let cut : IsPartAt (g.S.Source.contents source) (g.S.Source.faultless source) start c.min-len.result bytes =
     subst (λ (n : ℕ). IsPartAt (g.S.Source.contents source) (g.S.Source.faultless source) n c.min-len.result bytes) place
-    (subst (λ (s : List ℕ). IsPartAt (g.S.Source.contents source) (g.S.Source.faultless source) c.args.part.at c.min-len.result s) (sym c.as_slice-2.ensures.value) (part_by g.S.Source.contents g.S.Source.faultless c.new-holder.result.source.now source c.args.part.at c.min-len.result c.fetch.result c.clear.new.self.items c.fetch.new.into.items c.new-holder.ensures.source c.clear.ensures.items
+    (subst (λ (s : List ℕ). IsPartAt (g.S.Source.contents source) (g.S.Source.faultless source) c.args.part.at c.min-len.result s) (sym c.as_slice-2.ensures.value) (part_by g.S.Source.contents g.S.Source.faultless c.at-holder.result.places.source.now source c.args.part.at c.min-len.result c.fetch.result c.clear.new.self.items c.fetch.new.into.items c.at-holder.ensures.source c.clear.ensures.items
     c.fetch.ensures.appended c.fetch.ensures.unchanged c.fetch.ensures.lost c.in_ok-pass_over.ensures)) in
     let sound = sound_beside piece wanted outline c.fixed.result c.root.result c.mode.result start len text c.fixed.ensures of.0 of.1 c.root.ensures c.mode.ensures c.in-Ok.ensures.piece
     c.is_accepted.ensures.bytes c.is_accepted.ensures.accepted in
@@ -81,7 +81,7 @@ returns-in-Ok-clause-refused g c =
     let len : ℕ = c.args.part.len in
     let place : 1024 * (at / 1024) ≡ at = omega (arith, c.requires.aligned) in
     let given : IsPartAt (g.S.Source.contents source) (g.S.Source.faultless source) at c.min-len.result bytes =
-    subst (λ (s : List ℕ). IsPartAt (g.S.Source.contents source) (g.S.Source.faultless source) at c.min-len.result s) (sym c.as_slice-2.ensures.value) (part_by g.S.Source.contents g.S.Source.faultless c.new-holder.result.source.now source at c.min-len.result c.fetch.result c.clear.new.self.items c.fetch.new.into.items c.new-holder.ensures.source c.clear.ensures.items
+    subst (λ (s : List ℕ). IsPartAt (g.S.Source.contents source) (g.S.Source.faultless source) at c.min-len.result s) (sym c.as_slice-2.ensures.value) (part_by g.S.Source.contents g.S.Source.faultless c.at-holder.result.places.source.now source at c.min-len.result c.fetch.result c.clear.new.self.items c.fetch.new.into.items c.at-holder.ensures.source c.clear.ensures.items
     c.fetch.ensures.appended c.fetch.ensures.unchanged c.fetch.ensures.lost c.in_ok-pass_over.ensures) in
     let valid : AreBytes bytes = subst AreBytes (c.as_slice.ensures.value ∙ sym c.as_slice-2.ensures.value) c.bytes_are.ensures in
     let size : c.min-len.result ≡ bare_len (outline_claimed outline) at (bare_part (chunk_count len)) =
@@ -109,7 +109,7 @@ returns-in-Err-clause-refused g c = λ _ span.
     let len : ℕ = c.args.part.len in
     let place : at ≡ 1024 * (at / 1024) = omega (arith, c.requires.aligned) in
     let given : IsPartAt (g.S.Source.contents source) (g.S.Source.faultless source) at c.min-len.result bytes =
-    subst (λ (s : List ℕ). IsPartAt (g.S.Source.contents source) (g.S.Source.faultless source) at c.min-len.result s) (sym c.as_slice-2.ensures.value) (part_by g.S.Source.contents g.S.Source.faultless c.new-holder.result.source.now source at c.min-len.result c.fetch.result c.clear.new.self.items c.fetch.new.into.items c.new-holder.ensures.source c.clear.ensures.items
+    subst (λ (s : List ℕ). IsPartAt (g.S.Source.contents source) (g.S.Source.faultless source) at c.min-len.result s) (sym c.as_slice-2.ensures.value) (part_by g.S.Source.contents g.S.Source.faultless c.at-holder.result.places.source.now source at c.min-len.result c.fetch.result c.clear.new.self.items c.fetch.new.into.items c.at-holder.ensures.source c.clear.ensures.items
     c.fetch.ensures.appended c.fetch.ensures.unchanged c.fetch.ensures.lost c.in_ok-pass_over.ensures) in
     let valid : AreBytes bytes = subst AreBytes (c.as_slice.ensures.value ∙ sym c.as_slice-2.ensures.value) c.bytes_are.ensures in
     let size : c.min-len.result ≡ bare_len (outline_claimed outline) at (bare_part (chunk_count len)) =

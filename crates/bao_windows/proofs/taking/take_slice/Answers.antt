@@ -16,7 +16,7 @@ returns-in-Ok-clause-took g c =
     let source = c.index-sources-place.result in
     let there : slice_get c.args.sources.now c.args.place ≡ Some source = there_at c.args.sources.now c.args.place source c.requires.place c.index-sources-place.is in
     let cut : IsCutAt (g.S.Source.contents source) (g.S.Source.faultless source) c.args.part.at c.args.span text =
-    subst (λ (s : List ℕ). IsCutAt (g.S.Source.contents source) (g.S.Source.faultless source) c.args.part.at c.args.span s) (sym c.as_slice-2.ensures.value) (cut_by g.S.Source.contents g.S.Source.faultless c.new-holder.result.source.now source c.args.part.at c.args.span c.fetch.result c.clear.new.self.items c.fetch.new.into.items c.new-holder.ensures.source c.clear.ensures.items
+    subst (λ (s : List ℕ). IsCutAt (g.S.Source.contents source) (g.S.Source.faultless source) c.args.part.at c.args.span s) (sym c.as_slice-2.ensures.value) (cut_by g.S.Source.contents g.S.Source.faultless c.at-holder.result.places.source.now source c.args.part.at c.args.span c.fetch.result c.clear.new.self.items c.fetch.new.into.items c.at-holder.ensures.source c.clear.ensures.items
     c.fetch.ensures.appended c.fetch.ensures.unchanged c.fetch.ensures.lost c.in_ok-pass_over.ensures) in
     let bytes : AreBytes text = subst AreBytes (c.as_slice.ensures.value ∙ sym c.as_slice-2.ensures.value) c.bytes_are.ensures in
     let piece : Checked = c.in-Ok.piece in
@@ -35,7 +35,7 @@ returns-in-Ok-clause-refused g c =
     let source = c.index-sources-place.result in
     let there : slice_get c.args.sources.now c.args.place ≡ Some source = there_at c.args.sources.now c.args.place source c.requires.place c.index-sources-place.is in
     let cut : IsCutAt (g.S.Source.contents source) (g.S.Source.faultless source) c.args.part.at c.args.span text =
-    subst (λ (s : List ℕ). IsCutAt (g.S.Source.contents source) (g.S.Source.faultless source) c.args.part.at c.args.span s) (sym c.as_slice-2.ensures.value) (cut_by g.S.Source.contents g.S.Source.faultless c.new-holder.result.source.now source c.args.part.at c.args.span c.fetch.result c.clear.new.self.items c.fetch.new.into.items c.new-holder.ensures.source c.clear.ensures.items
+    subst (λ (s : List ℕ). IsCutAt (g.S.Source.contents source) (g.S.Source.faultless source) c.args.part.at c.args.span s) (sym c.as_slice-2.ensures.value) (cut_by g.S.Source.contents g.S.Source.faultless c.at-holder.result.places.source.now source c.args.part.at c.args.span c.fetch.result c.clear.new.self.items c.fetch.new.into.items c.at-holder.ensures.source c.clear.ensures.items
     c.fetch.ensures.appended c.fetch.ensures.unchanged c.fetch.ensures.lost c.in_ok-pass_over.ensures) in
     let bytes : AreBytes text = subst AreBytes (c.as_slice.ensures.value ∙ sym c.as_slice-2.ensures.value) c.bytes_are.ensures in
     let piece : Checked = c.in-Ok.piece in
@@ -53,7 +53,7 @@ returns-in-Err-clause-refused g c = λ _.
     let source = c.index-sources-place.result in
     let there : slice_get c.args.sources.now c.args.place ≡ Some source = there_at c.args.sources.now c.args.place source c.requires.place c.index-sources-place.is in
     let cut : IsCutAt (g.S.Source.contents source) (g.S.Source.faultless source) c.args.part.at c.args.span text =
-    subst (λ (s : List ℕ). IsCutAt (g.S.Source.contents source) (g.S.Source.faultless source) c.args.part.at c.args.span s) (sym c.as_slice-2.ensures.value) (cut_by g.S.Source.contents g.S.Source.faultless c.new-holder.result.source.now source c.args.part.at c.args.span c.fetch.result c.clear.new.self.items c.fetch.new.into.items c.new-holder.ensures.source c.clear.ensures.items
+    subst (λ (s : List ℕ). IsCutAt (g.S.Source.contents source) (g.S.Source.faultless source) c.args.part.at c.args.span s) (sym c.as_slice-2.ensures.value) (cut_by g.S.Source.contents g.S.Source.faultless c.at-holder.result.places.source.now source c.args.part.at c.args.span c.fetch.result c.clear.new.self.items c.fetch.new.into.items c.at-holder.ensures.source c.clear.ensures.items
     c.fetch.ensures.appended c.fetch.ensures.unchanged c.fetch.ensures.lost c.in_ok-pass_over.ensures) in
     let bytes : AreBytes text = subst AreBytes (c.as_slice.ensures.value ∙ sym c.as_slice-2.ensures.value) c.bytes_are.ensures in
     refuses g.S.Source.contents g.S.Source.faultless wanted c.args.sources.now c.args.part.at c.args.part.len c.args.span c.args.place source text c.requires.form there bytes cut
