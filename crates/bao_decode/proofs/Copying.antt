@@ -1,9 +1,16 @@
 -- A plain copy that is verified in one pass, and written in a second.
 use Rattle.std.specs.Borrow.{Bor}
-use Rattle.std.proofs.Common.{◌≡◌, ℕ, List, length, take, Option, Some, None, Result, Ok, Err, IfErr, IfOk, IfSome, inl, inr, refl, sym, subst, ◌∙◌, ap, arith}
+use Rattle.std.proofs.Common.{◌≡◌, ℕ, ◌+◌, ◌-◌, ◌^◌, ◌<◌, min, List, length, take, Option, Some, None, Result, Ok, Err, IfErr, IfOk, IfSome, inl, inr, refl, sym, subst, ◌∙◌, ap, arith}
 use Rattle.std.proofs.KnownBytes.{Appends-kept, Appends-nil, Keeps-refl}
-use Rattle.std.proofs.lemmas.List.{take_all}
+use Rattle.std.proofs.lemmas.List.{length-take, take_all}
 use Rattle.std.specs.Io.KnownBytes.{Appends, Keeps}
+use Rattle.b3tree.specs.declared.mode.Mode.{Mode}
+use Rattle.bao_text.specs.Choice.{chunk_count}
+use Rattle.bao_text.specs.Cut.{claimed}
+use Rattle.bao_check.specs.Accepted.{IsAccepted, outboard_nodes}
+use Rattle.bao_check.specs.Bare.{AreBare, IsBareFault}
+use Rattle.bao_check.specs.Outline.{IsOutline, outline_claimed, outline_root, outline_text}
+use Rattle.bao_files.specs.Disks.{FileState, Unknown, Absent, Stored, AreOf}
 use Rattle.bao_check.specs.declared.fault.CheckFault.{CheckFault}
 use Rattle.bao_check.specs.declared.fault.CheckFault.TheVariants as check
 use Rattle.bao_check.specs.declared.outline.Outline.{Outline}
@@ -12,7 +19,7 @@ use Rattle.bao_decode.specs.declared.decode_fault.DecodeFault.{DecodeFault}
 use Rattle.bao_decode.specs.declared.decode_fault.DecodeFault.TheVariants as decode
 use Rattle.bao_decode.specs.declared.copy_pass.PassFault.{PassFault}
 use Rattle.bao_decode.specs.declared.copy_pass.PassFault.TheVariants.{Check, Input, Output}
-use Rattle.bao_decode.specs.Copies.{CopiesKnown, LeavesCopy, LeavesUnknown}
+use Rattle.bao_decode.specs.Copies.{BesideStops, CopiesKnown, CopyStops, IsCopyBeside, IsEnoughOf, LeavesCopy, LeavesUnknown}
 use Rattle.bao_decode.specs.CopyPass.{IsCopyFault, IsGoodCopy, IsWholeCopy, PassStops, first_fault_of, second_fault_of}
 
 -- a copy that is accepted has no first fault
@@ -88,3 +95,63 @@ pub flushed_unknown : (file path : Bor (List ℕ)) (old new : Option (List ℕ))
     → IfErr result (LeavesUnknown file path old new)
 flushed_unknown file path old new (Ok answer) is = tt
 flushed_unknown file path old new (Err fault) is = subst (LeavesUnknown file path old new) (sym is) (inr (inr refl))
+
+-- what was written of a copy is what the contents have, where these are known
+pub copied_known : (o : Outline) (contents : Option (List ℕ)) (faultless : Type 0) (file path : Bor (List ℕ)) (old new : Option (List ℕ)) (result : Result ℕ DecodeFault)
+    → IfOk result (λ count. (bytes : List ℕ) × IsGoodCopy o bytes × (count ≡ length bytes) × Appends old new bytes)
+    → IfSome contents (λ s. CopiesKnown o faultless s file path old new result)
+    → IfOk result (λ count. (bytes : List ℕ) × IfSome contents (λ s. bytes ≡ s) × IsGoodCopy o bytes × (count ≡ length bytes) × Appends old new bytes)
+copied_known o None faultless file path old new (Ok count) some known = (some.0, tt, some.1, some.2, some.3)
+copied_known o (Some s) faultless file path old new (Ok count) some known = (s, refl, known.0, known.1, known.2)
+copied_known o None faultless file path old new (Err fault) some known = tt
+copied_known o (Some s) faultless file path old new (Err fault) some known = tt
+
+-- known bytes of which one more was asked for than a good copy has are all, where they are a good copy
+kept_whole : (o : Outline) (bytes s : List ℕ) → length bytes < 2 ^ 64 - 1 → bytes ≡ take (min (outline_claimed o + 1) (2 ^ 64 - 1)) s → IsGoodCopy o bytes → bytes ≡ s
+kept_whole o bytes s low is good =
+    let limit : ℕ = min (outline_claimed o + 1) (2 ^ 64 - 1) in
+    is ∙ take_all limit s (omega (arith, low, good.ends, ap length is, length-take limit s))
+
+pub kept_known : (o : Outline) (remaining : Option (List ℕ)) (bytes seen : List ℕ) (faultless : Type 0) (file path : Bor (List ℕ)) (old new : Option (List ℕ)) (result : Result ℕ DecodeFault)
+    → seen ≡ bytes → length seen < 2 ^ 64 - 1 → IfSome remaining (λ s. bytes ≡ take (min (outline_claimed o + 1) (2 ^ 64 - 1)) s)
+    → CopiesKnown o faultless seen file path old new result
+    → IfOk result (λ count. (bytes : List ℕ) × IfSome remaining (λ s. bytes ≡ s) × IsGoodCopy o bytes × (count ≡ length bytes) × Appends old new bytes)
+kept_known o None bytes seen faultless file path old new (Ok count) same low most known = (seen, tt, known.0, known.1, known.2)
+kept_known o (Some s) bytes seen faultless file path old new (Ok count) same low most known = (seen, kept_whole o seen s low (same ∙ most) known.0, known.0, known.1, known.2)
+kept_known o remaining bytes seen faultless file path old new (Err fault) same low most known = tt
+
+-- an accepted outboard encoding is all that the file has
+pub whole_of : (mode : Mode) (root : List ℕ) (state : FileState) (text : List ℕ) → IsEnoughOf mode root state text → IsAccepted mode root text (outboard_nodes text) → AreOf state text
+whole_of mode root Unknown text enough accepted = tt
+whole_of mode root Absent text enough accepted = absurd enough
+whole_of mode root (Stored all) text enough accepted = enough.whole accepted
+
+-- a copy beside an outline is one beside the encoding that the outline is
+pub beside_of : (o : Outline) (mode : Mode) (root text bytes : List ℕ) → IsOutline o mode root text → IsAccepted mode root text (outboard_nodes text) → IsGoodCopy o bytes
+    → IsCopyBeside mode root text bytes
+beside_of o mode root text bytes is accepted good = (
+  accepted,
+  subst (λ (t : List ℕ). AreBare mode root t 0 (chunk_count (claimed t)) bytes) is.text_is
+      (subst (λ (r : List ℕ). AreBare mode r (outline_text o) 0 (chunk_count (claimed (outline_text o))) bytes) is.root_is
+      (subst (λ (m : Mode). AreBare m (outline_root o) (outline_text o) 0 (chunk_count (claimed (outline_text o))) bytes) is.mode_is good)),
+)
+
+-- so is its fault
+fault_beside : (o : Outline) (mode : Mode) (root text bytes : List ℕ) (fault : CheckFault) → IsOutline o mode root text → IsCopyFault o bytes fault
+    → IsBareFault mode root text 0 (chunk_count (claimed text)) bytes fault
+fault_beside o mode root text bytes fault is h =
+    subst (λ (t : List ℕ). IsBareFault mode root t 0 (chunk_count (claimed t)) bytes fault) is.text_is
+    (subst (λ (r : List ℕ). IsBareFault mode r (outline_text o) 0 (chunk_count (claimed (outline_text o))) bytes fault) is.root_is
+    (subst (λ (m : Mode). IsBareFault m (outline_root o) (outline_text o) 0 (chunk_count (claimed (outline_text o))) bytes fault) is.mode_is h))
+
+pub beside_stops : (o : Outline) (mode : Mode) (root text outline bytes : List ℕ) (input disk : Type 0) (outboard file path : Bor (List ℕ)) (fault : DecodeFault) → IsOutline o mode root text
+    → IsAccepted mode root text (outboard_nodes text) → text ≡ outline → (disk → input) → CopyStops o input bytes file path fault
+    → BesideStops mode root disk outline bytes outboard file path fault
+beside_stops o mode root text outline bytes input disk outboard file path (decode.File fault) is accepted same sure (inl memory) = inl memory
+beside_stops o mode root text outline bytes input disk outboard file path (decode.File fault) is accepted same sure (inr (inl read)) = inr (inr (inl (read.0, λ d. read.1 (sure d))))
+beside_stops o mode root text outline bytes input disk outboard file path (decode.File fault) is accepted same sure (inr (inr write)) = inr (inr (inr write))
+beside_stops o mode root text outline bytes input disk outboard file path (decode.Check fault) is accepted same sure stops =
+    inr (
+      subst (λ (t : List ℕ). IsAccepted mode root t (outboard_nodes t)) same accepted,
+      subst (λ (t : List ℕ). IsBareFault mode root t 0 (chunk_count (claimed t)) bytes fault) same (fault_beside o mode root text bytes fault is stops),
+    )

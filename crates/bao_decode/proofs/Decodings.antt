@@ -16,69 +16,72 @@ use Rattle.bao_decode.specs.declared.copy_pass.PassFault.{PassFault}
 use Rattle.bao_decode.specs.declared.copy_pass.PassFault.TheVariants.{Check, Input, Output}
 use Rattle.bao_decode.specs.CopyPass.{first_fault_of, only_fault_of, second_fault_of}
 use Rattle.bao_decode.specs.Ranges.{IsPartText, part_bytes, part_len, part_start, written_count}
-use Rattle.bao_decode.specs.TextPass.{DecodesKnown, DraftsKnown, IsTextFault, IsWholeText, LeavesDraft, LeavesText, NamesDraftPaths, TextStops, task_of_part}
+use Rattle.bao_decode.specs.TextPass.{DecodesKnown, DraftsKnown, IsDecoded, IsTextFault, IsWholeText, LeavesDraft, LeavesWritten, NamesDraftPaths, TextStops, WriteStops, WritesKnown, task_of_part}
 
-module _ (mode : Mode) (root : List ℕ) (part : Part) where
-  -- an encoding that is accepted has no first fault, but that it is too long
-  long_only : (s : List ℕ) (fault : CheckFault) → IsTextFault (task_of_part mode root part) s fault → IsPartText mode root part s → 2 ^ 63 ≤ length s
-  long_only s fault (inl h) accepted = absurd (first_fault-not_accepted mode root s (slice_nodes s (part_start part) (part_len part)) fault h accepted)
-  long_only s fault (inr h) accepted = h.1
+-- an encoding that is accepted has no first fault, but that it is too long
+long_only : (mode : Mode) (root : List ℕ) (part : Part) (s : List ℕ) (fault : CheckFault) → IsTextFault (task_of_part mode root part) s fault → IsPartText mode root part s → 2 ^ 63 ≤ length s
+long_only mode root part s fault (inl h) accepted = absurd (first_fault-not_accepted mode root s (slice_nodes s (part_start part) (part_len part)) fault h accepted)
+long_only mode root part s fault (inr h) accepted = h.1
 
+-- a pass over an encoding writes so much of it
+module _ (what : List ℕ → List ℕ) (mode : Mode) (root : List ℕ) (part : Part) where
   -- the first pass ended early
   pub text_first : (contents : Option (List ℕ)) (faultless : Type 0) (file path : Bor (List ℕ)) (old some more : Option (List ℕ)) (fault : PassFault) (answer : DecodeFault)
-      → answer ≡ first_fault_of file fault → IfSome contents (λ s. TextStops (task_of_part mode root part) faultless part s some more fault)
-      → IfSome contents (λ s. DecodesKnown mode root part faultless s file path old old (Err answer))
+      → answer ≡ first_fault_of file fault → IfSome contents (λ s. WriteStops what (task_of_part mode root part) faultless s some more fault)
+      → IfSome contents (λ s. WritesKnown what mode root part faultless s file path old old (Err answer))
   text_first None faultless file path old some more fault answer is stops = tt
   text_first (Some s) faultless file path old some more (Check f) answer is stops =
-      subst (LeavesText mode root part faultless s file path old old) (sym is) (stops.0, Keeps-refl old)
+      subst (LeavesWritten what mode root part faultless s file path old old) (sym is) (stops.0, Keeps-refl old)
   text_first (Some s) faultless file path old some more Input answer is stops =
-      subst (LeavesText mode root part faultless s file path old old) (sym is) (inr (inl (refl, inl stops.0, (0, Appends-nil old))))
+      subst (LeavesWritten what mode root part faultless s file path old old) (sym is) (inr (inl (refl, inl stops.0, (0, Appends-nil old))))
   text_first (Some s) faultless file path old some more Output answer is stops =
-      subst (LeavesText mode root part faultless s file path old old) (sym is) (inl (refl, Keeps-refl old))
+      subst (LeavesWritten what mode root part faultless s file path old old) (sym is) (inl (refl, Keeps-refl old))
 
   -- the second did
   pub text_second : (contents : Option (List ℕ)) (faultless : Type 0) (file path : Bor (List ℕ)) (old new : Option (List ℕ)) (fault : PassFault) (answer : DecodeFault)
-      → answer ≡ second_fault_of file path fault → IfSome contents (λ s. TextStops (task_of_part mode root part) faultless part s old new fault)
-      → IfSome contents (λ s. IsPartText mode root part s → DecodesKnown mode root part faultless s file path old new (Err answer))
+      → answer ≡ second_fault_of file path fault → IfSome contents (λ s. WriteStops what (task_of_part mode root part) faultless s old new fault)
+      → IfSome contents (λ s. IsPartText mode root part s → WritesKnown what mode root part faultless s file path old new (Err answer))
   text_second None faultless file path old new fault answer is stops = tt
   text_second (Some s) faultless file path old new (Check f) answer is stops = λ accepted.
-      subst (LeavesText mode root part faultless s file path old new) (sym is) (inr (inl (refl, inr (long_only s f stops.0 accepted), stops.1)))
+      subst (LeavesWritten what mode root part faultless s file path old new) (sym is) (inr (inl (refl, inr (long_only mode root part s f stops.0 accepted), stops.1)))
   text_second (Some s) faultless file path old new Input answer is stops = λ accepted.
-      subst (LeavesText mode root part faultless s file path old new) (sym is) (inr (inl (refl, inl stops.0, stops.1)))
+      subst (LeavesWritten what mode root part faultless s file path old new) (sym is) (inr (inl (refl, inl stops.0, stops.1)))
   text_second (Some s) faultless file path old new Output answer is stops = λ accepted.
-      subst (LeavesText mode root part faultless s file path old new) (sym is) (inr (inr (refl, accepted, stops)))
+      subst (LeavesWritten what mode root part faultless s file path old new) (sym is) (inr (inr (refl, accepted, stops)))
 
   -- all was written, and flushed or not
   pub text_flushed_some : (contents old mid new : Option (List ℕ)) (text : List ℕ) (count : ℕ) (result : Result ℕ DecodeFault) → IsWholeText contents mode root part text
-      → count ≡ written_count part text → Appends old mid (part_bytes part text) → Keeps mid new → IfOk result (λ answer. answer ≡ count)
-      → IfOk result (λ answer. (x : List ℕ) × IsPartText mode root part x × (answer ≡ written_count part x) × Appends old new (part_bytes part x))
-  text_flushed_some contents old mid new text count (Ok answer) whole is written kept same = (text, whole.accepted, same ∙ is, Appends-kept old mid new (part_bytes part text) written kept)
+      → count ≡ written_count part text → Appends old mid (what text) → Keeps mid new → IfOk result (λ answer. answer ≡ count)
+      → IfOk result (λ answer. (x : List ℕ) × IsPartText mode root part x × (answer ≡ written_count part x) × Appends old new (what x))
+  text_flushed_some contents old mid new text count (Ok answer) whole is written kept same = (text, whole.accepted, same ∙ is, Appends-kept old mid new (what text) written kept)
   text_flushed_some contents old mid new text count (Err fault) whole is written kept same = tt
 
   pub text_flushed_known : (contents : Option (List ℕ)) (faultless : Type 0) (file path : Bor (List ℕ)) (old mid new : Option (List ℕ)) (text : List ℕ) (count : ℕ)
-      (result : Result ℕ DecodeFault) → IsWholeText contents mode root part text → count ≡ written_count part text → Appends old mid (part_bytes part text) → Keeps mid new
+      (result : Result ℕ DecodeFault) → IsWholeText contents mode root part text → count ≡ written_count part text → Appends old mid (what text) → Keeps mid new
       → IfOk result (λ answer. answer ≡ count) → IfErr result (λ fault. fault ≡ decode.File (Write path))
-      → IfSome contents (λ s. IsPartText mode root part s → DecodesKnown mode root part faultless s file path old new result)
+      → IfSome contents (λ s. IsPartText mode root part s → WritesKnown what mode root part faultless s file path old new result)
   text_flushed_known None faultless file path old mid new text count result whole is written kept same fault_is = tt
   text_flushed_known (Some s) faultless file path old mid new text count (Ok answer) whole is written kept same fault_is = λ accepted. (
     accepted,
     same ∙ is ∙ ap (written_count part) whole.known,
-    subst (λ (x : List ℕ). Appends old new (part_bytes part x)) whole.known (Appends-kept old mid new (part_bytes part text) written kept),
+    subst (λ (x : List ℕ). Appends old new (what x)) whole.known (Appends-kept old mid new (what text) written kept),
   )
   text_flushed_known (Some s) faultless file path old mid new text count (Err fault) whole is written kept same fault_is = λ accepted.
-      let bytes : List ℕ = part_bytes part s in
-      let all : part_bytes part text ≡ take (length bytes) bytes = ap (part_bytes part) whole.known ∙ sym (take_all (length bytes) bytes (omega arith)) in
-      subst (LeavesText mode root part faultless s file path old new) (sym fault_is)
-      (inr (inr (refl, accepted, (length bytes, subst (Appends old new) all (Appends-kept old mid new (part_bytes part text) written kept)))))
+      let bytes : List ℕ = what s in
+      let all : what text ≡ take (length bytes) bytes = ap what whole.known ∙ sym (take_all (length bytes) bytes (omega arith)) in
+      subst (LeavesWritten what mode root part faultless s file path old new) (sym fault_is)
+      (inr (inr (refl, accepted, (length bytes, subst (Appends old new) all (Appends-kept old mid new (what text) written kept)))))
 
   -- known bytes that were verified are accepted
   pub text_after : (contents : Option (List ℕ)) (faultless : Type 0) (file path : Bor (List ℕ)) (old new : Option (List ℕ)) (text : List ℕ) (result : Result ℕ DecodeFault)
       → IsWholeText contents mode root part text
-      → IfSome contents (λ s. IsPartText mode root part s → DecodesKnown mode root part faultless s file path old new result)
-      → IfSome contents (λ s. DecodesKnown mode root part faultless s file path old new result)
+      → IfSome contents (λ s. IsPartText mode root part s → WritesKnown what mode root part faultless s file path old new result)
+      → IfSome contents (λ s. WritesKnown what mode root part faultless s file path old new result)
   text_after None faultless file path old new text result whole h = tt
   text_after (Some s) faultless file path old new text result whole h = h (subst (IsPartText mode root part) whole.known whole.accepted)
 
+-- one pass over it writes what it has of the part
+module _ (mode : Mode) (root : List ℕ) (part : Part) where
   -- a pass that is the only one ended early
   pub draft_stopped : (contents : Option (List ℕ)) (faultless : Type 0) (file path : Bor (List ℕ)) (old new : Option (List ℕ)) (fault : PassFault) (answer : DecodeFault)
       → answer ≡ only_fault_of file path fault → IfSome contents (λ s. TextStops (task_of_part mode root part) faultless part s old new fault)
@@ -106,6 +109,25 @@ module _ (mode : Mode) (root : List ℕ) (part : Part) where
       let all : part_bytes part text ≡ take (length bytes) bytes = ap (part_bytes part) whole.known ∙ sym (take_all (length bytes) bytes (omega arith)) in
       subst (LeavesDraft mode root part faultless s file path old new) (sym fault_is)
       (inr (inr (refl, (length bytes, subst (Appends old new) all (Appends-kept old mid new (part_bytes part text) written kept)))))
+
+  -- what was written of an encoding is what the contents have, where these are known
+  pub decoded_known : (contents : Option (List ℕ)) (faultless : Type 0) (file path : Bor (List ℕ)) (old new : Option (List ℕ)) (result : Result ℕ DecodeFault)
+      → IfOk result (λ count. (text : List ℕ) × IsPartText mode root part text × (count ≡ written_count part text) × Appends old new (part_bytes part text))
+      → IfSome contents (λ s. DecodesKnown mode root part faultless s file path old new result)
+      → IfOk result (λ count. (text : List ℕ) × IfSome contents (λ s. text ≡ s) × IsDecoded mode root part text count old new)
+  decoded_known None faultless file path old new (Ok count) some known = (some.0, tt, (some.1, some.2, some.3))
+  decoded_known (Some s) faultless file path old new (Ok count) some known = (s, refl, known)
+  decoded_known None faultless file path old new (Err fault) some known = tt
+  decoded_known (Some s) faultless file path old new (Err fault) some known = tt
+
+  pub drafted_known : (contents : Option (List ℕ)) (faultless : Type 0) (file path : Bor (List ℕ)) (old new : Option (List ℕ)) (result : Result ℕ DecodeFault)
+      → IfOk result (λ count. (text : List ℕ) × IsPartText mode root part text × (count ≡ written_count part text) × Appends old new (part_bytes part text))
+      → IfSome contents (λ s. DraftsKnown mode root part faultless s file path old new result)
+      → IfOk result (λ count. (text : List ℕ) × IfSome contents (λ s. text ≡ s) × IsDecoded mode root part text count old new)
+  drafted_known None faultless file path old new (Ok count) some known = (some.0, tt, (some.1, some.2, some.3))
+  drafted_known (Some s) faultless file path old new (Ok count) some known = (s, refl, known)
+  drafted_known None faultless file path old new (Err fault) some known = tt
+  drafted_known (Some s) faultless file path old new (Err fault) some known = tt
 
 -- the paths that a fault of such a pass names
 pub draft_names : (file path : Bor (List ℕ)) (fault : PassFault) (answer : DecodeFault) → answer ≡ only_fault_of file path fault → NamesDraftPaths file path answer

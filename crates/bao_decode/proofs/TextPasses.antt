@@ -27,7 +27,7 @@ use Rattle.bao_decode.specs.TextPass.{IsTextFault, IsWholeText, StopsAs, TextSto
 use Rattle.bao_decode.proofs.Ranges.{begins}
 
 -- known bytes begin with those that were given
-rest_of : (s text : List ℕ) → text ≡ take (length text) s → text ++ drop (length text) s ≡ s
+pub rest_of : (s text : List ℕ) → text ≡ take (length text) s → text ++ drop (length text) s ≡ s
 rest_of s text given = ap (λ (t : List ℕ). t ++ drop (length text) s) given ∙ take-append-drop (length text) s
 
 node_known : (task : CheckTask) (text s : List ℕ) (fault : CheckFault) → IsNodeFault task text fault → length text < 2 ^ 64 → text ≡ take (length text) s → IsTextFault task s fault

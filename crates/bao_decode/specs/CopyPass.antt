@@ -1,6 +1,6 @@
 -- What a pass over a plain copy has verified and written, beside an outline.
 use Rattle.std.specs.Borrow.{Bor}
-use Rattle.std.specs.Prelude.{◌≡◌, ℕ, ◌+◌, ◌-◌, ◌*◌, ◌^◌, ◌≤◌, min, List, length, Option, IfSome}
+use Rattle.std.specs.Prelude.{◌≡◌, ℕ, ◌+◌, ◌-◌, ◌*◌, ◌^◌, ◌<◌, ◌≤◌, min, List, length, Option, IfSome}
 use Rattle.bao_check.specs.Bare.{AreBare, AreGoodBare, IsBareFault}
 use Rattle.bao_check.specs.declared.fault.CheckFault.{CheckFault}
 use Rattle.bao_check.specs.declared.fault.CheckFault.TheVariants as check
@@ -75,3 +75,9 @@ abbrev pub only_fault_of : Bor (List ℕ) → Bor (List ℕ) → PassFault → D
 only_fault_of file path (Check fault) = decode.Check fault
 only_fault_of file path Input = decode.File (Read file)
 only_fault_of file path Output = decode.File (Write path)
+
+-- why the length at an encoding's start wasn't read: it isn't wholly there, or a read answered a fault, as none of a faultless source does
+abbrev pub StopsShort : Option (List ℕ) → Type 0 → PassFault → Type 0
+StopsShort contents faultless (Check fault) = (fault ≡ check.Short 0) × IfSome contents (λ s. length s < 8)
+StopsShort contents faultless Input = ¬ faultless
+StopsShort contents faultless Output = ⊥

@@ -2,4 +2,6 @@ pub mod Ranges
 pub mod Copies
 pub mod CopyPass
 pub mod TextPass
+pub mod Cutting
 pub mod DecodeFaults
+pub mod Opened

@@ -34,20 +34,28 @@ pub record IsWholeText (contents : Option (List ℕ)) (mode : Mode) (root : List
   pub accepted : IsPartText mode root part text
   pub known : IfSome contents (λ s. text ≡ s)
 
--- what a pass over these bytes leaves, where it ends early
+-- what a pass over these bytes leaves that writes so much of them, where it ends early
+abbrev pub WriteStops : (List ℕ → List ℕ) → CheckTask → Type 0 → List ℕ → Option (List ℕ) → Option (List ℕ) → PassFault → Type 0
+WriteStops what task faultless text old new (Check fault) = IsTextFault task text fault × AppendsBeginning old new (what text)
+WriteStops what task faultless text old new Input = (¬ faultless) × AppendsBeginning old new (what text)
+WriteStops what task faultless text old new Output = AppendsBeginning old new (what text)
+
+-- the same of a pass that writes what they have of the part
 abbrev pub TextStops : CheckTask → Type 0 → Part → List ℕ → Option (List ℕ) → Option (List ℕ) → PassFault → Type 0
-TextStops task faultless part text old new (Check fault) = IsTextFault task text fault × AppendsBeginning old new (part_bytes part text)
-TextStops task faultless part text old new Input = (¬ faultless) × AppendsBeginning old new (part_bytes part text)
-TextStops task faultless part text old new Output = AppendsBeginning old new (part_bytes part text)
+TextStops task faultless part text old new fault = WriteStops (part_bytes part) task faultless text old new fault
+
+-- and of one that writes the encoding itself
+abbrev pub EncodingStops : CheckTask → Type 0 → List ℕ → Option (List ℕ) → Option (List ℕ) → PassFault → Type 0
+EncodingStops task faultless text old new fault = WriteStops (λ all. all) task faultless text old new fault
 
 -- the first fault of an encoding, and nothing was written; or no memory, and nothing was; or a read answered a fault, which one that
 -- never fails doesn't, if it is no longer than any file; or the encoding is accepted, and writing to the other path failed
-abbrev pub LeavesText : Mode → List ℕ → Part → Type 0 → List ℕ → Bor (List ℕ) → Bor (List ℕ) → Option (List ℕ) → Option (List ℕ) → DecodeFault → Type 0
-LeavesText mode root part faultless text file path old new (decode.File fault) =
+abbrev pub LeavesWritten : (List ℕ → List ℕ) → Mode → List ℕ → Part → Type 0 → List ℕ → Bor (List ℕ) → Bor (List ℕ) → Option (List ℕ) → Option (List ℕ) → DecodeFault → Type 0
+LeavesWritten what mode root part faultless text file path old new (decode.File fault) =
     ((fault ≡ Memory) × Keeps old new)
-    ⊎ ((fault ≡ Read file) × ((¬ faultless) ⊎ (2 ^ 63 ≤ length text)) × AppendsBeginning old new (part_bytes part text))
-    ⊎ ((fault ≡ Write path) × IsPartText mode root part text × AppendsBeginning old new (part_bytes part text))
-LeavesText mode root part faultless text file path old new (decode.Check fault) = IsTextFault (task_of_part mode root part) text fault × Keeps old new
+    ⊎ ((fault ≡ Read file) × ((¬ faultless) ⊎ (2 ^ 63 ≤ length text)) × AppendsBeginning old new (what text))
+    ⊎ ((fault ≡ Write path) × IsPartText mode root part text × AppendsBeginning old new (what text))
+LeavesWritten what mode root part faultless text file path old new (decode.Check fault) = IsTextFault (task_of_part mode root part) text fault × Keeps old new
 
 -- what one pass leaves, each block of which is written once it was verified: the first fault of an encoding; or no memory, and nothing was
 -- written; or a read answered a fault, which one that never fails doesn't; or writing to the other path failed
@@ -64,14 +72,32 @@ abbrev pub NamesDraftPaths : Bor (List ℕ) → Bor (List ℕ) → DecodeFault �
 NamesDraftPaths file path (decode.File fault) = (fault ≡ Memory) ⊎ (fault ≡ Read file) ⊎ (fault ≡ Write path)
 NamesDraftPaths file path (decode.Check fault) = Unit {0}
 
--- an encoding of these bytes was accepted, and what it has of the part written, or not
+-- an encoding of these bytes was accepted, and so much of it written, or not
+abbrev pub WritesKnown : (List ℕ → List ℕ) → Mode → List ℕ → Part → Type 0 → List ℕ → Bor (List ℕ) → Bor (List ℕ) → Option (List ℕ) → Option (List ℕ) → Result ℕ DecodeFault → Type 0
+WritesKnown what mode root part faultless text file path old new (Ok count) =
+    IsPartText mode root part text × (count ≡ written_count part text) × Appends old new (what text)
+WritesKnown what mode root part faultless text file path old new (Err fault) = LeavesWritten what mode root part faultless text file path old new fault
+
+-- what it has of the part
 abbrev pub DecodesKnown : Mode → List ℕ → Part → Type 0 → List ℕ → Bor (List ℕ) → Bor (List ℕ) → Option (List ℕ) → Option (List ℕ) → Result ℕ DecodeFault → Type 0
-DecodesKnown mode root part faultless text file path old new (Ok count) =
-    IsPartText mode root part text × (count ≡ written_count part text) × Appends old new (part_bytes part text)
-DecodesKnown mode root part faultless text file path old new (Err fault) = LeavesText mode root part faultless text file path old new fault
+DecodesKnown mode root part faultless text file path old new result = WritesKnown (part_bytes part) mode root part faultless text file path old new result
+
+-- the encoding itself
+abbrev pub EncodesKnown : Mode → List ℕ → Part → Type 0 → List ℕ → Bor (List ℕ) → Bor (List ℕ) → Option (List ℕ) → Option (List ℕ) → Result ℕ DecodeFault → Type 0
+EncodesKnown mode root part faultless text file path old new result = WritesKnown (λ all. all) mode root part faultless text file path old new result
 
 -- the same of one pass
 abbrev pub DraftsKnown : Mode → List ℕ → Part → Type 0 → List ℕ → Bor (List ℕ) → Bor (List ℕ) → Option (List ℕ) → Option (List ℕ) → Result ℕ DecodeFault → Type 0
 DraftsKnown mode root part faultless text file path old new (Ok count) =
     IsPartText mode root part text × (count ≡ written_count part text) × Appends old new (part_bytes part text)
 DraftsKnown mode root part faultless text file path old new (Err fault) = LeavesDraft mode root part faultless text file path old new fault
+
+-- what a fault says of a file that holds these bytes: there was no memory; or a read of it answered a fault, which on a disk without faults none
+-- does; or writing to the other path failed; or this is the encoding's first fault
+abbrev pub DecodeStops : Mode → List ℕ → Part → Type 0 → List ℕ → Bor (List ℕ) → Bor (List ℕ) → DecodeFault → Type 0
+DecodeStops mode root part faultless text file path (decode.File fault) = (fault ≡ Memory) ⊎ ((fault ≡ Read file) × ¬ faultless) ⊎ (fault ≡ Write path)
+DecodeStops mode root part faultless text file path (decode.Check fault) = IsTextFault (task_of_part mode root part) text fault
+
+-- an encoding of these bytes was accepted, and what it has of the part, so many bytes, written
+abbrev pub IsDecoded : Mode → List ℕ → Part → List ℕ → ℕ → Option (List ℕ) → Option (List ℕ) → Type 0
+IsDecoded mode root part text count old new = IsPartText mode root part text × (count ≡ written_count part text) × Appends old new (part_bytes part text)

@@ -1,21 +1,24 @@
 // An encoding in a file.
 
-ghost use Rattle.std.specs.Prelude.{◌≡◌, ◌⊎◌, ◌^◌, ◌<◌, ℕ, List, [], IfErr, IfOk, IfSome, length, true, false};
+ghost use Rattle.std.specs.Prelude.{◌≡◌, ◌⊎◌, ◌^◌, ◌<◌, ℕ, List, [], IfErr, IfOk, IfSome, IsSome, OnErr, OnOk, Some, length, true, false};
 ghost use Rattle.std.specs.Borrow.{Bor};
 ghost use Rattle.std.specs.Io.KnownBytes.{Appends};
 ghost use Rattle.bao_check.specs.Checked.{IsPiece, piece_text};
+ghost use Rattle.bao_files.specs.Disks.{AreOf, Absent, IsKnown, KeepsFiles, Puts, Stored};
+ghost use Rattle.bao_files.specs.Extents.{extent_of};
+ghost use Rattle.bao_decode.specs.Opened.{IsNotThere, IsUnread};
 ghost use Rattle.bao_check.specs.declared.fault.CheckFault.TheVariants as CheckFault;
 ghost use Rattle.bao_decode.specs.Copies.{LeavesUnknown};
 ghost use Rattle.bao_decode.specs.DecodeFaults.{IsQuietDecode, NamesDecodePaths};
 ghost use Rattle.bao_decode.specs.Ranges.{IsFileFault, IsPartText, part_bytes, written_count};
-ghost use Rattle.bao_decode.specs.TextPass.{DecodesKnown, DraftsKnown, NamesDraftPaths};
+ghost use Rattle.bao_decode.specs.TextPass.{DecodeStops, DecodesKnown, DraftsKnown, IsDecoded, NamesDraftPaths};
 
 use crate::decode_fault::DecodeFault;
-use crate::plain_copy::{finished, first_fault, flushed, is_regular, only_fault, second_fault};
+use crate::plain_copy::{first_fault, flushed, only_fault, regular_len, second_fault, shown_len};
 use crate::text_pass::{BLOCK_LEN, slice_of, text_pass};
 use b3tree::{Hash, Mode};
-use bao_check::{CheckFault, Checked, check_stream};
-use bao_files::{FileFault, LateFile, Part, is_same_file, open_file};
+use bao_check::{CheckFault, Checked, check_stream, read_checked};
+use bao_files::{Disk, FileFault, Part, Progress, Shown, System};
 use bao_read::Source;
 use std::alloc::Global;
 use std::fs::File;
@@ -75,7 +78,7 @@ pub fn read_text<'a, R: Read>(
 }
 
 // Room for a block of an encoding, and for what it has of the blob.
-fn rooms(alloc: Global) -> Option<(Vec<u8>, Vec<u8>)>
+pub(crate) fn rooms(alloc: Global) -> Option<(Vec<u8>, Vec<u8>)>
     ensures { IfSome result (λ rooms. (length rooms.0.items ≡ 294912) × (length rooms.1.items ≡ 294912)) }
 {
     let Ok(block) = vec![in alloc; 0u8; BLOCK_LEN] else {
@@ -205,16 +208,18 @@ pub fn write_draft<'a, S: Source, W: Write>(
 
 // Reads the encoding in `input`, the file at `path`, into `text`, which is empty, and checks it node by node, since what isn't a
 // regular file may go on after a fault.
-fn read_input_text<'a>(
+fn read_input_text<'a, I: Read + Drop>(
     alloc: Global,
     mode: &Mode,
     root: &Hash,
     part: &Part,
-    input: File,
+    input: I,
     path: &'a str,
     text: &mut Vec<u8>,
 ) -> Result<(), DecodeFault<'a>>
     requires { text.old.items ≡ [] }
+    ensures accepted { OnOk result (IsPartText mode.now root.now.0 part.now text.new.items) }
+    ensures whole { OnOk result (IfSome (I.remaining input) (λ all. text.new.items ≡ all)) }
     ensures err { IfErr result IsQuietDecode }
     ensures paths { (other : Bor (List ℕ)) → IfErr result (NamesDecodePaths path.entry other) }
 {
@@ -222,25 +227,34 @@ fn read_input_text<'a>(
         return Err(DecodeFault::File(FileFault::Memory));
     };
     let (start, len) = slice_of(part);
-    match read_text(alloc, mode, root, start, len, &mut reader, text) {
-        Ok(_) => Ok(()),
-        Err(CheckFault::Reader) => Err(DecodeFault::File(FileFault::Read(path))),
-        Err(fault) => Err(DecodeFault::Check(fault)),
+    match read_checked(mode, root, start, len, &mut reader, text) {
+        Ok(()) => {}
+        Err(CheckFault::Reader) => return Err(DecodeFault::File(FileFault::Read(path))),
+        Err(fault) => return Err(DecodeFault::Check(fault)),
+    }
+    match has_more(&mut reader) {
+        Ok(false) => Ok(()),
+        Ok(true) => {
+            let at = text.len() as u64;
+            Err(DecodeFault::Check(CheckFault::Trailing { at }))
+        }
+        Err(_) => Err(DecodeFault::File(FileFault::Read(path))),
     }
 }
 
 // Writes what an encoding has of the part that can't be read twice: it is kept.
-fn write_kept<'a, W: Write>(
+fn write_kept<'a, I: Read + Drop, W: Write>(
     alloc: Global,
     mode: &Mode,
     root: &Hash,
     part: &Part,
-    input: File,
+    input: I,
     file: &'a str,
     out: &mut W,
     path: &'a str,
 ) -> Result<u64, DecodeFault<'a>>
-    ensures ok { IfOk result (λ count. (bytes : List ℕ) × IsPartText mode.now root.now.0 part.now bytes × (count ≡ written_count part.now bytes)) }
+    ensures ok { IfOk result (λ count. (text : List ℕ) × IfSome (I.remaining input) (λ all. text ≡ all)
+        × IsDecoded mode.now root.now.0 part.now text count (W.contents out.old) (W.contents out.new)) }
     ensures err { IfErr result IsQuietDecode }
     ensures paths { IfErr result (NamesDecodePaths file.entry path.entry) }
 {
@@ -264,70 +278,106 @@ fn write_kept<'a, W: Write>(
     )
 }
 
-// Verifies the encoding in `input`, the file at `file`, and writes what it has of the part to `out`, the file at `path`.
-fn write_input<'a, R: Files<File = File>>(
-    rt: &R,
+// Verifies the encoding in `input`, the file at `file`, from which nobody has read, and writes what it has of the part to `out`, the file at
+// `path`. How far a long regular one has been read is told to `progress`.
+fn write_input<'a, D: Disk, P: Progress>(
     alloc: Global,
+    disk: &D,
     mode: &Mode,
     root: &Hash,
     part: &Part,
-    input: File,
+    input: D::Input,
     file: &'a str,
-    out: &mut LateFile<'_, R>,
+    out: &mut D::Draft,
     path: &'a str,
+    progress: &P,
 ) -> Result<u64, DecodeFault<'a>>
-    ensures ok { IfOk result (λ count. (bytes : List ℕ) × IsPartText mode.now root.now.0 part.now bytes × (count ≡ written_count part.now bytes)) }
+    ensures ok { IfOk result (λ count. (text : List ℕ) × IsUnread (D.Input.contents input) (D.Input.remaining input) text
+        × IsDecoded mode.now root.now.0 part.now text count (D.Draft.contents out.old) (D.Draft.contents out.new)) }
+    ensures refused { IfErr result (λ fault. IsSome (D.Draft.contents out.old) → (text : List ℕ) → D.Input.contents input ≡ Some text
+        → DecodeStops mode.now root.now.0 part.now (D.Input.faultless input) text file.entry path.entry fault) }
     ensures err { IfErr result IsQuietDecode }
     ensures paths { IfErr result (NamesDecodePaths file.entry path.entry) }
 {
-    if !is_regular(&input) {
+    let Some(len) = regular_len(disk.extent(&input)) else {
+        return write_kept(alloc, mode, root, part, input, file, out, path);
+    };
+    let is_replaced = disk.is_replaced(out);
+    if !is_replaced && disk.is_same(&input, path) {
         return write_kept(alloc, mode, root, part, input, file, out, path);
     }
-    if out.is_replaced() {
-        return write_draft(alloc, mode, root, part, &input, file, out, path);
+    let shown = Shown::over(input, shown_len(len), progress);
+    if is_replaced {
+        write_draft(alloc, mode, root, part, &shown, file, out, path)
+    } else {
+        write_decoded(alloc, mode, root, part, &shown, file, out, path)
     }
-    if is_same_file(rt, &input, path) {
-        return write_kept(alloc, mode, root, part, input, file, out, path);
-    }
-    write_decoded(alloc, mode, root, part, &input, file, out, path)
 }
 
-/// Checks the encoding in the file as that of the part of the blob with this root, writes what it has of the part to the file at
-/// `path`, which it replaces ([`LateFile`]) once all was accepted, and answers how many bytes the part has.
+/// Checks the encoding in the file at `file` as that of the part of the blob with this root, writes what it has of the part to the file at
+/// `path`, which it replaces once all was accepted, both on `disk`, and answers how many bytes the part has.
 ///
-/// A regular file is read once, as `write_draft` does, and twice, as `write_decoded` does, where the output can't be replaced. Any other, as a pipe, is
-/// read node by node, since it may go on after a fault, and kept; and so is a file that an output which can't be replaced is
-/// written over, under whatever name.
+/// A regular file is read once, as `write_draft` does, and twice, as `write_decoded` does, where the output can't be replaced
+/// ([`Disk::is_replaced`]). Any other, as a pipe, is read node by node, since it may go on after a fault, and kept; and so is a file that an output
+/// which can't be replaced is written over, under whatever name. How far a regular file of 4 MiB or more has been read is told to `progress`, which
+/// has no part in the answer: once, where it is read twice.
 ///
-/// Refuses a file that can't be opened or read (`File` with `Read`), an encoding that is not accepted (`Check`), and an output
-/// that can't be made or written (`File` with `Write`). After each fault the file at `path` is as it was, but where it can't be
+/// Refuses a file that can't be opened or read (`File` with `Read`), an encoding that is not accepted (`Check`), by its first fault, and an output
+/// that can't be made or written (`File` with `Write`). After each fault all files are as they were, but one that can't be
 /// replaced: there a beginning may stand after a fault of writing it, and of an encoding that changes while it is read, and can't be read so.
-pub fn decode_file<'a, R: Files<File = File> + AllocGlobal>(
-    rt: &R,
+pub fn decode_on<'a, D: Disk, P: Progress>(
+    alloc: Global,
+    disk: &mut D,
     mode: &Mode,
     root: &Hash,
     part: &Part,
     file: &'a str,
     path: &'a str,
+    progress: &P,
 ) -> Result<u64, DecodeFault<'a>>
-    ensures ok { IfOk result (λ count. (bytes : List ℕ) × IsPartText mode.now root.now.0 part.now bytes × (count ≡ written_count part.now bytes)) }
+    ensures done { IfOk result (λ count. (text : List ℕ) × AreOf (D.at disk.old file.now) text × IsPartText mode.now root.now.0 part.now text
+        × (count ≡ written_count part.now text) × Puts (D.at disk.old) (D.at disk.new) path.now (Some (part_bytes part.now text))) }
+    ensures kept { OnErr result (KeepsFiles (D.at disk.old) (D.at disk.new)) }
+    ensures refused { IfErr result (λ fault. IsKnown (D.at disk.old path.now) → (text : List ℕ) → D.at disk.old file.now ≡ Stored text
+        → DecodeStops mode.now root.now.0 part.now (D.faultless disk.old) text file.entry path.entry fault) }
+    ensures absent { IfErr result (λ fault. D.at disk.old file.now ≡ Absent → IsNotThere file.entry fault) }
     ensures err { IfErr result IsQuietDecode }
     ensures paths { IfErr result (NamesDecodePaths file.entry path.entry) }
 {
-    let input = open_file(rt, file)?;
-    let Ok(mut out) = LateFile::new(rt, path) else {
+    let input = disk.open(file)?;
+    let Ok(mut out) = disk.draft(path) else {
         return Err(DecodeFault::File(FileFault::Memory));
     };
     let count = write_input(
-        rt,
+        alloc, disk, mode, root, part, input, file, &mut out, path, progress,
+    )?;
+    disk.finish(out, path)?;
+    Ok(count)
+}
+
+/// As [`decode_on`], on the system's own files. Nothing is known of what they hold.
+pub fn decode_file<'a, R: Files<File = File> + AllocGlobal, P: Progress>(
+    rt: &R,
+    mode: &Mode,
+    root: &Hash,
+    part: &Part,
+    file: &'a str,
+    path: &'a str,
+    progress: &P,
+) -> Result<u64, DecodeFault<'a>>
+    ensures ok { IfOk result (λ count. (bytes : List ℕ) × IsPartText mode.now root.now.0 part.now bytes × (count ≡ written_count part.now bytes)) }
+    ensures err { IfErr result IsQuietDecode }
+    ensures paths { IfErr result (NamesDecodePaths file.entry path.entry) }
+{
+    let mut system = System::new(rt);
+    decode_on(
         rt.alloc(),
+        &mut system,
         mode,
         root,
         part,
-        input,
         file,
-        &mut out,
         path,
-    )?;
-    finished(count, out, path)
+        progress,
+    )
 }

@@ -1,19 +1,29 @@
 // A plain copy beside an outboard encoding.
 
 ghost use Rattle.std.specs.Borrow.{Bor};
-ghost use Rattle.std.specs.Prelude.{◌≡◌, ◌⊎◌, ℕ, List, IfErr, IfOk, IfSome, length};
+ghost use Rattle.std.specs.Prelude.{◌≡◌, ◌⊎◌, ◌+◌, ◌-◌, ◌*◌, ◌^◌, ◌<◌, ◌≤◌, ℕ, List, IfErr, IfOk, IfSome, IsSome, OnErr, Some, length, min, take};
 ghost use Rattle.std.specs.Io.KnownBytes.{Appends, Keeps};
 ghost use Rattle.bao_files.specs.declared.fault.FileFault.TheVariants as FileFault;
 ghost use Rattle.bao_decode.specs.declared.decode_fault.DecodeFault.TheVariants as DecodeFault;
-ghost use Rattle.bao_decode.specs.Copies.{CopiesKnown, IsCopy, LeavesUnknown};
+ghost use Rattle.bao_check.specs.Accepted.{IsAccepted, outboard_nodes};
+ghost use Rattle.bao_check.specs.Faults.{IsShortAt};
+ghost use Rattle.bao_check.specs.Outline.{outline_claimed};
+ghost use Rattle.bao_text.specs.Choice.{chunk_count};
+ghost use Rattle.bao_text.specs.Cut.{claimed};
+ghost use Rattle.bao_files.specs.Disks.{AreOf, Absent, IsKnown, IsStored, KeepsFiles, Puts, Stored};
+ghost use Rattle.bao_files.specs.Extents.{extent_of};
+ghost use Rattle.bao_decode.specs.Copies.{BesideStops, CopiesKnown, CopyStops, IsCopy, IsCopyBeside, IsEnough, IsEnoughOf, LeavesUnknown};
+ghost use Rattle.bao_decode.specs.Opened.{IsNotThere, IsUnread};
 ghost use Rattle.bao_decode.specs.CopyPass.{IsGoodCopy, first_fault_of, only_fault_of, second_fault_of};
 ghost use Rattle.bao_decode.specs.DecodeFaults.{IsQuietDecode, NamesDecodePaths, NamesEither};
 
-use crate::copy_pass::{PassFault, ROOM_LEN, copy_pass};
+use crate::copy_pass::{PassFault, ROOM_LEN, copy_pass, fill_most};
 use crate::decode_fault::DecodeFault;
 use b3tree::{Hash, Mode};
 use bao_check::{CheckFault, Outline, check_outboard};
-use bao_files::{FileFault, LateFile, ReadFault, is_same_file, open_file, read_sized, read_whole};
+use bao_files::{
+    Disk, Extent, FileFault, LateFile, Progress, ReadFault, Shown, System, read_whole,
+};
 use bao_read::Source;
 use bao_text::{LENGTH_LEN, claimed, outboard_len};
 use std::alloc::Global;
@@ -24,6 +34,9 @@ use std::rt::Files;
 
 // So many bytes of an outboard encoding are looked at before more is read.
 const FIRST_LEN: u64 = 1 << 16;
+
+// How far a file of fewer bytes has been read isn't told.
+const LEAST_SHOWN_LEN: u64 = 4 << 20;
 
 // A fault of reading, as one of the program.
 fn read_fault<'a>(fault: ReadFault, path: &'a str) -> FileFault<'a>
@@ -37,20 +50,116 @@ fn read_fault<'a>(fault: ReadFault, path: &'a str) -> FileFault<'a>
 
 // How many bytes of an outboard encoding matter that begins so: as many as it claims to have, and one more, which it must not
 // have. No more matter where it is refused for its beginning.
-fn outboard_limit(alloc: Global, mode: &Mode, root: &Hash, text: &[u8]) -> u64 {
-    let refused = match check_outboard(alloc, mode, root, text) {
-        Err(CheckFault::Mismatch { .. }) | Err(CheckFault::Trailing { .. }) => true,
-        _ => text.len() < LENGTH_LEN,
-    };
-    if refused {
+fn outboard_limit(alloc: Global, mode: &Mode, root: &Hash, text: &[u8]) -> u64
+    ensures accepted { IsAccepted mode.now root.now.0 text.now (outboard_nodes text.now) → length text.now < result }
+    ensures claims { 0 < result → (8 ≤ length text.now) × (result ≡ 8 + 64 * (chunk_count (claimed text.now) - 1) + 1) }
+    ensures refused { result ≡ 0 → (8 ≤ length text.now) → (at : ℕ) → ¬ IsShortAt mode.now root.now.0 text.now (outboard_nodes text.now) at }
+{
+    if text.len() < LENGTH_LEN {
         return 0;
+    }
+    match check_outboard(alloc, mode, root, text) {
+        Err(CheckFault::Mismatch { .. }) => return 0,
+        Err(CheckFault::Trailing { .. }) => return 0,
+        _ => {}
     }
     u64::try_from(outboard_len(claimed(text)) + 1).unwrap_or(u64::MAX)
 }
 
-// What matters of the outboard encoding in the file at `path`: its first 64 KiB, and if these are good, as many bytes as it claims
-// to have, and one.
-pub fn read_outboard<'a, R: Files + AllocGlobal>(
+// The first bytes of what is read by position, so many, or all where these are fewer.
+fn front_of<'a, S: Source>(
+    alloc: Global,
+    source: &S,
+    len: u64,
+    path: &'a str,
+) -> Result<Vec<u8>, FileFault<'a>>
+    ensures front { IfOk result (λ text. IfSome (S.contents source.now) (λ s. text.items ≡ take len s)) }
+    ensures fault { IfErr result (λ fault. (fault ≡ FileFault.Memory) ⊎ ((fault ≡ FileFault.Read path.entry) × ¬ S.faultless source.now)) }
+{
+    let Ok(mut text) = vec![in alloc; 0u8; len as usize] else {
+        return Err(FileFault::Memory);
+    };
+    match fill_most(source, 0, text.as_mut_slice()) {
+        Ok(count) => {
+            text.truncate(count);
+            Ok(text)
+        }
+        Err(_) => Err(FileFault::Read(path)),
+    }
+}
+
+// What matters of an outboard encoding in a regular file, which is said to have `size` bytes.
+fn placed_outboard<'a, S: Source>(
+    alloc: Global,
+    mode: &Mode,
+    root: &Hash,
+    source: &S,
+    size: u64,
+    path: &'a str,
+) -> Result<Vec<u8>, FileFault<'a>>
+    ensures enough { IfOk result (λ text. IfSome (S.contents source.now) (λ s. length s ≡ size → IsEnough mode.now root.now.0 s text.items)) }
+    ensures fault { IfErr result (λ fault. (fault ≡ FileFault.Memory) ⊎ ((fault ≡ FileFault.Read path.entry) × ¬ S.faultless source.now)) }
+{
+    let text = front_of(alloc, source, FIRST_LEN, path)?;
+    let limit = outboard_limit(alloc, mode, root, text.as_slice());
+    if limit <= text.len() as u64 {
+        return Ok(text);
+    }
+    let most = limit.min(size.saturating_add(1));
+    let more = front_of(alloc, source, most, path)?;
+    if more.len() as u64 <= size {
+        return Ok(more);
+    }
+    // It has more than it is said to have.
+    front_of(alloc, source, limit, path)
+}
+
+// What matters of one that can't be read by position, as one from a pipe.
+fn streamed_outboard<'a, I: Read + Drop>(
+    alloc: Global,
+    mode: &Mode,
+    root: &Hash,
+    input: I,
+    path: &'a str,
+) -> Result<Vec<u8>, FileFault<'a>>
+    ensures { IfErr result (λ fault. (fault ≡ FileFault.Memory) ⊎ (fault ≡ FileFault.Read path.entry)) }
+{
+    let mut text = Vec::new(alloc);
+    let mut reader = input.take(FIRST_LEN);
+    match read_whole(&mut reader, &mut text) {
+        Ok(()) => {}
+        Err(fault) => return Err(read_fault(fault, path)),
+    }
+    let limit = outboard_limit(alloc, mode, root, text.as_slice());
+    reader.set_limit(limit.saturating_sub(text.len() as u64));
+    match read_whole(&mut reader, &mut text) {
+        Ok(()) => Ok(text),
+        Err(fault) => Err(read_fault(fault, path)),
+    }
+}
+
+/// What matters of the outboard encoding in the file at `path` on `disk`: its first 64 KiB, and if these are good, as many bytes as it
+/// claims to have, and one. So it is all of the file, where it is accepted, and has the file's first fault, where it isn't.
+pub fn read_outboard_on<'a, D: Disk>(
+    alloc: Global,
+    disk: &D,
+    mode: &Mode,
+    root: &Hash,
+    path: &'a str,
+) -> Result<Vec<u8>, FileFault<'a>>
+    ensures enough { IfOk result (λ text. IsEnoughOf mode.now root.now.0 (D.at disk.now path.now) text.items) }
+    ensures fault { IfErr result (λ fault. (fault ≡ FileFault.Memory) ⊎ (fault ≡ FileFault.Read path.entry)) }
+    ensures there { IfErr result (λ fault. D.faultless disk.now → IsStored (D.at disk.now path.now) → fault ≡ FileFault.Memory) }
+{
+    let file = disk.open(path)?;
+    match regular_len(disk.extent(&file)) {
+        Some(size) => placed_outboard(alloc, mode, root, &file, size, path),
+        None => streamed_outboard(alloc, mode, root, file, path),
+    }
+}
+
+/// As [`read_outboard_on`], on the system's own files. Nothing is known of what they hold.
+pub fn read_outboard<'a, R: Files<File = File> + AllocGlobal>(
     rt: &R,
     mode: &Mode,
     root: &Hash,
@@ -58,24 +167,8 @@ pub fn read_outboard<'a, R: Files + AllocGlobal>(
 ) -> Result<Vec<u8>, FileFault<'a>>
     ensures { IfErr result (λ fault. (fault ≡ FileFault.Memory) ⊎ (fault ≡ FileFault.Read path.entry)) }
 {
-    let file = open_file(rt, path)?;
-    let size = match file.metadata() {
-        Ok(metadata) => metadata.len(),
-        Err(_) => return Err(FileFault::Read(path)),
-    };
-    let mut text = Vec::new(rt.alloc());
-    let mut reader = file.take(FIRST_LEN);
-    match read_whole(&mut reader, &mut text) {
-        Ok(()) => {}
-        Err(fault) => return Err(read_fault(fault, path)),
-    }
-    let limit = outboard_limit(rt.alloc(), mode, root, text.as_slice());
-    let rest = limit.saturating_sub(text.len() as u64);
-    reader.set_limit(rest);
-    match read_sized(&mut reader, rest.min(size), &mut text) {
-        Ok(()) => Ok(text),
-        Err(fault) => Err(read_fault(fault, path)),
-    }
+    let system = System::new(rt);
+    read_outboard_on(rt.alloc(), &system, mode, root, path)
 }
 
 // A copy that can't be read by position, as one from a pipe: at most so many bytes as the outline claims, and one.
@@ -85,7 +178,8 @@ fn read_copy<'a, I: Read + Drop>(
     input: I,
     path: &'a str,
 ) -> Result<Vec<u8>, FileFault<'a>>
-    ensures { IfErr result (λ fault. (fault ≡ FileFault.Memory) ⊎ (fault ≡ FileFault.Read path.entry)) }
+    ensures most { IfOk result (λ bytes. IfSome (I.remaining input) (λ s. bytes.items ≡ take (min (outline_claimed outline.now + 1) (2 ^ 64 - 1)) s)) }
+    ensures fault { IfErr result (λ fault. (fault ≡ FileFault.Memory) ⊎ (fault ≡ FileFault.Read path.entry)) }
 {
     let mut reader = input.take(outline.claimed().saturating_add(1));
     let mut bytes = Vec::new(alloc);
@@ -201,60 +295,118 @@ pub(crate) fn is_regular<F: OpenFile>(file: &F) -> bool {
     }
 }
 
-// Verifies the copy in `input`, the file at `file`, and writes it to `out`, the file at `path`.
-fn write_input<'a, R: Files<File = File>>(
-    rt: &R,
+// How many bytes a regular file is said to have: only such a one is read by position.
+pub(crate) fn regular_len(extent: Option<Extent>) -> Option<u64>
+    ensures { (s : List ℕ) → extent ≡ Some (extent_of s) → result ≡ Some (length s) }
+{
+    match extent {
+        Some(extent) if extent.is_regular => Some(extent.len),
+        _ => None,
+    }
+}
+
+// The length of a file of which it is told how far it has been read: only that of a long one.
+pub(crate) fn shown_len(len: u64) -> Option<u64> {
+    (len >= LEAST_SHOWN_LEN).then_some(len)
+}
+
+// Verifies the copy in `input`, the file at `file`, from which nobody has read, and writes it to `out`, the file at `path`. How far a long regular
+// one has been read is told to `progress`.
+fn write_input<'a, D: Disk, P: Progress>(
     alloc: Global,
+    disk: &D,
     outline: &Outline<'_>,
-    input: File,
+    input: D::Input,
     file: &'a str,
-    out: &mut LateFile<'_, R>,
+    out: &mut D::Draft,
     path: &'a str,
+    progress: &P,
 ) -> Result<u64, DecodeFault<'a>>
-    ensures ok { IfOk result (λ count. (bytes : List ℕ) × IsGoodCopy outline.now bytes × (count ≡ length bytes)) }
+    ensures ok { IfOk result (λ count. (bytes : List ℕ) × IsUnread (D.Input.contents input) (D.Input.remaining input) bytes
+        × IsGoodCopy outline.now bytes × (count ≡ length bytes) × Appends (D.Draft.contents out.old) (D.Draft.contents out.new) bytes) }
+    ensures refused { IfErr result (λ fault. IsSome (D.Draft.contents out.old) → (bytes : List ℕ) → D.Input.contents input ≡ Some bytes
+        → CopyStops outline.now (D.Input.faultless input) bytes file.entry path.entry fault) }
     ensures err { IfErr result IsQuietDecode }
     ensures paths { IfErr result (NamesDecodePaths file.entry path.entry) }
 {
-    if is_regular(&input) && (out.is_replaced() || !is_same_file(rt, &input, path)) {
-        return write_copy(alloc, outline, &input, file, out, path);
+    if let Some(len) = regular_len(disk.extent(&input))
+        && (disk.is_replaced(out) || !disk.is_same(&input, path))
+    {
+        let shown = Shown::over(input, shown_len(len), progress);
+        return write_copy(alloc, outline, &shown, file, out, path);
     }
     let bytes = read_copy(alloc, outline, input, file)?;
     write_copy(alloc, outline, &bytes.as_slice(), file, out, path)
 }
 
-/// Checks the encoding in the file `outboard` as the outboard encoding of the blob with this root, verifies the plain copy beside
-/// it, writes that to the file at `path`, which it replaces ([`LateFile`]) once all was accepted, and answers how many bytes it has.
+/// Checks the encoding in the file at `outboard` as the outboard encoding of the blob with this root, verifies the plain copy at `copy` beside
+/// it, writes that to the file at `path`, which it replaces once all was accepted, all three on `disk`, and answers how many bytes it has.
 ///
 /// Of the outboard encoding no more is read than its first 64 KiB where these are refused, nor than one byte more than it claims to have.
 /// A copy that is a regular file is read twice, in pieces. Of any other, as a pipe, one byte more is read than the outboard encoding claims, and
-/// kept; and so it is of a copy that an output which can't be replaced is written over, under whatever name.
+/// kept; and so it is of a copy that an output which can't be replaced ([`Disk::is_replaced`]) is written over, under whatever name. How far a
+/// regular copy of 4 MiB or more has been read, the first time, is told to `progress`, which has no part in the answer.
 ///
 /// Refuses files that can't be opened or read (`File` with `Read`), the outboard encoding before the copy is opened, and the
 /// copy, each by its first fault (`Check`), and an output that can't be made or written (`File` with `Write`). A copy that
-/// changes while it is read can't be read. After each fault the file at `path` is as it was, but where it can't be replaced: there a
+/// changes while it is read can't be read. After each fault all files are as they were, but one that can't be replaced: there a
 /// beginning may stand after a fault of writing it, and of a copy that has changed.
-pub fn decode_copy<'a, R: Files<File = File> + AllocGlobal>(
+pub fn decode_copy_on<'a, D: Disk, P: Progress>(
+    alloc: Global,
+    disk: &mut D,
+    mode: &Mode,
+    root: &Hash,
+    outboard: &'a str,
+    copy: &'a str,
+    path: &'a str,
+    progress: &P,
+) -> Result<u64, DecodeFault<'a>>
+    ensures done { IfOk result (λ count. (outline : List ℕ) × (bytes : List ℕ) × AreOf (D.at disk.old outboard.now) outline × AreOf (D.at disk.old copy.now) bytes
+        × IsCopyBeside mode.now root.now.0 outline bytes × (count ≡ length bytes) × Puts (D.at disk.old) (D.at disk.new) path.now (Some bytes)) }
+    ensures kept { OnErr result (KeepsFiles (D.at disk.old) (D.at disk.new)) }
+    ensures refused { IfErr result (λ fault. IsKnown (D.at disk.old path.now) → (outline bytes : List ℕ) → D.at disk.old outboard.now ≡ Stored outline
+        → D.at disk.old copy.now ≡ Stored bytes → BesideStops mode.now root.now.0 (D.faultless disk.old) outline bytes outboard.entry copy.entry path.entry fault) }
+    ensures absent { IfErr result (λ fault. D.at disk.old outboard.now ≡ Absent → IsNotThere outboard.entry fault) }
+    ensures err { IfErr result IsQuietDecode }
+    ensures paths { IfErr result (NamesEither outboard.entry copy.entry path.entry) }
+{
+    let text = read_outboard_on(alloc, disk, mode, root, outboard)?;
+    let outline = match check_outboard(alloc, mode, root, text.as_slice()) {
+        Ok(outline) => outline,
+        Err(fault) => return Err(DecodeFault::Check(fault)),
+    };
+    let input = disk.open(copy)?;
+    let Ok(mut out) = disk.draft(path) else {
+        return Err(DecodeFault::File(FileFault::Memory));
+    };
+    let count = write_input(alloc, disk, &outline, input, copy, &mut out, path, progress)?;
+    disk.finish(out, path)?;
+    Ok(count)
+}
+
+/// As [`decode_copy_on`], on the system's own files. Nothing is known of what they hold.
+pub fn decode_copy<'a, R: Files<File = File> + AllocGlobal, P: Progress>(
     rt: &R,
     mode: &Mode,
     root: &Hash,
     outboard: &'a str,
     copy: &'a str,
     path: &'a str,
+    progress: &P,
 ) -> Result<u64, DecodeFault<'a>>
     ensures ok { IfOk result (λ count. (bytes : List ℕ) × IsCopy mode.now root.now.0 bytes × (count ≡ length bytes)) }
     ensures err { IfErr result IsQuietDecode }
     ensures paths { IfErr result (NamesEither outboard.entry copy.entry path.entry) }
 {
-    let alloc = rt.alloc();
-    let text = read_outboard(rt, mode, root, outboard)?;
-    let outline = match check_outboard(alloc, mode, root, text.as_slice()) {
-        Ok(outline) => outline,
-        Err(fault) => return Err(DecodeFault::Check(fault)),
-    };
-    let input = open_file(rt, copy)?;
-    let Ok(mut out) = LateFile::new(rt, path) else {
-        return Err(DecodeFault::File(FileFault::Memory));
-    };
-    let count = write_input(rt, alloc, &outline, input, copy, &mut out, path)?;
-    finished(count, out, path)
+    let mut system = System::new(rt);
+    decode_copy_on(
+        rt.alloc(),
+        &mut system,
+        mode,
+        root,
+        outboard,
+        copy,
+        path,
+        progress,
+    )
 }

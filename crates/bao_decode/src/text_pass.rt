@@ -36,7 +36,7 @@ pub(crate) fn slice_of(part: &Part) -> (u64, u64)
 }
 
 // The positions that are written, of a blob of `total` bytes: the first, and the one after the last.
-fn written_of(part: &Part, total: u64) -> (u64, u64)
+pub(crate) fn written_of(part: &Part, total: u64) -> (u64, u64)
     ensures first { result.0 ≡ first_written part.now total }
     ensures last { result.1 ≡ last_written part.now total }
     ensures order { result.0 ≤ result.1 }
@@ -65,15 +65,16 @@ fn between(bytes: &[u8], at: u64, from: u64, to: u64) -> &[u8]
     &bytes[start as usize..end as usize]
 }
 
-// Reads and verifies the length that an encoding begins with, and answers it and the check that has taken it.
-fn begin<S: Source>(
+// Reads and verifies the length that an encoding begins with, and answers its bytes and the check that has taken them.
+pub(crate) fn begin<S: Source>(
     mode: &Mode,
     root: &Hash,
     part: &Part,
     source: &S,
-) -> Result<(Checking, u64), PassFault>
-    ensures begun { IfOk result (λ begun. (header : List ℕ) × (length header ≡ 8) × GivenAt (S.contents source.now) 0 header
-        × HasDecodedAs begun.0 (task_of_part mode.now root.now.0 part.now) header [] × (begun.1 ≡ claimed header)) }
+) -> Result<(Checking, [u8; LENGTH_LEN]), PassFault>
+    ensures size { IfOk result (λ begun. length begun.1 ≡ 8) }
+    ensures given { IfOk result (λ begun. GivenAt (S.contents source.now) 0 begun.1) }
+    ensures decodes { IfOk result (λ begun. HasDecodedAs begun.0 (task_of_part mode.now root.now.0 part.now) begun.1 []) }
     ensures fault { IfErr result (λ fault. IfSome (S.contents source.now) (λ s. StopsAs (task_of_part mode.now root.now.0 part.now) (S.faultless source.now) s fault)) }
 {
     let (start, len) = slice_of(part);
@@ -84,14 +85,14 @@ fn begin<S: Source>(
         return Err(PassFault::Check(CheckFault::Short { at: 0 }));
     }
     match checking.take(&header) {
-        Ok(()) => Ok((checking, claimed(&header))),
+        Ok(()) => Ok((checking, header)),
         Err(fault) => Err(PassFault::Check(fault)),
     }
 }
 
 // Reads the encoding's bytes from the place `at` on, verifies the nodes that they begin with, and puts their chunks' bytes to the
 // front of the room. There is no block after the encoding's end.
-fn next_block<S: Source>(
+pub(crate) fn next_block<S: Source>(
     checking: &mut Checking,
     source: &S,
     at: u64,
@@ -103,7 +104,7 @@ fn next_block<S: Source>(
     ensures sizes { (length block.new ≡ length block.old) × (length room.new ≡ length room.old) }
     ensures some { IfOk result (λ next. IfSome next (λ step. (1 ≤ step.taken) × (step.filled ≤ step.taken) × (step.filled ≤ length room.new) × (at + step.taken ≤ 2 ^ 63 + 2 ^ 32))) }
     ensures step { (task : CheckTask) (taken blob : List ℕ) → HasDecodedAs checking.old task taken blob → at ≡ length taken
-        → IfOk result (λ next. IfSome next (λ step. (more : List ℕ) × (length more ≡ step.taken) × GivenAt (S.contents source.now) at more
+        → IfOk result (λ next. IfSome next (λ step. (more : List ℕ) × (length more ≡ step.taken) × (more ≡ take step.taken block.new) × GivenAt (S.contents source.now) at more
         × HasDecodedAs checking.new task (taken ++ more) (blob ++ take step.filled room.new))) }
     ensures last { (task : CheckTask) (taken blob : List ℕ) → HasDecodedAs checking.old task taken blob → at ≡ length taken
         → IfOk result (λ next. next ≡ None → IsAcceptedAs task taken × (decoded taken task.start task.len ≡ blob) × IfSome (S.contents source.now) (λ s. length s ≤ at)) }
@@ -150,7 +151,8 @@ pub(crate) fn text_pass<S: Source, W: Write>(
     ensures err { IfErr result (λ fault. IfSome (S.contents source.now) (λ s.
         TextStops (task_of_part mode.now root.now.0 part.now) (S.faultless source.now) part.now s (W.contents out.old) (W.contents out.new) fault)) }
 {
-    let (mut checking, total) = begin(mode, root, part, source)?;
+    let (mut checking, header) = begin(mode, root, part, source)?;
+    let total = claimed(&header);
     let (first, last) = written_of(part, total);
     let base = decoded_from(part, total);
     let (skip, end) = (first.saturating_sub(base), last.saturating_sub(base));

@@ -1,10 +1,11 @@
+use Rattle.bao_decode.specs.Ranges.{part_bytes}
 use Rattle.bao_decode.proofs.Decodings.{draft_flushed, draft_names, draft_stopped, flushed_names, text_flushed_some}
 use Rattle.bao_decode.proofs.decode.write_draft.Goals as goal
 
 pub returns-in-Ok-clause-some : goal.returns-in-Ok-clause-some
 returns-in-Ok-clause-some g c =
     let done = c.in-Ok.ensures.ok in
-    text_flushed_some c.args.mode.now c.args.root.now.0 c.args.part.now (g.S.Source.contents c.args.source.now) (g.W.Write.contents c.args.out.now) (g.W.Write.contents c.text_pass.new.out)
+    text_flushed_some (part_bytes c.args.part.now) c.args.mode.now c.args.root.now.0 c.args.part.now (g.S.Source.contents c.args.source.now) (g.W.Write.contents c.args.out.now) (g.W.Write.contents c.text_pass.new.out)
     (g.W.Write.contents c.flushed.new.out) done.0 c.in-Ok.count c.flushed.result done.1 done.2 done.3 c.flushed.ensures.keeps c.flushed.ensures.ok
 
 pub returns-in-Ok-clause-known : goal.returns-in-Ok-clause-known

@@ -7,21 +7,21 @@ use Rattle.bao_decode.specs.TextPass.{task_of_part}
 use Rattle.bao_decode.proofs.TextPasses.{node_stops}
 use Rattle.bao_decode.proofs.text_pass.begin.Goals as goal
 
-pub returns-in-Ok-clause-begun : goal.returns-in-Ok-clause-begun
-returns-in-Ok-clause-begun g c =
+pub returns-in-Ok-clause-given : goal.returns-in-Ok-clause-given
+returns-in-Ok-clause-given g c =
     let header : List ℕ = c.fill_most.new.buf in
     let size : length header ≡ 8 = c.fill_most.ensures.size in
     let count : c.in_ok-count.count ≡ 8 = omega (arith, size, c.in_ok-count.ensures.bound, c.if-count-lt-LENGTH_LEN.false) in
     let all : take c.in_ok-count.count header ≡ header = take_all c.in_ok-count.count header (omega (arith, size, count)) in
+    subst (GivenAt (g.S.Source.contents c.args.source.now) 0) all c.in_ok-count.ensures.given
+
+pub returns-in-Ok-clause-decodes : goal.returns-in-Ok-clause-decodes
+returns-in-Ok-clause-decodes g c =
+    let header : List ℕ = c.fill_most.new.buf in
     let start : CheckTask = record { mode = c.args.mode.now; root = c.args.root.now.0; start = c.slice_of-start.result.0; len = c.slice_of-start.result.1 } in
     let task : start ≡ task_of_part c.args.mode.now c.args.root.now.0 c.args.part.now =
-    (λ i. record { mode = c.args.mode.now; root = c.args.root.now.0; start = c.slice_of-start.ensures.start i; len = c.slice_of-start.ensures.len i }) in (
-      header,
-      size,
-      subst (GivenAt (g.S.Source.contents c.args.source.now) 0) all c.in_ok-count.ensures.given,
-      subst (λ (t : CheckTask). HasDecodedAs c.take.new.self t header []) task (c.in-Ok.ensures.begun start c.of_slice-checking.ensures.taken),
-      c.claimed.ensures,
-    )
+    (λ i. record { mode = c.args.mode.now; root = c.args.root.now.0; start = c.slice_of-start.ensures.start i; len = c.slice_of-start.ensures.len i }) in
+    subst (λ (t : CheckTask). HasDecodedAs c.take.new.self t header []) task (c.in-Ok.ensures.begun start c.of_slice-checking.ensures.taken)
 
 pub returns-in-Err-clause-fault : goal.returns-in-Err-clause-fault
 returns-in-Err-clause-fault g c =

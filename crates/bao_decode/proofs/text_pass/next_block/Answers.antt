@@ -1,5 +1,5 @@
 use Rattle.std.proofs.Common.{◌≡◌, ◌+◌, ◌^◌, ◌<◌, ◌≤◌, ℕ, List, ◌++◌, length, take, IfSome, Some, refl, sym, ap, subst, ◌∙◌, arith, length-append}
-use Rattle.std.proofs.lemmas.List.{append-nil, length-take-le}
+use Rattle.std.proofs.lemmas.List.{append-nil, length-take-le, take-take}
 use Rattle.bao_check.specs.Checking.{HasDecodedAs, HasTakenAs, wanted}
 use Rattle.bao_decode.proofs.TextPasses.{ends_more, given_front, given_more, given_there, node_stops, short_stops, trailing_stops}
 use Rattle.bao_decode.proofs.text_pass.next_block.Goals as goal
@@ -26,6 +26,7 @@ returns-then-decoded-gt0-clause-step g c = λ task taken blob it at_is.
     let within : c.in-Ok.decoded.taken ≤ length read = c.in-Ok.ensures.bound.0 in (
       take c.in-Ok.decoded.taken read,
       length-take-le c.in-Ok.decoded.taken read within,
+      take-take c.in-Ok.decoded.taken count c.fill_most.new.buf (omega (arith, within, size)),
       given_front contents c.args.at c.in-Ok.decoded.taken read within c.in_ok-count.ensures.given,
       c.in-Ok.ensures.decoded task taken blob it,
     )

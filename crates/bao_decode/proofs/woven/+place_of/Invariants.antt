@@ -1,0 +1,4 @@
+use Rattle.bao_decode.proofs.woven.+place_of.Given as goal
+
+abbrev pub decreases-place_of : goal.decreases-place_of
+decreases-place_of l = l.n

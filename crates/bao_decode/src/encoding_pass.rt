@@ -1,0 +1,60 @@
+// One pass over an encoding that is read by position, in blocks: each is verified, and written as it stands.
+
+ghost use Rattle.std.specs.Prelude.{◌≡◌, ℕ, ◌≤◌, ◌^◌, List, length, IfErr, IfOk, IfSome};
+ghost use Rattle.std.specs.Io.KnownBytes.{Appends};
+ghost use Rattle.bao_decode.specs.Ranges.{written_count};
+ghost use Rattle.bao_decode.specs.TextPass.{EncodingStops, IsWholeText, task_of_part};
+
+use crate::copy_pass::PassFault;
+use crate::text_pass::{begin, next_block, written_of};
+use b3tree::{Hash, Mode};
+use bao_check::Decoded;
+use bao_files::Part;
+use bao_read::Source;
+use bao_text::{LENGTH_LEN, claimed, write_text};
+use std::io::Write;
+
+/// Reads an encoding once, in blocks, verifies it as that of the part of the blob with this root, and writes each block's bytes to `out` once
+/// they are verified. Answers how many positions the part has, in the length that the encoding claims.
+///
+/// Ends with the encoding's first fault, where a read answers a fault, and where a write does or takes no byte; a beginning may
+/// have been written.
+pub(crate) fn encoding_pass<S: Source, W: Write>(
+    mode: &Mode,
+    root: &Hash,
+    part: &Part,
+    source: &S,
+    block: &mut [u8],
+    room: &mut [u8],
+    out: &mut W,
+) -> Result<u64, PassFault>
+    requires block { (1024 ≤ length block.old) × (length block.old ≤ 2 ^ 32) }
+    requires room { length block.old ≤ length room.old }
+    ensures sizes { (length block.new ≡ length block.old) × (length room.new ≡ length room.old) }
+    ensures ok { IfOk result (λ count. (text : List ℕ) × IsWholeText (S.contents source.now) mode.now root.now.0 part.now text × (count ≡ written_count part.now text)
+        × Appends (W.contents out.old) (W.contents out.new) text) }
+    ensures err { IfErr result (λ fault. IfSome (S.contents source.now) (λ s.
+        EncodingStops (task_of_part mode.now root.now.0 part.now) (S.faultless source.now) s (W.contents out.old) (W.contents out.new) fault)) }
+{
+    let (mut checking, header) = begin(mode, root, part, source)?;
+    let (first, last) = written_of(part, claimed(&header));
+    match write_text(&header, out) {
+        Ok(()) => {}
+        Err(_) => return Err(PassFault::Output),
+    }
+    let mut at = LENGTH_LEN as u64;
+    'blocks: while let Some(Decoded { taken, .. }) = next_block(
+        &mut checking,
+        source,
+        at,
+        block,
+        room,
+    )? {
+        match write_text(&block[..taken], out) {
+            Ok(()) => {}
+            Err(_) => return Err(PassFault::Output),
+        }
+        at += taken as u64;
+    }
+    Ok(last - first)
+}
