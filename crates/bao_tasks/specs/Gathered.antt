@@ -17,6 +17,8 @@ use Rattle.bao_files.specs.declared.fault.FileFault.TheVariants.{Encoding, Write
 use Rattle.bao_tasks.specs.declared.gathered_fault.GatheredFault.{GatheredFault}
 use Rattle.bao_tasks.specs.declared.gathered_fault.GatheredFault.TheVariants.{File, Gather, Outboard}
 use Rattle.bao_tasks.specs.declared.gathering.Gathering.{Gathering}
+use Rattle.bao_check.specs.Faults.{IsFirstFault}
+use Rattle.bao_files.specs.Disks.{AreOf, FileState, Stored}
 use Rattle.bao_files.specs.Printed.{AppendsBeginning}
 
 -- what is written of a gathered blob: its combined encoding, or its bytes
@@ -78,3 +80,13 @@ IsWrittenOut handed fixed how blob old new result =
 -- an encoding was accepted as the outboard encoding of a blob with this root
 abbrev pub HasOutline : Mode → List ℕ → Type 0
 HasOutline mode root = (text : List ℕ) × IsAccepted mode root text (outboard_nodes text)
+
+-- the file's bytes, as far as they are known, are
+abbrev pub HasOutlineIn : FileState → Mode → List ℕ → Type 0
+HasOutlineIn state mode root = (text : List ℕ) × AreOf state text × IsAccepted mode root text (outboard_nodes text)
+
+-- a fault of an outboard encoding is the first one of the file's bytes, where they are known
+abbrev pub IsFaultOfOutline : FileState → Mode → List ℕ → GatheredFault → Type 0
+IsFaultOfOutline state mode root (File fault) = Unit {0}
+IsFaultOfOutline state mode root (Outboard fault) = (text : List ℕ) → state ≡ Stored text → IsFirstFault mode root text (outboard_nodes text) fault
+IsFaultOfOutline state mode root (Gather fault) = Unit {0}

@@ -1,19 +1,20 @@
 -- What the files of a gathering give.
-use Rattle.std.specs.Prelude.{ℕ, ◌+◌, ◌*◌, List, None, Option, Some}
+use Rattle.std.specs.Prelude.{ℕ, ◌+◌, ◌*◌, List, Option, Some}
 use Rattle.bao_tasks.specs.declared.given.Given.{Given}
 use Rattle.bao_tasks.specs.declared.given.Given.TheVariants.{Placed, Held}
 use Rattle.bao_text.specs.Nodes.{subtree_size}
 use Rattle.gather.specs.declared.form.Form.{Form}
 use Rattle.gather.specs.declared.form.Form.TheVariants.{Slices, Bare}
 
--- the bytes that are held; nobody knows what a file has
-abbrev pub given_contents : Given → Option (List ℕ)
-given_contents (Placed file) = None
-given_contents (Held text) = Some text.items
+-- the bytes that a file has, where they are known, or those that are held
+abbrev pub given_contents : {I : Type 0} → (I → Option (List ℕ)) → Given I → Option (List ℕ)
+given_contents contents (Placed file) = contents file
+given_contents contents (Held text) = Some text.items
 
-abbrev pub IsHeld : Given → Type 0
-IsHeld (Placed file) = ⊥
-IsHeld (Held text) = Unit {0}
+-- no read of it answers a fault
+abbrev pub is_given_faultless : {I : Type 0} → (I → Type 0) → Given I → Type 0
+is_given_faultless faultless (Placed file) = faultless file
+is_given_faultless faultless (Held text) = Unit {0}
 
 -- How many bytes of a file can help, of a blob of so many chunks: those of the longest encoding, or of the longest plain copy, and one
 -- more, by which a text that is too long is known.

@@ -14,7 +14,7 @@ use Rattle.gather.specs.declared.form.Form.TheVariants.{Slices, Bare}
 use Rattle.gather.specs.declared.grain.Grain.{Grain}
 use Rattle.gather.specs.declared.grain.Grain.TheVariants.{Group, Chunk}
 use Rattle.bao_windows.specs.declared.wanted.Wanted.{Wanted}
-use Rattle.bao_windows.specs.Available.{HasNoEnd}
+use Rattle.bao_windows.specs.Available.{HasNoEnd, IsFirstEnd}
 use Rattle.bao_windows.specs.Windows.{IsFrom, IsLengthOfEach, fixed_for}
 use Rattle.bao_tasks.specs.declared.missing.Lack.{Lack}
 use Rattle.bao_tasks.specs.declared.missing.Lack.TheVariants.{Unasked, Starved, End, Missing}
@@ -121,10 +121,11 @@ pub record AreParts {S : Type 0} (contents : S → Option (List ℕ)) (faultless
   pub are : AreGaps contents faultless wanted sources (units_in wanted.grain parts.total) 0 gaps
   pub told : Tells most parts (map (span_of wanted.grain parts.total) gaps)
 
--- It is the length of each blob with the root, or a collision is exhibited; and the one that the outline claims, where there is one.
+-- It is the length of each blob with the root, or a collision is exhibited; and the one that the outline claims, where there is one. The first of the
+-- sources that has the last chunk certifies it by that.
 abbrev pub IsTotal : {S : Type 0} → (S → Option (List ℕ)) → (S → Type 0) → Wanted → List S → ℕ → Type 0
 IsTotal contents faultless wanted sources total =
-    IsLengthOfEach (IsFrom wanted contents faultless sources) (fixed_for wanted) total × IsLengthOf wanted.form total
+    IsLengthOfEach (IsFrom wanted contents faultless sources) (fixed_for wanted) total × IsLengthOf wanted.form total × IsFirstEnd contents faultless wanted sources total
 
 -- What is said of sources that left a blob unfinished: that none has its end, or which bytes of it none has.
 abbrev pub IsLackOf : {S : Type 0} → (S → Option (List ℕ)) → (S → Type 0) → Wanted → List S → ℕ → Lack → Type 0

@@ -1,8 +1,10 @@
 -- what is printed of a schedule
-use Rattle.std.specs.Prelude.{◌≡◌, ℕ, List, length}
+use Rattle.std.specs.Borrow.{Bor}
+use Rattle.std.specs.Prelude.{◌≡◌, ℕ, List, [], Some, get_or, length, slice_get}
 use Rattle.b3tree.specs.declared.mode.Mode.{Mode}
 use Rattle.b3tree.specs.declared.values.Hash.{Hash}
 use Rattle.bao_check.specs.declared.fault.CheckFault.{CheckFault}
+use Rattle.bao_files.specs.Disks.{AreOf, FileState}
 use Rattle.bao_script.specs.declared.numbered.NumberedLine.{NumberedLine}
 use Rattle.bao_script.specs.Printouts.{IsPrinted, IsStopped}
 use Rattle.bao_script.specs.Scripts.{IsScript}
@@ -34,3 +36,12 @@ IsRefusedRun mode root script files number fault =
 abbrev pub IsReplayOf : Mode → Hash → ℕ → ℕ → List ℕ → Type 0
 IsReplayOf mode root capacity count text =
     (script : List ℕ) × ((files : List (List ℕ)) × (length files ≡ count) × IsRun mode root capacity script files text)
+
+-- these are the bytes of the files at the paths, each at its place, as far as they are known
+pub record AreOfAll (at : List ℕ → FileState) (paths : List (Bor (List ℕ))) (files : List (List ℕ)) : Type 0 where
+  pub count : length files ≡ length paths
+  pub each : (i : ℕ) (path : Bor (List ℕ)) → slice_get paths i ≡ Some path → AreOf (at path.now) (get_or files i [])
+
+-- it holds of the bytes of the one file and of the others
+abbrev pub OfFiles : (List ℕ → FileState) → List ℕ → List (Bor (List ℕ)) → (List ℕ → List (List ℕ) → Type 0) → Type 0
+OfFiles at path paths Holds = (text : List ℕ) × (files : List (List ℕ)) × AreOf (at path) text × AreOfAll at paths files × Holds text files

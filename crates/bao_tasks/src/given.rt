@@ -3,31 +3,29 @@ ghost use Rattle.bao_files.specs.declared.fault.FileFault.TheVariants as FileFau
 ghost use Rattle.bao_tasks.specs.Givens.{most_bytes};
 
 use b3tree::CHUNK_LEN;
-use bao_files::{FileFault, open_file, read_input};
+use bao_files::{Disk, FileFault, read_input};
 use bao_read::Source;
 use bao_text::encoded_len;
 use gather::Form;
 use std::alloc::Global;
-use std::fs::{File, OpenFile};
 use std::io;
 use std::io::Read;
-use std::rt::Files;
 
 /// What a file of a gathering gives: a regular one is read where it lies, and of any other the bytes that came of it are held.
 #[derive(Drop)]
-pub enum Given {
+pub enum Given<I> {
     /// A regular file, which is open.
-    Placed(File),
+    Placed(I),
     /// What came of a file that can't be read by position, as a pipe.
     Held(Vec<u8>),
 }
 
-impl Source for Given {
-    ghost use Rattle.bao_tasks.specs.Givens.{IsHeld, given_contents};
+impl<I: Source> Source for Given<I> {
+    ghost use Rattle.bao_tasks.specs.Givens.{given_contents, is_given_faultless};
 
-    ghost contents = { λ given. given_contents given };
+    ghost contents = { given_contents I.contents };
 
-    ghost faultless = { λ given. IsHeld given };
+    ghost faultless = { is_given_faultless I.faultless };
 
     fn read_at(&self, buf: &mut [u8], at: u64) -> io::Result<usize> {
         match self {
@@ -38,28 +36,29 @@ impl Source for Given {
 
     fn at_hand(&self) -> Option<&[u8]> {
         match self {
-            Given::Placed(_) => None,
+            Given::Placed(file) => file.at_hand(),
             Given::Held(text) => Some(text.as_slice()),
         }
     }
 }
 
-/// A regular file, which is opened, and how many bytes it says it has: none where it doesn't say.
+/// A regular file, which is opened, and how many bytes it is said to have: none where nothing is said.
 ///
-/// Where it can't be opened, or a first read of it answers a fault, the fault is `Read`.
-pub(crate) fn placed<'a, R: Files<File = File>>(
-    rt: &R,
+/// Where it can't be opened, or a first read of it answers a fault, the fault is `Read`, and `Memory` where there was no memory to
+/// open it.
+pub(crate) fn placed<'a, D: Disk>(
+    disk: &D,
     path: &'a str,
-) -> Result<(Given, u64), FileFault<'a>>
-    ensures fault { IfErr result (λ fault. fault ≡ FileFault.Read path.entry) }
+) -> Result<(Given<D::Input>, u64), FileFault<'a>>
+    ensures fault { IfErr result (λ fault. (fault ≡ FileFault.Memory) ⊎ (fault ≡ FileFault.Read path.entry)) }
 {
-    let file = open_file(rt, path)?;
+    let file = disk.open(path)?;
     if file.read_at(&mut [0], 0).is_err() {
         return Err(FileFault::Read(path));
     }
-    let len = match file.metadata() {
-        Ok(metadata) => metadata.len(),
-        Err(_) => 0,
+    let len = match disk.extent(&file) {
+        Some(extent) => extent.len,
+        None => 0,
     };
     Ok((Given::Placed(file), len))
 }
@@ -93,16 +92,17 @@ fn read_most<'a, I: Read + Drop>(
 /// at most so many chunks, and one byte.
 ///
 /// Where it can't be opened or read the fault is `Read`, and `Memory` where the bytes found no room.
-pub(crate) fn held<'a, R: Files<File = File> + AllocGlobal>(
-    rt: &R,
+pub(crate) fn held<'a, D: Disk>(
+    alloc: Global,
+    disk: &D,
     form: &Form<'_>,
     capacity: u32,
     path: &'a str,
-) -> Result<(Given, u64), FileFault<'a>>
+) -> Result<(Given<D::Input>, u64), FileFault<'a>>
     ensures fault { IfErr result (λ fault. (fault ≡ FileFault.Memory) ⊎ (fault ≡ FileFault.Read path.entry)) }
 {
-    let file = open_file(rt, path)?;
-    let text = read_most(rt.alloc(), file, most_bytes(form, capacity), path)?;
+    let file = disk.open(path)?;
+    let text = read_most(alloc, file, most_bytes(form, capacity), path)?;
     let len = text.len() as u64;
     Ok((Given::Held(text), len))
 }

@@ -10,7 +10,7 @@ use bao_check::{GROUP_BYTES, GROUP_LEN, Outline, check_bare, check_slice};
 use bao_read::Source;
 use bao_text::{Memory, chunk_count};
 use bao_windows::{Wanted, certified_length};
-use gather::{EncodedAt, Form, GatherFault, Grain, Holder, HolderFault, PlainAt};
+use gather::{Encoded, Form, GatherFault, Grain, Holder, HolderFault, Plain};
 use std::alloc::Global;
 
 // The most groups, or chunks, that are looked for: a length that a root's maker has made up has no end that can be reached.
@@ -64,7 +64,7 @@ fn lacks_slice<S: Source>(
     ensures { IfOk result (λ lacks. IsSaidOf (S.contents source.now) (S.faultless source.now) (λ text. JudgesGroup lacks (IsGoodSlice mode.now root.now.0 start len text))) }
 {
     room.clear();
-    match EncodedAt::new(source).fetch(start, len, room) {
+    match Encoded::at(source).fetch(start, len, room) {
         Ok(()) => {}
         Err(HolderFault::Device) => return Ok(true),
         Err(HolderFault::Memory) => return Err(Memory),
@@ -91,7 +91,7 @@ fn lacks_chunks<S: Source>(
     let start = CHUNK_LEN as u64 * first;
     let len = total.saturating_sub(start).min(CHUNK_LEN as u64 * count);
     room.clear();
-    match PlainAt::new(source).fetch(start, len, room) {
+    match Plain::at(source).fetch(start, len, room) {
         Ok(()) => {}
         Err(HolderFault::Device) => return Ok(true),
         Err(HolderFault::Memory) => return Err(Memory),

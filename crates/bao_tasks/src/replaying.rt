@@ -1,33 +1,49 @@
 ghost use Rattle.std.specs.Borrow.{Bor};
 ghost use Rattle.std.specs.Prelude.{◌≡◌, ◌⊎◌, ◌<◌, ◌≤◌, ℕ, List, IfErr, IfOk, IsErrOf, IsOk, Some, length, map, slice_get};
 ghost use Rattle.bao_check.specs.declared.fault.CheckFault.{CheckFault};
+ghost use Rattle.bao_files.specs.Disks.{AreOf};
 ghost use Rattle.bao_script.specs.Scripts.{IsFirstRefused};
 ghost use Rattle.bao_script.specs.declared.fault.ReplayScriptFault.TheVariants as replay;
 ghost use Rattle.bao_files.specs.declared.fault.FileFault.TheVariants as FileFault;
 ghost use Rattle.bao_tasks.specs.declared.rerun_fault.RerunFault.TheVariants as RerunFault;
-ghost use Rattle.bao_tasks.specs.Replayed.{IsAcceptedRun, IsRefusedRun, IsReplayOf, IsRun, IsStoppedRun};
+ghost use Rattle.bao_tasks.specs.Replayed.{AreOfAll, IsAcceptedRun, IsRefusedRun, IsReplayOf, IsRun, IsStoppedRun, OfFiles};
 ghost use Rattle.bao_tasks.specs.RerunFaults.{IsOfNoFile, NamesRead};
 
 use crate::rerun_fault::RerunFault;
 use b3tree::{Hash, Mode};
-use bao_files::{FileFault, read_file};
+use bao_files::{Disk, FileFault, System, read_input};
 use bao_script::{ScriptFault, parse, replay_script};
 use std::alloc::Global;
+use std::fs::File;
 use std::rt::Files;
 
+// All bytes of the file at `path`.
+fn read_one<'a, D: Disk>(alloc: Global, disk: &D, path: &'a str) -> Result<Vec<u8>, FileFault<'a>>
+    ensures bytes { IfOk result (λ bytes. AreOf (D.at disk.now path.now) bytes.items) }
+    ensures fault { IfErr result (λ fault. (fault ≡ FileFault.Memory) ⊎ (fault ≡ FileFault.Read path.entry)) }
+{
+    let mut file = disk.open(path)?;
+    let Some(extent) = disk.extent(&file) else {
+        return Err(FileFault::Read(path));
+    };
+    read_input(alloc, &mut file, extent.len, path)
+}
+
 // The bytes of all files, in the order of the paths. The fault names the first that can't be read.
-fn read_all<'a, R: Files + AllocGlobal>(
-    rt: &R,
+fn read_all<'a, D: Disk>(
+    alloc: Global,
+    disk: &D,
     paths: &[&'a str],
 ) -> Result<Vec<Vec<u8>>, FileFault<'a>>
     ensures count { IfOk result (λ files. length files.items ≡ length paths.now) }
+    ensures files { IfOk result (λ files. AreOfAll (D.at disk.now) paths.now (map (λ file. file.items) files.items)) }
     ensures paths { IfErr result (λ fault. (fault ≡ FileFault.Memory)
         ⊎ ((i : ℕ) × (path : Bor (List ℕ)) × (slice_get paths.now i ≡ Some path) × (fault ≡ FileFault.Read path))) }
 {
-    let mut files = Vec::with_capacity(rt.alloc(), paths.len())?;
+    let mut files = Vec::with_capacity(alloc, paths.len())?;
     for path in paths {
         files
-            .push(read_file(rt, path)?)
+            .push(read_one(alloc, disk, path)?)
             .map_err(|_| FileFault::Memory)?;
     }
     Ok(files)
@@ -69,10 +85,43 @@ pub fn replay_text<'a>(
     }
 }
 
-/// Runs the schedule in the file `script` over pieces of the files, as `replay_text` says.
+/// Runs the schedule in the file `script` over pieces of the files, all on `disk`, as `replay_text` says.
 ///
 /// Refuses, in the order of the arguments, a file that can't be read (`File` with `Read`), before all else.
-pub fn replay_files<'a, R: Files + AllocGlobal>(
+pub fn replay_on<'a, D: Disk>(
+    alloc: Global,
+    disk: &D,
+    mode: &Mode,
+    root: &Hash,
+    capacity: u32,
+    script: &'a str,
+    files: &[&'a str],
+) -> Result<Vec<u8>, RerunFault<'a>>
+    ensures answer { IfOk result (λ text. OfFiles (D.at disk.now) script.now files.now (λ lines pieces. IsRun mode.now root.now capacity lines pieces text.items)) }
+    ensures script { (number : ℕ) → IsErrOf result (RerunFault.Script number) → OfFiles (D.at disk.now) script.now files.now (λ lines pieces. IsFirstRefused (length pieces) lines number) }
+    ensures illegal { (number : ℕ) → IsErrOf result (RerunFault.Replay (replay.Illegal number))
+        → OfFiles (D.at disk.now) script.now files.now (λ lines pieces. IsStoppedRun mode.now root.now capacity lines pieces number) }
+    ensures refused { (number : ℕ) (fault : CheckFault) → IsErrOf result (RerunFault.Replay (replay.Refused number fault))
+        → OfFiles (D.at disk.now) script.now files.now (λ lines pieces. IsRefusedRun mode.now root.now lines pieces number fault) }
+    ensures capacity { IsErrOf result (RerunFault.Replay replay.Capacity) → (capacity ≡ 0) ⊎ (65536 < capacity) }
+    ensures within { IsOk result → (0 < capacity) × (capacity ≤ 65536) }
+    ensures illegal_within { (number : ℕ) → IsErrOf result (RerunFault.Replay (replay.Illegal number)) → (0 < capacity) × (capacity ≤ 65536) }
+    ensures file { IfErr result (NamesRead script.entry files.now) }
+{
+    let text = read_one(alloc, disk, script)?;
+    let pieces = read_all(alloc, disk, files)?;
+    replay_text(
+        alloc,
+        mode,
+        root,
+        capacity,
+        text.as_slice(),
+        pieces.as_slice(),
+    )
+}
+
+/// As [`replay_on`], on the system's own files. Nothing is known of what they hold.
+pub fn replay_files<'a, R: Files<File = File> + AllocGlobal>(
     rt: &R,
     mode: &Mode,
     root: &Hash,
@@ -86,14 +135,6 @@ pub fn replay_files<'a, R: Files + AllocGlobal>(
     ensures illegal_within { (number : ℕ) → IsErrOf result (RerunFault.Replay (replay.Illegal number)) → (0 < capacity) × (capacity ≤ 65536) }
     ensures file { IfErr result (NamesRead script.entry files.now) }
 {
-    let text = read_file(rt, script)?;
-    let files = read_all(rt, files)?;
-    replay_text(
-        rt.alloc(),
-        mode,
-        root,
-        capacity,
-        text.as_slice(),
-        files.as_slice(),
-    )
+    let system = System::new(rt);
+    replay_on(rt.alloc(), &system, mode, root, capacity, script, files)
 }

@@ -7,7 +7,7 @@ use b3tree::{CHUNK_LEN, Hash, Mode};
 use bao_check::{GROUP_LEN, Outline, check_bare, check_slice};
 use bao_read::{Source, fill};
 use bao_text::{LENGTH_LEN, Memory, chunk_count, claimed};
-use gather::{EncodedAt, Holder, HolderFault, PlainAt};
+use gather::{Encoded, Holder, HolderFault, Plain};
 use std::alloc::Global;
 use store_core::GROUP_BYTES;
 
@@ -61,7 +61,7 @@ fn refuses_cut<S: Source>(
 {
     let start = GROUP_BYTES * u64::from(group);
     room.clear();
-    match EncodedAt::new(source).fetch(start, GROUP_BYTES, room) {
+    match Encoded::at(source).fetch(start, GROUP_BYTES, room) {
         Ok(()) => {}
         Err(HolderFault::Device) => return Ok(true),
         Err(HolderFault::Memory) => return Err(Memory),
@@ -112,7 +112,7 @@ fn refuses_part<S: Source>(
     let start = GROUP_BYTES * u64::from(group);
     let len = total.saturating_sub(start).min(GROUP_BYTES);
     room.clear();
-    match PlainAt::new(source).fetch(start, len, room) {
+    match Plain::at(source).fetch(start, len, room) {
         Ok(()) => {}
         Err(HolderFault::Device) => return Ok(true),
         Err(HolderFault::Memory) => return Err(Memory),

@@ -28,12 +28,12 @@ module _ (mode : Mode) (root : List ℕ) (part : Part) (text : List ℕ) (low : 
       → AgreeUnless (λ m n. m ≡ n) (MayComeOfCopy faultless file path) (MayComeOfCopy also_faultless file path) r s
   draft_answers faultless also_faultless file path old also a b (Ok m) (Ok k) p q = p.1 ∙ sym q.1
   draft_answers faultless also_faultless file path old also a b (Ok m) (Err (File y)) p q = file_may also_faultless file path also b y q
-  draft_answers faultless also_faultless file path old also a b (Ok m) (Err (Check y)) p q = absurd (apart mode root part text low y q.0 p.0)
+  draft_answers faultless also_faultless file path old also a b (Ok m) (Err (Check y)) p q = absurd (apart (part_bytes part) mode root part text low y q.0 p.0)
   draft_answers faultless also_faultless file path old also a b (Err (File x)) (Ok k) p q = file_may faultless file path old a x p
-  draft_answers faultless also_faultless file path old also a b (Err (Check x)) (Ok k) p q = absurd (apart mode root part text low x p.0 q.0)
+  draft_answers faultless also_faultless file path old also a b (Err (Check x)) (Ok k) p q = absurd (apart (part_bytes part) mode root part text low x p.0 q.0)
   draft_answers faultless also_faultless file path old also a b (Err (File x)) (Err y) p q = inr (inl (file_may faultless file path old a x p))
   draft_answers faultless also_faultless file path old also a b (Err (Check x)) (Err (File y)) p q = inr (inr (file_may also_faultless file path also b y q))
-  draft_answers faultless also_faultless file path old also a b (Err (Check x)) (Err (Check y)) p q = inl (ap (λ k. Check k) (one mode root part text low x y p.0 q.0))
+  draft_answers faultless also_faultless file path old also a b (Err (Check x)) (Err (Check y)) p q = inl (ap (λ k. Check k) (one (part_bytes part) mode root part text low x y p.0 q.0))
 
   draft_written : (faultless also_faultless : Type 0) (file path : Bor (List ℕ)) (xs : List ℕ) (a b : Option (List ℕ)) (r s : Result ℕ DecodeFault)
       → DraftsKnown mode root part faultless text file path (Some xs) a r → DraftsKnown mode root part also_faultless text file path (Some xs) b s → SameWritten (λ _. ⊥) a b r s

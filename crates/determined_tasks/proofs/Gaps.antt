@@ -9,7 +9,9 @@ use Rattle.bao_tasks.specs.declared.missing.MissingParts.{MissingParts}
 use Rattle.bao_tasks.specs.declared.missing.Span.{Span}
 use Rattle.bao_tasks.specs.Missing.{AreGaps, AreParts, GoesUpTo, HasUnit, IsHad, IsLackOf, IsLacked, IsNextGap, JudgesUnit, Tells, place_of, span_len, span_of, units_in}
 use Rattle.bao_tasks.specs.Worth.{IsSaidOf}
-use Rattle.determined_tasks.specs.Lacks.{AreSound, SameLack, SameParts}
+use Rattle.bao_windows.proofs.Ends.{end_or_none, one_end}
+use Rattle.bao_windows.specs.Available.{AreSound}
+use Rattle.determined_tasks.specs.Lacks.{SameLack, SameParts}
 
 said_is : (contents : Option (List ℕ)) (faultless : Type 0) (P : List ℕ → Type 0) (bytes : List ℕ) → contents ≡ Some bytes → length bytes < 2 ^ 64 → faultless
     → IsSaidOf contents faultless P → P bytes
@@ -77,10 +79,15 @@ module _ {S : Type 0} (contents : S → Option (List ℕ)) (faultless : S → Ty
       one_telling most a b _ _ (λ i. map (span_of wanted.grain (total i)) (gaps i)) looked p.told q.told
 
   pub one_lack : (most : ℕ) (a b : Lack) → IsLackOf contents faultless wanted sources most a → IsLackOf contents faultless wanted sources most b → SameLack a b
-  one_lack most (Missing a) (Missing b) p q = one_parts most a b p.1 q.1
+  one_lack most (Missing a) (Missing b) p q =
+      let total : a.total ≡ b.total = one_end contents faultless wanted sources sound a.total b.total p.0.2 q.0.2 in
+      (total, one_parts most a b p.1 q.1 total)
   one_lack most Unasked b p q = absurd p
   one_lack most Starved b p q = tt
-  one_lack most End b p q = tt
+  one_lack most End (Missing b) p q = end_or_none contents faultless wanted sources sound b.total q.0.2 p
+  one_lack most End Unasked p q = tt
+  one_lack most End Starved p q = tt
+  one_lack most End End p q = tt
   one_lack most (Missing a) Unasked p q = absurd q
   one_lack most (Missing a) Starved p q = tt
-  one_lack most (Missing a) End p q = tt
+  one_lack most (Missing a) End p q = end_or_none contents faultless wanted sources sound a.total p.0.2 q

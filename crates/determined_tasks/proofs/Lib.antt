@@ -10,3 +10,4 @@ pub mod Replays
 pub mod Runs
 pub mod Scripts
 pub mod Verdicts
+pub mod Decoded

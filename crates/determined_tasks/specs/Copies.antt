@@ -13,3 +13,8 @@ MayComeOfCopy faultless file path fault = (fault ≡ File Memory) ⊎ (fault ≡
 abbrev pub IsOfCopy : DecodeFault → Type 0
 IsOfCopy (Check fault) = Unit {0}
 IsOfCopy (File fault) = ⊥
+
+-- the same of a copy beside an outboard encoding, of which a read may fail too
+abbrev pub MayComeBeside : Type 0 → Bor (List ℕ) → Bor (List ℕ) → Bor (List ℕ) → DecodeFault → Type 0
+MayComeBeside faultless outboard file path fault =
+    (fault ≡ File Memory) ⊎ (fault ≡ File (Write path)) ⊎ ((fault ≡ File (Read outboard)) × ¬ faultless) ⊎ ((fault ≡ File (Read file)) × ¬ faultless)

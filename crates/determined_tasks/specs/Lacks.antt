@@ -1,18 +1,15 @@
 -- What two looks for the bytes that no source has have in common.
-use Rattle.std.specs.Prelude.{◌≡◌, ℕ, ◌<◌, ◌^◌, List, length, Option, Some, slice_get}
+use Rattle.std.specs.Prelude.{◌≡◌, ◌<◌}
 use Rattle.bao_tasks.specs.declared.missing.Lack.{Lack}
-use Rattle.bao_tasks.specs.declared.missing.Lack.TheVariants.{Missing}
+use Rattle.bao_tasks.specs.declared.missing.Lack.TheVariants.{End, Missing}
 use Rattle.bao_tasks.specs.declared.missing.MissingParts.{MissingParts}
-
--- the bytes of each source are known, as many as a file or a slice of memory can have, and no read of it fails
-abbrev pub AreSound : {S : Type 0} → (S → Option (List ℕ)) → (S → Type 0) → List S → Type 0
-AreSound contents faultless sources =
-    (i : ℕ) (source : _) → slice_get sources i ≡ Some source → (bytes : List ℕ) × (contents source ≡ Some bytes) × (length bytes < 2 ^ 64) × faultless source
 
 abbrev pub SameParts : MissingParts → MissingParts → Type 0
 SameParts a b = (a.looked ≡ b.looked) × (a.shown.items ≡ b.shown.items) × (a.count ≡ b.count) × (a.bytes ≡ b.bytes)
 
--- the same parts of a blob of one length
+-- The same parts of a blob of one length, or none has the end; memory may run out at any time.
 abbrev pub SameLack : Lack → Lack → Type 0
-SameLack (Missing a) (Missing b) = a.total ≡ b.total → SameParts a b
+SameLack (Missing a) (Missing b) = (a.total ≡ b.total) × SameParts a b
+SameLack (Missing a) End = ⊥
+SameLack End (Missing b) = ⊥
 SameLack one other = Unit {0}

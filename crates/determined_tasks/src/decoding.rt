@@ -1,16 +1,23 @@
 // Encodings that are read and checked, and what is written of them.
 
-ghost use Rattle.std.specs.Prelude.{◌≡◌, ◌^◌, ◌<◌, [], IfOk, IfSome, length};
+ghost use Rattle.std.specs.Prelude.{◌≡◌, ◌^◌, ◌<◌, ℕ, List, [], IfOk, IfSome, OnErr, OnOk, length};
 ghost use Rattle.bao_check.specs.Accepted.{IsAccepted, slice_nodes};
 ghost use Rattle.bao_check.specs.Checked.{piece_len, piece_mode, piece_root, piece_start, piece_text};
+ghost use Rattle.bao_decode.specs.declared.decode_fault.DecodeFault.TheVariants as DecodeFault;
+ghost use Rattle.bao_files.specs.Disks.{Absent, IsKnown, Stored};
+ghost use Rattle.bao_files.specs.declared.fault.FileFault.TheVariants as FileFault;
+ghost use Rattle.bao_text.specs.Cut.{cut_text};
 ghost use Rattle.determined_check.specs.Agreeing.{AgreeOfBytes, SamePiece};
-ghost use Rattle.determined_files.specs.Agreeing.{AgreeUnless, SameWritten};
-ghost use Rattle.determined_tasks.specs.Copies.{IsOfCopy, MayComeOfCopy};
+ghost use Rattle.determined_files.specs.Agreeing.{AgreeUnless, SameWhereKnown, SameWritten};
+ghost use Rattle.determined_tasks.specs.Copies.{IsOfCopy, MayComeBeside, MayComeOfCopy};
 
 use b3tree::{Hash, Mode};
 use bao_check::{CheckFault, Checked, Outline};
-use bao_decode::{DecodeFault, read_text, write_copy, write_decoded, write_draft};
-use bao_files::Part;
+use bao_decode::{
+    DecodeFault, decode_copy_on, decode_on, read_text, write_copy, write_decoded, write_draft,
+    write_slice,
+};
+use bao_files::{Disk, Part, Progress};
 use bao_read::Source;
 use std::alloc::Global;
 use std::io::{Read, Write};
@@ -122,4 +129,84 @@ pub fn write_copy_determined<'a, S: Source, T: Source, V: Write, W: Write>(
     let one = write_copy(alloc, outline, our_copy, file, ours, path);
     let other = write_copy(alloc, outline, their_copy, file, theirs, path);
     (one, other)
+}
+
+// The same of a slice that is cut out of an encoding.
+pub fn write_slice_determined<'a, S: Source, T: Source, V: Write, W: Write>(
+    alloc: Global,
+    mode: &Mode,
+    root: &Hash,
+    start: u64,
+    len: u64,
+    our_text: &S,
+    their_text: &T,
+    file: &'a str,
+    ours: &mut V,
+    theirs: &mut W,
+    path: &'a str,
+) -> (Result<u64, DecodeFault<'a>>, Result<u64, DecodeFault<'a>>)
+    requires contents { S.contents our_text.now ≡ T.contents their_text.now }
+    requires same { V.contents ours.old ≡ W.contents theirs.old }
+    ensures answer { IfSome (S.contents our_text.now) (λ text. length text < 2 ^ 64 → length (cut_text text start len) < 2 ^ 63
+        → AgreeUnless (λ m n. m ≡ n) (MayComeOfCopy (S.faultless our_text.now) file.entry path.entry) (MayComeOfCopy (T.faultless their_text.now) file.entry path.entry) result.0 result.1) }
+    ensures written { IfSome (S.contents our_text.now) (λ text. length text < 2 ^ 64 → length (cut_text text start len) < 2 ^ 63
+        → IfSome (V.contents ours.old) (λ _. SameWritten IsOfCopy (V.contents ours.new) (W.contents theirs.new) result.0 result.1)) }
+{
+    let one = write_slice(alloc, mode, root, start, len, our_text, file, ours, path);
+    let other = write_slice(
+        alloc, mode, root, start, len, their_text, file, theirs, path,
+    );
+    (one, other)
+}
+
+// Memory may run out, writing may fail, and a read of a file may, on a disk that isn't faultless, at any time. Everything else is the encoding's, where
+// it isn't longer than any file, and of each path of which it was known before what is there is the same.
+pub fn decode_on_determined<'a, D: Disk, E: Disk, P: Progress>(
+    alloc: Global,
+    ours: &mut D,
+    theirs: &mut E,
+    mode: &Mode,
+    root: &Hash,
+    part: &Part,
+    file: &'a str,
+    path: &'a str,
+    progress: &P,
+) -> (Result<u64, DecodeFault<'a>>, Result<u64, DecodeFault<'a>>)
+    requires { (at : List ℕ) → D.at ours.old at ≡ E.at theirs.old at }
+    ensures answer { IsKnown (D.at ours.old path.now) → (text : List ℕ) → D.at ours.old file.now ≡ Stored text → length text < 2 ^ 63
+        → AgreeUnless (λ m n. m ≡ n) (MayComeOfCopy (D.faultless ours.old) file.entry path.entry) (MayComeOfCopy (E.faultless theirs.old) file.entry path.entry) result.0 result.1 }
+    ensures absent { D.at ours.old file.now ≡ Absent
+        → AgreeUnless (λ _ _. ⊥) (λ fault. fault ≡ DecodeFault.File FileFault.Memory) (λ fault. fault ≡ DecodeFault.File FileFault.Memory) result.0 result.1 }
+    ensures put { IsKnown (D.at ours.old file.now) → OnOk result.0 (OnOk result.1 (SameWhereKnown (D.at ours.old) (D.at ours.new) (E.at theirs.new))) }
+    ensures kept { OnErr result.0 (OnErr result.1 (SameWhereKnown (D.at ours.old) (D.at ours.new) (E.at theirs.new))) }
+{
+    (
+        decode_on(alloc, ours, mode, root, part, file, path, progress),
+        decode_on(alloc, theirs, mode, root, part, file, path, progress),
+    )
+}
+
+// The same of a plain copy beside an outboard encoding.
+pub fn decode_copy_on_determined<'a, D: Disk, E: Disk, P: Progress>(
+    alloc: Global,
+    ours: &mut D,
+    theirs: &mut E,
+    mode: &Mode,
+    root: &Hash,
+    outboard: &'a str,
+    copy: &'a str,
+    path: &'a str,
+    progress: &P,
+) -> (Result<u64, DecodeFault<'a>>, Result<u64, DecodeFault<'a>>)
+    requires { (at : List ℕ) → D.at ours.old at ≡ E.at theirs.old at }
+    ensures answer { IsKnown (D.at ours.old path.now) → (outline bytes : List ℕ) → D.at ours.old outboard.now ≡ Stored outline → D.at ours.old copy.now ≡ Stored bytes
+        → AgreeUnless (λ m n. m ≡ n) (MayComeBeside (D.faultless ours.old) outboard.entry copy.entry path.entry)
+        (MayComeBeside (E.faultless theirs.old) outboard.entry copy.entry path.entry) result.0 result.1 }
+    ensures put { IsKnown (D.at ours.old copy.now) → OnOk result.0 (OnOk result.1 (SameWhereKnown (D.at ours.old) (D.at ours.new) (E.at theirs.new))) }
+    ensures kept { OnErr result.0 (OnErr result.1 (SameWhereKnown (D.at ours.old) (D.at ours.new) (E.at theirs.new))) }
+{
+    (
+        decode_copy_on(alloc, ours, mode, root, outboard, copy, path, progress),
+        decode_copy_on(alloc, theirs, mode, root, outboard, copy, path, progress),
+    )
 }

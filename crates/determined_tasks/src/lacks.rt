@@ -1,14 +1,15 @@
 // What no source has of a blob.
 
 ghost use Rattle.std.specs.Prelude.{◌≡◌, IfOk};
-ghost use Rattle.determined_tasks.specs.Lacks.{AreSound, SameLack};
+ghost use Rattle.bao_windows.specs.Available.{AreSound};
+ghost use Rattle.determined_tasks.specs.Lacks.{SameLack};
 
 use bao_read::Source;
 use bao_tasks::{Lack, Notes, lack_of};
 use bao_windows::Wanted;
 use std::alloc::{AllocError, Global};
 
-// Memory may run out at any time, and which length is certified depends on what each source gives at each read.
+// Memory may run out at any time.
 pub fn lack_of_determined<S: Source>(
     alloc: Global,
     wanted: &Wanted<'_>,

@@ -9,6 +9,8 @@ mod encodings;
 #[cfg(test)]
 mod gathering;
 #[cfg(test)]
+mod held;
+#[cfg(test)]
 mod inputs;
 #[cfg(test)]
 mod parts;

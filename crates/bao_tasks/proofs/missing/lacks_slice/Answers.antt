@@ -13,10 +13,10 @@ returns g c =
     let text : List ℕ = c.as_slice.result.now in
     let room : List ℕ = c.clear.new.self.items in
     let good : List ℕ → Type 0 = (λ t. IsAccepted c.args.mode.now c.args.root.now.0 t (slice_nodes t start len)) in
-    let quiet : c.new.result.faults < 2 ^ 64 - 1 = omega (arith, c.new.ensures.faults) in
+    let quiet : c.at.result.places.faults < 2 ^ 64 - 1 = omega (arith, c.at.ensures.faults) in
     let cut : OfBytes (g.S.Source.contents c.args.source.now) (λ bytes. text ≡ room ++ cut_text bytes start len) =
     subst (λ (t : List ℕ). OfBytes (g.S.Source.contents c.args.source.now) (λ bytes. t ≡ room ++ cut_text bytes start len)) (sym c.as_slice.ensures.value)
-    (subst (λ (s : g.row.S.Denot). OfBytes (g.S.Source.contents s) (λ bytes. c.fetch.new.into.items ≡ room ++ cut_text bytes start len)) c.new.ensures.source
+    (subst (λ (s : g.row.S.Denot). OfBytes (g.S.Source.contents s) (λ bytes. c.fetch.new.into.items ≡ room ++ cut_text bytes start len)) c.at.ensures.source
     (c.in-Ok.ensures.cut quiet)) in
     said_slice (g.S.Source.contents c.args.source.now) (g.S.Source.faultless c.args.source.now) (λ t. JudgesGroup c.is_err.result (good t)) room text start len
     c.clear.ensures.items cut (judged c.check_slice-checked.result c.is_err.result _ c.is_err.ensures.value c.check_slice-checked.ensures.accepted)

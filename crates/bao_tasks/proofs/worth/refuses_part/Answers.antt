@@ -20,10 +20,10 @@ returns g c =
     let text : List ℕ = c.as_slice.result.now in
     let room : List ℕ = c.clear.new.self.items in
     let good : List ℕ → ℕ → ℕ → Type 0 = (λ t from many. AreBare (outline_mode outline) (outline_root outline) (outline_text outline) from many t) in
-    let quiet : c.new.result.faults < 2 ^ 64 - 1 = omega (arith, c.new.ensures.faults) in
+    let quiet : c.at.result.places.faults < 2 ^ 64 - 1 = omega (arith, c.at.ensures.faults) in
     let part : OfBytes (g.S.Source.contents c.args.source.now) (λ bytes. text ≡ room ++ piece bytes (65536 * c.from-start.result) c.min-len.result) =
     subst (λ (t : List ℕ). OfBytes (g.S.Source.contents c.args.source.now) (λ bytes. t ≡ room ++ piece bytes (65536 * c.from-start.result) c.min-len.result)) (sym c.as_slice.ensures.value)
-    (subst (λ (s : g.row.S.Denot). OfBytes (g.S.Source.contents s) (λ bytes. c.fetch.new.into.items ≡ room ++ piece bytes (65536 * c.from-start.result) c.min-len.result)) c.new.ensures.source
+    (subst (λ (s : g.row.S.Denot). OfBytes (g.S.Source.contents s) (λ bytes. c.fetch.new.into.items ≡ room ++ piece bytes (65536 * c.from-start.result) c.min-len.result)) c.at.ensures.source
     (c.in-Ok.ensures.part quiet)) in
     let verdict : JudgesGroup c.is_err.result (good text (64 * c.from-first.result) c.min-count.result) = judged c.check_bare.result c.is_err.result _ c.is_err.ensures.value c.check_bare.ensures.accepted in
     said_part (g.S.Source.contents c.args.source.now) (g.S.Source.faultless c.args.source.now) (λ t. JudgesGroup c.is_err.result (good t (64 * n) (group_chunks total n))) room text

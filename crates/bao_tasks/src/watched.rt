@@ -1,0 +1,43 @@
+use bao_files::Progress;
+use bao_read::Source;
+use std::io;
+
+/// What a file of a gathering gives, of which `progress` is told how many bytes each read by position gave.
+pub(crate) struct Watched<'p, S, P> {
+    given: S,
+    progress: &'p P,
+}
+
+impl<S: Drop, P> Drop for Watched<'_, S, P> {
+    fn drop(self) {
+        let Watched {
+            given: _,
+            progress: _,
+        } = self;
+    }
+}
+
+impl<'p, S, P> Watched<'p, S, P> {
+    /// The same file, watched.
+    pub(crate) fn new(given: S, progress: &'p P) -> Watched<'p, S, P> {
+        Watched { given, progress }
+    }
+}
+
+impl<S: Source, P: Progress> Source for Watched<'_, S, P> {
+    ghost contents = { λ watched. S.contents watched.given };
+
+    ghost faultless = { λ watched. S.faultless watched.given };
+
+    fn read_at(&self, buf: &mut [u8], at: u64) -> io::Result<usize> {
+        let read = self.given.read_at(buf, at);
+        if let Ok(count) = &read {
+            self.progress.add(*count as u64);
+        }
+        read
+    }
+
+    fn at_hand(&self) -> Option<&[u8]> {
+        self.given.at_hand()
+    }
+}
