@@ -206,6 +206,36 @@ def cut(text, start, count):
     return made
 
 
+def parents_before(length, number, count):
+    """How many parents an outboard encoding has before the one over so many bytes from this chunk on."""
+    first, size, before = 0, length, 0
+    while (first, size) != (number * CHUNK_LEN, count):
+        left, before = left_len(size), before + 1
+        if number * CHUNK_LEN < first + left:
+            size = left
+        else:
+            first, size, before = first + left, size - left, before + left // CHUNK_LEN - 1
+    return before
+
+
+def cut_beside(outboard, copy, start, count):
+    """The same of the parents of an outboard encoding and the chunks of a plain copy."""
+    if len(outboard) < 8:
+        return outboard
+    length = int.from_bytes(outboard[:8], "little")
+    made = outboard[:8]
+    for it in slice_nodes(length, start, count):
+        if it.is_parent:
+            at = 8 + 64 * parents_before(length, it.number, it.length)
+            part = outboard[at : at + 64]
+        else:
+            part = copy[it.number * CHUNK_LEN :][: it.size]
+        made += part
+        if len(part) < it.size:
+            break
+    return made
+
+
 class Fault(Exception):
     def __init__(self, number, what, at):
         super().__init__(f"{number} {what} at {at}")

@@ -171,12 +171,20 @@ PIPED = [
 
 PART = f"{HOLED_LEN // 2} {ISLAND_LEN}"
 SLICED = (f"slice {PART} {HOLED} {MADE}", f"decode-slice @{HOLED} {PART} {MADE} {OUT}")
+CUT = (f"encode {HOLED} {MADE}", f"cut-slice @{HOLED} {PART} {MADE} {OUT}", f"decode-slice @{HOLED} {PART} {OUT} {OUT}")
+CUT_BESIDE = (f"outboard {HOLED} {MADE}", f"cut-slice --outboard {MADE} @{HOLED} {PART} {HOLED} {OUT}", f"decode-slice @{HOLED} {PART} {OUT} {OUT}")
+CUT_LONG = (f"encode 1G {MADE}", f"cut-slice @1G 0 {GIB} {MADE} {OUT}", f"decode @1G {OUT} {OUT}")
 ENCODED = (f"encode 1G {MADE}", f"decode @1G {MADE} {OUT}")
 OUTBOARDED = (f"outboard 1G {MADE}", *decode_beside(MADE, "1G", "1G"))
 
 # Long files, there and back.
 LONG = [
     Row("a slice out of the middle of 1 GiB", SLICED, KEEPS, like=ISLAND),
+    Row("a slice cut out of the encoding of 1 GiB", CUT, (READS, KEEPS, KEEPS), like=ISLAND),
+    Row("a slice cut out of 1 GiB beside its outboard encoding", CUT_BESIDE, (READS, KEEPS, KEEPS), like=ISLAND),
+    Row("all of 1 GiB cut out of its encoding", CUT_LONG, (READS, KEEPS, KEEPS), like="1G"),
+    Row("a slice cut out of 1 TiB of zeros", (f"cut-slice @4M {TIB // 2} 100 {CLAIMING} {OUT}",), KEEPS, "502 mismatch at 8", read=1),
+    Row("a slice cut out of 1 TiB beside zeros", (f"cut-slice --outboard {CLAIMING} @4M {TIB // 2} 100 zeros-1T {OUT}",), KEEPS, "502 mismatch at 8", read=1),
     Row("1 GiB encoded and decoded", ENCODED, (READS, KEEPS), like="1G"),
     Row("1 GiB decoded beside its outboard encoding", OUTBOARDED, READS, like="1G"),
 ]

@@ -111,6 +111,7 @@ OWN = {
     "encode": ["401"],
     "outboard": ["401"],
     "slice": ["401"],
+    "cut-slice": [],
     "decode": [],
     "decode-slice": [],
     "gather": ["903", "911"],
@@ -147,7 +148,7 @@ class Case:
         # Of several workers another may do what one has no memory for: what comes then depends on the system.
         is_shared = words[0] == "gather" and not re.search(r"--workers 1\b", " ".join(words))
         # What is written of these comes first what is known of all of it, and it isn't kept: so it is read again.
-        is_read_twice = words[0] == "encode" or "--outboard" in words and words[0] in DECODES
+        is_read_twice = words[0] in ("encode", "cut-slice") or "--outboard" in words and words[0] in DECODES
         self.read_twice = words[-2] if is_read_twice else None
         # A long file is encoded in another way where there is no memory for the first.
         self.needed = {PLAIN} if is_avoidable or is_shared else self.memory
@@ -226,10 +227,11 @@ class Case:
             return self.is_of_memory(ended) or is_unlisted(whole, ended)
         if fault.call == "pthread_create" or fault.how in HARMLESS:
             return ended == whole
-        # What is read in order ends where a read gives nothing, and so does what is verified as it is read.
-        is_in_order = fault.call == "read" or fault.call == "pread" and self.words[0] in DECODES
+        # What is read in order ends where a read gives nothing, and so does what is verified as it is read. At a file's end no read gives anything.
+        is_in_order = fault.call == "read" or fault.call == "pread" and self.words[0] in (*DECODES, "cut-slice")
         ends_early = is_in_order and fault.how == "none"
-        changes = frozenset((file, int(byte) if ends_early else None) for byte, file in met if file in self.files and file not in WRITTEN)
+        is_end = lambda byte, file: fault.how == "none" and byte.isdigit() and int(byte) >= len(self.files[file])
+        changes = frozenset((file, int(byte) if ends_early else None) for byte, file in met if file in self.files and file not in WRITTEN and not is_end(byte, file))
         is_again = self.is_placed and fault.call == "open" and all(file in self.files and file not in WRITTEN for _, file in met)
         if unreasoned(ended) == unreasoned(whole) and (is_again or fault.call in AVOIDABLE_CALLS or fault.how in AVOIDABLE):
             return True
@@ -247,8 +249,9 @@ class Case:
         return self.is_changed(fault, met, ended) or any(self.is_ending(it, places, ended, told) for it in wanted)
 
     def is_changed(self, fault, met, ended):
-        """A file couldn't be read again, or had changed."""
-        if fault.call not in ("read", "pread") or self.read_twice not in {file for _, file in met}:
+        """A file couldn't be read again, or had changed. Of the two that a slice is cut out of together the copy is told."""
+        told_as_copy = {self.words[self.words.index("--outboard") + 1]} if self.words[0] == "cut-slice" and "--outboard" in self.words else set()
+        if fault.call not in ("read", "pread") or not {file for _, file in met} & {self.read_twice, *told_as_copy}:
             return False
         whole = self.ending()
         told = (ended.status, ended.printed, ended.complaint) == (3, b"", f"bao_gather: cannot read {self.read_twice}\n".encode())
@@ -376,6 +379,9 @@ def tasks(options):
     yield case("encode blob out", {"blob": blob})
     yield case("outboard blob out", {"blob": blob})
     yield case("slice 5 9999 blob out", {"blob": blob})
+    yield case(f"cut-slice {root} 5 9999 whole out", {"whole": whole})
+    yield case(f"cut-slice {root} 39000 5 damaged out", {"damaged": damaged})
+    yield case(f"cut-slice --outboard parents {root} 5 9999 blob out", {"parents": parents, "blob": blob})
     yield case(f"decode {root} whole out", {"whole": whole})
     yield case(f"decode {root} damaged out", {"damaged": damaged})
     yield case(f"decode-slice {root} 5 9999 piece out", {"piece": piece})
@@ -450,12 +456,18 @@ def shows(program, shim, room):
     moves, stands = {"CLOCK": "moves"}, {"CLOCK": "stands"}
     failing = lambda call, at: {**moves, "CALL": call, "AT": str(at), "HOW": str(errno.EIO)}
     long, short, nowhere = blob_of(LONG), blob_of(70_000), "nowhere/out"
-    digits = {it: Case(["hash", "blob"], {"blob": it}).ending().printed for it in (long, short)}
+    mode = bao.Mode()
+    files_of = lambda it: {"blob": it, "enc": bao.combined(mode, it), "ob": bao.outboard(mode, it)}
+    printed = {it: Case(["hash", "blob"], {"blob": it}).ending().printed for it in (long, short)}
     first, slice_words = ["hash", "--length", "1", "blob"], ["slice", "5", "9999", "blob", OUT]
     written = [[task, "blob", OUT] for task in ("encode", "outboard")] + [slice_words]
+    # Those that verify what they read, of this blob: they print how many bytes it has.
+    verifying = ("decode", "gather")
+    verified = lambda it: [[task, *named, mode.hash(it).hex(), *([file, OUT] if task == "decode" else [OUT, file])] for task in verifying for named, file in (([], "enc"), (["--outboard", "ob"], "blob"))]
+    line_of = lambda words, it: f"ok {len(it)}\n".encode() if words[0] in verifying else printed[it][:2] + b"\n" if words == first else printed[it]
     # The words, the blob, how the clock goes and a call ends, whether lines are shown, and the fault after them where there is one.
-    trials = [(words, long, how, how is moves, b"") for words in [["hash", "blob"], first, *written] for how in (moves, stands)]
-    trials += [(words, short, moves, False, b"") for words in [["hash", "blob"], *written]]
+    trials = [(words, long, how, how is moves, b"") for words in [["hash", "blob"], first, *written, *verified(long)] for how in (moves, stands)]
+    trials += [(words, short, moves, False, b"") for words in [["hash", "blob"], *written, *verified(short)]]
     trials.append((["encode", "blob", nowhere], long, moves, True, f"bao_gather: cannot write {nowhere}\n".encode()))
     # A read at a place that fails has the file read in order, which is shown too; one in order that fails ends the work.
     trials += [(words, long, failing("pread", 7), True, b"") for words in (["hash", "blob"], slice_words)]
@@ -465,22 +477,22 @@ def shows(program, shim, room):
     passed, wrong = 0, []
     with tempfile.TemporaryDirectory(dir=room) as folder:
         for words, blob, how, is_shown, fault in trials:
-            case = Case(words, {"blob": blob})
+            case = Case(words, files_of(blob))
             case.lay_out(folder)
-            status, printed, got = on_terminal(program, shim, folder, words, how)
-            wanted = (3, b"") if fault else (0, digits[blob][:2] + b"\n" if words == first else digits[blob])
+            status, told, got = on_terminal(program, shim, folder, words, how)
+            wanted = (3, b"") if fault else (0, line_of(words, blob))
             left = got.removesuffix(fault) if got.endswith(fault) else b"no fault"
             is_in_order = not fault and words == first
-            if (status, printed) == wanted and (are_lines(left, is_in_order) if is_shown else left == b""):
+            if (status, told) == wanted and (are_lines(left, is_in_order) if is_shown else left == b""):
                 passed += 1
             else:
-                wrong.append(f"{case.name}: {how}, {len(blob)} bytes: {status} {printed} {got}"[:900])
+                wrong.append(f"{case.name}: {how}, {len(blob)} bytes: {status} {told} {got}"[:900])
         # Where standard error is no terminal, nothing is shown, whatever the clock says.
-        for words in [["hash", "blob"], *written]:
-            case = Case(words, {"blob": long})
+        for words in [["hash", "blob"], *written, *verified(long)]:
+            case = Case(words, files_of(long))
             case.lay_out(folder)
             ended, _ = case.run(program, folder, {"LD_PRELOAD": shim, **moves})
-            if (ended.status, ended.printed, ended.complaint) == (0, digits[long], b""):
+            if (ended.status, ended.printed, ended.complaint) == (0, line_of(words, long), b""):
                 passed += 1
             else:
                 wrong.append(f"{case.name}: into a pipe: {ended.status} {ended.printed} {ended.complaint}"[:900])
@@ -520,7 +532,7 @@ def holders():
         yield gather([name])
         yield gather([name, "whole"])
         yield gather([name, name, "whole"], "--workers", "1")
-        for task in (["decode", root, name, OUT], ["decode-slice", root, "1000", "100", name, OUT], ["hash", name]):
+        for task in (["decode", root, name, OUT], ["decode-slice", root, "1000", "100", name, OUT], ["cut-slice", root, "1000", "100", name, OUT], ["hash", name]):
             yield Case(task, files)
         # As a plain copy beside the outboard encoding, and in the place of that.
         yield gather([name], "--outboard", "outboard")

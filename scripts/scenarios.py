@@ -686,7 +686,7 @@ class Programs:
     CONTEXT_SPACE, MOST_FILES = "_", 64
 
     # Which word after the command's name is OUT, and the names that it may not have.
-    OUTS = {"encode": 1, "outboard": 1, "slice": 3, "decode": 2, "decode-slice": 4, "gather": 1}
+    OUTS = {"encode": 1, "outboard": 1, "slice": 3, "cut-slice": 4, "decode": 2, "decode-slice": 4, "gather": 1}
     STANDARD_OUTPUT = ["-", "/dev/stdout", "/dev/fd/1", "/proc/self/fd/1"]
 
     def __init__(self):
@@ -711,7 +711,7 @@ class Programs:
     def why(self, name, options, given, fault):
         """What is told with --verbose of a file that can't be read. Of the files of a gathering it is told where they are left out."""
         file = fault.removeprefix("cannot read ")
-        is_told = name == "gather" and file in given[2:] or name not in ("decode", "decode-slice", "gather")
+        is_told = name == "gather" and file in given[2:] or name not in ("cut-slice", "decode", "decode-slice", "gather")
         return [f"{file}: {self.reason_of(file)}"] if "--verbose" in options and file != fault and not is_told else []
 
     def check_list(self, options, given):
@@ -774,7 +774,7 @@ class Programs:
                 plain.append(word)
         name, *given = plain
         try:
-            root = self.root_of(given[0]) if name in ("decode", "decode-slice", "gather", "replay") else None
+            root = self.root_of(given[0]) if name in ("cut-slice", "decode", "decode-slice", "gather", "replay") else None
             if "--long" in options and ("--encode" in options or options["--capacity"] != "65536"):
                 raise Refused(2, "usage: long excludes capacity and encode")
             mode = self.mode_of(options.get("--key"), options.get("--context"), options.get("--key-file"))
@@ -812,6 +812,31 @@ class Programs:
     def slice(self, mode, root, options, given):
         start, count, file, out = given
         return self.encoded(mode, file, out, lambda blob: bao.slice_text(mode, blob, int(start), int(count)))
+
+    def read_regular(self, file):
+        if file in self.irregular:
+            raise Refused(3, f"cannot read {file}")
+        return self.read(file)
+
+    def cut_slice(self, mode, root, options, given):
+        start, count, file, out = int(given[1]), int(given[2]), given[3], given[4]
+        parents = options.get("--outboard", file)
+        text = self.read_regular(parents)
+        if "--outboard" in options:
+            text = bao.cut_beside(text, self.read_regular(file), start, count)
+        else:
+            text = bao.cut(text, start, count)
+        try:
+            length, _, _ = bao.checked(mode, root, text, lambda length: bao.slice_nodes(length, start, count))
+        except bao.Fault as fault:
+            if "--verbose" in options and fault.at >= 8:
+                it = next(it for it in bao.slice_nodes(int.from_bytes(text[:8], "little"), start, count) if it.offset == fault.at)
+                first = bao.CHUNK_LEN * it.number
+                bytes_told = f"bytes {first} to {max(first + it.length, 1) - 1} of the blob"
+                self.told = [f"{parents}: damaged parent over {bytes_told}" if it.is_parent else f"{file}: damaged at {bytes_told}"]
+            raise Refused(1, str(fault)) from None
+        self.write(out, text)
+        return f"ok {min(start + count, length) - min(start, length)}"
 
     def outline(self, mode, root, options):
         """The outboard encoding beside which the files are plain copies, if the words name one."""

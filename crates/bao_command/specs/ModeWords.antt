@@ -46,6 +46,19 @@ HasMode request mode = AsksForMode (option_copied request.key) (option_copied re
 abbrev pub MixesKeys : Request → Type 0
 MixesKeys request = IsSome request.key_file × (IsSome request.key ⊎ IsSome request.context)
 
+-- a text is there, and isn't 64 hexadecimal digits
+abbrev pub IsNoKey : Option (Bor (List ℕ)) → Type 0
+IsNoKey None = ⊥
+IsNoKey (Some text) = ¬ IsDigits text.now
+
+-- the request has a key that isn't
+abbrev pub HasBadKey : Request → Type 0
+HasBadKey request = IsNoKey request.key
+
+-- it has a key and a context
+abbrev pub HasKeyAndContext : Request → Type 0
+HasKeyAndContext request = IsSome request.key × IsSome request.context
+
 -- a fault of a mode's words, or of the file that they name
 abbrev pub IsModeFault : Option (Bor (List ℕ)) → Fault → Type 0
 IsModeFault named fault =

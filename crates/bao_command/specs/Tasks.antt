@@ -1,5 +1,5 @@
 -- what a task prints, and what it writes to its file OUT
-use Rattle.std.specs.Prelude.{◌≡◌, ◌≢◌, ◌⊎◌, ◌<◌, ◌≤◌, ℕ, ◌+◌, ◌-◌, ◌^◌, true, List, length, Option, Some, None, Result, Ok, Err, codes, HoldsAt}
+use Rattle.std.specs.Prelude.{◌≡◌, ◌≢◌, ◌⊎◌, ◌<◌, ◌≤◌, ℕ, ◌+◌, ◌-◌, ◌^◌, true, List, length, Option, Some, None, Result, Ok, Err, IsSome, codes, HoldsAt}
 use Rattle.std.specs.Borrow.{Bor}
 use Rattle.std.specs.Io.KnownBytes.{Appends, Keeps}
 use Rattle.b3tree.specs.declared.mode.Mode.{Mode}
@@ -10,6 +10,7 @@ use Rattle.bao_command.specs.declared.fault.Fault.TheVariants.{Word, Root, Key, 
 use Rattle.bao_files.specs.declared.fault.FileFault.{FileFault}
 use Rattle.bao_files.specs.declared.fault.FileFault.TheVariants as file
 use Rattle.bao_files.specs.declared.kinds.Part.{Part}
+use Rattle.bao_files.specs.declared.kinds.Part.TheVariants.{Slice}
 use Rattle.bao_files.specs.Printed.{AppendsBeginning, IsDigits, digits_line, ok_line}
 use Rattle.bao_decode.specs.Copies.{IsCopy}
 use Rattle.bao_decode.specs.Ranges.{IsPartText, written_count}
@@ -17,9 +18,9 @@ use Rattle.bao_tasks.specs.Gathered.{Fits, HasOutline}
 use Rattle.bao_tasks.specs.Replayed.{IsReplayOf}
 use Rattle.bao_request.specs.declared.tasks.Request.{Request}
 use Rattle.bao_request.specs.declared.tasks.Task.{Task}
-use Rattle.bao_request.specs.declared.tasks.Task.TheVariants.{Hash, Encode, Decode, DecodeCopy, Gather, Replay}
+use Rattle.bao_request.specs.declared.tasks.Task.TheVariants.{Hash, Encode, CutSlice, Decode, DecodeCopy, Gather, Replay}
 use Rattle.hex.specs.Hex.{decode_of}
-use Rattle.bao_command.specs.ModeWords.{HasMode, MixesKeys}
+use Rattle.bao_command.specs.ModeWords.{HasBadKey, HasKeyAndContext, HasMode, MixesKeys}
 
 -- that of a part of a text
 abbrev pub part_line : Part → List ℕ → List ℕ
@@ -30,6 +31,7 @@ part_line part bytes = ok_line (written_count part bytes)
 abbrev pub line_of : Mode → Task → List ℕ → List ℕ
 line_of mode (Hash at length file) bytes = digits_line (stream mode bytes at length)
 line_of mode (Encode encoding file out) bytes = digits_line (hash mode bytes)
+line_of mode (CutSlice root start len outboard verbose file out) bytes = part_line (Slice start len) bytes
 line_of mode (Decode root part verbose file out) bytes = part_line part bytes
 line_of mode (DecodeCopy root outboard verbose copy out) bytes = ok_line (length bytes)
 line_of mode (Gather root workers capacity long outboard salvage encode verbose missing files out) bytes = ok_line (length bytes)
@@ -39,6 +41,7 @@ line_of mode (Replay root capacity script files) bytes = bytes
 abbrev pub HasRoot : Task → Type 0
 HasRoot (Hash at length file) = Unit {0}
 HasRoot (Encode encoding file out) = Unit {0}
+HasRoot (CutSlice root start len outboard verbose file out) = IsDigits root.now
 HasRoot (Decode root part verbose file out) = IsDigits root.now
 HasRoot (DecodeCopy root outboard verbose copy out) = IsDigits root.now
 HasRoot (Gather root workers capacity long outboard salvage encode verbose missing files out) = IsDigits root.now
@@ -56,6 +59,7 @@ IsListAt out (Some list) = (list.now ≡ out) ⊎ (¬ IsNoOutput list.now)
 abbrev pub ListClashes : Task → Type 0
 ListClashes (Hash at length file) = ⊥
 ListClashes (Encode encoding file out) = ⊥
+ListClashes (CutSlice root start len outboard verbose file out) = ⊥
 ListClashes (Decode root part verbose file out) = ⊥
 ListClashes (DecodeCopy root outboard verbose copy out) = ⊥
 ListClashes (Gather root workers capacity long outboard salvage encode verbose missing files out) = IsListAt out.now missing
@@ -78,6 +82,7 @@ IsListRead key_file outboard files (Some list) = IsPathAmong list.now files ⊎ 
 abbrev pub ReadsListOf : Option (Bor (List ℕ)) → Task → Type 0
 ReadsListOf key_file (Hash at length file) = ⊥
 ReadsListOf key_file (Encode encoding file out) = ⊥
+ReadsListOf key_file (CutSlice root start len outboard verbose file out) = ⊥
 ReadsListOf key_file (Decode root part verbose file out) = ⊥
 ReadsListOf key_file (DecodeCopy root outboard verbose copy out) = ⊥
 ReadsListOf key_file (Gather root workers capacity long outboard salvage encode verbose missing files out) = IsListRead key_file outboard files.items missing
@@ -90,6 +95,7 @@ ReadsList request = ReadsListOf request.key_file request.task
 abbrev pub WritesApart : Task → Type 0
 WritesApart (Hash at length file) = Unit {0}
 WritesApart (Encode encoding file out) = IsNoOutput out.now
+WritesApart (CutSlice root start len outboard verbose file out) = IsNoOutput out.now
 WritesApart (Decode root part verbose file out) = IsNoOutput out.now
 WritesApart (DecodeCopy root outboard verbose copy out) = IsNoOutput out.now
 WritesApart (Gather root workers capacity long outboard salvage encode verbose missing files out) = IsNoOutput out.now
@@ -103,6 +109,7 @@ GoesApart request = WritesApart request.task × (¬ ListClashes request.task) ×
 abbrev pub IsPastOutput : Task → Type 0
 IsPastOutput (Hash at length file) = ¬ (at + length ≤ 2 ^ 64 - 1)
 IsPastOutput (Encode encoding file out) = ⊥
+IsPastOutput (CutSlice root start len outboard verbose file out) = ⊥
 IsPastOutput (Decode root part verbose file out) = ⊥
 IsPastOutput (DecodeCopy root outboard verbose copy out) = ⊥
 IsPastOutput (Gather root workers capacity long outboard salvage encode verbose missing files out) = ⊥
@@ -112,6 +119,7 @@ IsPastOutput (Replay root capacity script files) = ⊥
 abbrev pub IsMixed : Task → Type 0
 IsMixed (Hash at length file) = ⊥
 IsMixed (Encode encoding file out) = ⊥
+IsMixed (CutSlice root start len outboard verbose file out) = ⊥
 IsMixed (Decode root part verbose file out) = ⊥
 IsMixed (DecodeCopy root outboard verbose copy out) = ⊥
 IsMixed (Gather root workers capacity long outboard salvage encode verbose missing files out) = (long ≡ true) × ((capacity ≢ 65536) ⊎ (encode ≡ true))
@@ -121,26 +129,106 @@ IsMixed (Replay root capacity script files) = ⊥
 abbrev pub HasManyFiles : Task → Type 0
 HasManyFiles (Hash at length file) = ⊥
 HasManyFiles (Encode encoding file out) = ⊥
+HasManyFiles (CutSlice root start len outboard verbose file out) = ⊥
 HasManyFiles (Decode root part verbose file out) = ⊥
 HasManyFiles (DecodeCopy root outboard verbose copy out) = ⊥
 HasManyFiles (Gather root workers capacity long outboard salvage encode verbose missing files out) = 64 < length files.items
 HasManyFiles (Replay root capacity script files) = 64 < length files.items
 
--- What the arguments may be refused for: the root, where the output ends, how many files there are, where OUT is, what excludes each other, in the task
--- and in the mode, where LIST is, and that it is read.
+-- the task writes to a file OUT
+abbrev pub HasOut : Task → Type 0
+HasOut (Hash at length file) = ⊥
+HasOut (Encode encoding file out) = Unit {0}
+HasOut (CutSlice root start len outboard verbose file out) = Unit {0}
+HasOut (Decode root part verbose file out) = Unit {0}
+HasOut (DecodeCopy root outboard verbose copy out) = Unit {0}
+HasOut (Gather root workers capacity long outboard salvage encode verbose missing files out) = Unit {0}
+HasOut (Replay root capacity script files) = ⊥
+
+-- it has a file LIST
+abbrev pub HasList : Task → Type 0
+HasList (Hash at length file) = ⊥
+HasList (Encode encoding file out) = ⊥
+HasList (CutSlice root start len outboard verbose file out) = ⊥
+HasList (Decode root part verbose file out) = ⊥
+HasList (DecodeCopy root outboard verbose copy out) = ⊥
+HasList (Gather root workers capacity long outboard salvage encode verbose missing files out) = IsSome missing
+HasList (Replay root capacity script files) = ⊥
+
+-- it decodes an encoding, a slice of one, or a plain copy
+abbrev pub Decodes : Task → Type 0
+Decodes (Hash at length file) = ⊥
+Decodes (Encode encoding file out) = ⊥
+Decodes (CutSlice root start len outboard verbose file out) = Unit {0}
+Decodes (Decode root part verbose file out) = Unit {0}
+Decodes (DecodeCopy root outboard verbose copy out) = Unit {0}
+Decodes (Gather root workers capacity long outboard salvage encode verbose missing files out) = ⊥
+Decodes (Replay root capacity script files) = ⊥
+
+-- it gathers
+abbrev pub Gathers : Task → Type 0
+Gathers (Hash at length file) = ⊥
+Gathers (Encode encoding file out) = ⊥
+Gathers (CutSlice root start len outboard verbose file out) = ⊥
+Gathers (Decode root part verbose file out) = ⊥
+Gathers (DecodeCopy root outboard verbose copy out) = ⊥
+Gathers (Gather root workers capacity long outboard salvage encode verbose missing files out) = Unit {0}
+Gathers (Replay root capacity script files) = ⊥
+
+-- it runs a schedule
+abbrev pub Replays : Task → Type 0
+Replays (Hash at length file) = ⊥
+Replays (Encode encoding file out) = ⊥
+Replays (CutSlice root start len outboard verbose file out) = ⊥
+Replays (Decode root part verbose file out) = ⊥
+Replays (DecodeCopy root outboard verbose copy out) = ⊥
+Replays (Gather root workers capacity long outboard salvage encode verbose missing files out) = ⊥
+Replays (Replay root capacity script files) = Unit {0}
+
+-- What a fault may come of: of the arguments, the root, where the output ends, how many files there are, that OUT is standard output or is there at
+-- all, what excludes each other in the task, that LIST is OUT, is read, or is there at all; of the mode, that keys exclude each other, a key, a key
+-- beside a context, and that a key's file is there; and of the task, that it decodes, gathers or runs a schedule.
 pub record Reasons : Type 1 where
   pub root : Type 0
   pub past : Type 0
   pub many : Type 0
   pub out : Type 0
+  pub leads : Type 0
   pub mixed : Type 0
-  pub keys : Type 0
   pub list : Type 0
   pub read : Type 0
+  pub listed : Type 0
+  pub keys : Type 0
+  pub key : Type 0
+  pub both : Type 0
+  pub key_file : Type 0
+  pub decodes : Type 0
+  pub gathers : Type 0
+  pub replays : Type 0
 
 -- none of these
 abbrev pub no_reasons : Reasons
-no_reasons = record { root = ⊥; past = ⊥; many = ⊥; out = ⊥; mixed = ⊥; keys = ⊥; list = ⊥; read = ⊥ }
+no_reasons = record { root = ⊥; past = ⊥; many = ⊥; out = ⊥; leads = ⊥; mixed = ⊥; list = ⊥; read = ⊥; listed = ⊥; keys = ⊥; key = ⊥; both = ⊥; key_file = ⊥; decodes = ⊥; gathers = ⊥; replays = ⊥ }
+
+-- those of a request's mode
+abbrev pub mode_reasons_of : Request → Reasons
+mode_reasons_of request = record no_reasons {
+  keys = MixesKeys request;
+  key = HasBadKey request;
+  both = HasKeyAndContext request;
+  key_file = IsSome request.key_file;
+}
+
+-- those of what a task does
+abbrev pub task_reasons_of : Task → Reasons
+task_reasons_of task = record no_reasons {
+  root = ¬ HasRoot task;
+  past = IsPastOutput task;
+  many = HasManyFiles task;
+  decodes = Decodes task;
+  gathers = Gathers task;
+  replays = Replays task;
+}
 
 -- those of a request
 abbrev pub reasons_of : Request → Reasons
@@ -149,22 +237,40 @@ reasons_of request = record {
   past = IsPastOutput request.task;
   many = HasManyFiles request.task;
   out = ¬ WritesApart request.task;
+  leads = HasOut request.task;
   mixed = IsMixed request.task;
-  keys = MixesKeys request;
   list = ListClashes request.task;
   read = ReadsList request;
+  listed = HasList request.task;
+  keys = MixesKeys request;
+  key = HasBadKey request;
+  both = HasKeyAndContext request;
+  key_file = IsSome request.key_file;
+  decodes = Decodes request.task;
+  gathers = Gathers request.task;
+  replays = Replays request.task;
 }
 
--- The arguments are refused only with reason.
-pub record IsDue (reasons : Reasons) (fault : Fault) : Type 0 where
-  pub root : fault ≡ Root → reasons.root
-  pub past : fault ≡ OutputRange → reasons.past
-  pub many : fault ≡ TooManyFiles → reasons.many
-  pub out : fault ≡ OutIsOutput → reasons.out
-  pub mixed : fault ≡ LongAndOthers → reasons.mixed
-  pub keys : fault ≡ KeyFileAndOthers → reasons.keys
-  pub list : fault ≡ ListIsOut → reasons.list
-  pub read : fault ≡ ListIsRead → reasons.read
+-- The fault comes only with its reason. Whether two names lead to one file, and what a file has, nobody knows: so it is enough that there is one.
+abbrev pub IsDue : Reasons → Fault → Type 0
+IsDue reasons Word = ⊥
+IsDue reasons Root = reasons.root
+IsDue reasons Key = reasons.key
+IsDue reasons KeyAndContext = reasons.both
+IsDue reasons KeyFile = reasons.key_file
+IsDue reasons KeyFileAndOthers = reasons.keys
+IsDue reasons OutputRange = reasons.past
+IsDue reasons TooManyFiles = reasons.many
+IsDue reasons OutIsOutput = reasons.out
+IsDue reasons OutLeadsToOutput = reasons.leads
+IsDue reasons LongAndOthers = reasons.mixed
+IsDue reasons ListIsOut = reasons.list
+IsDue reasons ListIsRead = reasons.read
+IsDue reasons ListLeadsToOther = reasons.listed
+IsDue reasons (File fault) = Unit {0}
+IsDue reasons (Undecoded fault) = reasons.decodes
+IsDue reasons (Ungathered fault) = reasons.gathers
+IsDue reasons (Unreplayed fault) = reasons.replays
 
 -- the text of a part of the blob with this root, in hexadecimal digits, is accepted
 abbrev pub IsRightPart : Mode → List ℕ → Part → List ℕ → Type 0
@@ -187,12 +293,13 @@ abbrev pub IsBeside : Mode → List ℕ → Option (Bor (List ℕ)) → Type 0
 IsBeside mode root None = Unit {0}
 IsBeside mode root (Some outboard) = (key : List ℕ) × ((decode_of root ≡ Ok key) × HasOutline mode key)
 
--- what the bytes have to be: a text that is decoded is accepted under the root that the arguments give, or a plain copy is beside an
+-- what the bytes have to be: a text that is decoded is accepted under the root that the arguments give, as is a slice that was cut out of one, or a plain copy is beside an
 -- outboard encoding that is; a blob that is gathered, from at most 64 files, has that root and, where it mayn't be of any length, no more chunks than the capacity,
 -- and an outboard encoding that it is gathered beside was accepted under that root; and a schedule's replies are those of its run
 abbrev pub IsRight : Mode → Task → List ℕ → Type 0
 IsRight mode (Hash at length file) bytes = Unit {0}
 IsRight mode (Encode encoding file out) bytes = Unit {0}
+IsRight mode (CutSlice root start len outboard verbose file out) bytes = IsRightPart mode root.now (Slice start len) bytes
 IsRight mode (Decode root part verbose file out) bytes = IsRightPart mode root.now part bytes
 IsRight mode (DecodeCopy root outboard verbose copy out) bytes = IsRightCopy mode root.now bytes
 IsRight mode (Gather root workers capacity long outboard salvage encode verbose missing files out) bytes =

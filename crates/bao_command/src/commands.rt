@@ -1,18 +1,21 @@
-ghost use Rattle.std.specs.Prelude.{◌≡◌, ◌≢◌, ◌⊎◌, true, false, if◌then◌else◌, ◌+◌, ◌-◌, ◌*◌, ◌^◌, ◌<◌, ◌≤◌, ℕ, List, length, map, string_bytes, take, IfErr, IfOk, IsErr, IsErrAnd, OnOk};
+ghost use Rattle.std.specs.Prelude.{◌≡◌, ◌≢◌, ◌⊎◌, ⊤, true, false, if◌then◌else◌, ◌+◌, ◌-◌, ◌*◌, ◌^◌, ◌<◌, ◌≤◌, ℕ, List, length, map, string_bytes, take, IfErr, IfOk, IsErr, IsErrAnd, OnOk};
 ghost use Rattle.bao_command.specs.declared.fault.Fault.TheVariants as Fault;
 ghost use Rattle.gather.specs.declared.grain.Grain.TheVariants as Grain;
 ghost use Rattle.std.specs.Io.KnownBytes.{Appends, Keeps};
 ghost use Rattle.b3tree.specs.Hashing.{hash as hash_of, stream};
 ghost use Rattle.clap.specs.Words.{kind_of};
+ghost use Rattle.clap.specs.declared.error.kind.ErrorKind.TheVariants as ErrorKind;
 ghost use Rattle.hex.specs.Hex.{decode_of};
 ghost use Rattle.bao_request.specs.CommandLine.{IsHelp};
 ghost use Rattle.bao_files.specs.Printed.{IsDigits, IsQuiet, digits_line, ok_line};
 ghost use Rattle.bao_files.specs.declared.fault.FileFault.{FileFault};
+ghost use Rattle.bao_files.specs.declared.kinds.Part.TheVariants as Part;
+ghost use Rattle.bao_decode.specs.Ranges.{IsPartText, written_count};
 ghost use Rattle.bao_tasks.specs.Gathered.{Fits};
 ghost use Rattle.bao_command.specs.ModeWords.{MixesKeys};
-ghost use Rattle.bao_command.specs.Outcome.{AreRefused, Begun, Done};
+ghost use Rattle.bao_command.specs.Outcome.{AreRefused, Begun, Done, IsRefusable, IsUsage};
 ghost use Rattle.bao_command.specs.Printed.{CommandPrints, OnPrinted, told_of};
-ghost use Rattle.bao_command.specs.Tasks.{Answers, HasHash, HasManyFiles, HasRoot, IsBeside, IsDue, IsMixed, IsNoOutput, IsPastOutput, IsReplay, IsRight, IsRightCopy, IsRightPart, ListClashes, ReadsList, WritesApart, line_of, no_reasons, part_line, reasons_of};
+ghost use Rattle.bao_command.specs.Tasks.{Answers, HasHash, HasManyFiles, HasRoot, IsBeside, IsDue, IsMixed, IsNoOutput, IsPastOutput, IsReplay, IsRight, IsRightCopy, IsRightPart, ListClashes, ReadsList, WritesApart, line_of, no_reasons, part_line, reasons_of, task_reasons_of};
 ghost use Rattle.bao_command.specs.Told.{part_line as missing_line, parts_line, unlooked_line, worth_line};
 
 use crate::fault::Fault;
@@ -20,10 +23,10 @@ use crate::help::{show, shown_status};
 use crate::lists::check_list;
 use crate::mode::asked_mode;
 use crate::places::{check_places, is_one_file};
-use crate::refused::{tell_beside, tell_encoding};
+use crate::refused::{tell_beside, tell_cut, tell_encoding};
 use crate::unread::{tell_left_out, tell_why};
 use b3tree::{Hash, Mode, xof_fits};
-use bao_decode::{DecodeFault, decode_copy, decode_file};
+use bao_decode::{DecodeFault, decode_copy, decode_file, slice_beside, slice_file};
 use bao_files::{
     Encoding, FileFault, Once, Part, Progress, Shown, System, bytes_of_digits, encode_file,
     open_file, print_count, print_digits, print_input, print_text, shared_len,
@@ -57,7 +60,8 @@ const MOST_CHUNKS: u32 = 65_536;
 ///
 /// At status 0 `out` has the line of the request that the arguments make, on the file's bytes or the gathered blob, or
 /// where they ask for it help or the version, or a beginning of that where its reader closed the pipe. At 3 it has a
-/// beginning at most, and after other faults nothing. Arguments that `clap` refuses give 2, or 4 out of memory.
+/// beginning at most, and after other faults nothing. Arguments that `clap` refuses give 2, or 4 out of memory. 2 comes only where there is a reason
+/// to refuse the arguments, and 1 only of a task that may refuse a text or a blob: `hash` and the encoders don't.
 pub fn command<
     R: Files<File = File> + AllocGlobal + Threads + Sync,
     O: Write,
@@ -69,6 +73,8 @@ pub fn command<
     ensures file_fault { result ≡ 3 → Begun (map string_bytes words.now) (O.contents out.old) (O.contents out.new) }
     ensures fault { result ≢ 0 → result ≢ 3 → Keeps (O.contents out.old) (O.contents out.new) }
     ensures refused { AreRefused (map string_bytes words.now) → (result ≡ 2) ⊎ (result ≡ 4) }
+    ensures usage { result ≡ 2 → IsUsage (map string_bytes words.now) }
+    ensures refusal { result ≡ 1 → IsRefusable (map string_bytes words.now) }
 {
     match parse(rt.alloc(), words) {
         Ok(request) => match serve(rt, &request, out, err, progress) {
@@ -113,7 +119,7 @@ fn serve<
 // The answer of printing, as a fault of the program.
 fn told<'a>(printed: Result<(), FileFault<'a>>) -> Result<(), Fault<'a>>
     ensures prints { result ≡ told_of printed.entry }
-    ensures due { IfErr result (IsDue no_reasons) }
+    ensures due { IfErr result (λ fault. (file : FileFault) × (fault ≡ Fault.File file)) }
 {
     match printed {
         Ok(()) => Ok(()),
@@ -176,8 +182,60 @@ fn encode<'a, R: Files<File = File> + AllocGlobal + Threads + Sync, O: Write, P:
     }
 }
 
+// Cuts the slice out of the file, a plain copy where an outboard encoding is named.
+fn slice_of<'a, R: Files<File = File> + AllocGlobal>(
+    rt: &R,
+    mode: &Mode,
+    root: &Hash,
+    start: u64,
+    len: u64,
+    outboard: Option<&'a str>,
+    file: &'a str,
+    path: &'a str,
+) -> Result<u64, DecodeFault<'a>>
+    ensures { IfOk result (λ count. (text : List ℕ) × IsPartText mode.now root.now.0 (Part.Slice start len) text × (count ≡ written_count (Part.Slice start len) text)) }
+{
+    match outboard {
+        Some(outboard) => slice_beside(rt, mode, root, start, len, outboard, file, path),
+        None => slice_file(rt, mode, root, start, len, file, path),
+    }
+}
+
+// Cuts a slice out, and prints how many bytes of its range the blob has. It says where it is asked what is at fault where the slice is refused.
+fn cut_slice<'a, R: Files<File = File> + AllocGlobal, O: Write, E: Write>(
+    rt: &R,
+    mode: &Mode,
+    digits: &str,
+    start: u64,
+    len: u64,
+    outboard: Option<&'a str>,
+    verbose: bool,
+    file: &'a str,
+    path: &'a str,
+    out: &mut O,
+    err: &mut E,
+) -> Result<(), Fault<'a>>
+    ensures prints { (bytes : List ℕ) × OnPrinted result (IsRightPart mode.now digits.now (Part.Slice start len) bytes)
+        × CommandPrints (part_line (Part.Slice start len) bytes) (O.contents out.old) (O.contents out.new) result }
+    ensures due { IfErr result (IsDue (record no_reasons { root = ¬ IsDigits digits.now; decodes = ⊤ })) }
+{
+    let root = root_of(digits)?;
+    match slice_of(rt, mode, &root, start, len, outboard, file, path) {
+        Ok(count) => told(print_count(rt.alloc(), count, out)),
+        Err(fault) => {
+            match fault {
+                DecodeFault::Check(fault) if verbose => {
+                    tell_cut(rt, start, len, outboard, file, fault, err);
+                }
+                _ => {}
+            }
+            Err(Fault::Decode(fault))
+        }
+    }
+}
+
 // Decodes the file, and prints how many bytes were written. It says where it is asked at which place the file is refused.
-fn decode<'a, R: Files<File = File> + AllocGlobal + Threads + Sync, O: Write, E: Write>(
+fn decode<'a, R: Files<File = File> + AllocGlobal, O: Write, E: Write, P: Progress>(
     rt: &R,
     mode: &Mode,
     digits: &str,
@@ -187,13 +245,14 @@ fn decode<'a, R: Files<File = File> + AllocGlobal + Threads + Sync, O: Write, E:
     path: &'a str,
     out: &mut O,
     err: &mut E,
+    progress: &P,
 ) -> Result<(), Fault<'a>>
     ensures prints { (bytes : List ℕ) × OnPrinted result (IsRightPart mode.now digits.now part.now bytes)
         × CommandPrints (part_line part.now bytes) (O.contents out.old) (O.contents out.new) result }
-    ensures due { IfErr result (IsDue (record no_reasons { root = ¬ IsDigits digits.now })) }
+    ensures due { IfErr result (IsDue (record no_reasons { root = ¬ IsDigits digits.now; decodes = ⊤ })) }
 {
     let root = root_of(digits)?;
-    match decode_file(rt, mode, &root, part, file, path) {
+    match decode_file(rt, mode, &root, part, file, path, progress) {
         Ok(count) => told(print_count(rt.alloc(), count, out)),
         Err(fault) => {
             match fault {
@@ -207,7 +266,7 @@ fn decode<'a, R: Files<File = File> + AllocGlobal + Threads + Sync, O: Write, E:
 
 // Verifies the plain copy beside the outboard encoding, and prints how many bytes were written. It says where it is asked which
 // of the two is refused, and at which place.
-fn decode_beside<'a, R: Files<File = File> + AllocGlobal, O: Write, E: Write>(
+fn decode_beside<'a, R: Files<File = File> + AllocGlobal, O: Write, E: Write, P: Progress>(
     rt: &R,
     mode: &Mode,
     digits: &str,
@@ -217,13 +276,14 @@ fn decode_beside<'a, R: Files<File = File> + AllocGlobal, O: Write, E: Write>(
     path: &'a str,
     out: &mut O,
     err: &mut E,
+    progress: &P,
 ) -> Result<(), Fault<'a>>
     ensures prints { (bytes : List ℕ) × OnPrinted result (IsRightCopy mode.now digits.now bytes)
         × CommandPrints (ok_line (length bytes)) (O.contents out.old) (O.contents out.new) result }
-    ensures due { IfErr result (IsDue (record no_reasons { root = ¬ IsDigits digits.now })) }
+    ensures due { IfErr result (IsDue (record no_reasons { root = ¬ IsDigits digits.now; decodes = ⊤ })) }
 {
     let root = root_of(digits)?;
-    match decode_copy(rt, mode, &root, outboard, copy, path) {
+    match decode_copy(rt, mode, &root, outboard, copy, path, progress) {
         Ok(count) => told(print_count(rt.alloc(), count, out)),
         Err(fault) => {
             match fault {
@@ -438,7 +498,13 @@ fn list_lack<R: Files<File = File> + AllocGlobal, E: Write>(
 
 // Gathers the blob out of the files, which are plain copies where an outboard encoding is named. It says where it is
 // asked what each of them is worth, lists where it is asked what none of them has, and prints how many bytes the blob has.
-fn gather<'a, R: Files<File = File> + AllocGlobal + Threads + Sync, O: Write, E: Write>(
+fn gather<
+    'a,
+    R: Files<File = File> + AllocGlobal + Threads + Sync,
+    O: Write,
+    E: Write,
+    P: Progress + Sync,
+>(
     rt: &R,
     mode: &Mode,
     digits: &str,
@@ -447,13 +513,14 @@ fn gather<'a, R: Files<File = File> + AllocGlobal + Threads + Sync, O: Write, E:
     files: &[&'a str],
     out: &mut O,
     err: &mut E,
+    progress: &P,
 ) -> Result<(), Fault<'a>>
     ensures beside { OnPrinted result (IsBeside mode.now digits.now paths.entry.outboard) }
     ensures answer { (blob : List ℕ) × OnPrinted result (HasHash mode.now digits.now blob × Fits how.long how.capacity (length blob))
         × CommandPrints (ok_line (length blob)) (O.contents out.old) (O.contents out.new) result }
     ensures few { OnPrinted result (length files.now ≤ 64) }
     ensures many { 64 < length files.now → IsErrAnd result (λ fault. fault ≡ Fault.TooManyFiles) }
-    ensures due { IfErr result (IsDue (record no_reasons { root = ¬ IsDigits digits.now; many = 64 < length files.now })) }
+    ensures due { IfErr result (IsDue (record no_reasons { root = ¬ IsDigits digits.now; many = 64 < length files.now; gathers = ⊤ })) }
 {
     if files.len() > MOST_FILES {
         return Err(Fault::TooManyFiles);
@@ -464,8 +531,15 @@ fn gather<'a, R: Files<File = File> + AllocGlobal + Threads + Sync, O: Write, E:
     };
     let kept = &mut notes;
     let gathered = match paths.outboard {
-        Some(outboard) => gather_beside(rt, mode, &root, how, outboard, files, paths.out, kept),
-        None => gather_files(rt, mode, &root, &Form::Slices, how, files, paths.out, kept),
+        Some(outboard) => gather_beside(
+            rt, mode, &root, how, outboard, files, paths.out, kept, progress,
+        ),
+        None => {
+            let form = Form::Slices;
+            gather_files(
+                rt, mode, &root, &form, how, files, paths.out, kept, progress,
+            )
+        }
     };
     tell(rt, how.count, files, &notes, err);
     match gathered {
@@ -481,7 +555,7 @@ fn gather<'a, R: Files<File = File> + AllocGlobal + Threads + Sync, O: Write, E:
 }
 
 // Runs the schedule over the files, and prints the replies.
-fn replay<'a, R: Files + AllocGlobal, O: Write>(
+fn replay<'a, R: Files<File = File> + AllocGlobal, O: Write>(
     rt: &R,
     mode: &Mode,
     digits: &str,
@@ -494,7 +568,7 @@ fn replay<'a, R: Files + AllocGlobal, O: Write>(
         × CommandPrints text (O.contents out.old) (O.contents out.new) result }
     ensures few { OnPrinted result (length files.now ≤ 64) }
     ensures many { 64 < length files.now → IsErrAnd result (λ fault. fault ≡ Fault.TooManyFiles) }
-    ensures due { IfErr result (IsDue (record no_reasons { root = ¬ IsDigits digits.now; many = 64 < length files.now })) }
+    ensures due { IfErr result (IsDue (record no_reasons { root = ¬ IsDigits digits.now; many = 64 < length files.now; replays = ⊤ })) }
 {
     if files.len() > MOST_FILES {
         return Err(Fault::TooManyFiles);
@@ -523,7 +597,7 @@ fn serve_task<
 ) -> Result<(), Fault<'a>>
     ensures prints { (bytes : List ℕ) × OnPrinted result (IsRight mode.now task.now bytes)
         × CommandPrints (line_of mode.now task.now bytes) (O.contents out.old) (O.contents out.new) result }
-    ensures due { IfErr result (IsDue (record no_reasons { root = ¬ HasRoot task.now; past = IsPastOutput task.now; many = HasManyFiles task.now })) }
+    ensures due { IfErr result (IsDue (task_reasons_of task.now)) }
 {
     match task {
         Task::Hash { at, length, file } => hash(rt, mode, *at, *length, file, out, progress),
@@ -532,20 +606,35 @@ fn serve_task<
             file,
             out: path,
         } => encode(rt, mode, *encoding, file, path, out, progress),
+        Task::CutSlice {
+            root,
+            start,
+            len,
+            outboard,
+            verbose,
+            file,
+            out: path,
+        } => cut_slice(
+            rt, mode, root, *start, *len, *outboard, *verbose, file, path, out, err,
+        ),
         Task::Decode {
             root,
             part,
             verbose,
             file,
             out: path,
-        } => decode(rt, mode, root, part, *verbose, file, path, out, err),
+        } => decode(
+            rt, mode, root, part, *verbose, file, path, out, err, progress,
+        ),
         Task::DecodeCopy {
             root,
             outboard,
             verbose,
             copy,
             out: path,
-        } => decode_beside(rt, mode, root, outboard, *verbose, copy, path, out, err),
+        } => decode_beside(
+            rt, mode, root, outboard, *verbose, copy, path, out, err, progress,
+        ),
         Task::Gather {
             root,
             workers,
@@ -573,7 +662,8 @@ fn serve_task<
                 outboard: *outboard,
                 list: *missing,
             };
-            gather(rt, mode, root, how, paths, files.as_slice(), out, err)
+            let files = files.as_slice();
+            gather(rt, mode, root, how, paths, files, out, err, progress)
         }
         Task::Replay {
             root,
@@ -590,6 +680,7 @@ fn check_root<'a>(task: &Task<'a>) -> Result<(), Fault<'a>>
     ensures err { IfErr result (λ fault. (fault ≡ Fault.Root) × ¬ HasRoot task.now) }
 {
     let root = match task {
+        Task::CutSlice { root, .. } => root,
         Task::Decode { root, .. } | Task::DecodeCopy { root, .. } => root,
         Task::Gather { root, .. } | Task::Replay { root, .. } => root,
         Task::Hash { .. } | Task::Encode { .. } => return Ok(()),
@@ -630,7 +721,7 @@ fn writes_apart(task: &Task<'_>) -> bool
     ensures no { result ≡ false → ¬ WritesApart task.now }
 {
     let path = match task {
-        Task::Encode { out, .. } | Task::Decode { out, .. } => out,
+        Task::Encode { out, .. } | Task::CutSlice { out, .. } | Task::Decode { out, .. } => out,
         Task::DecodeCopy { out, .. } | Task::Gather { out, .. } => out,
         Task::Hash { .. } | Task::Replay { .. } => return true,
     };
@@ -649,6 +740,8 @@ fn answer_clap<O: Write, E: Write>(
     ensures file_fault { result ≡ 3 → IsHelp (kind_of error.now) }
     ensures refused { ¬ IsHelp (kind_of error.now) → (result ≡ 2) ⊎ (result ≡ 4) }
     ensures fault { result ≢ 0 → result ≢ 3 → Keeps (O.contents out.old) (O.contents out.new) }
+    ensures usage { result ≡ 2 → kind_of error.now ≢ ErrorKind.OutOfMemory }
+    ensures refusal { result ≢ 1 }
 {
     if error.kind() == ErrorKind::OutOfMemory {
         return Fault::File(FileFault::Memory).report(err);

@@ -2,7 +2,7 @@ ghost use Rattle.std.specs.Borrow.{Bor};
 ghost use Rattle.std.specs.Option.{option_copied};
 ghost use Rattle.std.specs.Prelude.{◌≡◌, ◌⊎◌, ℕ, List, IfErr, IfOk, IfSome, IsErrAnd};
 ghost use Rattle.bao_command.specs.ModeWords.{GivesFileMode, GivesMode, HasMode, IsKeyedBy, IsModeFault, MixesKeys};
-ghost use Rattle.bao_command.specs.Tasks.{IsDue, no_reasons};
+ghost use Rattle.bao_command.specs.Tasks.{IsDue, mode_reasons_of};
 ghost use Rattle.bao_command.specs.declared.fault.Fault.TheVariants as Fault;
 ghost use Rattle.bao_files.specs.declared.fault.FileFault.TheVariants as FileFault;
 
@@ -66,7 +66,7 @@ pub(crate) fn asked_mode<'a, R: Files>(rt: &R, request: &Request<'a>) -> Result<
     ensures mode { IfOk result (HasMode request.now) }
     ensures mixed { MixesKeys request.now → IsErrAnd result (λ fault. fault ≡ Fault.KeyFileAndOthers) }
     ensures fault { IfErr result (IsModeFault request.now.key_file) }
-    ensures due { IfErr result (IsDue (record no_reasons { keys = MixesKeys request.now })) }
+    ensures due { IfErr result (IsDue (mode_reasons_of request.now)) }
 {
     match (request.key_file, request.key, request.context) {
         (None, key, context) => mode_of(key, context),

@@ -1,7 +1,8 @@
 // Which names lead to one file. No contract knows that: the system is asked.
 
-ghost use Rattle.std.specs.Prelude.{◌≡◌, ◌⊎◌, IfErr};
+ghost use Rattle.std.specs.Prelude.{◌≡◌, ◌⊎◌, IfErr, IsSome, true};
 ghost use Rattle.bao_command.specs.declared.fault.Fault.TheVariants as Fault;
+ghost use Rattle.bao_command.specs.Tasks.{HasList, HasOut};
 
 use crate::fault::Fault;
 use bao_request::{Request, Task};
@@ -52,20 +53,16 @@ pub(crate) fn is_one_file<R: Files>(rt: &R, ours: &str, theirs: &str) -> bool {
     }
 }
 
-// Whether one of these paths, as far as there are any, leads to the same file as this one.
-fn is_one_of<R: Files>(rt: &R, path: &str, others: &[Option<&str>]) -> bool {
-    for other in others {
-        if let Some(other) = other
-            && is_one_file(rt, path, other)
-        {
-            return true;
-        }
+// Whether a path leads to the same file as the one that is named, if one is.
+fn is_named_file<R: Files>(rt: &R, path: &str, named: Option<&str>) -> bool {
+    match named {
+        Some(named) => is_one_file(rt, path, named),
+        None => false,
     }
-    false
 }
 
-// Whether one of the files is the same as that at this path.
-fn is_one_of_files<R: Files>(rt: &R, path: &str, files: &[&str]) -> bool {
+// Whether it leads to one of the files.
+fn is_one_of<R: Files>(rt: &R, path: &str, files: &[&str]) -> bool {
     for file in files {
         if is_one_file(rt, path, file) {
             return true;
@@ -75,16 +72,21 @@ fn is_one_of_files<R: Files>(rt: &R, path: &str, files: &[&str]) -> bool {
 }
 
 // The file that a task writes to, if there is one.
-fn out_of<'a>(task: &Task<'a>) -> Option<&'a str> {
+fn out_of<'a>(task: &Task<'a>) -> Option<&'a str>
+    ensures { IsSome result → HasOut task.now }
+{
     match task {
-        Task::Encode { out, .. } | Task::Decode { out, .. } => Some(out),
+        Task::Encode { out, .. } | Task::CutSlice { out, .. } => Some(out),
+        Task::Decode { out, .. } => Some(out),
         Task::DecodeCopy { out, .. } | Task::Gather { out, .. } => Some(out),
         Task::Hash { .. } | Task::Replay { .. } => None,
     }
 }
 
 // Whether the list of what is missing leads to another file of the request.
-fn is_list_other<R: Files>(rt: &R, request: &Request<'_>) -> bool {
+fn is_list_other<R: Files>(rt: &R, request: &Request<'_>) -> bool
+    ensures { result ≡ true → HasList request.now.task }
+{
     match &request.task {
         Task::Gather {
             missing: Some(list),
@@ -93,8 +95,11 @@ fn is_list_other<R: Files>(rt: &R, request: &Request<'_>) -> bool {
             out,
             ..
         } => {
-            let others = [Some(OUTPUT), Some(out), *outboard, request.key_file];
-            is_one_of(rt, list, &others) || is_one_of_files(rt, list, files.as_slice())
+            is_one_file(rt, list, OUTPUT)
+                || is_one_file(rt, list, out)
+                || is_named_file(rt, list, *outboard)
+                || is_named_file(rt, list, request.key_file)
+                || is_one_of(rt, list, files.as_slice())
         }
         _ => false,
     }
@@ -103,7 +108,7 @@ fn is_list_other<R: Files>(rt: &R, request: &Request<'_>) -> bool {
 /// Refuses names that lead to one file where that would be lost, or get two things: OUT to the file that standard output is open on, and the
 /// list of what is missing to OUT, to that file, or to a file that is read.
 pub(crate) fn check_places<'a, R: Files>(rt: &R, request: &Request<'a>) -> Result<(), Fault<'a>>
-    ensures { IfErr result (λ fault. (fault ≡ Fault.OutLeadsToOutput) ⊎ (fault ≡ Fault.ListLeadsToOther)) }
+    ensures { IfErr result (λ fault. ((fault ≡ Fault.OutLeadsToOutput) × HasOut request.now.task) ⊎ ((fault ≡ Fault.ListLeadsToOther) × HasList request.now.task)) }
 {
     match out_of(&request.task) {
         Some(out) if is_one_file(rt, out, OUTPUT) => return Err(Fault::OutLeadsToOutput),

@@ -10,6 +10,7 @@ use bao_check::{CheckFault, check_outboard};
 use bao_decode::read_outboard;
 use bao_files::{Once, Part, STANDARD_INPUT, open_file};
 use bao_tasks::{Span, Spot, spot_in_outboard, spot_in_slice};
+use std::fs::File;
 use std::io::{Read, Write};
 use std::rt::Files;
 use std::{fs, io};
@@ -163,7 +164,7 @@ fn tell_outboard<R: Files, E: Write>(rt: &R, file: &str, fault: CheckFault, err:
 
 // Says which file is at fault of an outboard encoding and a copy, and where. The first is read again for it. A write that fails changes
 // nothing.
-pub(crate) fn tell_beside<R: Files + AllocGlobal, E: Write>(
+pub(crate) fn tell_beside<R: Files<File = File> + AllocGlobal, E: Write>(
     rt: &R,
     mode: &Mode,
     root: &Hash,
@@ -187,4 +188,29 @@ pub(crate) fn tell_beside<R: Files + AllocGlobal, E: Write>(
         Err(CheckFault::Memory) => {}
         Err(fault) => tell_outboard(rt, outboard, fault, err),
     }
+}
+
+// Says what is at fault of that which a slice was cut out of, an encoding or an outboard encoding and a copy, and at which bytes of the blob. The
+// length is read again for it. A write that fails changes nothing.
+pub(crate) fn tell_cut<R: Files, E: Write>(
+    rt: &R,
+    start: u64,
+    len: u64,
+    outboard: Option<&str>,
+    file: &str,
+    fault: CheckFault,
+    err: &mut E,
+) {
+    let (CheckFault::Short { at } | CheckFault::Mismatch { at }) = fault else {
+        return;
+    };
+    let parents = outboard.unwrap_or(file);
+    let Some(total) = claimed_again(rt, parents) else {
+        return;
+    };
+    let Some(spot) = spot_in_slice(total, start, len, at) else {
+        return;
+    };
+    let damaged = if spot.is_chunk { file } else { parents };
+    let _ = tell_spot(damaged, at, Some(spot), err);
 }

@@ -59,6 +59,7 @@ fn unread_by<'a>(fault: Fault<'a>) -> Option<&'a str> {
 // Whether the task says why this file can't be read. Of the files that are gathered from it has been said where they were left out.
 fn says_why(task: &Task<'_>, path: &str) -> bool {
     match task {
+        Task::CutSlice { verbose, .. } => *verbose,
         Task::Decode { verbose, .. } | Task::DecodeCopy { verbose, .. } => *verbose,
         Task::Gather { verbose, files, .. } => *verbose && !is_among(path, files.as_slice()),
         Task::Hash { .. } | Task::Encode { .. } | Task::Replay { .. } => false,

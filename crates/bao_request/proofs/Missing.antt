@@ -5,7 +5,7 @@ use Rattle.bao_files.specs.declared.kinds.Encoding.{Encoding}
 use Rattle.bao_files.specs.declared.kinds.Encoding.TheVariants.{Combined, Outboard, Slice}
 use Rattle.bao_files.specs.declared.kinds.Part.TheVariants as part
 use Rattle.bao_request.specs.declared.tasks.Task.{Task}
-use Rattle.bao_request.specs.declared.tasks.Task.TheVariants.{Hash, Encode, Decode, DecodeCopy, Gather, Replay}
+use Rattle.bao_request.specs.declared.tasks.Task.TheVariants.{Hash, Encode, CutSlice, Decode, DecodeCopy, Gather, Replay}
 use Rattle.bao_request.specs.Requests.{Finds, GivesEncoding, GivesNumber, GivesRange, GivesTask, GivesText, GivesTexts}
 use Rattle.bao_request.proofs.Subcommands.{class_is, letters, task_class, writes}
 
@@ -39,6 +39,12 @@ no_slice rows without (Encode Combined file out) a = absurd (omega (arith, ap le
 no_slice rows without (Encode Outboard file out) a = absurd (omega (arith, ap letters a.0))
 no_slice rows without (Encode (Slice start len) file out) a = without start len a.0.1
 no_slice rows without task a = let e = class_is (codes "slice") rows task a in absurd (omega (arith, e))
+
+pub no_cut_slice : (rows : List Row)
+    → ((start len : ℕ) (root file out : Bor Text) → GivesRange rows start len → GivesText rows (codes "ROOT") root.now → GivesText rows (codes "ENC") file.now → ¬ GivesText rows (codes "OUT") out.now)
+    → (task : Task) → ¬ GivesTask (codes "cut-slice") rows task
+no_cut_slice rows without (CutSlice root start len outboard verbose file out) a = without start len root file out a.1 a.4 a.5 a.6
+no_cut_slice rows without task a = let e = class_is (codes "cut-slice") rows task a in absurd (omega (arith, e))
 
 pub no_decode : (rows : List Row)
     → ((root enc out : Bor Text) → GivesText rows (codes "ROOT") root.now → GivesText rows (codes "ENC") enc.now → ¬ GivesText rows (codes "OUT") out.now)

@@ -6,7 +6,7 @@ use Rattle.bao_files.specs.declared.kinds.Encoding.TheVariants.{Combined, Outboa
 use Rattle.bao_files.specs.declared.kinds.Part.{Part}
 use Rattle.bao_files.specs.declared.kinds.Part.TheVariants as part
 use Rattle.bao_request.specs.declared.tasks.Task.{Task}
-use Rattle.bao_request.specs.declared.tasks.Task.TheVariants.{Hash, Encode, Decode, DecodeCopy, Gather, Replay}
+use Rattle.bao_request.specs.declared.tasks.Task.TheVariants.{Hash, Encode, CutSlice, Decode, DecodeCopy, Gather, Replay}
 use Rattle.bao_request.specs.Requests.{GivesEncoding, GivesPart, GivesTask}
 
 -- the subcommand of an encoding, and of a part
@@ -36,11 +36,13 @@ letters name = 65536 * length name + (256 * slice_index name 0 + slice_index nam
 abbrev pub class : Text → ℕ
 class name =
     if slice_index name 0 == 103 then 3
-    else if slice_index name 0 == 104 then 0 else if slice_index name 0 == 114 then 4 else if slice_index name 0 == 100 then 2 else 1
+    else if slice_index name 0 == 104 then 0
+    else if slice_index name 0 == 114 then 4 else if slice_index name 0 == 100 then 2 else if slice_index name 0 == 99 then 5 else 1
 
 abbrev pub task_class : Task → ℕ
 task_class (Hash at size file) = 0
 task_class (Encode encoding file out) = 1
+task_class (CutSlice root start len outboard verbose file out) = 5
 task_class (Decode root part verbose file out) = 2
 task_class (DecodeCopy root outboard verbose copy out) = 2
 task_class (Gather root workers capacity long outboard salvage encode verbose missing files out) = 3
@@ -61,6 +63,7 @@ writes name rows e a = ap class (encoding_named name rows e a) ∙ encoding_clas
 pub class_is : (name : Text) (rows : List Row) (t : Task) → GivesTask name rows t → class name ≡ task_class t
 class_is name rows (Hash at size file) a = ap class a.0
 class_is name rows (Encode encoding file out) a = writes name rows encoding a.0
+class_is name rows (CutSlice root start len outboard verbose file out) a = ap class a.0
 class_is name rows (Decode root part verbose file out) a = ap class (part_named name rows part file.now a.0) ∙ part_class part
 class_is name rows (DecodeCopy root outboard verbose copy out) a = ap class a.0
 class_is name rows (Gather root workers capacity long outboard salvage encode verbose missing files out) a = ap class a.0

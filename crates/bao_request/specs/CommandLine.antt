@@ -103,6 +103,12 @@ with_slice_rules app = with_mode_rules (with_rule (with_rule app slice_rule) out
 abbrev pub decode_slice_app : App
 decode_slice_app = with_slice_rules (with_range_rules (with_rule (new_app (codes "decode-slice")) verbose_rule))
 
+abbrev pub with_cut_rules : App → App
+with_cut_rules app = with_mode_rules (with_rule (with_rule app enc_rule) out_rule)
+
+abbrev pub cut_slice_app : App
+cut_slice_app = with_cut_rules (with_range_rules (with_rule (with_rule (new_app (codes "cut-slice")) outboard_rule) verbose_rule))
+
 -- how many workers gather
 abbrev pub workers_rule : Rule
 workers_rule = record (option_rule (codes "workers")) { parser = Some (Signed (pos 1) (pos 64)); defaults = codes "4" ∷ [] }
@@ -153,7 +159,7 @@ abbrev pub writers_app : App
 writers_app = with_subcommand (with_subcommand (with_subcommand (with_subcommand bare_app hash_app.top) encode_app.top) outboard_app.top) slice_app.top
 
 abbrev pub checkers_app : App
-checkers_app = with_subcommand (with_subcommand writers_app decode_app.top) decode_slice_app.top
+checkers_app = with_subcommand (with_subcommand (with_subcommand writers_app cut_slice_app.top) decode_app.top) decode_slice_app.top
 
 abbrev pub program_app : App
 program_app = with_subcommand (with_subcommand checkers_app gather_app.top) replay_app.top

@@ -11,7 +11,7 @@ use Rattle.bao_files.specs.declared.kinds.Part.{Part}
 use Rattle.bao_files.specs.declared.kinds.Part.TheVariants as part
 use Rattle.bao_request.specs.declared.tasks.Request.{Request}
 use Rattle.bao_request.specs.declared.tasks.Task.{Task}
-use Rattle.bao_request.specs.declared.tasks.Task.TheVariants.{Hash, Encode, Decode, DecodeCopy, Gather, Replay}
+use Rattle.bao_request.specs.declared.tasks.Task.TheVariants.{Hash, Encode, CutSlice, Decode, DecodeCopy, Gather, Replay}
 
 -- what is found is such a thing, and where nothing is found there is none
 abbrev pub Finds : {X : Type 0} → (X → Type 0) → Option X → Type 0
@@ -57,6 +57,9 @@ GivesTask name rows (Hash at length file) =
     (name ≡ codes "hash") × GivesNumber 64 rows (codes "at") at × GivesNumber 32 rows (codes "length") length × GivesText rows (codes "FILE") file.now
 GivesTask name rows (Encode encoding file out) =
     GivesEncoding name rows encoding × GivesText rows (codes "FILE") file.now × GivesText rows (codes "OUT") out.now
+GivesTask name rows (CutSlice root start len outboard verbose file out) =
+    (name ≡ codes "cut-slice") × GivesRange rows start len × (option_copied outboard ≡ first_of (codes "outboard") rows) × GivesFlag rows (codes "verbose") verbose
+    × GivesText rows (codes "ROOT") root.now × GivesText rows (codes "ENC") file.now × GivesText rows (codes "OUT") out.now
 GivesTask name rows (Decode root part verbose file out) =
     GivesPart name rows part file.now × GivesText rows (codes "ROOT") root.now × GivesText rows (codes "OUT") out.now × GivesFlag rows (codes "verbose") verbose
 GivesTask name rows (DecodeCopy root outboard verbose copy out) =

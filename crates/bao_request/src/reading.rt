@@ -78,6 +78,22 @@ fn slice_of<'a>(words: &ArgMatches<'a>) -> Option<Task<'a>>
     encode_of(Encoding::Slice { start, len }, words)
 }
 
+// The task of cutting a slice out of what there is of a blob.
+fn cut_slice_of<'a>(words: &ArgMatches<'a>) -> Option<Task<'a>>
+    ensures { Finds (GivesTask (codes "cut-slice") (rows_of (found_of words.now))) result }
+{
+    let (start, len) = range(words)?;
+    Some(Task::CutSlice {
+        root: text(words, "ROOT")?,
+        start,
+        len,
+        outboard: text(words, "outboard"),
+        verbose: flag(words, "verbose"),
+        file: text(words, "ENC")?,
+        out: text(words, "OUT")?,
+    })
+}
+
 // The check of a whole blob: of a combined encoding, or of a plain copy beside an outboard encoding.
 fn decode_of<'a>(words: &ArgMatches<'a>) -> Option<Task<'a>>
     ensures { Finds (GivesTask (codes "decode") (rows_of (found_of words.now))) result }
@@ -188,6 +204,7 @@ fn task_of<'a>(
         "encode" => Ok(encode_of(Encoding::Combined, words)),
         "outboard" => Ok(encode_of(Encoding::Outboard, words)),
         "slice" => Ok(slice_of(words)),
+        "cut-slice" => Ok(cut_slice_of(words)),
         "decode" => Ok(decode_of(words)),
         "decode-slice" => Ok(decode_slice_of(words)),
         "gather" => gather_of(alloc, words),

@@ -1,7 +1,7 @@
 ghost use Rattle.std.specs.Prelude.{◌≡◌, IfOk, Some, false};
 ghost use Rattle.clap.specs.Words.{app_of, rule_of, with_rule};
 ghost use Rattle.clap.specs.declared.builder.command.Command.TheViews.{out-Command};
-ghost use Rattle.bao_request.specs.CommandLine.{IsApp, any_number, at_rule, capacity_rule, checkers_app, decode_app, decode_slice_app, encode_app, encode_rule, files_rule, gather_app, hash_app, length_rule, long_rule, missing_rule, option_rule, outboard_app, outboard_rule, place_rule, program_app, replay_app, salvage_rule, slice_app, verbose_rule, with_encoding_rules, with_file_rules, with_holders_rules, with_mode_rules, with_range_rules, with_script_rules, with_slice_rules, workers_rule, writers_app};
+ghost use Rattle.bao_request.specs.CommandLine.{IsApp, any_number, at_rule, capacity_rule, checkers_app, cut_slice_app, decode_app, decode_slice_app, encode_app, encode_rule, files_rule, gather_app, hash_app, length_rule, long_rule, missing_rule, option_rule, outboard_app, outboard_rule, place_rule, program_app, replay_app, salvage_rule, slice_app, verbose_rule, with_cut_rules, with_encoding_rules, with_file_rules, with_holders_rules, with_mode_rules, with_range_rules, with_script_rules, with_slice_rules, workers_rule, writers_app};
 
 use clap::{Arg, ArgAction, Command, value_parser};
 use std::alloc::{AllocError, Global};
@@ -33,6 +33,9 @@ const OF_PROGRAM: &str =
 
 const OF_SLICE: &str =
     "The range ends where FILE does; a LEN of 0 counts as 1, and a START at or past the end as that of the last byte.";
+
+const OF_CUT_SLICE: &str =
+    "No more of ENC is read than the slice has. With --outboard ENC is the plain copy, of which the range is read, and of that file\nthe parents above it. OUT is made once the slice was accepted.";
 
 const OF_DECODE: &str =
     "OUT is made once the encoding was accepted. With --outboard that file is checked first, and then ENC.";
@@ -233,6 +236,37 @@ fn decode_slice_command<'a>(alloc: Global) -> Result<Command<'a>, AllocError>
     with_slice(alloc, command)
 }
 
+// The command with the arguments ENC and OUT, and those of the mode.
+fn with_cut<'a>(alloc: Global, command: Command<'a>) -> Result<Command<'a>, AllocError>
+    requires { (out-Command command).has_globals ≡ false }
+    ensures { IfOk result (IsApp (with_cut_rules (app_of command.entry))) }
+{
+    let encoding = place(
+        alloc,
+        "ENC",
+        "The encoding to cut from, or with --outboard the plain copy",
+    );
+    let out = place(alloc, "OUT", OF_OUT);
+    let command = command.arg(encoding)?.arg(out)?;
+    with_mode(alloc, command)
+}
+
+fn cut_slice_command<'a>(alloc: Global) -> Result<Command<'a>, AllocError>
+    ensures { IfOk result (IsApp cut_slice_app) }
+{
+    let outboard = outboard_option(
+        alloc,
+        "Cuts out of a plain copy beside this outboard encoding",
+    );
+    let command = Command::new(alloc, "cut-slice")
+        .about("Cuts the Bao slice of a range out of an encoding, and checks it under a root")
+        .after_help(OF_CUT_SLICE)
+        .arg(outboard)?
+        .arg(verbose_flag(alloc, OF_VERBOSE))?;
+    let command = with_range(alloc, command)?;
+    with_cut(alloc, command)
+}
+
 fn workers_option<'a>(alloc: Global) -> Arg<'a>
     ensures rule { rule_of result ≡ workers_rule }
     ensures global { result.global ≡ false }
@@ -409,11 +443,12 @@ fn checkers<'a>(alloc: Global) -> Result<Command<'a>, AllocError>
 {
     let program = writers(alloc)?;
     program
+        .subcommand(cut_slice_command(alloc)?)?
         .subcommand(decode_command(alloc)?)?
         .subcommand(decode_slice_command(alloc)?)
 }
 
-/// The program's command line: `hash`, `encode`, `outboard`, `slice`, `decode`, `decode-slice`, `gather`, `replay`.
+/// The program's command line: `hash`, `encode`, `outboard`, `slice`, `cut-slice`, `decode`, `decode-slice`, `gather`, `replay`.
 pub(crate) fn program<'a>(alloc: Global) -> Result<Command<'a>, AllocError>
     ensures { IfOk result (IsApp program_app) }
 {

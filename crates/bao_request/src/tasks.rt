@@ -27,6 +27,17 @@ pub enum Task<'a> {
         file: &'a str,
         out: &'a str,
     },
+    /// The slice of `len` bytes from byte `start` on, cut out of a combined encoding and verified under a root, to the file `out`. With `outboard` it is
+    /// cut out of a plain copy beside the outboard encoding in that file. With `verbose` it is said where what is refused is at fault.
+    CutSlice {
+        root: &'a str,
+        start: u64,
+        len: u64,
+        outboard: Option<&'a str>,
+        verbose: bool,
+        file: &'a str,
+        out: &'a str,
+    },
     /// The bytes that a text certifies under a root, to the file `out`. With `verbose` it is said where a text that is refused is at
     /// fault.
     Decode {

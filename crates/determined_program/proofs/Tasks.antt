@@ -8,7 +8,7 @@ use Rattle.bao_files.specs.declared.kinds.Part.{Part}
 use Rattle.bao_files.specs.declared.kinds.Part.TheVariants as part
 use Rattle.bao_request.specs.declared.tasks.Request.{Request}
 use Rattle.bao_request.specs.declared.tasks.Task.{Task}
-use Rattle.bao_request.specs.declared.tasks.Task.TheVariants.{Hash, Encode, Decode, DecodeCopy, Gather, Replay}
+use Rattle.bao_request.specs.declared.tasks.Task.TheVariants.{Hash, Encode, CutSlice, Decode, DecodeCopy, Gather, Replay}
 use Rattle.bao_request.specs.Requests.{GivesEncoding, GivesNumber, GivesPart, GivesRequest, GivesTask, GivesText}
 use Rattle.bao_request.proofs.Subcommands.{class_is, letters, task_class}
 use Rattle.determined_program.specs.Requests.{SameRequest, SameTask}
@@ -62,6 +62,15 @@ one_task name rows (Encode encoding file out) (Encode encoding' file' out') a b 
   one_encoding name rows encoding encoding' a.0 b.0,
   one_text rows (codes "FILE") file.now file'.now a.1 b.1,
   one_text rows (codes "OUT") out.now out'.now a.2 b.2,
+)
+one_task name rows (CutSlice root start len outboard verbose file out) (CutSlice root' start' len' outboard' verbose' file' out') a b = (
+  one_text rows (codes "ROOT") root.now root'.now a.4 b.4,
+  one_number 64 rows (codes "START") start start' a.1.0 b.1.0,
+  one_number 64 rows (codes "LEN") len len' a.1.1 b.1.1,
+  a.2 ∙ sym b.2,
+  one_text rows (codes "ENC") file.now file'.now a.5 b.5,
+  one_text rows (codes "OUT") out.now out'.now a.6 b.6,
+  one_flag verbose verbose' (first_of (codes "verbose") rows ≡ Some (codes "true")) a.3 b.3,
 )
 one_task name rows (Decode root part verbose file out) (Decode root' part' verbose' file' out') a b =
     let same = one_part name rows part part' file.now file'.now a.0 b.0 in (

@@ -7,11 +7,13 @@ use Rattle.clap.specs.declared.error.kind.ErrorKind.{ErrorKind}
 use Rattle.clap.specs.declared.error.kind.ErrorKind.TheVariants.{DisplayHelp, InvalidSubcommand, OutOfMemory, UnknownArgument}
 use Rattle.bao_request.specs.declared.tasks.Request.{Request}
 use Rattle.bao_request.specs.declared.tasks.Task.{Task}
-use Rattle.bao_request.specs.declared.tasks.Task.TheVariants.{Hash, Encode, Decode, DecodeCopy, Gather, Replay}
+use Rattle.bao_request.specs.declared.tasks.Task.TheVariants.{Hash, Encode, CutSlice, Decode, DecodeCopy, Gather, Replay}
 
 abbrev pub SameTask : Task → Task → Type 0
 SameTask (Hash at length file) (Hash at' length' file') = (at ≡ at') × (length ≡ length') × (file.now ≡ file'.now)
 SameTask (Encode encoding file out) (Encode encoding' file' out') = (encoding ≡ encoding') × (file.now ≡ file'.now) × (out.now ≡ out'.now)
+SameTask (CutSlice root start len outboard verbose file out) (CutSlice root' start' len' outboard' verbose' file' out') =
+    (root.now ≡ root'.now) × (start ≡ start') × (len ≡ len') × (option_copied outboard ≡ option_copied outboard') × (file.now ≡ file'.now) × (out.now ≡ out'.now) × (verbose ≡ verbose')
 SameTask (Decode root part verbose file out) (Decode root' part' verbose' file' out') =
     (root.now ≡ root'.now) × (part ≡ part') × (file.now ≡ file'.now) × (out.now ≡ out'.now) × (verbose ≡ verbose')
 SameTask (DecodeCopy root outboard verbose copy out) (DecodeCopy root' outboard' verbose' copy' out') =

@@ -1,27 +1,13 @@
-use Rattle.std.proofs.Common.{ℕ, List, IfErr, Result, Ok, Err, subst, sym}
+use Rattle.std.proofs.Common.{ℕ, List, subst, sym}
 use Rattle.bao_files.specs.Printed as file
-use Rattle.bao_command.specs.declared.fault.Fault.{Fault}
 use Rattle.bao_command.specs.Printed.{CommandPrints}
-use Rattle.bao_command.specs.Tasks.{IsDue, IsRightPart, Reasons, no_reasons, part_line}
+use Rattle.bao_command.specs.Tasks.{IsRightPart, part_line}
+use Rattle.bao_command.proofs.Due.{file_due}
 use Rattle.bao_command.proofs.Telling.{on_printed, told_prints}
 use Rattle.bao_command.proofs.commands.decode.Goals as goal
 
--- printing refuses no arguments
-due_of_none : (reasons : Reasons) (result : Result Unit Fault) → IfErr result (IsDue no_reasons) → IfErr result (IsDue reasons)
-due_of_none reasons (Ok done) due = tt
-due_of_none reasons (Err fault) due = record {
-  root = λ is. absurd (due.root is);
-  past = λ is. absurd (due.past is);
-  many = λ is. absurd (due.many is);
-  out = λ is. absurd (due.out is);
-  mixed = λ is. absurd (due.mixed is);
-  keys = λ is. absurd (due.keys is);
-  list = λ is. absurd (due.list is);
-  read = λ is. absurd (due.read is);
-}
-
 pub returns-in-Ok-clause-due : goal.returns-in-Ok-clause-due
-returns-in-Ok-clause-due g c = due_of_none _ c.told.result c.told.ensures.due
+returns-in-Ok-clause-due g c = file_due _ c.told.result c.told.ensures.due
 
 pub returns-in-Ok-clause-prints : goal.returns-in-Ok-clause-prints
 returns-in-Ok-clause-prints g c =

@@ -7,7 +7,8 @@ use Rattle.bao_request.specs.declared.tasks.Request.{Request}
 use Rattle.bao_command.specs.Printed.{CommandPrints, OnPrinted}
 use Rattle.bao_command.specs.ModeWords.{HasMode}
 use Rattle.bao_command.specs.Tasks.{Answers, GoesApart, IsRight, line_of}
-use Rattle.bao_command.proofs.Modes.{mode_answer, mode_due}
+use Rattle.bao_command.proofs.Due.{mode_due, task_due}
+use Rattle.bao_command.proofs.Modes.{mode_answer}
 use Rattle.bao_command.proofs.commands.serve.Goals as goal
 
 -- what was printed of the line in the request's mode answers the request
@@ -47,4 +48,7 @@ returns-in_err-mode-clause-answer g c =
     mode_answer c.args.request.now (g.O.Write.contents c.args.out.now) c.from_residual-in_err-mode.result _ c.from_residual-in_err-mode.ensures.1 c.in_err-mode.ensures.fault
 
 pub returns-in_err-mode-clause-due : goal.returns-in_err-mode-clause-due
-returns-in_err-mode-clause-due g c = mode_due _ c.from_residual-in_err-mode.result _ c.from_residual-in_err-mode.ensures.1 c.in_err-mode.ensures.due
+returns-in_err-mode-clause-due g c = mode_due c.args.request.now c.from_residual-in_err-mode.result _ c.from_residual-in_err-mode.ensures.1 c.in_err-mode.ensures.due
+
+pub returns-in_ok-check_places-clause-due : goal.returns-in_ok-check_places-clause-due
+returns-in_ok-check_places-clause-due g c = task_due c.args.request.now c.serve_task.result c.serve_task.ensures.due

@@ -14,4 +14,6 @@ returns-clause-outcome g c =
       file_fault = λ is. c.command.ensures.file_fault (sym status ∙ is);
       fault = λ some other. c.command.ensures.fault (λ is. some (status ∙ is)) (λ is. other (status ∙ is));
       refused = λ refused. either_as status (c.command.ensures.refused refused);
+      usage = λ is. c.command.ensures.usage (sym status ∙ is);
+      refusal = λ is. c.command.ensures.refusal (sym status ∙ is);
     }

@@ -5,4 +5,8 @@ use Rattle.bao_request.proofs.reading.task_of.Goals as goal
 
 pub returns-in-text : goal.returns-in-text
 returns-in-text c =
-    subst (λ (name : List ℕ). Finds (GivesTask name (rows_of (found_of c.args.words.now))) c.decode_slice_of.result) (sym c.in-text.is) c.decode_slice_of.ensures
+    subst (λ (name : List ℕ). Finds (GivesTask name (rows_of (found_of c.args.words.now))) c.cut_slice_of.result) (sym c.in-text.is) c.cut_slice_of.ensures
+
+pub returns-in-text-2 : goal.returns-in-text-2
+returns-in-text-2 c =
+    subst (λ (name : List ℕ). Finds (GivesTask name (rows_of (found_of c.args.words.now))) c.decode_slice_of.result) (sym c.in-text-2.is) c.decode_slice_of.ensures
