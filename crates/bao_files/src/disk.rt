@@ -7,6 +7,7 @@ use crate::fault::FileFault;
 use crate::input::LEAST_SHARED_LEN;
 use bao_read::Source;
 use std::alloc::AllocError;
+use std::io;
 use std::io::{Read, Write};
 
 /// Files by their paths: all that the program reads and writes. [`System`](crate::System) is the system's own, of whose files
@@ -46,6 +47,14 @@ pub trait Disk {
     /// Whether what is at `path` is this very file, under whatever name: then it can't be read any more once `path` is made
     /// anew.
     fn is_same(&self, input: &Self::Input, path: &str) -> bool;
+
+    /// Whether both paths lead to one file, under whatever names, or, where none is there yet, to one place. Names of which it is known what
+    /// is there lead to one only where they are the same.
+    fn is_one(&self, ours: &str, theirs: &str) -> bool
+        ensures { result ≡ true → IsKnown (at self.now ours.now) → IsKnown (at self.now theirs.now) → ours.now ≡ theirs.now };
+
+    /// Why the file at `path` can't be read, if that is so still where it is asked once more, and can be told.
+    fn why(&self, path: &str) -> Option<io::Error>;
 
     /// A draft of the file at `path`, to which nothing was written.
     fn draft(&self, path: &str) -> Result<Self::Draft, AllocError>

@@ -136,6 +136,14 @@ impl Disk for Held {
         false
     }
 
+    fn is_one(&self, ours: &str, theirs: &str) -> bool {
+        ours == theirs
+    }
+
+    fn why(&self, _path: &str) -> Option<io::Error> {
+        None
+    }
+
     fn draft(&self, _path: &str) -> Result<Vec<u8>, AllocError> {
         Ok(Vec::new(self.alloc))
     }

@@ -1,4 +1,4 @@
-ghost use Rattle.std.specs.Prelude.{◌≡◌, ℕ, List, [], ◌++◌, ◌≤◌, ◌⊎◌, length, IfErr, IfOk, IfSome, None, OnErr, OnOk};
+ghost use Rattle.std.specs.Prelude.{◌≡◌, ℕ, List, [], ◌++◌, ◌⊎◌, length, IfErr, IfOk, IfSome, None, OnErr, OnOk};
 ghost use Rattle.std.specs.Io.KnownBytes.{Consumes, IsAtEnd, Keeps};
 ghost use Rattle.bao_files.specs.Reading.{AppendsTaken};
 
@@ -119,20 +119,11 @@ fn size_of<'a, F: OpenFile>(file: &F, path: &'a str) -> Result<u64, FileFault<'a
 }
 
 /// Whether what stands at `path` is this very file, under whatever name: then it can't be read any more once `path` is made anew.
-pub fn is_same_file<R: Files, F: OpenFile>(rt: &R, file: &F, path: &str) -> bool {
+pub(crate) fn is_same_file<R: Files, F: OpenFile>(rt: &R, file: &F, path: &str) -> bool {
     match (file.metadata(), fs::metadata(rt, path)) {
         (Ok(ours), Ok(theirs)) => ours.dev() == theirs.dev() && ours.ino() == theirs.ino(),
         _ => false,
     }
-}
-
-/// How many bytes a regular file says it has, where they are enough to be worth threads.
-pub fn shared_len<F: OpenFile>(file: &F) -> Option<u64>
-    ensures { IfSome result (λ len. 4194304 ≤ len) }
-{
-    let metadata = file.metadata().ok()?;
-    let len = metadata.len();
-    (metadata.is_file() && len >= LEAST_SHARED_LEN).then_some(len)
 }
 
 /// All that `input`, the file at `path`, has from where it stands on.

@@ -8,15 +8,14 @@ pub use extent::Extent;
 pub use fault::FileFault;
 pub use held::{Held, HeldInput};
 pub use input::{
-    ReadFault, STANDARD_INPUT, is_same_file, open_file, read_file, read_input, read_sized,
-    read_whole, shared_len,
+    ReadFault, STANDARD_INPUT, open_file, read_file, read_input, read_sized, read_whole,
 };
 pub use key::read_key;
 pub use kinds::{Encoding, Part};
 pub use late_file::LateFile;
 pub use meter::Meter;
 pub use once::Once;
-pub use output::{encode_file, encode_input, encode_on, write_encoding};
+pub use output::{encode_input, encode_on, write_encoding};
 pub use progress::Progress;
 pub use reading::{hash_reader, print_file, print_input, print_reader};
 pub use shown::Shown;
@@ -36,6 +35,7 @@ mod late_file;
 mod meter;
 mod once;
 mod output;
+mod places;
 mod progress;
 mod progress_line;
 mod reading;

@@ -20,16 +20,13 @@ use crate::input::{LEAST_SHARED_LEN, read_input};
 use crate::kinds::Encoding;
 use crate::progress::Progress;
 use crate::shown::Shown;
-use crate::system::System;
 use b3tree::{Hash, Mode};
 use bao_read::{Source, WORKERS, outboard_source, slice_source};
 use bao_text::{
     WriteFault, outboard, outboard_len, slice, write_combined, write_text, write_texts,
 };
 use std::alloc::Global;
-use std::fs::File;
 use std::io::{Read, Write};
-use std::rt::Files;
 use std::thread::Threads;
 
 // Writes an encoding that was made, and answers the hash that was made with it.
@@ -271,21 +268,4 @@ pub fn encode_on<'a, R: AllocGlobal + Threads + Sync, D: Disk, P: Progress + Syn
     let hash = encode_input(rt, mode, encoding, &mut input, size, file, &mut out, path)?;
     disk.finish(out, path)?;
     Ok(hash)
-}
-
-/// As [`encode_on`], on the system's own files. Nothing is known of what they hold.
-pub fn encode_file<'a, R: Files<File = File> + AllocGlobal + Threads + Sync, P: Progress + Sync>(
-    rt: &R,
-    mode: &Mode,
-    encoding: Encoding,
-    file: &'a str,
-    path: &'a str,
-    progress: &P,
-) -> Result<Hash, FileFault<'a>>
-    ensures hash { IfOk result (λ h. (bytes : List ℕ) × (h.0 ≡ hash mode.now bytes)) }
-    ensures fault { IfErr result IsQuiet }
-    ensures paths { IfErr result (NamesPaths file.entry path.entry) }
-{
-    let mut system = System::new(rt);
-    encode_on(rt, &mut system, mode, encoding, file, path, progress)
 }

@@ -3,10 +3,12 @@ use crate::extent::Extent;
 use crate::fault::FileFault;
 use crate::input::{STANDARD_INPUT, is_same_file, open_file};
 use crate::late_file::LateFile;
+use crate::places::is_one_file;
 use std::alloc::AllocError;
-use std::fs;
 use std::fs::{File, OpenFile};
+use std::io::Read;
 use std::rt::Files;
+use std::{fs, io};
 
 /// The system's own files. What they hold isn't known.
 pub struct System<'a, R> {
@@ -32,6 +34,22 @@ fn extent_of(metadata: &fs::Metadata) -> Extent {
         len: metadata.len(),
         is_regular: metadata.is_file(),
     }
+}
+
+// Asks once more for what can't be read: for what is at the path, to open it, and for its first byte. What is neither a regular file nor a
+// folder isn't opened, which might wait for somebody who writes to it.
+fn ask_again<R: Files>(rt: &R, path: &str) -> io::Result<()> {
+    let path = if path == STANDARD_INPUT {
+        "/dev/stdin"
+    } else {
+        path
+    };
+    let metadata = fs::metadata(rt, path)?;
+    if metadata.is_file() || metadata.is_dir() {
+        let mut file = fs::open(rt, path)?;
+        file.read(&mut [0])?;
+    }
+    Ok(())
 }
 
 impl<'a, R: Files<File = File> + AllocGlobal> Disk for System<'a, R> {
@@ -68,6 +86,14 @@ impl<'a, R: Files<File = File> + AllocGlobal> Disk for System<'a, R> {
 
     fn is_same(&self, input: &File, path: &str) -> bool {
         is_same_file(self.rt, input, path)
+    }
+
+    fn is_one(&self, ours: &str, theirs: &str) -> bool {
+        is_one_file(self.rt, ours, theirs)
+    }
+
+    fn why(&self, path: &str) -> Option<io::Error> {
+        ask_again(self.rt, path).err()
     }
 
     fn draft(&self, path: &str) -> Result<LateFile<'a, R>, AllocError> {
