@@ -2,14 +2,14 @@
 use Rattle.std.proofs.Common.{◌≡◌, ℕ, zero, suc, ◌+◌, ◌-◌, ◌*◌, ◌/◌, ◌^◌, ◌<◌, ◌≤◌, List, [], ◌∷◌, ◌++◌, length, take, drop, min, sum_by, true, false, Option, None, Some, IfSome, IfNone, Result, Ok, Err, IfOk, OnErr, inl, inr, refl, sym, ap, subst, ◌∙◌, arith, length-append, length-drop}
 use Rattle.std.proofs.Math.Seq.{drop-append-add}
 use Rattle.std.proofs.lemmas.Bool.{cases_Bool, cases_lt, le-ltb, leb-false, leb-true, lt-ltb}
-use Rattle.std.proofs.lemmas.List.{append-nil, append_assoc, drop-append-le, drop-drop, drop-take, drop_all, length-take-le, take-append-le, take-take, take_all}
+use Rattle.std.proofs.lemmas.List.{append-nil, append_assoc, drop-append-le, drop-drop, drop-take, drop_all, length-take, length-take-le, take-append-le, take-take, take_all}
 use Rattle.std.proofs.lemmas.List.Sums.{sum_by-append, sum_by-cons}
 use Rattle.std.specs.Result.{result_ok}
 use Rattle.b3tree.specs.Tree.{left_len}
 use Rattle.bao_read.specs.Given.{ReadsAt}
 use Rattle.bao_text.specs.declared.choice.Choice.{Choice}
 use Rattle.bao_text.specs.Choice.{of_slice, wants}
-use Rattle.bao_text.specs.Cut.{cut_nodes, cut_text, has, has_all}
+use Rattle.bao_text.specs.Cut.{claimed, cut_nodes, cut_text, has, has_all}
 use Rattle.bao_text.specs.Nodes.{Side, TreeNode, left, nodes, right, size, subtree_nodes, subtree_size}
 use Rattle.bao_text.proofs.Cutting.{cut_nodes-append, cut_nodes-append_short, has_all-append, has_all-one}
 use Rattle.bao_text.proofs.Runs.{IsRun, run-one}
@@ -108,6 +108,94 @@ module _ (s : List ℕ) (choice : Choice) where
 
   pub ends_within : (number n : ℕ) (sides : List Side) (at : ℕ) → has_all s (subtree_nodes choice number n sides at) ≡ false → length s < at + subtree_size n
   ends_within number n sides at = ends_levels n number n sides at (omega arith)
+
+-- and no more is cut of them than the encoding has from there on
+module _ (s : List ℕ) (choice : Choice) where
+  abbrev FewFrom : ℕ → ℕ → List TreeNode → Type 0
+  FewFrom at k xs = (length (cut_nodes s xs) ≤ k) × (length (cut_nodes s xs) ≤ length s - at)
+
+  few_none : (at k : ℕ) (xs : List TreeNode) → xs ≡ [] → FewFrom at k xs
+  few_none at k xs none =
+      let size_is : length (cut_nodes s xs) ≡ 0 = ap (λ (ys : List TreeNode). length (cut_nodes s ys)) none in
+      (omega (arith, size_is), omega (arith, size_is))
+
+  few_one : (x : TreeNode) → FewFrom x.source (size x) (x ∷ [])
+  few_one x =
+      let run : IsRun x.source (size x) (x ∷ []) = run-one x in
+      let size_is : length (cut_nodes s (x ∷ [])) ≡ min (size x) (length (drop x.source s)) = ap length (run.cut s) ∙ length-take (size x) (drop x.source s) in
+      (omega (arith, size_is), omega (arith, size_is, length-drop x.source s))
+
+  few_append : (at j k : ℕ) (xs ys : List TreeNode) → FewFrom at j xs → FewFrom (at + j) k ys → FewFrom at (j + k) (xs ++ ys)
+  few_append at j k xs ys a b =
+      let near : ℕ = length (cut_nodes s xs) in
+      let far : ℕ = length (cut_nodes s ys) in
+      let near_few : near ≤ j = a.0 in
+      let near_rest : near ≤ length s - at = a.1 in
+      let far_few : far ≤ k = b.0 in
+      let far_rest : far ≤ length s - (at + j) = b.1 in
+      elim (cases_Bool (has_all s xs)) [
+        | inl there ↦
+            let size_is : length (cut_nodes s (xs ++ ys)) ≡ near + far = ap length (cut_nodes-append s xs ys there) ∙ length-append (cut_nodes s xs) (cut_nodes s ys) in
+            (omega (arith, size_is, near_few, far_few), omega (arith, size_is, near_few, near_rest, far_rest))
+        | inr gone ↦
+            let size_is : length (cut_nodes s (xs ++ ys)) ≡ near = ap length (cut_nodes-append_short s xs ys gone) in
+            (omega (arith, size_is, near_few), omega (arith, size_is, near_rest))
+      ]
+
+  few_leaf : (number n : ℕ) (sides : List Side) (at : ℕ) → n ≤ 1024 → FewFrom at (subtree_size n) (subtree_nodes choice number n sides at)
+  few_leaf number n sides at one = elim (cases_Bool (wants choice (1024 * number) n)) [
+    | inr skipped ↦ few_none at (subtree_size n) (subtree_nodes choice number n sides at) (subtree_nodes-unwanted choice number n sides at skipped)
+    | inl wanted ↦
+        let node : TreeNode = record { is_chunk = true; number = number; len = n; sides = sides; source = at } in
+        elim (cases_Bool choice.chunks) [
+          | inl chunks ↦
+              let leaf : subtree_nodes choice number n sides at ≡ node ∷ [] = subtree_nodes-leaf choice number n sides at wanted one ∙ rw chunks refl in
+              let same : n ≡ subtree_size n = omega arith in
+              subst (λ (xs : List TreeNode). FewFrom at (subtree_size n) xs) (sym leaf) (subst (λ (k : ℕ). FewFrom at k (node ∷ [])) same (few_one node))
+          | inr bare ↦
+              few_none at (subtree_size n) (subtree_nodes choice number n sides at) (subtree_nodes-leaf choice number n sides at wanted one ∙ rw bare refl)
+        ]
+  ]
+
+  few_levels : (levels : ℕ) (number n : ℕ) (sides : List Side) (at : ℕ) → n ≤ 1024 * levels + 1024 → FewFrom at (subtree_size n) (subtree_nodes choice number n sides at)
+  few_levels zero number n sides at hn = few_leaf number n sides at (omega (arith, hn))
+  few_levels (suc levels) number n sides at hn = elim (cases_lt 1024 n) [
+    | inr one ↦ few_leaf number n sides at one
+    | inl more ↦
+        elim (cases_Bool (wants choice (1024 * number) n)) [
+          | inr skipped ↦ few_none at (subtree_size n) (subtree_nodes choice number n sides at) (subtree_nodes-unwanted choice number n sides at skipped)
+          | inl wanted ↦
+              let l : ℕ = left_len n in
+              let parts : Parts n l = left_len-Parts n more in
+              let node : TreeNode = parent_node number n sides at in
+              let near : List TreeNode = subtree_nodes choice number l (sides ++ left ∷ []) (at + 64) in
+              let far : List TreeNode = subtree_nodes choice (number + l / 1024) (n - l) (sides ++ right ∷ []) (at + 64 + subtree_size l) in
+              let whole : 64 + subtree_size l + subtree_size (n - l) ≡ subtree_size n = sym (subtree_size-parts n more) in
+              let tree : subtree_nodes choice number n sides at ≡ (node ∷ near) ++ far = subtree_nodes-parent choice number n sides at wanted more in
+              let a : FewFrom (at + 64) (subtree_size l) near = few_levels levels number l (sides ++ left ∷ []) (at + 64) (omega (arith, hn, parts.whole, parts.below)) in
+              let place : at + 64 + subtree_size l ≡ at + (64 + subtree_size l) = omega arith in
+              let b : FewFrom (at + (64 + subtree_size l)) (subtree_size (n - l)) far =
+              subst (λ (p : ℕ). FewFrom p (subtree_size (n - l)) far) place (few_levels levels (number + l / 1024) (n - l) (sides ++ right ∷ []) (at + 64 + subtree_size l) (omega (arith, hn, parts.some))) in
+              let top : FewFrom at (64 + subtree_size l) (node ∷ near) = few_append at 64 (subtree_size l) (node ∷ []) near (few_one node) a in
+              subst (λ (xs : List TreeNode). FewFrom at (subtree_size n) xs) (sym tree)
+              (subst (λ (k : ℕ). FewFrom at k ((node ∷ near) ++ far)) whole (few_append at (64 + subtree_size l) (subtree_size (n - l)) (node ∷ near) far top b))
+        ]
+  ]
+
+-- so a slice is no longer than the encoding
+pub cut_text-few : (s : List ℕ) (start len : ℕ) → length (cut_text s start len) ≤ length s
+cut_text-few s start len = elim (cases_lt (length s) 8) [
+  | inl short ↦
+      let same : cut_text s start len ≡ s = rw (lt-ltb (length s) 8 short) refl in
+      omega (arith, ap length same)
+  | inr long ↦
+      let total : ℕ = claimed s in
+      let choice : Choice = of_slice total start len in
+      let few : FewFrom s choice 8 (subtree_size total) (nodes total start len) = few_levels s choice total 0 total [] 8 (omega arith) in
+      let same : cut_text s start len ≡ take 8 s ++ cut_nodes s (nodes total start len) = rw (le-ltb (length s) 8 long) refl in
+      let rest : length (cut_nodes s (nodes total start len)) ≤ length s - 8 = few.1 in
+      omega (arith, ap length same ∙ length-append (take 8 s) (cut_nodes s (nodes total start len)), length-take-le 8 s long, rest, long)
+]
 
 -- where the nodes before aren't all there, nothing is at any place after them
 module _ (s : List ℕ) where
@@ -353,6 +441,14 @@ module _ (choice : Choice) (total start len : ℕ) where
       cut_ends total start len s at left' (omega (arith, from_is, after))
       (subst (λ (n : ℕ). n - 8 ≡ left' + sum_by size (nodes total start len)) from_is (past ∙ ap (λ (c : Choice). left' + sum_by size (subtree_nodes c 0 total [] 8)) choice_is))
 
+-- where the bytes of what is read go on in other bytes, a read there is one of these
+pub reads_on : (source bytes : List ℕ) (at place k count : ℕ) (new rest : List ℕ) → GoesOn source bytes at place k → 0 < k → length new ≡ min k (length (new ++ rest))
+    → count ≤ length new → ReadsAt (Some source) place count new → ReadsAt (Some bytes) at count (new ++ rest)
+reads_on source bytes at place k count new rest goes some room within read = (
+  take-append-le count new rest within ∙ read.0 ∙ sym (goes.part count (omega (arith, room, within))),
+  λ none more. goes.ends (read.1 none (let least : 0 < length new = omega (arith, room, some, more) in least)),
+)
+
 -- a read of the encoding is one of the slice
 module _ (total start len : ℕ) where
   pub cut_read : (contents : Option (List ℕ)) (at place k count : ℕ) (new rest : List ℕ) → ((s : List ℕ) → GoesOn s (cut_as total start len s) at place k) → 0 < k
@@ -361,11 +457,7 @@ module _ (total start len : ℕ) where
   cut_read (Some s) at place k count new rest on some room within read = elim (cases_lt (length s) (2 ^ 64)) [
     | inr long ↦ rw (le-ltb (length s) (2 ^ 64) long) tt
     | inl fits ↦
-        let goes : GoesOn s (cut_as total start len s) at place k = on s in
-        rw (lt-ltb (length s) (2 ^ 64) fits) (
-          take-append-le count new rest within ∙ read.0 ∙ sym (goes.part count (omega (arith, room, within))),
-          λ none more. goes.ends (read.1 none (let least : 0 < length new = omega (arith, room, some, more) in least)),
-        )
+        rw (lt-ltb (length s) (2 ^ 64) fits) (reads_on s (cut_as total start len s) at place k count new rest (on s) some room within read)
   ]
 
   pub cut_past : (contents : Option (List ℕ)) (at : ℕ) (buf : List ℕ) → ((s : List ℕ) → length s < 2 ^ 64 → length (cut_as total start len s) ≤ at)

@@ -21,10 +21,6 @@ use Rattle.bao_decode.specs.CopyPass.{IsCopyFault, IsGoodCopy}
 abbrev pub IsCopyBeside : Mode → List ℕ → List ℕ → List ℕ → Type 0
 IsCopyBeside mode root outline bytes = IsAccepted mode root outline (outboard_nodes outline) × AreBare mode root outline 0 (chunk_count (claimed outline)) bytes
 
--- they are so beside some encoding
-abbrev pub IsCopy : Mode → List ℕ → List ℕ → Type 0
-IsCopy mode root bytes = (outline : List ℕ) × IsCopyBeside mode root outline bytes
-
 -- the copy's first fault, and nothing was written; or no memory, and nothing was; or a read answered a fault, which one that never
 -- fails doesn't; or the copy is accepted, and writing to the other path failed
 abbrev pub LeavesCopy : Outline → Type 0 → List ℕ → Bor (List ℕ) → Bor (List ℕ) → Option (List ℕ) → Option (List ℕ) → DecodeFault → Type 0

@@ -1,6 +1,7 @@
 -- A slice as it is cut out of a combined encoding by position.
-use Rattle.std.specs.Prelude.{◌≡◌, ℕ, ◌^◌, ◌≤◌, List, ◌++◌, length, take, drop, nat_lt, if◌then◌else◌, Option, None, Some, IfSome}
-use Rattle.bao_text.specs.Cut.{claimed, cut_nodes}
+use Rattle.std.specs.Prelude.{◌≡◌, ℕ, ◌^◌, ◌<◌, ◌≤◌, List, ◌++◌, length, take, drop, nat_lt, if◌then◌else◌, Option, None, Some, IfSome}
+use Rattle.bao_files.specs.Disks.{FileState, AreOf}
+use Rattle.bao_text.specs.Cut.{claimed, cut_nodes, cut_text}
 use Rattle.bao_text.specs.Nodes.{nodes}
 
 -- the slice (start, len) as it is cut out of an encoding by the nodes of a blob of `total` bytes; fewer than 8 bytes stay as they are
@@ -21,3 +22,7 @@ pub record GoesOn (text bytes : List ℕ) (skip at len : ℕ) : Type 0 where
 -- the encoding begins with its length, which is this
 abbrev pub ClaimsLength : Option (List ℕ) → ℕ → Type 0
 ClaimsLength contents total = IfSome contents (λ text. (8 ≤ length text) × (claimed text ≡ total))
+
+-- the text is cut, as the slice (start, len), out of the encoding that the file is, where that is known and has fewer than 2^64 bytes
+abbrev pub IsCutOf : FileState → ℕ → ℕ → List ℕ → Type 0
+IsCutOf state start len text = (encoding : List ℕ) × AreOf state encoding × (length encoding < 2 ^ 64 → text ≡ cut_text encoding start len)

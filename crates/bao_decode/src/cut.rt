@@ -19,7 +19,7 @@ pub(crate) const HEADER_LEN: u128 = LENGTH_LEN as u128;
 pub(crate) const NODE_LEN: u128 = PARENT_LEN as u128;
 
 // No source has a byte at this place or after it.
-pub(crate) const END: u128 = u64::MAX as u128;
+const END: u128 = u64::MAX as u128;
 
 // Bytes that stand side by side in a combined encoding: `len` of them, from the place `at` on.
 #[derive(Clone, Copy)]

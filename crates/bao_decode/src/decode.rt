@@ -18,13 +18,11 @@ use crate::plain_copy::{first_fault, flushed, only_fault, regular_len, second_fa
 use crate::text_pass::{BLOCK_LEN, slice_of, text_pass};
 use b3tree::{Hash, Mode};
 use bao_check::{CheckFault, Checked, check_stream, read_checked};
-use bao_files::{Disk, FileFault, Part, Progress, Shown, System};
+use bao_files::{Disk, FileFault, Part, Progress, Shown};
 use bao_read::Source;
 use std::alloc::Global;
-use std::fs::File;
 use std::io;
 use std::io::{BufReader, Read, Write};
-use std::rt::Files;
 
 // Whether the reader has a byte left, which is then read.
 fn has_more<R: Read>(reader: &mut R) -> Result<bool, CheckFault>
@@ -353,31 +351,4 @@ pub fn decode_on<'a, D: Disk, P: Progress>(
     )?;
     disk.finish(out, path)?;
     Ok(count)
-}
-
-/// As [`decode_on`], on the system's own files. Nothing is known of what they hold.
-pub fn decode_file<'a, R: Files<File = File> + AllocGlobal, P: Progress>(
-    rt: &R,
-    mode: &Mode,
-    root: &Hash,
-    part: &Part,
-    file: &'a str,
-    path: &'a str,
-    progress: &P,
-) -> Result<u64, DecodeFault<'a>>
-    ensures ok { IfOk result (λ count. (bytes : List ℕ) × IsPartText mode.now root.now.0 part.now bytes × (count ≡ written_count part.now bytes)) }
-    ensures err { IfErr result IsQuietDecode }
-    ensures paths { IfErr result (NamesDecodePaths file.entry path.entry) }
-{
-    let mut system = System::new(rt);
-    decode_on(
-        rt.alloc(),
-        &mut system,
-        mode,
-        root,
-        part,
-        file,
-        path,
-        progress,
-    )
 }

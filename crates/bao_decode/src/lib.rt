@@ -1,10 +1,10 @@
 //! Encodings and plain copies in files, and what they have of a blob, or a slice of it, written once it was verified.
 #![tactic(auto)]
 
-pub use decode::{decode_file, decode_on, read_text, write_decoded, write_draft};
+pub use decode::{decode_on, read_text, write_decoded, write_draft};
 pub use decode_fault::DecodeFault;
-pub use plain_copy::{decode_copy, decode_copy_on, read_outboard, read_outboard_on, write_copy};
-pub use slicing::{slice_beside, slice_file, write_slice};
+pub use plain_copy::{decode_copy_on, read_outboard_on, write_copy};
+pub use slicing::{slice_beside_on, slice_on, write_slice};
 
 mod copy_pass;
 mod cut;

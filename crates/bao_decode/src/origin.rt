@@ -1,24 +1,28 @@
 // What a slice is cut out of: a file.
 
-ghost use Rattle.std.specs.Prelude.{◌≡◌, ◌⊎◌, IfErr};
+ghost use Rattle.std.specs.Prelude.{◌≡◌, ◌⊎◌, IfErr, IfOk, IsSome};
+ghost use Rattle.bao_files.specs.Disks.{IsStored};
 ghost use Rattle.bao_files.specs.declared.fault.FileFault.TheVariants as FileFault;
+ghost use Rattle.bao_decode.specs.Opened.{OpensWith, is_origin_faultless, origin_contents};
 
-use crate::plain_copy::is_regular;
-use bao_files::{FileFault, LateFile, is_same_file, open_file, read_input};
+use crate::plain_copy::regular_len;
+use bao_files::{Disk, FileFault, read_input};
 use bao_read::Source;
 use std::alloc::Global;
-use std::fs::File;
 use std::io;
-use std::rt::Files;
 
 /// A regular file, which is read where it lies, or all that it had.
 #[derive(Drop)]
-pub(crate) enum Origin {
-    Placed(File),
+pub(crate) enum Origin<I> {
+    Placed(I),
     Held(Vec<u8>),
 }
 
-impl Source for Origin {
+impl<I: Source> Source for Origin<I> {
+    ghost contents = { origin_contents I.contents };
+
+    ghost faultless = { is_origin_faultless I.faultless };
+
     fn read_at(&self, buf: &mut [u8], at: u64) -> io::Result<usize> {
         match self {
             Origin::Placed(file) => file.read_at(buf, at),
@@ -30,20 +34,23 @@ impl Source for Origin {
 /// The file at `path`, for what is written to `out`, the file at `out_path`. One that would be written over while it is read is read first, and held.
 ///
 /// What can't be opened, or isn't a regular file and so can't be read by position, can't be read (`Read`).
-pub(crate) fn origin_of<'a, R: Files<File = File>>(
-    rt: &R,
+pub(crate) fn origin_of<'a, D: Disk>(
     alloc: Global,
+    disk: &D,
     path: &'a str,
-    out: &LateFile<'_, R>,
+    out: &D::Draft,
     out_path: &str,
-) -> Result<Origin, FileFault<'a>>
-    ensures { IfErr result (λ fault. (fault ≡ FileFault.Memory) ⊎ (fault ≡ FileFault.Read path.entry)) }
+) -> Result<Origin<D::Input>, FileFault<'a>>
+    ensures opened { IfOk result (λ origin. OpensWith (D.at disk.now path.now) (origin_contents D.Input.contents origin)) }
+    ensures sure { IfOk result (λ origin. D.faultless disk.now → is_origin_faultless D.Input.faultless origin) }
+    ensures fault { IfErr result (λ fault. (fault ≡ FileFault.Memory) ⊎ (fault ≡ FileFault.Read path.entry)) }
+    ensures there { IfErr result (λ fault. IsSome (D.Draft.contents out.now) → D.faultless disk.now → IsStored (D.at disk.now path.now) → fault ≡ FileFault.Memory) }
 {
-    let mut file = open_file(rt, path)?;
-    if !is_regular(&file) {
+    let mut file = disk.open(path)?;
+    let Some(_) = regular_len(disk.extent(&file)) else {
         return Err(FileFault::Read(path));
-    }
-    if out.is_replaced() || !is_same_file(rt, &file, out_path) {
+    };
+    if disk.is_replaced(out) || !disk.is_same(&file, out_path) {
         return Ok(Origin::Placed(file));
     }
     Ok(Origin::Held(read_input(alloc, &mut file, 0, path)?))

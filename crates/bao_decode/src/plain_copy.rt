@@ -12,7 +12,7 @@ ghost use Rattle.bao_text.specs.Choice.{chunk_count};
 ghost use Rattle.bao_text.specs.Cut.{claimed};
 ghost use Rattle.bao_files.specs.Disks.{AreOf, Absent, IsKnown, IsStored, KeepsFiles, Puts, Stored};
 ghost use Rattle.bao_files.specs.Extents.{extent_of};
-ghost use Rattle.bao_decode.specs.Copies.{BesideStops, CopiesKnown, CopyStops, IsCopy, IsCopyBeside, IsEnough, IsEnoughOf, LeavesUnknown};
+ghost use Rattle.bao_decode.specs.Copies.{BesideStops, CopiesKnown, CopyStops, IsCopyBeside, IsEnough, IsEnoughOf, LeavesUnknown};
 ghost use Rattle.bao_decode.specs.Opened.{IsNotThere, IsUnread};
 ghost use Rattle.bao_decode.specs.CopyPass.{IsGoodCopy, first_fault_of, only_fault_of, second_fault_of};
 ghost use Rattle.bao_decode.specs.DecodeFaults.{IsQuietDecode, NamesDecodePaths, NamesEither};
@@ -21,16 +21,12 @@ use crate::copy_pass::{PassFault, ROOM_LEN, copy_pass, fill_most};
 use crate::decode_fault::DecodeFault;
 use b3tree::{Hash, Mode};
 use bao_check::{CheckFault, Outline, check_outboard};
-use bao_files::{
-    Disk, Extent, FileFault, LateFile, Progress, ReadFault, Shown, System, read_whole,
-};
+use bao_files::{Disk, Extent, FileFault, Progress, ReadFault, Shown, read_whole};
 use bao_read::Source;
 use bao_text::{LENGTH_LEN, claimed, outboard_len};
 use std::alloc::Global;
-use std::fs::{File, OpenFile};
 use std::io;
 use std::io::{Read, Write};
-use std::rt::Files;
 
 // So many bytes of an outboard encoding are looked at before more is read.
 const FIRST_LEN: u64 = 1 << 16;
@@ -158,19 +154,6 @@ pub fn read_outboard_on<'a, D: Disk>(
     }
 }
 
-/// As [`read_outboard_on`], on the system's own files. Nothing is known of what they hold.
-pub fn read_outboard<'a, R: Files<File = File> + AllocGlobal>(
-    rt: &R,
-    mode: &Mode,
-    root: &Hash,
-    path: &'a str,
-) -> Result<Vec<u8>, FileFault<'a>>
-    ensures { IfErr result (λ fault. (fault ≡ FileFault.Memory) ⊎ (fault ≡ FileFault.Read path.entry)) }
-{
-    let system = System::new(rt);
-    read_outboard_on(rt.alloc(), &system, mode, root, path)
-}
-
 // A copy that can't be read by position, as one from a pipe: at most so many bytes as the outline claims, and one.
 fn read_copy<'a, I: Read + Drop>(
     alloc: Global,
@@ -272,29 +255,6 @@ pub fn write_copy<'a, S: Source, W: Write>(
     }
 }
 
-// The count, once what was written is in its place.
-pub(crate) fn finished<'a, R: Files>(
-    count: u64,
-    mut out: LateFile<'_, R>,
-    path: &'a str,
-) -> Result<u64, DecodeFault<'a>>
-    ensures ok { IfOk result (λ answer. answer ≡ count) }
-    ensures err { IfErr result (λ fault. fault ≡ DecodeFault.File (FileFault.Write path.entry)) }
-{
-    match out.finish() {
-        Ok(()) => Ok(count),
-        Err(_) => Err(DecodeFault::File(FileFault::Write(path))),
-    }
-}
-
-// Whether a file is regular, and so is read by position.
-pub(crate) fn is_regular<F: OpenFile>(file: &F) -> bool {
-    match file.metadata() {
-        Ok(metadata) => metadata.is_file(),
-        Err(_) => false,
-    }
-}
-
 // How many bytes a regular file is said to have: only such a one is read by position.
 pub(crate) fn regular_len(extent: Option<Extent>) -> Option<u64>
     ensures { (s : List ℕ) → extent ≡ Some (extent_of s) → result ≡ Some (length s) }
@@ -382,31 +342,4 @@ pub fn decode_copy_on<'a, D: Disk, P: Progress>(
     let count = write_input(alloc, disk, &outline, input, copy, &mut out, path, progress)?;
     disk.finish(out, path)?;
     Ok(count)
-}
-
-/// As [`decode_copy_on`], on the system's own files. Nothing is known of what they hold.
-pub fn decode_copy<'a, R: Files<File = File> + AllocGlobal, P: Progress>(
-    rt: &R,
-    mode: &Mode,
-    root: &Hash,
-    outboard: &'a str,
-    copy: &'a str,
-    path: &'a str,
-    progress: &P,
-) -> Result<u64, DecodeFault<'a>>
-    ensures ok { IfOk result (λ count. (bytes : List ℕ) × IsCopy mode.now root.now.0 bytes × (count ≡ length bytes)) }
-    ensures err { IfErr result IsQuietDecode }
-    ensures paths { IfErr result (NamesEither outboard.entry copy.entry path.entry) }
-{
-    let mut system = System::new(rt);
-    decode_copy_on(
-        rt.alloc(),
-        &mut system,
-        mode,
-        root,
-        outboard,
-        copy,
-        path,
-        progress,
-    )
 }

@@ -1,14 +1,18 @@
 // The combined encoding that an outboard encoding and a plain copy make together, read by position.
 
-ghost use Rattle.std.specs.Prelude.{◌≡◌, ◌+◌, ◌-◌, ◌*◌, ◌^◌, ◌<◌, ◌≤◌, IfErr};
-ghost use Rattle.bao_text.specs.Nodes.{subtree_size};
+ghost use Rattle.std.specs.Prelude.{◌≡◌, ◌+◌, ◌-◌, ◌*◌, ◌^◌, ◌<◌, ◌≤◌, ◌++◌, ℕ, List, true, length, if◌then◌else◌, IfErr, IfNone, IfOk, IfSome};
+ghost use Rattle.std.specs.List.{flat_map};
+ghost use Rattle.bao_text.specs.Choice.{chunk_count, of_combined};
+ghost use Rattle.bao_text.specs.Nodes.{Side, subtree_nodes, subtree_size};
 ghost use Rattle.bao_decode.specs.CopyPass.{StopsShort};
+ghost use Rattle.bao_decode.specs.Cutting.{ClaimsLength, GoesOn};
+ghost use Rattle.bao_decode.specs.Weaving.{AreThere, are_whole, woven_node, woven_text};
 
 use crate::copy_pass::PassFault;
-use crate::cut::{END, HEADER_LEN, NODE_LEN, claimed_length};
+use crate::cut::{HEADER_LEN, NODE_LEN, claimed_length};
 use b3tree::{CHUNK_LEN, left_len};
 use bao_read::Source;
-use bao_text::{LENGTH_LEN, subtree_size};
+use bao_text::subtree_size;
 use std::io;
 
 // Bytes that stand side by side in one of the two: `len` of them, from the place `at` on.
@@ -25,6 +29,11 @@ fn place_of(number: u64, n: u64, at: u128, skip: u128) -> Option<Place>
     requires range { 1024 * number + n ≤ 2 ^ 64 - 1 }
     requires room { at + subtree_size n < 2 ^ 128 }
     requires low { 1024 * number ≤ at }
+    requires parents { at - 1024 * number + 64 * (chunk_count n - 1) < 2 ^ 64 }
+    ensures some { IfSome result (λ place. (total : ℕ) (outline copy : List ℕ) → AreThere total number n at outline copy → (sides : List Side) (rest : List ℕ)
+        → GoesOn (if place.is_in_copy then copy else outline) (flat_map (woven_node outline copy) (subtree_nodes (of_combined total) number n sides at) ++ rest) skip place.at place.len) }
+    ensures within { IfSome result (λ place. (0 < place.len) × (place.at < 2 ^ 64)) }
+    ensures none { IfNone result (subtree_size n ≤ skip) }
 {
     let first = u128::from(CHUNK_LEN as u64 * number);
     if n <= CHUNK_LEN as u64 {
@@ -69,7 +78,9 @@ pub(crate) struct Woven<'a, S: Source> {
 impl<'a, S: Source> Woven<'a, S> {
     /// That encoding. The length that the outboard encoding claims is read, once. `Short` at 0 where it isn't wholly there.
     pub(crate) fn of(outboard: &'a S, copy: &'a S) -> Result<Woven<'a, S>, PassFault>
-        ensures { IfErr result (λ fault. StopsShort (S.contents outboard.now) (S.faultless outboard.now) fault) }
+        ensures same { IfOk result (λ woven. (woven.outboard.now ≡ outboard.now) × (woven.copy.now ≡ copy.now)) }
+        ensures claims { IfOk result (λ woven. ClaimsLength (S.contents outboard.now) woven.total) }
+        ensures fault { IfErr result (λ fault. StopsShort (S.contents outboard.now) (S.faultless outboard.now) fault) }
     {
         let total = claimed_length(outboard)?;
         Ok(Woven {
@@ -78,26 +89,42 @@ impl<'a, S: Source> Woven<'a, S> {
             total,
         })
     }
+
+    // Where the combined encoding's byte `at` stands, with those that follow it there, if it has it.
+    fn place_at(&self, at: u64) -> Option<Place>
+        ensures some { IfSome result (λ place. (outline copy : List ℕ) → are_whole self.now.total outline copy ≡ true
+            → GoesOn (if place.is_in_copy then copy else outline) (woven_text self.now.total outline copy) at place.at place.len) }
+        ensures within { IfSome result (λ place. (0 < place.len) × (place.at < 2 ^ 64)) }
+        ensures none { IfNone result ((outline copy : List ℕ) → are_whole self.now.total outline copy ≡ true → length (woven_text self.now.total outline copy) ≤ at) }
+    {
+        let at = u128::from(at);
+        if at < HEADER_LEN {
+            return Some(Place {
+                is_in_copy: false,
+                at,
+                len: HEADER_LEN - at,
+            });
+        }
+        place_of(0, self.total, HEADER_LEN, at - HEADER_LEN)
+    }
 }
 
 impl<S: Source> Source for Woven<'_, S> {
+    ghost use Rattle.bao_decode.specs.Weaving.{woven_contents};
+
+    ghost contents = { λ woven. woven_contents woven.total (S.contents woven.outboard.now) (S.contents woven.copy.now) };
+
+    ghost faultless = { λ woven. S.faultless woven.outboard.now × S.faultless woven.copy.now };
+
     fn read_at(&self, buf: &mut [u8], at: u64) -> io::Result<usize> {
-        let place = u128::from(at);
-        if place < HEADER_LEN {
-            let room = buf.len().min(LENGTH_LEN - at as usize);
-            return self.outboard.read_at(&mut buf[..room], at);
-        }
-        match place_of(0, self.total, HEADER_LEN, place - HEADER_LEN) {
-            Some(place) if place.at < END => {
-                let room = place.len.min(buf.len() as u128) as usize;
-                let source = if place.is_in_copy {
-                    self.copy
-                } else {
-                    self.outboard
-                };
-                source.read_at(&mut buf[..room], place.at as u64)
-            }
-            _ => Ok(0),
+        let Some(place) = self.place_at(at) else {
+            return Ok(0);
+        };
+        let room = place.len.min(buf.len() as u128) as usize;
+        if place.is_in_copy {
+            self.copy.read_at(&mut buf[..room], place.at as u64)
+        } else {
+            self.outboard.read_at(&mut buf[..room], place.at as u64)
         }
     }
 }

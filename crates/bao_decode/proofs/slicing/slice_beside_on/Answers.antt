@@ -1,0 +1,71 @@
+use Rattle.std.proofs.Common.{◌≡◌, ℕ, List, true, Err, IfErr, sym, ap, subst, ◌∙◌}
+use Rattle.std.proofs.lemmas.Result.{err_from_is_err_and}
+use Rattle.bao_files.specs.Disks.{IsKnown, Stored}
+use Rattle.bao_files.proofs.Disks.{puts_text}
+use Rattle.bao_text.specs.Cut.{claimed}
+use Rattle.bao_decode.specs.Opened.{is_origin_faultless, origin_contents}
+use Rattle.bao_decode.specs.Weaving.{CutBesideStops, are_whole}
+use Rattle.bao_decode.specs.declared.decode_fault.DecodeFault.{DecodeFault}
+use Rattle.bao_decode.proofs.BlobWeavings.{own_beside}
+use Rattle.bao_decode.proofs.Slicings.{beside_done, beside_short, beside_stops}
+use Rattle.bao_decode.proofs.slicing.slice_beside_on.Goals as goal
+
+pub returns-in-Err-clause-refused : goal.returns-in-Err-clause-refused
+returns-in-Err-clause-refused g c = λ known outline bytes at_outboard at_copy whole.
+    let beside = c.in_ok-beside.beside in
+    beside_short c.args.mode.now c.args.root.now.0 c.args.start c.args.len (g.D.Disk.at c.args.disk.now c.args.outboard.now) (origin_contents g.D.Input.Source.contents beside) outline bytes
+    (is_origin_faultless g.D.Input.Source.faultless beside) (g.D.Disk.faultless c.args.disk.now) c.args.outboard c.args.copy c.args.path c.in-Err.fault c.first_fault.result
+    c.in_ok-beside.ensures.opened c.in_ok-beside.ensures.sure at_outboard whole c.first_fault.ensures c.in-Err.ensures.fault
+
+pub returns-in_err-count-clause-refused : goal.returns-in_err-count-clause-refused
+returns-in_err-count-clause-refused g c =
+    let before = g.D.Disk.at c.args.disk.now in
+    let mode = c.args.mode.now in
+    let root = c.args.root.now.0 in
+    let start = c.args.start in
+    let len = c.args.len in
+    let beside = c.in_ok-beside.beside in
+    let plain = c.in_ok-plain.plain in
+    let woven = c.in-Ok-of.woven in
+    let same = c.in-Ok-of.ensures.same in
+    let disk = g.D.Disk.faultless c.args.disk.now in
+    let never = is_origin_faultless g.D.Input.Source.faultless in
+    let has = origin_contents g.D.Input.Source.contents in
+    let fault : DecodeFault = c.in_err-count.field-0.0 in
+    let p = err_from_is_err_and c.from_residual-in_err-count.result c.from_residual-in_err-count.ensures.1 in
+    let is : c.from_residual-in_err-count.result ≡ Err fault = p.1 ∙ ap Err p.2 in
+    subst (λ r. IfErr r (λ f. IsKnown (before c.args.path.now) → (outline bytes : List ℕ) → before c.args.outboard.now ≡ Stored outline → before c.args.copy.now ≡ Stored bytes
+    → are_whole (claimed outline) outline bytes ≡ true → CutBesideStops mode root start len disk outline bytes c.args.outboard c.args.copy c.args.path f)) (sym is)
+    (λ known outline bytes at_outboard at_copy whole.
+    beside_stops mode root start len (before c.args.outboard.now) (before c.args.copy.now) woven.total (has beside) (has plain) (has woven.outboard.now) (has woven.copy.now) outline bytes
+    (never woven.outboard.now × never woven.copy.now) disk c.args.outboard c.args.copy c.args.path (g.D.Draft.Write.contents c.in-Ok.out) (g.D.Draft.Write.contents c.write_slice.new.out) fault
+    c.in_ok-beside.ensures.opened c.in_ok-plain.ensures.opened (ap has same.0) (ap has same.1) c.in-Ok-of.ensures.claims
+    (λ d. (subst never (sym same.0) (c.in_ok-beside.ensures.sure d), subst never (sym same.1) (c.in_ok-plain.ensures.sure d))) at_outboard at_copy whole c.in_err-count.ensures.known)
+
+pub returns-clause-done : goal.returns-clause-done
+returns-clause-done g c =
+    let before = g.D.Disk.at c.args.disk.now in
+    let beside = c.in_ok-beside.beside in
+    let plain = c.in_ok-plain.plain in
+    let woven = c.in-Ok-of.woven in
+    let same = c.in-Ok-of.ensures.same in
+    let never = is_origin_faultless g.D.Input.Source.faultless in
+    let has = origin_contents g.D.Input.Source.contents in
+    let done =
+    beside_done c.args.mode.now c.args.root.now.0 c.args.start c.args.len (before c.args.outboard.now) (before c.args.copy.now) woven.total (has beside) (has plain) (has woven.outboard.now)
+    (has woven.copy.now) (never woven.outboard.now × never woven.copy.now) c.args.copy c.args.path (g.D.Draft.Write.contents c.in-Ok.out) (g.D.Draft.Write.contents c.write_slice.new.out)
+    c.in_ok-count.count c.in_ok-beside.ensures.opened c.in_ok-plain.ensures.opened (ap has same.0) (ap has same.1) c.in-Ok-of.ensures.claims c.in_ok-count.ensures.some c.in_ok-count.ensures.known in (
+      done.0,
+      done.1,
+      done.2,
+      done.3,
+      puts_text before (g.D.Disk.at c.finish.new.self) c.args.path.now (g.D.Draft.Write.contents c.in-Ok.out) (g.D.Draft.Write.contents c.write_slice.new.out)
+          done.0 c.in-Ok.ensures done.4 c.in_ok-finish.ensures.put,
+    )
+
+pub returns-clause-slice : goal.returns-clause-slice
+returns-clause-slice g c = λ blob known at_outboard at_copy fits.
+    let before = g.D.Disk.at c.args.disk.now in
+    let done = returns-clause-done g c in
+    own_beside c.args.mode.now blob (before c.args.outboard.now) (before c.args.copy.now) c.args.start c.args.len before (g.D.Disk.at c.finish.new.self) c.args.path.now done.0
+    done.1 at_outboard at_copy fits known done.4
