@@ -1,6 +1,10 @@
+pub mod Beside
 pub mod Counting
+pub mod FromFiles
 pub mod Gaps
 pub mod Lists
 pub mod Parts
 pub mod Said
 pub mod Spots
+pub mod Taking
+pub mod Windowed

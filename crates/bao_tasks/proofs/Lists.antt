@@ -3,7 +3,7 @@ use Rattle.std.proofs.Common.{◌≡◌, ℕ, List, [], Option, None, Some, IfSo
 use Rattle.std.specs.Io.KnownBytes.{Appends}
 use Rattle.bao_files.specs.Disks.{FileState, Stored, IsKnown, Puts}
 
-all_of_draft : (after : Option (List ℕ)) (text : List ℕ) → Appends (Some []) after text → after ≡ Some text
+pub all_of_draft : (after : Option (List ℕ)) (text : List ℕ) → Appends (Some []) after text → after ≡ Some text
 all_of_draft None text appends = absurd appends
 all_of_draft (Some held) text appends = ap (λ (s : List ℕ). Some s) appends
 

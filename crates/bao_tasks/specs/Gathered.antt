@@ -77,11 +77,7 @@ abbrev pub IsWrittenOut : (Piece → Type 0) → Fixed → Gathering → List �
 IsWrittenOut handed fixed how blob old new result =
     MatchResult result (λ count. (count ≡ length blob) × Appends old new (gathered_text how.encode fixed.mode blob)) IsExcusedWrite ⊎ HasCollision handed fixed blob
 
--- an encoding was accepted as the outboard encoding of a blob with this root
-abbrev pub HasOutline : Mode → List ℕ → Type 0
-HasOutline mode root = (text : List ℕ) × IsAccepted mode root text (outboard_nodes text)
-
--- the file's bytes, as far as they are known, are
+-- the file's bytes, as far as they are known, are accepted as the outboard encoding of a blob with this root
 abbrev pub HasOutlineIn : FileState → Mode → List ℕ → Type 0
 HasOutlineIn state mode root = (text : List ℕ) × AreOf state text × IsAccepted mode root text (outboard_nodes text)
 

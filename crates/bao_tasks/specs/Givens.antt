@@ -2,6 +2,7 @@
 use Rattle.std.specs.Prelude.{ℕ, ◌+◌, ◌*◌, List, Option, Some}
 use Rattle.bao_tasks.specs.declared.given.Given.{Given}
 use Rattle.bao_tasks.specs.declared.given.Given.TheVariants.{Placed, Held}
+use Rattle.bao_tasks.specs.declared.watched.Watched.{Watched}
 use Rattle.bao_text.specs.Nodes.{subtree_size}
 use Rattle.gather.specs.declared.form.Form.{Form}
 use Rattle.gather.specs.declared.form.Form.TheVariants.{Slices, Bare}
@@ -21,3 +22,10 @@ is_given_faultless faultless (Held text) = Unit {0}
 abbrev pub most_bytes : Form → ℕ → ℕ
 most_bytes Slices capacity = 8 + subtree_size (1024 * capacity) + 1
 most_bytes (Bare outline) capacity = 1024 * capacity + 1
+
+-- a file that is watched has the same bytes, and fails where it does
+abbrev pub watched_contents : {S P : Type 0} → (S → Option (List ℕ)) → Watched S P → Option (List ℕ)
+watched_contents contents watched = contents watched.given
+
+abbrev pub watched_faultless : {S P : Type 0} → (S → Type 0) → Watched S P → Type 0
+watched_faultless faultless watched = faultless watched.given

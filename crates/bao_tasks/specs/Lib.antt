@@ -2,9 +2,11 @@ pub mod Replayed
 pub mod RerunFaults
 pub mod Gathered
 pub mod Fates
+pub mod FromFiles
 pub mod Worth
 pub mod GatheredFaults
 pub mod Givens
 pub mod Listed
 pub mod Missing
 pub mod Spots
+pub mod TakenFiles

@@ -32,11 +32,6 @@ abbrev pub IsRefusedRun : Mode → Hash → List ℕ → List (List ℕ) → ℕ
 IsRefusedRun mode root script files number fault =
     (lines : List NumberedLine) × IsScript (length files) script lines × IsRefusedSlice mode root.0 (slices_of files lines) number fault
 
--- it is that of some script and of so many files
-abbrev pub IsReplayOf : Mode → Hash → ℕ → ℕ → List ℕ → Type 0
-IsReplayOf mode root capacity count text =
-    (script : List ℕ) × ((files : List (List ℕ)) × (length files ≡ count) × IsRun mode root capacity script files text)
-
 -- these are the bytes of the files at the paths, each at its place, as far as they are known
 pub record AreOfAll (at : List ℕ → FileState) (paths : List (Bor (List ℕ))) (files : List (List ℕ)) : Type 0 where
   pub count : length files ≡ length paths

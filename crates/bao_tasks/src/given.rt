@@ -1,6 +1,8 @@
-ghost use Rattle.std.specs.Prelude.{◌≡◌, ◌⊎◌, IfErr, IfOk, IfSome, take};
+ghost use Rattle.std.specs.Prelude.{◌≡◌, ◌⊎◌, IfErr, IfOk, IfSome, Some, false, take, true};
+ghost use Rattle.bao_files.specs.Disks.{IsStored};
 ghost use Rattle.bao_files.specs.declared.fault.FileFault.TheVariants as FileFault;
-ghost use Rattle.bao_tasks.specs.Givens.{most_bytes};
+ghost use Rattle.bao_tasks.specs.FromFiles.{taken_bytes};
+ghost use Rattle.bao_tasks.specs.Givens.{given_contents, is_given_faultless, most_bytes};
 
 use b3tree::CHUNK_LEN;
 use bao_files::{Disk, FileFault, read_input};
@@ -50,6 +52,9 @@ pub(crate) fn placed<'a, D: Disk>(
     disk: &D,
     path: &'a str,
 ) -> Result<(Given<D::Input>, u64), FileFault<'a>>
+    ensures bytes { IfOk result (λ made. IfSome (taken_bytes true 0 (D.at disk.now path.now)) (λ bytes. given_contents D.Input.contents made.0 ≡ Some bytes)) }
+    ensures sure { IfOk result (λ made. D.faultless disk.now → is_given_faultless D.Input.faultless made.0) }
+    ensures there { IfErr result (λ fault. D.faultless disk.now → IsStored (D.at disk.now path.now) → fault ≡ FileFault.Memory) }
     ensures fault { IfErr result (λ fault. (fault ≡ FileFault.Memory) ⊎ (fault ≡ FileFault.Read path.entry)) }
 {
     let file = disk.open(path)?;
@@ -99,6 +104,8 @@ pub(crate) fn held<'a, D: Disk>(
     capacity: u32,
     path: &'a str,
 ) -> Result<(Given<D::Input>, u64), FileFault<'a>>
+    ensures bytes { IfOk result (λ made. IfSome (taken_bytes false (most_bytes form.now capacity) (D.at disk.now path.now)) (λ bytes. given_contents D.Input.contents made.0 ≡ Some bytes)) }
+    ensures sure { IfOk result (λ made. D.faultless disk.now → is_given_faultless D.Input.faultless made.0) }
     ensures fault { IfErr result (λ fault. (fault ≡ FileFault.Memory) ⊎ (fault ≡ FileFault.Read path.entry)) }
 {
     let file = disk.open(path)?;

@@ -4,12 +4,12 @@
 pub use fate::Fate;
 pub use gather::{Form, Grain};
 pub use gathered_fault::GatheredFault;
-pub use gathering::{Gathering, gather_beside, gather_beside_on, gather_files, gather_on};
+pub use gathering::{Gathering, gather_beside_on, gather_on};
 pub use given::Given;
 pub use listing::{list_parts, write_parts};
 pub use missing::{Lack, MissingParts, Span, lack_of};
 pub use notes::Notes;
-pub use replaying::{replay_files, replay_on, replay_text};
+pub use replaying::{replay_on, replay_text};
 pub use rerun_fault::RerunFault;
 pub use spot::{Spot, spot_in_outboard, spot_in_slice};
 pub use worth::{Worth, worth_of_copy, worth_of_encoding};

@@ -6,16 +6,14 @@ ghost use Rattle.bao_script.specs.Scripts.{IsFirstRefused};
 ghost use Rattle.bao_script.specs.declared.fault.ReplayScriptFault.TheVariants as replay;
 ghost use Rattle.bao_files.specs.declared.fault.FileFault.TheVariants as FileFault;
 ghost use Rattle.bao_tasks.specs.declared.rerun_fault.RerunFault.TheVariants as RerunFault;
-ghost use Rattle.bao_tasks.specs.Replayed.{AreOfAll, IsAcceptedRun, IsRefusedRun, IsReplayOf, IsRun, IsStoppedRun, OfFiles};
+ghost use Rattle.bao_tasks.specs.Replayed.{AreOfAll, IsAcceptedRun, IsRefusedRun, IsRun, IsStoppedRun, OfFiles};
 ghost use Rattle.bao_tasks.specs.RerunFaults.{IsOfNoFile, NamesRead};
 
 use crate::rerun_fault::RerunFault;
 use b3tree::{Hash, Mode};
-use bao_files::{Disk, FileFault, System, read_input};
+use bao_files::{Disk, FileFault, read_input};
 use bao_script::{ScriptFault, parse, replay_script};
 use std::alloc::Global;
-use std::fs::File;
-use std::rt::Files;
 
 // All bytes of the file at `path`.
 fn read_one<'a, D: Disk>(alloc: Global, disk: &D, path: &'a str) -> Result<Vec<u8>, FileFault<'a>>
@@ -118,23 +116,4 @@ pub fn replay_on<'a, D: Disk>(
         text.as_slice(),
         pieces.as_slice(),
     )
-}
-
-/// As [`replay_on`], on the system's own files. Nothing is known of what they hold.
-pub fn replay_files<'a, R: Files<File = File> + AllocGlobal>(
-    rt: &R,
-    mode: &Mode,
-    root: &Hash,
-    capacity: u32,
-    script: &'a str,
-    files: &[&'a str],
-) -> Result<Vec<u8>, RerunFault<'a>>
-    ensures answer { IfOk result (λ text. IsReplayOf mode.now root.now capacity (length files.now) text.items) }
-    ensures capacity { IsErrOf result (RerunFault.Replay replay.Capacity) → (capacity ≡ 0) ⊎ (65536 < capacity) }
-    ensures within { IsOk result → (0 < capacity) × (capacity ≤ 65536) }
-    ensures illegal_within { (number : ℕ) → IsErrOf result (RerunFault.Replay (replay.Illegal number)) → (0 < capacity) × (capacity ≤ 65536) }
-    ensures file { IfErr result (NamesRead script.entry files.now) }
-{
-    let system = System::new(rt);
-    replay_on(rt.alloc(), &system, mode, root, capacity, script, files)
 }

@@ -18,16 +18,22 @@ impl<S: Drop, P> Drop for Watched<'_, S, P> {
 }
 
 impl<'p, S, P> Watched<'p, S, P> {
+    ghost use Rattle.std.specs.Prelude.{◌≡◌};
+
     /// The same file, watched.
-    pub(crate) fn new(given: S, progress: &'p P) -> Watched<'p, S, P> {
+    pub(crate) fn new(given: S, progress: &'p P) -> Watched<'p, S, P>
+        ensures { result.given ≡ given }
+    {
         Watched { given, progress }
     }
 }
 
 impl<S: Source, P: Progress> Source for Watched<'_, S, P> {
-    ghost contents = { λ watched. S.contents watched.given };
+    ghost use Rattle.bao_tasks.specs.Givens.{watched_contents, watched_faultless};
 
-    ghost faultless = { λ watched. S.faultless watched.given };
+    ghost contents = { watched_contents S.contents };
+
+    ghost faultless = { watched_faultless S.faultless };
 
     fn read_at(&self, buf: &mut [u8], at: u64) -> io::Result<usize> {
         let read = self.given.read_at(buf, at);

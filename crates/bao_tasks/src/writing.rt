@@ -1,11 +1,16 @@
-ghost use Rattle.std.specs.Prelude.{◌≡◌, ◌≤◌, ℕ, List, IfErr, IfOk, Some, length, slice_get};
+ghost use Rattle.std.specs.Prelude.{◌≡◌, ◌≤◌, ℕ, List, IfErr, IfOk, IsErrOf, Some, length, slice_get};
 ghost use Rattle.bao_text.specs.Choice.{chunk_count};
 ghost use Rattle.bao_text.specs.Texts.{combined_text};
+ghost use Rattle.bao_tasks.specs.declared.gathered_fault.GatheredFault.TheVariants as GatheredFault;
+ghost use Rattle.bao_windows.specs.Written.{AreTooLong};
 ghost use Rattle.gather.specs.Available.{HaveSlices};
-ghost use Rattle.gather.specs.Forms.{AreSlices};
+ghost use Rattle.gather.specs.declared.fault.GatherFault.TheVariants as GatherFault;
+ghost use Rattle.gather.specs.Forms.{AreSlices, IsLengthOf};
 ghost use Rattle.gather.specs.Large.{fixed_as};
 ghost use Rattle.gather.specs.Lists.{IsFromSource, source_gives};
+ghost use Rattle.gather.specs.Parts.{IsOwn};
 ghost use Rattle.store_core.specs.Laws.{IsBlob};
+ghost use Rattle.bao_tasks.specs.TakenFiles.{IsRightOf};
 ghost use Rattle.bao_tasks.specs.Gathered.{IsWrittenOut, LeavesBlob, WritesBlob};
 
 use crate::found::write_found;
@@ -25,6 +30,7 @@ use store_core::Fixed;
 fn capacity_for(form: &Form<'_>, capacity: u32) -> u32
     ensures most { result ≤ capacity }
     ensures slices { AreSlices form.now → result ≡ capacity }
+    ensures bare { (n : ℕ) → IsLengthOf form.now n → chunk_count n ≤ capacity → chunk_count n ≤ result }
 {
     match form {
         Form::Slices => capacity,
@@ -56,6 +62,12 @@ fn first_room(form: &Form<'_>, room: u32, capacity: u32) -> u32 {
 /// Where one of the sources never fails, its bytes are known, and they are the combined encoding of a blob with the root, of at most
 /// `capacity` chunks, that blob is written, or there was no memory, or writing failed, or a collision is exhibited, one input of the
 /// blob's and one of a slice's that is cut out of one of the sources. Nor need any source be whole, as `crews::gather` says.
+///
+/// So it is of plain copies beside the outboard encoding of a blob of at least one byte: one that never fails and whose bytes are the blob is
+/// enough.
+///
+/// Whatever the sources are, what is written is each blob with the root, and at 902 there is none; or a collision is exhibited. Of combined
+/// encodings at 805 each blob with the root has more chunks than `capacity`, or a collision is exhibited.
 pub fn write_gathered<'a, R: AllocGlobal + Threads + Sync, S: Source + Sync, W: Write>(
     rt: &R,
     mode: &Mode,
@@ -69,6 +81,13 @@ pub fn write_gathered<'a, R: AllocGlobal + Threads + Sync, S: Source + Sync, W: 
 ) -> Result<u64, GatheredFault<'a>>
     ensures blob { IfOk result (WritesBlob how mode.now root.now.0 (W.contents out.old) (W.contents out.new)) }
     ensures fault { IfErr result (LeavesBlob how mode.now root.now.0 path.entry (W.contents out.old) (W.contents out.new)) }
+    ensures copied { (blob : List ℕ) (i : ℕ) (source : S) → IsBlob (fixed_as root.now mode.now how.capacity) blob → chunk_count (length blob) ≤ how.capacity
+        → IsOwn form.now (fixed_as root.now mode.now how.capacity) blob → slice_get sources.now i ≡ Some source → S.contents source ≡ Some blob → S.faultless source
+        → IsWrittenOut (IsFromSource form.now S.contents S.faultless sources.now) (fixed_as root.now mode.now how.capacity) how blob (W.contents out.old) (W.contents out.new) result }
+    ensures too_large { AreSlices form.now → IsErrOf result (GatheredFault.Gather GatherFault.TooLarge)
+        → AreTooLong (IsFromSource form.now S.contents S.faultless sources.now) (fixed_as root.now mode.now how.capacity) how.capacity }
+    ensures right { (blob : List ℕ) → IsBlob (fixed_as root.now mode.now how.capacity) blob
+        → IsRightOf (IsFromSource form.now S.contents S.faultless sources.now) (fixed_as root.now mode.now how.capacity) how blob (W.contents out.old) (W.contents out.new) result }
     ensures available { AreSlices form.now → (blob : List ℕ) (i : ℕ) (source : S) → IsBlob (fixed_as root.now mode.now how.capacity) blob → chunk_count (length blob) ≤ how.capacity
         → slice_get sources.now i ≡ Some source → S.contents source ≡ Some (combined_text mode.now blob) → S.faultless source
         → IsWrittenOut (IsFromSource form.now S.contents S.faultless sources.now) (fixed_as root.now mode.now how.capacity) how blob (W.contents out.old) (W.contents out.new) result }

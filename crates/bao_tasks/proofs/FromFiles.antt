@@ -1,0 +1,359 @@
+-- What the sources of files give, and what a try out of them answers.
+use Rattle.std.specs.Borrow.{Bor}
+use Rattle.std.proofs.Common.{◌≡◌, ◌⊎◌, ℕ, zero, suc, ◌-◌, ◌^◌, ◌<◌, ◌≤◌, true, false, List, [], ◌∷◌, ◌++◌, length, take, Option, None, Some, IfSome, is_some, Result, Ok, Err, slice_get, leb, refl, sym, ap, subst, arith, inl, inr, ◌*◌, ◌∙◌, ◌≢◌}
+use Rattle.std.proofs.lemmas.Bool.Decides.{leb_tells}
+use Rattle.std.proofs.lemmas.Option.{none-some, same_Some, slice_get_within}
+use Rattle.std.specs.Bool.{⊤}
+use Rattle.b3tree.specs.declared.mode.Mode.{Mode}
+use Rattle.b3tree.specs.declared.values.Hash.{Hash}
+use Rattle.bao_files.specs.declared.fault.FileFault.{FileFault}
+use Rattle.bao_files.specs.declared.fault.FileFault.TheVariants as file
+use Rattle.bao_files.specs.Disks.{FileState, Unknown, Absent, Stored, Opens}
+use Rattle.bao_text.specs.Choice.{chunk_count}
+use Rattle.bao_text.specs.Texts.{combined_text}
+use Rattle.gather.specs.declared.fault.GatherFault.{GatherFault}
+use Rattle.gather.specs.declared.fault.GatherFault.TheVariants.{Store, Capacity, TooLarge, Seat, Unfinished, NotTheRoot, Memory, Starved}
+use Rattle.gather.specs.declared.form.Form.{Form}
+use Rattle.gather.specs.declared.form.Form.TheVariants.{Slices, Bare}
+use Rattle.gather.specs.Forms.{AreSlices, IsLengthOf}
+use Rattle.gather.specs.HandedOut.{IsHandedOut, own_bytes}
+use Rattle.bao_windows.specs.Written.{AreTooLong}
+use Rattle.gather.specs.Large.{AreLonger, HasCollision, fixed_as}
+use Rattle.gather.specs.Lists.{IsFromSource}
+use Rattle.gather.specs.Parts.{IsOwn}
+use Rattle.gather.specs.Places.{IsCutAt, IsPartAt}
+use Rattle.store_core.specs.declared.fixed.Fixed.{Fixed}
+use Rattle.store_core.specs.declared.history.Piece.{Piece}
+use Rattle.store_core.specs.Laws.{IsBlob}
+use Rattle.bao_tasks.specs.declared.gathered_fault.GatheredFault.{GatheredFault}
+use Rattle.bao_tasks.specs.declared.gathered_fault.GatheredFault.TheVariants.{File, Gather, Outboard}
+use Rattle.bao_tasks.specs.declared.gathering.Gathering.{Gathering}
+use Rattle.bao_tasks.specs.Gathered.{IsWrittenOut}
+use Rattle.bao_tasks.specs.Givens.{most_bytes}
+use Rattle.gather.proofs.Binding.{pair_wider}
+use Rattle.bao_tasks.specs.FromFiles.{IsExcusedFile, IsExcusedGathering, IsFromFile, IsPutAt, IsTextOf, file_bytes, never_fails, taken_bytes}
+use Rattle.bao_tasks.specs.TakenFiles.{AreOfFiles, Follows, HasSound, IsDrafted, IsOfFile, IsOfWriting, IsRightDraft, IsTried, is_open, open_fault}
+
+-- a file that was opened has the bytes that are taken of it
+pub opened_whole : (state : FileState) (contents remaining : Option (List ℕ)) → Opens state contents remaining → IfSome (taken_bytes true 0 state) (λ bytes. contents ≡ Some bytes)
+opened_whole Unknown contents remaining opens = tt
+opened_whole Absent contents remaining opens = absurd opens
+opened_whole (Stored s) contents remaining opens = opens.0
+
+-- so has the text of the first ones
+pub opened_part : (state : FileState) (contents remaining : Option (List ℕ)) (most : ℕ) (text : List ℕ) → Opens state contents remaining
+    → IfSome remaining (λ left. text ≡ take most left) → IfSome (taken_bytes false most state) (λ bytes. Some text ≡ Some bytes)
+opened_part Unknown contents remaining most text opens read = tt
+opened_part Absent contents remaining most text opens read = absurd opens
+opened_part (Stored s) contents remaining most text opens read =
+    let is : text ≡ take most s = subst (λ (r : Option (List ℕ)). IfSome r (λ left. text ≡ take most left)) opens.1 read in
+    ap (λ (xs : List ℕ). Some xs) is
+
+-- what is there in a list is there where more follows
+pub still_there : {A : Type 0} (xs ys : List A) (i : ℕ) (x : A) → slice_get xs i ≡ Some x → slice_get (xs ++ ys) i ≡ Some x
+still_there [] ys i x is = absurd (none-some x is)
+still_there (y ∷ xs) ys zero x is = is
+still_there (y ∷ xs) ys (suc i) x is = still_there xs ys i x is
+
+pub last_there : {A : Type 0} (xs : List A) (x : A) → slice_get (xs ++ x ∷ []) (length xs) ≡ Some x
+last_there [] x = refl
+last_there (y ∷ xs) x = last_there xs x
+
+-- what is there is one of those before, or the last
+pub before_or_last : {A : Type 0} (xs : List A) (last x : A) (i : ℕ) → slice_get (xs ++ last ∷ []) i ≡ Some x → (slice_get xs i ≡ Some x) ⊎ (last ≡ x)
+before_or_last [] last x zero is = inr (same_Some last x is)
+before_or_last [] last x (suc i) is = absurd (none-some x is)
+before_or_last (y ∷ xs) last x zero is = inl is
+before_or_last (y ∷ xs) last x (suc i) is = before_or_last xs last x i is
+
+module _ {S : Type 0} (contents : S → Option (List ℕ)) (faultless : S → Type 0) (sure : Type 0) where
+  -- the bytes of a source are among those of more
+  pub sound_kept : (more : Option (List ℕ)) (old new : List S) → Follows contents faultless sure more old new → (bytes : List ℕ) → HasSound contents faultless old bytes
+      → HasSound contents faultless new bytes
+  sound_kept more old new follows bytes has = record {
+    place = has.place;
+    source = has.source;
+    there = subst (λ (xs : List S). slice_get xs has.place ≡ Some has.source) (sym follows.is) (still_there old (follows.source ∷ []) has.place has.source has.there);
+    known = has.known;
+    sound = has.sound;
+  }
+
+  -- so are those of the source that follows
+  pub sound_last : (more : Option (List ℕ)) (old new : List S) → Follows contents faultless sure more old new → sure → (bytes : List ℕ) → more ≡ Some bytes
+      → HasSound contents faultless new bytes
+  sound_last more old new follows surely bytes is = record {
+    place = length old;
+    source = follows.source;
+    there = subst (λ (xs : List S). slice_get xs (length old) ≡ Some follows.source) (sym follows.is) (last_there old follows.source);
+    known = subst (λ (b : Option (List ℕ)). IfSome b (λ s. contents follows.source ≡ Some s)) is follows.of.known;
+    sound = follows.of.sound surely;
+  }
+
+  -- it is of a file, as those before are
+  pub files_more : (bytes_of : Bor (List ℕ) → Option (List ℕ)) (paths : List (Bor (List ℕ))) (place : ℕ) (path : Bor (List ℕ)) (old new : List S)
+      → slice_get paths place ≡ Some path → Follows contents faultless sure (bytes_of path) old new → AreOfFiles contents faultless sure bytes_of paths old
+      → AreOfFiles contents faultless sure bytes_of paths new
+  files_more bytes_of paths place path old new there follows before i source at =
+      elim (before_or_last old follows.source source i (subst (λ (xs : List S). slice_get xs i ≡ Some source) follows.is at)) [
+        | inl earlier ↦ before i source earlier
+        | inr last ↦
+            subst (λ (s : S). IsOfFile contents faultless sure bytes_of paths s) last (record { place = place; path = path; there = there; of = follows.of })
+      ]
+
+-- what is cut out of a source's bytes is cut out of the file's
+cut_of : (contents : Option (List ℕ)) (faultless : Type 0) (bytes : Option (List ℕ)) (start len : ℕ) (text : List ℕ) → IfSome bytes (λ s. contents ≡ Some s) → faultless
+    → IsCutAt contents faultless start len text → IsCutAt bytes ⊤ start len text
+cut_of contents faultless None start len text known sound cut = tt
+cut_of contents faultless (Some s) start len text known sound cut = λ few.
+    elim ((subst (λ (c : Option (List ℕ)). IsCutAt c faultless start len text) known cut) few) [ inl same ↦ inl same | inr lost ↦ absurd (lost.1 sound) ]
+
+part_of : (contents : Option (List ℕ)) (faultless : Type 0) (bytes : Option (List ℕ)) (start len : ℕ) (text : List ℕ) → IfSome bytes (λ s. contents ≡ Some s) → faultless
+    → IsPartAt contents faultless start len text → IsPartAt bytes ⊤ start len text
+part_of contents faultless None start len text known sound cut = tt
+part_of contents faultless (Some s) start len text known sound cut = λ few.
+    elim ((subst (λ (c : Option (List ℕ)). IsPartAt c faultless start len text) known cut) few) [ inl same ↦ inl same | inr lost ↦ absurd (lost.1 sound) ]
+
+-- a piece of the sources is one of the files
+pub from_paths : {S : Type 0} (form : Form) (contents : S → Option (List ℕ)) (faultless : S → Type 0) (sure : Type 0) (bytes_of : Bor (List ℕ) → Option (List ℕ))
+    (paths : List (Bor (List ℕ))) (sources : List S) → sure → AreOfFiles contents faultless sure bytes_of paths sources → (piece : Piece)
+    → IsFromSource form contents faultless sources piece → IsFromSource form bytes_of never_fails paths piece
+from_paths Slices contents faultless sure bytes_of paths sources surely are piece from =
+    let file = are from.place from.holder from.there in
+    record {
+      place = file.place;
+      holder = file.path;
+      there = file.there;
+      given = cut_of (contents from.holder) (faultless from.holder) (bytes_of file.path) piece.start piece.len piece.text file.of.known (file.of.sound surely) from.given;
+    }
+from_paths (Bare outline) contents faultless sure bytes_of paths sources surely are piece from =
+    let file = are from.place from.holder from.there in
+    record {
+      place = file.place;
+      holder = file.path;
+      there = file.there;
+      given = record {
+        bytes = from.given.bytes;
+        given = part_of (contents from.holder) (faultless from.holder) (bytes_of file.path) _ _ from.given.bytes file.of.known (file.of.sound surely) from.given.given;
+        is = from.given.is;
+      };
+    }
+
+-- the capacity has no part in what a blob is, or a collision
+pub blob_as : (root : Hash) (mode : Mode) (m n : ℕ) (blob : List ℕ) → IsBlob (fixed_as root mode m) blob → IsBlob (fixed_as root mode n) blob
+blob_as root mode m n blob is = record { bytes = is.bytes; root = is.root }
+
+pub pair_as : (handed : Piece → Type 0) (root : Hash) (mode : Mode) (m n : ℕ) (blob : List ℕ) → HasCollision handed (fixed_as root mode m) blob
+    → HasCollision handed (fixed_as root mode n) blob
+pair_as handed root mode m n blob has = record {
+  piece = has.piece;
+  from = has.from;
+  accepted = record { bytes = has.accepted.bytes; accepted = has.accepted.accepted; base = has.accepted.base };
+  pair = has.pair;
+}
+
+-- one fault for another that is the same
+pub same_err : {T E : Type 0} (r : Result T E) (e f : E) → r ≡ Err e → e ≡ f → r ≡ Err f
+same_err {T = T} {E = E} r e f is same = subst (λ (x : E). r ≡ Err x) same is
+
+pub out_as : (handed : Piece → Type 0) (root : Hash) (mode : Mode) (m n : ℕ) (blob : List ℕ) (result : Result (List ℕ) GatherFault)
+    → IsHandedOut own_bytes handed (fixed_as root mode m) blob result → IsHandedOut own_bytes handed (fixed_as root mode n) blob result
+out_as handed root mode m n blob result (inl same) = inl same
+out_as handed root mode m n blob result (inr pair) = inr (pair_as handed root mode m n blob pair)
+
+pub found_as : (handed : Piece → Type 0) (root : Hash) (mode : Mode) (m n : ℕ) (blob found : List ℕ) → (found ≡ blob) ⊎ HasCollision handed (fixed_as root mode m) blob
+    → (found ≡ blob) ⊎ HasCollision handed (fixed_as root mode n) blob
+found_as handed root mode m n blob found (inl same) = inl same
+found_as handed root mode m n blob found (inr pair) = inr (pair_as handed root mode m n blob pair)
+
+-- nor in which outline is its own, which claims its length
+pub own_as : (form : Form) (root : Hash) (mode : Mode) (m n : ℕ) (blob : List ℕ) → IsOwn form (fixed_as root mode m) blob → IsOwn form (fixed_as root mode n) blob
+own_as Slices root mode m n blob own = absurd own
+own_as (Bare outline) root mode m n blob own = record {
+  of = record { mode_is = own.of.mode_is; root_is = own.of.root_is; claims = own.of.claims; some = own.of.some };
+  text_is = own.text_is;
+}
+
+pub own_length : (form : Form) (root : Hash) (mode : Mode) (m : ℕ) (blob : List ℕ) → IsOwn form (fixed_as root mode m) blob → IsLengthOf form (length blob)
+own_length Slices root mode m blob own = absurd own
+own_length (Bare outline) root mode m blob own = own.of.claims
+
+-- a text that makes a true file of a blob is its combined encoding, or the blob beside its own outboard encoding
+pub by_text : (X : Type 0) (form : Form) (fixed : Fixed) (blob text : List ℕ) → IsTextOf form fixed blob text → (AreSlices form → text ≡ combined_text fixed.mode blob → X)
+    → (IsOwn form fixed blob → text ≡ blob → X) → X
+by_text X Slices fixed blob text is slices copies = slices tt is
+by_text X (Bare outline) fixed blob text is slices copies = copies is.0 is.1
+
+-- a fault after which no other file helps isn't one of the files, or no blob has the root
+pub excused_closed : (P : Type 0) (fault : GatheredFault) → IsOfWriting fault → (fault ≡ Gather NotTheRoot → P) → open_fault (Err fault) ≡ None → IsExcusedGathering fault ⊎ P
+excused_closed P (File fault) writing none closed = inl writing
+excused_closed P (Outboard fault) writing none closed = absurd writing
+excused_closed P (Gather Store) writing none closed = inl tt
+excused_closed P (Gather Capacity) writing none closed = inl tt
+excused_closed P (Gather TooLarge) writing none closed = absurd (none-some TooLarge (sym closed))
+excused_closed P (Gather Seat) writing none closed = inl tt
+excused_closed P (Gather Unfinished) writing none closed = absurd (none-some Unfinished (sym closed))
+excused_closed P (Gather NotTheRoot) writing none closed = inr (none refl)
+excused_closed P (Gather Memory) writing none closed = inl tt
+excused_closed P (Gather Starved) writing none closed = absurd (none-some Starved (sym closed))
+
+-- a fault after which another may help, where a source has the blob, is that there was no memory
+pub open_starved : (handed : Piece → Type 0) (fixed : Fixed) (how : Gathering) (blob : List ℕ) (old new : Option (List ℕ)) (result : Result ℕ GatheredFault) (fault : GatherFault)
+    → IsWrittenOut handed fixed how blob old new result → open_fault result ≡ Some fault → (fault ≡ Starved) ⊎ HasCollision handed fixed blob
+open_starved handed fixed how blob old new result fault (inr pair) left = inr pair
+open_starved handed fixed how blob old new (Ok count) fault (inl out) left = absurd (none-some fault left)
+open_starved handed fixed how blob old new (Err (File cause)) fault (inl out) left = absurd (none-some fault left)
+open_starved handed fixed how blob old new (Err (Outboard cause)) fault (inl out) left = absurd out
+open_starved handed fixed how blob old new (Err (Gather Store)) fault (inl out) left = absurd (none-some fault left)
+open_starved handed fixed how blob old new (Err (Gather Capacity)) fault (inl out) left = absurd (none-some fault left)
+open_starved handed fixed how blob old new (Err (Gather TooLarge)) fault (inl out) left = absurd out
+open_starved handed fixed how blob old new (Err (Gather Seat)) fault (inl out) left = absurd (none-some fault left)
+open_starved handed fixed how blob old new (Err (Gather Unfinished)) fault (inl out) left = absurd out
+open_starved handed fixed how blob old new (Err (Gather NotTheRoot)) fault (inl out) left = absurd out
+open_starved handed fixed how blob old new (Err (Gather Memory)) fault (inl out) left = absurd (none-some fault left)
+open_starved handed fixed how blob old new (Err (Gather Starved)) fault (inl out) left = inl (sym (same_Some Starved fault left))
+
+-- a length of 64 bits is of no more chunks than a number of 64 bits
+pub few_chunks : (n : ℕ) → n < 2 ^ 64 → chunk_count n ≤ 2 ^ 64 - 1
+few_chunks n below = omega arith
+
+-- a try that made a draft made one with the blob's text, or a collision is exhibited
+pub drafted_of : {T : Type 0} (contents : T → Option (List ℕ)) (how : Gathering) (mode : Mode) (blob : List ℕ) (P Q : Type 0) (result : Result (Option (ℕ × T)) GatheredFault)
+    (found : Option (ℕ × T)) (made : ℕ × T) → IsTried contents how mode blob result ⊎ Q → (Q → P) → result ≡ Ok found → found ≡ Some made → IsDrafted contents how mode blob (Ok made) ⊎ P
+drafted_of {T = T} contents how mode blob P Q result found made (inl tried) wide is there =
+    inl (subst (λ (f : Option (ℕ × T)). IsTried contents how mode blob (Ok f)) there (subst (λ (r : Result (Option (ℕ × T)) GatheredFault). IsTried contents how mode blob r) is tried))
+drafted_of contents how mode blob P Q result found made (inr pair) wide is there = inr (wide pair)
+
+-- a try that ended in a fault ended in one that isn't of the files
+pub fault_of : {T : Type 0} (contents : T → Option (List ℕ)) (how : Gathering) (mode : Mode) (blob : List ℕ) (P Q : Type 0) (result : Result (Option (ℕ × T)) GatheredFault)
+    (fault : GatheredFault) → IsTried contents how mode blob result ⊎ Q → (Q → P) → result ≡ Err fault → IsExcusedGathering fault ⊎ P
+fault_of {T = T} contents how mode blob P Q result fault (inl tried) wide is =
+    inl (subst (λ (r : Result (Option (ℕ × T)) GatheredFault). IsTried contents how mode blob r) is tried)
+fault_of contents how mode blob P Q result fault (inr pair) wide is = inr (wide pair)
+
+-- At the end there was no memory, or a collision is exhibited: a file was left out for want of it, or it is what each of two tries met.
+pub excused_end : (A A' H H' M M' E P : Type 0) → A ⊎ H → (H → M ⊎ P) → (A → A') → (H → H') → (H' → M → M' ⊎ P) → (A' ⊎ M' → E) → E ⊎ P
+excused_end A A' H H' M M' E P (inl a) first hungry kept second excused = inl (excused (inl (hungry a)))
+excused_end A A' H H' M M' E P (inr h) first hungry kept second excused = elim (first h) [
+  | inl m ↦ elim (second (kept h) m) [ inl n ↦ inl (excused (inr n)) | inr p ↦ inr p ]
+  | inr p ↦ inr p
+]
+
+-- the fault that is left, if one is, is that there was no memory
+pub starved_left : (P : Type 0) (met : Option GatherFault) → is_some met ≡ true → ((fault : GatherFault) → met ≡ Some fault → (fault ≡ Starved) ⊎ P) → (met ≡ Some Starved) ⊎ P
+starved_left P None is each = cc
+starved_left P (Some fault) is each = elim (each fault refl) [ inl same ↦ inl (ap (λ (f : GatherFault). Some f) same) | inr p ↦ inr p ]
+
+-- none is left
+pub none_left : (met : Option GatherFault) → is_some met ≡ false → met ≡ None
+none_left None is = refl
+none_left (Some fault) is = cc
+
+-- one that has a source isn't empty
+pub some_sources : {S : Type 0} (contents : S → Option (List ℕ)) (faultless : S → Type 0) (sources : List S) (bytes : List ℕ) → HasSound contents faultless sources bytes → 0 < length sources
+some_sources contents faultless sources bytes has = omega (arith, slice_get_within sources has.place has.source has.there)
+
+-- one answer for another that is the same
+pub same_ok : {T E : Type 0} (r : Result T E) (x y : T) → r ≡ Ok x → x ≡ y → r ≡ Ok y
+same_ok {T = T} {E = E} r x y is same = subst (λ (z : T). r ≡ Ok z) same is
+
+-- no sources are of any files
+pub no_sources : {S : Type 0} (contents : S → Option (List ℕ)) (faultless : S → Type 0) (sure : Type 0) (bytes_of : Bor (List ℕ) → Option (List ℕ)) (paths : List (Bor (List ℕ)))
+    (sources : List S) → sources ≡ [] → AreOfFiles contents faultless sure bytes_of paths sources
+no_sources {S = S} contents faultless sure bytes_of paths sources none i source there =
+    absurd (none-some source (subst (λ (xs : List S). slice_get xs i ≡ Some source) none there))
+
+-- a collision from a piece of the sources is one from a piece of the files
+pub pair_of_files : {S : Type 0} (form : Form) (contents : S → Option (List ℕ)) (faultless : S → Type 0) (sure : Type 0) (capacity : ℕ) (at : List ℕ → FileState)
+    (paths : List (Bor (List ℕ))) (sources : List S) → sure → AreOfFiles contents faultless sure (file_bytes (most_bytes form capacity) at) paths sources → (fixed : Fixed) (blob : List ℕ)
+    → HasCollision (IsFromSource form contents faultless sources) fixed blob → HasCollision (IsFromFile form capacity at paths) fixed blob
+pair_of_files form contents faultless sure capacity at paths sources surely are fixed blob pair =
+    pair_wider (IsFromSource form contents faultless sources) (IsFromFile form capacity at paths)
+    (from_paths form contents faultless sure (file_bytes (most_bytes form capacity) at) paths sources surely are) fixed blob pair
+
+-- what is met by two tries in turn, or a collision is exhibited
+pub met_or_pair : (M P Q : Type 0) → M ⊎ Q → (Q → P) → M ⊎ P
+met_or_pair M P Q (inl m) wide = inl m
+met_or_pair M P Q (inr pair) wide = inr (wide pair)
+
+-- more bytes than so many chunks have are of more chunks
+more_chunks : (m n : ℕ) → 1024 * m < n → m < chunk_count n
+more_chunks m n more = omega arith
+
+above_room : (m n : ℕ) → leb n (1024 * m) ≡ false → 1024 * m < n
+above_room m n past = elim (leb_tells n (1024 * m)) [
+  | inl within ↦ (let wrong : false ≡ true = sym past ∙ within.0 in cc)
+  | inr above ↦ above.1
+]
+
+-- a blob that a store has no room for has more chunks than its capacity
+pub long_as : (handed : Piece → Type 0) (root : Hash) (mode : Mode) (m : ℕ) → AreLonger handed (fixed_as root mode m) → AreTooLong handed (fixed_as root mode m) m
+long_as handed root mode m longer blob is =
+    elim (longer blob is) [ inl above ↦ inl (more_chunks m (length blob) (above_room m (length blob) above)) | inr pair ↦ inr pair ]
+
+-- what another file may help with is a fault of gathering
+pub open_is : (result : Result ℕ GatheredFault) (fault : GatherFault) → open_fault result ≡ Some fault → result ≡ Err (Gather fault)
+open_is (Ok count) fault is = absurd (none-some fault is)
+open_is (Err (File cause)) fault is = absurd (none-some fault is)
+open_is (Err (Outboard cause)) fault is = absurd (none-some fault is)
+open_is (Err (Gather Store)) fault is = absurd (none-some fault is)
+open_is (Err (Gather Capacity)) fault is = absurd (none-some fault is)
+open_is (Err (Gather TooLarge)) fault is = ap (λ (f : GatherFault). Err (Gather f)) (same_Some TooLarge fault is)
+open_is (Err (Gather Seat)) fault is = absurd (none-some fault is)
+open_is (Err (Gather Unfinished)) fault is = ap (λ (f : GatherFault). Err (Gather f)) (same_Some Unfinished fault is)
+open_is (Err (Gather NotTheRoot)) fault is = absurd (none-some fault is)
+open_is (Err (Gather Memory)) fault is = absurd (none-some fault is)
+open_is (Err (Gather Starved)) fault is = ap (λ (f : GatherFault). Err (Gather f)) (same_Some Starved fault is)
+
+-- and is such a one
+pub open_helps : (result : Result ℕ GatheredFault) → IfSome (open_fault result) (λ fault. is_open fault ≡ true)
+open_helps (Ok count) = tt
+open_helps (Err (File cause)) = tt
+open_helps (Err (Outboard cause)) = tt
+open_helps (Err (Gather Store)) = tt
+open_helps (Err (Gather Capacity)) = tt
+open_helps (Err (Gather TooLarge)) = refl
+open_helps (Err (Gather Seat)) = tt
+open_helps (Err (Gather Unfinished)) = refl
+open_helps (Err (Gather NotTheRoot)) = tt
+open_helps (Err (Gather Memory)) = tt
+open_helps (Err (Gather Starved)) = refl
+
+-- a try that made a draft is right of the blob
+pub right_draft : {T : Type 0} (contents : T → Option (List ℕ)) (how : Gathering) (mode : Mode) (blob : List ℕ) (P : Type 0) (result : Result (ℕ × T) GatheredFault)
+    → IsDrafted contents how mode blob result ⊎ P → IsRightDraft contents how mode blob result ⊎ P
+right_draft contents how mode blob P result (inr pair) = inr pair
+right_draft contents how mode blob P (Ok made) (inl done) = inl done
+right_draft contents how mode blob P (Err fault) (inl excused) = inl (λ is. subst IsExcusedGathering is excused)
+
+-- 902 isn't what is left to help with
+pub not_other_root : (result : GatheredFault) (met : Option GatherFault) → ((fault : GatherFault) → result ≡ Gather fault → (met ≡ Some fault) ⊎ (fault ≡ Unfinished))
+    → IfSome met (λ fault. is_open fault ≡ true) → result ≢ Gather NotTheRoot
+not_other_root result met cause helps is = elim (cause NotTheRoot is) [
+  | inl same ↦ (let no : false ≡ true = subst (λ (m : Option GatherFault). IfSome m (λ fault. is_open fault ≡ true)) same helps in cc)
+  | inr other ↦ (let no : NotTheRoot ≡ Unfinished = other in cc)
+]
+
+-- nor is 805 what ended the work at once
+pub not_too_large : (fault : GatheredFault) → open_fault (Err fault) ≡ None → fault ≡ Gather TooLarge → ⊥
+not_too_large fault closed is =
+    let no : Some TooLarge ≡ None = subst (λ (f : GatheredFault). open_fault (Err f) ≡ None) is closed in none-some TooLarge (sym no)
+
+-- 805 is what one of two tries met
+pub one_large : (result : GatheredFault) (met met' : Option GatherFault) (P : Type 0) → ((fault : GatherFault) → result ≡ Gather fault → (met' ≡ Some fault) ⊎ (fault ≡ Unfinished))
+    → (met ≡ Some TooLarge → P) → (met' ≡ Some TooLarge → (met ≡ Some TooLarge) ⊎ P) → result ≡ Gather TooLarge → P
+one_large result met met' P cause first second is = elim (cause TooLarge is) [
+  | inl same ↦ elim (second same) [ inl before ↦ first before | inr p ↦ p ]
+  | inr other ↦ (let no : TooLarge ≡ Unfinished = other in cc)
+]
+
+-- what pieces of the sources certify pieces of the files do
+pub long_wider : (handed wider : Piece → Type 0) (fixed : Fixed) (capacity : ℕ) → ((blob : List ℕ) → HasCollision handed fixed blob → HasCollision wider fixed blob)
+    → AreTooLong handed fixed capacity → AreTooLong wider fixed capacity
+long_wider handed wider fixed capacity wide long blob is = elim (long blob is) [ inl above ↦ inl above | inr pair ↦ inr (wide blob pair) ]
+
+-- a draft that wasn't put at its path for want of memory, or since writing failed
+pub put_failed : (old new : List ℕ → FileState) (path : List ℕ) (how : Gathering) (mode : Mode) (blob : List ℕ) (at : Bor (List ℕ)) (result : Result ℕ GatheredFault) (fault : GatheredFault)
+    (cause : FileFault) → result ≡ Err fault → fault ≡ File cause → (cause ≡ file.Memory) ⊎ (cause ≡ file.Write at) → IsPutAt old new path how mode blob result
+put_failed old new path how mode blob at result fault cause is same which =
+    let excused : IsExcusedFile cause = elim which [ inl memory ↦ subst IsExcusedFile (sym memory) tt | inr written ↦ subst IsExcusedFile (sym written) tt ] in
+    subst (λ (r : Result ℕ GatheredFault). IsPutAt old new path how mode blob r) (sym is) (subst IsExcusedGathering (sym same) excused)

@@ -1,0 +1,130 @@
+-- How far the files of one kind were taken.
+use Rattle.std.specs.Borrow.{Bor}
+use Rattle.std.proofs.Common.{◌≡◌, ◌⊎◌, ℕ, ◌+◌, ◌<◌, Bool, true, false, List, [], ◌∷◌, ◌++◌, length, not, Option, Some, IfSome, slice_get, refl, sym, ap, subst, ◌∙◌, arith, inl, inr}
+use Rattle.std.proofs.lemmas.Bool.{cases_lt}
+use Rattle.std.proofs.lemmas.Option.{same_Some}
+use Rattle.bao_files.specs.Disks.{FileState, Unknown, Absent, Stored, IsStored}
+use mathlib.Core.Bool.{beq}
+use Rattle.bao_tasks.specs.declared.given.Given.{Given}
+use Rattle.bao_tasks.specs.declared.watched.Watched.{Watched}
+use Rattle.bao_tasks.specs.Givens.{given_contents, is_given_faultless, watched_contents, watched_faultless}
+use Rattle.bao_tasks.specs.FromFiles.{file_bytes, is_regular, taken_bytes}
+use Rattle.bao_tasks.specs.TakenFiles.{AreKinds, AreOfFiles, Follows, HasSound}
+use Rattle.bao_tasks.proofs.FromFiles.{files_more, last_there, sound_kept, sound_last, still_there}
+
+-- Of so many files those of one kind were taken: each source is of a file, those before are kept, and a stored file is among them, or there was no room.
+pub record IsTaking {S : Type 0} (contents : S → Option (List ℕ)) (faultless : S → Type 0) (sure : Type 0) (most : ℕ) (at : List ℕ → FileState) (paths : List (Bor (List ℕ)))
+    (regular : Bool) (count : ℕ) (starved_before : Bool) (before : List S) (starved : Bool) (sources : List S) : Type 0 where
+  pub hungry : starved_before ≡ true → starved ≡ true
+  pub files : AreOfFiles contents faultless sure (file_bytes most at) paths before → AreOfFiles contents faultless sure (file_bytes most at) paths sources
+  pub kept : (bytes : List ℕ) → HasSound contents faultless before bytes → HasSound contents faultless sources bytes
+  pub there : regular ≡ true → sure → (i : ℕ) (path : Bor (List ℕ)) (bytes : List ℕ) → i < count → slice_get paths i ≡ Some path → is_regular path.now ≡ true
+      → at path.now ≡ Stored bytes → (starved ≡ true) ⊎ HasSound contents faultless sources bytes
+
+-- what isn't stored gives the same, regular or not
+same_taken : (regular other : Bool) (most : ℕ) (state : FileState) → (IsStored state → regular ≡ other) → taken_bytes regular most state ≡ taken_bytes other most state
+same_taken regular other most Unknown same = refl
+same_taken regular other most Absent same = refl
+same_taken regular other most (Stored bytes) same = ap (λ (r : Bool). taken_bytes r most (Stored bytes)) (same tt)
+
+is_stored : (state : FileState) (bytes : List ℕ) → state ≡ Stored bytes → IsStored state
+is_stored state bytes is = subst IsStored (sym is) tt
+
+-- two tests of a kind that aren't told apart
+pub same_kind : (a b : Bool) → not (beq a b) ≡ false → a ≡ b
+same_kind false false is = refl
+same_kind false true is = cc
+same_kind true false is = cc
+same_kind true true is = refl
+
+-- a file that is watched is known as it is
+pub watched_known : {I P : Type 0} (contents : I → Option (List ℕ)) (bytes : Option (List ℕ)) (given : Given I) (w : Watched (Given I) P) → w.given ≡ given
+    → IfSome bytes (λ s. given_contents contents given ≡ Some s) → IfSome bytes (λ s. watched_contents (given_contents contents) w ≡ Some s)
+watched_known {I = I} contents bytes given w same known = subst (λ (it : Given I). IfSome bytes (λ s. given_contents contents it ≡ Some s)) (sym same) known
+
+pub watched_sure : {I P : Type 0} (faultless : I → Type 0) (sure : Type 0) (given : Given I) (w : Watched (Given I) P) → w.given ≡ given
+    → (sure → is_given_faultless faultless given) → sure → watched_faultless (is_given_faultless faultless) w
+watched_sure {I = I} faultless sure given w same known surely = subst (λ (it : Given I). is_given_faultless faultless it) (sym same) (known surely)
+
+-- one file more was asked about
+pub kind_more : (at : List ℕ → FileState) (paths : List (Bor (List ℕ))) (kinds : List Bool) (kind : Bool) (path : Bor (List ℕ)) (n : ℕ) → length kinds ≡ n → slice_get paths n ≡ Some path
+    → (IsStored (at path.now) → kind ≡ is_regular path.now)
+    → ((i : ℕ) (p : Bor (List ℕ)) → i < n → slice_get paths i ≡ Some p → IsStored (at p.now) → slice_get kinds i ≡ Some (is_regular p.now))
+    → (i : ℕ) (p : Bor (List ℕ)) → i < n + 1 → slice_get paths i ≡ Some p → IsStored (at p.now) → slice_get (kinds ++ kind ∷ []) i ≡ Some (is_regular p.now)
+kind_more at paths kinds kind path n size at_path told before i p within there stored = elim (cases_lt i n) [
+  | inl less ↦ still_there kinds (kind ∷ []) i (is_regular p.now) (before i p less there stored)
+  | inr more ↦
+      let here : i ≡ n = omega (arith, within, more) in
+      let it : path ≡ p = same_Some path p (sym at_path ∙ subst (λ (k : ℕ). slice_get paths k ≡ Some p) here there) in
+      let same : kind ≡ is_regular p.now = told (subst (λ (q : Bor (List ℕ)). IsStored (at q.now)) (sym it) stored) ∙ ap (λ (q : Bor (List ℕ)). is_regular q.now) it in
+      subst (λ (k : ℕ). slice_get (kinds ++ kind ∷ []) k ≡ Some (is_regular p.now)) (size ∙ sym here) (last_there kinds kind ∙ ap (λ (b : Bool). Some b) same)
+]
+
+module _ {S : Type 0} (contents : S → Option (List ℕ)) (faultless : S → Type 0) (sure : Type 0) (most : ℕ) (at : List ℕ → FileState) (paths : List (Bor (List ℕ)))
+    (regular starved_before : Bool) (before : List S) where
+  pub taking_none : IsTaking contents faultless sure most at paths regular 0 starved_before before starved_before before
+  taking_none = record {
+    hungry = λ h. h;
+    files = λ are. are;
+    kept = λ bytes has. has;
+    there = λ is surely i path bytes below. absurd (omega (arith, below));
+  }
+
+  -- a file of the other kind is passed over
+  pub taking_skip : (kinds : List Bool) (count : ℕ) (starved : Bool) (sources : List S) (kind : Bool) → AreKinds at paths kinds → slice_get kinds count ≡ Some kind → (kind ≡ regular → ⊥)
+      → IsTaking contents faultless sure most at paths regular count starved_before before starved sources
+      → IsTaking contents faultless sure most at paths regular (count + 1) starved_before before starved sources
+  taking_skip kinds count starved sources kind are is other so = record {
+    hungry = so.hungry;
+    files = so.files;
+    kept = so.kept;
+    there = λ yes surely i path bytes below there named stored. elim (cases_lt i count) [
+      | inl less ↦ so.there yes surely i path bytes less there named stored
+      | inr more ↦
+          let here : i ≡ count = omega (arith, below, more) in
+          let told : slice_get kinds count ≡ Some (is_regular path.now) = subst (λ (k : ℕ). slice_get kinds k ≡ Some (is_regular path.now)) here (are i path there (is_stored (at path.now) bytes stored)) in
+          let same : kind ≡ is_regular path.now = same_Some kind (is_regular path.now) (sym is ∙ told) in
+          absurd (other (same ∙ named ∙ sym yes))
+    ];
+  }
+
+  -- a file of the kind was taken, or left out
+  pub taking_more : (kinds : List Bool) (count : ℕ) (hungry starved : Bool) (sources new : List S) (path : Bor (List ℕ)) → AreKinds at paths kinds → slice_get kinds count ≡ Some regular
+      → slice_get paths count ≡ Some path → (hungry ≡ true → starved ≡ true)
+      → (new ≡ sources) ⊎ Follows contents faultless sure (taken_bytes regular most (at path.now)) sources new
+      → (regular ≡ true → sure → IsStored (at path.now) → (starved ≡ true) ⊎ Follows contents faultless sure (taken_bytes regular most (at path.now)) sources new)
+      → IsTaking contents faultless sure most at paths regular count starved_before before hungry sources
+      → IsTaking contents faultless sure most at paths regular (count + 1) starved_before before starved new
+  taking_more kinds count hungry starved sources new path are is at_path still taken told so =
+      let same : taken_bytes regular most (at path.now) ≡ file_bytes most at path =
+      same_taken regular (is_regular path.now) most (at path.now) (λ stored. same_Some regular (is_regular path.now) (sym is ∙ are count path at_path stored)) in
+      let keeps : (bytes : List ℕ) → HasSound contents faultless sources bytes → HasSound contents faultless new bytes = λ bytes has. elim taken [
+        | inl unchanged ↦ subst (λ (xs : List S). HasSound contents faultless xs bytes) (sym unchanged) has
+        | inr follows ↦ sound_kept contents faultless sure (taken_bytes regular most (at path.now)) sources new follows bytes has
+      ] in
+      record {
+        hungry = λ h. still (so.hungry h);
+        files = λ before_are. elim taken [
+          | inl unchanged ↦ subst (λ (xs : List S). AreOfFiles contents faultless sure (file_bytes most at) paths xs) (sym unchanged) (so.files before_are)
+          | inr follows ↦
+              files_more contents faultless sure (file_bytes most at) paths count path sources new at_path
+              (subst (λ (b : Option (List ℕ)). Follows contents faultless sure b sources new) same follows) (so.files before_are)
+        ];
+        kept = λ bytes has. keeps bytes (so.kept bytes has);
+        there = λ yes surely i other bytes below there named stored. elim (cases_lt i count) [
+          | inl less ↦ elim (so.there yes surely i other bytes less there named stored) [
+            | inl h ↦ inl (still h)
+            | inr has ↦ inr (keeps bytes has)
+          ]
+          | inr more ↦
+              let here : i ≡ count = omega (arith, below, more) in
+              let it : path ≡ other = same_Some path other (sym at_path ∙ subst (λ (k : ℕ). slice_get paths k ≡ Some other) here there) in
+              let state : at path.now ≡ Stored bytes = ap (λ (p : Bor (List ℕ)). at p.now) it ∙ stored in
+              elim (told yes surely (is_stored (at path.now) bytes state)) [
+                | inl h ↦ inl h
+                | inr follows ↦
+                    inr (sound_last contents faultless sure (taken_bytes regular most (at path.now)) sources new follows surely bytes
+                    (ap (λ (r : Bool). taken_bytes r most (at path.now)) yes ∙ ap (λ (s : FileState). taken_bytes true most s) state))
+              ]
+        ];
+      }

@@ -1,0 +1,111 @@
+-- What is said of a blob that is gathered out of files, where bytes of these are known: one true file among any others is enough.
+use Rattle.std.specs.Borrow.{Bor}
+use Rattle.std.specs.Prelude.{◌≡◌, ◌≢◌, ◌⊎◌, ℕ, ◌^◌, ◌<◌, ◌≤◌, Bool, true, false, not, if◌then◌else◌, List, [], length, take, codes, MatchResult, Option, None, Some, Result, ⊤}
+use Rattle.std.specs.Str.{bytes_eq}
+use Rattle.b3tree.specs.declared.mode.Mode.{Mode}
+use Rattle.bao_files.specs.declared.fault.FileFault.{FileFault}
+use Rattle.bao_files.specs.declared.fault.FileFault.TheVariants.{Read, Write, Output, Encoding, Memory}
+use Rattle.bao_check.specs.Outline.{IsOutline}
+use Rattle.bao_files.specs.Disks.{AreOf, FileState, Unknown, Absent, Stored, Puts}
+use Rattle.bao_text.specs.Choice.{chunk_count}
+use Rattle.bao_text.specs.Texts.{combined_text}
+use Rattle.gather.specs.declared.fault.GatherFault.TheVariants.{NotTheRoot}
+use Rattle.gather.specs.declared.form.Form.{Form}
+use Rattle.gather.specs.declared.form.Form.TheVariants.{Slices, Bare}
+use Rattle.gather.specs.HandedOut.{IsExcused}
+use Rattle.gather.specs.Large.{HasCollision}
+use Rattle.gather.specs.Lists.{IsFromSource}
+use Rattle.gather.specs.Parts.{IsOwn, IsOwnOutline}
+use Rattle.store_core.specs.declared.fixed.Fixed.{Fixed}
+use Rattle.store_core.specs.declared.history.Piece.{Piece}
+use Rattle.store_core.specs.Laws.{IsBlob}
+use Rattle.bao_tasks.specs.declared.gathered_fault.GatheredFault.{GatheredFault}
+use Rattle.bao_tasks.specs.declared.gathered_fault.GatheredFault.TheVariants.{File, Gather, Outboard}
+use Rattle.bao_tasks.specs.declared.gathering.Gathering.{Gathering}
+use Rattle.bao_tasks.specs.Gathered.{gathered_text}
+use Rattle.bao_tasks.specs.Givens.{most_bytes}
+
+-- whether a stored file is read by position: all are but the one at the path of standard input
+abbrev pub is_regular : List ℕ → Bool
+is_regular path = not (bytes_eq path (codes "-"))
+
+-- The bytes that are taken of a file, where they are known: of a regular one all, of another so many of the first. Where none is there are none.
+abbrev pub taken_bytes : Bool → ℕ → FileState → Option (List ℕ)
+taken_bytes regular most Unknown = None
+taken_bytes regular most Absent = Some []
+taken_bytes regular most (Stored bytes) = Some (if regular then bytes else take most bytes)
+
+-- those of the file at this path
+abbrev pub file_bytes : ℕ → (List ℕ → FileState) → Bor (List ℕ) → Option (List ℕ)
+file_bytes most at path = taken_bytes (is_regular path.now) most (at path.now)
+
+-- no read of it fails
+abbrev pub never_fails : Bor (List ℕ) → Type 0
+never_fails path = ⊤
+
+-- The piece is a slice that is cut out of one of these files; or it is made of an outline's parents and of a part of one of them. Of a file
+-- whose bytes are unknown it may be any.
+abbrev pub IsFromFile : Form → ℕ → (List ℕ → FileState) → List (Bor (List ℕ)) → Piece → Type 0
+IsFromFile form capacity at paths = IsFromSource form (file_bytes (most_bytes form capacity) at) never_fails paths
+
+-- A blob of so many bytes has room: it may have any length, and isn't encoded; or it has no more chunks than the capacity.
+abbrev pub HasRoom : Gathering → ℕ → Type 0
+HasRoom how n = ((how.encode ≡ false) × (how.long ≡ true)) ⊎ (chunk_count n ≤ how.capacity)
+
+-- The text makes a true file of the blob: it is its combined encoding, or beside its own outboard encoding the blob.
+abbrev pub IsTextOf : Form → Fixed → List ℕ → List ℕ → Type 0
+IsTextOf Slices fixed blob text = text ≡ combined_text fixed.mode blob
+IsTextOf (Bare outline) fixed blob text = IsOwnOutline fixed outline.now blob × (text ≡ blob)
+
+-- A file of this text is enough for a blob: that has the root and room, and the text makes a true file of it and has fewer than 2^64 bytes.
+pub record IsEnough (form : Form) (fixed : Fixed) (how : Gathering) (blob text : List ℕ) : Type 0 where
+  pub root : IsBlob fixed blob
+  pub room : HasRoom how (length blob)
+  pub text_is : IsTextOf form fixed blob text
+  pub few : length text < 2 ^ 64
+
+-- there was no memory, or writing failed
+abbrev pub IsExcusedFile : FileFault → Type 0
+IsExcusedFile (Read path) = ⊥
+IsExcusedFile (Write path) = Unit {0}
+IsExcusedFile Output = ⊥
+IsExcusedFile Encoding = Unit {0}
+IsExcusedFile Memory = Unit {0}
+
+-- the fault isn't one of the files
+abbrev pub IsExcusedGathering : GatheredFault → Type 0
+IsExcusedGathering (File fault) = IsExcusedFile fault
+IsExcusedGathering (Outboard fault) = ⊥
+IsExcusedGathering (Gather fault) = IsExcused fault
+
+-- This blob's text was put at the path, and the answer is its length; or the fault isn't one of the files.
+abbrev pub IsPutAt : (List ℕ → FileState) → (List ℕ → FileState) → List ℕ → Gathering → Mode → List ℕ → Result ℕ GatheredFault → Type 0
+IsPutAt old new path how mode blob result =
+    MatchResult result (λ count. (count ≡ length blob) × Puts old new path (Some (gathered_text how.encode mode blob))) IsExcusedGathering
+
+-- What is answered is right of this blob: where a blob's text was put at the path it is this one's, and the answer is its length; and 902 isn't
+-- answered.
+abbrev pub IsRightAt : (List ℕ → FileState) → (List ℕ → FileState) → List ℕ → Gathering → Mode → List ℕ → Result ℕ GatheredFault → Type 0
+IsRightAt old new path how mode blob result =
+    MatchResult result (λ count. (count ≡ length blob) × Puts old new path (Some (gathered_text how.encode mode blob))) (λ fault. fault ≢ Gather NotTheRoot)
+
+-- A collision is exhibited beside the blob's own outboard encoding, from a piece that is made of that one's parents and of a part of one of
+-- the files.
+pub record CollidesBeside (fixed : Fixed) (capacity : ℕ) (at : List ℕ → FileState) (paths : List (Bor (List ℕ))) (blob : List ℕ) : Type 0 where
+  pub form : Form
+  pub own : IsOwn form fixed blob
+  pub pair : HasCollision (IsFromFile form capacity at paths) fixed blob
+
+-- the form's outline is this encoding, accepted under the root in the mode
+abbrev pub IsOutlineIn : Form → Fixed → List ℕ → Type 0
+IsOutlineIn Slices fixed text = ⊥
+IsOutlineIn (Bare outline) fixed text = IsOutline outline.now fixed.mode fixed.root.0 text
+
+-- A collision is exhibited beside an outboard encoding that was accepted, the file's at this path as far as that is known: from a piece that is
+-- made of its parents and of a part of one of the files.
+pub record CollidesBesideOutline (fixed : Fixed) (capacity : ℕ) (at : List ℕ → FileState) (outboard : List ℕ) (paths : List (Bor (List ℕ))) (blob : List ℕ) : Type 0 where
+  pub text : List ℕ
+  pub of : AreOf (at outboard) text
+  pub form : Form
+  pub outline : IsOutlineIn form fixed text
+  pub pair : HasCollision (IsFromFile form capacity at paths) fixed blob
